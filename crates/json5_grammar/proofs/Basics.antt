@@ -1,0 +1,62 @@
+-- Tests, places, and texts that depend on the next character alone.
+use Rattle.std.proofs.Common.{◌≡◌, ℕ, Bool, true, false, cond, List, [], ◌∷◌, ◌++◌, refl, ap, sym, ◌∙◌, append_assoc, arith, ◌≢◌, subst, Option, Some, None}
+use Rattle.std.specs.Prelude.{◌==◌, ⊤}
+use Rattle.json5_grammar.specs.Characters.{NotBegun, is_digit}
+use Rattle.json5_grammar.specs.Strings.{Items, no_item, raw, escape, Escape, short, nul, byte, unicode, line_end, cr_lf, lone_cr, itself}
+use Rattle.json5_grammar.specs.Codes.{behind_text}
+use Rattle.json5_grammar.specs.Reading.{Place, here, inner, IsAt}
+
+-- a test that a `cond` makes
+pub by_test : {A : Type 0} (P : A → Type 0) (b : Bool) (x y : A) → (b ≡ true → P x) → (b ≡ false → P y) → P (cond b x y)
+by_test P true x y f g = f refl
+by_test P false x y f g = g refl
+
+pub eq_from : (c d : ℕ) → (c == d) ≡ true → c ≡ d
+eq_from c d h = grind arith
+
+pub neq_from : (c d : ℕ) → (c == d) ≡ false → c ≢ d
+neq_from c d h = grind arith
+
+pub not_eq : (c d : ℕ) → c ≢ d → (c == d) ≡ false
+not_eq c d h = grind arith
+
+pub same_char : (q : ℕ) → (q == q) ≡ true
+same_char q = grind arith
+
+-- a place behind more text
+pub at_behind : (t x : List ℕ) (pl : Option (List ℕ)) (p : Place) → IsAt x pl p → IsAt (t ++ x) (behind_text t pl) p
+at_behind t x (Some b) (here q) e = ap (λ z. t ++ z) e ∙ sym (append_assoc t b q)
+at_behind t x (Some b) inner h = absurd h
+at_behind t x None (here q) h = absurd h
+at_behind t x None inner h = tt
+
+abbrev pub SameHead : List ℕ → List ℕ → Type 0
+SameHead [] [] = ⊤
+SameHead [] (d ∷ s) = ⊥
+SameHead (c ∷ r) [] = ⊥
+SameHead (c ∷ r) (d ∷ s) = c ≡ d
+
+pub same_append : (x q r : List ℕ) → SameHead q r → SameHead (x ++ q) (x ++ r)
+same_append [] q r h = h
+same_append (c ∷ x) q r h = refl
+
+pub same_not : (p : ℕ → Bool) (q r : List ℕ) → SameHead q r → NotBegun p q → NotBegun p r
+same_not p [] [] h n = tt
+same_not p [] (d ∷ r) h n = absurd h
+same_not p (c ∷ q) [] h n = absurd h
+same_not p (c ∷ q) (d ∷ r) h n = subst (λ z. p z ≡ false) h n
+
+same_escape : {e v q : List ℕ} (r : List ℕ) → SameHead q r → Escape e v q → Escape e v r
+same_escape r h (short k) = short k
+same_escape r h (nul {r = q} n) = nul (same_not is_digit q r h n)
+same_escape r h (byte k) = byte k
+same_escape r h (unicode u) = unicode u
+same_escape r h (line_end t n) = line_end t n
+same_escape r h cr_lf = cr_lf
+same_escape r h (lone_cr {r = q} n) = lone_cr (same_not (λ c. c == 10) q r h n)
+same_escape r h (itself k) = itself k
+
+pub same_items : {c : ℕ} {q s u : List ℕ} {plain : Bool} (r : List ℕ) → SameHead q r → Items c q s u plain → Items c r s u plain
+same_items r h no_item = no_item
+same_items r h (raw k i) = raw k (same_items r h i)
+same_items {q = q} r h (escape {s = s} x i) = escape (same_escape (s ++ r) (same_append s q r h) x) (same_items r h i)

@@ -1,0 +1,50 @@
+-- Blanks: white space and comments, which may stand round every token.
+-- JSON5 section 7 (comments) and section 8 (white space).
+use Rattle.std.specs.Prelude.{◌≡◌, ◌≢◌, ℕ, Bool, true, false, not, ◌||◌, ◌==◌, List, [], ◌∷◌, ◌++◌, Option, Some, None}
+use Rattle.json5_grammar.specs.Characters.{is_terminator, is_blank, slash_sign, star_sign, NotBegun, Each}
+use Rattle.json5_grammar.specs.Codes.{ErrorCode, ExpectedComment, EofParsingComment, Shown, by_char, by_end, behind_text}
+
+-- x, where `x*/` holds `*/` at its end only
+pub data Inside : List ℕ → Type 0 where
+  ends : Inside []
+  star : {s : List ℕ} → NotBegun (λ c. c == slash_sign) s → Inside s → Inside (star_sign ∷ s)
+  other : {c : ℕ} {s : List ℕ} → c ≢ star_sign → Inside s → Inside (c ∷ s)
+
+-- blank characters, `//` comments with their terminator, and `/* */` comments
+pub data Blanks : List ℕ → Type 0 where
+  empty : Blanks []
+  blank : {c : ℕ} {s : List ℕ} → is_blank c ≡ true → Blanks s → Blanks (c ∷ s)
+  line : {x : List ℕ} (c : ℕ) {s : List ℕ} → Each (λ d. not (is_terminator d)) x → is_terminator c ≡ true → Blanks s → Blanks (slash_sign ∷ slash_sign ∷ x ++ c ∷ s)
+  block : {x s : List ℕ} → Inside x → Blanks s → Blanks (slash_sign ∷ star_sign ∷ x ++ star_sign ∷ slash_sign ∷ s)
+
+-- blanks at the end of a text, the last of which may be a `//` comment that the end closes
+pub data LastBlanks : List ℕ → Type 0 where
+  blanks : {w : List ℕ} → Blanks w → LastBlanks w
+  open_line : {w x : List ℕ} → Blanks w → Each (λ d. not (is_terminator d)) x → LastBlanks (w ++ slash_sign ∷ slash_sign ∷ x)
+
+-- w is blank before r: where r is empty, an open `//` comment may stand
+pub data Gap : List ℕ → List ℕ → Type 0 where
+  blanks : {w r : List ℕ} → Blanks w → Gap w r
+  at_end : {w : List ℕ} → LastBlanks w → Gap w []
+
+-- c is neither blank nor begins a comment
+abbrev pub is_solid : ℕ → Bool
+is_solid c = not (is_blank c || (c == slash_sign))
+
+-- r is empty, or begins with a character that is neither blank nor a slash
+abbrev pub Solid : List ℕ → Type 0
+Solid r = NotBegun (λ c. not (is_solid c)) r
+
+-- x begins with a slash that begins no whole comment: the code, the text before its place (None: the end), the part, and what shows it
+pub data CommentFault : List ℕ → Option ErrorCode → Option (List ℕ) → List ℕ → Shown → Type 0 where
+  -- ExpectedComment at a character behind the slash that is neither `/` nor `*`
+  no_comment : (c : ℕ) (r : List ℕ) → ((c == slash_sign) || (c == star_sign)) ≡ false
+      → CommentFault (slash_sign ∷ c ∷ r) (Some ExpectedComment) (Some (slash_sign ∷ [])) (slash_sign ∷ c ∷ []) by_char
+  -- EofParsingComment: the text ends behind the slash, or within `/*`
+  slash_ends : CommentFault (slash_sign ∷ []) (Some EofParsingComment) None (slash_sign ∷ []) by_end
+  block_ends : {x : List ℕ} → Inside x → CommentFault (slash_sign ∷ star_sign ∷ x) (Some EofParsingComment) None (slash_sign ∷ star_sign ∷ x) by_end
+
+-- blanks, and then a faulty comment, its place and part being within the whole
+pub data BlankFault : List ℕ → Option ErrorCode → Option (List ℕ) → List ℕ → List ℕ → Shown → Type 0 where
+  in_comment : {w x part : List ℕ} {code : Option ErrorCode} {place : Option (List ℕ)} {shown : Shown} → Blanks w → CommentFault x code place part shown
+      → BlankFault (w ++ x) code (behind_text w place) w part shown

@@ -1,0 +1,14 @@
+-- The codes of faults, and what shows a fault.
+use Rattle.std.specs.Prelude.{ℕ, List, ◌++◌, Option, Some, None}
+pub use Rattle.json5_grammar.specs.declared.code.ErrorCode.{ErrorCode}
+pub use Rattle.json5_grammar.specs.declared.code.ErrorCode.TheVariants.{EofParsingArray, EofParsingBool, EofParsingComment, EofParsingEscapeSequence, EofParsingIdentifier, EofParsingNull, EofParsingNumber, EofParsingObject, EofParsingString, EofParsingValue, ExpectedBool, ExpectedColon, ExpectedComma, ExpectedComment, ExpectedIdentifier, ExpectedNull, ExpectedNumber, ExpectedValue, InvalidEscapeSequence, LeadingZero, LineTerminatorInString, OverflowParsingNumber, TrailingCharacters, TooDeep}
+
+-- what shows a fault: the last character of the faulty part, or the end of the text
+pub data Shown : Type 0 where
+  by_char : Shown
+  by_end : Shown
+
+-- a place within what follows t, as a place within the whole; a place is the text before it, and None is the end
+abbrev pub behind_text : List ℕ → Option (List ℕ) → Option (List ℕ)
+behind_text t None = None
+behind_text t (Some p) = Some (t ++ p)

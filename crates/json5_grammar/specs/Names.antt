@@ -1,0 +1,26 @@
+-- Identifiers, and the keys of objects.
+-- JSON5 section 3 (objects), ECMAScript 5.1 section 7.6.
+use Rattle.std.specs.Prelude.{◌≡◌, ◌≢◌, ℕ, Bool, true, false, ◌&&◌, ◌||◌, ◌==◌, List, [], ◌∷◌, ◌++◌}
+use Rattle.json5_grammar.specs.Characters.{backslash, is_identifier_start, is_identifier_part}
+use Rattle.json5_grammar.specs.Strings.{Unicode, Str}
+
+-- an item of a name, its character, whether it is raw
+pub data NameItem : List ℕ → ℕ → Bool → Type 0 where
+  raw_name : {c : ℕ} → c ≢ backslash → NameItem (c ∷ []) c true
+  escaped_name : {e : List ℕ} {n : ℕ} → Unicode e n → NameItem e n false
+
+-- items that stand for part characters
+pub data NameParts : List ℕ → List ℕ → Bool → Type 0 where
+  no_part : NameParts [] [] true
+  part : {s v u : List ℕ} {c : ℕ} {p plain : Bool} → NameItem v c p → is_identifier_part c ≡ true → NameParts s u plain → NameParts (v ++ s) (c ∷ u) (p && plain)
+
+pub data Ident : List ℕ → List ℕ → Bool → Type 0 where
+  name : {v s u : List ℕ} {c : ℕ} {p plain : Bool} → NameItem v c p → is_identifier_start c ≡ true → NameParts s u plain → Ident (v ++ s) (c ∷ u) (p && plain)
+
+abbrev pub goes_on_name : ℕ → Bool
+goes_on_name c = is_identifier_part c || (c == backslash)
+
+-- a key before r, with its text
+pub data Key : List ℕ → List ℕ → List ℕ → Bool → Type 0 where
+  string_key : {k r u : List ℕ} {plain : Bool} → Str k u plain → Key k r u plain
+  name_key : {k r u : List ℕ} {c : ℕ} {plain : Bool} → Ident k u plain → goes_on_name c ≡ false → Key k (c ∷ r) u plain
