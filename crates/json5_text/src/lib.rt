@@ -4,6 +4,7 @@
 pub mod error;
 pub mod input;
 mod refusal;
+mod runs;
 pub mod whole;
 
 pub use json5_grammar::code::ErrorCode;
