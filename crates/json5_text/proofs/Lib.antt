@@ -1,1 +1,3 @@
 pub mod NumberRuns
+pub mod NumberEquality
+pub mod NumberZeros

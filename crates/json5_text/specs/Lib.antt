@@ -4,3 +4,5 @@ pub mod Refused
 pub mod Cursor
 pub mod Tokens
 pub mod NumberViews
+pub mod NumberDecimals
+pub mod NumberSteps
