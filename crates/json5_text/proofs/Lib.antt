@@ -1,3 +1,2 @@
 pub mod NumberRuns
-pub mod NumberEquality
 pub mod NumberZeros

@@ -1,17 +1,17 @@
 -- Where a text is cut, behind ASCII characters that pass a test or before such ones at its end.
-use Rattle.std.proofs.Common.{◌≡◌, ℕ, zero, suc, ◌-◌, ◌<◌, Bool, true, List, [], ◌∷◌, ◌++◌, length, take, drop, refl, ap, sym, ◌∙◌, subst, arith}
+use Rattle.std.proofs.Common.{◌≡◌, ℕ, zero, suc, ◌-◌, ◌<◌, Bool, true, false, List, [], ◌∷◌, ◌++◌, length, take, drop, refl, ap, sym, ◌∙◌, subst, arith}
 use Rattle.std.specs.Prelude.{◌==◌, reverse, slice_index}
 use Rattle.std.specs.List.{take_while}
 use Rattle.std.specs.Str.{IsUtf8, IsAscii, IsCharBoundary}
 use Rattle.std.proofs.Math.Seq.{take-append_seam, drop-append_seam}
-use Rattle.std.proofs.lemmas.List.{reverse-append, reverse-reverse, length-append, length-reverse}
+use Rattle.std.proofs.lemmas.List.{append-nil, reverse-append, reverse-reverse, length-append, length-reverse}
 use Rattle.std.proofs.lemmas.Bool.Decides.{nat_tests}
 use Rattle.std.proofs.lemmas.Str.{IsUtf8-drop, IsUtf8-from_ascii, IsCharBoundary-after_ascii, IsCharBoundary-at_seam}
 use Rattle.json5_grammar.specs.Characters.{is_digit, Each, no_char, char}
 use Rattle.json5_grammar.specs.Stops.{in_run}
 use Rattle.json5_grammar.specs.Numbers.{without_front_zeros}
 use Rattle.json5_grammar.specs.ReadNumbers.{front_of, rest_of}
-use Rattle.json5_grammar.proofs.NumberTests.{by_test, front_each, front_rest}
+use Rattle.json5_grammar.proofs.NumberTests.{by_test, front_each, front_rest, rest_each}
 use Rattle.json5_grammar.proofs.NumberStepLaws.{front_is}
 use Rattle.json5_grammar.proofs.DecimalsWritten.{Each-reverse}
 
@@ -86,3 +86,17 @@ back_cut s k e =
     ∙ ap (take (length (reverse (rest_of is_zero (reverse s))))) (back is_zero s)
     ∙ take-append_seam (reverse (rest_of is_zero (reverse s))) (reverse (front_of is_zero (reverse s)))
     ∙ ap reverse (zeros_are_rest (reverse s))
+
+-- ---- whether anything follows
+
+pub something_follows : (p : ℕ → Bool) (s : List ℕ) (b : Bool) → b ≡ (length (rest_of p s) == 0) → b ≡ false → Each p s → ⊥
+something_follows p s b e h k = let r = ap length (rest_each k) in grind (arith, nat_tests)
+
+empty_by_length : (s : List ℕ) → (length s == 0) ≡ true → s ≡ []
+empty_by_length [] h = refl
+empty_by_length (c ∷ s) h = absurd (grind (arith, nat_tests))
+
+pub nothing_follows : (p : ℕ → Bool) (s : List ℕ) (b : Bool) → b ≡ (length (rest_of p s) == 0) → b ≡ true → front_of p s ≡ s
+nothing_follows p s b e h =
+    let r = empty_by_length (rest_of p s) (sym e ∙ h) in
+    sym (front_rest p s ∙ ap (λ z. front_of p s ++ z) r ∙ append-nil (front_of p s))

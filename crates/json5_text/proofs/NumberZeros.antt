@@ -4,8 +4,8 @@ use Rattle.std.specs.Prelude.{◌==◌, reverse, ℤ, pos, ◌+ℤ◌}
 use Rattle.std.proofs.lemmas.List.{append-nil, reverse-append, reverse-reverse, length-reverse, length-append}
 use Rattle.std.proofs.lemmas.Bool.Decides.{nat_tests}
 use Rattle.std.proofs.lemmas.Int.{ints, to_z-of_z}
-use mir.Syntax.{w16}
-use mir.Val.{to_z, of_z}
+use mir.Syntax.{w16, w64, w128}
+use mir.Val.{to_z, of_z, SFits}
 use Rattle.json5_grammar.specs.Characters.{is_digit, Each, no_char, char}
 use Rattle.json5_grammar.specs.Numbers.{without_front_zeros, without_zeros, normal_exponent, is_empty, InExponents}
 use Rattle.json5_grammar.specs.NumberText.{IsNormal}
@@ -113,3 +113,6 @@ normal_parts ds front rest first last bytes e x d h k b y r =
     let i : InExponents (normal_exponent ds e) = rw n r in
     let f : x ≡ normal_exponent ds e = y ∙ sym n in
     rw (b ∙ k, f) (rw (held (normal_exponent ds e) i) (normal_is ds e d i))
+
+pub widened : (e r : ℤ) → SFits w64 e → r ≡ to_z w64 (of_z w64 e) → to_z w128 (of_z w128 r) ≡ e
+widened e r h k = let f : r ≡ e = k ∙ to_z-of_z w64 e h in rw f (to_z-of_z w128 e (omega (arith, ints, h.sfits)))

@@ -6,3 +6,4 @@ pub mod Tokens
 pub mod NumberViews
 pub mod NumberDecimals
 pub mod NumberSteps
+pub mod NumberEquality

@@ -6,16 +6,16 @@ ghost use Rattle.json5_grammar.specs.Characters.{is_digit, Each};
 ghost use Rattle.json5_grammar.specs.Numbers as numbers;
 ghost use Rattle.json5_grammar.specs.NumberText.{zeros, pointed, digits_text, decimal_text, Normal};
 ghost use Rattle.json5_text.specs.Cursor.{IsOutOfMemory};
+ghost use Rattle.json5_text.specs.NumberDecimals.{is_minus, is_infinity, is_not_a_number, digits_in, exponent_in};
 ghost use Rattle.json5_text.specs.NumberSteps.{raised};
-
-use std::alloc::{AllocError, Global};
-use std::fmt;
-use std::hash::{Hash, Hasher};
-use std::marker::Model;
 
 use crate::error::{Error, Result};
 use crate::runs;
 use json5_grammar::code::ErrorCode;
+use std::alloc::{AllocError, Global};
+use std::fmt;
+use std::hash::{Hash, Hasher};
+use std::marker::Model;
 
 /// How large a decimal is, whatever its sign.
 #[derive(Debug, Drop)]
@@ -129,7 +129,13 @@ impl Decimal {
 
     /// The finite number with these digits, the first part before the second, times ten to the exponent;
     /// none where the exponent is out of range once the outer zeros are gone.
-    pub(crate) fn normal(alloc: Global, negative: bool, before: &str, behind: &str, exponent: i128) -> std::result::Result<Option<Decimal>, AllocError>
+    pub(crate) fn normal(
+        alloc: Global,
+        negative: bool,
+        before: &str,
+        behind: &str,
+        exponent: i128,
+    ) -> std::result::Result<Option<Decimal>, AllocError>
         requires before_digits { Each is_digit before.now }
         requires behind_digits { Each is_digit behind.now }
         requires low { neg_ℤ (pos (2 ^ 120)) ≤ℤ exponent }
@@ -148,5 +154,142 @@ impl Decimal {
             negative,
             size: Size::Finite(digits, exponent),
         }))
+    }
+
+    /// The finite number with these digits times ten to the exponent. None where `digits` holds anything but
+    /// ASCII digits, or where the exponent is outside -32768 to 32767 once the outer zeros are gone: each zero
+    /// that goes at the end raises it by one, and zero has the exponent 0. The only error is want of memory.
+    pub fn finite(
+        alloc: Global,
+        negative: bool,
+        digits: &str,
+        exponent: i64,
+    ) -> Result<Option<Decimal>>
+        ensures some { IfOk result (λ found. IsSome found ↔ (Each is_digit digits.now × numbers.InExponents (numbers.normal_exponent digits.now exponent))) }
+        ensures value { IfOk result (λ found. IfSome found (λ d. d ≡ numbers.finite negative (numbers.without_zeros digits.now) (numbers.normal_exponent digits.now exponent))) }
+        ensures err { IfErr result IsOutOfMemory }
+    {
+        let (digits, rest) = runs::split_digits(digits);
+        if !rest.is_empty() {
+            return Ok(None);
+        }
+        match Decimal::normal(alloc, negative, digits, "", i128::from(exponent)) {
+            Ok(found) => Ok(found),
+            Err(_) => Err(out_of_memory()),
+        }
+    }
+
+    /// Whether it has a minus.
+    pub fn is_negative(&self) -> bool
+        ensures value { result ≡ is_minus self.now }
+        ensures normal { Normal self.now }
+    {
+        self.negative
+    }
+
+    /// Whether it is infinity, of either sign.
+    pub fn is_infinite(&self) -> bool
+        ensures { result ≡ is_infinity self.now }
+    {
+        matches!(&self.size, Size::Infinite)
+    }
+
+    /// Whether it is not-a-number, of either sign.
+    pub fn is_nan(&self) -> bool
+        ensures { result ≡ is_not_a_number self.now }
+    {
+        matches!(&self.size, Size::NotANumber)
+    }
+
+    /// The digits, without zeros in front and at the end; none for zero, infinity and not-a-number.
+    pub fn digits(&self) -> &str
+        ensures value { result.now ≡ digits_in self.now }
+        ensures normal { Normal self.now }
+    {
+        match &self.size {
+            Size::Finite(digits, _) => digits.as_str(),
+            Size::Infinite | Size::NotANumber => "",
+        }
+    }
+
+    /// The power of ten that the digits are multiplied with; 0 for zero, infinity and not-a-number.
+    pub fn exponent(&self) -> i16
+        ensures value { result ≡ exponent_in self.now }
+        ensures normal { Normal self.now }
+    {
+        match &self.size {
+            Size::Finite(_, exponent) => *exponent,
+            Size::Infinite | Size::NotANumber => 0,
+        }
+    }
+
+    /// The same number. The only error is want of memory.
+    pub fn clone(&self, alloc: Global) -> Result<Decimal>
+        ensures ok { IfOk result (λ d. d ≡ self.now) }
+        ensures err { IfErr result IsOutOfMemory }
+    {
+        let size = match &self.size {
+            Size::Infinite => Size::Infinite,
+            Size::NotANumber => Size::NotANumber,
+            Size::Finite(digits, exponent) => match String::from_str(alloc, digits.as_str()) {
+                Ok(copy) => Size::Finite(copy, *exponent),
+                Err(_) => return Err(out_of_memory()),
+            },
+        };
+        Ok(Decimal {
+            negative: self.negative,
+            size,
+        })
+    }
+}
+
+impl PartialEq for Decimal {
+    ghost use Rattle.json5_text.specs.NumberDecimals.{decimal_eq};
+    ghost use Rattle.json5_text.specs.NumberEquality.{decimal_partial_equivalence};
+
+    ghost eq = { decimal_eq };
+
+    ghost laws = { decimal_partial_equivalence };
+
+    fn eq(&self, other: &Decimal) -> bool {
+        if self.negative != other.negative {
+            return false;
+        }
+        match (&self.size, &other.size) {
+            (Size::Infinite, Size::Infinite) => true,
+            (Size::NotANumber, Size::NotANumber) => true,
+            (Size::Finite(digits, exponent), Size::Finite(others, power)) => {
+                digits.as_str() == others.as_str() && exponent == power
+            }
+            _ => false,
+        }
+    }
+}
+
+impl Eq for Decimal {
+    ghost use Rattle.json5_text.specs.NumberEquality.{decimal_equivalence};
+
+    ghost laws = { decimal_equivalence };
+}
+
+impl Hash for Decimal {
+    ghost use Rattle.json5_text.specs.NumberDecimals.{decimal_hashed};
+    ghost use Rattle.json5_text.specs.NumberEquality.{decimals_alike};
+
+    ghost hash_input = { decimal_hashed };
+
+    ghost respects_eq = { decimals_alike };
+
+    fn hash<H: Hasher>(&self, state: &mut H) {
+        self.negative.hash(state);
+        match &self.size {
+            Size::Infinite => 0u8.hash(state),
+            Size::NotANumber => 1u8.hash(state),
+            Size::Finite(digits, exponent) => {
+                2u8.hash(state);
+                digits.as_str().hash(state);
+                exponent.hash(state);
+            }
+        }
     }
 }

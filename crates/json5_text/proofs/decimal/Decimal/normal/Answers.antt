@@ -20,5 +20,5 @@ pub returns-clause-in_range : goal.returns-clause-in_range
 returns-clause-in_range c =
     let s = to_z-of_z w128 c.args.exponent c.ranges.exponent in
     rw (normal_exponent_is (c.args.before.now ++ c.args.behind.now) c.without_front_zeros.result.0.now c.without_front_zeros.result.1.now c.without_back_zeros.result.0.now c.without_back_zeros.result.1.now c.args.exponent
-        c.without_front_zeros.ensures (c.without_back_zeros.ensures ∙ ap back c.without_front_zeros.ensures))
+    c.without_front_zeros.ensures (c.without_back_zeros.ensures ∙ ap back c.without_front_zeros.ensures))
     (rw s at c.in-Some.ensures.in_range)
