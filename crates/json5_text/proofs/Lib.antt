@@ -1,2 +1,3 @@
 pub mod NumberRuns
 pub mod NumberZeros
+pub mod NumberWritten

@@ -7,3 +7,4 @@ pub mod NumberViews
 pub mod NumberDecimals
 pub mod NumberSteps
 pub mod NumberEquality
+pub mod NumberWholes

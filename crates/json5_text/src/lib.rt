@@ -4,6 +4,7 @@
 pub mod decimal;
 pub mod error;
 pub mod input;
+pub mod number;
 mod refusal;
 mod runs;
 pub mod whole;
