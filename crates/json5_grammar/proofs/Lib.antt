@@ -31,3 +31,4 @@ pub mod NumbersJudged
 pub mod NumberStepLaws
 pub mod NumberExamples
 pub mod BlanksRead
+pub mod BlanksSound
