@@ -32,3 +32,4 @@ pub mod NumberStepLaws
 pub mod NumberExamples
 pub mod BlanksRead
 pub mod BlanksSound
+pub mod WordsRead
