@@ -37,7 +37,8 @@ none_holds (suc n) low c h a b = split (is_space_separator low) refl h (c == low
     past : (c == low) ≡ false → suc low ≤ c
     past f = let ne : c ≢ low = neq_from c low f in omega arith
 
-printable_no_space : (c : ℕ) → is_in 33 126 c ≡ true → is_space_separator c ≡ false
+-- a character from `!` to `~` is no space
+pub printable_no_space : (c : ℕ) → is_in 33 126 c ≡ true → is_space_separator c ≡ false
 printable_no_space c h = none_holds 94 33 c printable_checked (grind (arith, nat_tests)) (grind (arith, nat_tests))
 
 -- a character from `!` to `~` is no blank

@@ -33,3 +33,5 @@ pub mod NumberExamples
 pub mod BlanksRead
 pub mod BlanksSound
 pub mod WordsRead
+pub mod Classes
+pub mod ValueHeads
