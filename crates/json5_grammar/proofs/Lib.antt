@@ -35,3 +35,4 @@ pub mod BlanksSound
 pub mod WordsRead
 pub mod Classes
 pub mod ValueHeads
+pub mod ValuesRead
