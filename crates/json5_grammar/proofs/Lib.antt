@@ -36,3 +36,4 @@ pub mod WordsRead
 pub mod Classes
 pub mod ValueHeads
 pub mod ValuesRead
+pub mod Unique
