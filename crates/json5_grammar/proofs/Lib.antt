@@ -37,3 +37,4 @@ pub mod Classes
 pub mod ValueHeads
 pub mod ValuesRead
 pub mod Unique
+pub mod ScalarsWritten
