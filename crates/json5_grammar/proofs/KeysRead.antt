@@ -1,5 +1,5 @@
 -- Keys: complete, refused, sound; and the faults of tokens as those of a text behind a front.
-use Rattle.std.proofs.Common.{◌≡◌, ℕ, Bool, true, false, ◌||◌, List, [], ◌∷◌, ◌++◌, refl, ap, sym, ◌∙◌, append_assoc, arith, ◌⊎◌, inl, inr, subst, Option, Some, None}
+use Rattle.std.proofs.Common.{◌≡◌, ℕ, Bool, true, false, ◌||◌, List, [], ◌∷◌, ◌++◌, refl, ap, sym, ◌∙◌, arith, ◌⊎◌, inl, inr, subst, Option}
 use Rattle.std.specs.Prelude.{◌==◌}
 use Rattle.std.proofs.lemmas.Bool.Decides.{nat_tests}
 use Rattle.ucd_category.specs.GeneralCategory.{general_category}
@@ -11,7 +11,7 @@ use Rattle.json5_grammar.specs.Names.{Ident, name, raw_name, escaped_name, Key, 
 use Rattle.json5_grammar.specs.Codes.{ErrorCode, Shown}
 use Rattle.json5_grammar.specs.StringFaults.{StringFault, raw_terminator, string_ends}
 use Rattle.json5_grammar.specs.NameFaults.{NameFault, no_unicode_escape, escaped_no_start, escaped_no_part, name_ends, backslash_ends, Named, no_item_yet, some_items}
-use Rattle.json5_grammar.specs.Reading.{Place, here, inner, Read, got, bad, IsAt}
+use Rattle.json5_grammar.specs.Reading.{Read, got, bad}
 use Rattle.json5_grammar.specs.ReadTexts.{string, identifier, key}
 use Rattle.json5_grammar.proofs.Basics.{by_test}
 use Rattle.json5_grammar.proofs.Refusals.{Refuses, one_answer}

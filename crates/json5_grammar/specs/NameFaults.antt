@@ -3,7 +3,7 @@ use Rattle.std.specs.Prelude.{◌≡◌, ◌≢◌, ℕ, Bool, false, List, [], 
 use Rattle.json5_grammar.specs.Characters.{backslash, letter_u, is_identifier_start, is_identifier_part}
 use Rattle.json5_grammar.specs.Codes.{ErrorCode, EofParsingIdentifier, ExpectedIdentifier, InvalidEscapeSequence, Shown, by_char, by_end, behind_text}
 use Rattle.json5_grammar.specs.Strings.{Unicode}
-use Rattle.json5_grammar.specs.Names.{Ident, part}
+use Rattle.json5_grammar.specs.Names.{Ident}
 use Rattle.json5_grammar.specs.StringFaults.{EscapeFault}
 
 -- t is a name's items, or none yet

@@ -3,7 +3,6 @@ use Rattle.std.specs.Prelude.{◌≡◌, ◌≢◌, ℕ, ◌<◌, Bool, true, fa
 use Rattle.json5_grammar.specs.Characters.{line_feed, carriage_return, digit_zero, backslash, letter_u, letter_x, is_in, is_digit, is_hex_digit, Each}
 use Rattle.json5_grammar.specs.Codes.{ErrorCode, EofParsingEscapeSequence, EofParsingString, InvalidEscapeSequence, LineTerminatorInString, Shown, by_char, by_end, behind_text}
 use Rattle.json5_grammar.specs.Strings.{Hex4, is_high, is_low, Items, is_quote}
-use Rattle.json5_grammar.specs.Names.{part}
 
 abbrev pub is_surrogate : ℕ → Bool
 is_surrogate n = is_in 0xD800 0xDFFF n

@@ -1,9 +1,8 @@
 -- The faults of the words `null`, `true` and `false`, from their first letter on.
-use Rattle.std.specs.Prelude.{◌≢◌, ℕ, true, false, List, [], ◌∷◌, ◌++◌, Option, Some, None}
+use Rattle.std.specs.Prelude.{◌≢◌, ℕ, List, [], ◌∷◌, ◌++◌, Option, Some, None}
 use lib.Chars.{codes}
 use Rattle.json5_grammar.specs.Codes.{ErrorCode, EofParsingBool, EofParsingNull, ExpectedBool, ExpectedNull, Shown, by_char, by_end}
 use Rattle.json5_grammar.specs.NumberFaults.{Cut}
-use Rattle.json5_grammar.specs.Trees.{null}
 
 -- a word and the codes for it: where a character differs, and at the end
 pub data Word : List ℕ → ErrorCode → ErrorCode → Type 0 where

@@ -1,0 +1,49 @@
+-- What contracts see of a scanner: the whole text and what is unread of it, each as the list of its characters.
+use Rattle.std.specs.Prelude.{◌≡◌, ◌-◌, ℕ, List, ◌++◌, length, Option, Some, None}
+use Rattle.std.specs.Str.{encode_utf8_all}
+use Rattle.json5_grammar.specs.declared.code.ErrorCode.{ErrorCode}
+use Rattle.json5_grammar.specs.declared.code.ErrorCode.TheVariants as codes
+use Rattle.json5_grammar.specs.declared.position.Position.{Position}
+use Rattle.json5_grammar.specs.Positions.{position_behind}
+use Rattle.json5_text.specs.declared.error.Error.{Error}
+use Rattle.json5_text.specs.Errors.{Kind, code, custom, kind_of, place_of}
+
+pub record Cursor : Type 0 where
+  pub input : List ℕ
+  pub unread : List ℕ
+
+-- the count of bytes before what is unread
+abbrev pub offset_of : Cursor → ℕ
+offset_of s = length (encode_utf8_all s.input) - length (encode_utf8_all s.unread)
+
+-- the fault says this code, or has a text of its own where there is none
+abbrev pub Says : Option ErrorCode → Error → Type 0
+Says (Some c) e = kind_of e ≡ code c
+Says None e = (text : List ℕ) × (kind_of e ≡ custom text)
+
+-- the fault's place, where the text before the place begins behind what is read
+abbrev pub IsPlaced : Cursor → Option (List ℕ) → Error → Type 0
+IsPlaced s None e = place_of e ≡ None
+IsPlaced s (Some p) e = (before : List ℕ) → s.input ≡ before ++ s.unread → place_of e ≡ Some (position_behind (before ++ p))
+
+abbrev pub IsOutOfMemory : Error → Type 0
+IsOutOfMemory e = kind_of e ≡ code codes.OutOfMemory
+
+-- the token in front is refused with a fault that the relation gives it
+pub record Refused (IsFault : List ℕ → Option ErrorCode → Option (List ℕ) → Type 0) (s : Cursor) (e : Error) : Type 0 where
+  pub reason : Option ErrorCode
+  pub place : Option (List ℕ)
+  pub fault : IsFault s.unread reason place
+  pub says : Says reason e
+  pub placed : IsPlaced s place e
+
+-- what was taken stood in front, and the rest is left
+pub record Took (old : Cursor) (taken : List ℕ) (new : Cursor) : Type 0 where
+  pub split : old.unread ≡ taken ++ new.unread
+  pub same : new.input ≡ old.input
+
+-- after a refusal no more is left than before
+pub record Behind (old new : Cursor) : Type 0 where
+  pub passed : List ℕ
+  pub split : old.unread ≡ passed ++ new.unread
+  pub same : new.input ≡ old.input

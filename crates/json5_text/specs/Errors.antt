@@ -1,0 +1,35 @@
+-- What contracts see of a fault.
+use Rattle.std.specs.Prelude.{ℕ, List, Option, Some, None, string_bytes}
+use Rattle.json5_grammar.specs.declared.code.ErrorCode.{ErrorCode}
+use Rattle.json5_grammar.specs.declared.position.Position.{Position}
+use Rattle.json5_text.specs.declared.error.Error.{Error}
+use Rattle.json5_text.specs.declared.error.Content.{Content}
+use Rattle.json5_text.specs.declared.error.Content.TheVariants as content
+
+-- what a fault says: a code, a text of its own (its bytes), or that a write failed
+pub data Kind : Type 0 where
+  code : ErrorCode → Kind
+  custom : List ℕ → Kind
+  failed_write : Kind
+
+abbrev pub kind_of_content : Content → Kind
+kind_of_content (content.Code c) = code c
+kind_of_content (content.Custom s) = custom (string_bytes s)
+kind_of_content content.FailedWrite = failed_write
+
+abbrev pub kind_of : Error → Kind
+kind_of e = kind_of_content e.content
+
+-- the place of a fault
+abbrev pub place_of : Error → Option Position
+place_of e = e.position
+
+abbrev pub known_code : Kind → Option ErrorCode
+known_code (code c) = Some c
+known_code (custom s) = None
+known_code failed_write = None
+
+-- a place that is there stays
+abbrev pub or_place : Option Position → Position → Option Position
+or_place None p = Some p
+or_place (Some q) p = Some q

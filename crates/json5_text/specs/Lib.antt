@@ -1,0 +1,5 @@
+pub mod Errors
+pub mod Outcome
+pub mod Refused
+pub mod Cursor
+pub mod Tokens

@@ -1,0 +1,21 @@
+-- What reading gives, a place being the number of bytes that are left there. Private clauses and proofs alone cite it.
+use Rattle.std.specs.Prelude.{ℕ, List, length, Option, Some, None, unwrap_or}
+use Rattle.std.specs.Str.{encode_utf8_all}
+use Rattle.json5_grammar.specs.declared.code.ErrorCode.{ErrorCode}
+use Rattle.json5_grammar.specs.Reading.{Read, got, bad, Place, here, inner}
+
+pub data Outcome (A : Type 0) : Type 0 where
+  gave : A → List ℕ → Outcome A
+  failed : Option ErrorCode → Option ℕ → Outcome A
+
+-- how many bytes the text has
+abbrev pub bytes_in : List ℕ → ℕ
+bytes_in q = length (encode_utf8_all q)
+
+abbrev pub left_at : Place → Option ℕ
+left_at (here q) = Some (bytes_in q)
+left_at inner = None
+
+abbrev pub outcome : {A : Type 0} → Read A → Outcome A
+outcome (got a r) = gave a r
+outcome (bad e p) = failed e (left_at p)

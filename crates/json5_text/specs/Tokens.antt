@@ -1,0 +1,32 @@
+-- What is refused where a token is awaited: the token's own faults, and what begins no such token.
+use Rattle.std.specs.Prelude.{◌≡◌, ◌≢◌, ℕ, Bool, false, ◌||◌, List, [], ◌∷◌, ◌++◌, Option, Some, None}
+use Rattle.json5_grammar.specs.declared.code.ErrorCode.{ErrorCode}
+use Rattle.json5_grammar.specs.declared.code.ErrorCode.TheVariants.{EofParsingNumber, EofParsingString, ExpectedNumber, ExpectedString}
+use Rattle.json5_grammar.specs.Codes.{Shown}
+use Rattle.json5_grammar.specs.Blanks.{BlankFault}
+use Rattle.json5_grammar.specs.NumberFaults.{NumberFault, is_sign, begins_number}
+use Rattle.json5_grammar.specs.Strings.{is_quote}
+use Rattle.json5_grammar.specs.StringFaults.{StringFault}
+
+-- blanks with a faulty comment behind them
+abbrev pub FaultyBlanks : List ℕ → Option ErrorCode → Option (List ℕ) → Type 0
+FaultyBlanks x reason place = (before : List ℕ) × (part : List ℕ) × (shown : Shown) × BlankFault x reason place before part shown
+
+-- the word w doesn't stand in front: `differs` at the first character that differs, `ends` where the text ends in it
+pub data FaultyWord (w : List ℕ) (ends differs : ErrorCode) : List ℕ → Option ErrorCode → Option (List ℕ) → Type 0 where
+  word_differs : (p q r : List ℕ) (c d : ℕ) → w ≡ p ++ d ∷ q → c ≢ d → FaultyWord w ends differs (p ++ c ∷ r) (Some differs) (Some p)
+  word_ends : (p q : List ℕ) (d : ℕ) → w ≡ p ++ d ∷ q → FaultyWord w ends differs p (Some ends) None
+
+pub data FaultyNumber : List ℕ → Option ErrorCode → Option (List ℕ) → Type 0 where
+  faulty : {x part : List ℕ} {reason : Option ErrorCode} {place : Option (List ℕ)} {shown : Shown} → NumberFault x reason place part shown → FaultyNumber x reason place
+  -- ExpectedNumber at a character that begins no number
+  no_number : (c : ℕ) (r : List ℕ) → (is_sign c || begins_number c) ≡ false → FaultyNumber (c ∷ r) (Some ExpectedNumber) (Some [])
+  -- EofParsingNumber at the end
+  number_missing : FaultyNumber [] (Some EofParsingNumber) None
+
+pub data FaultyString : List ℕ → Option ErrorCode → Option (List ℕ) → Type 0 where
+  faulty : {x before part : List ℕ} {reason : Option ErrorCode} {place : Option (List ℕ)} {shown : Shown} → StringFault x reason place before part shown → FaultyString x reason place
+  -- ExpectedString at a character that is no quote
+  no_quote : (c : ℕ) (r : List ℕ) → is_quote c ≡ false → FaultyString (c ∷ r) (Some ExpectedString) (Some [])
+  -- EofParsingString at the end
+  string_missing : FaultyString [] (Some EofParsingString) None

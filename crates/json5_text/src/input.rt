@@ -1,0 +1,36 @@
+//! Texts that are read.
+
+ghost use Rattle.std.specs.Prelude.{◌≡◌};
+
+/// A text to be read. It names no lifetime, so that a reader over it can be lent whole.
+pub trait Input: Drop {
+    ghost use Rattle.std.specs.Prelude.{ℕ, List};
+
+    ghost text: { Self → List ℕ };
+
+    /// The text.
+    fn as_text(&self) -> &str
+        ensures { result.now ≡ Self.text self.now };
+}
+
+/// A text that outlives its reader: what is read from it may be borrowed for as long as the text is.
+pub trait Borrows<'de>: Input {
+    /// The text.
+    fn as_borrowed(&self) -> &'de str
+        ensures { result.now ≡ Self.text self.now };
+}
+
+impl<'de> Input for &'de str {
+    ghost text = { λ s. s.now };
+
+    fn as_text(&self) -> &str {
+        let text: &str = *self;
+        text
+    }
+}
+
+impl<'de> Borrows<'de> for &'de str {
+    fn as_borrowed(&self) -> &'de str {
+        *self
+    }
+}

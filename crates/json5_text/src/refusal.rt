@@ -1,0 +1,17 @@
+//! What the functions below the scanner refuse with.
+
+use json5_grammar::code::ErrorCode;
+
+/// A fault with the number of bytes that are left at its place, or want of memory.
+#[derive(Clone, Copy)]
+pub(crate) enum Refusal {
+    /// A fault with a code; without a place where the end of the text shows it.
+    Code(ErrorCode, Option<usize>),
+    /// A decimal run that is no literal.
+    InvalidNumber(usize),
+    /// A hexadecimal number behind a minus past -2^127.
+    TooLarge(usize),
+    /// A surrogate's escape that is no part of a pair, and its value.
+    UnpairedSurrogate(u16, usize),
+    OutOfMemory,
+}
