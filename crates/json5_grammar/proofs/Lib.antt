@@ -33,3 +33,4 @@ pub mod NumberExamples
 pub mod BlanksRead
 pub mod BlanksSound
 pub mod WordsRead
+pub mod PositionsCounted
