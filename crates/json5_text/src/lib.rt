@@ -1,6 +1,7 @@
 //! The tokens of JSON5, faults, and the values that a text holds.
 #![tactic(auto)]
 
+pub mod char;
 pub mod error;
 pub mod input;
 mod refusal;
