@@ -4,3 +4,4 @@ pub mod Refused
 pub mod Cursor
 pub mod Tokens
 pub mod Escapes
+pub mod Cows

@@ -2,6 +2,7 @@
 #![tactic(auto)]
 
 pub mod char;
+pub mod cow_str;
 pub mod error;
 pub mod input;
 mod refusal;
