@@ -1,1 +1,2 @@
 pub mod EscapesSpelled
+pub mod FaultsCompared

@@ -5,3 +5,4 @@ pub mod Cursor
 pub mod Tokens
 pub mod Escapes
 pub mod Cows
+pub mod Compared

@@ -2,6 +2,8 @@
 
 ghost use Rattle.std.specs.Prelude.{◌≡◌, ◌↔◌, ◌++◌, ℕ, List, Option, Some, None, IsTrue, IfOk, IfErr, string_bytes};
 ghost use Rattle.json5_text.specs.Errors.{Kind, code, custom, failed_write, kind_of, place_of, known_code, or_place, content_text, error_text, LacksMemory};
+ghost use Rattle.std.specs.Cmp.Rules.{comparing};
+ghost use Rattle.std.proofs.Common.{rules};
 
 use json5_grammar::code::ErrorCode;
 use json5_grammar::position::Position;
@@ -21,7 +23,7 @@ enum Content {
 }
 
 /// A fault, and perhaps its place in the text. Two faults are equal where they say the same and have the same place.
-#[derive(Debug, PartialEq, Eq, Drop)]
+#[derive(Debug, Drop)]
 pub struct Error {
     content: Content,
     position: Option<Position>,
@@ -158,6 +160,27 @@ impl Error {
             position: Some(position),
         }
     }
+}
+
+/// Equal are faults that say the same and have the same place, or both none.
+impl PartialEq for Error {
+    ghost use Rattle.json5_text.specs.Compared.{same_fault};
+
+    ghost eq = { same_fault };
+
+    ghost laws = { Prim.search (comparing, rules) };
+
+    #[tactic(auto, using(crate::proofs::FaultsCompared::faults_same))]
+    fn eq(&self, other: &Self) -> bool
+        ensures gives { result ≡ same_fault self.now other.now }
+        ensures same { IsTrue result ↔ ((kind_of self.now ≡ kind_of other.now) × (place_of self.now ≡ place_of other.now)) }
+    {
+        self.content == other.content && self.position == other.position
+    }
+}
+
+impl Eq for Error {
+    ghost laws = { Prim.search (comparing, rules) };
 }
 
 /// What the fault says, without its place.
