@@ -3,3 +3,7 @@ pub mod Outcome
 pub mod Refused
 pub mod Cursor
 pub mod Tokens
+pub mod Scan
+pub mod Escapes
+pub mod Cows
+pub mod Compared
