@@ -1,2 +1,3 @@
 pub mod EscapesSpelled
 pub mod FaultsCompared
+pub mod TextsCompared

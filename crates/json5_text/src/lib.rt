@@ -4,6 +4,8 @@
 pub mod char;
 pub mod cow_str;
 pub mod error;
+#[cfg(test)]
+mod fault_tests;
 pub mod input;
 mod refusal;
 
