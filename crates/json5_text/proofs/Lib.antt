@@ -1,3 +1,10 @@
 pub mod NumberRuns
 pub mod NumberZeros
 pub mod NumberWritten
+pub mod ScanSteps
+pub mod ScanBytes
+pub mod ScanFaults
+pub mod ScanTokens
+pub mod EscapesSpelled
+pub mod FaultsCompared
+pub mod TextsCompared

@@ -8,3 +8,7 @@ pub mod NumberDecimals
 pub mod NumberSteps
 pub mod NumberEquality
 pub mod NumberWholes
+pub mod Scan
+pub mod Escapes
+pub mod Cows
+pub mod Compared
