@@ -6,9 +6,9 @@ pub mod char;
 pub mod cow_str;
 pub mod decimal;
 pub mod error;
-mod front;
 #[cfg(test)]
 mod fault_tests;
+mod front;
 pub mod input;
 pub mod number;
 mod refusal;
