@@ -8,3 +8,5 @@ pub mod ScanTokens
 pub mod EscapesSpelled
 pub mod FaultsCompared
 pub mod TextsCompared
+pub mod NumberSteps
+pub mod NumberLiterals

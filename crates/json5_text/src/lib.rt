@@ -11,6 +11,7 @@ mod fault_tests;
 mod front;
 pub mod input;
 pub mod number;
+mod numbers;
 mod refusal;
 mod runs;
 pub mod scanner;

@@ -1,0 +1,194 @@
+//! Reading numbers: JSON5 section 6, ECMAScript 5.1 section 7.8.3.
+
+ghost use Rattle.std.specs.Prelude.{◌≡◌, ◌==◌, ◌||◌, ◌&&◌, not, ◌^◌, ◌+◌, ◌*◌, ◌≤◌, ◌<◌, MatchOption, MatchResult, IfOk, IfErr, IfSome, Some, None};
+ghost use Rattle.std.specs.Option.{option_map};
+ghost use Rattle.std.specs.Str.{IsUtf8, chars};
+ghost use Rattle.json5_grammar.specs.Characters.{is_digit, Each};
+ghost use Rattle.json5_grammar.specs.Numbers as numbers;
+ghost use Rattle.json5_grammar.specs.Reading.{got, bad, here};
+ghost use Rattle.json5_grammar.specs.ReadNumbers as model;
+ghost use Rattle.json5_text.specs.Outcome.{outcome};
+ghost use Rattle.json5_text.specs.Refused.{Refuses};
+ghost use Rattle.json5_text.specs.NumberParts.{raised_of, parts_of, HasExponentDigits, HasDigits};
+
+use crate::front::front;
+use crate::refusal::Refusal;
+use crate::runs::{split_digits, split_run};
+use crate::whole::Whole;
+use json5_grammar::code::ErrorCode;
+
+// ---- hexadecimal numbers
+
+/// One more digit, if the value stays within `u128`.
+fn one_more(value: u128, digit: u32) -> Option<u128>
+    ensures { MatchOption result (2 ^ 128 ≤ value * 16 + digit) (λ r. r ≡ value * 16 + digit) }
+{
+    value.checked_mul(16)?.checked_add(u128::from(digit))
+}
+
+/// The value of the hexadecimal digits in front and what follows them, or what begins with the digit that takes it past `u128`.
+#[tactic(auto, using(crate::proofs::NumberSteps::hexadecimal_steps))]
+fn hexadecimal_digits(text: &str) -> Result<(u128, &str), &str>
+    ensures read { MatchResult result
+        (λ p. model.hex_digits 0 (chars text.now) ≡ got p.0 (chars p.1.now))
+        (λ r. model.hex_digits 0 (chars text.now) ≡ bad (Some ErrorCode.OverflowParsingNumber) (here (chars r.now))) }
+    ensures bound { IfOk result (λ p. p.0 < 2 ^ 128) }
+    ensures text { MatchResult result (λ p. IsUtf8 p.1.now) (λ r. IsUtf8 r.now) }
+{
+    let mut value: u128 = 0;
+    let mut rest = text;
+    while let Some((c, next)) = front(rest) {
+        let Some(digit) = c.to_digit(16) else {
+            return Ok((value, rest));
+        };
+        let Some(more) = one_more(value, digit) else {
+            return Err(rest);
+        };
+        value = more;
+        rest = next;
+    }
+    Ok((value, rest))
+}
+
+/// What stands behind `0x`; `start` is the text from the number's start.
+fn hexadecimal<'t>(start: &str, negative: bool, text: &'t str) -> Result<(Whole, &'t str), Refusal>
+    ensures read { IfOk result (λ p. model.hexadecimal (chars start.now) negative (chars text.now) ≡ got (numbers.whole p.0) (chars p.1.now)) }
+    ensures refused { IfErr result (λ e. Refuses e (outcome (model.hexadecimal (chars start.now) negative (chars text.now)))) }
+    ensures text { IfOk result (λ p. IsUtf8 p.1.now) }
+{
+    let Some((first, _)) = front(text) else {
+        return Err(Refusal::Code(ErrorCode::EofParsingNumber, None));
+    };
+    let Some(_digit) = first.to_digit(16) else {
+        return Err(Refusal::Code(ErrorCode::ExpectedNumber, Some(text.len())));
+    };
+    match hexadecimal_digits(text) {
+        Ok((magnitude, rest)) => match Whole::from_parts(negative, magnitude) {
+            Some(number) => Ok((number, rest)),
+            None => Err(Refusal::TooLarge(start.len())),
+        },
+        Err(rest) => Err(Refusal::Code(ErrorCode::OverflowParsingNumber, Some(rest.len()))),
+    }
+}
+
+// ---- decimal literals
+
+/// The exponent of a literal: its sign and its digits.
+#[derive(Clone, Copy)]
+struct Exponent<'t> {
+    negative: bool,
+    digits: &'t str,
+}
+
+/// A decimal literal without its sign: the digits before the point, those behind it, and the exponent.
+#[derive(Clone, Copy)]
+struct Literal<'t> {
+    before: &'t str,
+    behind: Option<&'t str>,
+    exponent: Option<Exponent<'t>>,
+}
+
+/// `e` or `E`.
+fn begins_exponent(c: char) -> bool
+    ensures { result ≡ ((c == 101) || (c == 69)) }
+{
+    c == 'e' || c == 'E'
+}
+
+/// The digits of an exponent, which are all of the text.
+fn read_exponent_digits(negative: bool, text: &str) -> Option<Exponent>
+    ensures read { MatchOption result (model.exponent_digits negative (chars text.now) ≡ None)
+        (λ e. model.exponent_digits negative (chars text.now) ≡ Some (Some (raised_of e))) }
+    ensures digits { IfSome result HasExponentDigits }
+{
+    let (digits, rest) = split_digits(text);
+    if digits.is_empty() {
+        return None;
+    }
+    if !rest.is_empty() {
+        return None;
+    }
+    Some(Exponent { negative, digits })
+}
+
+/// The exponent that is all of the text, if any: none where the text is empty. The text may also be neither.
+fn read_exponent(text: &str) -> Option<Option<Exponent>>
+    ensures read { MatchOption result (model.exponent_at (chars text.now) ≡ None)
+        (λ e. model.exponent_at (chars text.now) ≡ Some (option_map raised_of e)) }
+    ensures digits { IfSome result (λ e. IfSome e HasExponentDigits) }
+{
+    let Some((mark, rest)) = front(text) else {
+        return Some(None);
+    };
+    if !begins_exponent(mark) {
+        return None;
+    }
+    let (sign, digits) = front(rest)?;
+    if sign == '+' {
+        return Some(Some(read_exponent_digits(false, digits)?));
+    }
+    if sign == '-' {
+        return Some(Some(read_exponent_digits(true, digits)?));
+    }
+    Some(Some(read_exponent_digits(false, rest)?))
+}
+
+/// `0`, or digits that begin with another one.
+fn is_integer(digits: &str) -> bool
+    ensures { result ≡ model.is_integer digits.now }
+{
+    let bytes = digits.as_bytes();
+    bytes.len() == 1 || bytes.len() > 1 && bytes[0] != b'0'
+}
+
+/// The literal of these digits and of an exponent that is all of the rest.
+fn read_without_point<'t>(before: &'t str, rest: &'t str) -> Option<Literal<'t>>
+    requires { Each is_digit before.now }
+    ensures read { MatchOption result (model.no_point before.now (chars rest.now) ≡ None)
+        (λ l. model.no_point before.now (chars rest.now) ≡ Some (parts_of l)) }
+    ensures digits { IfSome result HasDigits }
+{
+    if !is_integer(before) {
+        return None;
+    }
+    let exponent = read_exponent(rest)?;
+    Some(Literal {
+        before,
+        behind: None,
+        exponent,
+    })
+}
+
+/// An integer before the point, or digits behind it alone.
+fn has_digits(before: &str, behind: &str) -> bool
+    ensures { result ≡ (model.is_integer before.now || (numbers.is_empty before.now && not (numbers.is_empty behind.now))) }
+{
+    is_integer(before) || before.is_empty() && !behind.is_empty()
+}
+
+/// The literal that is all of the run.
+fn read_literal(run: &str) -> Option<Literal>
+    ensures read { MatchOption result (model.literal_at (chars run.now) ≡ None)
+        (λ l. model.literal_at (chars run.now) ≡ Some (parts_of l)) }
+    ensures digits { IfSome result HasDigits }
+{
+    let (before, rest) = split_digits(run);
+    let Some((point, tail)) = front(rest) else {
+        return read_without_point(before, rest);
+    };
+    if point != '.' {
+        return read_without_point(before, rest);
+    }
+    let (behind, rest) = split_digits(tail);
+    if !has_digits(before, behind) {
+        return None;
+    }
+    let Some(exponent) = read_exponent(rest) else {
+        return None;
+    };
+    Some(Literal {
+        before,
+        behind: Some(behind),
+        exponent,
+    })
+}
