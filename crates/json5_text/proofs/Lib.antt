@@ -10,3 +10,4 @@ pub mod FaultsCompared
 pub mod TextsCompared
 pub mod NumberSteps
 pub mod NumberLiterals
+pub mod NumberValues

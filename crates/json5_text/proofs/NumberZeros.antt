@@ -25,7 +25,7 @@ front_parts : (a b : List ℕ) → without_front_zeros (a ++ b) ≡ cond (is_emp
 front_parts [] b = refl
 front_parts (c ∷ a) b = front_step c a b (front_parts a b) (c == 48) refl
 
-empty_is : (s : List ℕ) → length s ≡ 0 → s ≡ []
+pub empty_is : (s : List ℕ) → length s ≡ 0 → s ≡ []
 empty_is [] h = refl
 empty_is (c ∷ s) h = absurd (omega arith)
 

@@ -1,12 +1,13 @@
 //! Reading numbers: JSON5 section 6, ECMAScript 5.1 section 7.8.3.
 
-ghost use Rattle.std.specs.Prelude.{◌≡◌, ◌==◌, ◌||◌, ◌&&◌, not, ◌^◌, ◌+◌, ◌*◌, ◌≤◌, ◌<◌, MatchOption, MatchResult, IfOk, IfErr, IfSome, Some, None};
+ghost use Rattle.std.specs.Prelude.{◌≡◌, ◌==◌, ◌||◌, ◌&&◌, not, ◌^◌, ◌+◌, ◌*◌, ◌≤◌, ◌<◌, min, MatchOption, MatchResult, IfOk, IfErr, IfSome, Some, None};
 ghost use Rattle.std.specs.Option.{option_map};
 ghost use Rattle.std.specs.Str.{IsUtf8, chars};
 ghost use Rattle.json5_grammar.specs.Characters.{is_digit, Each};
 ghost use Rattle.json5_grammar.specs.Numbers as numbers;
 ghost use Rattle.json5_grammar.specs.Reading.{got, bad, here};
 ghost use Rattle.json5_grammar.specs.ReadNumbers as model;
+ghost use Rattle.json5_grammar.specs.NumberSteps.{checked};
 ghost use Rattle.json5_text.specs.Outcome.{outcome};
 ghost use Rattle.json5_text.specs.Refused.{Refuses};
 ghost use Rattle.json5_text.specs.NumberParts.{raised_of, parts_of, HasExponentDigits, HasDigits};
@@ -72,6 +73,9 @@ fn hexadecimal<'t>(start: &str, negative: bool, text: &'t str) -> Result<(Whole,
 }
 
 // ---- decimal literals
+
+/// An exponent past this is out of range, however many digits a text may have.
+const EXPONENT_LIMIT: u128 = 1 << 100;
 
 /// The exponent of a literal: its sign and its digits.
 #[derive(Clone, Copy)]
@@ -191,4 +195,36 @@ fn read_literal(run: &str) -> Option<Literal>
         behind: Some(behind),
         exponent,
     })
+}
+
+/// One more decimal digit, if the value stays within `u128`.
+fn ten_times(value: u128, digit: u8) -> Option<u128>
+    ensures value { MatchOption result (2 ^ 128 ≤ value * 10 + digit) (λ r. r ≡ value * 10 + digit) }
+    ensures bound { IfSome result (λ r. r < 2 ^ 128) }
+{
+    value.checked_mul(10)?.checked_add(u128::from(digit))
+}
+
+/// The value of the digits, if it is within `u128`.
+fn decimal_value(digits: &str) -> Option<u128>
+    requires { Each is_digit digits.now }
+    ensures { result ≡ checked (2 ^ 128) 10 0 digits.now }
+{
+    let mut value: u128 = 0;
+    for byte in digits.as_bytes() {
+        value = ten_times(value, byte - b'0')?;
+    }
+    Some(value)
+}
+
+/// The value of the digits, or `EXPONENT_LIMIT` where that is less.
+fn limited_value(digits: &str) -> u128
+    requires { Each is_digit digits.now }
+    ensures { result ≡ min EXPONENT_LIMIT (numbers.spelled 10 0 digits.now) }
+{
+    let mut value: u128 = 0;
+    for byte in digits.as_bytes() {
+        value = (value * 10 + u128::from(byte - b'0')).min(EXPONENT_LIMIT);
+    }
+    value
 }
