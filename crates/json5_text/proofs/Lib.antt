@@ -11,3 +11,4 @@ pub mod TextsCompared
 pub mod NumberSteps
 pub mod NumberLiterals
 pub mod NumberValues
+pub mod NumberJudged

@@ -95,7 +95,7 @@ length_if : (b : Bool) (c : ℕ) (s t : List ℕ) → length t ≤ length s → 
 length_if true c s t h = omega arith
 length_if false c s t h = omega arith
 
-length-front : (s : List ℕ) → length (without_front_zeros s) ≤ length s
+pub length-front : (s : List ℕ) → length (without_front_zeros s) ≤ length s
 length-front [] = omega arith
 length-front (c ∷ s) = length_if (c == 48) c s (without_front_zeros s) (length-front s)
 

@@ -1,6 +1,6 @@
 //! Reading numbers: JSON5 section 6, ECMAScript 5.1 section 7.8.3.
 
-ghost use Rattle.std.specs.Prelude.{◌≡◌, ◌==◌, ◌||◌, ◌&&◌, not, ◌^◌, ◌+◌, ◌*◌, ◌≤◌, ◌<◌, min, MatchOption, MatchResult, IfOk, IfErr, IfSome, Some, None};
+ghost use Rattle.std.specs.Prelude.{◌≡◌, ◌==◌, ◌||◌, ◌&&◌, not, ◌^◌, ◌+◌, ◌*◌, ◌≤◌, ◌<◌, min, MatchOption, MatchResult, IfOk, IfErr, IfSome, IsSome, Some, None, ℕ, List, true, pos, neg_ℤ, ◌-ℤ◌, ◌≤ℤ◌, ◌↔◌, length};
 ghost use Rattle.std.specs.Option.{option_map};
 ghost use Rattle.std.specs.Str.{IsUtf8, chars};
 ghost use Rattle.json5_grammar.specs.Characters.{is_digit, Each};
@@ -10,9 +10,14 @@ ghost use Rattle.json5_grammar.specs.ReadNumbers as model;
 ghost use Rattle.json5_grammar.specs.NumberSteps.{checked};
 ghost use Rattle.json5_text.specs.Outcome.{outcome};
 ghost use Rattle.json5_text.specs.Refused.{Refuses};
-ghost use Rattle.json5_text.specs.NumberParts.{raised_of, parts_of, HasExponentDigits, HasDigits};
+ghost use Rattle.json5_text.specs.NumberViews.{number_of};
+ghost use Rattle.json5_text.specs.NumberParts.{raised_of, parts_of, limited_exponent, is_whole_literal, HasExponentDigits, HasDigits};
 
+use std::alloc::Global;
+
+use crate::decimal::Decimal;
 use crate::front::front;
+use crate::number::Number;
 use crate::refusal::Refusal;
 use crate::runs::{split_digits, split_run};
 use crate::whole::Whole;
@@ -227,4 +232,78 @@ fn limited_value(digits: &str) -> u128
         value = (value * 10 + u128::from(byte - b'0')).min(EXPONENT_LIMIT);
     }
     value
+}
+
+/// The digits behind the point, if any.
+fn digits_behind<'t>(literal: &Literal<'t>) -> &'t str
+    requires { HasDigits literal.now }
+    ensures value { result.now ≡ numbers.digits_behind (parts_of literal.now).behind }
+    ensures digits { Each is_digit result.now }
+{
+    match literal.behind {
+        Some(digits) => digits,
+        None => "",
+    }
+}
+
+/// The exponent as it is written, or `EXPONENT_LIMIT` where that is less, behind its sign; 0 where there is none.
+fn written_exponent(literal: &Literal) -> i128
+    requires { HasDigits literal.now }
+    ensures value { result ≡ limited_exponent EXPONENT_LIMIT literal.now.exponent }
+    ensures low { neg_ℤ (pos EXPONENT_LIMIT) ≤ℤ result }
+    ensures high { result ≤ℤ pos EXPONENT_LIMIT }
+{
+    let Some(exponent) = literal.exponent else {
+        return 0;
+    };
+    let value = limited_value(exponent.digits) as i128;
+    if exponent.negative { -value } else { value }
+}
+
+/// The written exponent, lowered by the count of digits behind the point.
+fn lowered_exponent(literal: &Literal, places: usize) -> i128
+    requires { HasDigits literal.now }
+    ensures value { result ≡ limited_exponent EXPONENT_LIMIT literal.now.exponent -ℤ pos places }
+    ensures low { neg_ℤ (pos (2 ^ 120)) ≤ℤ result }
+    ensures high { result ≤ℤ pos (2 ^ 120) }
+{
+    written_exponent(literal) - places as i128
+}
+
+/// The whole number that a literal without point and exponent means, if it is in range.
+fn whole_number(negative: bool, literal: &Literal) -> Option<Whole>
+    requires { HasDigits literal.now }
+    ensures whole { IsSome result ↔ (is_whole_literal negative literal.now ≡ true) }
+    ensures value { IfSome result (λ z. z ≡ numbers.signed negative (numbers.spelled 10 0 literal.now.before.now)) }
+{
+    if literal.behind.is_some() {
+        return None;
+    }
+    if literal.exponent.is_some() {
+        return None;
+    }
+    let Some(magnitude) = decimal_value(literal.before) else {
+        return None;
+    };
+    Whole::from_parts(negative, magnitude)
+}
+
+/// The number that a literal means; `start` is the text from the number's start.
+fn judge(alloc: Global, start: &str, negative: bool, literal: &Literal) -> Result<Number, Refusal>
+    requires { HasDigits literal.now }
+    ensures read { IfOk result (λ n. (rest : List ℕ) → model.if_literal (chars start.now) negative rest (Some (parts_of literal.now)) ≡ got (number_of n) rest) }
+    ensures refused { IfErr result (λ e. (rest : List ℕ) → Refuses e (outcome (model.if_literal (chars start.now) negative rest (Some (parts_of literal.now))))) }
+{
+    if let Some(whole) = whole_number(negative, literal) {
+        return Ok(Number::Whole(whole));
+    }
+    let behind = digits_behind(literal);
+    let exponent = lowered_exponent(literal, behind.len());
+    let Ok(found) = Decimal::normal(alloc, negative, literal.before, behind, exponent) else {
+        return Err(Refusal::OutOfMemory);
+    };
+    let Some(decimal) = found else {
+        return Err(Refusal::Code(ErrorCode::OverflowParsingNumber, Some(start.len())));
+    };
+    Ok(Number::Decimal(decimal))
 }
