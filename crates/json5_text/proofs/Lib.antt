@@ -12,3 +12,4 @@ pub mod NumberSteps
 pub mod NumberLiterals
 pub mod NumberValues
 pub mod NumberJudged
+pub mod NumberCases

@@ -60,9 +60,10 @@ agree_if true x y z h = agree_self x
 agree_if false x y z h = h
 
 agree_limited : (m : Bool) (w f g limit : ℕ) → f + 32768 ≤ limit → g + 32769 ≤ limit → Agree (signed m (min limit w) -ℤ pos f +ℤ pos g) (signed m w -ℤ pos f +ℤ pos g)
-agree_limited m w f g limit h k =
-    (λ r. ap (λ z. signed m z -ℤ pos f +ℤ pos g) (capped_same m w f g limit h k (in_exponents_true (signed m (min limit w) -ℤ pos f +ℤ pos g) r)),
-    λ r. in_exponents_yes (signed m (min limit w) -ℤ pos f +ℤ pos g) (capped_range m w f g limit h k ∙ in_exponents_true (signed m w -ℤ pos f +ℤ pos g) r))
+agree_limited m w f g limit h k = (
+  λ r. ap (λ z. signed m z -ℤ pos f +ℤ pos g) (capped_same m w f g limit h k (in_exponents_true (signed m (min limit w) -ℤ pos f +ℤ pos g) r)),
+  λ r. in_exponents_yes (signed m (min limit w) -ℤ pos f +ℤ pos g) (capped_range m w f g limit h k ∙ in_exponents_true (signed m w -ℤ pos f +ℤ pos g) r),
+)
 
 pub agree_exponent : (ds : List ℕ) (x : Option Exponent) (f : ℕ) → f + 32768 ≤ 2 ^ 100 → length ds + 32769 ≤ 2 ^ 100 → Agree (normal_exponent ds (limited_exponent (2 ^ 100) x -ℤ pos f)) (normal_exponent ds (written (option_map raised_of x) -ℤ pos f))
 agree_exponent ds None f h k = agree_self (normal_exponent ds (pos 0 -ℤ pos f))

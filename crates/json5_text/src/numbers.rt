@@ -1,10 +1,11 @@
 //! Reading numbers: JSON5 section 6, ECMAScript 5.1 section 7.8.3.
 
-ghost use Rattle.std.specs.Prelude.{◌≡◌, ◌==◌, ◌||◌, ◌&&◌, not, ◌^◌, ◌+◌, ◌*◌, ◌≤◌, ◌<◌, min, MatchOption, MatchResult, IfOk, IfErr, IfSome, IsSome, Some, None, ℕ, List, true, pos, neg_ℤ, ◌-ℤ◌, ◌≤ℤ◌, ◌↔◌, length};
+ghost use Rattle.std.specs.Prelude.{◌≡◌, ◌==◌, ◌||◌, ◌&&◌, not, ◌∷◌, ◌^◌, ◌+◌, ◌*◌, ◌≤◌, ◌<◌, min, MatchOption, MatchResult, IfOk, IfErr, IfSome, IsSome, Some, None, ℕ, List, true, pos, neg_ℤ, ◌-ℤ◌, ◌≤ℤ◌, ◌↔◌, length};
 ghost use Rattle.std.specs.Option.{option_map};
 ghost use Rattle.std.specs.Str.{IsUtf8, chars};
 ghost use Rattle.json5_grammar.specs.Characters.{is_digit, Each};
 ghost use Rattle.json5_grammar.specs.Numbers as numbers;
+ghost use Rattle.json5_grammar.specs.Stops as stops;
 ghost use Rattle.json5_grammar.specs.Reading.{got, bad, here};
 ghost use Rattle.json5_grammar.specs.ReadNumbers as model;
 ghost use Rattle.json5_grammar.specs.NumberSteps.{checked};
@@ -13,15 +14,15 @@ ghost use Rattle.json5_text.specs.Refused.{Refuses};
 ghost use Rattle.json5_text.specs.NumberViews.{number_of};
 ghost use Rattle.json5_text.specs.NumberParts.{raised_of, parts_of, limited_exponent, is_whole_literal, HasExponentDigits, HasDigits};
 
-use std::alloc::Global;
-
 use crate::decimal::Decimal;
 use crate::front::front;
 use crate::number::Number;
 use crate::refusal::Refusal;
 use crate::runs::{split_digits, split_run};
 use crate::whole::Whole;
+use crate::words::skip_word;
 use json5_grammar::code::ErrorCode;
+use std::alloc::Global;
 
 // ---- hexadecimal numbers
 
@@ -306,4 +307,148 @@ fn judge(alloc: Global, start: &str, negative: bool, literal: &Literal) -> Resul
         return Err(Refusal::Code(ErrorCode::OverflowParsingNumber, Some(start.len())));
     };
     Ok(Number::Decimal(decimal))
+}
+
+/// The decimal run in front, which begins a number, and what follows it.
+fn decimal_run<'t>(
+    alloc: Global,
+    start: &str,
+    negative: bool,
+    text: &'t str,
+) -> Result<(Number, &'t str), Refusal>
+    ensures read { IfOk result (λ p. model.decimal_run (chars start.now) negative (chars text.now) ≡ got (number_of p.0) (chars p.1.now)) }
+    ensures refused { IfErr result (λ e. Refuses e (outcome (model.decimal_run (chars start.now) negative (chars text.now)))) }
+    ensures text { IfOk result (λ p. IsUtf8 p.1.now) }
+{
+    let (run, rest) = split_run(text);
+    let Some(literal) = read_literal(run) else {
+        return Err(Refusal::InvalidNumber(start.len()));
+    };
+    let number = judge(alloc, start, negative, &literal)?;
+    Ok((number, rest))
+}
+
+// ---- numbers
+
+/// `x` or `X`.
+fn begins_hexadecimal(c: char) -> bool
+    ensures { result ≡ numbers.hex_start c }
+{
+    c == 'x' || c == 'X'
+}
+
+/// What goes on with a decimal literal behind a first `0`.
+fn continues_zero(c: char) -> bool
+    ensures { result ≡ ((c == 46) || ((c == 101) || (c == 69))) }
+{
+    c == '.' || c == 'e' || c == 'E'
+}
+
+fn is_decimal_digit(c: char) -> bool
+    ensures { result ≡ is_digit c }
+{
+    c.is_ascii_digit()
+}
+
+/// What begins with `0`; `rest` is what follows it.
+fn after_zero<'t>(
+    alloc: Global,
+    start: &str,
+    negative: bool,
+    text: &'t str,
+    rest: &'t str,
+) -> Result<(Number, &'t str), Refusal>
+    requires zero { chars text.now ≡ 48 ∷ chars rest.now }
+    requires text { IsUtf8 rest.now }
+    ensures read { IfOk result (λ p. model.at_zero (chars start.now) negative (chars rest.now) ≡ got (number_of p.0) (chars p.1.now)) }
+    ensures refused { IfErr result (λ e. Refuses e (outcome (model.at_zero (chars start.now) negative (chars rest.now)))) }
+    ensures text { IfOk result (λ p. IsUtf8 p.1.now) }
+{
+    let Some((c, behind)) = front(rest) else {
+        return Ok((Number::Whole(Whole::from_u128(0)), rest));
+    };
+    if is_decimal_digit(c) {
+        return Err(Refusal::Code(ErrorCode::LeadingZero, Some(start.len())));
+    }
+    if begins_hexadecimal(c) {
+        return match hexadecimal(start, negative, behind) {
+            Ok((number, rest)) => Ok((Number::Whole(number), rest)),
+            Err(refusal) => Err(refusal),
+        };
+    }
+    if continues_zero(c) {
+        return decimal_run(alloc, start, negative, text);
+    }
+    Ok((Number::Whole(Whole::from_u128(0)), rest))
+}
+
+/// The number that is a word, and what follows the word's other letters.
+fn word<'t>(number: Decimal, letters: &str, text: &'t str) -> Result<(Number, &'t str), Refusal>
+    ensures read { IfOk result (λ p. model.word (numbers.decimal number) (chars letters.now) (chars text.now) ≡ got (number_of p.0) (chars p.1.now)) }
+    ensures refused { IfErr result (λ e. Refuses e (outcome (model.word (numbers.decimal number) (chars letters.now) (chars text.now)))) }
+    ensures text { IfOk result (λ p. IsUtf8 p.1.now) }
+{
+    match skip_word(
+        letters,
+        text,
+        ErrorCode::EofParsingNumber,
+        ErrorCode::ExpectedNumber,
+    ) {
+        Ok(rest) => Ok((Number::Decimal(number), rest)),
+        Err(refusal) => Err(refusal),
+    }
+}
+
+/// `.` or a digit.
+fn begins_run(c: char) -> bool
+    ensures { result ≡ stops.begins_run c }
+{
+    c.is_ascii_digit() || c == '.'
+}
+
+/// A number without its sign; `start` is the text from the sign on, if there is one.
+fn unsigned<'t>(
+    alloc: Global,
+    start: &str,
+    negative: bool,
+    text: &'t str,
+) -> Result<(Number, &'t str), Refusal>
+    ensures read { IfOk result (λ p. model.unsigned (chars start.now) negative (chars text.now) ≡ got (number_of p.0) (chars p.1.now)) }
+    ensures refused { IfErr result (λ e. Refuses e (outcome (model.unsigned (chars start.now) negative (chars text.now)))) }
+    ensures text { IfOk result (λ p. IsUtf8 p.1.now) }
+{
+    let Some((first, rest)) = front(text) else {
+        return Err(Refusal::Code(ErrorCode::EofParsingNumber, None));
+    };
+    if first == 'I' {
+        return word(Decimal::infinity(negative), "nfinity", rest);
+    }
+    if first == 'N' {
+        return word(Decimal::nan(negative), "aN", rest);
+    }
+    if first == '0' {
+        return after_zero(alloc, start, negative, text, rest);
+    }
+    if begins_run(first) {
+        return decimal_run(alloc, start, negative, text);
+    }
+    Err(Refusal::Code(ErrorCode::ExpectedNumber, Some(text.len())))
+}
+
+/// The number in front, and what follows it. Whole numbers, infinity and not-a-number take no memory.
+pub(crate) fn number(alloc: Global, text: &str) -> Result<(Number, &str), Refusal>
+    ensures read { IfOk result (λ p. model.number (chars text.now) ≡ got (number_of p.0) (chars p.1.now)) }
+    ensures refused { IfErr result (λ e. Refuses e (outcome (model.number (chars text.now)))) }
+    ensures text { IfOk result (λ p. IsUtf8 p.1.now) }
+{
+    let Some((sign, rest)) = front(text) else {
+        return Err(Refusal::Code(ErrorCode::EofParsingNumber, None));
+    };
+    if sign == '+' {
+        return unsigned(alloc, text, false, rest);
+    }
+    if sign == '-' {
+        return unsigned(alloc, text, true, rest);
+    }
+    unsigned(alloc, text, false, text)
 }
