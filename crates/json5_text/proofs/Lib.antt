@@ -5,3 +5,5 @@ pub mod ScanTokens
 pub mod EscapesSpelled
 pub mod FaultsCompared
 pub mod TextsCompared
+pub mod NumberRuns
+pub mod NumberZeros

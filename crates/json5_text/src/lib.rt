@@ -4,6 +4,7 @@
 mod blanks;
 pub mod char;
 pub mod cow_str;
+pub mod decimal;
 pub mod error;
 mod front;
 #[cfg(test)]
@@ -12,6 +13,8 @@ pub mod input;
 mod refusal;
 pub mod scanner;
 mod words;
+mod runs;
+pub mod whole;
 
 pub use json5_grammar::code::ErrorCode;
 pub use json5_grammar::position::Position;
