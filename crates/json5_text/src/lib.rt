@@ -14,6 +14,7 @@ mod refusal;
 pub mod scanner;
 mod words;
 mod runs;
+pub mod value;
 pub mod whole;
 
 pub use json5_grammar::code::ErrorCode;
