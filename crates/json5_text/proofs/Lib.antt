@@ -8,3 +8,4 @@ pub mod ScanTokens
 pub mod EscapesSpelled
 pub mod FaultsCompared
 pub mod TextsCompared
+pub mod ValuesCompared

@@ -12,3 +12,4 @@ pub mod Scan
 pub mod Escapes
 pub mod Cows
 pub mod Compared
+pub mod ValueViews

@@ -16,6 +16,7 @@ mod runs;
 pub mod scanner;
 pub mod whole;
 mod words;
+pub mod value;
 
 pub use json5_grammar::code::ErrorCode;
 pub use json5_grammar::position::Position;
