@@ -1,0 +1,31 @@
+-- What is written by one piece.
+use Rattle.std.proofs.Common.{◌≡◌, ℕ, List, [], ◌∷◌, ◌++◌, codes, true, false, refl, sym, ap, ◌∙◌, subst}
+use Rattle.std.specs.Str.{IsUtf8, IsAscii, chars, encode_utf8_all}
+use Rattle.std.proofs.lemmas.Str.{encodes-chars, scalars-chars, chars-IsAscii}
+use Rattle.std.specs.Io.KnownBytes.{Appends}
+use Rattle.json5_grammar.specs.Values.{null_text, true_text, false_text}
+use Rattle.json5_ser.specs.Out.{piece, whole}
+use Rattle.json5_ser.specs.Pieces.{AppendsFront}
+use Rattle.json5_ser.specs.Writes.{Seen, Wrote, Broke}
+
+pub wrote_piece : (t : List ℕ) (o n : Seen) → IsUtf8 t → o.failed ≡ false → n.failed ≡ false → n.depth ≡ o.depth → Appends o.known n.known t → Wrote (piece (chars t)) o n
+wrote_piece t o n u was failed depth p =
+    record { was = was; stop = refl; chars = scalars-chars t u; bytes = subst (Appends o.known n.known) (sym (encodes-chars t u)) p; depth = depth; failed = failed }
+
+pub broke_piece : (t : List ℕ) (o n : Seen) → IsUtf8 t → o.failed ≡ false → n.failed ≡ true → AppendsFront o.known n.known t → Broke (piece (chars t)) o n
+broke_piece t o n u was failed p = record { was = was; front = p.0; rest = p.1; cut = encodes-chars t u ∙ p.2; bytes = p.3; failed = failed }
+
+pub chars_null : chars null_text ≡ null_text
+unfolding chars
+chars_null = refl
+
+pub chars_true : chars true_text ≡ true_text
+unfolding chars
+chars_true = refl
+
+pub chars_false : chars false_text ≡ false_text
+unfolding chars
+chars_false = refl
+
+pub chars_number : (t : List ℕ) → IsAscii t → chars t ≡ t
+chars_number t h = chars-IsAscii t h
