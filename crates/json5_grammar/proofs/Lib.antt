@@ -30,3 +30,4 @@ pub mod NumberPartOf
 pub mod NumbersJudged
 pub mod NumberStepLaws
 pub mod NumberExamples
+pub mod PositionsCounted

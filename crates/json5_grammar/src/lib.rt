@@ -2,4 +2,7 @@
 #![tactic(auto)]
 
 pub mod code;
+pub mod laws;
 pub mod position;
+#[cfg(test)]
+mod tests;

@@ -3,3 +3,5 @@ pub mod Outcome
 pub mod Refused
 pub mod Cursor
 pub mod Tokens
+pub mod Escapes
+pub mod Cows

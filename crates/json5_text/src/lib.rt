@@ -1,6 +1,8 @@
 //! The tokens of JSON5, faults, and the values that a text holds.
 #![tactic(auto)]
 
+pub mod char;
+pub mod cow_str;
 pub mod error;
 pub mod input;
 mod refusal;

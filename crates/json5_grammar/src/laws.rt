@@ -1,0 +1,4 @@
+//! The laws of the definitions, each the contract of a function that does nothing.
+
+pub mod numbers;
+pub mod texts;
