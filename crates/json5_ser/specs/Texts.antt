@@ -9,8 +9,8 @@ use Rattle.json5_ser.specs.Out.{Out, Stop, whole, invalid_key, too_deep}
 -- the bytes are the whole text
 pub record IsText (o : Out) (bytes : List ℕ) : Type 0 where
   pub stop : o.stop ≡ whole
-  pub chars : chars bytes ≡ o.text
-  pub bytes : bytes ≡ encode_utf8_all o.text
+  pub characters : chars bytes ≡ o.text
+  pub encoded : bytes ≡ encode_utf8_all o.text
 
 -- the text stops with this kind of fault, or memory was refused
 abbrev pub StopsAs : Out → Kind → Type 0

@@ -55,7 +55,11 @@ pub fn to_string<T: Serialize>(alloc: Global, value: &T) -> Result<String>
     let written = value.serialize(&mut ser);
     let bytes = ser.into_inner();
     match written {
-        Ok(()) => String::from_utf8(bytes).map_err(|_| Error::new(ErrorCode::OutOfMemory)),
-        Err(e) => Err(memory_for_failed_write(e)),
+        Ok(()) => {
+            let text = String::from_utf8(bytes);
+            Ok(text.unwrap())
+        }
+        Err(e) if e.code().is_none() => Err(Error::new(ErrorCode::OutOfMemory)),
+        Err(e) => Err(e),
     }
 }
