@@ -4,7 +4,7 @@ use Rattle.std.specs.Result.{IsErrAnd}
 use Rattle.std.specs.Str.{encode_utf8_all, all_scalars}
 use Rattle.std.proofs.lemmas.Str.{encodes-append}
 use Rattle.std.specs.Io.KnownBytes.{Appends, Keeps}
-use Rattle.std.proofs.KnownBytes.{Appends-trans}
+use Rattle.std.proofs.KnownBytes.{Appends-nil, Appends-trans}
 use Rattle.json5_text.specs.declared.error.Error.{Error}
 use Rattle.json5_text.specs.Errors.{Kind, code, custom, failed_write, kind_of, place_of}
 use Rattle.json5_ser.specs.Out.{Out, Stop, whole, invalid_key, too_deep, piece, after, ◌then◌}
@@ -36,7 +36,7 @@ both_true : (a b c : Bool) → (a && b) ≡ true → (b ≡ true → c ≡ true)
 both_true true b c e f = f e
 both_true false b c e f = absurd (cc)
 
-scalars-append : (s t : List ℕ) → all_scalars s ≡ true → all_scalars t ≡ true → all_scalars (s ++ t) ≡ true
+pub scalars-append : (s t : List ℕ) → all_scalars s ≡ true → all_scalars t ≡ true → all_scalars (s ++ t) ≡ true
 scalars-append [] t e f = f
 scalars-append (c ∷ s) t e f = both_true _ (all_scalars s) (all_scalars (s ++ t)) e (λ h. scalars-append s t h f)
 
@@ -51,9 +51,13 @@ Wrote-then a b o m n p q =
 Broke-after : (s : List ℕ) (e : Stop) (b : Out) (o n : Seen) → Broke (record { text = s; stop = e }) o n → Broke (after s e b) o n
 Broke-after s whole b o n p =
     record {
-      was = p.was; front = p.front; rest = p.rest ++ encode_utf8_all b.text;
+      was = p.was;
+      front = p.front;
+      rest = p.rest ++ encode_utf8_all b.text;
       cut = encodes-append s b.text ∙ (ap (λ l. l ++ encode_utf8_all b.text) p.cut ∙ append_assoc p.front p.rest (encode_utf8_all b.text));
-      bytes = p.bytes; failed = p.failed }
+      bytes = p.bytes;
+      failed = p.failed;
+    }
 Broke-after s invalid_key b o n p = record { was = p.was; front = p.front; rest = p.rest; cut = p.cut; bytes = p.bytes; failed = p.failed }
 Broke-after s too_deep b o n p = record { was = p.was; front = p.front; rest = p.rest; cut = p.cut; bytes = p.bytes; failed = p.failed }
 
@@ -80,9 +84,13 @@ RefusesBy-behind a b o m n by_key p q = Stopped-behind invalid_key a b o m n p q
 RefusesBy-behind a b o m n by_writer p q =
     subst (λ x. Broke x o n) (sym (after_whole a b p.stop))
     (record {
-      was = p.was; front = encode_utf8_all a.text ++ q.front; rest = q.rest;
+      was = p.was;
+      front = encode_utf8_all a.text ++ q.front;
+      rest = q.rest;
       cut = encodes-append a.text b.text ∙ (ap (λ l. encode_utf8_all a.text ++ l) q.cut ∙ sym (append_assoc (encode_utf8_all a.text) q.front q.rest));
-      bytes = Appends-trans _ _ _ _ _ p.bytes q.bytes; failed = q.failed })
+      bytes = Appends-trans _ _ _ _ _ p.bytes q.bytes;
+      failed = q.failed;
+    })
 RefusesBy-behind a b o m n by_refusal p q = let x : true ≡ false = sym q.was ∙ p.failed in cc
 RefusesBy-behind a b o m n by_none p q = q
 
@@ -92,6 +100,10 @@ Refuses-behind a b o m n e p q = record { leaves = RefusesBy-behind a b o m n (r
 pub Writes-then : {A : Type 0} (a b : Out) (o m n : Seen) (r : Result A Error) → Wrote a o m → Writes b m r n → Writes (a then b) o r n
 Writes-then a b o m n (Ok x) p q = Wrote-then a b o m n p q
 Writes-then a b o m n (Err e) p q = Refuses-behind a b o m n e p q
+
+-- the same of an equal text
+pub Writes-as : {A : Type 0} (all w : Out) (o n : Seen) (r : Result A Error) → all ≡ w → Writes w o r n → Writes all o r n
+Writes-as all w o n r e h = subst (λ x. Writes x o r n) (sym e) h
 
 -- a refusal that a `?` hands on as it is
 pub Writes-handed : {A : Type 0} (w : Out) (o n : Seen) (e : Error) (r : Result A Error) → IsErrAnd r (λ y. y ≡ e) → Refuses w o e n → Writes w o r n
@@ -107,6 +119,13 @@ pub record Reaches (all : Out) (o m : Seen) (rest : Out) : Type 0 where
   pub done : Out
   pub wrote : Wrote done o m
   pub joins : all ≡ done then rest
+
+nothing_wrote : (o : Seen) → o.failed ≡ false → Wrote (piece []) o o
+nothing_wrote o h = record { was = h; stop = refl; chars = refl; bytes = Appends-nil o.known; depth = refl; failed = h }
+
+-- nothing is written yet
+pub Reaches-none : (all : Out) (o : Seen) → o.failed ≡ false → Reaches all o o all
+Reaches-none all o h = record { done = piece []; wrote = nothing_wrote o h; joins = refl }
 
 pub Reaches-first : (a rest : Out) (o m : Seen) → Wrote a o m → Reaches (a then rest) o m rest
 Reaches-first a rest o m p = record { done = a; wrote = p; joins = refl }

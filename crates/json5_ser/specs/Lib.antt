@@ -5,3 +5,4 @@ pub mod Writes
 pub mod Pieces
 pub mod Named
 pub mod Texts
+pub mod Escaping

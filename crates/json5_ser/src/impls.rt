@@ -1,13 +1,15 @@
 //! The values that can be written.
 
-ghost use Rattle.std.specs.Prelude.{pos};
+ghost use Rattle.std.specs.Prelude.{pos, [], ◌∷◌, string_bytes};
+ghost use Rattle.std.specs.Str.{chars};
+ghost use Rattle.json5_text.specs.Cows.{cow_bytes};
 ghost use Rattle.json5_grammar.specs.Numbers.{whole};
 ghost use Rattle.json5_ser.specs.WrittenTrees.{null, boolean, number, text};
 
+use crate::{Serialize, Serializer};
+use json5_text::cow_str::CowStr;
 use json5_text::error::Result;
 use std::io::Write;
-
-use crate::{Serialize, Serializer};
 
 impl Serialize for () {
     ghost tree = { λ _. null };
@@ -102,6 +104,38 @@ impl Serialize for i128 {
 
     fn serialize<W: Write + Drop>(&self, ser: &mut Serializer<W>) -> Result<()> {
         ser.serialize_i128(*self)
+    }
+}
+
+impl Serialize for char {
+    ghost tree = { λ c. text (c ∷ []) };
+
+    fn serialize<W: Write + Drop>(&self, ser: &mut Serializer<W>) -> Result<()> {
+        ser.serialize_char(*self)
+    }
+}
+
+impl Serialize for &str {
+    ghost tree = { λ s. text (chars s.now) };
+
+    fn serialize<W: Write + Drop>(&self, ser: &mut Serializer<W>) -> Result<()> {
+        ser.serialize_str(self)
+    }
+}
+
+impl Serialize for String {
+    ghost tree = { λ s. text (chars (string_bytes s)) };
+
+    fn serialize<W: Write + Drop>(&self, ser: &mut Serializer<W>) -> Result<()> {
+        ser.serialize_str(self.as_str())
+    }
+}
+
+impl Serialize for CowStr<'_> {
+    ghost tree = { λ s. text (chars (cow_bytes s)) };
+
+    fn serialize<W: Write + Drop>(&self, ser: &mut Serializer<W>) -> Result<()> {
+        ser.serialize_str(self.as_str())
     }
 }
 

@@ -2,6 +2,7 @@
 #![tactic(auto)]
 
 mod impls;
+mod quoting;
 mod serialize;
 mod serializer;
 mod texts;

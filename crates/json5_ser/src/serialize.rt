@@ -4,10 +4,9 @@ ghost use Rattle.json5_ser.specs.WrittenTrees.{Written};
 ghost use Rattle.json5_ser.specs.Out.{out};
 ghost use Rattle.json5_ser.specs.Writes.{Writes};
 
+use crate::Serializer;
 use json5_text::error::Result;
 use std::io::Write;
-
-use crate::Serializer;
 
 /// A value that can be written. Each type says by `tree` what is written of its values.
 pub trait Serialize {

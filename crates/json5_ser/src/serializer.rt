@@ -1,13 +1,16 @@
 //! Writing values to a writer.
 
-ghost use Rattle.std.specs.Prelude.{◌≡◌, ◌≤◌, ◌++◌, ℕ, List, Option, true, false, pos};
+ghost use Rattle.std.specs.Prelude.{◌≡◌, ◌≤◌, [], ◌∷◌, true, false, pos};
 ghost use Rattle.std.specs.Str.{chars};
 ghost use Rattle.json5_grammar.specs.Numbers.{whole};
+ghost use Rattle.json5_grammar.specs.Strings.{is_quote};
+ghost use Rattle.json5_grammar.specs.Quoting.{escaped_all};
 ghost use Rattle.json5_ser.specs.WrittenTrees.{null, boolean, number, text};
 ghost use Rattle.json5_ser.specs.Out.{out, piece};
 ghost use Rattle.json5_ser.specs.Writes.{Seen, Writes};
 ghost use Rattle.json5_ser.specs.Pieces.{Pushes};
 
+use crate::quoting::{quote_for, quote_text, split_at_escape};
 use itoa::{Buffer, Integer};
 use json5_text::ErrorCode;
 use json5_text::error::{Error, Result};
@@ -185,5 +188,40 @@ impl<W: Write + Drop> Serializer<W> {
         ensures { Writes (out 128 (number (whole value)) self.old.depth) self.old result self.new }
     {
         self.put_integer(value)
+    }
+
+    /// The text with the characters escaped that don't stand for themselves between these quotes.
+    /// What stands between two escapes is written in one piece.
+    fn put_escaped(&mut self, quote: char, text: &str) -> Result<()>
+        requires quote { is_quote quote ≡ true }
+        requires ready { self.old.failed ≡ false }
+        ensures { Writes (piece (escaped_all quote (chars text.now))) self.old result self.new }
+    {
+        let mut rest = text;
+        while let Some((raw, escaped, after)) = split_at_escape(quote, rest) {
+            self.put(raw)?;
+            self.put(escaped)?;
+            rest = after;
+        }
+        self.put(rest)
+    }
+
+    /// Writes a text between quotes: between `'` where it holds `"` and no `'`, else between `"`.
+    pub fn serialize_str(&mut self, value: &str) -> Result<()>
+        ensures { Writes (out 128 (text (chars value.now)) self.old.depth) self.old result self.new }
+    {
+        let quote = quote_for(value);
+        let mark = quote_text(quote);
+        self.put(mark)?;
+        self.put_escaped(quote, value)?;
+        self.put(mark)
+    }
+
+    /// Writes the text of one character.
+    pub fn serialize_char(&mut self, value: char) -> Result<()>
+        ensures { Writes (out 128 (text (value ∷ [])) self.old.depth) self.old result self.new }
+    {
+        let mut buffer = [0u8; 4];
+        self.serialize_str(value.encode_utf8(&mut buffer))
     }
 }

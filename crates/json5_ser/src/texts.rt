@@ -6,13 +6,12 @@ ghost use Rattle.json5_ser.specs.Writes.{Writes, fresh, ended};
 ghost use Rattle.json5_ser.specs.Texts.{IsText, RefusesText};
 ghost use Rattle.json5_ser.specs.Named.{named};
 
+use crate::{Serialize, Serializer};
 use json5_text::ErrorCode;
 use json5_text::error::{Error, Result};
 use std::alloc::Global;
 use std::io;
 use std::io::Write;
-
-use crate::{Serialize, Serializer};
 
 /// A writer that is lent. Its bytes begin with the name of the reference, so that a proof knows
 /// which writer they are of.
