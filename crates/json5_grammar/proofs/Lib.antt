@@ -31,3 +31,11 @@ pub mod NumbersJudged
 pub mod NumberStepLaws
 pub mod NumberExamples
 pub mod PositionsCounted
+pub mod BlanksRead
+pub mod BlanksSound
+pub mod WordsRead
+pub mod Classes
+pub mod ValueHeads
+pub mod ValuesRead
+pub mod Unique
+pub mod ScalarsWritten

@@ -1,1 +1,9 @@
+pub mod ScanSteps
+pub mod ScanBytes
+pub mod ScanFaults
+pub mod ScanTokens
 pub mod EscapesSpelled
+pub mod FaultsCompared
+pub mod TextsCompared
+pub mod NumberRuns
+pub mod NumberZeros

@@ -3,5 +3,11 @@ pub mod Outcome
 pub mod Refused
 pub mod Cursor
 pub mod Tokens
+pub mod Scan
 pub mod Escapes
 pub mod Cows
+pub mod Compared
+pub mod NumberViews
+pub mod NumberDecimals
+pub mod NumberSteps
+pub mod NumberEquality
