@@ -30,3 +30,6 @@ pub mod NumberPartOf
 pub mod NumbersJudged
 pub mod NumberStepLaws
 pub mod NumberExamples
+pub mod BlanksRead
+pub mod BlanksSound
+pub mod WordsRead

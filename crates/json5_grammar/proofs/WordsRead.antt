@@ -1,0 +1,152 @@
+-- The words `null`, `true` and `false`: complete, sound, refused; one fault.
+use Rattle.std.proofs.Common.{◌≡◌, ℕ, true, cond, List, [], ◌∷◌, ◌++◌, refl, ap, sym, ◌∙◌, ◌≢◌, ◌⊎◌, inl, inr, subst, Option, Some, None}
+use Rattle.std.specs.Prelude.{◌==◌}
+use Rattle.std.proofs.lemmas.List.{append-nil}
+use Rattle.json5_grammar.specs.Codes.{ErrorCode, EofParsingBool, EofParsingNull, ExpectedBool, ExpectedNull, Shown, by_char, by_end}
+use Rattle.json5_grammar.specs.WordFaults.{Word, null_word, true_word, false_word, WordFault, word_differs, word_ends}
+use Rattle.json5_grammar.specs.Reading.{Place, here, inner, Read, got, bad, IsAt}
+use Rattle.json5_grammar.specs.Values.{null_text, true_text, false_text}
+use Rattle.json5_grammar.specs.ReadValues.{word_at}
+use Rattle.json5_grammar.proofs.Basics.{by_test, eq_from, neq_from, not_eq, same_char}
+use Rattle.json5_grammar.proofs.Refusals.{Refuses, one_refusal, not_both}
+
+-- a word in front is read
+pub word_complete : (eof wrong : ErrorCode) (w r : List ℕ) → word_at eof wrong w (w ++ r) ≡ got tt r
+unfolding word_at
+word_complete eof wrong [] r = refl
+word_complete eof wrong (k ∷ w) r = rw (same_char k) (word_complete eof wrong w r)
+
+-- ---- sound
+
+-- x has a fault of a word with this code at this place
+pub record WordBlamed (x : List ℕ) (code : Option ErrorCode) (p : Place) : Type 0 where
+  pub place : Option (List ℕ)
+  pub part : List ℕ
+  pub shown : Shown
+  pub fault : WordFault x code place part shown
+  pub is_at : IsAt x place p
+
+abbrev pub WordSound : List ℕ → List ℕ → Read (Unit {0}) → Type 0
+WordSound w x (got u r) = x ≡ w ++ r
+WordSound w x (bad code p) = WordBlamed x code p
+
+abbrev WordIs : ErrorCode → ErrorCode → List ℕ → List ℕ → Read (Unit {0}) → Type 0
+WordIs eof wrong ks x (got u r) = x ≡ ks ++ r
+WordIs eof wrong ks x (bad e p) =
+    ((v : List ℕ) × (d : ℕ) × (q : List ℕ) × (c : ℕ) × (r : List ℕ) × (ks ≡ v ++ d ∷ q) × (x ≡ v ++ c ∷ r) × (c ≢ d) × (e ≡ Some wrong) × (p ≡ here (c ∷ r)))
+    ⊎ ((d : ℕ) × (q : List ℕ) × (ks ≡ x ++ d ∷ q) × (e ≡ Some eof) × (p ≡ inner))
+
+word_more : (eof wrong : ErrorCode) (k : ℕ) (ks x : List ℕ) (res : Read (Unit {0})) → WordIs eof wrong ks x res → WordIs eof wrong (k ∷ ks) (k ∷ x) res
+word_more eof wrong k ks x (got u r) e = ap (λ z. k ∷ z) e
+word_more eof wrong k ks x (bad e p) (inl (v, d, q, c, r, a, b, t, i, j)) = inl (k ∷ v, d, q, c, r, ap (λ z. k ∷ z) a, ap (λ z. k ∷ z) b, t, i, j)
+word_more eof wrong k ks x (bad e p) (inr (d, q, a, i, j)) = inr (d, q, ap (λ z. k ∷ z) a, i, j)
+
+word_is : (eof wrong : ErrorCode) (ks x : List ℕ) → WordIs eof wrong ks x (word_at eof wrong ks x)
+unfolding word_at
+word_is eof wrong [] x = refl
+word_is eof wrong (k ∷ ks) [] = inr (k, ks, refl, refl, refl)
+word_is eof wrong (k ∷ ks) (c ∷ r) =
+    by_test (WordIs eof wrong (k ∷ ks) (c ∷ r)) (c == k) (word_at eof wrong ks r) (bad (Some wrong) (here (c ∷ r)))
+    (λ h. subst (λ z. WordIs eof wrong (k ∷ ks) (z ∷ r) (word_at eof wrong ks r)) (sym (eq_from c k h)) (word_more eof wrong k ks r (word_at eof wrong ks r) (word_is eof wrong ks r)))
+    (λ h. inl ([], k, ks, c, r, refl, refl, neq_from c k h, refl, refl))
+
+cons_not_nil : (k : ℕ) (v : List ℕ) → k ∷ v ≢ []
+cons_not_nil k v e = cc
+
+from_is : {eof wrong : ErrorCode} (k : ℕ) (ks r : List ℕ) (res : Read (Unit {0})) → Word (k ∷ ks) wrong eof → WordIs eof wrong ks r res → WordSound (k ∷ ks) (k ∷ r) res
+from_is k ks r (got u y) w e = ap (λ z. k ∷ z) e
+from_is {wrong = wrong} k ks r (bad e p) w (inl (v, d, q, c, y, i, j, t, u, l)) =
+    rw (u, l) (subst (λ z. WordBlamed (k ∷ z) (Some wrong) (here (c ∷ y))) (sym j) (record {
+      place = Some (k ∷ v);
+      part = (k ∷ v) ++ c ∷ [];
+      shown = by_char;
+      fault = word_differs y (k ∷ ks) (k ∷ v) d c w (q, ap (λ z. k ∷ z) i) (cons_not_nil k v) t;
+      is_at = refl;
+    }))
+from_is k ks r (bad e p) w (inr (d, q, i, u, l)) =
+    rw (u, l) (record { place = None; part = k ∷ r; shown = by_end; fault = word_ends (k ∷ ks) (k ∷ r) d w (q, ap (λ z. k ∷ z) i) (cons_not_nil k r); is_at = tt })
+
+first_step : (eof wrong : ErrorCode) (k : ℕ) (ks r : List ℕ) → word_at eof wrong (k ∷ ks) (k ∷ r) ≡ word_at eof wrong ks r
+unfolding word_at
+first_step eof wrong k ks r = rw (same_char k)
+
+-- a text that begins with a word's first letter begins with the word, or has a fault of it
+pub word_sound : {eof wrong : ErrorCode} (k : ℕ) (ks : List ℕ) (c : ℕ) (r : List ℕ) → Word (k ∷ ks) wrong eof → (c == k) ≡ true → WordSound (k ∷ ks) (c ∷ r) (word_at eof wrong (k ∷ ks) (c ∷ r))
+word_sound {eof = eof} {wrong = wrong} k ks c r w h =
+    subst (λ z. WordSound (k ∷ ks) (z ∷ r) (word_at eof wrong (k ∷ ks) (z ∷ r))) (sym (eq_from c k h))
+    (subst (WordSound (k ∷ ks) (k ∷ r)) (sym (first_step eof wrong k ks r)) (from_is k ks r (word_at eof wrong ks r) w (word_is eof wrong ks r)))
+
+-- ---- refused
+
+-- the word and the text begin with one letter
+abbrev pub SameFirst : List ℕ → List ℕ → Type 0
+SameFirst w x = (k : ℕ) × (ks : List ℕ) × (r : List ℕ) × (w ≡ k ∷ ks) × (x ≡ k ∷ r)
+
+-- x is refused as one of the words
+pub record WordRefused (x : List ℕ) (code : Option ErrorCode) (place : Option (List ℕ)) : Type 0 where
+  pub the_word : List ℕ
+  pub wrong : ErrorCode
+  pub eof : ErrorCode
+  pub is_word : Word the_word wrong eof
+  pub first : SameFirst the_word x
+  pub refuses : Refuses (word_at eof wrong the_word x) x code place
+
+differs_at : (eof wrong : ErrorCode) (p q r : List ℕ) (d c : ℕ) → c ≢ d → word_at eof wrong (p ++ d ∷ q) (p ++ c ∷ r) ≡ bad (Some wrong) (here (c ∷ r))
+unfolding word_at
+differs_at eof wrong [] q r d c n = rw (not_eq c d n) refl
+differs_at eof wrong (k ∷ p) q r d c n = rw (same_char k) (differs_at eof wrong p q r d c n)
+
+ends_in : (eof wrong : ErrorCode) (p q : List ℕ) (d : ℕ) → word_at eof wrong (p ++ d ∷ q) p ≡ bad (Some eof) inner
+unfolding word_at
+ends_in eof wrong [] q d = refl
+ends_in eof wrong (k ∷ p) q d = rw (same_char k) (ends_in eof wrong p q d)
+
+same_first : (w p q y : List ℕ) → p ≢ [] → w ≡ p ++ q → SameFirst w (p ++ y)
+same_first w [] q y n e = absurd (n refl)
+same_first w (k ∷ p) q y n e = (k, p ++ q, p ++ y, e, refl)
+
+-- a fault of a word is refused with its code at its place
+pub word_refused : {x part : List ℕ} {code : Option ErrorCode} {place : Option (List ℕ)} {shown : Shown} → WordFault x code place part shown → WordRefused x code place
+word_refused (word_differs r w p {bad = wrong} {eof = eof} d c k (q, e) n ne) = record {
+  the_word = w;
+  wrong = wrong;
+  eof = eof;
+  is_word = k;
+  first = same_first w p (d ∷ q) (c ∷ r) n e;
+  refuses = (here (c ∷ r), ap (λ z. word_at eof wrong z (p ++ c ∷ r)) e ∙ differs_at eof wrong p q r d c ne, refl);
+}
+word_refused (word_ends w p {bad = wrong} {eof = eof} d k (q, e) n) = record {
+  the_word = w;
+  wrong = wrong;
+  eof = eof;
+  is_word = k;
+  first = subst (SameFirst w) (append-nil p) (same_first w p (d ∷ q) [] n e);
+  refuses = (inner, ap (λ z. word_at eof wrong z p) e ∙ ends_in eof wrong p q d, tt);
+}
+
+-- the word that the first letter begins
+abbrev by_first : List ℕ → Read (Unit {0})
+by_first [] = bad None inner
+by_first (c ∷ r) = cond (c == 110) (word_at EofParsingNull ExpectedNull null_text (c ∷ r)) (cond (c == 116) (word_at EofParsingBool ExpectedBool true_text (c ∷ r)) (word_at EofParsingBool ExpectedBool false_text (c ∷ r)))
+
+by_word : {w x : List ℕ} {wrong eof : ErrorCode} → Word w wrong eof → SameFirst w x → by_first x ≡ word_at eof wrong w x
+by_word null_word (k, ks, r, e, f) = let a : k ≡ 110 = cc in rw (f, a) refl
+by_word true_word (k, ks, r, e, f) = let a : k ≡ 116 = cc in rw (f, a) refl
+by_word false_word (k, ks, r, e, f) = let a : k ≡ 102 = cc in rw (f, a) refl
+
+first_refused : {x part : List ℕ} {code : Option ErrorCode} {place : Option (List ℕ)} {shown : Shown} → WordFault x code place part shown → Refuses (by_first x) x code place
+first_refused {x = x} {code = code} {place = place} f = let k = word_refused f in subst (λ z. Refuses z x code place) (sym (by_word k.is_word k.first)) k.refuses
+
+-- two faults of words of one text have one code and one place
+pub one_word_fault : {x p q : List ℕ} {e f : Option ErrorCode} {pl pm : Option (List ℕ)} {h i : Shown} → WordFault x e pl p h → WordFault x f pm q i → (e ≡ f) × (pl ≡ pm)
+one_word_fault {x = x} {e = e} {f = f} {pl = pl} {pm = pm} a b = one_refusal (by_first x) x e f pl pm (first_refused a) (first_refused b)
+
+word_first : {w : List ℕ} {wrong eof : ErrorCode} (r : List ℕ) → Word w wrong eof → SameFirst w (w ++ r)
+word_first r null_word = same_first null_text null_text [] r (λ e. cc) refl
+word_first r true_word = same_first true_text true_text [] r (λ e. cc) refl
+word_first r false_word = same_first false_text false_text [] r (λ e. cc) refl
+
+-- a text with a word in front has no fault of a word
+pub no_word_fault : {w p : List ℕ} {wrong eof : ErrorCode} {e : Option ErrorCode} {pl : Option (List ℕ)} {h : Shown} (r : List ℕ) → Word w wrong eof → WordFault (w ++ r) e pl p h → ⊥
+no_word_fault {w = w} {wrong = wrong} {eof = eof} {e = e} {pl = pl} r k f =
+    not_both (by_first (w ++ r)) (w ++ r) r tt e pl (by_word k (word_first r k) ∙ word_complete eof wrong w r) (first_refused f)
