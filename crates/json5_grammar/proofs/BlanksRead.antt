@@ -1,6 +1,7 @@
 -- Blanks are passed over.
 use Rattle.std.proofs.Common.{◌≡◌, ℕ, zero, suc, ◌+◌, ◌≤◌, ◌<◌, Bool, true, false, ◌&&◌, ◌||◌, not, List, [], ◌∷◌, ◌++◌, refl, ap, sym, ◌∙◌, append_assoc, arith, ◌≢◌}
 use Rattle.std.specs.Prelude.{◌==◌}
+use Rattle.std.proofs.lemmas.Bool.{not-true, not-false}
 use Rattle.std.proofs.lemmas.Bool.Decides.{nat_tests}
 use Rattle.std.proofs.lemmas.List.{append-nil}
 use Rattle.ucd_category.specs.GeneralCategory.{general_category}
@@ -37,7 +38,8 @@ none_holds (suc n) low c h a b = split (is_space_separator low) refl h (c == low
     past : (c == low) ≡ false → suc low ≤ c
     past f = let ne : c ≢ low = neq_from c low f in omega arith
 
-printable_no_space : (c : ℕ) → is_in 33 126 c ≡ true → is_space_separator c ≡ false
+-- a character from `!` to `~` is no space
+pub printable_no_space : (c : ℕ) → is_in 33 126 c ≡ true → is_space_separator c ≡ false
 printable_no_space c h = none_holds 94 33 c printable_checked (grind (arith, nat_tests)) (grind (arith, nat_tests))
 
 -- a character from `!` to `~` is no blank
@@ -56,11 +58,7 @@ skip_slash r = refl
 pub skip_line : {x : List ℕ} (c : ℕ) (y : List ℕ) → Each (λ d. not (is_terminator d)) x → is_terminator c ≡ true → skip Mode.line (x ++ c ∷ y) ≡ skip between y
 unfolding skip
 skip_line c y no_char h = rw h refl
-skip_line c y (char {c = d} n k) h = rw (not_true (is_terminator d) n) (skip_line c y k h)
-  where
-    not_true : (b : Bool) → not b ≡ true → b ≡ false
-    not_true true e = absurd (cc)
-    not_true false e = refl
+skip_line c y (char {c = d} n k) h = rw (not-true (is_terminator d) n) (skip_line c y k h)
 
 mutual
   unfolding skip
@@ -88,11 +86,7 @@ skip_blanks r (block {x = x} {s = s} i b) = skip_slash (42 ∷ (x ++ 42 ∷ 47 �
 pub skip_open : {x : List ℕ} → Each (λ d. not (is_terminator d)) x → skip Mode.line x ≡ got tt []
 unfolding skip
 skip_open no_char = refl
-skip_open (char {c = d} n k) = rw (not_true (is_terminator d) n) (skip_open k)
-  where
-    not_true : (b : Bool) → not b ≡ true → b ≡ false
-    not_true true e = absurd (cc)
-    not_true false e = refl
+skip_open (char {c = d} n k) = rw (not-true (is_terminator d) n) (skip_open k)
 
 pub skip_end : skip between [] ≡ got tt []
 unfolding skip
@@ -125,11 +119,7 @@ solid_parts c h = by_parts (is_blank c) (c == 47) h
 -- a solid rest is left as it is
 pub skip_rest : (r : List ℕ) → Solid r → skip between r ≡ got tt r
 skip_rest [] h = skip_end
-skip_rest (c ∷ r) h = let k = solid_parts c (twice (is_solid c) h) in skip_solid c r k.0 k.1
-  where
-    twice : (b : Bool) → not b ≡ false → b ≡ true
-    twice true h = refl
-    twice false h = absurd (cc)
+skip_rest (c ∷ r) h = let k = solid_parts c (not-false (is_solid c) h) in skip_solid c r k.0 k.1
 
 -- ---- solid characters
 

@@ -222,3 +222,14 @@ gap_end {w = w} g = last_of g
     last_of : {w q : List ℕ} → Gap w q → LastBlanks w
     last_of (Gap.blanks b) = LastBlanks.blanks b
     last_of (at_end l) = l
+
+-- each text is a gap before a solid rest or has a fault of blanks
+pub blanks_judged : (x : List ℕ)
+    → ((w : List ℕ) × (r : List ℕ) × (x ≡ w ++ r) × Gap w r × Solid r)
+    ⊎ ((code : Option ErrorCode) × (place : Option (List ℕ)) × (before : List ℕ) × (part : List ℕ) × (shown : Shown) × BlankFault x code place before part shown)
+blanks_judged x = by_answer (skip between x) (skip_sound x)
+  where
+    by_answer : (res : Read (Unit {0})) → BlanksSound x res → ((w : List ℕ) × (r : List ℕ) × (x ≡ w ++ r) × Gap w r × Solid r)
+        ⊎ ((code : Option ErrorCode) × (place : Option (List ℕ)) × (before : List ℕ) × (part : List ℕ) × (shown : Shown) × BlankFault x code place before part shown)
+    by_answer (got u r) (w, e, g, s) = inl (w, r, e, g, s)
+    by_answer (bad code p) b = inr (code, b.place, b.before, b.part, b.shown, b.fault)

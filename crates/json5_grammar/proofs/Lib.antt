@@ -33,3 +33,8 @@ pub mod NumberExamples
 pub mod BlanksRead
 pub mod BlanksSound
 pub mod WordsRead
+pub mod Classes
+pub mod ValueHeads
+pub mod ValuesRead
+pub mod Unique
+pub mod ScalarsWritten

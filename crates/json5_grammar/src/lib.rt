@@ -2,4 +2,5 @@
 #![tactic(auto)]
 
 pub mod code;
+pub mod laws;
 pub mod position;

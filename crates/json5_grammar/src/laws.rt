@@ -1,0 +1,3 @@
+//! The laws of the definitions, each the contract of a function that does nothing.
+
+pub mod documents;
