@@ -1,5 +1,5 @@
 -- The law of a type that is read.
-use Rattle.std.specs.Prelude.{◌≡◌, ℕ, ◌+◌, ◌≤◌, Bool, false, true, List, Option, Some, None, Result, Ok, Err, IsErrAnd}
+use Rattle.std.specs.Prelude.{◌≡◌, ℕ, ◌+◌, ◌≤◌, Bool, false, true, List, Option, Some, None, Result, Ok, Err, IsOk, IsErrAnd}
 use Rattle.json5_grammar.specs.declared.code.ErrorCode.TheVariants as codes
 use Rattle.json5_grammar.specs.Trees.{Tree, depth}
 use Rattle.json5_grammar.specs.Values.{Reads}
@@ -28,6 +28,11 @@ IsOkOrMemory (Err e) = IsOutOfMemory e
 abbrev pub Completes : {V C : Type 0} → (Tree → Option C) → State → Result V Error → Type 0
 Completes {C = C} convert old result =
     (t : Tree) (r : List ℕ) (c : C) → old.failed ≡ false → Reads old.unread t r → old.level + depth t ≤ max_depth → convert t ≡ Some c → IsOkOrMemory result
+
+-- what can be read is read, and takes no memory
+abbrev pub CompletesWithoutMemory : {V C : Type 0} → (Tree → Option C) → State → Result V Error → Type 0
+CompletesWithoutMemory {C = C} convert old result =
+    (t : Tree) (r : List ℕ) (c : C) → old.failed ≡ false → Reads old.unread t r → old.level + depth t ≤ max_depth → convert t ≡ Some c → IsOk result
 
 -- a reader that has failed answers `Failed` without a place, and stays as it is
 abbrev pub StaysFailed : {V : Type 0} → State → State → Result V Error → Type 0
