@@ -38,3 +38,4 @@ pub mod ValueHeads
 pub mod ValuesRead
 pub mod Unique
 pub mod ScalarsWritten
+pub mod PositionsCounted

@@ -1,7 +1,9 @@
 pub mod Characters
 pub mod Codes
+pub mod CodeText
 pub mod Blanks
 pub mod Positions
+pub mod PositionSteps
 pub mod Numbers
 pub mod Stops
 pub mod NumberFaults

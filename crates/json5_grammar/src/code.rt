@@ -1,40 +1,124 @@
 //! The codes of faults.
+ghost use Rattle.std.specs.Prelude.{Some};
+
+use std::fmt;
 
 /// What a fault is, where it is no custom one.
 #[derive(Clone, Copy, Debug, PartialEq, Eq)]
 pub enum ErrorCode {
+    /// The text ends behind a value in an array, where a comma or `]` is awaited.
     EofParsingArray,
+    /// The text ends in `true` or `false`, or where a boolean is awaited.
     EofParsingBool,
+    /// The text ends behind a `/` that begins a comment, or inside `/* */` (JSON5 section 7).
     EofParsingComment,
+    /// The text ends in an escape of a string, or in a name's `\u` escape.
     EofParsingEscapeSequence,
+    /// The text ends in a name, or right behind its backslash.
     EofParsingIdentifier,
+    /// The text ends in `null`, or where it is awaited.
     EofParsingNull,
+    /// The text ends behind a number's sign or `0x`, in `Infinity` or `NaN`, or where a number is awaited.
     EofParsingNumber,
+    /// The text ends where an object awaits a key, a colon, a comma or `}`.
     EofParsingObject,
+    /// The text ends in a string, outside its escapes, or where a string is awaited.
     EofParsingString,
+    /// The text ends where a value is awaited.
     EofParsingValue,
+    /// A character that differs from `true` or `false`, or begins neither where a boolean is awaited.
     ExpectedBool,
+    /// A character that is no `}` where an object is to be closed.
     ExpectedClosingBrace,
+    /// A character that is no `]` where an array is to be closed.
     ExpectedClosingBracket,
+    /// A character that is no `:` behind a key (JSON5 section 3).
     ExpectedColon,
+    /// A character behind a member that is neither a comma nor the closing bracket (JSON5 sections 3 and 4).
     ExpectedComma,
+    /// A character behind a `/` that is neither `/` nor `*` (JSON5 section 7).
     ExpectedComment,
+    /// A character that begins no key, or an escape whose character may not stand there in a name (ECMAScript 5.1 section 7.6).
     ExpectedIdentifier,
+    /// A character that differs from `null`.
     ExpectedNull,
+    /// A character that differs from `Infinity` or `NaN`, or one behind a sign or `0x`, or where a number is awaited, that begins none.
     ExpectedNumber,
+    /// A character that is no `{` where an object is awaited.
     ExpectedOpeningBrace,
+    /// A character that is no `[` where an array is awaited.
     ExpectedOpeningBracket,
+    /// A character that is no quote where a string is awaited.
     ExpectedString,
+    /// A character that begins neither a string nor an object where a variant is awaited.
     ExpectedStringOrObject,
+    /// A character that begins no value where one is awaited (JSON5 section 2).
     ExpectedValue,
+    /// A text that is no even number of hexadecimal digits where bytes are awaited.
     InvalidBytes,
+    /// An escape that isn't allowed (JSON5 section 5.1, ECMAScript 5.1 sections 7.6 and 7.8.4).
     InvalidEscapeSequence,
+    /// A value that can't be written as a key.
     InvalidKey,
+    /// A digit behind a number's first `0` (ECMAScript 5.1 section 7.8.3).
     LeadingZero,
+    /// An LF or CR in a string without a backslash (JSON5 section 5.2).
     LineTerminatorInString,
+    /// A hexadecimal number past 128 bits, or a decimal whose exponent isn't in 16 bits.
     OverflowParsingNumber,
+    /// A character behind the document's value that is neither blank nor begins a comment.
     TrailingCharacters,
+    /// An array or object past the nesting limit.
     TooDeep,
+    /// Memory was refused.
     OutOfMemory,
+    /// An earlier call had failed.
     Failed,
+}
+
+/// The code in words, such as `expected comma`.
+impl fmt::Display for ErrorCode {
+    ghost output = { λ c. Some (code_text c) };
+
+    ghost use Rattle.json5_grammar.specs.CodeText.{code_text};
+
+    fn fmt<W: fmt::Write>(&self, f: &mut fmt::Formatter<W>) -> fmt::Result {
+        let text = match self {
+            ErrorCode::EofParsingArray => "EOF parsing array",
+            ErrorCode::EofParsingBool => "EOF parsing bool",
+            ErrorCode::EofParsingComment => "EOF parsing comment",
+            ErrorCode::EofParsingEscapeSequence => "EOF parsing escape sequence",
+            ErrorCode::EofParsingIdentifier => "EOF parsing identifier",
+            ErrorCode::EofParsingNull => "EOF parsing null",
+            ErrorCode::EofParsingNumber => "EOF parsing number",
+            ErrorCode::EofParsingObject => "EOF parsing object",
+            ErrorCode::EofParsingString => "EOF parsing string",
+            ErrorCode::EofParsingValue => "EOF parsing value",
+            ErrorCode::ExpectedBool => "expected bool",
+            ErrorCode::ExpectedClosingBrace => "expected closing brace",
+            ErrorCode::ExpectedClosingBracket => "expected closing bracket",
+            ErrorCode::ExpectedColon => "expected colon",
+            ErrorCode::ExpectedComma => "expected comma",
+            ErrorCode::ExpectedComment => "expected comment",
+            ErrorCode::ExpectedIdentifier => "expected identifier",
+            ErrorCode::ExpectedNull => "expected null",
+            ErrorCode::ExpectedNumber => "expected number",
+            ErrorCode::ExpectedOpeningBrace => "expected opening brace",
+            ErrorCode::ExpectedOpeningBracket => "expected opening bracket",
+            ErrorCode::ExpectedString => "expected string",
+            ErrorCode::ExpectedStringOrObject => "expected string or object",
+            ErrorCode::ExpectedValue => "expected value",
+            ErrorCode::InvalidBytes => "invalid bytes",
+            ErrorCode::InvalidEscapeSequence => "invalid escape sequence",
+            ErrorCode::InvalidKey => "invalid key",
+            ErrorCode::LeadingZero => "leading zero",
+            ErrorCode::LineTerminatorInString => "line terminator in string",
+            ErrorCode::OverflowParsingNumber => "overflow parsing number",
+            ErrorCode::TrailingCharacters => "trailing characters",
+            ErrorCode::TooDeep => "nested too deep",
+            ErrorCode::OutOfMemory => "out of memory",
+            ErrorCode::Failed => "failed before",
+        };
+        f.write_str(text)
+    }
 }

@@ -1,0 +1,4 @@
+pub mod ScanSteps
+pub mod ScanBytes
+pub mod ScanFaults
+pub mod ScanTokens

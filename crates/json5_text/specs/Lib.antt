@@ -3,3 +3,4 @@ pub mod Outcome
 pub mod Refused
 pub mod Cursor
 pub mod Tokens
+pub mod Scan

@@ -1,9 +1,13 @@
 //! The tokens of JSON5, faults, and the values that a text holds.
 #![tactic(auto)]
 
+mod blanks;
 pub mod error;
+mod front;
 pub mod input;
 mod refusal;
+pub mod scanner;
+mod words;
 
 pub use json5_grammar::code::ErrorCode;
 pub use json5_grammar::position::Position;

@@ -1,0 +1,5 @@
+use Rattle.json5_grammar.proofs.NumbersJudged.{judged}
+use Rattle.json5_grammar.proofs.laws.numbers.number_or_fault.Goals as goal
+
+pub returns : goal.returns
+returns c = judged

@@ -1,0 +1,5 @@
+use Rattle.json5_grammar.proofs.NumbersUnique
+use Rattle.json5_grammar.proofs.laws.numbers.one_number.Goals as goal
+
+pub returns : goal.returns
+returns c = λ s t r q n k a b f g e. NumbersUnique.one_number a b f g e

@@ -1,0 +1,93 @@
+-- A text is cut where its characters are.
+use Rattle.std.proofs.Common.{◌≡◌, ℕ, ◌+◌, ◌-◌, ◌≤◌, Bool, true, false, List, [], ◌∷◌, ◌++◌, length, take, drop, refl, ap, sym, ◌∙◌, arith, append_assoc}
+use Rattle.std.specs.Prelude.{◌&&◌}
+use Rattle.std.specs.Char.{IsScalar}
+use Rattle.std.specs.Str.{IsUtf8, IsCharBoundary, chars, encode_utf8_all, all_scalars}
+use Rattle.std.proofs.Math.Seq.{take-append_seam, drop-append_seam}
+use Rattle.std.proofs.lemmas.List.{length-append, length-drop, take-append-drop}
+use Rattle.std.proofs.lemmas.Str.{encodes-chars, scalars-chars, chars-encodes, encodes-append, chars-append, IsUtf8-take, IsUtf8-drop, IsCharBoundary-at_seam}
+use Rattle.json5_text.specs.Outcome.{bytes_in}
+use Rattle.json5_text.specs.Scan.{InText}
+
+both_true : (a b : Bool) → (a && b) ≡ true → (a ≡ true) × (b ≡ true)
+both_true true true e = (refl, refl)
+both_true true false e = absurd (cc)
+both_true false b e = absurd (cc)
+
+scalar_halves : (x y : List ℕ) → all_scalars (x ++ y) ≡ true → (all_scalars x ≡ true) × (all_scalars y ≡ true)
+scalar_halves [] y s = (refl, s)
+scalar_halves (c ∷ x) y s =
+    let k = both_true _ (all_scalars (x ++ y)) s in
+    let l = scalar_halves x y k.1 in
+    (rw (k.0, l.0) refl, l.1)
+
+-- the characters of the text are x ++ y
+pub record Halves (text x y : List ℕ) : Type 0 where
+  pub is_text : IsUtf8 text
+  pub split : chars text ≡ x ++ y
+
+whole_bytes : {text x y : List ℕ} → Halves text x y → text ≡ encode_utf8_all x ++ encode_utf8_all y
+whole_bytes {text = text} {x = x} {y = y} h = sym (encodes-chars text h.is_text) ∙ ap encode_utf8_all h.split ∙ encodes-append x y
+
+parts_scalar : {text x y : List ℕ} → Halves text x y → (all_scalars x ≡ true) × (all_scalars y ≡ true)
+parts_scalar {text = text} {x = x} {y = y} h = scalar_halves x y (sym (ap all_scalars h.split) ∙ scalars-chars text h.is_text)
+
+bytes_apart : {text x y : List ℕ} → Halves text x y → length text ≡ bytes_in x + bytes_in y
+bytes_apart {x = x} {y = y} h = ap length (whole_bytes h) ∙ length-append (encode_utf8_all x) (encode_utf8_all y)
+
+-- the offset of the cut
+offset_at : {text x y : List ℕ} → Halves text x y → length text - bytes_in y ≡ bytes_in x
+offset_at h = let e = bytes_apart h in omega arith
+
+pub left_fits : {text x y : List ℕ} → Halves text x y → bytes_in y ≤ length text
+left_fits h = let e = bytes_apart h in omega arith
+
+pub take_half : {text x y : List ℕ} → Halves text x y → chars (take (length text - bytes_in y) text) ≡ x
+take_half {x = x} {y = y} h =
+    rw (offset_at h) (ap chars (ap (take (bytes_in x)) (whole_bytes h) ∙ take-append_seam (encode_utf8_all x) (encode_utf8_all y)) ∙ chars-encodes x (parts_scalar h).0)
+
+pub drop_half : {text x y : List ℕ} → Halves text x y → chars (drop (length text - bytes_in y) text) ≡ y
+drop_half {x = x} {y = y} h =
+    rw (offset_at h) (ap chars (ap (drop (bytes_in x)) (whole_bytes h) ∙ drop-append_seam (encode_utf8_all x) (encode_utf8_all y)) ∙ chars-encodes y (parts_scalar h).1)
+
+pub cut_half : {text x y : List ℕ} → Halves text x y → IsCharBoundary text (length text - bytes_in y)
+cut_half {text = text} {x = x} {y = y} h =
+    rw (offset_at h) (IsCharBoundary-at_seam text (encode_utf8_all x) (encode_utf8_all y) (whole_bytes h) (y, ((parts_scalar h).1, refl)))
+
+-- a text cut at a boundary
+pub halves_at : (text : List ℕ) (i : ℕ) → IsUtf8 text → IsCharBoundary text i → Halves text (chars (take i text)) (chars (drop i text))
+halves_at text i u b = record {
+  is_text = u;
+  split = sym (ap chars (take-append-drop i text)) ∙ chars-append (take i text) (drop i text) (IsUtf8-take text i u b);
+}
+
+-- and cut again behind p
+pub halves_behind : {text x y : List ℕ} (p q : List ℕ) → Halves text x y → y ≡ p ++ q → Halves text (x ++ p) q
+halves_behind {x = x} p q h e = record { is_text = h.is_text; split = h.split ∙ ap (λ z. x ++ z) e ∙ sym (append_assoc x p q) }
+
+-- ---- the scanner's text
+
+pub halves_in : {text : List ℕ} {offset end : ℕ} → InText text offset end → Halves text (chars (take offset text)) (chars (drop offset text))
+halves_in {text = text} {offset = offset} k = halves_at text offset k.is_text k.cut
+
+-- the text is cut where so many bytes are left
+pub cut_left : {text : List ℕ} {offset end left : ℕ} (x y : List ℕ) → InText text offset end → chars text ≡ x ++ y → left ≡ bytes_in y → IsCharBoundary text (end - left)
+cut_left x y k e l = rw (k.counted, l) (cut_half (record { is_text = k.is_text; split = e }))
+
+pub take_left : {text : List ℕ} {offset end left : ℕ} (x y : List ℕ) → InText text offset end → chars text ≡ x ++ y → left ≡ bytes_in y → chars (take (end - left) text) ≡ x
+take_left x y k e l = rw (k.counted, l) (take_half (record { is_text = k.is_text; split = e }))
+
+pub drop_left : {text : List ℕ} {offset end left : ℕ} (x y : List ℕ) → InText text offset end → chars text ≡ x ++ y → left ≡ bytes_in y → chars (drop (end - left) text) ≡ y
+drop_left x y k e l = rw (k.counted, l) (drop_half (record { is_text = k.is_text; split = e }))
+
+pub fits_left : {text : List ℕ} {offset end left : ℕ} (x y : List ℕ) → InText text offset end → chars text ≡ x ++ y → left ≡ bytes_in y → left ≤ end
+fits_left x y k e l = rw (k.counted, l) (left_fits (record { is_text = k.is_text; split = e }))
+
+-- the whole text, cut within what is unread
+pub whole_split : {text : List ℕ} {offset end : ℕ} (p q : List ℕ) → InText text offset end → chars (drop offset text) ≡ p ++ q → chars text ≡ (chars (take offset text) ++ p) ++ q
+whole_split p q k e = (halves_behind p q (halves_in k) e).split
+
+pub offset_counted : {text : List ℕ} {offset end : ℕ} → InText text offset end → offset ≡ length (encode_utf8_all (chars text)) - length (encode_utf8_all (chars (drop offset text)))
+offset_counted {text = text} {offset = offset} k =
+    rw (encodes-chars text k.is_text, encodes-chars (drop offset text) (IsUtf8-drop text offset k.is_text k.cut), length-drop offset text)
+    (let h : offset ≤ length text = k.cut.0 in omega arith)

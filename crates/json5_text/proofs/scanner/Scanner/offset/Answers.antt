@@ -1,0 +1,10 @@
+use Rattle.std.proofs.Common.{refl}
+use Rattle.std.specs.Str.{chars}
+use Rattle.json5_text.proofs.ScanBytes.{halves_in, offset_counted}
+use Rattle.json5_text.proofs.scanner.Scanner.offset.Goals as goal
+
+pub returns-clause-counted : goal.returns-clause-counted
+returns-clause-counted g c = rw (← c.self.view_is) (offset_counted c.self.invariant)
+
+pub returns-clause-suffix : goal.returns-clause-suffix
+returns-clause-suffix g c = rw (← c.self.view_is) (_, (halves_in c.self.invariant).split)

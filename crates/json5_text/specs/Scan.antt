@@ -1,0 +1,58 @@
+-- What private clauses of the scanner say.
+use Rattle.std.specs.Prelude.{◌≡◌, ℕ, List, ◌++◌, length, Option, Some, None, ◌⊎◌, ⊤}
+use Rattle.std.specs.Str.{IsUtf8, IsCharBoundary}
+use Rattle.json5_grammar.specs.declared.code.ErrorCode.{ErrorCode}
+use Rattle.json5_grammar.specs.declared.position.Position.{Position}
+use Rattle.json5_grammar.specs.Positions.{position_behind}
+use Rattle.json5_text.specs.declared.error.Error.{Error}
+use Rattle.json5_text.specs.declared.refusal.Refusal.{Refusal}
+use Rattle.json5_text.specs.declared.refusal.Refusal.TheVariants as refusal
+use Rattle.json5_text.specs.Errors.{code, kind_of, place_of}
+use Rattle.json5_text.specs.Outcome.{bytes_in}
+use Rattle.json5_text.specs.Cursor.{Cursor, Says, IsOutOfMemory}
+
+-- the offset lies between characters of the text, which has so many bytes
+pub record InText (text : List ℕ) (offset end : ℕ) : Type 0 where
+  pub is_text : IsUtf8 text
+  pub counted : end ≡ length text
+  pub cut : IsCharBoundary text offset
+
+-- a code, and neither a text of its own nor want of memory
+abbrev pub HasCode : Refusal → Type 0
+HasCode (refusal.Code c left) = ⊤
+HasCode (refusal.InvalidNumber left) = ⊥
+HasCode (refusal.TooLarge left) = ⊥
+HasCode (refusal.UnpairedSurrogate escape left) = ⊥
+HasCode refusal.OutOfMemory = ⊥
+
+-- so many bytes are left somewhere in what is unread
+pub record Leaves (s : Cursor) (left : ℕ) : Type 0 where
+  pub passed : List ℕ
+  pub rest : List ℕ
+  pub split : s.unread ≡ passed ++ rest
+  pub counted : left ≡ bytes_in rest
+
+-- the place with so many bytes left is within what is unread
+abbrev pub InUnread : Cursor → Refusal → Type 0
+InUnread s (refusal.Code c None) = ⊤
+InUnread s (refusal.Code c (Some left)) = Leaves s left
+InUnread s (refusal.InvalidNumber left) = Leaves s left
+InUnread s (refusal.TooLarge left) = Leaves s left
+InUnread s (refusal.UnpairedSurrogate escape left) = Leaves s left
+InUnread s refusal.OutOfMemory = ⊤
+
+-- the position where so many bytes are left
+abbrev pub IsWhere : Cursor → ℕ → Position → Type 0
+IsWhere s left p = (before rest : List ℕ) → s.input ≡ before ++ rest → left ≡ bytes_in rest → p ≡ position_behind before
+
+abbrev pub IsThere : Cursor → ℕ → Error → Type 0
+IsThere s left e = (p : Position) × (place_of e ≡ Some p) × IsWhere s left p
+
+-- the fault that is made of a refusal
+abbrev pub MadeOf : Cursor → Refusal → Error → Type 0
+MadeOf s (refusal.Code c None) e = (kind_of e ≡ code c) × (place_of e ≡ None)
+MadeOf s (refusal.Code c (Some left)) e = (kind_of e ≡ code c) × IsThere s left e
+MadeOf s (refusal.InvalidNumber left) e = IsOutOfMemory e ⊎ (Says None e × IsThere s left e)
+MadeOf s (refusal.TooLarge left) e = IsOutOfMemory e ⊎ (Says None e × IsThere s left e)
+MadeOf s (refusal.UnpairedSurrogate escape left) e = IsOutOfMemory e ⊎ (Says None e × IsThere s left e)
+MadeOf s refusal.OutOfMemory e = IsOutOfMemory e

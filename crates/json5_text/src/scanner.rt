@@ -1,0 +1,163 @@
+//! The scanner: the tokens of a text, one after another.
+
+ghost use Rattle.std.specs.Prelude.{◌≡◌, ℕ, List, [], ◌∷◌, ◌++◌, true, false, ◌==◌, ◌⊎◌, length, take, drop, Some, slice_get, IsTrue, OnOk, OnErr, IfErr};
+ghost use Rattle.std.specs.Str.{chars, encode_utf8_all};
+ghost use Rattle.json5_grammar.specs.Characters.{NotBegun};
+ghost use Rattle.json5_grammar.specs.Blanks.{Gap, Solid};
+ghost use Rattle.json5_text.specs.Errors.{Kind, code, kind_of, place_of};
+ghost use Rattle.json5_text.specs.Cursor.{Cursor, offset_of, Refused, Took, Behind, IsOutOfMemory};
+ghost use Rattle.json5_text.specs.Tokens.{FaultyBlanks, FaultyWord};
+ghost use Rattle.json5_text.specs.Scan.{InText, Leaves, InUnread, IsWhere, MadeOf};
+
+use crate::blanks::skip_blank;
+use crate::error::{Error, Result};
+use crate::front::front;
+use crate::input::Input;
+use crate::refusal::Refusal;
+use crate::words::skip_word;
+use json5_grammar::code::ErrorCode;
+use json5_grammar::position::Position;
+use std::alloc::Global;
+use std::marker::Model;
+
+/// Reads tokens from the front of a text. What a token takes is gone; where a token is refused, nothing is.
+#[derive(Drop)]
+pub struct Scanner<I: Input> {
+    input: I,
+    /// The text's length in bytes.
+    end: usize,
+    /// The count of bytes that are read; a character begins there, or the text ends.
+    offset: usize,
+    alloc: Global,
+}
+
+impl<I: Input> Model for Scanner<I> {
+    ghost Value = { Cursor };
+
+    ghost view = { λ s. record { input = chars (I.text s.input); unread = chars (drop s.offset (I.text s.input)) } };
+
+    ghost invariant = { λ s. InText (I.text s.input) s.offset s.end };
+}
+
+impl<I: Input> Scanner<I> {
+    /// A scanner at the start of a text. What it gives that must be allocated comes from `alloc`.
+    pub fn new(alloc: Global, input: I) -> Scanner<I>
+        ensures { result ≡ record { input = chars (I.text input); unread = chars (I.text input) } }
+    {
+        let end = input.as_text().len();
+        Scanner {
+            input,
+            end,
+            offset: 0,
+            alloc,
+        }
+    }
+
+    /// The allocator that was given to `new`.
+    pub fn allocator(&self) -> Global {
+        self.alloc
+    }
+
+    /// The count of bytes before what is unread.
+    pub fn offset(&self) -> usize
+        ensures counted { result ≡ offset_of self.now }
+        ensures suffix { (before : List ℕ) × (self.now.input ≡ before ++ self.now.unread) }
+    {
+        self.offset
+    }
+
+    /// The next character; None at the end.
+    pub fn peek(&self) -> Option<char>
+        ensures { result ≡ slice_get self.now.unread 0 }
+    {
+        let (c, _) = front(self.rest())?;
+        Some(c)
+    }
+
+    /// Takes the character where it is next, and says whether it was.
+    pub fn eat(&mut self, c: char) -> bool
+        ensures taken { IsTrue result → Took self.old (c ∷ []) self.new }
+        ensures kept { (result ≡ false) → (self.new ≡ self.old) × NotBegun (λ d. d == c) self.old.unread }
+    {
+        let Some((next, rest)) = front(self.rest()) else {
+            return false;
+        };
+        if next != c {
+            return false;
+        }
+        let left = rest.len();
+        self.leave(left);
+        true
+    }
+
+    /// Passes over blanks: white space, line terminators and comments (JSON5 sections 7 and 8). `ExpectedComment` stands at a
+    /// character behind a slash that begins no comment, and `EofParsingComment` has no place.
+    pub fn skip_blank(&mut self) -> Result<()>
+        ensures passed { OnOk result ((w : List ℕ) × Took self.old w self.new × Gap w self.new.unread × Solid self.new.unread) }
+        ensures refused { IfErr result (λ e. Refused FaultyBlanks self.old e) }
+        ensures behind { OnErr result (Behind self.old self.new) }
+    {
+        let left = match skip_blank(self.rest()) {
+            Ok(rest) => rest.len(),
+            Err(refusal) => return Err(self.fault(refusal)),
+        };
+        self.leave(left);
+        Ok(())
+    }
+
+    /// Takes the word: `differs` stands at the first character that is another one than the word's, and `ends`, where the text
+    /// ends in the word, has no place.
+    pub fn word(&mut self, word: &str, ends: ErrorCode, differs: ErrorCode) -> Result<()>
+        ensures taken { OnOk result (Took self.old (chars word.now) self.new) }
+        ensures refused { IfErr result (λ e. Refused (FaultyWord (chars word.now) ends differs) self.old e) }
+        ensures behind { OnErr result (Behind self.old self.new) }
+    {
+        let left = match skip_word(word, self.rest(), ends, differs) {
+            Ok(rest) => rest.len(),
+            Err(refusal) => return Err(self.fault(refusal)),
+        };
+        self.leave(left);
+        Ok(())
+    }
+
+    /// What is unread.
+    fn rest(&self) -> &str
+        ensures { chars result.now ≡ self.now.unread }
+    {
+        &self.input.as_text()[self.offset..]
+    }
+
+    /// Leaves so many bytes unread.
+    fn leave(&mut self, left: usize)
+        requires { Leaves self.old left }
+        ensures { (taken rest : List ℕ) → self.old.unread ≡ taken ++ rest → left ≡ length (encode_utf8_all rest) → Took self.old taken self.new × (self.new.unread ≡ rest) }
+    {
+        self.offset = self.end - left;
+    }
+
+    /// The position where so many bytes are left.
+    fn position(&self, left: usize) -> Position
+        requires { Leaves self.now left }
+        ensures { IsWhere self.now left result }
+    {
+        Position::from_offset(self.end - left, self.input.as_text())
+    }
+
+    /// The fault that a token was refused with.
+    fn fault(&self, refusal: Refusal) -> Error
+        requires { InUnread self.now refusal }
+        ensures { MadeOf self.now refusal result }
+    {
+        match refusal {
+            Refusal::Code(code, None) => Error::new(code),
+            Refusal::Code(code, Some(left)) => Error::new_at(self.position(left), code),
+            Refusal::InvalidNumber(left) => Error::new_at(self.position(left), ErrorCode::Failed),
+            Refusal::TooLarge(left) => Error::new_at(self.position(left), ErrorCode::Failed),
+            Refusal::UnpairedSurrogate(_, left) => Error::new_at(
+                self.position(left),
+                ErrorCode::Failed,
+            ),
+            Refusal::OutOfMemory => Error::new(ErrorCode::OutOfMemory),
+        }
+    }
+}

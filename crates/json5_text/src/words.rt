@@ -1,0 +1,42 @@
+//! Words.
+
+ghost use Rattle.std.specs.Prelude.{◌≡◌, MatchResult, IfOk, IfErr};
+ghost use Rattle.std.specs.Str.{IsUtf8, chars};
+ghost use Rattle.json5_grammar.specs.Reading.{got};
+ghost use Rattle.json5_grammar.specs.ReadValues.{word_at};
+ghost use Rattle.json5_text.specs.Outcome.{outcome};
+ghost use Rattle.json5_text.specs.Refused.{Refuses};
+ghost use Rattle.json5_text.specs.Scan.{HasCode};
+
+use crate::front::front;
+use crate::refusal::Refusal;
+use json5_grammar::code::ErrorCode;
+
+/// What follows the word in the text: `differs` at the first character that is another one than the word's, `ends` where the
+/// text ends in the word.
+#[tactic(auto, using(crate::proofs::ScanSteps::word_steps))]
+pub(crate) fn skip_word<'t>(
+    word: &str,
+    text: &'t str,
+    ends: ErrorCode,
+    differs: ErrorCode,
+) -> Result<&'t str, Refusal>
+    ensures passed { MatchResult result (λ r. word_at ends differs (chars word.now) (chars text.now) ≡ got tt (chars r.now))
+        (λ e. Refuses e (outcome (word_at ends differs (chars word.now) (chars text.now)))) }
+    ensures text { IfOk result (λ r. IsUtf8 r.now) }
+    ensures known { IfErr result HasCode }
+{
+    let mut wanted = word;
+    let mut rest = text;
+    while let Some((letter, letters)) = front(wanted) {
+        let Some((c, next)) = front(rest) else {
+            return Err(Refusal::Code(ends, None));
+        };
+        if c != letter {
+            return Err(Refusal::Code(differs, Some(rest.len())));
+        }
+        wanted = letters;
+        rest = next;
+    }
+    Ok(rest)
+}
