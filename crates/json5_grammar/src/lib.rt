@@ -4,3 +4,5 @@
 pub mod code;
 pub mod laws;
 pub mod position;
+#[cfg(test)]
+mod tests;

@@ -2,3 +2,5 @@ pub mod ScanSteps
 pub mod ScanBytes
 pub mod ScanFaults
 pub mod ScanTokens
+pub mod EscapesSpelled
+pub mod FaultsCompared

@@ -1,6 +1,9 @@
 -- What contracts see of a fault.
-use Rattle.std.specs.Prelude.{ℕ, List, Option, Some, None, string_bytes}
+use Rattle.std.specs.Prelude.{◌≡◌, ◌++◌, ◌+◌, ℕ, List, Option, Some, None, string_bytes, decimal}
+use lib.Chars.{codes}
 use Rattle.json5_grammar.specs.declared.code.ErrorCode.{ErrorCode}
+use Rattle.json5_grammar.specs.declared.code.ErrorCode.TheVariants.{OutOfMemory}
+use Rattle.json5_grammar.specs.CodeText.{code_text}
 use Rattle.json5_grammar.specs.declared.position.Position.{Position}
 use Rattle.json5_text.specs.declared.error.Error.{Error}
 use Rattle.json5_text.specs.declared.error.Content.{Content}
@@ -33,3 +36,29 @@ known_code failed_write = None
 abbrev pub or_place : Option Position → Position → Option Position
 or_place None p = Some p
 or_place (Some q) p = Some q
+
+-- memory was refused, which has no place
+pub record LacksMemory (e : Error) : Type 0 where
+  pub kind : kind_of e ≡ code OutOfMemory
+  pub place : place_of e ≡ None
+
+-- ---- what is printed
+
+abbrev pub kind_text : Kind → List ℕ
+kind_text (code c) = code_text c
+kind_text (custom text) = text
+kind_text failed_write = codes "failed write"
+
+abbrev pub content_text : Content → List ℕ
+content_text c = kind_text (kind_of_content c)
+
+abbrev pub position_text : Position → List ℕ
+position_text p = codes "line " ++ decimal (p.line + 1) ++ codes " column " ++ decimal (p.column + 1)
+
+abbrev pub placed_text : List ℕ → Option Position → List ℕ
+placed_text text None = text
+placed_text text (Some p) = text ++ (codes " at " ++ position_text p)
+
+-- what the fault says, and ` at ` and its place where it has one
+abbrev pub error_text : Error → List ℕ
+error_text e = placed_text (kind_text (kind_of e)) (place_of e)

@@ -4,3 +4,6 @@ pub mod Refused
 pub mod Cursor
 pub mod Tokens
 pub mod Scan
+pub mod Escapes
+pub mod Cows
+pub mod Compared

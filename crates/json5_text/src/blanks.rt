@@ -3,34 +3,16 @@
 ghost use Rattle.std.specs.Prelude.{◌≡◌, ◌≤◌, Some, MatchOption, MatchResult, IfOk, IfErr, length};
 ghost use Rattle.std.specs.Str.{IsUtf8, chars};
 ghost use Rattle.json5_grammar.specs.declared.code.ErrorCode.TheVariants.{EofParsingComment};
-ghost use Rattle.json5_grammar.specs.Characters.{is_blank, is_terminator};
 ghost use Rattle.json5_grammar.specs.Reading.{got, bad, inner};
 ghost use Rattle.json5_grammar.specs.ReadBlanks.{Mode, skip, between, slash};
 ghost use Rattle.json5_text.specs.Outcome.{outcome};
 ghost use Rattle.json5_text.specs.Refused.{Refuses};
 ghost use Rattle.json5_text.specs.Scan.{HasCode};
 
+use crate::char::{is_json5_line_terminator, is_json5_whitespace};
 use crate::front::front;
 use crate::refusal::Refusal;
 use json5_grammar::code::ErrorCode;
-use unicode::properties::GeneralCategory;
-
-#[tactic(auto, unfolding(json5_grammar::specs::Characters::is_space_separator))]
-fn is_json5_whitespace(c: char) -> bool
-    ensures { result ≡ is_blank c }
-{
-    matches!(
-        c,
-        '\t'..='\r' | ' ' | '\u{a0}' | '\u{2028}' | '\u{2029}' | '\u{feff}'
-    ) || GeneralCategory::for_char(c) == GeneralCategory::SpaceSeparator
-}
-
-fn is_json5_line_terminator(c: char) -> bool
-    ensures { result ≡ is_terminator c }
-{
-    matches!(c, '\n' | '\r' | '\u{2028}' | '\u{2029}')
-}
-
 /// Behind `//`: what follows the line's end.
 #[tactic(auto, using(crate::proofs::ScanSteps::line_steps))]
 fn skip_line(text: &str) -> &str

@@ -1,10 +1,15 @@
 //! Faults.
 
-ghost use Rattle.std.specs.Prelude.{◌≡◌, Option, Some, None};
-ghost use Rattle.json5_text.specs.Errors.{Kind, code, kind_of, place_of, known_code, or_place};
+ghost use Rattle.std.specs.Prelude.{◌≡◌, ◌↔◌, ◌++◌, ℕ, List, Option, Some, None, IsTrue, IfOk, IfErr, string_bytes};
+ghost use Rattle.json5_text.specs.Errors.{Kind, code, custom, failed_write, kind_of, place_of, known_code, or_place, content_text, error_text, LacksMemory};
+ghost use Rattle.std.specs.Cmp.Rules.{comparing};
+ghost use Rattle.std.proofs.Common.{rules};
 
 use json5_grammar::code::ErrorCode;
 use json5_grammar::position::Position;
+use std::alloc::{AllocError, AllocFailed, Global};
+use std::fmt::{self, Write};
+use std::io;
 
 /// What reading and writing answer.
 pub type Result<T> = std::result::Result<T, Error>;
@@ -17,8 +22,8 @@ enum Content {
     FailedWrite,
 }
 
-/// A fault, and perhaps its place in the text.
-#[derive(Debug, PartialEq, Eq, Drop)]
+/// A fault, and perhaps its place in the text. Two faults are equal where they say the same and have the same place.
+#[derive(Debug, Drop)]
 pub struct Error {
     content: Content,
     position: Option<Position>,
@@ -45,6 +50,69 @@ impl Error {
             content: Content::Code(code),
             position: Some(position),
         }
+    }
+
+    /// A custom fault with this text, without a place. Takes no memory.
+    pub fn from_text(text: String) -> Error
+        ensures kind { kind_of result ≡ custom (string_bytes text) }
+        ensures place { place_of result ≡ None }
+    {
+        Error {
+            content: Content::Custom(text),
+            position: None,
+        }
+    }
+
+    /// A custom fault with what the message prints, without a place. A message whose Display refuses is kept up to there.
+    /// Err is `OutOfMemory` without a place.
+    pub fn custom<D: fmt::Display + Drop>(alloc: Global, message: D) -> Result<Error>
+        ensures kind { IfOk result (λ e. (text : List ℕ) × (kind_of e ≡ custom text)) }
+        ensures place { IfOk result (λ e. place_of e ≡ None) }
+        ensures err { IfErr result LacksMemory }
+    {
+        let mut out = Message {
+            text: String::new(alloc),
+            is_full: false,
+        };
+        let _ = out.write(message);
+        let Message { text, is_full } = out;
+        if is_full {
+            Err(Error::new(ErrorCode::OutOfMemory))
+        } else {
+            Ok(Error::from_text(text))
+        }
+    }
+
+    /// A custom fault with what the message prints, at this place. A message whose Display refuses is kept up to there.
+    /// Err is `OutOfMemory` without a place.
+    pub fn custom_at<D: fmt::Display + Drop>(
+        alloc: Global,
+        position: Position,
+        message: D,
+    ) -> Result<Error>
+        ensures kind { IfOk result (λ e. (text : List ℕ) × (kind_of e ≡ custom text)) }
+        ensures place { IfOk result (λ e. place_of e ≡ Some position) }
+        ensures err { IfErr result LacksMemory }
+    {
+        let error = Error::custom(alloc, message)?;
+        Ok(error.at(position))
+    }
+
+    /// An equal fault. Err is `OutOfMemory` without a place, and comes only at a custom fault.
+    pub fn clone(&self, alloc: Global) -> Result<Error>
+        ensures kind { IfOk result (λ e. kind_of e ≡ kind_of self.now) }
+        ensures place { IfOk result (λ e. place_of e ≡ place_of self.now) }
+        ensures err { IfErr result LacksMemory }
+    {
+        let content = match &self.content {
+            Content::Code(code) => Content::Code(*code),
+            Content::Custom(text) => Content::Custom(String::from_str(alloc, text.as_str())?),
+            Content::FailedWrite => Content::FailedWrite,
+        };
+        Ok(Error {
+            content,
+            position: self.position,
+        })
     }
 
     /// The code; none for a custom fault and for a failed write.
@@ -91,5 +159,101 @@ impl Error {
             content,
             position: Some(position),
         }
+    }
+}
+
+/// Equal are faults that say the same and have the same place, or both none.
+impl PartialEq for Error {
+    ghost use Rattle.json5_text.specs.Compared.{same_fault};
+
+    ghost eq = { same_fault };
+
+    ghost laws = { Prim.search (comparing, rules) };
+
+    #[tactic(auto, using(crate::proofs::FaultsCompared::faults_same))]
+    fn eq(&self, other: &Self) -> bool
+        ensures gives { result ≡ same_fault self.now other.now }
+        ensures same { IsTrue result ↔ ((kind_of self.now ≡ kind_of other.now) × (place_of self.now ≡ place_of other.now)) }
+    {
+        self.content == other.content && self.position == other.position
+    }
+}
+
+impl Eq for Error {
+    ghost laws = { Prim.search (comparing, rules) };
+}
+
+/// What the fault says, without its place.
+impl fmt::Display for Content {
+    ghost output = { λ c. Some (content_text c) };
+
+    fn fmt<W: fmt::Write>(&self, f: &mut fmt::Formatter<W>) -> fmt::Result {
+        match self {
+            Content::Code(code) => write!(f, "{code}"),
+            Content::Custom(text) => write!(f, "{text}"),
+            Content::FailedWrite => f.write_str("failed write"),
+        }
+    }
+}
+
+/// What the fault says, and ` at ` and the position where it has one: `expected comma at line 1 column 4`.
+impl fmt::Display for Error {
+    ghost output = { λ e. Some (error_text e) };
+
+    fn fmt<W: fmt::Write>(&self, f: &mut fmt::Formatter<W>) -> fmt::Result {
+        let content = &self.content;
+        match self.position {
+            Some(position) => write!(f, "{content} at {position}"),
+            None => write!(f, "{content}"),
+        }
+    }
+}
+
+impl std::error::Error for Error {}
+
+/// A failed write, without a place. Takes no memory.
+impl From<io::Error> for Error {
+    ghost from_gives = { λ _ e. (kind_of e ≡ failed_write) × (place_of e ≡ None) };
+
+    fn from(_error: io::Error) -> Error {
+        Error {
+            content: Content::FailedWrite,
+            position: None,
+        }
+    }
+}
+
+/// `OutOfMemory` without a place.
+impl From<AllocError> for Error {
+    ghost from_gives = { λ _ e. LacksMemory e };
+
+    fn from(_error: AllocError) -> Error {
+        Error::new(ErrorCode::OutOfMemory)
+    }
+}
+
+/// `OutOfMemory` without a place.
+impl<T: Drop> From<AllocFailed<T>> for Error {
+    ghost from_gives = { λ _ e. LacksMemory e };
+
+    fn from(_error: AllocFailed<T>) -> Error {
+        Error::new(ErrorCode::OutOfMemory)
+    }
+}
+
+/// A message as far as it was written, and whether memory was refused.
+#[derive(Drop)]
+struct Message {
+    text: String,
+    is_full: bool,
+}
+
+impl fmt::Write for Message {
+    fn write_str(&mut self, text: &str) -> fmt::Result {
+        if self.text.push_str(text).is_err() {
+            self.is_full = true;
+            return Err(fmt::Error);
+        }
+        Ok(())
     }
 }

@@ -2,6 +2,8 @@
 #![tactic(auto)]
 
 mod blanks;
+pub mod char;
+pub mod cow_str;
 pub mod error;
 mod front;
 pub mod input;

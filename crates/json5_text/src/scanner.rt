@@ -1,14 +1,14 @@
 //! The scanner: the tokens of a text, one after another.
 
-ghost use Rattle.std.specs.Prelude.{◌≡◌, ℕ, List, [], ◌∷◌, ◌++◌, true, false, ◌==◌, ◌⊎◌, length, take, drop, Some, slice_get, IsTrue, OnOk, OnErr, IfErr};
+ghost use Rattle.std.specs.Prelude.{◌≡◌, ℕ, List, [], ◌∷◌, ◌++◌, true, false, ◌==◌, ◌⊎◌, length, take, drop, Some, None, slice_get, IsTrue, OnOk, OnErr, IfErr};
 ghost use Rattle.std.specs.Str.{chars, encode_utf8_all};
 ghost use Rattle.json5_grammar.specs.Characters.{NotBegun};
 ghost use Rattle.json5_grammar.specs.Blanks.{Gap, Solid};
 ghost use Rattle.json5_grammar.specs.Positions.{position_behind};
 ghost use Rattle.json5_text.specs.Errors.{Kind, code, kind_of, place_of};
-ghost use Rattle.json5_text.specs.Cursor.{Cursor, offset_of, Refused, Took, Behind, IsOutOfMemory};
+ghost use Rattle.json5_text.specs.Cursor.{Cursor, offset_of, Refused, Took, Behind, Says, IsOutOfMemory};
 ghost use Rattle.json5_text.specs.Tokens.{FaultyBlanks, FaultyWord};
-ghost use Rattle.json5_text.specs.Scan.{InText, Leaves, InUnread, IsWhere, MadeOf};
+ghost use Rattle.json5_text.specs.Scan.{InText, Leaves, InUnread, IsWhere, IsThere, MadeOf};
 
 use crate::blanks::skip_blank;
 use crate::error::{Error, Result};
@@ -19,6 +19,7 @@ use crate::words::skip_word;
 use json5_grammar::code::ErrorCode;
 use json5_grammar::position::Position;
 use std::alloc::Global;
+use std::fmt::Display;
 use std::marker::Model;
 
 /// Reads tokens from the front of a text. What a token takes is gone; where a token is refused, nothing is.
@@ -152,13 +153,25 @@ impl<I: Input> Scanner<I> {
         match refusal {
             Refusal::Code(code, None) => Error::new(code),
             Refusal::Code(code, Some(left)) => Error::new_at(self.position(left), code),
-            Refusal::InvalidNumber(left) => Error::new_at(self.position(left), ErrorCode::Failed),
-            Refusal::TooLarge(left) => Error::new_at(self.position(left), ErrorCode::Failed),
-            Refusal::UnpairedSurrogate(_, left) => Error::new_at(
-                self.position(left),
-                ErrorCode::Failed,
-            ),
+            Refusal::InvalidNumber(left) => self.custom(left, "invalid number"),
+            Refusal::TooLarge(left) => {
+                self.custom(left, "number too large to fit in target type")
+            }
+            Refusal::UnpairedSurrogate(escape, left) => {
+                self.custom(left, format_args!("unpaired surrogate found: {escape:x}"))
+            }
             Refusal::OutOfMemory => Error::new(ErrorCode::OutOfMemory),
+        }
+    }
+
+    /// The custom fault with this message where so many bytes are left; `OutOfMemory` where there is none for the message.
+    fn custom<D: Display + Drop>(&self, left: usize, message: D) -> Error
+        requires { Leaves self.now left }
+        ensures { IsOutOfMemory result ⊎ (Says None result × IsThere self.now left result) }
+    {
+        match Error::custom_at(self.alloc, self.position(left), message) {
+            Ok(error) => error,
+            Err(error) => error,
         }
     }
 }

@@ -1,0 +1,9 @@
+-- What is written for a character between two delimiters.
+use Rattle.std.specs.Prelude.{ℕ, if◌then◌else◌, List}
+use Rattle.json5_grammar.specs.Characters.{backslash}
+use Rattle.json5_grammar.specs.Strings.{is_quote}
+use Rattle.json5_grammar.specs.Quoting.{escaped}
+
+-- a delimiter that is no quote is itself no character to be escaped: the backslash, which always is, stands in for it
+abbrev pub escape_of : ℕ → ℕ → List ℕ
+escape_of delimiter c = if is_quote delimiter then escaped delimiter c else escaped backslash c

@@ -1,0 +1,93 @@
+//! The character classes of JSON5, and the escapes that are written.
+
+ghost use Rattle.std.specs.Prelude.{◌≡◌, ◌↔◌, [], ◌∷◌, IsNone, IfSome};
+ghost use Rattle.std.specs.Str.{chars};
+ghost use Rattle.json5_grammar.specs.Characters.{is_blank, is_terminator, is_identifier_start, is_identifier_part, is_start_category, is_part_category};
+ghost use Rattle.json5_text.specs.Escapes.{escape_of};
+
+use unicode::properties::GeneralCategory;
+
+/// Whether the character is white space or a line terminator, as it may stand between tokens: U+0009 to U+000D, a space,
+/// U+00A0, U+2028, U+2029, U+FEFF and the category Zs (JSON5 section 8).
+#[tactic(auto, unfolding(json5_grammar::specs::Characters::is_space_separator))]
+pub fn is_json5_whitespace(c: char) -> bool
+    ensures { result ≡ is_blank c }
+{
+    matches!(
+        c,
+        '\t'..='\r' | ' ' | '\u{a0}' | '\u{2028}' | '\u{2029}' | '\u{feff}'
+    ) || GeneralCategory::for_char(c) == GeneralCategory::SpaceSeparator
+}
+
+/// Whether the character ends a line: LF, CR, U+2028 or U+2029 (ECMAScript 5.1 section 7.3).
+pub fn is_json5_line_terminator(c: char) -> bool
+    ensures { result ≡ is_terminator c }
+{
+    matches!(c, '\n' | '\r' | '\u{2028}' | '\u{2029}')
+}
+
+/// Whether an identifier may begin with the character: `$`, `_` and the categories Lu, Ll, Lt, Lm, Lo and Nl
+/// (ECMAScript 5.1 section 7.6).
+#[tactic(auto, unfolding(json5_grammar::specs::Characters::is_identifier_start))]
+pub fn is_json5_identifier_start(c: char) -> bool
+    ensures { result ≡ is_identifier_start c }
+{
+    matches!(c, '$' | '_') || is_start_category(GeneralCategory::for_char(c))
+}
+
+/// Whether an identifier may go on with the character: what may begin one, U+200C, U+200D and the categories Mn, Mc, Nd
+/// and Pc (ECMAScript 5.1 section 7.6).
+#[tactic(auto, unfolding(json5_grammar::specs::Characters::is_identifier_part))]
+pub fn is_json5_identifier(c: char) -> bool
+    ensures { result ≡ is_identifier_part c }
+{
+    is_json5_identifier_start(c)
+        || matches!(c, '\u{200c}' | '\u{200d}')
+        || is_part_category(GeneralCategory::for_char(c))
+}
+
+/// What is written for the character in a string between these quotes (JSON5 section 5.1): the delimiter itself where it is
+/// `"` or `'`, a backslash, LF, CR, U+2028 and U+2029 are escaped, and None says that the character stands for itself. At a
+/// delimiter that is no quote, no quote is escaped.
+#[tactic(auto, using(crate::proofs::EscapesSpelled::escapes_spelled))]
+pub fn escape(delimeter: char, c: char) -> Option<&'static str>
+    ensures none { IsNone result ↔ (escape_of delimeter c ≡ c ∷ []) }
+    ensures some { IfSome result (λ text. chars text.now ≡ escape_of delimeter c) }
+{
+    match c {
+        '"' if delimeter == '"' => Some("\\\""),
+        '\'' if delimeter == '\'' => Some("\\'"),
+        '\\' => Some("\\\\"),
+        '\n' => Some("\\n"),
+        '\r' => Some("\\r"),
+        '\u{2028}' => Some("\\u2028"),
+        '\u{2029}' => Some("\\u2029"),
+        _ => None,
+    }
+}
+
+fn is_start_category(category: GeneralCategory) -> bool
+    ensures { result ≡ is_start_category category }
+{
+    matches!(
+        category,
+        GeneralCategory::UppercaseLetter
+            | GeneralCategory::LowercaseLetter
+            | GeneralCategory::TitlecaseLetter
+            | GeneralCategory::ModifierLetter
+            | GeneralCategory::OtherLetter
+            | GeneralCategory::LetterNumber
+    )
+}
+
+fn is_part_category(category: GeneralCategory) -> bool
+    ensures { result ≡ is_part_category category }
+{
+    matches!(
+        category,
+        GeneralCategory::NonspacingMark
+            | GeneralCategory::SpacingMark
+            | GeneralCategory::DecimalNumber
+            | GeneralCategory::ConnectorPunctuation
+    )
+}
