@@ -80,9 +80,9 @@ pub other_no_value : {C : Type 0} {F : List ℕ → Option ErrorCode → Option 
     → (x w q r : List ℕ) (c : ℕ) (t : Tree) (v : C) → Blanks w → is_solid c ≡ true → begins c ≡ false → x ≡ w ++ c ∷ q → convert t ≡ Some v → Reads x t r → ⊥
 other_no_value {begins = begins} a x w q r c t v b s n e k h =
     let gap = gap_before w h.front (h.phrase ++ r) c q b s (Gap.blanks h.blank) (value_solid r (val_head h.value)) (sym e ∙ h.split) in
-    let (d, y, is, yes) = a.first h.phrase t v k h.value in
+    let (d, y, is, begun) = a.first h.phrase t v k h.value in
     let same : d ∷ (y ++ r) ≡ c ∷ q = sym (ap (λ z. z ++ r) is) ∙ gap.1 in
-    true_false (subst (λ z. begins z ≡ true) (same_first d c (y ++ r) q same) yes) n
+    true_false (subst (λ z. begins z ≡ true) (same_first d c (y ++ r) q same) begun) n
 
 -- ---- what a refusal says
 

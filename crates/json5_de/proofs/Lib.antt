@@ -1,1 +1,4 @@
 pub mod Awaited
+pub mod Words
+pub mod Kinds
+pub mod Taken

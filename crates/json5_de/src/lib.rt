@@ -4,4 +4,3 @@
 pub mod de;
 mod scalars;
 mod types;
-mod stub;
