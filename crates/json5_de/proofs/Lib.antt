@@ -1,4 +1,4 @@
 pub mod Awaited
 pub mod Words
-pub mod Kinds
+pub mod Awaits
 pub mod Taken

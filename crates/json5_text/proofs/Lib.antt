@@ -4,3 +4,4 @@ pub mod ScanFaults
 pub mod ScanTokens
 pub mod EscapesSpelled
 pub mod FaultsCompared
+pub mod TextsCompared

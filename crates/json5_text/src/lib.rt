@@ -6,6 +6,8 @@ pub mod char;
 pub mod cow_str;
 pub mod error;
 mod front;
+#[cfg(test)]
+mod fault_tests;
 pub mod input;
 mod refusal;
 pub mod scanner;
