@@ -5,17 +5,21 @@ use Rattle.json5_grammar.specs.Codes.{behind_text}
 use Rattle.json5_grammar.specs.Blanks.{Blanks, Gap, Solid}
 use Rattle.json5_grammar.specs.Positions.{position_behind}
 use Rattle.json5_grammar.specs.Trees.{Tree, depth}
-use Rattle.json5_grammar.specs.Values.{Val, Stops, Reads}
+use Rattle.json5_grammar.specs.Values.{Val, Stops, Reads, null_text, true_text, false_text}
+use Rattle.std.specs.Str.{chars}
+use Rattle.std.specs.Prelude.{◌==◌, slice_get, if◌then◌else◌}
+use Rattle.std.specs.Option.{option_eq}
+use Rattle.json5_grammar.specs.declared.code.ErrorCode.TheVariants as codes_of
 use Rattle.json5_grammar.specs.Documents.{max_depth}
 use Rattle.json5_grammar.proofs.BlanksSound.{gap_blanks}
 use Rattle.json5_grammar.proofs.ValueHeads.{val_head}
 use Rattle.json5_text.specs.declared.error.Error.{Error}
 use Rattle.json5_text.specs.Errors.{place_of}
 use Rattle.json5_text.specs.Cursor.{IsPlaced, Refused, IsOutOfMemory}
-use Rattle.json5_text.specs.Tokens.{FaultyBlanks}
+use Rattle.json5_text.specs.Tokens.{FaultyBlanks, FaultyWord}
 use Rattle.json5_de.specs.State.{State, cursor_of, OnlyRead}
 use Rattle.json5_de.specs.Law.{TookValue}
-use Rattle.json5_de.specs.Faults.{Behind, in_blanks, behind_gap, RefusedBy, RefusedByOrMemory}
+use Rattle.json5_de.specs.Faults.{Behind, in_blanks, behind_gap, RefusedBy, RefusedByOrMemory, FaultyBool, begins_with}
 use Rattle.json5_de.specs.Steps.{PassedGap, TookText}
 
 -- a gap before a value is of blanks
@@ -60,3 +64,44 @@ refused_token {F = F} old mid e p f live = record {
   says = f.says;
   placed = placed_behind old mid e p.gap f.place p.split (input_of p.rest) f.placed;
 }
+
+pub null_stops : (r : List ℕ) → Stops null_text r
+null_stops [] = tt
+null_stops (c ∷ r) = refl
+
+pub true_stops : (r : List ℕ) → Stops true_text r
+true_stops [] = tt
+true_stops (c ∷ r) = refl
+
+pub false_stops : (r : List ℕ) → Stops false_text r
+false_stops [] = tt
+false_stops (c ∷ r) = refl
+
+pub chars_null : chars null_text ≡ null_text
+unfolding chars
+chars_null = refl
+
+pub chars_true : chars true_text ≡ true_text
+unfolding chars
+chars_true = refl
+
+pub chars_false : chars false_text ≡ false_text
+unfolding chars
+chars_false = refl
+
+first_is : (c : ℕ) (x : List ℕ) → option_eq ◌==◌ (slice_get x 0) (Some c) ≡ begins_with c x
+first_is c [] = refl
+first_is c (d ∷ x) = refl
+
+pub refused_bool : (s : State) (e : Error) (w : List ℕ) (b is : Bool) (next : Option ℕ) → is ≡ b → is ≡ option_eq ◌==◌ next (Some 0x66) → next ≡ slice_get s.unread 0 → w ≡ (if b then false_text else true_text)
+    → Refused (FaultyWord w codes_of.EofParsingBool codes_of.ExpectedBool) (cursor_of s) e → Refused FaultyBool (cursor_of s) e
+refused_bool s e w b is next test equal peeked word f =
+    let begun : begins_with 0x66 s.unread ≡ b = sym (first_is 0x66 s.unread) ∙ ap (λ o. option_eq ◌==◌ o (Some 0x66)) (sym peeked) ∙ sym equal ∙ test in
+    record {
+      reason = f.reason;
+      place = f.place;
+      fault = subst (λ v. FaultyWord (if v then false_text else true_text) codes_of.EofParsingBool codes_of.ExpectedBool s.unread f.reason f.place) (sym begun)
+          (subst (λ v. FaultyWord v codes_of.EofParsingBool codes_of.ExpectedBool s.unread f.reason f.place) word f.fault);
+      says = f.says;
+      placed = f.placed;
+    }

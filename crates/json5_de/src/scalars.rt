@@ -8,9 +8,9 @@ ghost use Rattle.json5_de.specs.Faults.{RefusedBy, FaultyNull, FaultyBool, EndsW
 ghost use Rattle.json5_de.specs.Convert.{unit_of, bool_of};
 
 use crate::de::Deserializer;
+use json5_text::ErrorCode;
 use json5_text::error::Result;
 use json5_text::input::Input;
-use json5_text::ErrorCode;
 
 impl<I: Input> Deserializer<I> {
     fn read_unit(&mut self) -> Result<()>
