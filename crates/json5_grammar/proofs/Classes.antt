@@ -83,11 +83,12 @@ pub blank_no_name : (c : ℕ) → is_blank c ≡ true → goes_on_name c ≡ fal
 unfolding is_identifier_start is_identifier_part general_category value_in general_category_rows
 blank_no_name c h = blank_cases (λ z. goes_on_name z ≡ false) refl refl refl refl refl refl refl refl refl refl space_no_name c h
 
--- colons and slashes go on no name
+-- a colon goes on no name
 pub colon_no_name : goes_on_name 58 ≡ false
 unfolding is_identifier_start is_identifier_part general_category value_in general_category_rows
 colon_no_name = refl
 
+-- a slash goes on no name
 pub slash_no_name : goes_on_name 47 ≡ false
 unfolding is_identifier_start is_identifier_part general_category value_in general_category_rows
 slash_no_name = refl
@@ -100,7 +101,7 @@ start_goes_on : (c : ℕ) → is_identifier_start c ≡ true → goes_on_name c 
 unfolding is_identifier_part
 start_goes_on c h = rw h
 
--- a character that begins a name is no blank, no slash and no brace
+-- a character that begins a name is no blank
 pub start_no_blank : (c : ℕ) → is_identifier_start c ≡ true → is_blank c ≡ false
 start_no_blank c h = by_values (is_blank c) refl
   where
@@ -115,9 +116,11 @@ start_is_not c d h n = by_values (c == d) refl
     by_values true e = absurd (both_ways (goes_on_name c) (ap goes_on_name (eq_from c d e) ∙ n) (start_goes_on c h))
     by_values false e = e
 
+-- a character that begins a name is no slash
 pub start_no_slash : (c : ℕ) → is_identifier_start c ≡ true → (c == 47) ≡ false
 start_no_slash c h = start_is_not c 47 h slash_no_name
 
+-- a character that begins a name is no closing brace
 pub start_no_brace : (c : ℕ) → is_identifier_start c ≡ true → (c == 125) ≡ false
 start_no_brace c h = start_is_not c 125 h brace_no_name
 
@@ -145,6 +148,7 @@ no_body [] c z i h = refl
 no_body (a ∷ []) c z i h = rw (z, i) (then_false (a == 48) (begins_run a))
 no_body (a ∷ b ∷ s) c z i h = rw (h, i) (then_false ((a == 48) && hex_start b) (begins_run a))
 
+-- a character that is in no run, behind no zero and no hexadecimal digit lengthens no value
 pub ends_values : (c : ℕ) → after_zero c ≡ false → in_run c ≡ false → is_hex_digit c ≡ false → EndsValues c
 ends_values c z i h [] = refl
 ends_values c z i h (a ∷ s) = rw (no_body s c z i h, no_body (a ∷ s) c z i h) (same (is_sign a))
@@ -153,30 +157,36 @@ ends_values c z i h (a ∷ s) = rw (no_body s c z i h, no_body (a ∷ s) c z i h
     same true = refl
     same false = refl
 
--- blanks, slashes, commas, colons and closing brackets lengthen no value
+-- a blank lengthens no value
 pub blank_ends_values : (c : ℕ) → is_blank c ≡ true → EndsValues c
 blank_ends_values c h = let k = tests c (blank_no_printable c h) in ends_values c k.0 k.1 k.2
   where
     tests : (c : ℕ) → is_in 33 126 c ≡ false → (after_zero c ≡ false) × (in_run c ≡ false) × (is_hex_digit c ≡ false)
     tests c h = (grind (arith, nat_tests), grind (arith, nat_tests), grind (arith, nat_tests))
 
+-- a slash lengthens no value
 pub slash_ends_values : EndsValues 47
 slash_ends_values = ends_values 47 refl refl refl
 
+-- a comma lengthens no value
 pub comma_ends_values : EndsValues 44
 comma_ends_values = ends_values 44 refl refl refl
 
+-- a colon lengthens no value
 pub colon_ends_values : EndsValues 58
 colon_ends_values = ends_values 58 refl refl refl
 
+-- a closing bracket lengthens no value
 pub bracket_ends_values : EndsValues 93
 bracket_ends_values = ends_values 93 refl refl refl
 
+-- a closing brace lengthens no value
 pub brace_ends_values : EndsValues 125
 brace_ends_values = ends_values 125 refl refl refl
 
 -- ---- the character that begins a value
 
+-- a character that begins a value is one from `!` to `~`
 pub begins_printable : (c : ℕ) → begins_value c ≡ true → is_in 33 126 c ≡ true
 begins_printable c h = grind (arith, nat_tests)
 
@@ -184,16 +194,19 @@ begins_printable c h = grind (arith, nat_tests)
 pub begins_others : (c : ℕ) → begins_value c ≡ true → ((c == 47) ≡ false) × ((c == 44) ≡ false) × ((c == 58) ≡ false) × ((c == 93) ≡ false) × ((c == 125) ≡ false)
 begins_others c h = (grind (arith, nat_tests), grind (arith, nat_tests), grind (arith, nat_tests), grind (arith, nat_tests), grind (arith, nat_tests))
 
+-- a number's first character begins a value
 pub number_begins : (c : ℕ) → (is_sign c || begins_number c) ≡ true → begins_value c ≡ true
 number_begins c h = grind (arith, nat_tests)
 
+-- a quote begins a value
 pub quote_begins : (c : ℕ) → is_quote c ≡ true → begins_value c ≡ true
 quote_begins c h = grind (arith, nat_tests)
 
--- what a number's first character isn't, and a quote
+-- a number's first character begins no word and is no quote
 pub number_others : (c : ℕ) → (is_sign c || begins_number c) ≡ true → ((c == 110) ≡ false) × ((c == 116) ≡ false) × ((c == 102) ≡ false) × (is_quote c ≡ false)
 number_others c h = (grind (arith, nat_tests), grind (arith, nat_tests), grind (arith, nat_tests), grind (arith, nat_tests))
 
+-- a quote begins no word
 pub quote_others : (c : ℕ) → is_quote c ≡ true → ((c == 110) ≡ false) × ((c == 116) ≡ false) × ((c == 102) ≡ false)
 quote_others c h = (grind (arith, nat_tests), grind (arith, nat_tests), grind (arith, nat_tests))
 

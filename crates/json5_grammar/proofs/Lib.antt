@@ -30,6 +30,7 @@ pub mod NumberPartOf
 pub mod NumbersJudged
 pub mod NumberStepLaws
 pub mod NumberExamples
+pub mod PositionsCounted
 pub mod BlanksRead
 pub mod BlanksSound
 pub mod WordsRead
@@ -38,4 +39,3 @@ pub mod ValueHeads
 pub mod ValuesRead
 pub mod Unique
 pub mod ScalarsWritten
-pub mod PositionsCounted

@@ -32,14 +32,18 @@ text_value u = is_text (quoted_is u)
 pub alone : (limit : ℕ) (s : List ℕ) (t : Tree) → Val s t → depth t ≤ limit → Doc limit s t
 alone limit s t v l = record { before = []; text = s; after = []; whole = sym (append-nil s); blank = empty; value = v; last = LastBlanks.blanks empty; shallow = l }
 
+-- `null` alone is a document
 pub null_document : (limit : ℕ) → Doc limit null_text null
 null_document limit = alone limit null_text null is_null (omega arith)
 
+-- a Boolean's word alone is a document
 pub boolean_document : (limit : ℕ) (b : Bool) → Doc limit (if b then true_text else false_text) (boolean b)
 boolean_document limit b = alone limit _ (boolean b) (boolean_value b) (omega arith)
 
+-- a number's written text alone is a document
 pub number_document : (limit : ℕ) (n : Number) → IsNumber n → Doc limit (number_text n) (number n)
 number_document limit n h = alone limit (number_text n) (number n) (number_value n h) (omega arith)
 
+-- a text between its quotes alone is a document
 pub text_document : (limit : ℕ) (u : List ℕ) → Doc limit (quoted_text u) (text u (not (holds_backslash (quoted_text u))))
 text_document limit u = alone limit (quoted_text u) _ (text_value u) (omega arith)

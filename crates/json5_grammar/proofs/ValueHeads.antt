@@ -71,9 +71,11 @@ val_head (is_object {m = m} ps) = record { char = 123; more = m ++ 125 ∷ []; i
 pub begins_value_solid : (c : ℕ) → begins_value c ≡ true → is_solid c ≡ true
 begins_value_solid c h = printable_solid c (begins_printable c h) (begins_others c h).0
 
+-- a value in front makes a text solid
 pub value_solid : {s : List ℕ} (r : List ℕ) → ValueHead s → Solid (s ++ r)
 value_solid r h = rw h.is (begins_solid h.char (h.more ++ r) (begins_value_solid h.char h.begins))
 
+-- nothing is passed over before a value
 pub skip_value : {s : List ℕ} (r : List ℕ) → ValueHead s → skip between (s ++ r) ≡ got tt (s ++ r)
 skip_value {s = s} r h = skip_rest (s ++ r) (value_solid r h)
 
@@ -105,10 +107,12 @@ ident_head (name {s = s} (escaped_name {e = e} u) h i) =
     let w = unicode_head u in
     record { char = 92; more = w.0 ++ s; is = ap (λ z. z ++ s) w.1; begins = slash_key (is_quote 92) (is_identifier_start 92) }
 
+-- a key's text begins with a character that begins a key
 pub key_text_head : {k u : List ℕ} {plain : Bool} → KeyText k u plain → KeyHead k
 key_text_head (KeyText.string_key s) = str_head s
 key_text_head (KeyText.name_key i) = ident_head i
 
+-- so does a key
 pub key_head : {k r u : List ℕ} {plain : Bool} → Key k r u plain → KeyHead k
 key_head (Key.string_key s) = str_head s
 key_head (Key.name_key i h) = ident_head i
@@ -129,14 +133,17 @@ key_begins c h = by_quote (is_quote c) (c == 92) (is_identifier_start c) refl re
     by_quote false false true e f g h = (start_no_blank c g, start_no_slash c g, start_no_brace c g)
     by_quote false false false e f g h = absurd (cc)
 
+-- a key in front makes a text solid
 pub key_solid : {k : List ℕ} (r : List ℕ) → KeyHead k → Solid (k ++ r)
 key_solid r h = let b = key_begins h.char h.begins in rw h.is (begins_solid h.char (h.more ++ r) (solid_from h.char b.0 b.1))
 
+-- nothing is passed over before a key
 pub skip_key : {k : List ℕ} (r : List ℕ) → KeyHead k → skip between (k ++ r) ≡ got tt (k ++ r)
 skip_key {k = k} r h = skip_rest (k ++ r) (key_solid r h)
 
 -- ---- keys before what follows them
 
+-- a key's text before a character that goes on no name is a key
 pub key_before : {k u : List ℕ} {plain : Bool} (c : ℕ) (r : List ℕ) → KeyText k u plain → goes_on_name c ≡ false → Key k (c ∷ r) u plain
 key_before c r (KeyText.string_key s) h = Key.string_key s
 key_before c r (KeyText.name_key i) h = Key.name_key i h
@@ -162,6 +169,7 @@ stops_blanks s c r (blank {c = d} k b) h = blank_ends_values d k s
 stops_blanks s c r (line x n k b) h = slash_ends_values s
 stops_blanks s c r (block i b) h = slash_ends_values s
 
+-- a value stops before blanks that end the text
 pub stops_all : {v : List ℕ} (s : List ℕ) → Blanks v → Stops s v
 stops_all s empty = tt
 stops_all s (blank {c = d} k b) = blank_ends_values d k s
@@ -178,27 +186,35 @@ stops_last s (open_line {x = x} b n) = stops_blanks s 47 (47 ∷ x) b slash_ends
 abbrev pub Nested : Type 0
 Nested = List ℕ → List ℕ → Read Tree
 
+-- `n` begins `null`
 pub value_null : (arrays objects : Nested) (c : ℕ) (r : List ℕ) → (c == 110) ≡ true → value_with arrays objects (c ∷ r) ≡ as_leaf (λ u. null) (word_at EofParsingNull ExpectedNull null_text (c ∷ r))
 value_null arrays objects c r h = rw h refl
 
+-- `t` begins `true`
 pub value_true : (arrays objects : Nested) (c : ℕ) (r : List ℕ) → (c == 116) ≡ true → value_with arrays objects (c ∷ r) ≡ as_leaf (λ u. boolean true) (word_at EofParsingBool ExpectedBool true_text (c ∷ r))
 value_true arrays objects c r h = let e : c ≡ 116 = eq_from c 116 h in rw e refl
 
+-- `f` begins `false`
 pub value_false : (arrays objects : Nested) (c : ℕ) (r : List ℕ) → (c == 102) ≡ true → value_with arrays objects (c ∷ r) ≡ as_leaf (λ u. boolean false) (word_at EofParsingBool ExpectedBool false_text (c ∷ r))
 value_false arrays objects c r h = let e : c ≡ 102 = eq_from c 102 h in rw e refl
 
+-- a quote begins a text
 pub value_text : (arrays objects : Nested) (c : ℕ) (r : List ℕ) → is_quote c ≡ true → value_with arrays objects (c ∷ r) ≡ as_leaf (λ a. text a.0 a.1) (string (c ∷ r))
 value_text arrays objects c r h = let k = quote_others c h in rw (h, k.0, k.1, k.2) refl
 
+-- a sign, a digit, a point, `I` or `N` begins a number
 pub value_number : (arrays objects : Nested) (c : ℕ) (r : List ℕ) → (is_sign c || begins_number c) ≡ true → value_with arrays objects (c ∷ r) ≡ as_leaf Tree.number (numbers.number (c ∷ r))
 value_number arrays objects c r h = let k = number_others c h in rw (h, k.3, k.0, k.1, k.2) refl
 
+-- `[` begins an array
 pub value_array : (arrays objects : Nested) (r : List ℕ) → value_with arrays objects (91 ∷ r) ≡ arrays (91 ∷ r) r
 value_array arrays objects r = refl
 
+-- `{` begins an object
 pub value_object : (arrays objects : Nested) (r : List ℕ) → value_with arrays objects (123 ∷ r) ≡ objects (123 ∷ r) r
 value_object arrays objects r = refl
 
+-- at another character a value is expected
 pub value_none : (arrays objects : Nested) (c : ℕ) (r : List ℕ) → begins_value c ≡ false → value_with arrays objects (c ∷ r) ≡ bad (Some ExpectedValue) (here (c ∷ r))
 value_none arrays objects c r h = let k = no_value_others c h in rw (k.4, k.3, k.0, k.1, k.2, k.5, k.6) refl
 
@@ -217,5 +233,6 @@ unfolding read
 read_step zero x = refl
 read_step (suc d) x = refl
 
+-- and at the end one is missing
 pub read_end : (d : ℕ) → read d [] ≡ bad (Some EofParsingValue) inner
 read_end d = read_step d []

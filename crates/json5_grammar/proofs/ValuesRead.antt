@@ -20,15 +20,19 @@ use Rattle.json5_grammar.proofs.ValueHeads.{ValueHead, number_head, val_head, sk
 
 -- ---- leaves
 
+-- the word `null` is read
 pub read_null : (d : ℕ) (r : List ℕ) → read d (null_text ++ r) ≡ got null r
 read_null d r = read_step d (null_text ++ r) ∙ ap (as_leaf (λ u. null)) (word_complete EofParsingNull ExpectedNull null_text r)
 
+-- the word `true` is read
 pub read_true : (d : ℕ) (r : List ℕ) → read d (true_text ++ r) ≡ got (boolean true) r
 read_true d r = read_step d (true_text ++ r) ∙ ap (as_leaf (λ u. boolean true)) (word_complete EofParsingBool ExpectedBool true_text r)
 
+-- the word `false` is read
 pub read_false : (d : ℕ) (r : List ℕ) → read d (false_text ++ r) ≡ got (boolean false) r
 read_false d r = read_step d (false_text ++ r) ∙ ap (as_leaf (λ u. boolean false)) (word_complete EofParsingBool ExpectedBool false_text r)
 
+-- a number is read, where it stops
 pub read_number : {s : List ℕ} {n : Number} (d : ℕ) (r : List ℕ) → Num s n → Stops s r → read d (s ++ r) ≡ got (number n) r
 read_number {s = s} d r a st =
     let k = number_head a in
@@ -36,6 +40,7 @@ read_number {s = s} d r a st =
     read_step d (s ++ r) ∙ ap (value_with (array_reader d) (object_reader d)) e ∙ value_number (array_reader d) (object_reader d) k.0 (k.1 ++ r) k.3
     ∙ ap (as_leaf number) (ap numbers.number (sym e) ∙ complete a r st)
 
+-- a string is read
 pub read_text : {s u : List ℕ} {plain : Bool} (d : ℕ) (r : List ℕ) → Str s u plain → read d (s ++ r) ≡ got (text u plain) r
 read_text d r (quoted {q = q} {s = s} h i) =
     read_step d ((q ∷ s ++ q ∷ []) ++ r) ∙ value_text (array_reader d) (object_reader d) q ((s ++ q ∷ []) ++ r) h
@@ -67,11 +72,13 @@ skip_comma r = skip_solid 44 r (printable_no_blank 44 refl) refl
 skip_colon : (r : List ℕ) → skip between (58 ∷ r) ≡ got tt (58 ∷ r)
 skip_colon r = skip_solid 58 r (printable_no_blank 58 refl) refl
 
+-- blanks and the closing bracket are read
 pub items_close : {w : List ℕ} (val : List ℕ → Read Tree) (n : ℕ) (r : List ℕ) → length (w ++ 93 ∷ r) < n → Blanks w → items val n (w ++ 93 ∷ r) ≡ got no_more r
 unfolding items
 items_close val zero r l b = absurd (omega arith)
 items_close val (suc n) r l b = rw (skip_blanks (93 ∷ r) b, skip_bracket r) refl
 
+-- blanks and the closing brace are read
 pub entries_close : {w : List ℕ} (val : List ℕ → Read Tree) (n : ℕ) (r : List ℕ) → length (w ++ 125 ∷ r) < n → Blanks w → entries val n (w ++ 125 ∷ r) ≡ got no_pair r
 unfolding entries
 entries_close val zero r l b = absurd (omega arith)
@@ -161,6 +168,7 @@ mutual
   read_complete (is_object ps) r st zero l = absurd (omega arith)
   read_complete (is_object {m = m} {ps = qs} ps) r st (suc d) l = read_brace d m r qs (λ n h. entries_complete ps r d (omega arith) n h)
 
+  -- members and the closing bracket are read; more turns than characters are enough
   pub members_complete : {m : List ℕ} {ts : Trees} → Members m ts → (r : List ℕ) → (d : ℕ) → depths ts ≤ d → (n : ℕ) → length (m ++ 93 ∷ r) < n → items (read d) n (m ++ 93 ∷ r) ≡ got ts r
   members_complete (last bw vs bv lc) r d l zero h = absurd (omega arith)
   members_complete (last {w = w} {s = s} {v = v} {t = t} bw vs bv no_last_comma) r d l (suc k) h =
@@ -177,6 +185,7 @@ mutual
       ∙ items_member d k (44 ∷ (m ++ 93 ∷ r)) bw (val_head vs) bv (read_complete vs (v ++ 44 ∷ (m ++ 93 ∷ r)) (stops_blanks s 44 (m ++ 93 ∷ r) bv comma_ends_values) d (omega arith))
       ∙ after_comma t ts d k (m ++ 93 ∷ r) r (members_complete ms r d (omega arith) k (shorter w s v m (93 ∷ r) k h))
 
+  -- pairs and the closing brace are read
   pub entries_complete : {m : List ℕ} {ps : Pairs} → Entries m ps → (r : List ℕ) → (d : ℕ) → pair_depths ps ≤ d → (n : ℕ) → length (m ++ 125 ∷ r) < n → entries (read d) n (m ++ 125 ∷ r) ≡ got ps r
   entries_complete (last_pair e lc) r d l zero h = absurd (omega arith)
   entries_complete (last_pair {p = p} {u = u} {plain = plain} {t = t} e no_last_comma) r d l (suc k) h =
@@ -193,6 +202,7 @@ mutual
       ∙ entry_complete e 44 (m ++ 125 ∷ r) comma_ends_values d (omega arith) k
       ∙ after_pair_comma u plain t qs d k (m ++ 125 ∷ r) r (entries_complete ps r d (omega arith) k (shorter_pair p m (125 ∷ r) k h))
 
+  -- a pair is read, up to the character behind it
   pub entry_complete : {p u : List ℕ} {plain : Bool} {t : Tree} → Entry p u plain t → (c : ℕ) (y : List ℕ) → EndsValues c → (d : ℕ) → depth t ≤ d → (n : ℕ)
       → entries (read d) (suc n) (p ++ c ∷ y) ≡ behind_pair (entries (read d) n) u plain t (c ∷ y)
   entry_complete (entry {a = a} {k = k} {b = b} {w = w} {s = s} {v = v} ba kt bb bw vs bv) c y ends d l n =

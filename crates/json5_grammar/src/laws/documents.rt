@@ -1,5 +1,5 @@
 //! The laws of blanks, words, values and documents.
-ghost use Rattle.std.specs.Prelude.{◌≡◌, ◌≢◌, ◌⊎◌, ℕ, ◌≤◌, Bool, true, not, if◌then◌else◌, List, [], ◌∷◌, ◌++◌, Option};
+ghost use Rattle.std.specs.Prelude.{◌≡◌, ◌⊎◌, ℕ, ◌≤◌, Bool, true, not, if◌then◌else◌, List, [], ◌∷◌, ◌++◌, Option};
 ghost use Rattle.json5_grammar.specs.Codes.{ErrorCode, Shown};
 ghost use Rattle.json5_grammar.specs.Blanks.{Blanks, LastBlanks, Gap, Solid, is_solid, BlankFault};
 ghost use Rattle.json5_grammar.specs.WordFaults.{Word, WordFault};
