@@ -1,3 +1,6 @@
+pub mod NumberRuns
+pub mod NumberZeros
+pub mod NumberWritten
 pub mod ScanSteps
 pub mod ScanBytes
 pub mod ScanFaults

@@ -3,6 +3,11 @@ pub mod Outcome
 pub mod Refused
 pub mod Cursor
 pub mod Tokens
+pub mod NumberViews
+pub mod NumberDecimals
+pub mod NumberSteps
+pub mod NumberEquality
+pub mod NumberWholes
 pub mod Scan
 pub mod Escapes
 pub mod Cows

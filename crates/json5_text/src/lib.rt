@@ -4,13 +4,17 @@
 mod blanks;
 pub mod char;
 pub mod cow_str;
+pub mod decimal;
 pub mod error;
 mod front;
 #[cfg(test)]
 mod fault_tests;
 pub mod input;
+pub mod number;
 mod refusal;
+mod runs;
 pub mod scanner;
+pub mod whole;
 mod words;
 
 pub use json5_grammar::code::ErrorCode;
