@@ -1,5 +1,5 @@
 -- A text is cut where its characters are.
-use Rattle.std.proofs.Common.{◌≡◌, ℕ, ◌+◌, ◌-◌, ◌≤◌, Bool, true, false, List, [], ◌∷◌, ◌++◌, length, take, drop, refl, ap, sym, ◌∙◌, arith, append_assoc}
+use Rattle.std.proofs.Common.{◌≡◌, ℕ, ◌+◌, ◌-◌, ◌≤◌, Bool, true, false, List, [], ◌∷◌, ◌++◌, length, take, drop, refl, ap, sym, ◌∙◌, subst, arith, append_assoc}
 use Rattle.std.specs.Prelude.{◌&&◌}
 use Rattle.std.specs.Char.{IsScalar}
 use Rattle.std.specs.Str.{IsUtf8, IsCharBoundary, chars, encode_utf8_all, all_scalars}
@@ -91,3 +91,14 @@ pub offset_counted : {text : List ℕ} {offset end : ℕ} → InText text offset
 offset_counted {text = text} {offset = offset} k =
     rw (encodes-chars text k.is_text, encodes-chars (drop offset text) (IsUtf8-drop text offset k.is_text k.cut), length-drop offset text)
     (let h : offset ≤ length text = k.cut.0 in omega arith)
+
+-- the text is cut behind so many bytes
+pub cut_before : {text : List ℕ} {offset end cut : ℕ} (x y : List ℕ) → InText text offset end → chars text ≡ x ++ y → cut ≡ bytes_in x → IsCharBoundary text cut
+cut_before {text = text} {cut = cut} x y k e l =
+    let h : Halves text x y = record { is_text = k.is_text; split = e } in
+    subst (IsCharBoundary text) (offset_at h ∙ sym l) (cut_half h)
+
+pub take_before : {text : List ℕ} {offset end cut : ℕ} (x y : List ℕ) → InText text offset end → chars text ≡ x ++ y → cut ≡ bytes_in x → chars (take cut text) ≡ x
+take_before {text = text} {cut = cut} x y k e l =
+    let h : Halves text x y = record { is_text = k.is_text; split = e } in
+    subst (λ n. chars (take n text) ≡ x) (offset_at h ∙ sym l) (take_half h)
