@@ -1,0 +1,81 @@
+-- An array from its front: its members one after another, and its closing bracket.
+-- JSON5 section 4 (arrays; a comma may stand behind the last member).
+use Rattle.std.specs.Prelude.{◌≡◌, ◌⊎◌, ℕ, Bool, true, false, List, [], ◌∷◌, ◌++◌, Option, Some, None}
+use Rattle.json5_grammar.specs.Characters.{comma_sign, left_bracket, right_bracket}
+use Rattle.json5_grammar.specs.Blanks.{Blanks}
+use Rattle.json5_grammar.specs.Trees.{Tree, Trees, null, boolean, number, text, array, object, no_more, more}
+use Rattle.json5_grammar.specs.Values.{Reads}
+
+-- x begins with blanks and the sign, and r is left behind it
+pub record IsSign (sign : ℕ) (x r : List ℕ) : Type 0 where
+  pub front : List ℕ
+  pub split : x ≡ front ++ sign ∷ r
+  pub blank : Blanks front
+
+-- x begins with blanks and the opening bracket, and r is left behind it
+abbrev pub Opens : List ℕ → List ℕ → Type 0
+Opens x r = IsSign left_bracket x r
+
+-- x goes on with a member of the tree t, behind blanks and a comma where one is due, and r is left
+abbrev pub IsElement : Bool → List ℕ → Tree → List ℕ → Type 0
+IsElement false x t r = Reads x t r
+IsElement true x t r = (y : List ℕ) × IsSign comma_sign x y × Reads y t r
+
+-- x goes on with blanks and the closing sign, where a comma is due also behind one comma, and r is left behind the sign
+abbrev pub IsEnd : ℕ → Bool → List ℕ → List ℕ → Type 0
+IsEnd sign false x r = IsSign sign x r
+IsEnd sign true x r = IsSign sign x r ⊎ ((y : List ℕ) × IsSign comma_sign x y × IsSign sign y r)
+
+-- the same for the closing bracket
+abbrev pub IsClose : Bool → List ℕ → List ℕ → Type 0
+IsClose due x r = IsEnd right_bracket due x r
+
+-- x goes on so, but the bracket itself is still unread in y
+abbrev pub IsAtClose : Bool → List ℕ → List ℕ → Type 0
+IsAtClose due x y = (r : List ℕ) × IsClose due x r × (y ≡ right_bracket ∷ r)
+
+-- x goes on with these members and the closing bracket, and r is left behind it
+abbrev pub Tail : Trees → Bool → List ℕ → List ℕ → Type 0
+Tail no_more due x r = IsClose due x r
+Tail (more t ts) due x r = (y : List ℕ) × IsElement due x t y × Tail ts true y r
+
+-- from x these members are read, and y is left; a comma is due before them, and then behind them
+abbrev pub Passed : Trees → Bool → List ℕ → Bool → List ℕ → Type 0
+Passed no_more due x now y = (due ≡ now) × (x ≡ y)
+Passed (more t ts) due x now y = (z : List ℕ) × IsElement due x t z × Passed ts true z now y
+
+-- x goes on with no member and no closing bracket
+pub record GoesNowhere (due : Bool) (x : List ℕ) : Type 0 where
+  pub no_element : (t : Tree) (r : List ℕ) → IsElement due x t r → ⊥
+  pub no_close : (r : List ℕ) → IsClose due x r → ⊥
+
+-- ---- lists of trees
+
+-- the trees, and one more at their end
+abbrev pub snoc : Trees → Tree → Trees
+snoc no_more u = more u no_more
+snoc (more t ts) u = more t (snoc ts u)
+
+-- the trees, and others behind them
+abbrev pub joined : Trees → Trees → Trees
+joined no_more us = us
+joined (more t ts) us = more t (joined ts us)
+
+abbrev pub both : {C : Type 0} → Option C → Option (List C) → Option (List C)
+both None cs = None
+both (Some c) None = None
+both (Some c) (Some cs) = Some (c ∷ cs)
+
+-- each tree's content, where each has one
+abbrev pub contents : {C : Type 0} → (Tree → Option C) → Trees → Option (List C)
+contents convert no_more = Some []
+contents convert (more t ts) = both (convert t) (contents convert ts)
+
+-- an array's content, from its members
+abbrev pub array_of : {C : Type 0} → (Trees → Option C) → Tree → Option C
+array_of convert null = None
+array_of convert (boolean b) = None
+array_of convert (number n) = None
+array_of convert (text u plain) = None
+array_of convert (array ts) = convert ts
+array_of convert (object ps) = None
