@@ -42,3 +42,5 @@ pub mod ScalarsWritten
 pub mod MembersRead
 pub mod MembersPassed
 pub mod MembersConverted
+pub mod MembersNowhere
+pub mod MembersPairs

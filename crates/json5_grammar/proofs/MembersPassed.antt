@@ -1,21 +1,36 @@
 -- The members of an array that were passed, one at a time: one way to go on, and what is left of the array.
 use Rattle.std.proofs.Common.{◌≡◌, ℕ, ◌+◌, ◌≤◌, ◌<◌, max, Bool, true, false, List, [], ◌∷◌, ◌++◌, length, refl, ap, sym, ◌∙◌, arith, length-append, ◌⊎◌, inl, inr, subst}
+use Rattle.std.specs.Prelude.{◌==◌}
 use Rattle.json5_grammar.specs.Trees.{Tree, Trees, array, no_more, more, depth, depths}
 use Rattle.json5_grammar.specs.Values.{Reads}
 use Rattle.json5_grammar.specs.Members.{IsSign, Opens, IsElement, IsEnd, IsClose, IsAtClose, Tail, Passed, GoesNowhere, joined, snoc}
 use Rattle.json5_grammar.specs.Blanks.{is_solid, Blanks}
+use Rattle.json5_grammar.proofs.Basics.{neq_from}
 use Rattle.json5_grammar.proofs.Unique.{one_phrase}
 use Rattle.json5_grammar.proofs.ValueHeads.{val_head}
 use Rattle.json5_grammar.proofs.MembersRead.{comma_solid, bracket_solid, opening_solid, one_sign, sign_no_value, array_front, array_reads}
 
 -- ---- one way to go on
 
-same_sign : (c : ℕ) (x r q : List ℕ) → is_solid c ≡ true → IsSign c x r → IsSign c x q → r ≡ q
+-- one rest behind a sign
+pub same_sign : (c : ℕ) (x r q : List ℕ) → is_solid c ≡ true → IsSign c x r → IsSign c x q → r ≡ q
 same_sign c x r q h a b = (one_sign c c x r q h h a b).1
 
--- a comma is no closing bracket
-no_comma_close : (x r q : List ℕ) → IsSign 44 x r → IsSign 93 x q → ⊥
-no_comma_close x r q a b = let e : 44 ≡ 93 = (one_sign 44 93 x r q comma_solid bracket_solid a b).0 in absurd (omega (arith, e))
+-- what stands behind the comma
+pub behind_comma : (P : List ℕ → Type 0) (x y z : List ℕ) → IsSign 44 x y → IsSign 44 x z → P z → P y
+behind_comma P x y z c d p = subst P (same_sign 44 x z y comma_solid d c) p
+
+-- a comma is no closing sign
+pub no_comma_end : (sign : ℕ) (x r q : List ℕ) → is_solid sign ≡ true → (44 == sign) ≡ false → IsSign 44 x r → IsSign sign x q → ⊥
+no_comma_end sign x r q h n a b = neq_from 44 sign n (one_sign 44 sign x r q comma_solid h a b).0
+
+-- one closing sign
+pub one_end : (sign : ℕ) → is_solid sign ≡ true → (44 == sign) ≡ false → (due : Bool) (x r q : List ℕ) → IsEnd sign due x r → IsEnd sign due x q → r ≡ q
+one_end sign h n false x r q a b = same_sign sign x r q h a b
+one_end sign h n true x r q (inl a) (inl b) = same_sign sign x r q h a b
+one_end sign h n true x r q (inl a) (inr (y, c, b)) = absurd (no_comma_end sign x y r h n c a)
+one_end sign h n true x r q (inr (y, c, a)) (inl b) = absurd (no_comma_end sign x y q h n c b)
+one_end sign h n true x r q (inr (y, c, a)) (inr (z, d, b)) = same_sign sign y r q h a (behind_comma (λ k. IsSign sign k q) x y z c d b)
 
 -- one opening bracket
 pub one_opening : (x r q : List ℕ) → Opens x r → Opens x q → r ≡ q
@@ -24,22 +39,17 @@ one_opening x r q a b = same_sign 91 x r q opening_solid a b
 -- one member
 pub one_element : (due : Bool) (x r q : List ℕ) (t u : Tree) → IsElement due x t r → IsElement due x u q → (t ≡ u) × (r ≡ q)
 one_element false x r q t u a b = one_phrase x r q t u a b
-one_element true x r q t u (y, c, a) (z, d, b) = one_phrase y r q t u a (subst (λ k. Reads k u q) (same_sign 44 x z y comma_solid d c) b)
+one_element true x r q t u (y, c, a) (z, d, b) = one_phrase y r q t u a (behind_comma (λ k. Reads k u q) x y z c d b)
 
 -- one closing bracket
 pub one_close : (due : Bool) (x r q : List ℕ) → IsClose due x r → IsClose due x q → r ≡ q
-one_close false x r q a b = same_sign 93 x r q bracket_solid a b
-one_close true x r q (inl a) (inl b) = same_sign 93 x r q bracket_solid a b
-one_close true x r q (inl a) (inr (y, c, b)) = absurd (no_comma_close x y r c a)
-one_close true x r q (inr (y, c, a)) (inl b) = absurd (no_comma_close x y q c b)
-one_close true x r q (inr (y, c, a)) (inr (z, d, b)) = same_sign 93 y r q bracket_solid a (subst (λ k. IsSign 93 k q) (same_sign 44 x z y comma_solid d c) b)
+one_close due x r q a b = one_end 93 bracket_solid refl due x r q a b
 
 -- a member and the closing bracket don't both go on
 pub element_or_close : (due : Bool) (x r q : List ℕ) (t : Tree) → IsElement due x t r → IsClose due x q → ⊥
 element_or_close false x r q t a b = sign_no_value 93 x r q t bracket_solid refl b a
-element_or_close true x r q t (y, c, a) (inl b) = no_comma_close x y q c b
-element_or_close true x r q t (y, c, a) (inr (z, d, b)) =
-    sign_no_value 93 y r q t bracket_solid refl (subst (λ k. IsSign 93 k q) (same_sign 44 x z y comma_solid d c) b) a
+element_or_close true x r q t (y, c, a) (inl b) = no_comma_end 93 x y q bracket_solid refl c b
+element_or_close true x r q t (y, c, a) (inr (z, d, b)) = sign_no_value 93 y r q t bracket_solid refl (behind_comma (λ k. IsSign 93 k q) x y z c d b) a
 
 more_same : (t u : Tree) (ts us : Trees) → t ≡ u → ts ≡ us → more t ts ≡ more u us
 more_same t u ts us e f = cc
@@ -56,10 +66,14 @@ one_tail (more t ts) (more u us) due x r q (y, e, a) (z, f, b) =
 
 -- ---- the bracket that is found, and then taken
 
+-- a text that begins with the closing sign is at its end
+pub sign_ends : (sign : ℕ) (due : Bool) (r : List ℕ) → IsEnd sign due (sign ∷ r) r
+sign_ends sign false r = record { front = []; split = refl; blank = Blanks.empty }
+sign_ends sign true r = inl (record { front = []; split = refl; blank = Blanks.empty })
+
 -- a text that begins with the closing bracket closes
 pub bracket_closes : (due : Bool) (r : List ℕ) → IsClose due (93 ∷ r) r
-bracket_closes false r = record { front = []; split = refl; blank = Blanks.empty }
-bracket_closes true r = inl (record { front = []; split = refl; blank = Blanks.empty })
+bracket_closes due r = sign_ends 93 due r
 
 -- where the bracket was found it can be taken
 pub found_closes : (due now : Bool) (x y : List ℕ) → IsAtClose due x y → (r : List ℕ) × IsClose now y r
@@ -135,14 +149,16 @@ array_opens x r ts p = let (y, o, tl) = array_front x r ts p in (y, o)
 
 -- ---- lengths
 
-reads_shorter : (x r : List ℕ) (t : Tree) → Reads x t r → length r < length x
+-- a phrase takes something
+pub reads_shorter : (x r : List ℕ) (t : Tree) → Reads x t r → length r < length x
 reads_shorter x r t p =
     let head = val_head p.value in
     let phrase = ap length head.is in
     let whole = ap length p.split in
     omega (arith, phrase, whole, length-append p.front (p.phrase ++ r), length-append p.phrase r)
 
-sign_shorter : (c : ℕ) (x r : List ℕ) → IsSign c x r → length r < length x
+-- a sign takes something
+pub sign_shorter : (c : ℕ) (x r : List ℕ) → IsSign c x r → length r < length x
 sign_shorter c x r a = let whole = ap length a.split in omega (arith, whole, length-append a.front (c ∷ r))
 
 -- a member takes something

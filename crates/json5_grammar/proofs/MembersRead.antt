@@ -67,12 +67,16 @@ reads_behind w x r t b p = record {
   stops = p.stops;
 }
 
--- behind the gap before a phrase it stands alone
+-- behind the gap before a phrase it begins
+pub phrase_found : (x w y r : List ℕ) (t : Tree) → x ≡ w ++ y → Gap w y → Solid y → (p : Reads x t r) → y ≡ p.phrase ++ r
+phrase_found x w y r t e g s p = (one_gap p.front (p.phrase ++ r) w y (Gap.blanks p.blank) (value_solid r (val_head p.value)) g s (sym p.split ∙ e)).1
+
+-- and stands alone
 pub reads_found : (x w y r : List ℕ) (t : Tree) → x ≡ w ++ y → Gap w y → Solid y → Reads x t r → Reads y t r
 reads_found x w y r t e g s p = record {
   front = [];
   phrase = p.phrase;
-  split = (one_gap p.front (p.phrase ++ r) w y (Gap.blanks p.blank) (value_solid r (val_head p.value)) g s (sym p.split ∙ e)).1;
+  split = phrase_found x w y r t e g s p;
   blank = Blanks.empty;
   value = p.value;
   stops = p.stops;

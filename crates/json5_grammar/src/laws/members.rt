@@ -1,8 +1,11 @@
-//! The laws of arrays that are read member by member.
-ghost use Rattle.std.specs.Prelude.{◌≡◌, ◌⊎◌, ℕ, ◌≤◌, ◌<◌, max, Bool, true, false, List, [], ◌∷◌, ◌++◌, length, Option, Some};
-ghost use Rattle.json5_grammar.specs.Trees.{Tree, Trees, array, no_more, more, depth, depths};
+//! The laws of arrays and objects that are read member by member.
+ghost use Rattle.std.specs.Prelude.{◌≡◌, ◌⊎◌, ◌==◌, ℕ, ◌<◌, max, Bool, true, false, List, ◌++◌, length, Option};
+ghost use Rattle.json5_grammar.specs.Characters.{comma_sign, right_bracket, NotBegun};
+ghost use Rattle.json5_grammar.specs.Codes.{ErrorCode, Shown};
+ghost use Rattle.json5_grammar.specs.Blanks.{Gap, Solid, BlankFault};
+ghost use Rattle.json5_grammar.specs.Trees.{Tree, Trees, Pairs, array, object, no_more, more, pair, depth, depths, pair_depths};
 ghost use Rattle.json5_grammar.specs.Values.{Reads};
-ghost use Rattle.json5_grammar.specs.Members.{Opens, IsElement, IsClose, IsAtClose, Tail, Passed, GoesNowhere, snoc, joined, contents};
+ghost use Rattle.json5_grammar.specs.Members.{Opens, IsElement, IsClose, IsAtClose, Tail, Passed, GoesNowhere, snoc, joined, OpensObject, IsKey, IsKeyValue, IsBrace, PairsTail, PairsPassed, NoPairGoes, snoc_pair, joined_pairs};
 
 /// An array is what is opened and has its members and the closing bracket behind.
 pub fn array_from_front()
@@ -19,9 +22,11 @@ pub fn one_way_on()
     ensures tail { (ts us : Trees) (due : Bool) (x r q : List ℕ) → Tail ts due x r → Tail us due x q → (ts ≡ us) × (r ≡ q) }
 {}
 
-/// A member takes something.
+/// A member, a key and a key's value take something.
 pub fn members_shorten()
-    ensures { (due : Bool) (x r : List ℕ) (t : Tree) → IsElement due x t r → length r < length x }
+    ensures element { (due : Bool) (x r : List ℕ) (t : Tree) → IsElement due x t r → length r < length x }
+    ensures key { (due : Bool) (x r u : List ℕ) (p : Bool) → IsKey due x u p r → length r < length x }
+    ensures value { (x r : List ℕ) (t : Tree) → IsKeyValue x t r → length r < length x }
 {}
 
 /// Where the closing bracket was found it can be taken, and the array goes on so from before.
@@ -49,10 +54,41 @@ pub fn rest_of_array()
 pub fn depths_of_members()
     ensures joined { (ts us : Trees) → depths (joined ts us) ≡ max (depths ts) (depths us) }
     ensures snoc { (ts : Trees) (t : Tree) → depths (snoc ts t) ≡ max (depths ts) (depth t) }
+    ensures joined_pairs { (ps qs : Pairs) → pair_depths (joined_pairs ps qs) ≡ max (pair_depths ps) (pair_depths qs) }
+    ensures snoc_pair { (ps : Pairs) (u : List ℕ) (p : Bool) (t : Tree) → pair_depths (snoc_pair ps u p t) ≡ max (pair_depths ps) (depth t) }
 {}
 
-/// Members are converted one at a time.
-pub fn contents_of_members()
-    ensures next { (f : Tree → Option (List ℕ)) (ts : Trees) (t : Tree) (cs : List (List ℕ)) (c : List ℕ) → contents f ts ≡ Some cs → f t ≡ Some c → contents f (snoc ts t) ≡ Some (cs ++ c ∷ []) }
-    ensures each { (f : Tree → Option (List ℕ)) (ts us : Trees) (t : Tree) (cs : List (List ℕ)) → contents f (joined ts (more t us)) ≡ Some cs → (c : List ℕ) × (f t ≡ Some c) }
+/// Nothing of an array goes on at a faulty comment, and where a comma is due neither at the end nor at a character that is
+/// neither a comma nor the closing bracket.
+pub fn nothing_goes_on()
+    ensures comment { (due : Bool) (x b p : List ℕ) (code : Option ErrorCode) (place : Option (List ℕ)) (shown : Shown) → BlankFault x code place b p shown → GoesNowhere due x }
+    ensures due { (x w y : List ℕ) → x ≡ w ++ y → Gap w y → Solid y → NotBegun (λ c. c == comma_sign) y → NotBegun (λ c. c == right_bracket) y → GoesNowhere true x }
+    ensures first { (x w y : List ℕ) → x ≡ w ++ y → Gap w y → Solid y → ((t : Tree) (r : List ℕ) → Reads y t r → ⊥) → NotBegun (λ c. c == right_bracket) y → GoesNowhere false x }
+{}
+
+/// An object is what is opened and has its pairs and the closing brace behind.
+pub fn object_from_front()
+    ensures apart { (x r : List ℕ) (ps : Pairs) → Reads x (object ps) r → (y : List ℕ) × OpensObject x y × PairsTail ps false y r }
+    ensures together { (x y r : List ℕ) (ps : Pairs) → OpensObject x y → PairsTail ps false y r → Reads x (object ps) r }
+{}
+
+/// An object goes on in one way: with one key and its value or the closing brace, and one rest is left.
+pub fn one_way_on_in_object()
+    ensures opening { (x r q : List ℕ) → OpensObject x r → OpensObject x q → r ≡ q }
+    ensures key { (due : Bool) (x r y u v : List ℕ) (p q : Bool) → IsKey due x u p r → IsKey due x v q y → (u ≡ v) × (p ≡ q) × (r ≡ y) }
+    ensures value { (x r q : List ℕ) (t u : Tree) → IsKeyValue x t r → IsKeyValue x u q → (t ≡ u) × (r ≡ q) }
+    ensures close { (due : Bool) (x r q : List ℕ) → IsBrace due x r → IsBrace due x q → r ≡ q }
+    ensures either { (due : Bool) (x r q u : List ℕ) (p : Bool) → IsKey due x u p r → IsBrace due x q → ⊥ }
+    ensures tail { (ps qs : Pairs) (due : Bool) (x r q : List ℕ) → PairsTail ps due x r → PairsTail qs due x q → (ps ≡ qs) × (r ≡ q) }
+{}
+
+/// Pairs that were passed go on with one more, or with the rest of the object.
+pub fn passed_pairs()
+    ensures next { (ps : Pairs) (due now : Bool) (x y k z u : List ℕ) (p : Bool) (t : Tree) → PairsPassed ps due x now y → IsKey now y u p k → IsKeyValue k t z → PairsPassed (snoc_pair ps u p t) due x true z }
+    ensures tail { (ps qs : Pairs) (due now : Bool) (x y r : List ℕ) → PairsPassed ps due x now y → PairsTail qs now y r → PairsTail (joined_pairs ps qs) due x r }
+    ensures close { (ps : Pairs) (due now : Bool) (x y r : List ℕ) → PairsPassed ps due x now y → IsBrace now y r → PairsTail ps due x r }
+    ensures rest { (qs ps : Pairs) (due now : Bool) (x y r : List ℕ) → PairsPassed qs due x now y → PairsTail ps due x r → (ws : Pairs) × (ps ≡ joined_pairs qs ws) × PairsTail ws now y r }
+    ensures value { (ps : Pairs) (due : Bool) (x y r u : List ℕ) (plain : Bool) → IsKey due x u plain y → PairsTail ps due x r
+        → (t : Tree) × (qs : Pairs) × (z : List ℕ) × (ps ≡ pair u plain t qs) × IsKeyValue y t z × PairsTail qs true z r }
+    ensures nowhere { (ps : Pairs) (due : Bool) (x r : List ℕ) → NoPairGoes due x → PairsTail ps due x r → ⊥ }
 {}
