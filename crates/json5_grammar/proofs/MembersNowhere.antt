@@ -1,11 +1,11 @@
 -- What a text goes on with, from what stands behind the gap in front.
-use Rattle.std.proofs.Common.{◌≡◌, ℕ, Bool, true, false, List, [], ◌∷◌, ◌++◌, refl, ap, sym, ◌∙◌, ◌⊎◌, inl, inr, subst, Option}
+use Rattle.std.proofs.Common.{◌≡◌, ℕ, Bool, true, false, List, [], ◌∷◌, ◌++◌, refl, ap, sym, ◌∙◌, inl, inr, subst, Option}
 use Rattle.std.specs.Prelude.{◌==◌}
 use Rattle.std.proofs.lemmas.Bool.{both_ways}
 use Rattle.json5_grammar.specs.Characters.{NotBegun}
 use Rattle.json5_grammar.specs.Codes.{ErrorCode, Shown}
 use Rattle.json5_grammar.specs.Blanks.{Blanks, Gap, is_solid, Solid, BlankFault}
-use Rattle.json5_grammar.specs.Trees.{Tree, Trees, array}
+use Rattle.json5_grammar.specs.Trees.{Tree}
 use Rattle.json5_grammar.specs.Faults.{begins_value}
 use Rattle.json5_grammar.specs.Values.{Reads}
 use Rattle.json5_grammar.specs.Members.{IsSign, Opens, IsElement, IsEnd, IsClose, GoesNowhere}
@@ -13,8 +13,8 @@ use Rattle.json5_grammar.proofs.Basics.{same_char}
 use Rattle.json5_grammar.proofs.BlanksRead.{begins_solid}
 use Rattle.json5_grammar.proofs.BlanksSound.{gap_blanks, no_blank_fault}
 use Rattle.json5_grammar.proofs.ValueHeads.{val_head, value_solid}
-use Rattle.json5_grammar.proofs.MembersRead.{comma_solid, bracket_solid, opening_solid, sign_here, sign_behind, sign_found, reads_behind, phrase_found, reads_found}
-use Rattle.json5_grammar.proofs.MembersPassed.{same_sign, behind_comma}
+use Rattle.json5_grammar.proofs.MembersRead.{comma_solid, bracket_solid, opening_solid, sign_here, sign_found, reads_behind, phrase_found, reads_found}
+use Rattle.json5_grammar.proofs.MembersPassed.{behind_comma}
 
 -- ---- what goes on
 

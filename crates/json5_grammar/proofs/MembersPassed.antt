@@ -1,5 +1,5 @@
 -- The members of an array that were passed, one at a time: one way to go on, and what is left of the array.
-use Rattle.std.proofs.Common.{◌≡◌, ℕ, ◌+◌, ◌≤◌, ◌<◌, max, Bool, true, false, List, [], ◌∷◌, ◌++◌, length, refl, ap, sym, ◌∙◌, arith, length-append, ◌⊎◌, inl, inr, subst}
+use Rattle.std.proofs.Common.{◌≡◌, ℕ, ◌+◌, ◌≤◌, ◌<◌, max, Bool, true, false, List, [], ◌∷◌, ◌++◌, length, refl, ap, sym, arith, length-append, ◌⊎◌, inl, inr, subst}
 use Rattle.std.specs.Prelude.{◌==◌}
 use Rattle.json5_grammar.specs.Trees.{Tree, Trees, array, no_more, more, depth, depths}
 use Rattle.json5_grammar.specs.Values.{Reads}
@@ -120,6 +120,18 @@ pub tail_goes : (ts : Trees) (due : Bool) (x r : List ℕ) → Tail ts due x r
 tail_goes no_more due x r c = inl (refl, c)
 tail_goes (more t ts) due x r (y, e, tl) = inr (t, ts, y, refl, e, tl)
 
+-- behind a member that was read stands what is left
+pub element_left : (ts : Trees) (due : Bool) (x y r : List ℕ) (t : Tree) → IsElement due x t y → Tail ts due x r → (us : Trees) × (ts ≡ more t us) × Tail us true y r
+element_left no_more due x y r t e c = absurd (element_or_close due x y r t e c)
+element_left (more u ts) due x y r t e (z, f, tl) =
+    let one = one_element due x z y u t f e in
+    (ts, more_same u t ts ts one.0 refl, subst (λ k. Tail ts true k r) one.1 tl)
+
+-- where the closing bracket goes on no member is left
+pub close_left : (ts : Trees) (due : Bool) (x r q : List ℕ) → IsClose due x q → Tail ts due x r → (ts ≡ no_more) × (q ≡ r)
+close_left no_more due x r q c k = (refl, one_close due x q r c k)
+close_left (more t ts) due x r q c (y, e, tl) = absurd (element_or_close due x y q t e c)
+
 -- where neither goes on no array does
 pub nowhere_tail : (ts : Trees) (due : Bool) (x r : List ℕ) → GoesNowhere due x → Tail ts due x r → ⊥
 nowhere_tail no_more due x r n c = n.no_close r c
@@ -143,7 +155,7 @@ array_nowhere x y z r us ts due o p n reads =
     let (vs, e, tl) = array_left x y z r us ts due o p reads in
     nowhere_tail vs due z r n tl
 
--- what begins with an opening bracket is no other value, and what doesn't is no array
+-- an array begins with its bracket
 pub array_opens : (x r : List ℕ) (ts : Trees) → Reads x (array ts) r → (y : List ℕ) × Opens x y
 array_opens x r ts p = let (y, o, tl) = array_front x r ts p in (y, o)
 

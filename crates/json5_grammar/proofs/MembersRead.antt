@@ -1,17 +1,15 @@
 -- An array from its front: it is opened, its members are read one after another, and it is closed.
-use Rattle.std.proofs.Common.{◌≡◌, ℕ, Bool, true, false, List, [], ◌∷◌, ◌++◌, refl, ap, sym, ◌∙◌, append_assoc, ◌⊎◌, inl, inr, subst}
-use Rattle.std.specs.Prelude.{◌==◌}
+use Rattle.std.proofs.Common.{◌≡◌, ℕ, true, false, List, [], ◌∷◌, ◌++◌, refl, ap, sym, ◌∙◌, append_assoc, inl, inr}
 use Rattle.std.proofs.lemmas.Bool.{both_ways}
 use Rattle.json5_grammar.specs.Blanks.{Blanks, Gap, is_solid, Solid}
 use Rattle.json5_grammar.specs.Trees.{Tree, Trees, array, no_more, more}
 use Rattle.json5_grammar.specs.Faults.{begins_value}
 use Rattle.json5_grammar.specs.Values.{no_last_comma, last_comma, Val, is_empty_array, is_array, Members, last, next, Stops, Reads}
-use Rattle.json5_grammar.specs.Members.{IsSign, Opens, IsElement, IsEnd, IsClose, IsAtClose, Tail, Passed, GoesNowhere, joined, snoc}
+use Rattle.json5_grammar.specs.Members.{IsSign, Opens, Tail}
 use Rattle.json5_grammar.proofs.BlanksRead.{begins_solid, printable_solid}
 use Rattle.json5_grammar.proofs.BlanksSound.{Blanks-append, one_gap, gap_blanks}
 use Rattle.json5_grammar.proofs.Classes.{comma_ends_values, bracket_ends_values}
 use Rattle.json5_grammar.proofs.ValueHeads.{val_head, value_solid, stops_blanks}
-use Rattle.json5_grammar.proofs.Unique.{one_phrase}
 
 -- ---- signs
 
