@@ -44,3 +44,4 @@ pub mod MembersPassed
 pub mod MembersConverted
 pub mod MembersNowhere
 pub mod MembersPairs
+pub mod MembersPairsConverted

@@ -6,12 +6,13 @@ use Rattle.json5_grammar.specs.Members.{Opens, IsElement, IsClose, Tail, Passed,
 use Rattle.json5_grammar.proofs.MembersPassed.{array_closed, array_left, array_opens, passed_more, shallow_snoc, tail_goes, member_shallow}
 
 -- the parts of a list that has one
-both_parts : {C : Type 0} (o : Option C) (p : Option (List C)) (cs : List C) → both o p ≡ Some cs → (c : C) × (rest : List C) × (o ≡ Some c) × (p ≡ Some rest) × (cs ≡ c ∷ rest)
+pub both_parts : {C : Type 0} (o : Option C) (p : Option (List C)) (cs : List C) → both o p ≡ Some cs → (c : C) × (rest : List C) × (o ≡ Some c) × (p ≡ Some rest) × (cs ≡ c ∷ rest)
 both_parts None p cs h = absurd (cc)
 both_parts (Some c) None cs h = absurd (cc)
 both_parts (Some c) (Some rest) cs h = (c, rest, refl, refl, cc)
 
-one_behind : {C : Type 0} (d c : C) (rest cs : List C) (o : Option C) (q : Option (List C)) → o ≡ Some d → q ≡ Some (rest ++ c ∷ []) → cs ≡ d ∷ rest → both o q ≡ Some (cs ++ c ∷ [])
+-- one more behind a list
+pub one_behind : {C : Type 0} (d c : C) (rest cs : List C) (o : Option C) (q : Option (List C)) → o ≡ Some d → q ≡ Some (rest ++ c ∷ []) → cs ≡ d ∷ rest → both o q ≡ Some (cs ++ c ∷ [])
 one_behind d c rest cs o q a b e = rw (a, b, e) refl
 
 -- one more member's content

@@ -30,7 +30,7 @@ abbrev pub WordSound : List ℕ → List ℕ → Read (Unit {0}) → Type 0
 WordSound w x (got u r) = x ≡ w ++ r
 WordSound w x (bad code p) = WordBlamed x code p
 
-abbrev WordIs : ErrorCode → ErrorCode → List ℕ → List ℕ → Read (Unit {0}) → Type 0
+abbrev pub WordIs : ErrorCode → ErrorCode → List ℕ → List ℕ → Read (Unit {0}) → Type 0
 WordIs eof wrong ks x (got u r) = x ≡ ks ++ r
 WordIs eof wrong ks x (bad e p) =
     ((v : List ℕ) × (d : ℕ) × (q : List ℕ) × (c : ℕ) × (r : List ℕ) × (ks ≡ v ++ d ∷ q) × (x ≡ v ++ c ∷ r) × (c ≢ d) × (e ≡ Some wrong) × (p ≡ here (c ∷ r)))
@@ -41,7 +41,7 @@ word_more eof wrong k ks x (got u r) e = ap (λ z. k ∷ z) e
 word_more eof wrong k ks x (bad e p) (inl (v, d, q, c, r, a, b, t, i, j)) = inl (k ∷ v, d, q, c, r, ap (λ z. k ∷ z) a, ap (λ z. k ∷ z) b, t, i, j)
 word_more eof wrong k ks x (bad e p) (inr (d, q, a, i, j)) = inr (d, q, ap (λ z. k ∷ z) a, i, j)
 
-word_is : (eof wrong : ErrorCode) (ks x : List ℕ) → WordIs eof wrong ks x (word_at eof wrong ks x)
+pub word_is : (eof wrong : ErrorCode) (ks x : List ℕ) → WordIs eof wrong ks x (word_at eof wrong ks x)
 unfolding word_at
 word_is eof wrong [] x = refl
 word_is eof wrong (k ∷ ks) [] = inr (k, ks, refl, refl, refl)

@@ -141,6 +141,16 @@ array_of convert (text u plain) = None
 array_of convert (array ts) = convert ts
 array_of convert (object ps) = None
 
+abbrev pub joint : {K V : Type 0} → Option K → Option V → Option (K × V)
+joint None v = None
+joint (Some k) None = None
+joint (Some k) (Some v) = Some (k, v)
+
+-- each pair's key and value, where each has a content; a key's content may depend on whether it is plain
+abbrev pub pair_contents : {K V : Type 0} → (List ℕ → Bool → Option K) → (Tree → Option V) → Pairs → Option (List (K × V))
+pair_contents keys values no_pair = Some []
+pair_contents keys values (pair u plain t ps) = both (joint (keys u plain) (values t)) (pair_contents keys values ps)
+
 -- an object's content, from its pairs
 abbrev pub object_of : {C : Type 0} → (Pairs → Option C) → Tree → Option C
 object_of convert null = None
