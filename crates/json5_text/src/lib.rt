@@ -5,6 +5,7 @@ mod blanks;
 pub mod char;
 pub mod cow_str;
 pub mod error;
+mod escapes;
 mod front;
 pub mod input;
 mod refusal;
