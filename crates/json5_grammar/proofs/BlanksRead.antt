@@ -1,6 +1,7 @@
 -- Blanks are passed over.
 use Rattle.std.proofs.Common.{◌≡◌, ℕ, zero, suc, ◌+◌, ◌≤◌, ◌<◌, Bool, true, false, ◌&&◌, ◌||◌, not, List, [], ◌∷◌, ◌++◌, refl, ap, sym, ◌∙◌, append_assoc, arith, ◌≢◌}
 use Rattle.std.specs.Prelude.{◌==◌}
+use Rattle.std.proofs.lemmas.Bool.{not-true, not-false}
 use Rattle.std.proofs.lemmas.Bool.Decides.{nat_tests}
 use Rattle.std.proofs.lemmas.List.{append-nil}
 use Rattle.ucd_category.specs.GeneralCategory.{general_category}
@@ -37,7 +38,8 @@ none_holds (suc n) low c h a b = split (is_space_separator low) refl h (c == low
     past : (c == low) ≡ false → suc low ≤ c
     past f = let ne : c ≢ low = neq_from c low f in omega arith
 
-printable_no_space : (c : ℕ) → is_in 33 126 c ≡ true → is_space_separator c ≡ false
+-- a character from `!` to `~` is no space
+pub printable_no_space : (c : ℕ) → is_in 33 126 c ≡ true → is_space_separator c ≡ false
 printable_no_space c h = none_holds 94 33 c printable_checked (grind (arith, nat_tests)) (grind (arith, nat_tests))
 
 -- a character from `!` to `~` is no blank
@@ -49,27 +51,27 @@ printable_no_blank c h = let k = printable_no_space c h in rw k (others c h)
 
 -- ---- comments
 
+-- a slash begins a comment
 pub skip_slash : (r : List ℕ) → skip between (47 ∷ r) ≡ skip slash r
 unfolding skip is_space_separator general_category value_in general_category_rows
 skip_slash r = refl
 
+-- a `//` comment is passed over with its terminator
 pub skip_line : {x : List ℕ} (c : ℕ) (y : List ℕ) → Each (λ d. not (is_terminator d)) x → is_terminator c ≡ true → skip Mode.line (x ++ c ∷ y) ≡ skip between y
 unfolding skip
 skip_line c y no_char h = rw h refl
-skip_line c y (char {c = d} n k) h = rw (not_true (is_terminator d) n) (skip_line c y k h)
-  where
-    not_true : (b : Bool) → not b ≡ true → b ≡ false
-    not_true true e = absurd (cc)
-    not_true false e = refl
+skip_line c y (char {c = d} n k) h = rw (not-true (is_terminator d) n) (skip_line c y k h)
 
 mutual
   unfolding skip
 
+  -- a `/* */` comment is passed over
   pub skip_block : {x : List ℕ} (y : List ℕ) → Inside x → skip Mode.block (x ++ 42 ∷ 47 ∷ y) ≡ skip between y
   skip_block y ends = refl
   skip_block y (star h i) = skip_star y i h
   skip_block y (other {c = c} ne i) = rw (not_eq c 42 ne) (skip_block y i)
 
+  -- and so is one behind a star in it
   pub skip_star : {x : List ℕ} (y : List ℕ) → Inside x → NotBegun (λ c. c == 47) x → skip Mode.star (x ++ 42 ∷ 47 ∷ y) ≡ skip between y
   skip_star y ends h = refl
   skip_star y (star k i) h = skip_star y i k
@@ -85,15 +87,13 @@ skip_blanks r (blank h b) = rw h (skip_blanks r b)
 skip_blanks r (line {x = x} c {s = s} n h b) = skip_slash (47 ∷ (x ++ c ∷ s) ++ r) ∙ ap (skip Mode.line) (append_assoc x (c ∷ s) r) ∙ skip_line c (s ++ r) n h ∙ skip_blanks r b
 skip_blanks r (block {x = x} {s = s} i b) = skip_slash (42 ∷ (x ++ 42 ∷ 47 ∷ s) ++ r) ∙ ap (skip Mode.block) (append_assoc x (42 ∷ 47 ∷ s) r) ∙ skip_block (s ++ r) i ∙ skip_blanks r b
 
+-- a `//` comment that the end closes is passed over
 pub skip_open : {x : List ℕ} → Each (λ d. not (is_terminator d)) x → skip Mode.line x ≡ got tt []
 unfolding skip
 skip_open no_char = refl
-skip_open (char {c = d} n k) = rw (not_true (is_terminator d) n) (skip_open k)
-  where
-    not_true : (b : Bool) → not b ≡ true → b ≡ false
-    not_true true e = absurd (cc)
-    not_true false e = refl
+skip_open (char {c = d} n k) = rw (not-true (is_terminator d) n) (skip_open k)
 
+-- nothing is left at the end
 pub skip_end : skip between [] ≡ got tt []
 unfolding skip
 skip_end = refl
@@ -114,6 +114,7 @@ pub skip_solid : (c : ℕ) (r : List ℕ) → is_blank c ≡ false → (c == 47)
 unfolding skip
 skip_solid c r b s = rw (b, s)
 
+-- a solid character is no blank and no slash
 pub solid_parts : (c : ℕ) → is_solid c ≡ true → (is_blank c ≡ false) × ((c == 47) ≡ false)
 solid_parts c h = by_parts (is_blank c) (c == 47) h
   where
@@ -125,14 +126,11 @@ solid_parts c h = by_parts (is_blank c) (c == 47) h
 -- a solid rest is left as it is
 pub skip_rest : (r : List ℕ) → Solid r → skip between r ≡ got tt r
 skip_rest [] h = skip_end
-skip_rest (c ∷ r) h = let k = solid_parts c (twice (is_solid c) h) in skip_solid c r k.0 k.1
-  where
-    twice : (b : Bool) → not b ≡ false → b ≡ true
-    twice true h = refl
-    twice false h = absurd (cc)
+skip_rest (c ∷ r) h = let k = solid_parts c (not-false (is_solid c) h) in skip_solid c r k.0 k.1
 
 -- ---- solid characters
 
+-- and a character that is neither is solid
 pub solid_from : (c : ℕ) → is_blank c ≡ false → (c == 47) ≡ false → is_solid c ≡ true
 solid_from c h k = rw (h, k)
 

@@ -13,16 +13,19 @@ use Rattle.json5_grammar.proofs.BlanksRead.{skip_slash, skip_blanks, skip_gap, s
 
 -- ---- blanks behind blanks
 
+-- blanks behind blanks are blanks
 pub Blanks-append : {v w : List ℕ} → Blanks v → Blanks w → Blanks (v ++ w)
 Blanks-append empty b = b
 Blanks-append (blank h a) b = blank h (Blanks-append a b)
 Blanks-append {w = w} (line {x = x} c {s = s} n h a) b = rw (append_assoc x (c ∷ s) w) (line c n h (Blanks-append a b))
 Blanks-append {w = w} (block {x = x} {s = s} i a) b = rw (append_assoc x (42 ∷ 47 ∷ s) w) (block i (Blanks-append a b))
 
+-- also where they are the last
 pub LastBlanks-append : {v w : List ℕ} → Blanks v → LastBlanks w → LastBlanks (v ++ w)
 LastBlanks-append a (LastBlanks.blanks b) = LastBlanks.blanks (Blanks-append a b)
 LastBlanks-append {v = v} a (open_line {w = w} {x = x} b n) = subst LastBlanks (append_assoc v w (47 ∷ 47 ∷ x)) (open_line (Blanks-append a b) n)
 
+-- also before a rest
 pub Gap-append : {v w r : List ℕ} → Blanks v → Gap w r → Gap (v ++ w) r
 Gap-append a (Gap.blanks b) = Gap.blanks (Blanks-append a b)
 Gap-append a (at_end l) = at_end (LastBlanks-append a l)
@@ -186,6 +189,7 @@ one_blank_fault {x = x} {e = e} {f = f} {pl = pl} {pm = pm} a b = one_refusal (s
 
 -- ---- one gap
 
+-- a gap is passed over, up to a solid rest
 pub gap_read : {w r : List ℕ} → Gap w r → Solid r → skip between (w ++ r) ≡ got tt r
 gap_read {r = r} g s = skip_gap g ∙ skip_rest r s
 
@@ -222,3 +226,14 @@ gap_end {w = w} g = last_of g
     last_of : {w q : List ℕ} → Gap w q → LastBlanks w
     last_of (Gap.blanks b) = LastBlanks.blanks b
     last_of (at_end l) = l
+
+-- each text is a gap before a solid rest or has a fault of blanks
+pub blanks_judged : (x : List ℕ)
+    → ((w : List ℕ) × (r : List ℕ) × (x ≡ w ++ r) × Gap w r × Solid r)
+    ⊎ ((code : Option ErrorCode) × (place : Option (List ℕ)) × (before : List ℕ) × (part : List ℕ) × (shown : Shown) × BlankFault x code place before part shown)
+blanks_judged x = by_answer (skip between x) (skip_sound x)
+  where
+    by_answer : (res : Read (Unit {0})) → BlanksSound x res → ((w : List ℕ) × (r : List ℕ) × (x ≡ w ++ r) × Gap w r × Solid r)
+        ⊎ ((code : Option ErrorCode) × (place : Option (List ℕ)) × (before : List ℕ) × (part : List ℕ) × (shown : Shown) × BlankFault x code place before part shown)
+    by_answer (got u r) (w, e, g, s) = inl (w, r, e, g, s)
+    by_answer (bad code p) b = inr (code, b.place, b.before, b.part, b.shown, b.fault)

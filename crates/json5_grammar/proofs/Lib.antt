@@ -30,7 +30,12 @@ pub mod NumberPartOf
 pub mod NumbersJudged
 pub mod NumberStepLaws
 pub mod NumberExamples
+pub mod PositionsCounted
 pub mod BlanksRead
 pub mod BlanksSound
 pub mod WordsRead
-pub mod PositionsCounted
+pub mod Classes
+pub mod ValueHeads
+pub mod ValuesRead
+pub mod Unique
+pub mod ScalarsWritten

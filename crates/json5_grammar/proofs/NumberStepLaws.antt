@@ -9,7 +9,7 @@ use Rattle.std.proofs.lemmas.Int.{ints}
 use Rattle.json5_grammar.specs.Numbers.{spelled, signed}
 use Rattle.json5_grammar.specs.ReadNumbers.{front_of, rest_of, in_exponents}
 use Rattle.json5_grammar.specs.NumberSteps.{capped, checked}
-use Rattle.json5_grammar.proofs.NumberTests.{by_test}
+use Rattle.json5_grammar.proofs.Basics.{by_test}
 
 -- in std's words
 

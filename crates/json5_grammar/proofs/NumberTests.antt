@@ -1,5 +1,5 @@
 -- Tests on characters and numbers, and fronts by a test.
-use Rattle.std.proofs.Common.{◌≡◌, ℕ, ◌^◌, ◌<◌, Bool, true, false, cond, ◌&&◌, ◌||◌, List, [], ◌∷◌, ◌++◌, refl, ap, arith, ◌≢◌}
+use Rattle.std.proofs.Common.{◌≡◌, ℕ, ◌^◌, ◌<◌, Bool, true, false, cond, ◌&&◌, ◌||◌, List, [], ◌∷◌, ◌++◌, refl, ap, arith}
 use Rattle.std.specs.Prelude.{◌==◌, ℤ, pos, negsuc}
 use Rattle.std.proofs.lemmas.Bool.Decides.{nat_tests}
 use Rattle.std.proofs.lemmas.Int.{ints}
@@ -8,20 +8,7 @@ use Rattle.json5_grammar.specs.Numbers.{hex_start, InWhole, InExponents, is_empt
 use Rattle.json5_grammar.specs.Stops.{in_run, begins_run}
 use Rattle.json5_grammar.specs.NumberFaults.{is_sign}
 use Rattle.json5_grammar.specs.ReadNumbers.{front_of, rest_of, in_whole, in_exponents}
-
--- a test that a `cond` makes
-pub by_test : {A : Type 0} (P : A → Type 0) (b : Bool) (x y : A) → (b ≡ true → P x) → (b ≡ false → P y) → P (cond b x y)
-by_test P true x y f g = f refl
-by_test P false x y f g = g refl
-
-pub eq_from : (c d : ℕ) → (c == d) ≡ true → c ≡ d
-eq_from c d h = grind arith
-
-pub neq_from : (c d : ℕ) → (c == d) ≡ false → c ≢ d
-neq_from c d h = grind arith
-
-pub neq : (c d : ℕ) → c ≢ d → (c == d) ≡ false
-neq c d h = grind (arith, nat_tests)
+pub use Rattle.json5_grammar.proofs.Basics.{by_test}
 
 pub and_left : (a b : Bool) → (a && b) ≡ true → a ≡ true
 and_left true b h = refl

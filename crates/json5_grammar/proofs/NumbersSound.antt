@@ -12,7 +12,8 @@ use Rattle.json5_grammar.specs.Codes.{ErrorCode, Shown, by_char, by_end, Expecte
 use Rattle.json5_grammar.specs.NumberFaults.{is_sign, begins_number, NumberWord, Run, run, zero_run, Behind, behind_end, behind_char, NumberFault, number_word_differs, number_word_ends, sign_without_number, sign_ends, no_hexadecimal_digit, hexadecimal_ends, hexadecimal_overflows, negative_too_large, not_a_literal, literal_overflows, leading_zero}
 use Rattle.json5_grammar.specs.Reading.{Place, Read, got, bad, here, inner}
 use Rattle.json5_grammar.specs.ReadNumbers.{Parts, front_of, rest_of, literal_at, in_exponents, is_whole, judged, if_literal, decimal_run, at_zero, hex_judged, hexadecimal, hex_digits, word, unsigned, number}
-use Rattle.json5_grammar.proofs.NumberTests.{by_test, eq_from, neq_from, in_whole_yes, in_whole_true, in_exponents_yes, begins_run_in_run, dot_or_e_in_run, front_each, rest_stops, front_rest}
+use Rattle.json5_grammar.proofs.Basics.{by_test, eq_from, neq_from}
+use Rattle.json5_grammar.proofs.NumberTests.{in_whole_yes, in_whole_true, in_exponents_yes, begins_run_in_run, dot_or_e_in_run, front_each, rest_stops, front_rest}
 use Rattle.json5_grammar.proofs.Literals.{literal_found, literal_is, LiteralIs, literal_head, Longer, zero_more, begun}
 use Rattle.json5_grammar.proofs.NumbersRead.{number_bare, lengthens_bare, lengthens_longer, lengthens_hex, stops_same, signed_zero, run_read, Bare, bare, longer_bare, head_bare, complete}
 

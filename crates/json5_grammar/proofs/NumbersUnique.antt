@@ -12,7 +12,8 @@ use Rattle.json5_grammar.specs.Codes.{ErrorCode, Shown, ExpectedNumber, EofParsi
 use Rattle.json5_grammar.specs.NumberFaults.{is_sign, NumberWord, Cut, Run, run, zero_run, Behind, behind_end, behind_char, NumberFault, number_word_differs, number_word_ends, sign_without_number, sign_ends, no_hexadecimal_digit, hexadecimal_ends, hexadecimal_overflows, negative_too_large, not_a_literal, literal_overflows, leading_zero}
 use Rattle.json5_grammar.specs.Reading.{Place, Read, got, bad, here, inner}
 use Rattle.json5_grammar.specs.ReadNumbers.{Parts, literal_at, in_exponents, is_whole, if_literal, hex_judged, hexadecimal, hex_digits, word, unsigned, number}
-use Rattle.json5_grammar.proofs.NumberTests.{in_exponents_yes, neq, begins_run_in_run, dot_or_e_in_run}
+use Rattle.json5_grammar.proofs.Basics.{not_eq, same_char}
+use Rattle.json5_grammar.proofs.NumberTests.{in_exponents_yes, begins_run_in_run, dot_or_e_in_run}
 use Rattle.json5_grammar.proofs.Hexadecimal.{spelled-append, hex_stop, hex_over}
 use Rattle.json5_grammar.proofs.Literals.{literal_is, LiteralIs, literal_head, Longer, zero_more, begun}
 use Rattle.json5_grammar.proofs.NumbersRead.{number_unsigned, number_bare, unsigned_hex, unsigned_run, run_read, longer_bare, head_bare, complete}
@@ -47,12 +48,9 @@ unfolding unsigned
 word_head m NumberWord.infinity = record { head = 73; tail = codes "nfinity"; means = decimal (infinite m); is = refl; no_sign = refl; reads = λ q y. refl }
 word_head m NumberWord.nan = record { head = 78; tail = codes "aN"; means = decimal (nan m); is = refl; no_sign = refl; reads = λ q y. refl }
 
-same_char : (c : ℕ) → (c == c) ≡ true
-same_char c = grind arith
-
 word_differs : (n : Number) (v : List ℕ) (d c : ℕ) (q r : List ℕ) → c ≢ d → word n (v ++ d ∷ q) (v ++ c ∷ r) ≡ bad (Some ExpectedNumber) (here (c ∷ r))
 unfolding word
-word_differs n [] d c q r h = rw (neq c d h)
+word_differs n [] d c q r h = rw (not_eq c d h)
 word_differs n (k ∷ v) d c q r h = rw (same_char k) (word_differs n v d c q r h)
 
 word_ends : (n : Number) (v : List ℕ) (d : ℕ) (q : List ℕ) → word n (v ++ d ∷ q) v ≡ bad (Some EofParsingNumber) inner
@@ -143,7 +141,7 @@ record RunIs (n : List ℕ) : Type 0 where
   all : Each in_run body
 
 run_is : {n : List ℕ} → Run n → RunIs n
-run_is (run {s = s} {n = n} {m = m} {c = c} g h z e) = record { sign = s; body = c ∷ n; minus = m; is = refl; signs = g; longer = begun h (neq c 48 z); all = char (begins_run_in_run c h) e }
+run_is (run {s = s} {n = n} {m = m} {c = c} g h z e) = record { sign = s; body = c ∷ n; minus = m; is = refl; signs = g; longer = begun h (not_eq c 48 z); all = char (begins_run_in_run c h) e }
 run_is (zero_run {s = s} {n = n} {m = m} c g h e) = record { sign = s; body = 48 ∷ c ∷ n; minus = m; is = refl; signs = g; longer = zero_more h; all = char refl (char (dot_or_e_in_run c h) e) }
 
 run_number : {n : List ℕ} (r : List ℕ) (k : RunIs n) → NotBegun in_run r → number (n ++ r) ≡ if_literal (n ++ r) k.minus r (literal_at k.body)

@@ -150,3 +150,13 @@ word_first r false_word = same_first false_text false_text [] r (λ e. cc) refl
 pub no_word_fault : {w p : List ℕ} {wrong eof : ErrorCode} {e : Option ErrorCode} {pl : Option (List ℕ)} {h : Shown} (r : List ℕ) → Word w wrong eof → WordFault (w ++ r) e pl p h → ⊥
 no_word_fault {w = w} {wrong = wrong} {eof = eof} {e = e} {pl = pl} r k f =
     not_both (by_first (w ++ r)) (w ++ r) r tt e pl (by_word k (word_first r k) ∙ word_complete eof wrong w r) (first_refused f)
+
+-- a text that begins with a word's first letter begins with the word, or has a fault of a word
+pub word_judged : (k : ℕ) (ks r : List ℕ) (wrong eof : ErrorCode) → Word (k ∷ ks) wrong eof
+    → ((y : List ℕ) × (k ∷ r ≡ k ∷ ks ++ y)) ⊎ ((code : Option ErrorCode) × (place : Option (List ℕ)) × (part : List ℕ) × (shown : Shown) × WordFault (k ∷ r) code place part shown)
+word_judged k ks r wrong eof w = by_answer (word_at eof wrong (k ∷ ks) (k ∷ r)) (word_sound k ks k r w (same_char k))
+  where
+    by_answer : (res : Read (Unit {0})) → WordSound (k ∷ ks) (k ∷ r) res
+        → ((y : List ℕ) × (k ∷ r ≡ k ∷ ks ++ y)) ⊎ ((code : Option ErrorCode) × (place : Option (List ℕ)) × (part : List ℕ) × (shown : Shown) × WordFault (k ∷ r) code place part shown)
+    by_answer (got u y) e = inl (y, e)
+    by_answer (bad code p) b = inr (code, b.place, b.part, b.shown, b.fault)

@@ -56,13 +56,13 @@ pub enum ErrorCode {
     ExpectedValue,
     /// A text that is no even number of hexadecimal digits where bytes are awaited.
     InvalidBytes,
-    /// An escape that isn't allowed (JSON5 section 5.1, ECMAScript 5.1 sections 7.6 and 7.8.4).
+    /// An escape that isn't allowed (JSON5 section 5, ECMAScript 5.1 sections 7.6 and 7.8.4).
     InvalidEscapeSequence,
     /// A value that can't be written as a key.
     InvalidKey,
     /// A digit behind a number's first `0` (ECMAScript 5.1 section 7.8.3).
     LeadingZero,
-    /// An LF or CR in a string without a backslash (JSON5 section 5.2).
+    /// An LF or CR in a string without a backslash (JSON5 section 5).
     LineTerminatorInString,
     /// A hexadecimal number past 128 bits, or a decimal whose exponent isn't in 16 bits.
     OverflowParsingNumber,

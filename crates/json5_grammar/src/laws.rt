@@ -1,4 +1,5 @@
 //! The laws of the definitions, each the contract of a function that does nothing.
 
+pub mod documents;
 pub mod numbers;
 pub mod texts;

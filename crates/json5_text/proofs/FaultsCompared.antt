@@ -1,5 +1,5 @@
 -- Faults are equal exactly where they say the same and have the same place.
-use Rattle.std.proofs.Common.{◌≡◌, ◌∙◌, ℕ, refl, ap, subst, sym, Bool, true, false, Option, Some, None, ◌==◌, ◌&&◌, string_bytes}
+use Rattle.std.proofs.Common.{◌≡◌, ◌∙◌, ℕ, refl, ap, Option, Some, None, ◌==◌, ◌&&◌, string_bytes}
 use Rattle.std.specs.Bool.{Decides}
 use Rattle.std.specs.String.{string_eq}
 use Rattle.std.specs.Option.{option_eq}

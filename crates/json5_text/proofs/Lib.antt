@@ -4,3 +4,6 @@ pub mod ScanFaults
 pub mod ScanTokens
 pub mod EscapesSpelled
 pub mod FaultsCompared
+pub mod TextsCompared
+pub mod NumberRuns
+pub mod NumberZeros

@@ -3,10 +3,9 @@ use Rattle.std.specs.Prelude.{◌≡◌, ◌-◌, ℕ, List, ◌++◌, length, O
 use Rattle.std.specs.Str.{encode_utf8_all}
 use Rattle.json5_grammar.specs.declared.code.ErrorCode.{ErrorCode}
 use Rattle.json5_grammar.specs.declared.code.ErrorCode.TheVariants as codes
-use Rattle.json5_grammar.specs.declared.position.Position.{Position}
 use Rattle.json5_grammar.specs.Positions.{position_behind}
 use Rattle.json5_text.specs.declared.error.Error.{Error}
-use Rattle.json5_text.specs.Errors.{Kind, code, custom, kind_of, place_of}
+use Rattle.json5_text.specs.Errors.{code, custom, kind_of, place_of}
 
 pub record Cursor : Type 0 where
   pub input : List ℕ

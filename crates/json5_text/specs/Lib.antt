@@ -7,3 +7,7 @@ pub mod Scan
 pub mod Escapes
 pub mod Cows
 pub mod Compared
+pub mod NumberViews
+pub mod NumberDecimals
+pub mod NumberSteps
+pub mod NumberEquality

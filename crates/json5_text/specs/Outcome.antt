@@ -1,5 +1,5 @@
 -- What reading gives, a place being the number of bytes that are left there. Private clauses and proofs alone cite it.
-use Rattle.std.specs.Prelude.{ℕ, List, length, Option, Some, None, unwrap_or}
+use Rattle.std.specs.Prelude.{ℕ, List, length, Option, Some, None}
 use Rattle.std.specs.Str.{encode_utf8_all}
 use Rattle.json5_grammar.specs.declared.code.ErrorCode.{ErrorCode}
 use Rattle.json5_grammar.specs.Reading.{Read, got, bad, Place, here, inner}

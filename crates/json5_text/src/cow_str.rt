@@ -1,6 +1,6 @@
 //! Texts that are borrowed from what is read, where they can be.
 
-ghost use Rattle.std.specs.Prelude.{◌≡◌, Some, length, refl};
+ghost use Rattle.std.specs.Prelude.{◌≡◌, ◌↔◌, Some, IsTrue, refl};
 ghost use Rattle.std.specs.Ordering.{nat_cmp};
 ghost use Rattle.std.specs.Hash as fed;
 ghost use Rattle.std.specs.Cmp.Lexicographic.{pointwise, slice_cmp, nat_list_eq_equiv, nat_list_cmp_total, texts_ties, texts_po};
@@ -42,7 +42,11 @@ impl<'de> PartialEq for CowStr<'de> {
 
     ghost laws = { on_per cow_bytes (partial_equiv_from_equiv nat_list_eq_equiv) };
 
-    fn eq(&self, other: &Self) -> bool {
+    #[tactic(auto, using(crate::proofs::TextsCompared::texts_same))]
+    fn eq(&self, other: &Self) -> bool
+        ensures gives { result ≡ pointwise nat_eq (cow_bytes self.now) (cow_bytes other.now) }
+        ensures same { IsTrue result ↔ (cow_bytes self.now ≡ cow_bytes other.now) }
+    {
         self.as_str() == other.as_str()
     }
 }

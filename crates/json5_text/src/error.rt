@@ -2,8 +2,8 @@
 
 ghost use Rattle.std.specs.Prelude.{◌≡◌, ◌↔◌, ◌++◌, ℕ, List, Option, Some, None, IsTrue, IfOk, IfErr, string_bytes};
 ghost use Rattle.json5_text.specs.Errors.{Kind, code, custom, failed_write, kind_of, place_of, known_code, or_place, content_text, error_text, LacksMemory};
-ghost use Rattle.std.specs.Cmp.Rules.{comparing};
-ghost use Rattle.std.proofs.Common.{rules};
+ghost use Rattle.json5_text.specs.Compared.{same_fault, same_fault_equiv};
+ghost use Rattle.std.specs.Cmp.{partial_equiv_from_equiv};
 
 use json5_grammar::code::ErrorCode;
 use json5_grammar::position::Position;
@@ -46,10 +46,7 @@ impl Error {
         ensures kind { kind_of result ≡ Kind.code code }
         ensures place { place_of result ≡ Some position }
     {
-        Error {
-            content: Content::Code(code),
-            position: Some(position),
-        }
+        Error::new(code).at(position)
     }
 
     /// A custom fault with this text, without a place. Takes no memory.
@@ -77,7 +74,7 @@ impl Error {
         let _ = out.write(message);
         let Message { text, is_full } = out;
         if is_full {
-            Err(Error::new(ErrorCode::OutOfMemory))
+            Err(out_of_memory())
         } else {
             Ok(Error::from_text(text))
         }
@@ -164,11 +161,9 @@ impl Error {
 
 /// Equal are faults that say the same and have the same place, or both none.
 impl PartialEq for Error {
-    ghost use Rattle.json5_text.specs.Compared.{same_fault};
-
     ghost eq = { same_fault };
 
-    ghost laws = { Prim.search (comparing, rules) };
+    ghost laws = { partial_equiv_from_equiv same_fault_equiv };
 
     #[tactic(auto, using(crate::proofs::FaultsCompared::faults_same))]
     fn eq(&self, other: &Self) -> bool
@@ -180,7 +175,7 @@ impl PartialEq for Error {
 }
 
 impl Eq for Error {
-    ghost laws = { Prim.search (comparing, rules) };
+    ghost laws = { same_fault_equiv };
 }
 
 /// What the fault says, without its place.
@@ -202,7 +197,7 @@ impl fmt::Display for Error {
 
     fn fmt<W: fmt::Write>(&self, f: &mut fmt::Formatter<W>) -> fmt::Result {
         let content = &self.content;
-        match self.position {
+        match self.position() {
             Some(position) => write!(f, "{content} at {position}"),
             None => write!(f, "{content}"),
         }
@@ -210,6 +205,12 @@ impl fmt::Display for Error {
 }
 
 impl std::error::Error for Error {}
+
+fn out_of_memory() -> Error
+    ensures { LacksMemory result }
+{
+    Error::new(ErrorCode::OutOfMemory)
+}
 
 /// A failed write, without a place. Takes no memory.
 impl From<io::Error> for Error {
@@ -228,7 +229,7 @@ impl From<AllocError> for Error {
     ghost from_gives = { λ _ e. LacksMemory e };
 
     fn from(_error: AllocError) -> Error {
-        Error::new(ErrorCode::OutOfMemory)
+        out_of_memory()
     }
 }
 
@@ -237,7 +238,7 @@ impl<T: Drop> From<AllocFailed<T>> for Error {
     ghost from_gives = { λ _ e. LacksMemory e };
 
     fn from(_error: AllocFailed<T>) -> Error {
-        Error::new(ErrorCode::OutOfMemory)
+        out_of_memory()
     }
 }
 

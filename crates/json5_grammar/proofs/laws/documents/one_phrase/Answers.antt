@@ -1,0 +1,5 @@
+use Rattle.json5_grammar.proofs.Unique.{one_phrase}
+use Rattle.json5_grammar.proofs.laws.documents.one_phrase.Goals as goal
+
+pub returns : goal.returns
+returns c = one_phrase

@@ -1,0 +1,77 @@
+//! The laws of blanks, words, values and documents.
+ghost use Rattle.std.specs.Prelude.{◌≡◌, ◌⊎◌, ℕ, ◌≤◌, Bool, true, not, if◌then◌else◌, List, [], ◌∷◌, ◌++◌, Option};
+ghost use Rattle.json5_grammar.specs.Codes.{ErrorCode, Shown};
+ghost use Rattle.json5_grammar.specs.Blanks.{Blanks, LastBlanks, Gap, Solid, is_solid, BlankFault};
+ghost use Rattle.json5_grammar.specs.WordFaults.{Word, WordFault};
+ghost use Rattle.json5_grammar.specs.Numbers.{Number};
+ghost use Rattle.json5_grammar.specs.NumberText.{IsNumber, number_text};
+ghost use Rattle.json5_grammar.specs.Quoting.{quoted_text};
+ghost use Rattle.json5_grammar.specs.Strings.{holds_backslash};
+ghost use Rattle.json5_grammar.specs.Trees.{Tree, null, boolean, number, text, depth};
+ghost use Rattle.json5_grammar.specs.Values.{Val, Stops, Reads, null_text, true_text, false_text};
+ghost use Rattle.json5_grammar.specs.Documents.{Doc};
+
+/// A text has at most one tree, whatever the nesting limits.
+pub fn one_tree()
+    ensures { (limit other : ℕ) (x : List ℕ) (t u : Tree) → Doc limit x t → Doc other x u → t ≡ u }
+{}
+
+/// A text has at most one front that is a value and stops there.
+pub fn one_front()
+    ensures { (s u r q : List ℕ) (t v : Tree) → Val s t → Val u v → Stops s r → Stops u q → s ++ r ≡ u ++ q → (s ≡ u) × (t ≡ v) × (r ≡ q) }
+{}
+
+/// A text begins with at most one phrase, and one rest is left.
+pub fn one_phrase()
+    ensures { (x r q : List ℕ) (t u : Tree) → Reads x t r → Reads x u q → (t ≡ u) × (r ≡ q) }
+{}
+
+/// A document is a phrase with blanks behind it, nested within the limit.
+pub fn phrases()
+    ensures of_document { (limit : ℕ) (x : List ℕ) (t : Tree) → Doc limit x t → (r : List ℕ) × Reads x t r × LastBlanks r × (depth t ≤ limit) }
+    ensures to_document { (limit : ℕ) (x r : List ℕ) (t : Tree) → Reads x t r → LastBlanks r → depth t ≤ limit → Doc limit x t }
+{}
+
+/// Blanks can be passed over in one way, up to a rest that is empty or begins with a solid character.
+pub fn one_gap()
+    ensures any { (w s v r : List ℕ) → Gap w s → Solid s → Gap v r → Solid r → w ++ s ≡ v ++ r → (v ≡ w) × (r ≡ s) }
+    ensures before { (w v r : List ℕ) (c : ℕ) (s : List ℕ) → Blanks w → is_solid c ≡ true → Gap v r → Solid r → w ++ c ∷ s ≡ v ++ r → (v ≡ w) × (r ≡ c ∷ s) }
+    ensures last { (x v r : List ℕ) → LastBlanks x → Gap v r → Solid r → x ≡ v ++ r → (v ≡ x) × (r ≡ []) }
+{}
+
+/// Each text begins with blanks up to such a rest, or has a faulty comment, of one code and place.
+pub fn blanks()
+    ensures judged { (x : List ℕ)
+        → ((w : List ℕ) × (r : List ℕ) × (x ≡ w ++ r) × Gap w r × Solid r)
+        ⊎ ((code : Option ErrorCode) × (place : Option (List ℕ)) × (before : List ℕ) × (part : List ℕ) × (shown : Shown) × BlankFault x code place before part shown) }
+    ensures same { (x b c p q : List ℕ) (e f : Option ErrorCode) (here there : Option (List ℕ)) (h i : Shown)
+        → BlankFault x e here b p h → BlankFault x f there c q i → (e ≡ f) × (here ≡ there) }
+    ensures refused { (w r b p : List ℕ) (e : Option ErrorCode) (place : Option (List ℕ)) (h : Shown) → Gap w r → Solid r → BlankFault (w ++ r) e place b p h → ⊥ }
+{}
+
+/// A text that begins with a word's first letter begins with the word, or has a fault of it, of one code and place.
+pub fn words()
+    ensures judged { (k : ℕ) (ks r : List ℕ) (wrong eof : ErrorCode) → Word (k ∷ ks) wrong eof
+        → ((y : List ℕ) × (k ∷ r ≡ k ∷ ks ++ y))
+        ⊎ ((code : Option ErrorCode) × (place : Option (List ℕ)) × (part : List ℕ) × (shown : Shown) × WordFault (k ∷ r) code place part shown) }
+    ensures same { (x p q : List ℕ) (e f : Option ErrorCode) (here there : Option (List ℕ)) (h i : Shown)
+        → WordFault x e here p h → WordFault x f there q i → (e ≡ f) × (here ≡ there) }
+    ensures refused { (w r p : List ℕ) (wrong eof : ErrorCode) (e : Option ErrorCode) (place : Option (List ℕ)) (h : Shown) → Word w wrong eof → WordFault (w ++ r) e place p h → ⊥ }
+{}
+
+/// What is written for a scalar is its value.
+pub fn written()
+    ensures null { Val null_text null }
+    ensures boolean { (b : Bool) → Val (if b then true_text else false_text) (boolean b) }
+    ensures number { (n : Number) → IsNumber n → Val (number_text n) (number n) }
+    ensures text { (u : List ℕ) → Val (quoted_text u) (text u (not (holds_backslash (quoted_text u)))) }
+{}
+
+/// What is written for a scalar is a document alone, whatever the limit; so is each value that is nested within the limit.
+pub fn written_alone()
+    ensures null { (limit : ℕ) → Doc limit null_text null }
+    ensures boolean { (limit : ℕ) (b : Bool) → Doc limit (if b then true_text else false_text) (boolean b) }
+    ensures number { (limit : ℕ) (n : Number) → IsNumber n → Doc limit (number_text n) (number n) }
+    ensures text { (limit : ℕ) (u : List ℕ) → Doc limit (quoted_text u) (text u (not (holds_backslash (quoted_text u)))) }
+    ensures value { (limit : ℕ) (s : List ℕ) (t : Tree) → Val s t → depth t ≤ limit → Doc limit s t }
+{}

@@ -1,0 +1,102 @@
+-- Where a text is cut, behind ASCII characters that pass a test or before such ones at its end.
+use Rattle.std.proofs.Common.{◌≡◌, ℕ, zero, suc, ◌-◌, ◌<◌, Bool, true, false, List, [], ◌∷◌, ◌++◌, length, take, drop, refl, ap, sym, ◌∙◌, subst, arith}
+use Rattle.std.specs.Prelude.{◌==◌, reverse, slice_index}
+use Rattle.std.specs.List.{take_while}
+use Rattle.std.specs.Str.{IsUtf8, IsAscii, IsCharBoundary}
+use Rattle.std.proofs.Math.Seq.{take-append_seam, drop-append_seam}
+use Rattle.std.proofs.lemmas.List.{append-nil, reverse-append, reverse-reverse, length-append, length-reverse}
+use Rattle.std.proofs.lemmas.Bool.Decides.{nat_tests}
+use Rattle.std.proofs.lemmas.Str.{IsUtf8-drop, IsUtf8-from_ascii, IsCharBoundary-after_ascii, IsCharBoundary-at_seam}
+use Rattle.json5_grammar.specs.Characters.{is_digit, Each, no_char, char}
+use Rattle.json5_grammar.specs.Stops.{in_run}
+use Rattle.json5_grammar.specs.Numbers.{without_front_zeros}
+use Rattle.json5_grammar.specs.ReadNumbers.{front_of, rest_of}
+use Rattle.json5_grammar.proofs.NumberTests.{by_test, front_each, front_rest, rest_each}
+use Rattle.json5_grammar.proofs.NumberStepLaws.{front_is}
+use Rattle.json5_grammar.proofs.DecimalsWritten.{Each-reverse}
+
+-- only ASCII characters pass the test
+abbrev pub PassesAscii : (ℕ → Bool) → Type 0
+PassesAscii p = (c : ℕ) → p c ≡ true → c < 128
+
+pub run_is_ascii : PassesAscii in_run
+run_is_ascii c h = grind (arith, nat_tests)
+
+pub digit_is_ascii : PassesAscii is_digit
+digit_is_ascii c h = grind (arith, nat_tests)
+
+abbrev pub is_zero : ℕ → Bool
+is_zero c = c == 48
+
+pub zero_is_ascii : PassesAscii is_zero
+zero_is_ascii c h = grind (arith, nat_tests)
+
+-- ---- at the front
+
+tail_utf8 : (c : ℕ) (s : List ℕ) → c < 128 → IsUtf8 (c ∷ s) → IsUtf8 s
+tail_utf8 c s h u = IsUtf8-drop (c ∷ s) 1 u (IsCharBoundary-after_ascii (c ∷ s) 0 u (omega arith) h)
+
+pub rest_utf8 : (p : ℕ → Bool) (s : List ℕ) → PassesAscii p → IsUtf8 s → IsUtf8 (rest_of p s)
+unfolding rest_of
+rest_utf8 p [] a u = u
+rest_utf8 p (c ∷ s) a u = by_test (λ z. IsUtf8 z) (p c) (rest_of p s) (c ∷ s) (λ h. rest_utf8 p s a (tail_utf8 c s (a c h) u)) (λ h. u)
+
+front_count : (p : ℕ → Bool) (s : List ℕ) (k : ℕ) → k ≡ length (take_while p s) → k ≡ length (front_of p s)
+front_count p s k e = e ∙ ap length (sym (front_is p s))
+
+pub front_boundary : (p : ℕ → Bool) (s : List ℕ) (k : ℕ) → PassesAscii p → IsUtf8 s → k ≡ length (take_while p s) → IsCharBoundary s k
+front_boundary p s k a u e = subst (λ n. IsCharBoundary s n) (sym (front_count p s k e)) (IsCharBoundary-at_seam s (front_of p s) (rest_of p s) (front_rest p s) (rest_utf8 p s a u))
+
+pub front_cut : (p : ℕ → Bool) (s : List ℕ) (k : ℕ) → k ≡ length (take_while p s) → take k s ≡ front_of p s
+front_cut p s k e = ap (λ n. take n s) (front_count p s k e) ∙ ap (take (length (front_of p s))) (front_rest p s) ∙ take-append_seam (front_of p s) (rest_of p s)
+
+pub rest_cut : (p : ℕ → Bool) (s : List ℕ) (k : ℕ) → k ≡ length (take_while p s) → drop k s ≡ rest_of p s
+rest_cut p s k e = ap (λ n. drop n s) (front_count p s k e) ∙ ap (drop (length (front_of p s))) (front_rest p s) ∙ drop-append_seam (front_of p s) (rest_of p s)
+
+pub zeros_are_rest : (s : List ℕ) → rest_of is_zero s ≡ without_front_zeros s
+unfolding rest_of
+zeros_are_rest [] = refl
+zeros_are_rest (c ∷ s) = by_test (λ z. z ≡ without_front_zeros (c ∷ s)) (c == 48) (rest_of is_zero s) (c ∷ s) (λ h. rw h (zeros_are_rest s)) (λ h. rw h refl)
+
+-- ---- at the end
+
+each_below : {p : ℕ → Bool} {s : List ℕ} → PassesAscii p → Each p s → (i : ℕ) → slice_index s i < 128
+each_below a no_char i = omega arith
+each_below a (char {c = c} h e) zero = a c h
+each_below a (char h e) (suc i) = each_below a e i
+
+pub each_utf8 : {p : ℕ → Bool} {s : List ℕ} → PassesAscii p → Each p s → IsUtf8 s
+each_utf8 {s = s} a e = IsUtf8-from_ascii s (λ i. each_below a e i)
+
+-- what stands before the characters at the end that pass the test, and these
+back : (p : ℕ → Bool) (s : List ℕ) → s ≡ reverse (rest_of p (reverse s)) ++ reverse (front_of p (reverse s))
+back p s = sym (reverse-reverse s) ∙ ap reverse (front_rest p (reverse s)) ∙ reverse-append (front_of p (reverse s)) (rest_of p (reverse s))
+
+back_count : (p : ℕ → Bool) (s : List ℕ) (k : ℕ) → k ≡ length (take_while p (reverse s)) → length s - k ≡ length (reverse (rest_of p (reverse s)))
+back_count p s k e =
+    let a = front_count p (reverse s) k e in
+    omega (arith, ap length (back p s), length-append (reverse (rest_of p (reverse s))) (reverse (front_of p (reverse s))), length-reverse (front_of p (reverse s)))
+
+pub back_boundary : (p : ℕ → Bool) (s : List ℕ) (k : ℕ) → PassesAscii p → k ≡ length (take_while p (reverse s)) → IsCharBoundary s (length s - k)
+back_boundary p s k a e = subst (λ n. IsCharBoundary s n) (sym (back_count p s k e)) (IsCharBoundary-at_seam s (reverse (rest_of p (reverse s))) (reverse (front_of p (reverse s))) (back p s) (each_utf8 a (Each-reverse (front_each p (reverse s)))))
+
+pub back_cut : (s : List ℕ) (k : ℕ) → k ≡ length (take_while is_zero (reverse s)) → take (length s - k) s ≡ reverse (without_front_zeros (reverse s))
+back_cut s k e =
+    ap (λ n. take n s) (back_count is_zero s k e)
+    ∙ ap (take (length (reverse (rest_of is_zero (reverse s))))) (back is_zero s)
+    ∙ take-append_seam (reverse (rest_of is_zero (reverse s))) (reverse (front_of is_zero (reverse s)))
+    ∙ ap reverse (zeros_are_rest (reverse s))
+
+-- ---- whether anything follows
+
+pub something_follows : (p : ℕ → Bool) (s : List ℕ) (b : Bool) → b ≡ (length (rest_of p s) == 0) → b ≡ false → Each p s → ⊥
+something_follows p s b e h k = let r = ap length (rest_each k) in grind (arith, nat_tests)
+
+empty_by_length : (s : List ℕ) → (length s == 0) ≡ true → s ≡ []
+empty_by_length [] h = refl
+empty_by_length (c ∷ s) h = absurd (grind (arith, nat_tests))
+
+pub nothing_follows : (p : ℕ → Bool) (s : List ℕ) (b : Bool) → b ≡ (length (rest_of p s) == 0) → b ≡ true → front_of p s ≡ s
+nothing_follows p s b e h =
+    let r = empty_by_length (rest_of p s) (sym e ∙ h) in
+    sym (front_rest p s ∙ ap (λ z. front_of p s ++ z) r ∙ append-nil (front_of p s))

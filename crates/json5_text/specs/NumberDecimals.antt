@@ -1,0 +1,59 @@
+-- What contracts see of a decimal: its sign, its kind, its digits and its exponent; equality and hashing.
+use Rattle.std.specs.Prelude.{ℕ, Bool, true, false, ◌&&◌, nat_eq, List, [], ◌++◌, ℤ, pos, string_bytes}
+use Rattle.std.specs.Bool.{beq}
+use Rattle.std.specs.Ordering.{int_eq}
+use Rattle.std.specs.Cmp.Lexicographic.{pointwise}
+use Rattle.std.specs.Hash as fed
+use Rattle.json5_grammar.specs.Numbers.{Decimal, infinite, nan, finite}
+use Rattle.json5_text.specs.declared.decimal.Size.{Size}
+use Rattle.json5_text.specs.declared.decimal.Size.TheVariants as size
+
+abbrev pub decimal_of : Bool → Size → Decimal
+decimal_of negative size.Infinite = infinite negative
+decimal_of negative size.NotANumber = nan negative
+decimal_of negative (size.Finite digits exponent) = finite negative (string_bytes digits) exponent
+
+abbrev pub is_minus : Decimal → Bool
+is_minus (infinite m) = m
+is_minus (nan m) = m
+is_minus (finite m ds e) = m
+
+abbrev pub is_infinity : Decimal → Bool
+is_infinity (infinite m) = true
+is_infinity (nan m) = false
+is_infinity (finite m ds e) = false
+
+abbrev pub is_not_a_number : Decimal → Bool
+is_not_a_number (infinite m) = false
+is_not_a_number (nan m) = true
+is_not_a_number (finite m ds e) = false
+
+-- none for infinity and not-a-number
+abbrev pub digits_in : Decimal → List ℕ
+digits_in (infinite m) = []
+digits_in (nan m) = []
+digits_in (finite m ds e) = ds
+
+-- 0 for infinity and not-a-number
+abbrev pub exponent_in : Decimal → ℤ
+exponent_in (infinite m) = pos 0
+exponent_in (nan m) = pos 0
+exponent_in (finite m ds e) = e
+
+-- the same number; not-a-number equals itself, and signs count
+abbrev pub decimal_eq : Decimal → Decimal → Bool
+decimal_eq (infinite m) (infinite n) = beq m n
+decimal_eq (infinite m) (nan n) = false
+decimal_eq (infinite m) (finite n fs g) = false
+decimal_eq (nan m) (infinite n) = false
+decimal_eq (nan m) (nan n) = beq m n
+decimal_eq (nan m) (finite n fs g) = false
+decimal_eq (finite m ds e) (infinite n) = false
+decimal_eq (finite m ds e) (nan n) = false
+decimal_eq (finite m ds e) (finite n fs g) = beq m n && (pointwise nat_eq ds fs && int_eq e g)
+
+-- what a decimal feeds a hasher
+abbrev pub decimal_hashed : Decimal → fed.HashWrites
+decimal_hashed (infinite m) = fed.bool m ++ fed.u8 0
+decimal_hashed (nan m) = fed.bool m ++ fed.u8 1
+decimal_hashed (finite m ds e) = fed.bool m ++ fed.u8 2 ++ fed.str ds ++ fed.i16 e

@@ -1,0 +1,295 @@
+//! Numbers of any count of decimal digits, kept as these digits.
+
+ghost use Rattle.std.specs.Prelude.{◌≡◌, ◌≤◌, ◌^◌, string_bytes, ◌++◌, ◌<◌, ◌↔◌, List, [], pos, neg_ℤ, ◌≤ℤ◌, reverse, length, replicate, IsSome, IfSome, IfOk, IfErr, Some};
+ghost use Rattle.std.specs.Fmt.{WritesOnOk};
+ghost use Rattle.json5_grammar.specs.Characters.{is_digit, Each};
+ghost use Rattle.json5_grammar.specs.Numbers as numbers;
+ghost use Rattle.json5_grammar.specs.NumberText.{zeros, pointed, digits_text, decimal_text, Normal};
+ghost use Rattle.json5_text.specs.Cursor.{IsOutOfMemory};
+ghost use Rattle.json5_text.specs.NumberDecimals.{is_minus, is_infinity, is_not_a_number, digits_in, exponent_in};
+ghost use Rattle.json5_text.specs.NumberSteps.{raised};
+
+use crate::error::{Error, Result};
+use crate::runs;
+use json5_grammar::code::ErrorCode;
+use std::alloc::{AllocError, Global};
+use std::fmt;
+use std::hash::{Hash, Hasher};
+use std::marker::Model;
+
+/// How large a decimal is, whatever its sign.
+#[derive(Debug, Drop)]
+enum Size {
+    Infinite,
+    NotANumber,
+    /// ASCII digits without zeros at either end, and the power of ten that they are multiplied with.
+    Finite(String, i16),
+}
+
+/// Infinity, not-a-number or a finite number, each with a sign.
+///
+/// A finite number is its digits times ten to its exponent. The digits are ASCII, without zeros in front
+/// and at the end; zero has no digits and the exponent 0. Two decimals are equal where sign, digits and
+/// exponent are; not-a-number equals itself, and -0 isn't 0.
+#[derive(Debug, Drop)]
+pub struct Decimal {
+    negative: bool,
+    size: Size,
+}
+
+impl Model for Decimal {
+    ghost use Rattle.json5_grammar.specs.Numbers as numbers;
+    ghost use Rattle.json5_grammar.specs.NumberText.{Normal};
+
+    ghost Value = { numbers.Decimal };
+
+    ghost use Rattle.json5_text.specs.NumberDecimals.{decimal_of};
+
+    ghost view = { λ d. decimal_of d.negative d.size };
+
+    ghost invariant = { λ d. Normal (decimal_of d.negative d.size) };
+}
+
+/// Want of memory, without a place.
+fn out_of_memory() -> Error
+    ensures { IsOutOfMemory result }
+{
+    Error::new(ErrorCode::OutOfMemory)
+}
+
+/// Digits in two parts, without the zeros in front.
+fn without_front_zeros<'a>(before: &'a str, behind: &'a str) -> (&'a str, &'a str)
+    ensures { result.0.now ++ result.1.now ≡ numbers.without_front_zeros (before.now ++ behind.now) }
+{
+    let first = runs::without_front_zeros(before);
+    if first.is_empty() {
+        (first, runs::without_front_zeros(behind))
+    } else {
+        (first, behind)
+    }
+}
+
+/// Digits in two parts, without the zeros at the end.
+fn without_back_zeros<'a>(before: &'a str, behind: &'a str) -> (&'a str, &'a str)
+    ensures { result.0.now ++ result.1.now ≡ reverse (numbers.without_front_zeros (reverse (before.now ++ behind.now))) }
+{
+    let last = runs::without_back_zeros(behind);
+    if last.is_empty() {
+        (runs::without_back_zeros(before), last)
+    } else {
+        (before, last)
+    }
+}
+
+/// The exponent once the zeros at the end are gone, if it is in range: each of them raises it, and zero has 0.
+fn bare_exponent(exponent: i128, count: usize, bare_count: usize) -> Option<i16>
+    requires fewer { bare_count ≤ count }
+    requires low { neg_ℤ (pos (2 ^ 120)) ≤ℤ exponent }
+    requires high { exponent ≤ℤ pos (2 ^ 120) }
+    ensures in_range { IsSome result ↔ numbers.InExponents (raised exponent count bare_count) }
+    ensures value { IfSome result (λ e. e ≡ raised exponent count bare_count) }
+{
+    if bare_count == 0 {
+        return Some(0);
+    }
+    let raised = exponent + (count - bare_count) as i128;
+    i16::try_from(raised).ok()
+}
+
+/// Both texts, one behind the other.
+fn joined(alloc: Global, first: &str, last: &str) -> std::result::Result<String, AllocError>
+    ensures { IfOk result (λ text. string_bytes text ≡ first.now ++ last.now) }
+{
+    let mut text = String::with_capacity(alloc, first.len() + last.len())?;
+    text.push_str(first)?;
+    text.push_str(last)?;
+    Ok(text)
+}
+
+impl Decimal {
+    /// Infinity.
+    pub fn infinity(negative: bool) -> Decimal
+        ensures { result ≡ numbers.infinite negative }
+    {
+        Decimal {
+            negative,
+            size: Size::Infinite,
+        }
+    }
+
+    /// Not-a-number.
+    pub fn nan(negative: bool) -> Decimal
+        ensures { result ≡ numbers.nan negative }
+    {
+        Decimal {
+            negative,
+            size: Size::NotANumber,
+        }
+    }
+
+    /// The finite number with these digits, the first part before the second, times ten to the exponent;
+    /// none where the exponent is out of range once the outer zeros are gone.
+    pub(crate) fn normal(
+        alloc: Global,
+        negative: bool,
+        before: &str,
+        behind: &str,
+        exponent: i128,
+    ) -> std::result::Result<Option<Decimal>, AllocError>
+        requires before_digits { Each is_digit before.now }
+        requires behind_digits { Each is_digit behind.now }
+        requires low { neg_ℤ (pos (2 ^ 120)) ≤ℤ exponent }
+        requires high { exponent ≤ℤ pos (2 ^ 120) }
+        ensures in_range { IfOk result (λ found. IsSome found ↔ numbers.InExponents (numbers.normal_exponent (before.now ++ behind.now) exponent)) }
+        ensures value { IfOk result (λ found. IfSome found (λ d. d ≡ numbers.finite negative (numbers.without_zeros (before.now ++ behind.now)) (numbers.normal_exponent (before.now ++ behind.now) exponent))) }
+    {
+        let (front, back) = without_front_zeros(before, behind);
+        let (first, last) = without_back_zeros(front, back);
+        let count = front.len() + back.len();
+        let Some(exponent) = bare_exponent(exponent, count, first.len() + last.len()) else {
+            return Ok(None);
+        };
+        let digits = joined(alloc, first, last)?;
+        Ok(Some(Decimal {
+            negative,
+            size: Size::Finite(digits, exponent),
+        }))
+    }
+
+    /// The finite number with these digits times ten to the exponent. None where `digits` holds anything but
+    /// ASCII digits, or where the exponent is outside -32768 to 32767 once the outer zeros are gone: each zero
+    /// that goes at the end raises it by one, and zero has the exponent 0. The only error is want of memory.
+    pub fn finite(
+        alloc: Global,
+        negative: bool,
+        digits: &str,
+        exponent: i64,
+    ) -> Result<Option<Decimal>>
+        ensures some { IfOk result (λ found. IsSome found ↔ (Each is_digit digits.now × numbers.InExponents (numbers.normal_exponent digits.now exponent))) }
+        ensures value { IfOk result (λ found. IfSome found (λ d. d ≡ numbers.finite negative (numbers.without_zeros digits.now) (numbers.normal_exponent digits.now exponent))) }
+        ensures err { IfErr result IsOutOfMemory }
+    {
+        let (digits, rest) = runs::split_digits(digits);
+        if !rest.is_empty() {
+            return Ok(None);
+        }
+        match Decimal::normal(alloc, negative, digits, "", i128::from(exponent)) {
+            Ok(found) => Ok(found),
+            Err(_) => Err(out_of_memory()),
+        }
+    }
+
+    /// Whether it has a minus.
+    pub fn is_negative(&self) -> bool
+        ensures value { result ≡ is_minus self.now }
+        ensures normal { Normal self.now }
+    {
+        self.negative
+    }
+
+    /// Whether it is infinity, of either sign.
+    pub fn is_infinite(&self) -> bool
+        ensures { result ≡ is_infinity self.now }
+    {
+        matches!(&self.size, Size::Infinite)
+    }
+
+    /// Whether it is not-a-number, of either sign.
+    pub fn is_nan(&self) -> bool
+        ensures { result ≡ is_not_a_number self.now }
+    {
+        matches!(&self.size, Size::NotANumber)
+    }
+
+    /// The digits, without zeros in front and at the end; none for zero, infinity and not-a-number.
+    pub fn digits(&self) -> &str
+        ensures value { result.now ≡ digits_in self.now }
+        ensures normal { Normal self.now }
+    {
+        match &self.size {
+            Size::Finite(digits, _) => digits.as_str(),
+            Size::Infinite | Size::NotANumber => "",
+        }
+    }
+
+    /// The power of ten that the digits are multiplied with; 0 for zero, infinity and not-a-number.
+    pub fn exponent(&self) -> i16
+        ensures value { result ≡ exponent_in self.now }
+        ensures normal { Normal self.now }
+    {
+        match &self.size {
+            Size::Finite(_, exponent) => *exponent,
+            Size::Infinite | Size::NotANumber => 0,
+        }
+    }
+
+    /// The same number. The only error is want of memory.
+    pub fn clone(&self, alloc: Global) -> Result<Decimal>
+        ensures ok { IfOk result (λ d. d ≡ self.now) }
+        ensures err { IfErr result IsOutOfMemory }
+    {
+        let size = match &self.size {
+            Size::Infinite => Size::Infinite,
+            Size::NotANumber => Size::NotANumber,
+            Size::Finite(digits, exponent) => match String::from_str(alloc, digits.as_str()) {
+                Ok(copy) => Size::Finite(copy, *exponent),
+                Err(_) => return Err(out_of_memory()),
+            },
+        };
+        Ok(Decimal {
+            negative: self.negative,
+            size,
+        })
+    }
+}
+
+impl PartialEq for Decimal {
+    ghost use Rattle.json5_text.specs.NumberDecimals.{decimal_eq};
+    ghost use Rattle.json5_text.specs.NumberEquality.{decimal_partial_equivalence};
+
+    ghost eq = { decimal_eq };
+
+    ghost laws = { decimal_partial_equivalence };
+
+    fn eq(&self, other: &Decimal) -> bool {
+        if self.negative != other.negative {
+            return false;
+        }
+        match (&self.size, &other.size) {
+            (Size::Infinite, Size::Infinite) => true,
+            (Size::NotANumber, Size::NotANumber) => true,
+            (Size::Finite(digits, exponent), Size::Finite(others, power)) => {
+                digits.as_str() == others.as_str() && exponent == power
+            }
+            _ => false,
+        }
+    }
+}
+
+impl Eq for Decimal {
+    ghost use Rattle.json5_text.specs.NumberEquality.{decimal_equivalence};
+
+    ghost laws = { decimal_equivalence };
+}
+
+impl Hash for Decimal {
+    ghost use Rattle.json5_text.specs.NumberDecimals.{decimal_hashed};
+    ghost use Rattle.json5_text.specs.NumberEquality.{decimals_alike};
+
+    ghost hash_input = { decimal_hashed };
+
+    ghost respects_eq = { decimals_alike };
+
+    fn hash<H: Hasher>(&self, state: &mut H) {
+        self.negative.hash(state);
+        match &self.size {
+            Size::Infinite => 0u8.hash(state),
+            Size::NotANumber => 1u8.hash(state),
+            Size::Finite(digits, exponent) => {
+                2u8.hash(state);
+                digits.as_str().hash(state);
+                exponent.hash(state);
+            }
+        }
+    }
+}

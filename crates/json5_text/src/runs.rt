@@ -1,0 +1,76 @@
+//! Cutting a text behind the ASCII characters in front that pass a test, and before those at its end.
+
+ghost use Rattle.std.specs.Prelude.{◌≡◌, ◌==◌, length, reverse};
+ghost use Rattle.std.specs.List.{take_while};
+ghost use Rattle.json5_grammar.specs.Characters as characters;
+ghost use Rattle.json5_grammar.specs.Stops as stops;
+ghost use Rattle.json5_grammar.specs.Numbers as numbers;
+ghost use Rattle.json5_grammar.specs.ReadNumbers.{front_of, rest_of};
+
+/// A character of a decimal run.
+fn is_in_run(byte: u8) -> bool
+    ensures { result ≡ stops.in_run byte }
+{
+    matches!(byte, b'0'..=b'9' | b'+' | b'-' | b'.' | b'e' | b'E')
+}
+
+fn is_digit(byte: u8) -> bool
+    ensures { result ≡ characters.is_digit byte }
+{
+    matches!(byte, b'0'..=b'9')
+}
+
+fn run_len(bytes: &[u8]) -> usize
+    ensures { result ≡ length (take_while stops.in_run bytes.now) }
+{
+    bytes.iter().take_while(|byte| is_in_run(**byte)).count()
+}
+
+fn digits_len(bytes: &[u8]) -> usize
+    ensures { result ≡ length (take_while characters.is_digit bytes.now) }
+{
+    bytes.iter().take_while(|byte| is_digit(**byte)).count()
+}
+
+fn front_zeros_len(bytes: &[u8]) -> usize
+    ensures { result ≡ length (take_while (λ byte. byte == 48) bytes.now) }
+{
+    bytes.iter().take_while(|byte| **byte == b'0').count()
+}
+
+fn back_zeros_len(bytes: &[u8]) -> usize
+    ensures { result ≡ length (take_while (λ byte. byte == 48) (reverse bytes.now)) }
+{
+    bytes.iter().rev().take_while(|byte| **byte == b'0').count()
+}
+
+/// The decimal run in front, and what follows it.
+pub(crate) fn split_run(text: &str) -> (&str, &str)
+    ensures front { result.0.now ≡ front_of stops.in_run text.now }
+    ensures rest { result.1.now ≡ rest_of stops.in_run text.now }
+{
+    text.split_at(run_len(text.as_bytes()))
+}
+
+/// The digits in front, and what follows them.
+pub(crate) fn split_digits(text: &str) -> (&str, &str)
+    ensures front { result.0.now ≡ front_of characters.is_digit text.now }
+    ensures rest { result.1.now ≡ rest_of characters.is_digit text.now }
+{
+    text.split_at(digits_len(text.as_bytes()))
+}
+
+/// The text without the zeros in front.
+pub(crate) fn without_front_zeros(text: &str) -> &str
+    ensures { result.now ≡ numbers.without_front_zeros text.now }
+{
+    text.split_at(front_zeros_len(text.as_bytes())).1
+}
+
+/// The text without the zeros at its end.
+pub(crate) fn without_back_zeros(text: &str) -> &str
+    ensures { result.now ≡ reverse (numbers.without_front_zeros (reverse text.now)) }
+{
+    let count = back_zeros_len(text.as_bytes());
+    text.split_at(text.len() - count).0
+}

@@ -1,0 +1,109 @@
+//! Whole numbers of 128 bits, signed or not.
+
+ghost use Rattle.std.specs.Prelude.{◌≡◌, ◌^◌, ◌≤◌, ◌↔◌, Bool, true, ℤ, pos, neg_ℤ, ◌≤ℤ◌, ◌<ℤ◌, IsTrue, IsSome, IfSome, Some};
+ghost use Rattle.std.specs.Fmt.{signed_decimal};
+ghost use Rattle.json5_grammar.specs.Numbers.{signed, InWhole};
+
+use std::fmt;
+use std::marker::Model;
+
+/// A whole number from `i128::MIN` to `u128::MAX`. There is one value for each of them.
+#[derive(Clone, Copy, Debug, PartialEq, Eq, Hash)]
+pub struct Whole {
+    negative: bool,
+    magnitude: u128,
+}
+
+impl Model for Whole {
+    ghost use Rattle.std.specs.Prelude.{ℤ};
+    ghost use Rattle.json5_grammar.specs.Numbers.{signed};
+    ghost use Rattle.json5_text.specs.NumberViews.{is_below_zero, distance, IsSignedWhole};
+
+    ghost Value = { ℤ };
+
+    ghost view = { λ w. signed w.negative w.magnitude };
+
+    ghost invariant = { λ w. IsSignedWhole w.negative w.magnitude };
+
+    ghost inverse = { λ z. record { negative = is_below_zero z; magnitude = distance z } };
+}
+
+impl Whole {
+    /// The number itself.
+    pub fn from_u128(number: u128) -> Whole
+        ensures { result ≡ pos number }
+    {
+        Whole {
+            negative: false,
+            magnitude: number,
+        }
+    }
+
+    /// The number itself.
+    pub fn from_i128(number: i128) -> Whole
+        ensures { result ≡ number }
+    {
+        Whole {
+            negative: number < 0,
+            magnitude: number.unsigned_abs(),
+        }
+    }
+
+    /// The number with this distance from zero, behind a minus or not; none where it is below `i128::MIN`.
+    pub(crate) fn from_parts(negative: bool, magnitude: u128) -> Option<Whole>
+        ensures in_range { IsSome result ↔ InWhole (signed negative magnitude) }
+        ensures value { IfSome result (λ w. w ≡ signed negative magnitude) }
+    {
+        if !negative || magnitude == 0 {
+            Some(Whole::from_u128(magnitude))
+        } else if magnitude <= 1 << 127 {
+            Some(Whole {
+                negative,
+                magnitude,
+            })
+        } else {
+            None
+        }
+    }
+
+    /// The number, where it isn't below zero.
+    pub fn as_u128(self) -> Option<u128>
+        ensures in_range { IsSome result ↔ (pos 0 ≤ℤ self) }
+        ensures value { IfSome result (λ number. pos number ≡ self) }
+        ensures whole { InWhole self }
+    {
+        if self.negative {
+            None
+        } else {
+            Some(self.magnitude)
+        }
+    }
+
+    /// The number, where it isn't above `i128::MAX`.
+    pub fn as_i128(self) -> Option<i128>
+        ensures in_range { IsSome result ↔ (self <ℤ pos (2 ^ 127)) }
+        ensures value { IfSome result (λ number. number ≡ self) }
+        ensures whole { InWhole self }
+    {
+        if self.negative {
+            let above = (self.magnitude - 1) as i128;
+            Some(-1 - above)
+        } else if self.magnitude < 1 << 127 {
+            Some(self.magnitude as i128)
+        } else {
+            None
+        }
+    }
+}
+
+impl fmt::Display for Whole {
+    ghost output = { λ z. Some (signed_decimal z) };
+
+    /// The number's decimal digits, behind a minus where it is below zero.
+    fn fmt<W: fmt::Write>(&self, f: &mut fmt::Formatter<W>) -> fmt::Result {
+        match self.as_i128() {
+            Some(number) => number.fmt(f),
+            None => self.magnitude.fmt(f),
+        }
+    }
+}
