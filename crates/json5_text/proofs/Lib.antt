@@ -7,3 +7,5 @@ pub mod FaultsCompared
 pub mod TextsCompared
 pub mod NumberRuns
 pub mod NumberZeros
+pub mod ScanEscapes
+pub mod ScanStrings

@@ -39,13 +39,13 @@ no_place x None inner e f = refl
 leaves : (s : Cursor) (place : Option (List ℕ)) (p : Place) (left : ℕ) → IsAt s.unread place p → left_at p ≡ Some left → Leaves s left
 leaves s place p left e f = let k = split_at s.unread place p left e f in record { passed = k.0; rest = k.1; split = k.2; counted = k.3 }
 
-abbrev Same : (A : Type 0) → Outcome A → Outcome A → Type 0
+abbrev pub Same : (A : Type 0) → Outcome A → Outcome A → Type 0
 Same A x y = x ≡ y
 
-same_failed : (A : Type 0) (e f : Option ErrorCode) (a b : Option ℕ) → Same A (failed e a) (failed f b) → (e ≡ f) × (a ≡ b)
+pub same_failed : (A : Type 0) (e f : Option ErrorCode) (a b : Option ℕ) → Same A (failed e a) (failed f b) → (e ≡ f) × (a ≡ b)
 same_failed A e f a b h = (cc, cc)
 
-gave_failed : (A : Type 0) (a : A) (r : List ℕ) (f : Option ErrorCode) (b : Option ℕ) → Same A (gave a r) (failed f b) → ⊥
+pub gave_failed : (A : Type 0) (a : A) (r : List ℕ) (f : Option ErrorCode) (b : Option ℕ) → Same A (gave a r) (failed f b) → ⊥
 gave_failed A a r f b h = cc
 
 -- the place of a refusal is within what is unread

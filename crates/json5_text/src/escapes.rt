@@ -10,11 +10,10 @@ ghost use Rattle.json5_text.specs.Outcome.{outcome};
 ghost use Rattle.json5_text.specs.Refused.{Refuses};
 ghost use Rattle.json5_text.specs.Scan.{in_list};
 
-use json5_grammar::code::ErrorCode;
-
 use crate::front::front;
 use crate::refusal::Refusal;
 use crate::words::skip_word;
+use json5_grammar::code::ErrorCode;
 
 /// The fault that stands at an escape's backslash, with which `escape` begins.
 fn invalid(escape: &str) -> Refusal
@@ -25,7 +24,10 @@ fn invalid(escape: &str) -> Refusal
 
 /// The character that a string's escape spells, None where it spells none, and what follows it: `escape` begins with the
 /// backslash, and `text` stands behind it.
-pub(crate) fn read_escape<'t>(escape: &str, text: &'t str) -> Result<(Option<char>, &'t str), Refusal>
+pub(crate) fn read_escape<'t>(
+    escape: &str,
+    text: &'t str,
+) -> Result<(Option<char>, &'t str), Refusal>
     ensures read { MatchResult result (λ p. escape_at (chars escape.now) (chars text.now) ≡ got (in_list p.0) (chars p.1.now))
         (λ e. Refuses e (outcome (escape_at (chars escape.now) (chars text.now)))) }
     ensures text { IfOk result (λ p. IsUtf8 p.1.now) }
@@ -55,11 +57,7 @@ fn short_escape(c: char) -> Option<char>
 }
 
 /// An escape whose character `c` behind the backslash is no short one.
-fn long_escape<'t>(
-    escape: &str,
-    c: char,
-    text: &'t str,
-) -> Result<(Option<char>, &'t str), Refusal>
+fn long_escape<'t>(escape: &str, c: char, text: &'t str) -> Result<(Option<char>, &'t str), Refusal>
     ensures read { MatchResult result (λ p. not_short None (chars escape.now) c (chars text.now) ≡ got (in_list p.0) (chars p.1.now))
         (λ e. Refuses e (outcome (not_short None (chars escape.now) c (chars text.now)))) }
     ensures text { IfOk result (λ p. IsUtf8 p.1.now) }
