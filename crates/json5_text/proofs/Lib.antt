@@ -1,3 +1,6 @@
+pub mod NumberRuns
+pub mod NumberZeros
+pub mod NumberWritten
 pub mod ScanSteps
 pub mod ScanBytes
 pub mod ScanFaults
@@ -5,7 +8,6 @@ pub mod ScanTokens
 pub mod EscapesSpelled
 pub mod FaultsCompared
 pub mod TextsCompared
-pub mod NumberRuns
-pub mod NumberZeros
 pub mod ScanEscapes
 pub mod ScanStrings
+pub mod ValuesCompared

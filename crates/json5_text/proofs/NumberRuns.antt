@@ -60,7 +60,7 @@ zeros_are_rest (c ∷ s) = by_test (λ z. z ≡ without_front_zeros (c ∷ s)) (
 
 -- ---- at the end
 
-each_below : {p : ℕ → Bool} {s : List ℕ} → PassesAscii p → Each p s → (i : ℕ) → slice_index s i < 128
+pub each_below : {p : ℕ → Bool} {s : List ℕ} → PassesAscii p → Each p s → (i : ℕ) → slice_index s i < 128
 each_below a no_char i = omega arith
 each_below a (char {c = c} h e) zero = a c h
 each_below a (char h e) (suc i) = each_below a e i

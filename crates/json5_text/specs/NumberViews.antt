@@ -1,17 +1,8 @@
--- What contracts see of numbers.
-use Rattle.std.specs.Prelude.{◌≡◌, ℕ, suc, ◌^◌, ◌<◌, ◌≤◌, Bool, true, false, ℤ, pos, negsuc}
+-- A number as the grammar has it.
+use Rattle.json5_grammar.specs.Numbers as numbers
+use Rattle.json5_text.specs.declared.number.Number.{Number}
+use Rattle.json5_text.specs.declared.number.Number.TheVariants.{Whole, Decimal}
 
--- ---- whole numbers, by their sign and their distance from zero
-
-abbrev pub is_below_zero : ℤ → Bool
-is_below_zero (pos n) = false
-is_below_zero (negsuc n) = true
-
-abbrev pub distance : ℤ → ℕ
-distance (pos n) = n
-distance (negsuc n) = suc n
-
--- behind a minus at most 2^127 and not 0
-abbrev pub IsSignedWhole : Bool → ℕ → Type 0
-IsSignedWhole false n = n < 2 ^ 128
-IsSignedWhole true n = (0 < n) × (n ≤ 2 ^ 127)
+abbrev pub number_of : Number → numbers.Number
+number_of (Whole z) = numbers.whole z
+number_of (Decimal d) = numbers.decimal d

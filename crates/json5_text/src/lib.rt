@@ -11,12 +11,14 @@ mod escapes;
 mod fault_tests;
 mod front;
 pub mod input;
+pub mod number;
 mod refusal;
 mod runs;
 pub mod scanner;
 mod strings;
 pub mod whole;
 mod words;
+pub mod value;
 
 pub use json5_grammar::code::ErrorCode;
 pub use json5_grammar::position::Position;

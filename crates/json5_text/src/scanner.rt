@@ -4,6 +4,7 @@ ghost use Rattle.std.specs.Prelude.{◌≡◌, ℕ, List, [], ◌∷◌, ◌++�
 ghost use Rattle.std.specs.Str.{chars, encode_utf8_all};
 ghost use Rattle.json5_grammar.specs.Characters.{NotBegun};
 ghost use Rattle.json5_grammar.specs.Blanks.{Gap, Solid};
+ghost use Rattle.json5_grammar.specs.Positions.{position_behind};
 ghost use Rattle.json5_text.specs.Errors.{Kind, code, kind_of, place_of};
 ghost use Rattle.json5_text.specs.Cursor.{Cursor, offset_of, Refused, Took, Behind, Says, IsOutOfMemory};
 ghost use Rattle.json5_text.specs.Tokens.{FaultyBlanks, FaultyWord};
@@ -172,5 +173,16 @@ impl<I: Input> Scanner<I> {
             Ok(error) => error,
             Err(error) => error,
         }
+    }
+}
+
+impl<I: Input> Scanner<I> {
+    /// The position of an offset in bytes, as `offset` gave it here or earlier.
+    pub fn position_of(&self, offset: usize) -> Position
+        requires { (before rest : List ℕ) × (self.now.input ≡ before ++ rest) × (offset ≡ length (encode_utf8_all before)) }
+        ensures { (before rest : List ℕ) → self.now.input ≡ before ++ rest → offset ≡ length (encode_utf8_all before) → result ≡ position_behind before }
+    {
+        let _end = self.end;
+        Position::from_offset(offset, self.input.as_text())
     }
 }

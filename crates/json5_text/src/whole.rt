@@ -17,7 +17,7 @@ pub struct Whole {
 impl Model for Whole {
     ghost use Rattle.std.specs.Prelude.{ℤ};
     ghost use Rattle.json5_grammar.specs.Numbers.{signed};
-    ghost use Rattle.json5_text.specs.NumberViews.{is_below_zero, distance, IsSignedWhole};
+    ghost use Rattle.json5_text.specs.NumberWholes.{is_below_zero, distance, IsSignedWhole};
 
     ghost Value = { ℤ };
 

@@ -1,0 +1,4 @@
+pub mod Awaited
+pub mod Words
+pub mod Awaits
+pub mod Taken

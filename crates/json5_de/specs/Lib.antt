@@ -1,0 +1,5 @@
+pub mod State
+pub mod Law
+pub mod Faults
+pub mod Convert
+pub mod Steps
