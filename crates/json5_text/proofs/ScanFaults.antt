@@ -112,3 +112,11 @@ refused {A = A} IsFault s err (refusal.InvalidNumber left) res k e m = custom_re
 refused {A = A} IsFault s err (refusal.TooLarge left) res k e m = custom_refused A IsFault s err res left k e m
 refused {A = A} IsFault s err (refusal.UnpairedSurrogate u left) res k e m = custom_refused A IsFault s err res left k e m
 refused IsFault s err refusal.OutOfMemory res k e m = inl m
+
+-- a code is no want of memory
+pub no_memory : (r : Refusal) → HasCode r → r ≡ refusal.OutOfMemory → ⊥
+no_memory (refusal.Code c left) h e = cc
+no_memory (refusal.InvalidNumber left) h e = h
+no_memory (refusal.TooLarge left) h e = h
+no_memory (refusal.UnpairedSurrogate u left) h e = h
+no_memory refusal.OutOfMemory h e = h

@@ -19,7 +19,7 @@ use Rattle.json5_text.specs.declared.strings.Stop.{Stop}
 use Rattle.json5_text.specs.declared.strings.Stop.TheVariants as stop
 use Rattle.json5_text.specs.Outcome.{failed, outcome}
 use Rattle.json5_text.specs.Refused.{Refuses}
-use Rattle.json5_text.specs.ScanTexts.{string_at, StopsAt, GoesOn, IsFurther, StopsText}
+use Rattle.json5_text.specs.ScanStrings.{string_at, StopsAt, GoesOn, IsFurther, StopsText}
 use Rattle.json5_text.proofs.ScanEscapes.{refuses_as}
 
 -- ---- characters that stand for themselves
@@ -166,3 +166,28 @@ run_refused q r x raw y e k = refuses_as r (string (q ∷ y)) (string (q ∷ x))
 
 pub both_parts : (r u : List ℕ) → IsUtf8 r → r ++ encode_utf8_all u ≡ encode_utf8_all (chars r ++ u)
 both_parts r u k = ap (λ t. t ++ encode_utf8_all u) (sym (encodes-chars r k)) ∙ sym (encodes-append (chars r) u)
+
+-- ---- a text with an escape isn't plain
+
+abbrev flag : Read (List ℕ × Bool) → Bool
+flag (got a r) = a.1
+flag (bad e p) = false
+
+plain_put : (v u r : List ℕ) (p : Bool) (m : Read (List ℕ × Bool)) → put v p m ≡ got (u, true) r → (p ≡ true) × ((w : List ℕ) × (y : List ℕ) × (m ≡ got (w, true) y))
+plain_put v u r true (got (w, true) y) e = (refl, (w, y, refl))
+plain_put v u r true (got (w, false) y) e = let h : false ≡ true = ap flag e in absurd (cc)
+plain_put v u r false (got a y) e = let h : false ≡ true = ap flag e in absurd (cc)
+plain_put v u r p (bad c z) e = let h : false ≡ true = ap flag e in absurd (cc)
+
+not_after_escape : (q : ℕ) (x y u r : List ℕ) (res : Read (List ℕ)) → is_quote q ≡ true → x ≡ 92 ∷ y → escape_at x y ≡ res → string (q ∷ x) ≡ got (u, true) r → ⊥
+not_after_escape q x y u r (got v z) k e h f =
+    let p = (plain_put v u r false (string (q ∷ z)) (sym (escape_read q x y v z k e h) ∙ f)).0 in
+    absurd (cc)
+not_after_escape q x y u r (bad c z) k e h f =
+    let g : string (q ∷ x) ≡ bad c z = ap (λ t. string (q ∷ t)) e ∙ string_is q (92 ∷ y) ∙ rest_bad q y c z (quote_no_backslash q k) (ap (λ t. escape_at t y) (sym e) ∙ h) in
+    absurd (cc)
+
+pub escape_not_plain : (q : ℕ) (body raw x y u r : List ℕ) → is_quote q ≡ true → body ≡ raw ++ x → Each (is_raw q) raw → x ≡ 92 ∷ y → string (q ∷ body) ≡ got (u, true) r → ⊥
+escape_not_plain q body raw x y u r k e h i f =
+    let p = plain_put raw u r true (string (q ∷ x)) (sym (ap (λ t. string (q ∷ t)) e ∙ run_read q raw x h) ∙ f) in
+    not_after_escape q x y p.1.0 p.1.1 (escape_at x y) k i refl p.1.2

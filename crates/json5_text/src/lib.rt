@@ -16,9 +16,9 @@ mod refusal;
 mod runs;
 pub mod scanner;
 mod strings;
+pub mod value;
 pub mod whole;
 mod words;
-pub mod value;
 
 pub use json5_grammar::code::ErrorCode;
 pub use json5_grammar::position::Position;

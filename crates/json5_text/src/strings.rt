@@ -1,15 +1,16 @@
 //! Strings (JSON5 section 5, ECMAScript 5.1 section 7.8.4).
 
-ghost use Rattle.std.specs.Prelude.{◌≡◌, List, ℕ, Bool, true, false, ◌∷◌, ◌++◌, MatchResult, IfOk, OnOk, length, string_bytes};
+ghost use Rattle.std.specs.Prelude.{◌≡◌, List, ℕ, Bool, true, false, ◌∷◌, ◌++◌, MatchResult, IfOk, IfErr, OnOk, length, string_bytes};
 ghost use Rattle.std.specs.Str.{IsUtf8, chars, encode_utf8_all};
 ghost use Rattle.json5_grammar.specs.Characters.{NotBegun, Each};
 ghost use Rattle.json5_grammar.specs.Reading.{got};
 ghost use Rattle.json5_grammar.specs.Strings.{is_raw, is_quote};
 ghost use Rattle.json5_grammar.specs.ReadTexts.{string};
+ghost use Rattle.json5_text.specs.declared.refusal.Refusal.{Refusal};
 ghost use Rattle.json5_text.specs.Outcome.{outcome};
 ghost use Rattle.json5_text.specs.Refused.{Refuses};
-ghost use Rattle.json5_text.specs.Scan.{in_list};
-ghost use Rattle.json5_text.specs.ScanTexts.{string_at, IsText, StopsAt, GoesOn, IsFurther, StopsText};
+ghost use Rattle.json5_text.specs.Scan.{HasCode, in_list};
+ghost use Rattle.json5_text.specs.ScanStrings.{string_at, IsText, StopsAt, GoesOn, IsFurther, StopsText};
 
 use crate::cow_str::CowStr;
 use crate::escapes::read_escape;
@@ -35,6 +36,7 @@ pub(crate) fn read_string<'t>(
     ensures read { MatchResult result (λ p. (u : List ℕ) × (plain : Bool) × (string_at (chars text.now) ≡ got (u, plain) (chars p.1.now)) × IsText p.0 u plain)
         (λ e. Refuses e (outcome (string_at (chars text.now)))) }
     ensures text { IfOk result (λ p. IsUtf8 p.1.now) }
+    ensures memory { IfErr result (λ e. e ≡ Refusal.OutOfMemory → (u r : List ℕ) → string_at (chars text.now) ≡ got (u, true) r → ⊥) }
 {
     let Some((quote, body)) = front(text) else {
         return Err(Refusal::Code(ErrorCode::EofParsingString, None));
@@ -49,6 +51,19 @@ pub(crate) fn read_string<'t>(
             let (text, rest) = read_escaped(alloc, quote, raw, escape, behind)?;
             Ok((CowStr::Owned(text), rest))
         }
+    }
+}
+
+/// The text of the string in front in a `String` of its own, and what follows the string.
+pub(crate) fn read_owned(alloc: Global, text: &str) -> Result<(String, &str), Refusal>
+    ensures read { MatchResult result (λ p. (u : List ℕ) × (plain : Bool) × (string_at (chars text.now) ≡ got (u, plain) (chars p.1.now)) × (string_bytes p.0 ≡ encode_utf8_all u))
+        (λ e. Refuses e (outcome (string_at (chars text.now)))) }
+    ensures text { IfOk result (λ p. IsUtf8 p.1.now) }
+{
+    let (text, rest) = read_string(alloc, text)?;
+    match text {
+        CowStr::Borrowed(text) => Ok((String::from_str(alloc, text)?, rest)),
+        CowStr::Owned(text) => Ok((text, rest)),
     }
 }
 
@@ -120,6 +135,7 @@ fn read_run(quote: char, text: &str) -> Result<(&str, Stop<'_>), Refusal>
     ensures read { MatchResult result (λ p. (rest : List ℕ) × (chars text.now ≡ chars p.0.now ++ rest) × Each (is_raw quote) (chars p.0.now) × StopsAt quote rest p.1)
         (λ e. Refuses e (outcome (string (quote ∷ chars text.now)))) }
     ensures text { IfOk result (λ p. IsUtf8 p.0.now × StopsText p.1) }
+    ensures known { IfErr result HasCode }
 {
     let rest = skip_raw(quote, text);
     let Some((c, next)) = front(rest) else {

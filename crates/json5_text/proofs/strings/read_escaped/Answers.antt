@@ -1,6 +1,6 @@
 use Rattle.std.proofs.Common.{◌≡◌, ap, sym, ◌∙◌, subst}
 use Rattle.std.specs.Str.{chars}
-use Rattle.json5_text.specs.ScanTexts.{GoesOn, IsFurther}
+use Rattle.json5_text.specs.ScanStrings.{GoesOn, IsFurther}
 use Rattle.json5_text.proofs.ScanStrings.{Reached, reached_start, reached_more, reached_end}
 use Rattle.json5_text.proofs.strings.read_escaped.Goals as goal
 

@@ -4,9 +4,10 @@ use Rattle.std.proofs.lemmas.Result.{err_from_is_err_and}
 use Rattle.std.proofs.lemmas.Str.{encodes-chars}
 use Rattle.json5_grammar.specs.declared.code.ErrorCode.TheVariants.{ExpectedString}
 use Rattle.json5_text.specs.Outcome.{outcome}
-use Rattle.json5_text.specs.ScanTexts.{StopsAt}
+use Rattle.json5_text.specs.ScanStrings.{StopsAt}
 use Rattle.json5_text.proofs.ScanEscapes.{refused_here}
-use Rattle.json5_text.proofs.ScanStrings.{at_none, at_other, at_quote, plain_read, escaped_read, run_refused, both_parts}
+use Rattle.json5_text.proofs.ScanFaults.{no_memory}
+use Rattle.json5_text.proofs.ScanStrings.{at_none, at_other, at_quote, plain_read, escaped_read, run_refused, both_parts, escape_not_plain}
 use Rattle.json5_text.proofs.strings.read_string.Goals as goal
 
 pub returns-in_default-clause-read : goal.returns-in_default-clause-read
@@ -51,3 +52,17 @@ returns-in_ok-text-in-Escape-clause-read c =
           ∙ escaped_read c.in-Some.quote _ (chars c.in_ok-raw.raw.now) _ read.0 (chars c.in_ok-text-in-Escape.rest.now) (k.1 ∙ ap (λ z. chars c.in_ok-raw.raw.now ++ z) stops.0) k.2 read.1,
       (refl, read.2 ∙ both_parts c.in_ok-raw.raw.now read.0 c.in_ok-raw.ensures.text.0),
     )
+
+pub returns-in_err-raw-clause-memory : goal.returns-in_err-raw-clause-memory
+returns-in_err-raw-clause-memory c =
+    let p = err_from_is_err_and c.from_residual.result c.from_residual.ensures.1 in
+    rw (p.1, p.2) (λ e u r read. no_memory c.in_err-raw.field-0.0 c.in_err-raw.ensures.known e)
+
+pub returns-in_err-text-in-Escape-clause-memory : goal.returns-in_err-text-in-Escape-clause-memory
+returns-in_err-text-in-Escape-clause-memory c =
+    let p = err_from_is_err_and c.from_residual-in_err-text-in-Escape.result c.from_residual-in_err-text-in-Escape.ensures.1 in
+    let k = c.in_ok-raw.ensures.read in
+    let stops = subst (StopsAt c.in-Some.quote k.0) c.in-Escape.is k.3 in
+    rw (p.1, p.2)
+    (λ e u r read. escape_not_plain c.in-Some.quote (chars c.in-Some.body.now) (chars c.in_ok-raw.raw.now) k.0 (chars c.in-Escape.behind.now) u r (sym c.if-not-is_quote.ensures) k.1 k.2 (stops.0 ∙ stops.1)
+    (sym (at_quote c.in-Some.quote (chars c.args.text.now) (chars c.in-Some.body.now) c.in-Some.ensures.chars (sym c.if-not-is_quote.ensures)) ∙ read))

@@ -1,12 +1,12 @@
 -- What private clauses say of strings.
-use Rattle.std.specs.Prelude.{◌≡◌, ℕ, Bool, true, false, cond, ◌<◌, List, [], ◌∷◌, length, Some, string_bytes}
+use Rattle.std.specs.Prelude.{◌≡◌, ℕ, Bool, true, false, cond, ◌<◌, List, [], ◌∷◌, length, Some}
 use Rattle.std.specs.Str.{IsUtf8, chars, encode_utf8_all}
 use Rattle.json5_grammar.specs.declared.code.ErrorCode.TheVariants.{EofParsingString, ExpectedString}
 use Rattle.json5_grammar.specs.Strings.{is_quote}
 use Rattle.json5_grammar.specs.Reading.{Read, here, inner, got, bad}
 use Rattle.json5_grammar.specs.ReadTexts.{put, string}
 use Rattle.json5_text.specs.declared.cow_str.CowStr.{CowStr}
-use Rattle.json5_text.specs.declared.cow_str.CowStr.TheVariants as cow
+use Rattle.json5_text.specs.Cows.{cow_bytes, is_borrowed}
 use Rattle.json5_text.specs.declared.strings.Stop.{Stop}
 use Rattle.json5_text.specs.declared.strings.Stop.TheVariants as stop
 
@@ -17,8 +17,7 @@ string_at (c ∷ r) = cond (is_quote c) (string (c ∷ r)) (bad (Some ExpectedSt
 
 -- the text, borrowed where it is plain
 abbrev pub IsText : CowStr → List ℕ → Bool → Type 0
-IsText (cow.Borrowed text) u plain = (plain ≡ true) × (text.now ≡ encode_utf8_all u)
-IsText (cow.Owned text) u plain = (plain ≡ false) × (string_bytes text ≡ encode_utf8_all u)
+IsText t u plain = (is_borrowed t ≡ plain) × (cow_bytes t ≡ encode_utf8_all u)
 
 -- a run of a string in the quotes q ends before x
 abbrev pub StopsAt : ℕ → List ℕ → Stop → Type 0
