@@ -15,6 +15,8 @@ pub mod number;
 mod refusal;
 mod runs;
 pub mod scanner;
+#[cfg(test)]
+mod scanner_tests;
 mod strings;
 pub mod value;
 pub mod whole;
