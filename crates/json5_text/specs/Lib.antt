@@ -7,6 +7,7 @@ pub mod NumberViews
 pub mod NumberDecimals
 pub mod NumberSteps
 pub mod NumberEquality
+pub mod ScanStrings
 pub mod NumberWholes
 pub mod Scan
 pub mod Escapes
