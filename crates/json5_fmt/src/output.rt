@@ -1,8 +1,6 @@
 //! Writing whole pieces.
 
-ghost use Rattle.std.specs.Prelude.{◌++◌, [], ◌∷◌};
-ghost use Rattle.json5_grammar.specs.Characters.{line_feed};
-ghost use Rattle.json5_fmt.specs.Pieces.{Pushes};
+ghost use Rattle.json5_fmt.specs.Pieces.{Pushes, joined};
 
 use std::io::{self, ErrorKind, Write};
 
@@ -21,10 +19,15 @@ pub fn write_whole<W: Write>(writer: &mut W, bytes: &[u8]) -> io::Result<()>
     Ok(())
 }
 
-/// Writes the text and one LF.
-pub fn write_line<W: Write>(writer: &mut W, text: &str) -> io::Result<()>
-    ensures { Pushes (W.contents writer.old) (W.contents writer.new) (text.now ++ line_feed ∷ []) result }
+/// Writes the texts, one behind the other.
+pub fn write_texts<W: Write>(writer: &mut W, texts: &[&str]) -> io::Result<()>
+    ensures { Pushes (W.contents writer.old) (W.contents writer.new) (joined texts.now) result }
 {
-    write_whole(writer, text.as_bytes())?;
-    write_whole(writer, b"\n")
+    for text in texts {
+        let written = write_whole(writer, text.as_bytes());
+        if written.is_err() {
+            return written;
+        }
+    }
+    Ok(())
 }

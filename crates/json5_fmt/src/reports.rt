@@ -1,15 +1,12 @@
 //! The lines on standard error.
 
-ghost use Rattle.std.specs.Prelude.{◌≡◌, ◌++◌, [], ◌∷◌};
-ghost use lib.Chars.{codes};
-ghost use Rattle.json5_text.specs.Errors.{error_text, position_text};
+ghost use Rattle.std.specs.Prelude.{◌≡◌};
 ghost use Rattle.json5_fmt.specs.Pieces.{AppendsFront, Pushes};
-ghost use Rattle.json5_fmt.specs.Reports.{cause_text, report_line, status_of, usage_line};
+ghost use Rattle.json5_fmt.specs.Reports.{fault_line, report_line, status_of, usage_line};
 
-use crate::output::{write_line, write_whole};
+use crate::output::write_texts;
 use crate::stop::Stop;
 use itoa::Buffer;
-use json5_grammar::position::Position;
 use json5_text::error::Error;
 use std::io::{self, Write};
 
@@ -31,53 +28,33 @@ pub fn usage<E: Write>(e: &mut E) -> u8
     ensures status { result ≡ 2 }
     ensures line { AppendsFront (E.contents e.old) (E.contents e.new) usage_line }
 {
-    let _ = write_line(e, "usage: json5_fmt [check FILE... or print FILE...]");
+    let _ = write_texts(e, &["usage: json5_fmt [check FILE... or print FILE...]\n"]);
     2
 }
 
 fn write_report<E: Write>(name: &str, stop: &Stop, e: &mut E) -> io::Result<()>
     ensures { Pushes (E.contents e.old) (E.contents e.new) (report_line name.now stop.now) result }
 {
-    if let Stop::Write = stop {
-        return write_line(e, "output: cannot be written");
-    }
-    write_whole(e, name.as_bytes())?;
-    write_whole(e, b": ")?;
-    write_cause(stop, e)?;
-    write_whole(e, b"\n")
-}
-
-/// Writes what stands behind the name.
-fn write_cause<E: Write>(stop: &Stop, e: &mut E) -> io::Result<()>
-    ensures { Pushes (E.contents e.old) (E.contents e.new) (cause_text stop.now) result }
-{
     match stop {
-        Stop::NotUtf8 => write_whole(e, b"not UTF-8"),
-        Stop::Text(error) => write_error(error, e),
-        Stop::NoMemory => write_whole(e, b"out of memory"),
-        Stop::Read => write_whole(e, b"cannot be read"),
-        Stop::Write => write_whole(e, b"cannot be written"),
+        Stop::NotUtf8 => write_texts(e, &[name, ": not UTF-8\n"]),
+        Stop::Text(error) => write_fault(name, error, e),
+        Stop::NoMemory => write_texts(e, &[name, ": out of memory\n"]),
+        Stop::Read => write_texts(e, &[name, ": cannot be read\n"]),
+        Stop::Write => write_texts(e, &["output: cannot be written\n"]),
     }
 }
 
 /// Writes what the error prints, without memory.
-fn write_error<E: Write>(error: &Error, e: &mut E) -> io::Result<()>
-    ensures { Pushes (E.contents e.old) (E.contents e.new) (error_text error.now) result }
+fn write_fault<E: Write>(name: &str, error: &Error, e: &mut E) -> io::Result<()>
+    ensures { Pushes (E.contents e.old) (E.contents e.new) (fault_line name.now error.now) result }
 {
-    write_whole(e, error.message().as_bytes())?;
-    match error.position() {
-        Some(position) => write_position(position, e),
-        None => Ok(()),
-    }
-}
-
-/// Writes ` at ` and the position.
-fn write_position<E: Write>(position: Position, e: &mut E) -> io::Result<()>
-    ensures { Pushes (E.contents e.old) (E.contents e.new) (codes " at " ++ position_text position) result }
-{
-    let mut number = Buffer::new();
-    write_whole(e, b" at line ")?;
-    write_whole(e, number.format(position.line as u128 + 1).as_bytes())?;
-    write_whole(e, b" column ")?;
-    write_whole(e, number.format(position.column as u128 + 1).as_bytes())
+    let message = error.message();
+    let Some(position) = error.position() else {
+        return write_texts(e, &[name, ": ", message, "\n"]);
+    };
+    let mut line = Buffer::new();
+    let mut column = Buffer::new();
+    let line = line.format(position.line as u128 + 1);
+    let column = column.format(position.column as u128 + 1);
+    write_texts(e, &[name, ": ", message, " at line ", line, " column ", column, "\n"])
 }

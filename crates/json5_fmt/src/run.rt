@@ -1,11 +1,10 @@
 //! From a reader to a writer.
 
-ghost use Rattle.std.specs.Prelude.{◌≡◌, IfOk, IfErr, IfSome, OnOk, OnErr, string_bytes};
-ghost use Rattle.std.specs.Str.{IsUtf8};
+ghost use Rattle.std.specs.Prelude.{◌≡◌, IfOk, IfErr, IfSome, OnOk, string_bytes};
 ghost use Rattle.json5_fmt.specs.Runs.{ReadStop, RunStop, WritesFormatted};
 ghost use Rattle.json5_fmt.specs.Formats.{Formats, Refuses};
 
-use crate::output::write_line;
+use crate::output::write_texts;
 use crate::stop::Stop;
 use json5_text::error::Result as TextResult;
 use std::alloc::Global;
@@ -32,7 +31,7 @@ pub fn run<R: Read, W: Write>(alloc: Global, r: &mut R, w: &mut W) -> Result<(),
         Ok(output) => output,
         Err(e) => return Err(Stop::at(e)),
     };
-    match write_line(w, output.as_str()) {
+    match write_texts(w, &[output.as_str(), "\n"]) {
         Ok(()) => Ok(()),
         Err(_) => Err(Stop::Write),
     }
@@ -40,8 +39,7 @@ pub fn run<R: Read, W: Write>(alloc: Global, r: &mut R, w: &mut W) -> Result<(),
 
 /// All that is left of the reader, as text.
 fn read_text<R: Read>(alloc: Global, r: &mut R) -> Result<String, Stop>
-    ensures text { IfOk result (λ text. IfSome (R.remaining r.old) (λ bytes. string_bytes text ≡ bytes)) }
-    ensures utf8 { IfOk result (λ text. IsUtf8 (string_bytes text)) }
+    ensures read { IfOk result (λ text. IfSome (R.remaining r.old) (λ bytes. string_bytes text ≡ bytes)) }
     ensures stopped { IfErr result (ReadStop (R.remaining r.old)) }
 {
     let mut bytes = Vec::new(alloc);
