@@ -1,1 +1,2 @@
 pub mod PiecesJoined
+pub mod LinesJoined

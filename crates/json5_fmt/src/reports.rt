@@ -56,5 +56,17 @@ fn write_fault<E: Write>(name: &str, error: &Error, e: &mut E) -> io::Result<()>
     let mut column = Buffer::new();
     let line = line.format(position.line as u128 + 1);
     let column = column.format(position.column as u128 + 1);
-    write_texts(e, &[name, ": ", message, " at line ", line, " column ", column, "\n"])
+    write_texts(
+        e,
+        &[
+            name,
+            ": ",
+            message,
+            " at line ",
+            line,
+            " column ",
+            column,
+            "\n",
+        ],
+    )
 }
