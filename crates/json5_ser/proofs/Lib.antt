@@ -3,3 +3,5 @@ pub mod PiecesWritten
 pub mod TextsWhole
 pub mod QuotesFound
 pub mod EscapesSplit
+pub mod AsciiPieces
+pub mod DecimalPieces

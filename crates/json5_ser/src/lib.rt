@@ -1,6 +1,7 @@
 //! Typed writing of JSON5.
 #![tactic(auto)]
 
+mod decimals;
 mod impls;
 mod quoting;
 mod serialize;
