@@ -7,3 +7,4 @@ pub mod FaultsCompared
 pub mod TextsCompared
 pub mod NumberRuns
 pub mod NumberZeros
+pub mod ValuesCompared

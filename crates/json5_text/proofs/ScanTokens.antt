@@ -1,5 +1,5 @@
 -- What is read below the scanner, in the words of its contracts.
-use Rattle.std.proofs.Common.{◌≡◌, ℕ, List, [], ◌∷◌, ◌++◌, length, refl, ap, sym, ◌∙◌, ◌⊎◌, inl, inr, subst, Option, Some, None}
+use Rattle.std.proofs.Common.{◌≡◌, ℕ, List, ◌∷◌, ◌++◌, length, refl, ap, sym, ◌∙◌, inl, inr, subst, Some, None}
 use Rattle.std.specs.Str.{IsUtf8, chars}
 use Rattle.std.proofs.lemmas.Str.{encodes-chars}
 use Rattle.json5_grammar.specs.declared.code.ErrorCode.{ErrorCode}
@@ -10,7 +10,7 @@ use Rattle.json5_grammar.specs.ReadValues.{word_at}
 use Rattle.json5_grammar.proofs.BlanksSound.{BlanksSound, skip_sound}
 use Rattle.json5_grammar.proofs.WordsRead.{WordIs, word_is}
 use Rattle.json5_text.specs.Outcome.{bytes_in}
-use Rattle.json5_text.specs.Cursor.{Cursor, Took}
+use Rattle.json5_text.specs.Cursor.{Cursor}
 use Rattle.json5_text.specs.Tokens.{FaultyBlanks, FaultyWord, word_differs, word_ends}
 use Rattle.json5_text.specs.Scan.{Leaves}
 use Rattle.json5_text.proofs.ScanFaults.{FaultAt, FaultyIn}

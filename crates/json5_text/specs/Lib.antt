@@ -11,3 +11,4 @@ pub mod NumberViews
 pub mod NumberDecimals
 pub mod NumberSteps
 pub mod NumberEquality
+pub mod ValueViews

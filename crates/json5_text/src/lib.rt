@@ -6,15 +6,16 @@ pub mod char;
 pub mod cow_str;
 pub mod decimal;
 pub mod error;
-mod front;
 #[cfg(test)]
 mod fault_tests;
+mod front;
 pub mod input;
 mod refusal;
-pub mod scanner;
-mod words;
 mod runs;
+pub mod scanner;
+pub mod value;
 pub mod whole;
+mod words;
 
 pub use json5_grammar::code::ErrorCode;
 pub use json5_grammar::position::Position;

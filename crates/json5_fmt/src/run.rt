@@ -1,0 +1,57 @@
+//! From a reader to a writer.
+
+ghost use Rattle.std.specs.Prelude.{◌≡◌, IfOk, IfErr, IfSome, OnOk, OnErr, string_bytes};
+ghost use Rattle.std.specs.Str.{IsUtf8};
+ghost use Rattle.json5_fmt.specs.Runs.{ReadStop, RunStop, WritesFormatted};
+ghost use Rattle.json5_fmt.specs.Formats.{Formats, Refuses};
+
+use crate::output::write_line;
+use crate::stop::Stop;
+use json5_text::error::Result as TextResult;
+use std::alloc::Global;
+use std::io::{ErrorKind, Read, Write};
+
+/// Stands in for the formatter.
+fn format(alloc: Global, text: &str) -> TextResult<String>
+    ensures formatted { IfOk result (λ output. Formats text.now (string_bytes output)) }
+    ensures refused { IfErr result (λ e. Refuses text.now e) }
+{
+    Ok(String::from_str(alloc, text)?)
+}
+
+/// Reads all of `r`, and writes the text of its value and one LF to `w`, which isn't flushed.
+///
+/// `NotUtf8` and `Text` say that what was read is no text or no document; then, and at `NoMemory` and `Read`, nothing
+/// was written. At `Write` the writer failed, and a beginning of the output was written.
+pub fn run<R: Read, W: Write>(alloc: Global, r: &mut R, w: &mut W) -> Result<(), Stop>
+    ensures written { OnOk result (IfSome (R.remaining r.old) (WritesFormatted (W.contents w.old) (W.contents w.new))) }
+    ensures stopped { IfErr result (RunStop (R.remaining r.old) (W.contents w.old) (W.contents w.new)) }
+{
+    let text = read_text(alloc, r)?;
+    let output = match format(alloc, text.as_str()) {
+        Ok(output) => output,
+        Err(e) => return Err(Stop::at(e)),
+    };
+    match write_line(w, output.as_str()) {
+        Ok(()) => Ok(()),
+        Err(_) => Err(Stop::Write),
+    }
+}
+
+/// All that is left of the reader, as text.
+fn read_text<R: Read>(alloc: Global, r: &mut R) -> Result<String, Stop>
+    ensures text { IfOk result (λ text. IfSome (R.remaining r.old) (λ bytes. string_bytes text ≡ bytes)) }
+    ensures utf8 { IfOk result (λ text. IsUtf8 (string_bytes text)) }
+    ensures stopped { IfErr result (ReadStop (R.remaining r.old)) }
+{
+    let mut bytes = Vec::new(alloc);
+    match r.read_to_end(&mut bytes) {
+        Ok(_) => {}
+        Err(e) if e.kind() == ErrorKind::OutOfMemory => return Err(Stop::NoMemory),
+        Err(_) => return Err(Stop::Read),
+    }
+    match String::from_utf8(bytes) {
+        Ok(text) => Ok(text),
+        Err(_) => Err(Stop::NotUtf8),
+    }
+}

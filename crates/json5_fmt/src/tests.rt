@@ -1,0 +1,1 @@
+//! Runs over readers and writers that fail.
