@@ -5,3 +5,5 @@ pub mod QuotesFound
 pub mod EscapesSplit
 pub mod AsciiPieces
 pub mod DecimalPieces
+pub mod LoneRead
+pub mod Unmarked

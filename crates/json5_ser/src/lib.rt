@@ -3,10 +3,12 @@
 
 mod decimals;
 mod impls;
+pub mod laws;
 mod quoting;
 mod serialize;
 mod serializer;
 mod texts;
+mod value;
 
 pub use serialize::Serialize;
 pub use serializer::Serializer;
