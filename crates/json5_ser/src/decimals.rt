@@ -10,11 +10,10 @@ ghost use Rattle.json5_ser.specs.Out.{out, piece};
 ghost use Rattle.json5_ser.specs.Writes.{Writes};
 ghost use Rattle.json5_ser.specs.Pieces.{is_ascii_text, IsRun};
 
+use crate::Serializer;
 use json5_text::decimal::Decimal;
 use json5_text::error::Result;
 use std::io::Write;
-
-use crate::Serializer;
 
 const ZEROS: &str = "0000000000000000000000000000000000000000000000000000000000000000";
 

@@ -7,6 +7,8 @@ pub mod laws;
 mod quoting;
 mod serialize;
 mod serializer;
+#[cfg(test)]
+mod tests;
 mod texts;
 mod value;
 

@@ -7,12 +7,11 @@ ghost use Rattle.json5_ser.specs.ValueTrees.{value_tree};
 ghost use Rattle.json5_ser.specs.Out.{out};
 ghost use Rattle.json5_ser.specs.Writes.{Writes};
 
+use crate::{Serialize, Serializer};
 use json5_text::error::Result;
 use json5_text::value::Value;
 use json5_text::whole::Whole;
 use std::io::Write;
-
-use crate::{Serialize, Serializer};
 
 impl Serialize for Value {
     ghost tree = { value_tree };
