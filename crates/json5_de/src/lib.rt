@@ -2,5 +2,7 @@
 #![tactic(auto)]
 
 pub mod de;
+mod integers;
+mod mismatch;
 mod scalars;
 mod types;

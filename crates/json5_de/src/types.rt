@@ -32,3 +32,153 @@ impl<I: Input> Deserialize<I> for bool {
         de.deserialize_bool()
     }
 }
+
+impl<I: Input> Deserialize<I> for u8 {
+    ghost use Rattle.std.specs.Prelude.{ℕ, ◌^◌};
+    ghost use Rattle.json5_de.specs.Convert.{unsigned_below};
+
+    ghost Content = { ℕ };
+
+    ghost content = { λ n. n };
+
+    ghost convert = { unsigned_below (2 ^ 8) };
+
+    fn deserialize(de: &mut Deserializer<I>) -> Result<u8> {
+        de.deserialize_u8()
+    }
+}
+
+impl<I: Input> Deserialize<I> for u16 {
+    ghost use Rattle.std.specs.Prelude.{ℕ, ◌^◌};
+    ghost use Rattle.json5_de.specs.Convert.{unsigned_below};
+
+    ghost Content = { ℕ };
+
+    ghost content = { λ n. n };
+
+    ghost convert = { unsigned_below (2 ^ 16) };
+
+    fn deserialize(de: &mut Deserializer<I>) -> Result<u16> {
+        de.deserialize_u16()
+    }
+}
+
+impl<I: Input> Deserialize<I> for u32 {
+    ghost use Rattle.std.specs.Prelude.{ℕ, ◌^◌};
+    ghost use Rattle.json5_de.specs.Convert.{unsigned_below};
+
+    ghost Content = { ℕ };
+
+    ghost content = { λ n. n };
+
+    ghost convert = { unsigned_below (2 ^ 32) };
+
+    fn deserialize(de: &mut Deserializer<I>) -> Result<u32> {
+        de.deserialize_u32()
+    }
+}
+
+impl<I: Input> Deserialize<I> for u64 {
+    ghost use Rattle.std.specs.Prelude.{ℕ, ◌^◌};
+    ghost use Rattle.json5_de.specs.Convert.{unsigned_below};
+
+    ghost Content = { ℕ };
+
+    ghost content = { λ n. n };
+
+    ghost convert = { unsigned_below (2 ^ 64) };
+
+    fn deserialize(de: &mut Deserializer<I>) -> Result<u64> {
+        de.deserialize_u64()
+    }
+}
+
+impl<I: Input> Deserialize<I> for u128 {
+    ghost use Rattle.std.specs.Prelude.{ℕ, ◌^◌};
+    ghost use Rattle.json5_de.specs.Convert.{unsigned_below};
+
+    ghost Content = { ℕ };
+
+    ghost content = { λ n. n };
+
+    ghost convert = { unsigned_below (2 ^ 128) };
+
+    fn deserialize(de: &mut Deserializer<I>) -> Result<u128> {
+        de.deserialize_u128()
+    }
+}
+
+impl<I: Input> Deserialize<I> for i8 {
+    ghost use Rattle.std.specs.Prelude.{ℤ, ◌^◌};
+    ghost use Rattle.json5_de.specs.Convert.{signed_below};
+
+    ghost Content = { ℤ };
+
+    ghost content = { λ n. n };
+
+    ghost convert = { signed_below (2 ^ 7) };
+
+    fn deserialize(de: &mut Deserializer<I>) -> Result<i8> {
+        de.deserialize_i8()
+    }
+}
+
+impl<I: Input> Deserialize<I> for i16 {
+    ghost use Rattle.std.specs.Prelude.{ℤ, ◌^◌};
+    ghost use Rattle.json5_de.specs.Convert.{signed_below};
+
+    ghost Content = { ℤ };
+
+    ghost content = { λ n. n };
+
+    ghost convert = { signed_below (2 ^ 15) };
+
+    fn deserialize(de: &mut Deserializer<I>) -> Result<i16> {
+        de.deserialize_i16()
+    }
+}
+
+impl<I: Input> Deserialize<I> for i32 {
+    ghost use Rattle.std.specs.Prelude.{ℤ, ◌^◌};
+    ghost use Rattle.json5_de.specs.Convert.{signed_below};
+
+    ghost Content = { ℤ };
+
+    ghost content = { λ n. n };
+
+    ghost convert = { signed_below (2 ^ 31) };
+
+    fn deserialize(de: &mut Deserializer<I>) -> Result<i32> {
+        de.deserialize_i32()
+    }
+}
+
+impl<I: Input> Deserialize<I> for i64 {
+    ghost use Rattle.std.specs.Prelude.{ℤ, ◌^◌};
+    ghost use Rattle.json5_de.specs.Convert.{signed_below};
+
+    ghost Content = { ℤ };
+
+    ghost content = { λ n. n };
+
+    ghost convert = { signed_below (2 ^ 63) };
+
+    fn deserialize(de: &mut Deserializer<I>) -> Result<i64> {
+        de.deserialize_i64()
+    }
+}
+
+impl<I: Input> Deserialize<I> for i128 {
+    ghost use Rattle.std.specs.Prelude.{ℤ, ◌^◌};
+    ghost use Rattle.json5_de.specs.Convert.{signed_below};
+
+    ghost Content = { ℤ };
+
+    ghost content = { λ n. n };
+
+    ghost convert = { signed_below (2 ^ 127) };
+
+    fn deserialize(de: &mut Deserializer<I>) -> Result<i128> {
+        de.deserialize_i128()
+    }
+}
