@@ -3,5 +3,7 @@ pub mod Words
 pub mod Awaits
 pub mod Taken
 pub mod Offsets
-pub mod Numbers
+pub mod AwaitsNumbers
 pub mod Mismatches
+pub mod Ends
+pub mod AwaitsTexts

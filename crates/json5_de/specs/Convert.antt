@@ -1,6 +1,7 @@
 -- What each type takes of a tree: at most one content.
 use Rattle.std.specs.Prelude.{ℕ, Bool, true, false, if◌then◌else◌, nat_lt, List, [], ◌∷◌, ℤ, pos, negsuc, nat_abs, Option, Some, None}
 use Rattle.std.specs.Prelude as numerals
+use Rattle.std.specs.Str.{encode_utf8_all}
 use Rattle.json5_grammar.specs.Numbers.{Number, Decimal, whole, decimal, finite, without_zeros, normal_exponent}
 use Rattle.json5_grammar.specs.Trees.{Tree, null, boolean, number, text, array, object}
 
@@ -61,20 +62,27 @@ abbrev pub as_text : {C : Type 0} → (List ℕ → Bool → Option C) → Tree 
 as_text f (text u plain) = f u plain
 as_text f _ = None
 
-abbrev pub text_of : Tree → Option (List ℕ)
-text_of = as_text (λ u plain. Some u)
+-- a text, by its bytes
+abbrev pub every_text : List ℕ → Bool → Option (List ℕ)
+every_text u plain = Some (encode_utf8_all u)
 
--- a text without a backslash
+abbrev pub text_of : Tree → Option (List ℕ)
+text_of = as_text every_text
+
+-- a text without a backslash, by its bytes
 abbrev pub if_plain : List ℕ → Bool → Option (List ℕ)
-if_plain u true = Some u
+if_plain u true = Some (encode_utf8_all u)
 if_plain u false = None
 
 abbrev pub plain_of : Tree → Option (List ℕ)
 plain_of = as_text if_plain
 
--- a text, and whether it is plain
+-- a text by its bytes, and whether it is plain
+abbrev pub every_cow : List ℕ → Bool → Option (List ℕ × Bool)
+every_cow u plain = Some (encode_utf8_all u, plain)
+
 abbrev pub cow_of : Tree → Option (List ℕ × Bool)
-cow_of = as_text (λ u plain. Some (u, plain))
+cow_of = as_text every_cow
 
 -- a text of one character
 abbrev pub one_character : List ℕ → Bool → Option ℕ

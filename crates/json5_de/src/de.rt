@@ -1,10 +1,10 @@
 //! The reader, and the law of a type that is read.
 
-ghost use Rattle.std.specs.Prelude.{◌≡◌, ◌≤◌, ◌⊎◌, ◌++◌, ℕ, List, [], length, Some, None, IfOk, IfErr, OnOk, OnErr, IsOk, IsErrAnd, true, false, slice_get};
+ghost use Rattle.std.specs.Prelude.{◌≡◌, ◌≤◌, Bool, string_bytes, ◌⊎◌, ◌++◌, ℕ, List, [], length, Some, None, IfOk, IfErr, OnOk, OnErr, IsOk, IsErrAnd, true, false, slice_get};
 ghost use Rattle.std.specs.Str.{chars};
 ghost use Rattle.json5_text.specs.Errors.{Kind, code, kind_of, place_of};
 ghost use Rattle.json5_text.specs.Cursor.{Refused, IsPlaced, IsOutOfMemory};
-ghost use Rattle.json5_text.specs.Tokens.{FaultyBlanks, FaultyWord, FaultyNumber};
+ghost use Rattle.json5_text.specs.Tokens.{FaultyBlanks, FaultyWord, FaultyNumber, FaultyString};
 ghost use Rattle.json5_grammar.specs.Documents.{max_depth};
 ghost use Rattle.json5_grammar.specs.declared.code.ErrorCode.TheVariants as codes;
 ghost use Rattle.json5_de.specs.State.{State, cursor_of, OnlyRead};
@@ -14,13 +14,16 @@ ghost use Rattle.std.specs.Str.{encode_utf8_all};
 ghost use Rattle.json5_grammar.specs.Characters.{NotBegun};
 ghost use Rattle.json5_grammar.specs.Numbers.{Num};
 ghost use Rattle.json5_grammar.specs.Stops.{lengthens};
+ghost use Rattle.json5_grammar.specs.Strings.{Str};
+ghost use Rattle.json5_text.specs.Cows.{cow_bytes, is_borrowed};
 ghost use Rattle.json5_text.specs.NumberViews.{number_of};
 ghost use Rattle.json5_de.specs.Steps.{PassedGap, TookText, IsOffset, IsMismatch};
 
 use json5_text::ErrorCode;
 use json5_text::error::{Error, Result};
 use crate::mismatch::Mismatch;
-use json5_text::input::Input;
+use json5_text::cow_str::CowStr;
+use json5_text::input::{Borrows, Input};
 use json5_text::number::Number;
 use json5_text::scanner::Scanner;
 use std::alloc::Global;
@@ -145,13 +148,22 @@ impl<I: Input> Deserializer<I> {
         self.refuse(Error::new(ErrorCode::Failed))
     }
 
+    /// Takes the string in front, its text in memory of its own.
+    pub(crate) fn owned_text(&mut self) -> Result<String>
+        ensures taken { IfOk result (λ t. (s u : List ℕ) × (plain : Bool) × TookText self.old s self.new × Str s u plain × (string_bytes t ≡ encode_utf8_all u) × (chars (string_bytes t) ≡ u)) }
+        ensures refused { IfErr result (λ e. IsOutOfMemory e ⊎ Refused FaultyString (cursor_of self.old) e) }
+        ensures failed { OnErr result (self.new.failed ≡ true) }
+    {
+        self.refuse(Error::new(ErrorCode::Failed))
+    }
+
     /// A fault at the next character.
     pub(crate) fn fault_here(&self, code: ErrorCode) -> Error
         ensures kind { kind_of result ≡ Kind.code code }
         ensures placed { IsPlaced (cursor_of self.now) (Some []) result }
     {
-        let position = self.scanner.position_of(self.scanner.offset());
-        Error::new_at(position, code)
+        let offset = self.offset();
+        Error::new_at(self.scanner.position_of(offset), code)
     }
 
     /// Takes the blanks at the end of the text, comments included; nothing else may be left. Else a comment's fault,
@@ -189,5 +201,16 @@ impl<I: Input> Deserializer<I> {
             Ok(error) => self.refuse(error),
             Err(error) => self.refuse(error),
         }
+    }
+}
+
+impl<'de, I: Borrows<'de>> Deserializer<I> {
+    /// Takes the string in front, its text borrowed where it holds no backslash.
+    pub(crate) fn text(&mut self) -> Result<CowStr<'de>>
+        ensures taken { IfOk result (λ t. (s u : List ℕ) × (plain : Bool) × TookText self.old s self.new × Str s u plain × (is_borrowed t ≡ plain) × (cow_bytes t ≡ encode_utf8_all u)) }
+        ensures refused { IfErr result (λ e. IsOutOfMemory e ⊎ Refused FaultyString (cursor_of self.old) e) }
+        ensures failed { OnErr result (self.new.failed ≡ true) }
+    {
+        self.refuse(Error::new(ErrorCode::Failed))
     }
 }

@@ -5,4 +5,5 @@ pub mod de;
 mod integers;
 mod mismatch;
 mod scalars;
+mod texts;
 mod types;

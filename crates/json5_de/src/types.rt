@@ -2,7 +2,8 @@
 
 use crate::de::{Deserialize, Deserializer};
 use json5_text::error::Result;
-use json5_text::input::Input;
+use json5_text::cow_str::CowStr;
+use json5_text::input::{Borrows, Input};
 
 impl<I: Input> Deserialize<I> for () {
     ghost use Rattle.json5_de.specs.Convert.{unit_of};
@@ -180,5 +181,66 @@ impl<I: Input> Deserialize<I> for i128 {
 
     fn deserialize(de: &mut Deserializer<I>) -> Result<i128> {
         de.deserialize_i128()
+    }
+}
+
+impl<I: Input> Deserialize<I> for char {
+    ghost use Rattle.std.specs.Prelude.{ℕ};
+    ghost use Rattle.json5_de.specs.Convert.{char_of};
+
+    ghost Content = { ℕ };
+
+    ghost content = { λ c. c };
+
+    ghost convert = { char_of };
+
+    fn deserialize(de: &mut Deserializer<I>) -> Result<char> {
+        de.deserialize_char()
+    }
+}
+
+impl<I: Input> Deserialize<I> for String {
+    ghost use Rattle.std.specs.Prelude.{ℕ, List, string_bytes};
+    ghost use Rattle.json5_de.specs.Convert.{text_of};
+
+    ghost Content = { List ℕ };
+
+    ghost content = { string_bytes };
+
+    ghost convert = { text_of };
+
+    fn deserialize(de: &mut Deserializer<I>) -> Result<String> {
+        de.deserialize_string()
+    }
+}
+
+impl<'de, I: Borrows<'de>> Deserialize<I> for &'de str {
+    ghost use Rattle.std.specs.Prelude.{ℕ, List};
+    ghost use Rattle.json5_de.specs.Convert.{plain_of};
+
+    ghost Content = { List ℕ };
+
+    ghost content = { λ t. t.now };
+
+    ghost convert = { plain_of };
+
+    fn deserialize(de: &mut Deserializer<I>) -> Result<&'de str> {
+        de.deserialize_str()
+    }
+}
+
+impl<'de, I: Borrows<'de>> Deserialize<I> for CowStr<'de> {
+    ghost use Rattle.std.specs.Prelude.{ℕ, List, Bool};
+    ghost use Rattle.json5_text.specs.Cows.{cow_bytes, is_borrowed};
+    ghost use Rattle.json5_de.specs.Convert.{cow_of};
+
+    ghost Content = { List ℕ × Bool };
+
+    ghost content = { λ t. (cow_bytes t, is_borrowed t) };
+
+    ghost convert = { cow_of };
+
+    fn deserialize(de: &mut Deserializer<I>) -> Result<CowStr<'de>> {
+        de.deserialize_identifier()
     }
 }

@@ -1,6 +1,6 @@
 use Rattle.json5_de.specs.Convert.{as_whole}
 use Rattle.json5_de.proofs.Awaited.{completes_or_memory, ends_or_memory, differs_or_memory}
-use Rattle.json5_de.proofs.Numbers.{awaits_number}
+use Rattle.json5_de.proofs.AwaitsNumbers.{awaits_number}
 use Rattle.json5_de.proofs.de.Deserializer.integer.Goals as goal
 
 pub returns-clause-complete : goal.returns-clause-complete
