@@ -8,3 +8,6 @@ pub mod ScanTokens
 pub mod EscapesSpelled
 pub mod FaultsCompared
 pub mod TextsCompared
+pub mod ScanEscapes
+pub mod ScanStrings
+pub mod ValuesCompared

@@ -6,14 +6,17 @@ pub mod char;
 pub mod cow_str;
 pub mod decimal;
 pub mod error;
-mod front;
+mod escapes;
 #[cfg(test)]
 mod fault_tests;
+mod front;
 pub mod input;
 pub mod number;
 mod refusal;
 mod runs;
 pub mod scanner;
+mod strings;
+pub mod value;
 pub mod whole;
 mod words;
 

@@ -1,0 +1,5 @@
+pub mod Joins
+pub mod PiecesWritten
+pub mod TextsWhole
+pub mod QuotesFound
+pub mod EscapesSplit
