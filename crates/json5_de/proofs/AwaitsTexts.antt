@@ -68,7 +68,7 @@ other_faulty x c r reason place e h (no_quote d q k) = (refl, refl)
 other_faulty x c r reason place e h string_missing = absurd (cc)
 
 not_faulty : {s u : List ℕ} {plain : Bool} (x r : List ℕ) (reason : Option ErrorCode) (place : Option (List ℕ)) → x ≡ s ++ r → Str s u plain → FaultyString x reason place → ⊥
-not_faulty x r reason place e k (faulty {part = part} {shown = shown} f) = no_string_fault r k (subst (λ z. StringFault z reason place _ part shown) e f)
+not_faulty x r reason place e k (faulty {before = before} {part = part} {shown = shown} f) = no_string_fault r k (subst (λ z. StringFault z reason place before part shown) e f)
 not_faulty x r reason place e k (no_quote c y h) = quoted_other x c y refl h (rw e (quoted_more r (text_quote k)))
 not_faulty x r reason place e k string_missing = quoted_none x refl (rw e (quoted_more r (text_quote k)))
 

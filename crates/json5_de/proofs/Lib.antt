@@ -7,3 +7,4 @@ pub mod AwaitsNumbers
 pub mod Mismatches
 pub mod Ends
 pub mod AwaitsTexts
+pub mod Documents

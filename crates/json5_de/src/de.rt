@@ -150,11 +150,14 @@ impl<I: Input> Deserializer<I> {
 
     /// Takes the string in front, its text in memory of its own.
     pub(crate) fn owned_text(&mut self) -> Result<String>
-        ensures taken { IfOk result (λ t. (s u : List ℕ) × (plain : Bool) × TookText self.old s self.new × Str s u plain × (string_bytes t ≡ encode_utf8_all u) × (chars (string_bytes t) ≡ u)) }
+        ensures taken { IfOk result (λ t. (s u : List ℕ) × (plain : Bool) × TookText self.old s self.new × Str s u plain × (string_bytes t ≡ encode_utf8_all u)) }
         ensures refused { IfErr result (λ e. IsOutOfMemory e ⊎ Refused FaultyString (cursor_of self.old) e) }
         ensures failed { OnErr result (self.new.failed ≡ true) }
     {
-        self.refuse(Error::new(ErrorCode::Failed))
+        match self.scanner.string_owned() {
+            Ok(text) => Ok(text),
+            Err(e) => self.refuse(e),
+        }
     }
 
     /// A fault at the next character.
@@ -211,6 +214,9 @@ impl<'de, I: Borrows<'de>> Deserializer<I> {
         ensures refused { IfErr result (λ e. IsOutOfMemory e ⊎ Refused FaultyString (cursor_of self.old) e) }
         ensures failed { OnErr result (self.new.failed ≡ true) }
     {
-        self.refuse(Error::new(ErrorCode::Failed))
+        match self.scanner.string() {
+            Ok(text) => Ok(text),
+            Err(e) => self.refuse(e),
+        }
     }
 }

@@ -5,5 +5,6 @@ pub mod de;
 mod integers;
 mod mismatch;
 mod scalars;
+pub mod text;
 mod texts;
 mod types;

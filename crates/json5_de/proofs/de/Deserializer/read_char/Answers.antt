@@ -23,10 +23,10 @@ returns-in_err-text-clause-refused g c =
 
 pub returns-in_default-clause-refused : goal.returns-in_default-clause-refused
 returns-in_default-clause-refused g c =
-    let (s, u, plain, took, str, bytes, characters) = c.in_ok-text.ensures.taken in
+    let (s, u, plain, took, str, bytes) = c.in_ok-text.ensures.taken in
     ?
 
 pub returns-clause-sound : goal.returns-clause-sound
 returns-clause-sound g c =
-    let (s, u, plain, took, str, bytes, characters) = c.in_ok-text.ensures.taken in
+    let (s, u, plain, took, str, bytes) = c.in_ok-text.ensures.taken in
     ?

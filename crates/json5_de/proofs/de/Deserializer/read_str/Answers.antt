@@ -24,9 +24,12 @@ returns-in_err-text-clause-refused g c =
 pub returns-in-Borrowed-clause-sound : goal.returns-in-Borrowed-clause-sound
 returns-in-Borrowed-clause-sound g c =
     let (s, u, plain, took, str, borrowed, bytes) = c.in_ok-text.ensures.taken in
-    ?
+    let is_plain : plain ≡ true = sym borrowed ∙ ap is_borrowed c.in-Borrowed.is in
+    let same : encode_utf8_all u ≡ c.in-Borrowed.text.now = sym bytes ∙ ap cow_bytes c.in-Borrowed.is in
+    (trees.text u plain, took_leaf c.args.self.now c.begin.new.self c.text.new.self s (trees.text u plain) refl c.in_ok-begin.ensures.passed took (is_text str) (text_stops c.text.new.self.unread str), ap (if_plain u) is_plain ∙ ap Some same)
 
 pub returns-in-Owned-clause-refused : goal.returns-in-Owned-clause-refused
 returns-in-Owned-clause-refused g c =
     let (s, u, plain, took, str, borrowed, bytes) = c.in_ok-text.ensures.taken in
-    ?
+    let none : if_plain u plain ≡ None = ap (if_plain u) (sym borrowed ∙ ap is_borrowed c.in-Owned.is) in
+    refused_text if_plain c.args.self.now c.begin.new.self c.text.new.self c.mismatch.result c.offset-start.result s u plain c.in_ok-begin.ensures.passed took str none c.offset-start.ensures.1 c.mismatch.ensures.refused

@@ -20,6 +20,6 @@ pub returns-clause-refused : goal.returns-clause-refused
 returns-clause-refused g c = IfErr-weaker c.owned_text.result _ _ (λ e k. refused_or_memory c.args.self.now c.begin.new.self e (λ x reason place f. faulty_text f) c.in_ok-begin.ensures.passed k) c.owned_text.ensures.refused
 
 pub returns-clause-sound : goal.returns-clause-sound
-returns-clause-sound g c = IfOk-weaker c.owned_text.result _ _ (λ t (s, u, plain, took, str, bytes, characters).
+returns-clause-sound g c = IfOk-weaker c.owned_text.result _ _ (λ t (s, u, plain, took, str, bytes).
     (trees.text u plain, took_leaf c.args.self.now c.begin.new.self c.owned_text.new.self s (trees.text u plain) refl c.in_ok-begin.ensures.passed took (is_text str) (text_stops c.owned_text.new.self.unread str), ap Some (sym bytes)))
     c.owned_text.ensures.taken
