@@ -1,9 +1,5 @@
 -- What is read below the scanner, in the words of its contracts.
-<<<<<<< HEAD
 use Rattle.std.proofs.Common.{◌≡◌, ℕ, Bool, true, List, [], ◌∷◌, ◌++◌, length, refl, ap, sym, ◌∙◌, ◌⊎◌, inl, inr, subst, Option, Some, None}
-=======
-use Rattle.std.proofs.Common.{◌≡◌, ℕ, List, ◌∷◌, ◌++◌, length, refl, ap, sym, ◌∙◌, inl, inr, subst, Some, None}
->>>>>>> types
 use Rattle.std.specs.Str.{IsUtf8, chars}
 use Rattle.std.proofs.lemmas.Str.{encodes-chars}
 use Rattle.json5_grammar.specs.declared.code.ErrorCode.{ErrorCode}
@@ -18,18 +14,12 @@ use Rattle.json5_grammar.proofs.StringsRead.{string_complete}
 use Rattle.json5_grammar.proofs.StringsSound.{StringSound, string_sound}
 use Rattle.json5_grammar.proofs.BlanksSound.{BlanksSound, skip_sound}
 use Rattle.json5_grammar.proofs.WordsRead.{WordIs, word_is}
-<<<<<<< HEAD
 use Rattle.json5_text.specs.declared.refusal.Refusal.{Refusal}
 use Rattle.json5_text.specs.declared.refusal.Refusal.TheVariants as refusal
 use Rattle.json5_text.specs.Outcome.{gave, outcome, bytes_in}
 use Rattle.json5_text.specs.Refused.{Refuses}
 use Rattle.json5_text.specs.Cursor.{Cursor, Took}
 use Rattle.json5_text.specs.Tokens.{FaultyBlanks, FaultyWord, word_differs, word_ends, FaultyString, faulty, no_quote, string_missing}
-=======
-use Rattle.json5_text.specs.Outcome.{bytes_in}
-use Rattle.json5_text.specs.Cursor.{Cursor}
-use Rattle.json5_text.specs.Tokens.{FaultyBlanks, FaultyWord, word_differs, word_ends}
->>>>>>> types
 use Rattle.json5_text.specs.Scan.{Leaves}
 use Rattle.json5_text.specs.ScanStrings.{string_at}
 use Rattle.json5_text.proofs.ScanFaults.{FaultAt, FaultyIn, gave_failed}

@@ -1,12 +1,7 @@
-<<<<<<< HEAD
 -- A number as the grammar has it.
 use Rattle.json5_grammar.specs.Numbers as numbers
 use Rattle.json5_text.specs.declared.number.Number.{Number}
 use Rattle.json5_text.specs.declared.number.Number.TheVariants.{Whole, Decimal}
-=======
--- What contracts see of numbers.
-use Rattle.std.specs.Prelude.{ℕ, suc, ◌^◌, ◌<◌, ◌≤◌, Bool, true, false, ℤ, pos, negsuc}
->>>>>>> types
 
 abbrev pub number_of : Number → numbers.Number
 number_of (Whole z) = numbers.whole z
