@@ -2,21 +2,11 @@
 
 ghost use Rattle.std.specs.Prelude.{◌≡◌, IfOk, IfErr, IfSome, OnOk, string_bytes};
 ghost use Rattle.json5_fmt.specs.Runs.{ReadStop, RunStop, WritesFormatted};
-ghost use Rattle.json5_fmt.specs.Formats.{Formats, Refuses};
 
 use crate::output::write_texts;
 use crate::stop::Stop;
-use json5_text::error::Result as TextResult;
 use std::alloc::Global;
 use std::io::{ErrorKind, Read, Write};
-
-/// Stands in for the formatter.
-fn format(alloc: Global, text: &str) -> TextResult<String>
-    ensures formatted { IfOk result (λ output. Formats text.now (string_bytes output)) }
-    ensures refused { IfErr result (λ e. Refuses text.now e) }
-{
-    Ok(String::from_str(alloc, text)?)
-}
 
 /// Reads all of `r`, and writes the text of its value and one LF to `w`, which isn't flushed.
 ///
@@ -27,7 +17,7 @@ pub fn run<R: Read, W: Write>(alloc: Global, r: &mut R, w: &mut W) -> Result<(),
     ensures stopped { IfErr result (RunStop (R.remaining r.old) (W.contents w.old) (W.contents w.new)) }
 {
     let text = read_text(alloc, r)?;
-    let output = match format(alloc, text.as_str()) {
+    let output = match json5::format(alloc, text.as_str()) {
         Ok(output) => output,
         Err(e) => return Err(Stop::at(e)),
     };
