@@ -39,3 +39,9 @@ pub mod ValueHeads
 pub mod ValuesRead
 pub mod Unique
 pub mod ScalarsWritten
+pub mod MembersRead
+pub mod MembersPassed
+pub mod MembersConverted
+pub mod MembersNowhere
+pub mod MembersPairs
+pub mod MembersPairsConverted

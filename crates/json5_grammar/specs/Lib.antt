@@ -14,6 +14,7 @@ pub mod Names
 pub mod NameFaults
 pub mod Trees
 pub mod Values
+pub mod Members
 pub mod Documents
 pub mod WordFaults
 pub mod Fronts

@@ -1,5 +1,6 @@
 //! The laws of the definitions, each the contract of a function that does nothing.
 
 pub mod documents;
+pub mod members;
 pub mod numbers;
 pub mod texts;

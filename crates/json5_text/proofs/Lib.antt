@@ -13,3 +13,6 @@ pub mod NumberLiterals
 pub mod NumberValues
 pub mod NumberJudged
 pub mod NumberCases
+pub mod ScanEscapes
+pub mod ScanStrings
+pub mod ValuesCompared

@@ -6,6 +6,7 @@ pub mod char;
 pub mod cow_str;
 pub mod decimal;
 pub mod error;
+mod escapes;
 #[cfg(test)]
 mod fault_tests;
 mod front;
@@ -15,6 +16,10 @@ mod numbers;
 mod refusal;
 mod runs;
 pub mod scanner;
+#[cfg(test)]
+mod scanner_tests;
+mod strings;
+pub mod value;
 pub mod whole;
 mod words;
 

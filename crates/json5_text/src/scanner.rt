@@ -1,19 +1,24 @@
 //! The scanner: the tokens of a text, one after another.
 
-ghost use Rattle.std.specs.Prelude.{◌≡◌, ℕ, List, [], ◌∷◌, ◌++◌, true, false, ◌==◌, ◌⊎◌, length, take, drop, Some, None, slice_get, IsTrue, OnOk, OnErr, IfErr};
+ghost use Rattle.std.specs.Prelude.{◌≡◌, ℕ, Bool, List, [], ◌∷◌, ◌++◌, true, false, ◌==◌, ◌⊎◌, length, take, drop, Some, None, string_bytes, slice_get, IsTrue, OnOk, OnErr, IfOk, IfErr, IsOk};
 ghost use Rattle.std.specs.Str.{chars, encode_utf8_all};
 ghost use Rattle.json5_grammar.specs.Characters.{NotBegun};
 ghost use Rattle.json5_grammar.specs.Blanks.{Gap, Solid};
+ghost use Rattle.json5_grammar.specs.Strings.{Str};
+ghost use Rattle.json5_text.specs.Cows.{cow_bytes, is_borrowed};
+ghost use Rattle.json5_grammar.specs.Positions.{position_behind};
 ghost use Rattle.json5_text.specs.Errors.{Kind, code, kind_of, place_of};
 ghost use Rattle.json5_text.specs.Cursor.{Cursor, offset_of, Refused, Took, Behind, Says, IsOutOfMemory};
-ghost use Rattle.json5_text.specs.Tokens.{FaultyBlanks, FaultyWord};
+ghost use Rattle.json5_text.specs.Tokens.{FaultyBlanks, FaultyString, FaultyWord};
 ghost use Rattle.json5_text.specs.Scan.{InText, Leaves, InUnread, IsWhere, IsThere, MadeOf};
 
 use crate::blanks::skip_blank;
+use crate::cow_str::CowStr;
 use crate::error::{Error, Result};
 use crate::front::front;
-use crate::input::Input;
+use crate::input::{Borrows, Input};
 use crate::refusal::Refusal;
+use crate::strings::{read_owned, read_string};
 use crate::words::skip_word;
 use json5_grammar::code::ErrorCode;
 use json5_grammar::position::Position;
@@ -121,6 +126,20 @@ impl<I: Input> Scanner<I> {
         Ok(())
     }
 
+    /// Takes a string and gives its text in memory of its own (JSON5 section 5). The faults are those of `string`.
+    pub fn string_owned(&mut self) -> Result<String>
+        ensures taken { IfOk result (λ t. (s u : List ℕ) × (plain : Bool) × Took self.old s self.new × Str s u plain × (string_bytes t ≡ encode_utf8_all u)) }
+        ensures refused { IfErr result (λ e. IsOutOfMemory e ⊎ Refused FaultyString self.old e) }
+        ensures behind { OnErr result (Behind self.old self.new) }
+    {
+        let (text, left) = match read_owned(self.alloc, self.rest()) {
+            Ok((text, rest)) => (text, rest.len()),
+            Err(refusal) => return Err(self.fault(refusal)),
+        };
+        self.leave(left);
+        Ok(text)
+    }
+
     /// What is unread.
     fn rest(&self) -> &str
         ensures { chars result.now ≡ self.now.unread }
@@ -172,5 +191,44 @@ impl<I: Input> Scanner<I> {
             Ok(error) => error,
             Err(error) => error,
         }
+    }
+}
+
+impl<'de, I: Borrows<'de>> Scanner<I> {
+    /// Takes a string and gives its text, borrowed where the string holds no backslash (JSON5 section 5). Where no string
+    /// begins the fault is `ExpectedString`; a line terminator in one is `LineTerminatorInString` at it, and a faulty escape
+    /// `InvalidEscapeSequence` or, at a surrogate without a pair, a custom fault at the backslash, except that a missing second
+    /// `\u` is faulty where it must stand. `EofParsingString` and `EofParsingEscapeSequence` have no place. Memory is
+    /// wanted where an escape is used, and for a custom fault.
+    pub fn string(&mut self) -> Result<CowStr<'de>>
+        ensures taken { IfOk result (λ t. (s u : List ℕ) × (plain : Bool) × Took self.old s self.new × Str s u plain × (is_borrowed t ≡ plain) × (cow_bytes t ≡ encode_utf8_all u)) }
+        ensures refused { IfErr result (λ e. IsOutOfMemory e ⊎ Refused FaultyString self.old e) }
+        ensures behind { OnErr result (Behind self.old self.new) }
+        ensures plain { (s u r : List ℕ) → self.old.unread ≡ s ++ r → Str s u true → IsOk result }
+    {
+        let (text, left) = match read_string(self.alloc, self.borrowed_rest()) {
+            Ok((text, rest)) => (text, rest.len()),
+            Err(refusal) => return Err(self.fault(refusal)),
+        };
+        self.leave(left);
+        Ok(text)
+    }
+
+    /// What is unread.
+    fn borrowed_rest(&self) -> &'de str
+        ensures { chars result.now ≡ self.now.unread }
+    {
+        &self.input.as_borrowed()[self.offset..]
+    }
+}
+
+impl<I: Input> Scanner<I> {
+    /// The position of an offset in bytes, as `offset` gave it here or earlier.
+    pub fn position_of(&self, offset: usize) -> Position
+        requires { (before rest : List ℕ) × (self.now.input ≡ before ++ rest) × (offset ≡ length (encode_utf8_all before)) }
+        ensures { (before rest : List ℕ) → self.now.input ≡ before ++ rest → offset ≡ length (encode_utf8_all before) → result ≡ position_behind before }
+    {
+        let _end = self.end;
+        Position::from_offset(offset, self.input.as_text())
     }
 }

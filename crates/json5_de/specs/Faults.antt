@@ -1,0 +1,88 @@
+-- What is refused where a value is awaited.
+use Rattle.std.specs.Prelude.{◌≡◌, ℕ, Bool, true, false, if◌then◌else◌, ◌==◌, ◌⊎◌, List, [], ◌∷◌, ◌++◌, Option, Some, None, Result, IsErrAnd}
+use Rattle.json5_grammar.specs.Codes.{behind_text}
+use Rattle.json5_grammar.specs.declared.code.ErrorCode.{ErrorCode}
+use Rattle.json5_grammar.specs.declared.code.ErrorCode.TheVariants as codes
+use Rattle.json5_grammar.specs.Blanks.{Blanks, LastBlanks, Gap, Solid, is_solid}
+use Rattle.json5_grammar.specs.Numbers.{Number, Num}
+use Rattle.json5_grammar.specs.Strings.{Str}
+use Rattle.json5_grammar.specs.Values.{Stops, null_text, true_text, false_text}
+use Rattle.json5_text.specs.declared.error.Error.{Error}
+use Rattle.json5_text.specs.Errors.{code, kind_of, place_of}
+use Rattle.json5_text.specs.Cursor.{IsPlaced, Refused, IsOutOfMemory}
+use Rattle.json5_text.specs.Tokens.{FaultyBlanks, FaultyWord, FaultyNumber, FaultyString}
+use Rattle.json5_de.specs.State.{State, cursor_of}
+
+-- a comment in front is at fault, or behind the gap stands what isn't awaited
+pub data Behind (IsFault : List ℕ → Option ErrorCode → Option (List ℕ) → Type 0) : List ℕ → Option ErrorCode → Option (List ℕ) → Type 0 where
+  in_blanks : {x : List ℕ} {reason : Option ErrorCode} {place : Option (List ℕ)} → FaultyBlanks x reason place → Behind IsFault x reason place
+  behind_gap : {w x : List ℕ} {reason : Option ErrorCode} {place : Option (List ℕ)} → Gap w x → Solid x → IsFault x reason place → Behind IsFault (w ++ x) reason (behind_text w place)
+
+-- a number in front is faulty, or it is whole and isn't the type's: a text of its own, at the number's start
+pub data NotNumber {C : Type 0} (convert : Number → Option C) : List ℕ → Option ErrorCode → Option (List ℕ) → Type 0 where
+  faulty_number : {x : List ℕ} {reason : Option ErrorCode} {place : Option (List ℕ)} → FaultyNumber x reason place → NotNumber convert x reason place
+  other_number : {s : List ℕ} {n : Number} (r : List ℕ) → Num s n → Stops s r → convert n ≡ None → NotNumber convert (s ++ r) None (Some [])
+
+-- a string in front is faulty, or it is whole and isn't the type's: a text of its own, at the quote
+pub data NotText {C : Type 0} (convert : List ℕ → Bool → Option C) : List ℕ → Option ErrorCode → Option (List ℕ) → Type 0 where
+  faulty_text : {x : List ℕ} {reason : Option ErrorCode} {place : Option (List ℕ)} → FaultyString x reason place → NotText convert x reason place
+  other_text : {s u : List ℕ} {plain : Bool} (r : List ℕ) → Str s u plain → convert u plain ≡ None → NotText convert (s ++ r) None (Some [])
+
+-- a reader that hasn't failed refuses with a fault that the relation gives what is behind the blanks, at its place
+abbrev pub RefusedBy : (List ℕ → Option ErrorCode → Option (List ℕ) → Type 0) → State → Error → Type 0
+RefusedBy IsFault old e = old.failed ≡ false → Refused (Behind IsFault) (cursor_of old) e
+
+-- the same, or memory was wanting
+abbrev pub RefusedByOrMemory : (List ℕ → Option ErrorCode → Option (List ℕ) → Type 0) → State → Error → Type 0
+RefusedByOrMemory IsFault old e = IsOutOfMemory e ⊎ RefusedBy IsFault old e
+
+abbrev pub FaultyNull : List ℕ → Option ErrorCode → Option (List ℕ) → Type 0
+FaultyNull = FaultyWord null_text codes.EofParsingNull codes.ExpectedNull
+
+abbrev pub begins_with : ℕ → List ℕ → Bool
+begins_with c [] = false
+begins_with c (d ∷ s) = d == c
+
+-- behind an `f` the word is `false`, else `true`
+abbrev pub FaultyBool : List ℕ → Option ErrorCode → Option (List ℕ) → Type 0
+FaultyBool x = FaultyWord (if begins_with 0x66 x then false_text else true_text) codes.EofParsingBool codes.ExpectedBool x
+
+-- a character where the end is awaited: TrailingCharacters at it
+pub data Trailing : List ℕ → Option ErrorCode → Option (List ℕ) → Type 0 where
+  trailing : (c : ℕ) (r : List ℕ) → Trailing (c ∷ r) (Some codes.TrailingCharacters) (Some [])
+
+-- this code, without a place
+abbrev pub IsUnplaced : ErrorCode → Error → Type 0
+IsUnplaced c e = (kind_of e ≡ code c) × (place_of e ≡ None)
+
+-- this code, at the place behind w
+abbrev pub IsBehind : ErrorCode → State → List ℕ → Error → Type 0
+IsBehind c old w e = (kind_of e ≡ code c) × IsPlaced (cursor_of old) (Some w) e
+
+-- nothing but blanks is unread
+abbrev pub AtEnd : State → Type 0
+AtEnd old = (old.failed ≡ false) × LastBlanks old.unread
+
+-- behind the blanks w stands a character that begins nothing of what is awaited
+pub record AtOther (begins : ℕ → Bool) (old : State) (w : List ℕ) : Type 0 where
+  pub live : old.failed ≡ false
+  pub blank : Blanks w
+  pub char : ℕ
+  pub more : List ℕ
+  pub split : old.unread ≡ w ++ char ∷ more
+  pub solid : is_solid char ≡ true
+  pub other : begins char ≡ false
+
+-- the code at the end
+abbrev pub EndsWith : {V : Type 0} → ErrorCode → State → Result V Error → Type 0
+EndsWith ends old result = AtEnd old → IsErrAnd result (IsUnplaced ends)
+
+abbrev pub EndsWithOrMemory : {V : Type 0} → ErrorCode → State → Result V Error → Type 0
+EndsWithOrMemory ends old result = AtEnd old → IsErrAnd result (λ e. IsOutOfMemory e ⊎ IsUnplaced ends e)
+
+-- the code at a character that begins nothing of what is awaited
+abbrev pub DiffersWith : {V : Type 0} → (ℕ → Bool) → ErrorCode → State → Result V Error → Type 0
+DiffersWith begins differs old result = (w : List ℕ) → AtOther begins old w → IsErrAnd result (IsBehind differs old w)
+
+abbrev pub DiffersWithOrMemory : {V : Type 0} → (ℕ → Bool) → ErrorCode → State → Result V Error → Type 0
+DiffersWithOrMemory begins differs old result = (w : List ℕ) → AtOther begins old w → IsErrAnd result (λ e. IsOutOfMemory e ⊎ IsBehind differs old w e)

@@ -1,0 +1,39 @@
+-- The law of a type that is read.
+use Rattle.std.specs.Prelude.{◌≡◌, ℕ, ◌+◌, ◌≤◌, Bool, false, true, List, Option, Some, None, Result, Ok, Err, IsOk, IsErrAnd}
+use Rattle.json5_grammar.specs.declared.code.ErrorCode.TheVariants as codes
+use Rattle.json5_grammar.specs.Trees.{Tree, depth}
+use Rattle.json5_grammar.specs.Values.{Reads}
+use Rattle.json5_grammar.specs.Documents.{max_depth}
+use Rattle.json5_text.specs.declared.error.Error.{Error}
+use Rattle.json5_text.specs.Errors.{code, kind_of, place_of}
+use Rattle.json5_text.specs.Cursor.{IsOutOfMemory}
+use Rattle.json5_de.specs.State.{State, OnlyRead}
+
+-- one value of the tree t was read, blanks before it included, and nothing else happened
+pub record TookValue (old : State) (t : Tree) (new : State) : Type 0 where
+  pub live : old.failed ≡ false
+  pub reads : Reads old.unread t new.unread
+  pub shallow : old.level + depth t ≤ max_depth
+  pub rest : OnlyRead old new
+
+-- v stands for a tree that was read
+abbrev pub Gives : {V C : Type 0} → (V → C) → (Tree → Option C) → State → State → V → Type 0
+Gives content convert old new v = (t : Tree) × TookValue old t new × (convert t ≡ Some (content v))
+
+abbrev pub IsOkOrMemory : {V : Type 0} → Result V Error → Type 0
+IsOkOrMemory (Ok v) = Unit {0}
+IsOkOrMemory (Err e) = IsOutOfMemory e
+
+-- what can be read is read, want of memory aside
+abbrev pub Completes : {V C : Type 0} → (Tree → Option C) → State → Result V Error → Type 0
+Completes {C = C} convert old result =
+    (t : Tree) (r : List ℕ) (c : C) → old.failed ≡ false → Reads old.unread t r → old.level + depth t ≤ max_depth → convert t ≡ Some c → IsOkOrMemory result
+
+-- what can be read is read, and takes no memory
+abbrev pub CompletesWithoutMemory : {V C : Type 0} → (Tree → Option C) → State → Result V Error → Type 0
+CompletesWithoutMemory {C = C} convert old result =
+    (t : Tree) (r : List ℕ) (c : C) → old.failed ≡ false → Reads old.unread t r → old.level + depth t ≤ max_depth → convert t ≡ Some c → IsOk result
+
+-- a reader that has failed answers `Failed` without a place, and stays as it is
+abbrev pub StaysFailed : {V : Type 0} → State → State → Result V Error → Type 0
+StaysFailed old new result = old.failed ≡ true → IsErrAnd result (λ e. (kind_of e ≡ code codes.Failed) × (place_of e ≡ None)) × (new ≡ old)

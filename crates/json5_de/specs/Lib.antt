@@ -1,0 +1,6 @@
+pub mod State
+pub mod Law
+pub mod Faults
+pub mod Convert
+pub mod Steps
+pub mod Integers

@@ -1,0 +1,17 @@
+-- What contracts see of a reader.
+use Rattle.std.specs.Prelude.{◌≡◌, ℕ, List, Bool}
+use Rattle.json5_text.specs.Cursor.{Cursor}
+
+-- the whole text, what is unread of it, the count of open brackets, and whether a call refused or what was lent was given up
+pub record State : Type 0 where
+  pub input : List ℕ
+  pub unread : List ℕ
+  pub level : ℕ
+  pub failed : Bool
+
+abbrev pub cursor_of : State → Cursor
+cursor_of s = record { input = s.input; unread = s.unread }
+
+-- nothing changed but what is unread
+abbrev pub OnlyRead : State → State → Type 0
+OnlyRead old new = new ≡ record old { unread = new.unread }

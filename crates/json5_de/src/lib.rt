@@ -1,0 +1,10 @@
+//! Typed reading of JSON5.
+#![tactic(auto)]
+
+pub mod de;
+mod integers;
+mod mismatch;
+mod scalars;
+pub mod text;
+mod texts;
+mod types;

@@ -1,0 +1,108 @@
+-- What a text goes on with, from what stands behind the gap in front.
+use Rattle.std.proofs.Common.{◌≡◌, ℕ, Bool, true, false, List, [], ◌∷◌, ◌++◌, refl, ap, sym, ◌∙◌, inl, inr, subst, Option}
+use Rattle.std.specs.Prelude.{◌==◌}
+use Rattle.std.proofs.lemmas.Bool.{both_ways}
+use Rattle.json5_grammar.specs.Characters.{NotBegun}
+use Rattle.json5_grammar.specs.Codes.{ErrorCode, Shown}
+use Rattle.json5_grammar.specs.Blanks.{Blanks, Gap, is_solid, Solid, BlankFault}
+use Rattle.json5_grammar.specs.Trees.{Tree}
+use Rattle.json5_grammar.specs.Faults.{begins_value}
+use Rattle.json5_grammar.specs.Values.{Reads}
+use Rattle.json5_grammar.specs.Members.{IsSign, Opens, IsElement, IsEnd, IsClose, GoesNowhere}
+use Rattle.json5_grammar.proofs.Basics.{same_char}
+use Rattle.json5_grammar.proofs.BlanksRead.{begins_solid}
+use Rattle.json5_grammar.proofs.BlanksSound.{gap_blanks, no_blank_fault}
+use Rattle.json5_grammar.proofs.ValueHeads.{val_head, value_solid}
+use Rattle.json5_grammar.proofs.MembersRead.{comma_solid, bracket_solid, opening_solid, sign_here, sign_found, reads_behind, phrase_found, reads_found}
+use Rattle.json5_grammar.proofs.MembersPassed.{behind_comma}
+
+-- ---- what goes on
+
+-- a phrase behind a gap
+pub reads_here : (x w y r : List ℕ) (t : Tree) → x ≡ w ++ y → Gap w y → Reads y t r → Reads x t r
+reads_here x w y r t e g p = subst (λ z. Reads z t r) (sym e) (reads_behind w y r t (blanks_of y refl g) p)
+  where
+    head_of : (q : List ℕ) → [] ≡ p.front ++ (p.phrase ++ q) → ⊥
+    head_of q e = none p.front p.phrase (val_head p.value).char (val_head p.value).more q (val_head p.value).is e
+      where
+        none : (v s : List ℕ) (c : ℕ) (m q : List ℕ) → s ≡ c ∷ m → [] ≡ v ++ (s ++ q) → ⊥
+        none [] s c m q h e = let k : [] ≡ c ∷ (m ++ q) = e ∙ ap (λ z. z ++ q) h in absurd (cc)
+        none (d ∷ v) s c m q h e = absurd (cc)
+
+    blanks_of : (z : List ℕ) → y ≡ z → Gap w y → Blanks w
+    blanks_of [] k g = absurd (head_of r (sym k ∙ p.split))
+    blanks_of (c ∷ z) k g = gap_blanks c z (subst (λ q. Gap w q) k g)
+
+-- the closing sign behind a gap, whether a comma is due or not
+pub end_here : (sign : ℕ) (due : Bool) (x w r : List ℕ) → x ≡ w ++ sign ∷ r → Gap w (sign ∷ r) → IsEnd sign due x r
+end_here sign false x w r e g = sign_here sign x w r e g
+end_here sign true x w r e g = inl (sign_here sign x w r e g)
+
+-- a comma behind a gap, and then what goes on where none is due
+pub end_behind_comma : (sign : ℕ) (x w y r : List ℕ) → x ≡ w ++ 44 ∷ y → Gap w (44 ∷ y) → IsEnd sign false y r → IsEnd sign true x r
+end_behind_comma sign x w y r e g k = inr (y, sign_here 44 x w y e g, k)
+
+pub element_behind_comma : (x w y r : List ℕ) (t : Tree) → x ≡ w ++ 44 ∷ y → Gap w (44 ∷ y) → Reads y t r → IsElement true x t r
+element_behind_comma x w y r t e g p = (y, sign_here 44 x w y e g, p)
+
+-- ---- what doesn't
+
+-- no sign goes on where the rest behind the gap doesn't begin with it
+pub no_sign : (sign : ℕ) (x w y r : List ℕ) → is_solid sign ≡ true → x ≡ w ++ y → Gap w y → Solid y → NotBegun (λ c. c == sign) y → IsSign sign x r → ⊥
+no_sign sign x w y r h e g s n a =
+    let begins : NotBegun (λ c. c == sign) (sign ∷ r) = subst (NotBegun (λ c. c == sign)) (sign_found sign x w y r h e g s a) n in
+    both_ways (sign == sign) begins (same_char sign)
+
+-- nor where a comment is at fault
+pub no_sign_in_blanks : (sign : ℕ) (x b p r : List ℕ) (code : Option ErrorCode) (place : Option (List ℕ)) (shown : Shown) → is_solid sign ≡ true → BlankFault x code place b p shown → IsSign sign x r → ⊥
+no_sign_in_blanks sign x b p r code place shown h f a =
+    no_blank_fault (Gap.blanks a.blank) (begins_solid sign r h) (subst (λ z. BlankFault z code place b p shown) a.split f)
+
+-- no phrase stands where the rest behind the gap begins no value
+pub no_reads : (x w y r : List ℕ) (t : Tree) → x ≡ w ++ y → Gap w y → Solid y → NotBegun begins_value y → Reads x t r → ⊥
+no_reads x w y r t e g s n p =
+    let head = val_head p.value in
+    let k : y ≡ head.char ∷ (head.more ++ r) = phrase_found x w y r t e g s p ∙ ap (λ z. z ++ r) head.is in
+    let begins : NotBegun begins_value (head.char ∷ (head.more ++ r)) = subst (NotBegun begins_value) k n in
+    both_ways (begins_value head.char) begins head.begins
+
+-- nor where a comment is at fault
+pub no_reads_in_blanks : (x b p r : List ℕ) (t : Tree) (code : Option ErrorCode) (place : Option (List ℕ)) (shown : Shown) → BlankFault x code place b p shown → Reads x t r → ⊥
+no_reads_in_blanks x b p r t code place shown f a =
+    no_blank_fault (Gap.blanks a.blank) (value_solid r (val_head a.value)) (subst (λ z. BlankFault z code place b p shown) a.split f)
+
+-- ---- nothing of an array goes on
+
+-- neither a comma nor the bracket where a comma is due
+pub nowhere_due : (x : List ℕ) → ((y : List ℕ) → IsSign 44 x y → ⊥) → ((r : List ℕ) → IsSign 93 x r → ⊥) → GoesNowhere true x
+nowhere_due x m n = record { no_element = λ t r a. m a.0 a.1; no_close = λ r c. by_close r c }
+  where
+    by_close : (r : List ℕ) → IsClose true x r → ⊥
+    by_close r (inl c) = n r c
+    by_close r (inr (y, c, d)) = m y c
+
+-- nothing behind the comma
+pub nowhere_comma : (x y : List ℕ) → IsSign 44 x y → GoesNowhere false y → ((r : List ℕ) → IsSign 93 x r → ⊥) → GoesNowhere true x
+nowhere_comma x y s h n = record { no_element = λ t r a. h.no_element t r (behind_comma (λ k. Reads k t r) x y a.0 s a.1 a.2); no_close = λ r c. by_close r c }
+  where
+    by_close : (r : List ℕ) → IsClose true x r → ⊥
+    by_close r (inl c) = n r c
+    by_close r (inr (y2, c, d)) = h.no_close r (behind_comma (λ k. IsSign 93 k r) x y y2 s c d)
+
+-- a faulty comment
+pub nowhere_blanks : (due : Bool) (x b p : List ℕ) (code : Option ErrorCode) (place : Option (List ℕ)) (shown : Shown) → BlankFault x code place b p shown → GoesNowhere due x
+nowhere_blanks false x b p code place shown f = record { no_element = λ t r a. no_reads_in_blanks x b p r t code place shown f a; no_close = λ r c. no_sign_in_blanks 93 x b p r code place shown bracket_solid f c }
+nowhere_blanks true x b p code place shown f =
+    nowhere_due x (λ y c. no_sign_in_blanks 44 x b p y code place shown comma_solid f c) (λ r c. no_sign_in_blanks 93 x b p r code place shown bracket_solid f c)
+
+-- the end or another character, where a comma is due
+pub nowhere_other : (x w y : List ℕ) → x ≡ w ++ y → Gap w y → Solid y → NotBegun (λ c. c == 44) y → NotBegun (λ c. c == 93) y → GoesNowhere true x
+nowhere_other x w y e g s m n = nowhere_due x (λ z c. no_sign 44 x w y z comma_solid e g s m c) (λ r c. no_sign 93 x w y r bracket_solid e g s n c)
+
+-- no value and no bracket, where no comma is due
+pub nowhere_begun : (x w y : List ℕ) → x ≡ w ++ y → Gap w y → Solid y → ((t : Tree) (r : List ℕ) → Reads y t r → ⊥) → NotBegun (λ c. c == 93) y → GoesNowhere false x
+nowhere_begun x w y e g s m n = record { no_element = λ t r a. m t r (reads_found x w y r t e g s a); no_close = λ r c. no_sign 93 x w y r bracket_solid e g s n c }
+
+-- no array stands where the rest behind the gap doesn't begin with its bracket
+pub not_opened : (x w y r : List ℕ) → x ≡ w ++ y → Gap w y → Solid y → NotBegun (λ c. c == 91) y → Opens x r → ⊥
+not_opened x w y r e g s n o = no_sign 91 x w y r opening_solid e g s n o

@@ -1,0 +1,94 @@
+//! The laws of arrays and objects that are read member by member.
+ghost use Rattle.std.specs.Prelude.{◌≡◌, ◌⊎◌, ◌==◌, ℕ, ◌<◌, max, Bool, true, false, List, ◌++◌, length, Option};
+ghost use Rattle.json5_grammar.specs.Characters.{comma_sign, right_bracket, NotBegun};
+ghost use Rattle.json5_grammar.specs.Codes.{ErrorCode, Shown};
+ghost use Rattle.json5_grammar.specs.Blanks.{Gap, Solid, BlankFault};
+ghost use Rattle.json5_grammar.specs.Trees.{Tree, Trees, Pairs, array, object, no_more, more, pair, depth, depths, pair_depths};
+ghost use Rattle.json5_grammar.specs.Values.{Reads};
+ghost use Rattle.json5_grammar.specs.Members.{Opens, IsElement, IsClose, IsAtClose, Tail, Passed, GoesNowhere, snoc, joined, OpensObject, IsKey, IsKeyValue, IsBrace, PairsTail, PairsPassed, NoPairGoes, snoc_pair, joined_pairs};
+
+/// An array is what is opened and has its members and the closing bracket behind.
+pub fn array_from_front()
+    ensures apart { (x r : List ℕ) (ts : Trees) → Reads x (array ts) r → (y : List ℕ) × Opens x y × Tail ts false y r }
+    ensures together { (x y r : List ℕ) (ts : Trees) → Opens x y → Tail ts false y r → Reads x (array ts) r }
+{}
+
+/// A text goes on in one way: with one member or the closing bracket, and one rest is left.
+pub fn one_way_on()
+    ensures opening { (x r q : List ℕ) → Opens x r → Opens x q → r ≡ q }
+    ensures element { (due : Bool) (x r q : List ℕ) (t u : Tree) → IsElement due x t r → IsElement due x u q → (t ≡ u) × (r ≡ q) }
+    ensures close { (due : Bool) (x r q : List ℕ) → IsClose due x r → IsClose due x q → r ≡ q }
+    ensures either { (due : Bool) (x r q : List ℕ) (t : Tree) → IsElement due x t r → IsClose due x q → ⊥ }
+    ensures tail { (ts us : Trees) (due : Bool) (x r q : List ℕ) → Tail ts due x r → Tail us due x q → (ts ≡ us) × (r ≡ q) }
+{}
+
+/// A member, a key and a key's value take something.
+pub fn members_shorten()
+    ensures element { (due : Bool) (x r : List ℕ) (t : Tree) → IsElement due x t r → length r < length x }
+    ensures key { (due : Bool) (x r u : List ℕ) (p : Bool) → IsKey due x u p r → length r < length x }
+    ensures value { (x r : List ℕ) (t : Tree) → IsKeyValue x t r → length r < length x }
+{}
+
+/// Where the closing bracket was found it can be taken, and the array goes on so from before.
+pub fn close_after_found()
+    ensures can { (due now : Bool) (x y : List ℕ) → IsAtClose due x y → (r : List ℕ) × IsClose now y r }
+    ensures same { (due now : Bool) (x y r : List ℕ) → IsAtClose due x y → IsClose now y r → IsClose due x r }
+{}
+
+/// Members that were passed go on with one more, or with the rest of the array.
+pub fn passed_members()
+    ensures next { (ts : Trees) (due now : Bool) (x y z : List ℕ) (t : Tree) → Passed ts due x now y → IsElement now y t z → Passed (snoc ts t) due x true z }
+    ensures tail { (ts us : Trees) (due now : Bool) (x y r : List ℕ) → Passed ts due x now y → Tail us now y r → Tail (joined ts us) due x r }
+    ensures close { (ts : Trees) (due now : Bool) (x y r : List ℕ) → Passed ts due x now y → IsClose now y r → Tail ts due x r }
+{}
+
+/// What a whole array has behind members that were passed.
+pub fn rest_of_array()
+    ensures rest { (us ts : Trees) (due now : Bool) (x y r : List ℕ) → Passed us due x now y → Tail ts due x r → (vs : Trees) × (ts ≡ joined us vs) × Tail vs now y r }
+    ensures goes { (ts : Trees) (due : Bool) (x r : List ℕ) → Tail ts due x r
+        → ((ts ≡ no_more) × IsClose due x r) ⊎ ((t : Tree) × (us : Trees) × (y : List ℕ) × (ts ≡ more t us) × IsElement due x t y × Tail us true y r) }
+    ensures nowhere { (x y z r : List ℕ) (us ts : Trees) (due : Bool) → Opens x y → Passed us false y due z → GoesNowhere due z → Reads x (array ts) r → ⊥ }
+{}
+
+/// The depth of members that are put together is the greatest of theirs.
+pub fn depths_of_members()
+    ensures joined { (ts us : Trees) → depths (joined ts us) ≡ max (depths ts) (depths us) }
+    ensures snoc { (ts : Trees) (t : Tree) → depths (snoc ts t) ≡ max (depths ts) (depth t) }
+    ensures joined_pairs { (ps qs : Pairs) → pair_depths (joined_pairs ps qs) ≡ max (pair_depths ps) (pair_depths qs) }
+    ensures snoc_pair { (ps : Pairs) (u : List ℕ) (p : Bool) (t : Tree) → pair_depths (snoc_pair ps u p t) ≡ max (pair_depths ps) (depth t) }
+{}
+
+/// Nothing of an array goes on at a faulty comment, and where a comma is due neither at the end nor at a character that is
+/// neither a comma nor the closing bracket.
+pub fn nothing_goes_on()
+    ensures comment { (due : Bool) (x b p : List ℕ) (code : Option ErrorCode) (place : Option (List ℕ)) (shown : Shown) → BlankFault x code place b p shown → GoesNowhere due x }
+    ensures due { (x w y : List ℕ) → x ≡ w ++ y → Gap w y → Solid y → NotBegun (λ c. c == comma_sign) y → NotBegun (λ c. c == right_bracket) y → GoesNowhere true x }
+    ensures first { (x w y : List ℕ) → x ≡ w ++ y → Gap w y → Solid y → ((t : Tree) (r : List ℕ) → Reads y t r → ⊥) → NotBegun (λ c. c == right_bracket) y → GoesNowhere false x }
+{}
+
+/// An object is what is opened and has its pairs and the closing brace behind.
+pub fn object_from_front()
+    ensures apart { (x r : List ℕ) (ps : Pairs) → Reads x (object ps) r → (y : List ℕ) × OpensObject x y × PairsTail ps false y r }
+    ensures together { (x y r : List ℕ) (ps : Pairs) → OpensObject x y → PairsTail ps false y r → Reads x (object ps) r }
+{}
+
+/// An object goes on in one way: with one key and its value or the closing brace, and one rest is left.
+pub fn one_way_on_in_object()
+    ensures opening { (x r q : List ℕ) → OpensObject x r → OpensObject x q → r ≡ q }
+    ensures key { (due : Bool) (x r y u v : List ℕ) (p q : Bool) → IsKey due x u p r → IsKey due x v q y → (u ≡ v) × (p ≡ q) × (r ≡ y) }
+    ensures value { (x r q : List ℕ) (t u : Tree) → IsKeyValue x t r → IsKeyValue x u q → (t ≡ u) × (r ≡ q) }
+    ensures close { (due : Bool) (x r q : List ℕ) → IsBrace due x r → IsBrace due x q → r ≡ q }
+    ensures either { (due : Bool) (x r q u : List ℕ) (p : Bool) → IsKey due x u p r → IsBrace due x q → ⊥ }
+    ensures tail { (ps qs : Pairs) (due : Bool) (x r q : List ℕ) → PairsTail ps due x r → PairsTail qs due x q → (ps ≡ qs) × (r ≡ q) }
+{}
+
+/// Pairs that were passed go on with one more, or with the rest of the object.
+pub fn passed_pairs()
+    ensures next { (ps : Pairs) (due now : Bool) (x y k z u : List ℕ) (p : Bool) (t : Tree) → PairsPassed ps due x now y → IsKey now y u p k → IsKeyValue k t z → PairsPassed (snoc_pair ps u p t) due x true z }
+    ensures tail { (ps qs : Pairs) (due now : Bool) (x y r : List ℕ) → PairsPassed ps due x now y → PairsTail qs now y r → PairsTail (joined_pairs ps qs) due x r }
+    ensures close { (ps : Pairs) (due now : Bool) (x y r : List ℕ) → PairsPassed ps due x now y → IsBrace now y r → PairsTail ps due x r }
+    ensures rest { (qs ps : Pairs) (due now : Bool) (x y r : List ℕ) → PairsPassed qs due x now y → PairsTail ps due x r → (ws : Pairs) × (ps ≡ joined_pairs qs ws) × PairsTail ws now y r }
+    ensures value { (ps : Pairs) (due : Bool) (x y r u : List ℕ) (plain : Bool) → IsKey due x u plain y → PairsTail ps due x r
+        → (t : Tree) × (qs : Pairs) × (z : List ℕ) × (ps ≡ pair u plain t qs) × IsKeyValue y t z × PairsTail qs true z r }
+    ensures nowhere { (ps : Pairs) (due : Bool) (x r : List ℕ) → NoPairGoes due x → PairsTail ps due x r → ⊥ }
+{}

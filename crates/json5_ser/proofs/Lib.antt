@@ -1,0 +1,9 @@
+pub mod Joins
+pub mod PiecesWritten
+pub mod TextsWhole
+pub mod QuotesFound
+pub mod EscapesSplit
+pub mod AsciiPieces
+pub mod DecimalPieces
+pub mod LoneRead
+pub mod Unmarked

@@ -1,0 +1,49 @@
+-- What is written by one piece.
+use Rattle.std.proofs.Common.{◌≡◌, ℕ, List, [], ◌∷◌, ◌++◌, Bool, true, false, ◌&&◌, not, ◌==◌, refl, sym, ap, ◌∙◌, subst}
+use Rattle.std.specs.List.{list_any}
+use Rattle.std.specs.Str.{IsUtf8, IsAscii, chars, encode_utf8_all}
+use Rattle.std.proofs.lemmas.Str.{encodes-chars, scalars-chars, chars-IsAscii}
+use Rattle.std.specs.Io.KnownBytes.{Appends}
+use Rattle.json5_grammar.specs.Values.{null_text, true_text, false_text}
+use Rattle.json5_grammar.specs.Strings.{is_quote}
+use Rattle.json5_grammar.specs.Quoting.{quote_for, escaped_all, quoted_text}
+use Rattle.json5_grammar.proofs.Basics.{by_test}
+use Rattle.json5_ser.specs.Out.{piece, whole, ◌then◌}
+use Rattle.json5_ser.specs.Pieces.{AppendsFront}
+use Rattle.json5_ser.specs.Writes.{Seen, Wrote, Broke}
+
+pub wrote_piece : (t : List ℕ) (o n : Seen) → IsUtf8 t → o.failed ≡ false → n.failed ≡ false → n.depth ≡ o.depth → Appends o.known n.known t → Wrote (piece (chars t)) o n
+wrote_piece t o n u was failed depth p =
+    record { was = was; stop = refl; chars = scalars-chars t u; bytes = subst (Appends o.known n.known) (sym (encodes-chars t u)) p; depth = depth; failed = failed }
+
+pub broke_piece : (t : List ℕ) (o n : Seen) → IsUtf8 t → o.failed ≡ false → n.failed ≡ true → AppendsFront o.known n.known t → Broke (piece (chars t)) o n
+broke_piece t o n u was failed p = record { was = was; front = p.0; rest = p.1; cut = encodes-chars t u ∙ p.2; bytes = p.3; failed = failed }
+
+pub chars_null : chars null_text ≡ null_text
+unfolding chars
+chars_null = refl
+
+pub chars_true : chars true_text ≡ true_text
+unfolding chars
+chars_true = refl
+
+pub chars_false : chars false_text ≡ false_text
+unfolding chars
+chars_false = refl
+
+pub chars_number : (t : List ℕ) → IsAscii t → chars t ≡ t
+chars_number t h = chars-IsAscii t h
+
+pub chars_double_quote : chars (34 ∷ []) ≡ 34 ∷ []
+unfolding chars
+chars_double_quote = refl
+
+pub chars_single_quote : chars (39 ∷ []) ≡ 39 ∷ []
+unfolding chars
+chars_single_quote = refl
+
+pub quoted_parts : (u mark : List ℕ) (q : ℕ) → q ≡ quote_for u → mark ≡ q ∷ [] → piece (quoted_text u) ≡ piece mark then (piece (escaped_all q u) then piece mark)
+quoted_parts u mark q e f = sym (ap (λ m. piece m then (piece (escaped_all q u) then piece m)) f ∙ ap (λ c. piece (c ∷ (escaped_all c u ++ c ∷ []))) e)
+
+pub quote_is : (u : List ℕ) → is_quote (quote_for u) ≡ true
+quote_is u = by_test (λ q. is_quote q ≡ true) (list_any (λ c. c == 34) u && not (list_any (λ c. c == 39) u)) 39 34 (λ h. refl) (λ h. refl)

@@ -1,0 +1,9 @@
+use Rattle.std.proofs.Common.{ℕ, length}
+use Rattle.json5_ser.specs.Escaping.{StandsBefore}
+use Rattle.json5_ser.proofs.quoting.split_at_escape.Given as goal
+
+abbrev pub invariant-loop-c : goal.invariant-loop-c
+invariant-loop-c l = StandsBefore l.fn.quote l.initial.text l.rest
+
+abbrev pub decreases-loop-c : goal.decreases-loop-c
+decreases-loop-c l = length l.rest

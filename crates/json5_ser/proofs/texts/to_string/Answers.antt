@@ -1,0 +1,9 @@
+use Rattle.std.proofs.Common.{◌≡◌, string_bytes, ap, refl, rules}
+use Rattle.json5_ser.proofs.TextsWhole.{whole_text}
+use Rattle.json5_ser.proofs.texts.to_string.Goals as goal
+
+pub returns-in-Ok-clause-whole : goal.returns-in-Ok-clause-whole
+returns-in-Ok-clause-whole g c =
+    let wrote = rw c.new-ser.ensures at c.in-Ok.ensures in
+    let same = rw c.unwrap.ensures at c.from_utf8-text.ensures.ok in
+    whole_text _ _ _ c.into_inner-bytes.result.items (string_bytes c.unwrap.result) wrote (rw c.new.ensures.items refl) c.into_inner-bytes.ensures (ap (λ v. v.items) same)

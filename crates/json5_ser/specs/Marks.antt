@@ -1,0 +1,52 @@
+-- Which texts of a written tree are plain, and the tree without these marks.
+use Rattle.std.specs.Prelude.{ℕ, List, Bool, ◌||◌, not}
+use Rattle.json5_grammar.specs.Strings.{holds_backslash}
+use Rattle.json5_grammar.specs.Quoting.{quoted_text, is_name}
+use Rattle.json5_grammar.specs.Trees as marked
+use Rattle.json5_grammar.specs.Trees.{Tree, Trees, Pairs, no_more, more, no_pair, pair}
+use Rattle.json5_ser.specs.WrittenTrees as written
+use Rattle.json5_ser.specs.WrittenTrees.{Written, Elements, no_element, element, Fields, no_field, field, named, bad}
+
+-- the written text holds no backslash
+abbrev pub is_plain : List ℕ → Bool
+is_plain u = not (holds_backslash (quoted_text u))
+
+-- the key is written bare, or its text holds no backslash
+abbrev pub is_plain_key : List ℕ → Bool
+is_plain_key u = is_name u || is_plain u
+
+-- of a tree without a bad key
+abbrev mutual
+  pub marks : Written → Tree
+  marks written.null = marked.null
+  marks (written.boolean b) = marked.boolean b
+  marks (written.number n) = marked.number n
+  marks (written.text u) = marked.text u (is_plain u)
+  marks (written.array ts) = marked.array (element_marks ts)
+  marks (written.object fs) = marked.object (field_marks fs)
+
+  pub element_marks : Elements → Trees
+  element_marks no_element = no_more
+  element_marks (element t ts) = more (marks t) (element_marks ts)
+
+  pub field_marks : Fields → Pairs
+  field_marks no_field = no_pair
+  field_marks (field (named u) t fs) = pair u (is_plain_key u) (marks t) (field_marks fs)
+  field_marks (field bad t fs) = field_marks fs
+
+abbrev mutual
+  pub unmarked : Tree → Written
+  unmarked marked.null = written.null
+  unmarked (marked.boolean b) = written.boolean b
+  unmarked (marked.number n) = written.number n
+  unmarked (marked.text u plain) = written.text u
+  unmarked (marked.array ts) = written.array (unmarked_elements ts)
+  unmarked (marked.object ps) = written.object (unmarked_fields ps)
+
+  pub unmarked_elements : Trees → Elements
+  unmarked_elements no_more = no_element
+  unmarked_elements (more t ts) = element (unmarked t) (unmarked_elements ts)
+
+  pub unmarked_fields : Pairs → Fields
+  unmarked_fields no_pair = no_field
+  unmarked_fields (pair u plain t ps) = field (named u) (unmarked t) (unmarked_fields ps)

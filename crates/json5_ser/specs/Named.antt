@@ -1,0 +1,8 @@
+-- The bytes of a writer behind a reference.
+use Rattle.std.specs.Prelude.{ℕ, List, [], ◌∷◌, Option}
+use Rattle.std.specs.Option.{option_map}
+use Rattle.std.specs.Borrow.{GName}
+
+-- the bytes, and in front of them the name of the reference that leads to their writer
+abbrev pub named : GName → Option (List ℕ) → Option (List ℕ)
+named name known = option_map (λ bytes. name ∷ bytes) known

@@ -1,0 +1,90 @@
+-- The written text of a tree, and where it stops.
+-- Each member of a collection stands on a line of its own, two spaces a level, with a comma behind it.
+use Rattle.std.specs.Prelude.{ℕ, ◌+◌, ◌*◌, List, [], ◌∷◌, ◌++◌, Bool, true, false, replicate, nat_lt, cond}
+use Rattle.json5_grammar.specs.Characters.{line_feed, comma_sign, colon_sign, left_bracket, right_bracket, left_brace, right_brace}
+use Rattle.json5_grammar.specs.NumberText.{number_text}
+use Rattle.json5_grammar.specs.Quoting.{quoted_text, key_text}
+use Rattle.json5_grammar.specs.Values.{null_text, true_text, false_text}
+use Rattle.json5_ser.specs.WrittenTrees as written
+use Rattle.json5_ser.specs.WrittenTrees.{Key, named, bad, Written, Elements, no_element, element, Fields, no_field, field}
+
+-- whether the text is whole, or stops before a key or a bracket
+pub data Stop : Type 0 where
+  whole : Stop
+  invalid_key : Stop
+  too_deep : Stop
+
+-- the codes of its characters, and how it stops
+pub record Out : Type 0 where
+  pub text : List ℕ
+  pub stop : Stop
+
+abbrev pub piece : List ℕ → Out
+piece s = record { text = s; stop = whole }
+
+abbrev pub stopped : Stop → Out
+stopped s = record { text = []; stop = s }
+
+-- this text, and then the other where this is whole
+abbrev pub after : List ℕ → Stop → Out → Out
+after s whole o = record { text = s ++ o.text; stop = o.stop }
+after s invalid_key o = record { text = s; stop = invalid_key }
+after s too_deep o = record { text = s; stop = too_deep }
+
+infixr 10 ◌then◌
+abbrev pub ◌then◌ : Out → Out → Out
+a then b = after a.text a.stop b
+
+abbrev pub space : ℕ
+space = 0x20
+
+-- a line feed, and the spaces of a level
+abbrev pub line : ℕ → List ℕ
+line d = line_feed ∷ replicate (2 * d) space
+
+abbrev pub bool_text : Bool → List ℕ
+bool_text true = true_text
+bool_text false = false_text
+
+abbrev pub key_out : Key → Out
+key_out (named u) = piece (key_text u)
+key_out bad = stopped invalid_key
+
+-- what opens a collection within d others
+abbrev pub opening : ℕ → ℕ → ℕ → Out
+opening limit d bracket = cond (nat_lt d limit) (piece (bracket ∷ [])) (stopped too_deep)
+
+-- what closes it: the bracket alone where nothing stands in it
+abbrev pub closing : ℕ → Bool → ℕ → Out
+closing d true bracket = piece (line d ++ bracket ∷ [])
+closing d false bracket = piece (bracket ∷ [])
+
+-- a member of a list within d others
+abbrev pub element_out : ℕ → Out → Out
+element_out d o = piece (line (d + 1)) then (o then piece (comma_sign ∷ []))
+
+-- a key of an object within d others, and what stands behind it
+abbrev pub key_part : ℕ → Key → Out
+key_part d k = piece (line (d + 1)) then key_out k
+
+abbrev pub value_part : Out → Out
+value_part o = piece (colon_sign ∷ space ∷ []) then (o then piece (comma_sign ∷ []))
+
+-- the text of a tree within d brackets, of which `limit` may be open
+abbrev mutual
+  pub out : ℕ → Written → ℕ → Out
+  out limit written.null d = piece null_text
+  out limit (written.boolean b) d = piece (bool_text b)
+  out limit (written.number n) d = piece (number_text n)
+  out limit (written.text u) d = piece (quoted_text u)
+  out limit (written.array ts) d = opening limit d left_bracket then elements_out limit ts d false
+  out limit (written.object fs) d = opening limit d left_brace then fields_out limit fs d false
+
+  -- what stands behind the bracket that opens a list; the test says that something stands in it already
+  pub elements_out : ℕ → Elements → ℕ → Bool → Out
+  elements_out limit no_element d started = closing d started right_bracket
+  elements_out limit (element t ts) d started = element_out d (out limit t (d + 1)) then elements_out limit ts d true
+
+  pub fields_out : ℕ → Fields → ℕ → Bool → Out
+  fields_out limit no_field d started = closing d started right_brace
+  fields_out limit (field k t fs) d started = key_part d k then (value_part (out limit t (d + 1)) then fields_out limit fs d true)

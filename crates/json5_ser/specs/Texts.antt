@@ -1,0 +1,27 @@
+-- What `to_string` answers.
+use Rattle.std.specs.Prelude.{◌≡◌, ℕ, List, Option, None, ⊤}
+use Rattle.std.specs.Str.{chars, encode_utf8_all}
+use Rattle.json5_grammar.specs.declared.code.ErrorCode.TheVariants as codes
+use Rattle.json5_text.specs.declared.error.Error.{Error}
+use Rattle.json5_text.specs.Errors.{Kind, code, custom, failed_write, kind_of, place_of}
+use Rattle.json5_ser.specs.Out.{Out, Stop, whole, invalid_key, too_deep}
+
+-- the bytes are the whole text
+pub record IsText (o : Out) (bytes : List ℕ) : Type 0 where
+  pub stop : o.stop ≡ whole
+  pub characters : chars bytes ≡ o.text
+  pub encoded : bytes ≡ encode_utf8_all o.text
+
+-- the text stops with this kind of fault, or memory was refused
+abbrev pub StopsAs : Out → Kind → Type 0
+StopsAs o (code codes.InvalidKey) = o.stop ≡ invalid_key
+StopsAs o (code codes.TooDeep) = o.stop ≡ too_deep
+StopsAs o (code codes.OutOfMemory) = ⊤
+StopsAs o (code _) = ⊥
+StopsAs o failed_write = ⊥
+StopsAs o (custom _) = ⊥
+
+-- a refusal of `to_string`: it has no place
+pub record RefusesText (o : Out) (e : Error) : Type 0 where
+  pub stops : StopsAs o (kind_of e)
+  pub no_place : place_of e ≡ None

@@ -1,0 +1,88 @@
+-- What contracts see of a serializer, and what a call does to it.
+use Rattle.std.specs.Prelude.{◌≡◌, ℕ, List, ◌++◌, Bool, true, false, Option, None, Result, Ok, Err}
+use Rattle.std.specs.Str.{encode_utf8_all, all_scalars}
+use Rattle.std.specs.Io.KnownBytes.{Appends, Keeps}
+use Rattle.json5_grammar.specs.declared.code.ErrorCode.TheVariants as codes
+use Rattle.json5_text.specs.declared.error.Error.{Error}
+use Rattle.json5_text.specs.Errors.{Kind, code, custom, failed_write, kind_of, place_of}
+use Rattle.json5_ser.specs.Out.{Out, Stop, whole, invalid_key, too_deep}
+
+-- the bytes that the writer holds, where they are known; how many brackets are open; whether a call was refused
+pub record Seen : Type 0 where
+  pub known : Option (List ℕ)
+  pub depth : ℕ
+  pub failed : Bool
+
+-- the whole text was written, in UTF-8
+pub record Wrote (o : Out) (old new : Seen) : Type 0 where
+  pub was : old.failed ≡ false
+  pub stop : o.stop ≡ whole
+  pub chars : all_scalars o.text ≡ true
+  pub bytes : Appends old.known new.known (encode_utf8_all o.text)
+  pub depth : new.depth ≡ old.depth
+  pub failed : new.failed ≡ false
+
+-- the text stops here, and was written up to there
+pub record Stopped (s : Stop) (o : Out) (old new : Seen) : Type 0 where
+  pub was : old.failed ≡ false
+  pub stop : o.stop ≡ s
+  pub bytes : Appends old.known new.known (encode_utf8_all o.text)
+  pub failed : new.failed ≡ true
+
+-- the writer failed, and got a beginning of the text
+pub record Broke (o : Out) (old new : Seen) : Type 0 where
+  pub was : old.failed ≡ false
+  pub front : List ℕ
+  pub rest : List ℕ
+  pub cut : encode_utf8_all o.text ≡ front ++ rest
+  pub bytes : Appends old.known new.known front
+  pub failed : new.failed ≡ true
+
+-- an earlier call was refused, and nothing is written
+pub record Idled (old new : Seen) : Type 0 where
+  pub was : old.failed ≡ true
+  pub bytes : Keeps old.known new.known
+  pub failed : new.failed ≡ true
+
+-- the refusals of writing
+pub data Refusal : Type 0 where
+  by_key : Refusal
+  by_depth : Refusal
+  by_writer : Refusal
+  by_refusal : Refusal
+  by_none : Refusal
+
+-- a refusal of this kind leaves the serializer so; no other kind is a refusal of writing
+abbrev pub refusal_of : Kind → Refusal
+refusal_of (code codes.InvalidKey) = by_key
+refusal_of (code codes.TooDeep) = by_depth
+refusal_of (code codes.Failed) = by_refusal
+refusal_of (code _) = by_none
+refusal_of failed_write = by_writer
+refusal_of (custom _) = by_none
+
+abbrev pub RefusesBy : Out → Seen → Refusal → Seen → Type 0
+RefusesBy o old by_key new = Stopped invalid_key o old new
+RefusesBy o old by_depth new = Stopped too_deep o old new
+RefusesBy o old by_writer new = Broke o old new
+RefusesBy o old by_refusal new = Idled old new
+RefusesBy o old by_none new = ⊥
+
+-- a refusal has no place
+pub record Refuses (o : Out) (old : Seen) (e : Error) (new : Seen) : Type 0 where
+  pub leaves : RefusesBy o old (refusal_of (kind_of e)) new
+  pub no_place : place_of e ≡ None
+
+-- what a call did that has this text to write
+abbrev pub Writes : {A : Type 0} → Out → Seen → Result A Error → Seen → Type 0
+Writes o old (Ok x) new = Wrote o old new
+Writes o old (Err e) new = Refuses o old e new
+
+-- nothing is written yet
+abbrev pub fresh : Option (List ℕ) → Seen
+fresh known = record { known = known; depth = 0; failed = false }
+
+-- a whole text was written, or refused
+abbrev pub ended : {A : Type 0} → Option (List ℕ) → Result A Error → Seen
+ended known (Ok x) = record { known = known; depth = 0; failed = false }
+ended known (Err e) = record { known = known; depth = 0; failed = true }

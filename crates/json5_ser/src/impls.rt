@@ -1,0 +1,157 @@
+//! The values that can be written.
+
+ghost use Rattle.std.specs.Prelude.{pos, [], ◌∷◌, string_bytes};
+ghost use Rattle.std.specs.Str.{chars};
+ghost use Rattle.json5_text.specs.Cows.{cow_bytes};
+ghost use Rattle.json5_grammar.specs.Numbers.{whole, decimal};
+ghost use Rattle.json5_ser.specs.WrittenTrees.{null, boolean, number, text};
+
+use crate::{Serialize, Serializer};
+use json5_text::cow_str::CowStr;
+use json5_text::decimal::Decimal;
+use json5_text::error::Result;
+use std::io::Write;
+
+impl Serialize for () {
+    ghost tree = { λ _. null };
+
+    fn serialize<W: Write + Drop>(&self, ser: &mut Serializer<W>) -> Result<()> {
+        ser.serialize_unit()
+    }
+}
+
+impl Serialize for bool {
+    ghost tree = { boolean };
+
+    fn serialize<W: Write + Drop>(&self, ser: &mut Serializer<W>) -> Result<()> {
+        ser.serialize_bool(*self)
+    }
+}
+
+impl Serialize for u8 {
+    ghost tree = { λ n. number (whole (pos n)) };
+
+    fn serialize<W: Write + Drop>(&self, ser: &mut Serializer<W>) -> Result<()> {
+        ser.serialize_u8(*self)
+    }
+}
+
+impl Serialize for u16 {
+    ghost tree = { λ n. number (whole (pos n)) };
+
+    fn serialize<W: Write + Drop>(&self, ser: &mut Serializer<W>) -> Result<()> {
+        ser.serialize_u16(*self)
+    }
+}
+
+impl Serialize for u32 {
+    ghost tree = { λ n. number (whole (pos n)) };
+
+    fn serialize<W: Write + Drop>(&self, ser: &mut Serializer<W>) -> Result<()> {
+        ser.serialize_u32(*self)
+    }
+}
+
+impl Serialize for u64 {
+    ghost tree = { λ n. number (whole (pos n)) };
+
+    fn serialize<W: Write + Drop>(&self, ser: &mut Serializer<W>) -> Result<()> {
+        ser.serialize_u64(*self)
+    }
+}
+
+impl Serialize for u128 {
+    ghost tree = { λ n. number (whole (pos n)) };
+
+    fn serialize<W: Write + Drop>(&self, ser: &mut Serializer<W>) -> Result<()> {
+        ser.serialize_u128(*self)
+    }
+}
+
+impl Serialize for i8 {
+    ghost tree = { λ n. number (whole n) };
+
+    fn serialize<W: Write + Drop>(&self, ser: &mut Serializer<W>) -> Result<()> {
+        ser.serialize_i8(*self)
+    }
+}
+
+impl Serialize for i16 {
+    ghost tree = { λ n. number (whole n) };
+
+    fn serialize<W: Write + Drop>(&self, ser: &mut Serializer<W>) -> Result<()> {
+        ser.serialize_i16(*self)
+    }
+}
+
+impl Serialize for i32 {
+    ghost tree = { λ n. number (whole n) };
+
+    fn serialize<W: Write + Drop>(&self, ser: &mut Serializer<W>) -> Result<()> {
+        ser.serialize_i32(*self)
+    }
+}
+
+impl Serialize for i64 {
+    ghost tree = { λ n. number (whole n) };
+
+    fn serialize<W: Write + Drop>(&self, ser: &mut Serializer<W>) -> Result<()> {
+        ser.serialize_i64(*self)
+    }
+}
+
+impl Serialize for i128 {
+    ghost tree = { λ n. number (whole n) };
+
+    fn serialize<W: Write + Drop>(&self, ser: &mut Serializer<W>) -> Result<()> {
+        ser.serialize_i128(*self)
+    }
+}
+
+impl Serialize for char {
+    ghost tree = { λ c. text (c ∷ []) };
+
+    fn serialize<W: Write + Drop>(&self, ser: &mut Serializer<W>) -> Result<()> {
+        ser.serialize_char(*self)
+    }
+}
+
+impl Serialize for &str {
+    ghost tree = { λ s. text (chars s.now) };
+
+    fn serialize<W: Write + Drop>(&self, ser: &mut Serializer<W>) -> Result<()> {
+        ser.serialize_str(self)
+    }
+}
+
+impl Serialize for String {
+    ghost tree = { λ s. text (chars (string_bytes s)) };
+
+    fn serialize<W: Write + Drop>(&self, ser: &mut Serializer<W>) -> Result<()> {
+        ser.serialize_str(self.as_str())
+    }
+}
+
+impl Serialize for CowStr<'_> {
+    ghost tree = { λ s. text (chars (cow_bytes s)) };
+
+    fn serialize<W: Write + Drop>(&self, ser: &mut Serializer<W>) -> Result<()> {
+        ser.serialize_str(self.as_str())
+    }
+}
+
+impl Serialize for Decimal {
+    ghost tree = { λ d. number (decimal d) };
+
+    fn serialize<W: Write + Drop>(&self, ser: &mut Serializer<W>) -> Result<()> {
+        ser.serialize_decimal(self)
+    }
+}
+
+impl<T: Serialize> Serialize for &T {
+    ghost tree = { λ r. T.tree r.now };
+
+    fn serialize<W: Write + Drop>(&self, ser: &mut Serializer<W>) -> Result<()> {
+        Serialize::serialize(*self, ser)
+    }
+}

@@ -1,0 +1,17 @@
+//! Typed writing of JSON5.
+#![tactic(auto)]
+
+mod decimals;
+mod impls;
+pub mod laws;
+mod quoting;
+mod serialize;
+mod serializer;
+#[cfg(test)]
+mod tests;
+mod texts;
+mod value;
+
+pub use serialize::Serialize;
+pub use serializer::Serializer;
+pub use texts::{to_string, to_writer};

@@ -1,0 +1,22 @@
+//! What can be written.
+
+ghost use Rattle.json5_ser.specs.WrittenTrees.{Written};
+ghost use Rattle.json5_ser.specs.Out.{out};
+ghost use Rattle.json5_ser.specs.Writes.{Writes};
+
+use crate::Serializer;
+use json5_text::error::Result;
+use std::io::Write;
+
+/// A value that can be written. Each type says by `tree` what is written of its values.
+pub trait Serialize {
+    ghost tree: { Self → Written };
+
+    /// Writes the text of the value's tree, within the brackets that are open.
+    ///
+    /// It refuses with `InvalidKey` or `TooDeep` where the text stops, and then the writer holds
+    /// exactly the text before that key or bracket; with a failed write where the writer failed,
+    /// which then holds a beginning of the text; with `Failed` after an earlier refusal.
+    fn serialize<W: Write + Drop>(&self, ser: &mut Serializer<W>) -> Result<()>
+        ensures { Writes (out 128 (tree self.now) ser.old.depth) ser.old result ser.new };
+}

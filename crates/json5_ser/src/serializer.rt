@@ -1,0 +1,227 @@
+//! Writing values to a writer.
+
+ghost use Rattle.std.specs.Prelude.{◌≡◌, ◌≤◌, [], ◌∷◌, true, false, pos};
+ghost use Rattle.std.specs.Str.{chars};
+ghost use Rattle.json5_grammar.specs.Numbers.{whole};
+ghost use Rattle.json5_grammar.specs.Strings.{is_quote};
+ghost use Rattle.json5_grammar.specs.Quoting.{escaped_all};
+ghost use Rattle.json5_ser.specs.WrittenTrees.{null, boolean, number, text};
+ghost use Rattle.json5_ser.specs.Out.{out, piece};
+ghost use Rattle.json5_ser.specs.Writes.{Seen, Writes};
+ghost use Rattle.json5_ser.specs.Pieces.{Pushes};
+
+use crate::quoting::{quote_for, quote_text, split_at_escape};
+use itoa::{Buffer, Integer};
+use json5_text::ErrorCode;
+use json5_text::error::{Error, Result};
+use std::io;
+use std::io::{ErrorKind, Write};
+use std::marker::Model;
+
+/// Writes values to `W`. After a refusal every call answers `Failed`.
+#[derive(Drop)]
+pub struct Serializer<W: Write + Drop> {
+    writer: W,
+    depth: u8,
+    failed: bool,
+}
+
+impl<W: Write + Drop> Model for Serializer<W> {
+    ghost Value = { Seen };
+
+    ghost view = { λ s. record { known = W.contents s.writer; depth = s.depth; failed = s.failed } };
+
+    ghost invariant = { λ s. s.depth ≤ 128 };
+}
+
+/// Calls `write` until all bytes are taken. An error, `Interrupted` too, and a call that takes
+/// nothing end it, and no call follows.
+fn write_whole<W: Write>(writer: &mut W, bytes: &[u8]) -> io::Result<()>
+    ensures { Pushes (W.contents writer.old) (W.contents writer.new) bytes.now result }
+{
+    let mut rest = bytes;
+    while !rest.is_empty() {
+        match writer.write(rest) {
+            Ok(0) => return Err(io::Error::from(ErrorKind::WriteZero)),
+            Ok(n) => rest = &rest[n..],
+            Err(e) => return Err(e),
+        }
+    }
+    Ok(())
+}
+
+impl<W: Write + Drop> Serializer<W> {
+    /// Nothing is written yet.
+    pub fn new(writer: W) -> Self
+        ensures { result ≡ record { known = W.contents writer; depth = 0; failed = false } }
+    {
+        Serializer {
+            writer,
+            depth: 0,
+            failed: false,
+        }
+    }
+
+    /// Gives the writer back.
+    pub fn into_inner(self) -> W
+        ensures { W.contents result ≡ self.known }
+    {
+        let Serializer {
+            writer,
+            depth: _,
+            failed: _,
+        } = self;
+        writer
+    }
+
+    /// Writes a piece, unless a call was refused before.
+    #[tactic(auto, using(crate::proofs::Joins::refused_so))]
+    pub(crate) fn put(&mut self, text: &str) -> Result<()>
+        ensures { Writes (piece (chars text.now)) self.old result self.new }
+    {
+        if self.failed {
+            return Err(Error::new(ErrorCode::Failed));
+        }
+        match write_whole(&mut self.writer, text.as_bytes()) {
+            Ok(()) => Ok(()),
+            Err(e) => {
+                self.failed = true;
+                Err(Error::from(e))
+            }
+        }
+    }
+
+    #[tactic(auto, using(crate::proofs::PiecesWritten::chars_number))]
+    fn put_integer<I: Integer>(&mut self, value: I) -> Result<()>
+        ensures { Writes (piece (I.text value)) self.old result self.new }
+    {
+        let mut buffer = Buffer::new();
+        let digits = buffer.format(value);
+        self.put(digits)
+    }
+
+    /// Writes `null`.
+    #[tactic(auto, using(crate::proofs::PiecesWritten::chars_null))]
+    pub fn serialize_unit(&mut self) -> Result<()>
+        ensures { Writes (out 128 null self.old.depth) self.old result self.new }
+    {
+        self.put("null")
+    }
+
+    /// Writes `true` or `false`.
+    #[tactic(auto, using(crate::proofs::PiecesWritten::chars_true, crate::proofs::PiecesWritten::chars_false))]
+    pub fn serialize_bool(&mut self, value: bool) -> Result<()>
+        ensures { Writes (out 128 (boolean value) self.old.depth) self.old result self.new }
+    {
+        if value {
+            self.put("true")
+        } else {
+            self.put("false")
+        }
+    }
+
+    /// Writes the decimal digits.
+    pub fn serialize_u8(&mut self, value: u8) -> Result<()>
+        ensures { Writes (out 128 (number (whole (pos value))) self.old.depth) self.old result self.new }
+    {
+        self.put_integer(value)
+    }
+
+    /// Writes the decimal digits.
+    pub fn serialize_u16(&mut self, value: u16) -> Result<()>
+        ensures { Writes (out 128 (number (whole (pos value))) self.old.depth) self.old result self.new }
+    {
+        self.put_integer(value)
+    }
+
+    /// Writes the decimal digits.
+    pub fn serialize_u32(&mut self, value: u32) -> Result<()>
+        ensures { Writes (out 128 (number (whole (pos value))) self.old.depth) self.old result self.new }
+    {
+        self.put_integer(value)
+    }
+
+    /// Writes the decimal digits.
+    pub fn serialize_u64(&mut self, value: u64) -> Result<()>
+        ensures { Writes (out 128 (number (whole (pos value))) self.old.depth) self.old result self.new }
+    {
+        self.put_integer(value)
+    }
+
+    /// Writes the decimal digits.
+    pub fn serialize_u128(&mut self, value: u128) -> Result<()>
+        ensures { Writes (out 128 (number (whole (pos value))) self.old.depth) self.old result self.new }
+    {
+        self.put_integer(value)
+    }
+
+    /// Writes the decimal digits, behind a minus where the number is negative.
+    pub fn serialize_i8(&mut self, value: i8) -> Result<()>
+        ensures { Writes (out 128 (number (whole value)) self.old.depth) self.old result self.new }
+    {
+        self.put_integer(value)
+    }
+
+    /// Writes the decimal digits, behind a minus where the number is negative.
+    pub fn serialize_i16(&mut self, value: i16) -> Result<()>
+        ensures { Writes (out 128 (number (whole value)) self.old.depth) self.old result self.new }
+    {
+        self.put_integer(value)
+    }
+
+    /// Writes the decimal digits, behind a minus where the number is negative.
+    pub fn serialize_i32(&mut self, value: i32) -> Result<()>
+        ensures { Writes (out 128 (number (whole value)) self.old.depth) self.old result self.new }
+    {
+        self.put_integer(value)
+    }
+
+    /// Writes the decimal digits, behind a minus where the number is negative.
+    pub fn serialize_i64(&mut self, value: i64) -> Result<()>
+        ensures { Writes (out 128 (number (whole value)) self.old.depth) self.old result self.new }
+    {
+        self.put_integer(value)
+    }
+
+    /// Writes the decimal digits, behind a minus where the number is negative.
+    pub fn serialize_i128(&mut self, value: i128) -> Result<()>
+        ensures { Writes (out 128 (number (whole value)) self.old.depth) self.old result self.new }
+    {
+        self.put_integer(value)
+    }
+
+    /// The text with the characters escaped that don't stand for themselves between these quotes.
+    /// What stands between two escapes is written in one piece.
+    fn put_escaped(&mut self, quote: char, text: &str) -> Result<()>
+        requires quote { is_quote quote ≡ true }
+        requires ready { self.old.failed ≡ false }
+        ensures { Writes (piece (escaped_all quote (chars text.now))) self.old result self.new }
+    {
+        let mut rest = text;
+        while let Some((raw, escaped, after)) = split_at_escape(quote, rest) {
+            self.put(raw)?;
+            self.put(escaped)?;
+            rest = after;
+        }
+        self.put(rest)
+    }
+
+    /// Writes a text between quotes: between `'` where it holds `"` and no `'`, else between `"`.
+    pub fn serialize_str(&mut self, value: &str) -> Result<()>
+        ensures { Writes (out 128 (text (chars value.now)) self.old.depth) self.old result self.new }
+    {
+        let quote = quote_for(value);
+        let mark = quote_text(quote);
+        self.put(mark)?;
+        self.put_escaped(quote, value)?;
+        self.put(mark)
+    }
+
+    /// Writes the text of one character.
+    pub fn serialize_char(&mut self, value: char) -> Result<()>
+        ensures { Writes (out 128 (text (value ∷ [])) self.old.depth) self.old result self.new }
+    {
+        let mut buffer = [0u8; 4];
+        self.serialize_str(value.encode_utf8(&mut buffer))
+    }
+}

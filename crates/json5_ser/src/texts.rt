@@ -1,0 +1,64 @@
+//! Whole texts.
+
+ghost use Rattle.std.specs.Prelude.{◌≡◌, Option, ℕ, List, string_bytes, IfOk, IfErr};
+ghost use Rattle.json5_ser.specs.Out.{out};
+ghost use Rattle.json5_ser.specs.Writes.{Writes, fresh, ended};
+ghost use Rattle.json5_ser.specs.Texts.{IsText, RefusesText};
+ghost use Rattle.json5_ser.specs.Named.{named};
+
+use crate::{Serialize, Serializer};
+use json5_text::ErrorCode;
+use json5_text::error::{Error, Result};
+use std::alloc::Global;
+use std::io;
+use std::io::Write;
+
+/// A writer that is lent. Its bytes begin with the name of the reference, so that a proof knows
+/// which writer they are of.
+#[derive(Drop)]
+struct Lent<'a, W: Write> {
+    writer: &'a mut W,
+}
+
+impl<W: Write> Write for Lent<'_, W> {
+    ghost contents = { λ s. named s.writer.ghost_name (W.contents s.writer.now) };
+
+    fn write(&mut self, buf: &[u8]) -> io::Result<usize> {
+        self.writer.write(buf)
+    }
+
+    fn flush(&mut self) -> io::Result<()> {
+        self.writer.flush()
+    }
+}
+
+/// Writes the text of a value. After a refusal the writer holds a beginning of the text: exactly
+/// the text before the key or the bracket at `InvalidKey` or `TooDeep`. `flush` isn't called.
+pub fn to_writer<T: Serialize, W: Write>(w: &mut W, value: &T) -> Result<()>
+    ensures { Writes (out 128 (T.tree value.now) 0) (fresh (W.contents w.old)) result (ended (W.contents w.new) result) }
+{
+    let mut ser = Serializer::new(Lent { writer: w });
+    let result = value.serialize(&mut ser);
+    let Lent { writer } = ser.into_inner();
+    let _ = &*writer;
+    result
+}
+
+/// The text of a value. It refuses with `InvalidKey` or `TooDeep` where the text stops, and with
+/// `OutOfMemory` where a growth was refused.
+pub fn to_string<T: Serialize>(alloc: Global, value: &T) -> Result<String>
+    ensures whole { IfOk result (λ s. IsText (out 128 (T.tree value.now) 0) (string_bytes s)) }
+    ensures refused { IfErr result (λ e. RefusesText (out 128 (T.tree value.now) 0) e) }
+{
+    let mut ser = Serializer::new(Vec::new(alloc));
+    let written = value.serialize(&mut ser);
+    let bytes = ser.into_inner();
+    match written {
+        Ok(()) => {
+            let text = String::from_utf8(bytes);
+            Ok(text.unwrap())
+        }
+        Err(e) if e.code().is_none() => Err(Error::new(ErrorCode::OutOfMemory)),
+        Err(e) => Err(e),
+    }
+}
