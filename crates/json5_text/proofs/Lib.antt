@@ -11,3 +11,4 @@ pub mod TextsCompared
 pub mod ScanEscapes
 pub mod ScanStrings
 pub mod ValuesCompared
+pub mod ScanNames

@@ -14,3 +14,4 @@ pub mod Escapes
 pub mod Cows
 pub mod Compared
 pub mod ValueViews
+pub mod ScanNames
