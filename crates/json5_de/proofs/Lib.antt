@@ -2,3 +2,9 @@ pub mod Awaited
 pub mod Words
 pub mod Awaits
 pub mod Taken
+pub mod Offsets
+pub mod AwaitsNumbers
+pub mod Mismatches
+pub mod Ends
+pub mod AwaitsTexts
+pub mod Documents

@@ -3,3 +3,4 @@ pub mod Law
 pub mod Faults
 pub mod Convert
 pub mod Steps
+pub mod Integers

@@ -2,5 +2,9 @@
 #![tactic(auto)]
 
 pub mod de;
+mod integers;
+mod mismatch;
 mod scalars;
+pub mod text;
+mod texts;
 mod types;

@@ -10,7 +10,7 @@ use Rattle.json5_grammar.specs.Characters.{is_digit, Each, no_char, char}
 use Rattle.json5_grammar.specs.Numbers.{without_front_zeros, without_zeros, normal_exponent, is_empty, InExponents}
 use Rattle.json5_grammar.specs.NumberText.{IsNormal}
 use Rattle.json5_text.specs.NumberSteps.{raised}
-use Rattle.json5_grammar.proofs.NumberTests.{by_test, Each-append}
+use Rattle.json5_grammar.proofs.NumberTests.{by_test}
 use Rattle.json5_grammar.proofs.DecimalsWritten.{Each-reverse}
 use Rattle.json5_grammar.proofs.NormalForms.{bare_twice}
 

@@ -1,0 +1,32 @@
+use Rattle.std.proofs.Common.{◌≡◌, List, ℕ, Bool, true, false, Some, None, refl, ap, inr, sym, ◌∙◌, subst, string_bytes}
+use Rattle.std.specs.Str.{chars, encode_utf8_all}
+use Rattle.std.proofs.lemmas.Result.{err_from_is_err_and, IfOk-weaker, IfErr-weaker}
+use Rattle.json5_grammar.specs.Trees as trees
+use Rattle.json5_grammar.specs.Values.{is_text}
+use Rattle.json5_text.specs.Cows.{cow_bytes, is_borrowed}
+use Rattle.json5_de.specs.Convert.{every_text, if_plain, every_cow, one_character}
+use Rattle.json5_de.specs.Faults.{faulty_text}
+use Rattle.json5_de.proofs.Taken.{took_leaf, refused_blanks, refused_or_memory}
+use Rattle.json5_de.proofs.AwaitsTexts.{text_stops}
+use Rattle.json5_de.proofs.Mismatches.{refused_text}
+use Rattle.json5_de.proofs.de.Deserializer.read_char.Goals as goal
+
+pub returns-in_err-begin-clause-refused : goal.returns-in_err-begin-clause-refused
+returns-in_err-begin-clause-refused g c =
+    let (y, is, from) = err_from_is_err_and c.from_residual.result c.from_residual.ensures.1 in
+    rw (is, from) (inr (refused_blanks c.args.self.now c.in_err-begin.field-0.0 c.in_err-begin.ensures.refused))
+
+pub returns-in_err-text-clause-refused : goal.returns-in_err-text-clause-refused
+returns-in_err-text-clause-refused g c =
+    let (y, is, from) = err_from_is_err_and c.from_residual-in_err-text.result c.from_residual-in_err-text.ensures.1 in
+    rw (is, from) (refused_or_memory c.args.self.now c.begin.new.self c.in_err-text.field-0.0 (λ x reason place f. faulty_text f) c.in_ok-begin.ensures.passed c.in_err-text.ensures.refused)
+
+pub returns-in_default-clause-refused : goal.returns-in_default-clause-refused
+returns-in_default-clause-refused g c =
+    let (s, u, plain, took, str, bytes) = c.in_ok-text.ensures.taken in
+    ?
+
+pub returns-clause-sound : goal.returns-clause-sound
+returns-clause-sound g c =
+    let (s, u, plain, took, str, bytes) = c.in_ok-text.ensures.taken in
+    ?
