@@ -12,3 +12,8 @@ pub mod ScanEscapes
 pub mod ScanStrings
 pub mod ValuesCompared
 pub mod ScanNames
+pub mod NumberSteps
+pub mod NumberLiterals
+pub mod NumberValues
+pub mod NumberJudged
+pub mod NumberCases

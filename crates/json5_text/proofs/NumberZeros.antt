@@ -25,7 +25,7 @@ front_parts : (a b : List ℕ) → without_front_zeros (a ++ b) ≡ cond (is_emp
 front_parts [] b = refl
 front_parts (c ∷ a) b = front_step c a b (front_parts a b) (c == 48) refl
 
-empty_is : (s : List ℕ) → length s ≡ 0 → s ≡ []
+pub empty_is : (s : List ℕ) → length s ≡ 0 → s ≡ []
 empty_is [] h = refl
 empty_is (c ∷ s) h = absurd (omega arith)
 
@@ -95,7 +95,7 @@ length_if : (b : Bool) (c : ℕ) (s t : List ℕ) → length t ≤ length s → 
 length_if true c s t h = omega arith
 length_if false c s t h = omega arith
 
-length-front : (s : List ℕ) → length (without_front_zeros s) ≤ length s
+pub length-front : (s : List ℕ) → length (without_front_zeros s) ≤ length s
 length-front [] = omega arith
 length-front (c ∷ s) = length_if (c == 48) c s (without_front_zeros s) (length-front s)
 

@@ -13,6 +13,7 @@ mod front;
 pub mod input;
 mod names;
 pub mod number;
+mod numbers;
 mod refusal;
 mod runs;
 pub mod scanner;
