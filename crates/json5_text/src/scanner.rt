@@ -5,11 +5,12 @@ ghost use Rattle.std.specs.Str.{chars, encode_utf8_all};
 ghost use Rattle.json5_grammar.specs.Characters.{NotBegun};
 ghost use Rattle.json5_grammar.specs.Blanks.{Gap, Solid};
 ghost use Rattle.json5_grammar.specs.Strings.{Str};
+ghost use Rattle.json5_grammar.specs.Names.{Ident, goes_on_name};
 ghost use Rattle.json5_text.specs.Cows.{cow_bytes, is_borrowed};
 ghost use Rattle.json5_grammar.specs.Positions.{position_behind};
 ghost use Rattle.json5_text.specs.Errors.{Kind, code, kind_of, place_of};
 ghost use Rattle.json5_text.specs.Cursor.{Cursor, offset_of, Refused, Took, Behind, Says, IsOutOfMemory};
-ghost use Rattle.json5_text.specs.Tokens.{FaultyBlanks, FaultyString, FaultyWord};
+ghost use Rattle.json5_text.specs.Tokens.{FaultyBlanks, FaultyName, FaultyString, FaultyWord};
 ghost use Rattle.json5_text.specs.Scan.{InText, Leaves, InUnread, IsWhere, IsThere, MadeOf};
 
 use crate::blanks::skip_blank;
@@ -17,6 +18,7 @@ use crate::cow_str::CowStr;
 use crate::error::{Error, Result};
 use crate::front::front;
 use crate::input::{Borrows, Input};
+use crate::names::read_name;
 use crate::refusal::Refusal;
 use crate::strings::{read_owned, read_string};
 use crate::words::skip_word;
@@ -207,6 +209,24 @@ impl<'de, I: Borrows<'de>> Scanner<I> {
         ensures plain { (s u r : List ℕ) → self.old.unread ≡ s ++ r → Str s u true → IsOk result }
     {
         let (text, left) = match read_string(self.alloc, self.borrowed_rest()) {
+            Ok((text, rest)) => (text, rest.len()),
+            Err(refusal) => return Err(self.fault(refusal)),
+        };
+        self.leave(left);
+        Ok(text)
+    }
+
+    /// Takes an identifier and gives its text, borrowed where it holds no backslash (JSON5 section 3, ECMAScript 5.1 section
+    /// 7.6). A character that may not begin one is `ExpectedIdentifier` at it, and an escape of a character that may not stand
+    /// there is the same at the escape's backslash; faulty escapes are those of `string`. What stands behind the identifier must
+    /// be there: `EofParsingIdentifier`, like `EofParsingEscapeSequence`, has no place. Memory is wanted where an escape is used.
+    pub fn identifier(&mut self) -> Result<CowStr<'de>>
+        ensures taken { IfOk result (λ t. (s u : List ℕ) × (plain : Bool) × Took self.old s self.new × Ident s u plain × (is_borrowed t ≡ plain) × (cow_bytes t ≡ encode_utf8_all u)) }
+        ensures stops { OnOk result ((c : ℕ) × (r : List ℕ) × (self.new.unread ≡ c ∷ r) × (goes_on_name c ≡ false)) }
+        ensures refused { IfErr result (λ e. IsOutOfMemory e ⊎ Refused FaultyName self.old e) }
+        ensures behind { OnErr result (Behind self.old self.new) }
+    {
+        let (text, left) = match read_name(self.alloc, self.borrowed_rest()) {
             Ok((text, rest)) => (text, rest.len()),
             Err(refusal) => return Err(self.fault(refusal)),
         };
