@@ -8,3 +8,4 @@ pub mod Mismatches
 pub mod Ends
 pub mod AwaitsTexts
 pub mod Documents
+pub mod TextScalars
