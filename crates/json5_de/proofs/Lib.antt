@@ -9,3 +9,4 @@ pub mod Ends
 pub mod AwaitsTexts
 pub mod Documents
 pub mod TextScalars
+pub mod WholeDecimals

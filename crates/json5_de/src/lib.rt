@@ -2,6 +2,7 @@
 #![tactic(auto)]
 
 pub mod de;
+mod decimals;
 mod integers;
 mod mismatch;
 mod scalars;
