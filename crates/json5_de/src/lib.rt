@@ -6,6 +6,8 @@ mod decimals;
 mod integers;
 mod mismatch;
 mod scalars;
+#[cfg(test)]
+mod tests;
 pub mod text;
 mod texts;
 mod types;
