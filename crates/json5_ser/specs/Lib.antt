@@ -6,3 +6,5 @@ pub mod Pieces
 pub mod Named
 pub mod Texts
 pub mod Escaping
+pub mod ValueTrees
+pub mod Lone

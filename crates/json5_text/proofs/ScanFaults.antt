@@ -2,17 +2,15 @@
 use Rattle.std.proofs.Common.{◌≡◌, ℕ, List, ◌++◌, refl, ap, sym, ◌∙◌, append_assoc, Option, Some, None, ◌⊎◌, inl, inr, subst}
 use Rattle.std.specs.Prelude.{⊤}
 use Rattle.json5_grammar.specs.declared.code.ErrorCode.{ErrorCode}
-use Rattle.json5_grammar.specs.declared.position.Position.{Position}
-use Rattle.json5_grammar.specs.Positions.{position_behind}
 use Rattle.json5_grammar.specs.Reading.{Read, got, bad, Place, here, inner, IsAt}
 use Rattle.json5_text.specs.declared.error.Error.{Error}
 use Rattle.json5_text.specs.declared.refusal.Refusal.{Refusal}
 use Rattle.json5_text.specs.declared.refusal.Refusal.TheVariants as refusal
-use Rattle.json5_text.specs.Errors.{code, kind_of, place_of}
+use Rattle.json5_text.specs.Errors.{place_of}
 use Rattle.json5_text.specs.Outcome.{Outcome, gave, failed, outcome, bytes_in, left_at}
 use Rattle.json5_text.specs.Cursor.{Cursor, Says, IsPlaced, IsOutOfMemory, Refused}
 use Rattle.json5_text.specs.Refused.{Refuses}
-use Rattle.json5_text.specs.Scan.{HasCode, Leaves, InUnread, IsWhere, IsThere, MadeOf}
+use Rattle.json5_text.specs.Scan.{HasCode, Leaves, InUnread, IsThere, MadeOf}
 
 -- reading x is refused with a fault of x
 pub record FaultAt (IsFault : List ℕ → Option ErrorCode → Option (List ℕ) → Type 0) (x : List ℕ) (reason : Option ErrorCode) (p : Place) : Type 0 where

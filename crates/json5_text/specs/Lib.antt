@@ -13,4 +13,5 @@ pub mod Scan
 pub mod Escapes
 pub mod Cows
 pub mod Compared
+pub mod NumberParts
 pub mod ValueViews

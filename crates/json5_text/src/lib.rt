@@ -12,9 +12,12 @@ mod fault_tests;
 mod front;
 pub mod input;
 pub mod number;
+mod numbers;
 mod refusal;
 mod runs;
 pub mod scanner;
+#[cfg(test)]
+mod scanner_tests;
 mod strings;
 pub mod value;
 pub mod whole;

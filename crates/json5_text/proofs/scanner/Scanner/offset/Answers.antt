@@ -1,5 +1,3 @@
-use Rattle.std.proofs.Common.{refl}
-use Rattle.std.specs.Str.{chars}
 use Rattle.json5_text.proofs.ScanBytes.{halves_in, parts_scalar, offset_counted}
 use Rattle.json5_text.proofs.scanner.Scanner.offset.Goals as goal
 
