@@ -16,15 +16,15 @@ use Rattle.json5_de.specs.Steps.{PassedGap}
 use Rattle.json5_de.proofs.Awaited.{no_end_fault}
 use Rattle.json5_de.proofs.Taken.{refused_token}
 
-some_left : (x : List ℕ) → is_some (slice_get x 0) ≡ true → (c : ℕ) × (r : List ℕ) × (x ≡ c ∷ r)
+pub some_left : (x : List ℕ) → is_some (slice_get x 0) ≡ true → (c : ℕ) × (r : List ℕ) × (x ≡ c ∷ r)
 some_left [] e = absurd (cc)
 some_left (c ∷ r) e = (c, r, refl)
 
-none_left : (x : List ℕ) → is_some (slice_get x 0) ≡ false → x ≡ []
+pub none_left : (x : List ℕ) → is_some (slice_get x 0) ≡ false → x ≡ []
 none_left [] e = refl
 none_left (c ∷ r) e = absurd (cc)
 
-peeked : (x : List ℕ) (o : Option ℕ) (b v : Bool) → b ≡ v → b ≡ is_some o → o ≡ slice_get x 0 → is_some (slice_get x 0) ≡ v
+pub peeked : (x : List ℕ) (o : Option ℕ) (b v : Bool) → b ≡ v → b ≡ is_some o → o ≡ slice_get x 0 → is_some (slice_get x 0) ≡ v
 peeked x o b v test is_it at = ap is_some (sym at) ∙ sym is_it ∙ test
 
 -- what is left behind the gap at the end

@@ -8,3 +8,5 @@ pub mod Mismatches
 pub mod Ends
 pub mod AwaitsTexts
 pub mod Documents
+pub mod TextScalars
+pub mod WholeDecimals

@@ -1,6 +1,6 @@
 -- What each type takes of a tree: at most one content.
 use Rattle.std.specs.Prelude.{ℕ, Bool, true, false, if◌then◌else◌, nat_lt, List, [], ◌∷◌, ℤ, pos, negsuc, nat_abs, Option, Some, None}
-use Rattle.std.specs.Prelude as numerals
+use Rattle.std.specs.Fmt as numerals
 use Rattle.std.specs.Str.{encode_utf8_all}
 use Rattle.json5_grammar.specs.Numbers.{Number, Decimal, whole, decimal, finite, without_zeros, normal_exponent}
 use Rattle.json5_grammar.specs.Trees.{Tree, null, boolean, number, text, array, object}
@@ -52,8 +52,11 @@ abbrev pub same_decimal : Number → Decimal
 same_decimal (whole z) = let digits = numerals.decimal (nat_abs z) in finite (is_minus z) (without_zeros digits) (normal_exponent digits (pos 0))
 same_decimal (decimal d) = d
 
+abbrev pub every_decimal : Number → Option Decimal
+every_decimal n = Some (same_decimal n)
+
 abbrev pub decimal_of : Tree → Option Decimal
-decimal_of = as_number (λ n. Some (same_decimal n))
+decimal_of = as_number every_decimal
 
 -- ---- texts
 

@@ -10,7 +10,7 @@ ghost use Rattle.json5_grammar.specs.declared.code.ErrorCode.TheVariants as code
 ghost use Rattle.json5_de.specs.State.{State, cursor_of, OnlyRead};
 ghost use Rattle.json5_de.specs.Faults.{RefusedBy, AtEnd, Trailing};
 ghost use Rattle.json5_de.specs.Law.{Gives, Completes, StaysFailed};
-ghost use Rattle.std.specs.Str.{encode_utf8_all};
+ghost use Rattle.std.specs.Str.{all_scalars, encode_utf8_all};
 ghost use Rattle.json5_grammar.specs.Characters.{NotBegun};
 ghost use Rattle.json5_grammar.specs.Numbers.{Num};
 ghost use Rattle.json5_grammar.specs.Stops.{lengthens};
@@ -188,7 +188,9 @@ impl<I: Input> Deserializer<I> {
 
     /// The count of bytes before what is unread.
     pub(crate) fn offset(&self) -> usize
-        ensures { IsOffset self.now.input result × ((before : List ℕ) → self.now.input ≡ before ++ self.now.unread → result ≡ length (encode_utf8_all before)) }
+        ensures offset { IsOffset self.now.input result }
+        ensures counted { (before : List ℕ) → self.now.input ≡ before ++ self.now.unread → result ≡ length (encode_utf8_all before) }
+        ensures scalars { all_scalars self.now.unread ≡ true }
     {
         self.scanner.offset()
     }

@@ -2,9 +2,12 @@
 #![tactic(auto)]
 
 pub mod de;
+mod decimals;
 mod integers;
 mod mismatch;
 mod scalars;
+#[cfg(test)]
+mod tests;
 pub mod text;
 mod texts;
 mod types;

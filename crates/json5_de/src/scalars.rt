@@ -6,13 +6,15 @@ ghost use Rattle.json5_grammar.specs.NumberFaults.{is_sign, begins_number};
 ghost use Rattle.json5_de.specs.State.{State, cursor_of};
 ghost use Rattle.json5_de.specs.Law.{Gives, Completes, CompletesWithoutMemory, StaysFailed};
 ghost use Rattle.json5_de.specs.Faults.{RefusedBy, RefusedByOrMemory, FaultyNull, FaultyBool, NotNumber, EndsWith, EndsWithOrMemory, DiffersWith, DiffersWithOrMemory};
-ghost use Rattle.json5_de.specs.Convert.{unit_of, bool_of, as_number, as_whole, natural_below, integer_below, unsigned_below, signed_below};
+ghost use Rattle.json5_de.specs.Convert.{unit_of, bool_of, decimal_of, every_decimal, as_number, as_whole, natural_below, integer_below, unsigned_below, signed_below};
 
 use crate::de::Deserializer;
+use crate::decimals::same_decimal;
 use crate::integers::Integer;
 use crate::mismatch::Mismatch;
 use json5_text::number::Number;
 use json5_text::ErrorCode;
+use json5_text::decimal::Decimal;
 use json5_text::error::Result;
 use json5_text::input::Input;
 
@@ -83,6 +85,36 @@ impl<I: Input> Deserializer<I> {
             return self.mismatch(start, &Mismatch::OutOfRange(whole, T::name()));
         };
         Ok(integer)
+    }
+
+    fn read_decimal(&mut self) -> Result<Decimal>
+        ensures sound { IfOk result (λ v. Gives (λ d. d) decimal_of self.old self.new v) }
+        ensures refused { IfErr result (RefusedByOrMemory (NotNumber every_decimal) self.old) }
+        ensures failed { OnErr result (self.new.failed ≡ true) }
+        ensures before { StaysFailed self.old self.new result }
+    {
+        self.begin()?;
+        let whole = match self.number()? {
+            Number::Decimal(decimal) => return Ok(decimal),
+            Number::Whole(whole) => whole,
+        };
+        match same_decimal(self.allocator(), whole) {
+            Ok(decimal) => Ok(decimal),
+            Err(e) => self.refuse(e),
+        }
+    }
+
+    /// Reads a number as a decimal; a whole number gives that of the same number, zero without a sign.
+    pub fn deserialize_decimal(&mut self) -> Result<Decimal>
+        ensures sound { IfOk result (λ v. Gives (λ d. d) decimal_of self.old self.new v) }
+        ensures complete { Completes decimal_of self.old result }
+        ensures refused { IfErr result (RefusedByOrMemory (NotNumber every_decimal) self.old) }
+        ensures ends { EndsWithOrMemory codes.EofParsingNumber self.old result }
+        ensures differs { DiffersWithOrMemory (λ c. is_sign c || begins_number c) codes.ExpectedNumber self.old result }
+        ensures failed { OnErr result (self.new.failed ≡ true) }
+        ensures before { StaysFailed self.old self.new result }
+    {
+        self.read_decimal()
     }
 
     /// Reads a whole number of the type.

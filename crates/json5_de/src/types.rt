@@ -3,6 +3,7 @@
 use crate::de::{Deserialize, Deserializer};
 use json5_text::error::Result;
 use json5_text::cow_str::CowStr;
+use json5_text::decimal::Decimal;
 use json5_text::input::{Borrows, Input};
 
 impl<I: Input> Deserialize<I> for () {
@@ -181,6 +182,21 @@ impl<I: Input> Deserialize<I> for i128 {
 
     fn deserialize(de: &mut Deserializer<I>) -> Result<i128> {
         de.deserialize_i128()
+    }
+}
+
+impl<I: Input> Deserialize<I> for Decimal {
+    ghost use Rattle.json5_grammar.specs.Numbers as numbers;
+    ghost use Rattle.json5_de.specs.Convert.{decimal_of};
+
+    ghost Content = { numbers.Decimal };
+
+    ghost content = { λ d. d };
+
+    ghost convert = { decimal_of };
+
+    fn deserialize(de: &mut Deserializer<I>) -> Result<Decimal> {
+        de.deserialize_decimal()
     }
 }
 

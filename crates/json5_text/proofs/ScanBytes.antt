@@ -31,7 +31,7 @@ pub record Halves (text x y : List ℕ) : Type 0 where
 whole_bytes : {text x y : List ℕ} → Halves text x y → text ≡ encode_utf8_all x ++ encode_utf8_all y
 whole_bytes {text = text} {x = x} {y = y} h = sym (encodes-chars text h.is_text) ∙ ap encode_utf8_all h.split ∙ encodes-append x y
 
-parts_scalar : {text x y : List ℕ} → Halves text x y → (all_scalars x ≡ true) × (all_scalars y ≡ true)
+pub parts_scalar : {text x y : List ℕ} → Halves text x y → (all_scalars x ≡ true) × (all_scalars y ≡ true)
 parts_scalar {text = text} {x = x} {y = y} h = scalar_halves x y (sym (ap all_scalars h.split) ∙ scalars-chars text h.is_text)
 
 bytes_apart : {text x y : List ℕ} → Halves text x y → length text ≡ bytes_in x + bytes_in y

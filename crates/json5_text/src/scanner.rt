@@ -1,7 +1,7 @@
 //! The scanner: the tokens of a text, one after another.
 
 ghost use Rattle.std.specs.Prelude.{◌≡◌, ℕ, Bool, List, [], ◌∷◌, ◌++◌, true, false, ◌==◌, ◌⊎◌, length, take, drop, Some, None, string_bytes, slice_get, IsTrue, OnOk, OnErr, IfOk, IfErr, IsOk};
-ghost use Rattle.std.specs.Str.{chars, encode_utf8_all};
+ghost use Rattle.std.specs.Str.{all_scalars, chars, encode_utf8_all};
 ghost use Rattle.json5_grammar.specs.Characters.{NotBegun};
 ghost use Rattle.json5_grammar.specs.Blanks.{Gap, Solid};
 ghost use Rattle.json5_grammar.specs.Strings.{Str};
@@ -70,6 +70,7 @@ impl<I: Input> Scanner<I> {
     pub fn offset(&self) -> usize
         ensures counted { result ≡ offset_of self.now }
         ensures suffix { (before : List ℕ) × (self.now.input ≡ before ++ self.now.unread) }
+        ensures scalars { all_scalars self.now.unread ≡ true }
     {
         self.offset
     }

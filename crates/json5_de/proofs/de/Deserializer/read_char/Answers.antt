@@ -8,6 +8,7 @@ use Rattle.json5_de.specs.Convert.{every_text, if_plain, every_cow, one_characte
 use Rattle.json5_de.specs.Faults.{faulty_text}
 use Rattle.json5_de.proofs.Taken.{took_leaf, refused_blanks, refused_or_memory}
 use Rattle.json5_de.proofs.AwaitsTexts.{text_stops}
+use Rattle.json5_de.proofs.TextScalars.{text_characters, same_character}
 use Rattle.json5_de.proofs.Mismatches.{refused_text}
 use Rattle.json5_de.proofs.de.Deserializer.read_char.Goals as goal
 
@@ -24,9 +25,13 @@ returns-in_err-text-clause-refused g c =
 pub returns-in_default-clause-refused : goal.returns-in_default-clause-refused
 returns-in_default-clause-refused g c =
     let (s, u, plain, took, str, bytes) = c.in_ok-text.ensures.taken in
-    ?
+    let characters : chars c.as_str.result.now ≡ u = text_characters c.begin.new.self.unread c.owned_text.new.self.unread c.as_str.result.now took.split c.offset-start.ensures.scalars str (c.as_str.ensures.value ∙ bytes) in
+    let none : one_character u plain ≡ None = same_character u plain ∙ ap (λ x. one_character x false) (sym characters) ∙ c.in_default.ensures in
+    refused_text one_character c.args.self.now c.begin.new.self c.owned_text.new.self c.mismatch.result c.offset-start.result s u plain c.in_ok-begin.ensures.passed took str none c.offset-start.ensures.counted c.mismatch.ensures.refused
 
 pub returns-clause-sound : goal.returns-clause-sound
 returns-clause-sound g c =
     let (s, u, plain, took, str, bytes) = c.in_ok-text.ensures.taken in
-    ?
+    let characters : chars c.as_str.result.now ≡ u = text_characters c.begin.new.self.unread c.owned_text.new.self.unread c.as_str.result.now took.split c.offset-start.ensures.scalars str (c.as_str.ensures.value ∙ bytes) in
+    (trees.text u plain, took_leaf c.args.self.now c.begin.new.self c.owned_text.new.self s (trees.text u plain) refl c.in_ok-begin.ensures.passed took (is_text str) (text_stops c.owned_text.new.self.unread str),
+    same_character u plain ∙ ap (λ x. one_character x false) (sym characters) ∙ c.in-Some.ensures)

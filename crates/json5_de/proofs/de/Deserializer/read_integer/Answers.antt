@@ -25,14 +25,14 @@ returns-in_default-clause-refused g c =
     let (s, took, num, stops) = c.in_ok-whole.ensures.taken in
     let none : as_whole g.T.Integer.within (number_of c.in_ok-whole.field-0) ≡ None = ap (λ n. as_whole g.T.Integer.within (number_of n)) c.in_default.is in
     refused_number (as_whole g.T.Integer.within) c.args.self.now c.begin.new.self c.number.new.self c.mismatch.result c.offset-start.result s (number_of c.in_ok-whole.field-0)
-    c.in_ok-begin.ensures.passed took num stops none c.offset-start.ensures.1 c.mismatch.ensures.refused
+    c.in_ok-begin.ensures.passed took num stops none c.offset-start.ensures.counted c.mismatch.ensures.refused
 
 pub returns-in_default-from_whole-clause-refused : goal.returns-in_default-from_whole-clause-refused
 returns-in_default-from_whole-clause-refused g c =
     let (s, took, num, stops) = c.in_ok-whole.ensures.taken in
     let none : as_whole g.T.Integer.within (number_of c.in_ok-whole.field-0) ≡ None = ap (λ n. as_whole g.T.Integer.within (number_of n)) c.in-Whole.is ∙ c.in_default-from_whole.ensures in
     refused_number (as_whole g.T.Integer.within) c.args.self.now c.begin.new.self c.number.new.self c.mismatch-in_default-from_whole.result c.offset-start.result s (number_of c.in_ok-whole.field-0)
-    c.in_ok-begin.ensures.passed took num stops none c.offset-start.ensures.1 c.mismatch-in_default-from_whole.ensures.refused
+    c.in_ok-begin.ensures.passed took num stops none c.offset-start.ensures.counted c.mismatch-in_default-from_whole.ensures.refused
 
 pub returns-clause-sound : goal.returns-clause-sound
 returns-clause-sound g c =

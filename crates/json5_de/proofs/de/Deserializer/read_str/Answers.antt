@@ -32,4 +32,4 @@ pub returns-in-Owned-clause-refused : goal.returns-in-Owned-clause-refused
 returns-in-Owned-clause-refused g c =
     let (s, u, plain, took, str, borrowed, bytes) = c.in_ok-text.ensures.taken in
     let none : if_plain u plain ≡ None = ap (if_plain u) (sym borrowed ∙ ap is_borrowed c.in-Owned.is) in
-    refused_text if_plain c.args.self.now c.begin.new.self c.text.new.self c.mismatch.result c.offset-start.result s u plain c.in_ok-begin.ensures.passed took str none c.offset-start.ensures.1 c.mismatch.ensures.refused
+    refused_text if_plain c.args.self.now c.begin.new.self c.text.new.self c.mismatch.result c.offset-start.result s u plain c.in_ok-begin.ensures.passed took str none c.offset-start.ensures.counted c.mismatch.ensures.refused
