@@ -1,15 +1,15 @@
 -- The number that a literal means, as code finds it.
 use Rattle.std.proofs.Common.{◌≡◌, ℕ, zero, suc, ◌+◌, ◌-◌, ◌^◌, ◌<◌, ◌≤◌, min, Bool, true, false, cond, List, ◌++◌, length, refl, ap, sym, subst, ◌∙◌, arith, Option, Some, None}
-use Rattle.std.specs.Prelude.{ℤ, pos, ◌+ℤ◌, ◌-ℤ◌, nat_lt}
+use Rattle.std.specs.Prelude.{ℤ, pos, ◌+ℤ◌, ◌-ℤ◌}
 use Rattle.std.specs.Option.{is_some, option_map}
 use Rattle.std.proofs.lemmas.Bool.Decides.{nat_tests}
 use Rattle.std.proofs.lemmas.List.{length-append}
 use Rattle.json5_grammar.specs.declared.code.ErrorCode.TheVariants.{OverflowParsingNumber}
-use Rattle.json5_grammar.specs.Numbers.{Decimal, finite, whole, decimal, signed, spelled, InWhole, InExponents, is_empty, without_front_zeros, without_zeros, normal_exponent, digits_behind, written, all_digits, exponent_of}
+use Rattle.json5_grammar.specs.Numbers.{Decimal, finite, whole, decimal, signed, spelled, InExponents, is_empty, without_front_zeros, without_zeros, normal_exponent, digits_behind, written, all_digits, exponent_of}
 use Rattle.json5_grammar.specs.NumberSteps.{checked}
 use Rattle.json5_grammar.specs.Reading.{got, bad, here}
 use Rattle.json5_grammar.specs.ReadNumbers.{is_whole, in_whole, in_exponents, judged, if_literal}
-use Rattle.json5_grammar.proofs.NumberTests.{in_whole_yes, in_whole_true, in_exponents_yes, in_exponents_true}
+use Rattle.json5_grammar.proofs.NumberTests.{in_exponents_yes, in_exponents_true}
 use Rattle.json5_grammar.proofs.NumberStepLaws.{IsChecked, checked_is, capped_range, capped_same}
 use Rattle.json5_text.specs.declared.numbers.Exponent.{Exponent}
 use Rattle.json5_text.specs.declared.numbers.Literal.{Literal}

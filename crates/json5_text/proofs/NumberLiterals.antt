@@ -1,5 +1,5 @@
 -- Parts of a decimal literal, as code finds them.
-use Rattle.std.proofs.Common.{◌≡◌, ℕ, ◌<◌, Bool, true, false, cond, ◌&&◌, ◌||◌, List, [], ◌∷◌, ◌++◌, length, refl, ap, sym, ◌∙◌, arith, Option, Some, None, ◌≢◌}
+use Rattle.std.proofs.Common.{◌≡◌, ℕ, ◌<◌, Bool, true, false, ◌&&◌, ◌||◌, List, [], ◌∷◌, ◌++◌, length, refl, ap, sym, ◌∙◌, arith, Option, Some, None, ◌≢◌}
 use Rattle.std.specs.Prelude.{◌==◌, not, ℤ}
 use Rattle.std.specs.Str.{IsUtf8, chars, encode_utf8_all}
 use Rattle.std.proofs.lemmas.Bool.Decides.{nat_tests}
@@ -7,7 +7,7 @@ use Rattle.std.proofs.lemmas.List.{append-nil}
 use Rattle.std.proofs.lemmas.Str.{encodes-chars, chars-nil}
 use Rattle.json5_grammar.specs.Characters.{is_digit}
 use Rattle.json5_grammar.specs.Numbers.{is_empty, signed, spelled}
-use Rattle.json5_grammar.specs.ReadNumbers.{Parts, front_of, rest_of, exponent_digits, exponent_at, is_integer, no_point, at_point, point_or, literal_at}
+use Rattle.json5_grammar.specs.ReadNumbers.{front_of, rest_of, exponent_digits, exponent_at, is_integer, no_point, at_point, point_or, literal_at}
 use Rattle.json5_grammar.proofs.NumberTests.{front_rest}
 
 -- ---- whether a text has characters

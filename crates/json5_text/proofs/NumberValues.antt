@@ -1,9 +1,9 @@
 -- The value of digits, byte by byte.
-use Rattle.std.proofs.Common.{◌≡◌, ℕ, zero, suc, ◌+◌, ◌-◌, ◌*◌, ◌^◌, ◌<◌, ◌≤◌, min, Bool, true, false, cond, List, [], ◌∷◌, length, drop, refl, ap, sym, ◌∙◌, subst, arith, length-drop, drop-cons, add-one, Option, Some, None}
+use Rattle.std.proofs.Common.{◌≡◌, ℕ, ◌+◌, ◌-◌, ◌*◌, ◌^◌, ◌<◌, ◌≤◌, min, true, List, [], ◌∷◌, length, drop, refl, ap, sym, ◌∙◌, subst, arith, length-drop, drop-cons, add-one}
 use Rattle.std.specs.Prelude.{nat_lt, slice_index_or}
 use Rattle.std.specs.Char.{digit_value}
 use Rattle.std.proofs.lemmas.Bool.Decides.{nat_tests}
-use Rattle.json5_grammar.specs.Characters.{is_digit, Each, no_char, char}
+use Rattle.json5_grammar.specs.Characters.{is_digit, Each, char}
 use Rattle.json5_grammar.specs.Numbers.{spelled}
 use Rattle.json5_grammar.specs.NumberSteps.{capped, checked}
 use Rattle.json5_grammar.proofs.NumberStepLaws.{capped_is}

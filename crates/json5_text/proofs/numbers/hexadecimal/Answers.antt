@@ -1,6 +1,5 @@
-use Rattle.std.proofs.Common.{◌≤◌, ◌<◌, ◌^◌, arith, sym}
+use Rattle.std.proofs.Common.{arith, sym}
 use mathlib.Core.Bool.{true≢false}
-use Rattle.std.specs.Char.{digit_value}
 use Rattle.std.specs.Str.{chars}
 use Rattle.json5_text.proofs.NumberSteps.{failed_here, hexadecimal_other, hexadecimal_past, hexadecimal_large}
 use Rattle.json5_text.proofs.numbers.hexadecimal.Goals as goal

@@ -1,12 +1,11 @@
-use Rattle.std.proofs.Common.{◌≡◌, ◌<◌, ◌≤◌, ◌^◌, false, length, arith, refl, ap, sym, ◌∙◌}
-use Rattle.std.specs.Prelude.{◌==◌, pos}
+use Rattle.std.proofs.Common.{arith, refl, ap, sym, ◌∙◌}
 use mathlib.Core.Bool.{true≢false}
 use Rattle.std.specs.Str.{chars}
 use Rattle.std.proofs.lemmas.Int.{ints, to_z-of_z}
 use mir.Syntax.{w128}
 use Rattle.json5_grammar.specs.Numbers.{whole}
 use Rattle.json5_grammar.specs.Reading.{got}
-use Rattle.json5_text.specs.NumberParts.{parts_of, is_whole_literal}
+use Rattle.json5_text.specs.NumberParts.{parts_of}
 use Rattle.json5_text.proofs.NumberSteps.{failed_here}
 use Rattle.json5_text.proofs.NumberJudged.{judged_whole, found_is, not_whole, literal_decimal, literal_past}
 use Rattle.json5_text.proofs.numbers.judge.Goals as goal

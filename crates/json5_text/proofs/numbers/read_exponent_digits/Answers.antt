@@ -1,6 +1,5 @@
-use Rattle.std.proofs.Common.{◌∙◌, sym, arith}
+use Rattle.std.proofs.Common.{◌∙◌, sym}
 use Rattle.std.specs.Str.{chars}
-use Rattle.std.proofs.lemmas.Bool.Decides.{nat_tests}
 use Rattle.json5_text.proofs.NumberZeros.{is_none, is_some}
 use Rattle.json5_text.proofs.NumberLiterals.{no_chars, some_chars, exponent_no_digit, exponent_more, exponent_found}
 use Rattle.json5_text.proofs.numbers.read_exponent_digits.Goals as goal

@@ -1,4 +1,4 @@
-use Rattle.std.proofs.Common.{◌∙◌, sym}
+use Rattle.std.proofs.Common.{◌∙◌}
 use Rattle.std.specs.Str.{chars}
 use Rattle.json5_text.proofs.NumberLiterals.{literal_ends, literal_plain, literal_pointed, point_without_digits, point_without_exponent, point_found}
 use Rattle.json5_text.proofs.numbers.read_literal.Goals as goal

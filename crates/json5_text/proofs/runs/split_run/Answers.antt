@@ -1,7 +1,6 @@
-use Rattle.std.proofs.Common.{◌≡◌, length, ap, ◌∙◌, subst, sym}
+use Rattle.std.proofs.Common.{ap, ◌∙◌, subst, sym}
 use Rattle.std.specs.Str.{chars, IsUtf8}
 use Rattle.json5_grammar.specs.Stops.{in_run}
-use Rattle.json5_grammar.specs.ReadNumbers.{front_of, rest_of}
 use Rattle.json5_grammar.proofs.NumberTests.{front_each}
 use Rattle.json5_text.proofs.NumberRuns.{run_is_ascii, each_utf8, front_boundary, front_cut, rest_cut, rest_utf8, front_alone, front_chars, rest_chars, rest_shorter}
 use Rattle.json5_text.proofs.runs.split_run.Goals as goal
