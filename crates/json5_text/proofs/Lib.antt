@@ -17,3 +17,4 @@ pub mod NumberLiterals
 pub mod NumberValues
 pub mod NumberJudged
 pub mod NumberCases
+pub mod ScanNumbers
