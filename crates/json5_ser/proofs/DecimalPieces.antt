@@ -1,5 +1,5 @@
 -- A decimal's text in its pieces.
-use Rattle.std.proofs.Common.{◌≡◌, ◌<◌, ◌≤◌, ℕ, zero, suc, ◌-◌, List, [], ◌∷◌, ◌++◌, true, false, nat_lt, cond, length, take, drop, refl, sym, ap, ◌∙◌, arith, append_assoc, append-nil}
+use Rattle.std.proofs.Common.{◌≡◌, ◌<◌, ◌≤◌, ℕ, ◌-◌, List, [], ◌∷◌, ◌++◌, true, false, nat_lt, cond, length, take, drop, refl, sym, ap, ◌∙◌, arith, append_assoc}
 use Rattle.std.specs.Prelude.{ℤ, pos, negsuc, ◌≤ℤ◌, ◌<ℤ◌, unsigned_abs}
 use Rattle.std.proofs.lemmas.Int.{ints}
 use lib.Signed.{lt_z}
@@ -9,7 +9,7 @@ use Rattle.json5_grammar.specs.Characters.{is_digit, Each, no_char}
 use Rattle.json5_grammar.specs.Numbers.{Decimal, infinite, nan, finite}
 use Rattle.json5_grammar.specs.NumberText.{zeros, pointed, digits_text, decimal_text, Normal}
 use Rattle.json5_text.specs.NumberDecimals.{is_minus, is_infinity, is_not_a_number, digits_in, exponent_in}
-use Rattle.json5_ser.specs.Out.{Out, piece, ◌then◌}
+use Rattle.json5_ser.specs.Out.{piece, ◌then◌}
 
 pub pointed_within : (ds before behind : List ℕ) (j : ℕ) → j < length ds → before ≡ take (length ds - j) ds → behind ≡ drop (length ds - j) ds
     → piece (pointed ds j) ≡ piece before then (piece (46 ∷ []) then piece behind)

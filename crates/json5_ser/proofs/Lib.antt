@@ -7,3 +7,4 @@ pub mod AsciiPieces
 pub mod DecimalPieces
 pub mod LoneRead
 pub mod Unmarked
+pub mod Writables

@@ -1,8 +1,8 @@
 -- A whole tree is itself again once its marks are gone.
 use Rattle.std.proofs.Common.{◌≡◌, ℕ, ◌+◌, List, [], ◌∷◌, ◌++◌, Bool, true, false, refl, ap, ◌∙◌}
 use Rattle.json5_grammar.specs.Characters.{left_bracket, left_brace}
-use Rattle.json5_ser.specs.WrittenTrees.{Written, null, boolean, number, text, array, object, Elements, no_element, element, Fields, no_field, field, Key, named, bad}
-use Rattle.json5_ser.specs.Out.{Out, Stop, whole, invalid_key, too_deep, piece, after, ◌then◌, out, elements_out, fields_out, opening, closing, element_out, key_part, value_part, line, stopped}
+use Rattle.json5_ser.specs.WrittenTrees.{Written, null, boolean, number, text, array, object, Elements, no_element, element, Fields, no_field, field, named, bad}
+use Rattle.json5_ser.specs.Out.{Out, Stop, whole, invalid_key, too_deep, no_number, piece, after, ◌then◌, out, elements_out, fields_out, opening, element_out, key_part, value_part}
 use Rattle.json5_ser.specs.Marks.{marks, element_marks, field_marks, unmarked, unmarked_elements, unmarked_fields}
 
 -- both parts of a whole text are whole
@@ -15,6 +15,7 @@ parts_at : (s : List ℕ) (e : Stop) (b : Out) → (after s e b).stop ≡ whole 
 parts_at s whole b h = record { first = refl; second = h; text = refl }
 parts_at s invalid_key b h = absurd (cc)
 parts_at s too_deep b h = absurd (cc)
+parts_at s no_number b h = absurd (cc)
 
 pub parts : (a b : Out) → (a then b).stop ≡ whole → Parts a b
 parts a b h = parts_at a.text a.stop b h

@@ -1,4 +1,5 @@
 pub mod WrittenTrees
+pub mod Writable
 pub mod Out
 pub mod Marks
 pub mod Writes
