@@ -1,15 +1,20 @@
 -- What is read below the scanner, in the words of its contracts.
-use Rattle.std.proofs.Common.{◌≡◌, ℕ, Bool, true, List, [], ◌∷◌, ◌++◌, length, refl, ap, sym, ◌∙◌, ◌⊎◌, inl, inr, subst, Option, Some, None}
+use Rattle.std.proofs.Common.{◌≡◌, ℕ, Bool, true, false, cond, List, [], ◌∷◌, ◌++◌, length, refl, ap, sym, ◌∙◌, ◌⊎◌, inl, inr, subst, Option, Some, None}
+use Rattle.std.specs.Prelude.{◌==◌, ◌||◌}
 use Rattle.std.specs.Str.{IsUtf8, chars}
 use Rattle.std.proofs.lemmas.Str.{encodes-chars}
 use Rattle.json5_grammar.specs.declared.code.ErrorCode.{ErrorCode}
 use Rattle.json5_grammar.specs.Blanks.{Gap, Solid}
-use Rattle.json5_grammar.specs.Reading.{Read, here, got, bad}
+use Rattle.json5_grammar.specs.Reading.{Read, here, inner, got, bad}
 use Rattle.json5_grammar.specs.ReadBlanks.{skip, between}
 use Rattle.json5_grammar.specs.ReadValues.{word_at}
-use Rattle.json5_grammar.specs.ReadTexts.{string}
+use Rattle.json5_grammar.specs.Characters.{is_identifier_start}
+use Rattle.json5_grammar.specs.declared.code.ErrorCode.TheVariants.{EofParsingIdentifier, ExpectedIdentifier}
+use Rattle.json5_grammar.specs.Names.{Ident}
+use Rattle.json5_grammar.specs.ReadTexts.{string, identifier}
 use Rattle.json5_grammar.specs.Strings.{is_quote, Str, quoted}
 use Rattle.json5_grammar.proofs.Basics.{by_test}
+use Rattle.json5_grammar.proofs.NamesSound.{Stopped, NameSound, name_sound}
 use Rattle.json5_grammar.proofs.StringsRead.{string_complete}
 use Rattle.json5_grammar.proofs.StringsSound.{StringSound, string_sound}
 use Rattle.json5_grammar.proofs.BlanksSound.{BlanksSound, skip_sound}
@@ -19,7 +24,7 @@ use Rattle.json5_text.specs.declared.refusal.Refusal.TheVariants as refusal
 use Rattle.json5_text.specs.Outcome.{gave, outcome, bytes_in}
 use Rattle.json5_text.specs.Refused.{Refuses}
 use Rattle.json5_text.specs.Cursor.{Cursor, Took}
-use Rattle.json5_text.specs.Tokens.{FaultyBlanks, FaultyWord, word_differs, word_ends, FaultyString, faulty, no_quote, string_missing}
+use Rattle.json5_text.specs.Tokens.{FaultyBlanks, FaultyWord, word_differs, word_ends, FaultyString, faulty, no_quote, string_missing, FaultyName, no_name, name_missing}
 use Rattle.json5_text.specs.Scan.{Leaves}
 use Rattle.json5_text.specs.ScanStrings.{string_at}
 use Rattle.json5_text.proofs.ScanFaults.{FaultAt, FaultyIn, gave_failed}
@@ -123,3 +128,52 @@ pub plain_memory : (x y s u t : List ℕ) (r : Refusal) → x ≡ y → Refuses 
 plain_memory x y s u t r f h k e p =
     let read : string_at x ≡ got (u, true) t = ap string_at (f ∙ e) ∙ string_in_front t p in
     k (of_memory r u t true (subst (λ z. Refuses r (outcome z)) read h)) u t read
+
+-- ---- names
+
+abbrev NameAtSound : List ℕ → Read (List ℕ × Bool) → Type 0
+NameAtSound x (got a r) = (s : List ℕ) × (x ≡ s ++ r) × Ident s a.0 a.1 × Stopped r
+NameAtSound x (bad e p) = FaultAt FaultyName x e p
+
+from_name : (x : List ℕ) (res : Read (List ℕ × Bool)) → NameSound x res → NameAtSound x res
+from_name x (got a r) k = k
+from_name x (bad e p) k = record { place = k.place; fault = FaultyName.faulty k.fault; is_at = k.is_at }
+
+no_name_at : (c : ℕ) (r : List ℕ) → ((c == 92) || is_identifier_start c) ≡ false → identifier (c ∷ r) ≡ bad (Some ExpectedIdentifier) (here (c ∷ r))
+unfolding identifier
+no_name_at c r h = neither _ _ _ (c == 92) (is_identifier_start c) h
+  where
+    neither : {A : Type 0} (x y z : A) (a b : Bool) → (a || b) ≡ false → cond a x (cond b y z) ≡ z
+    neither x y z true b e = absurd (cc)
+    neither x y z false true e = absurd (cc)
+    neither x y z false false e = refl
+
+name_end_at : identifier [] ≡ bad (Some EofParsingIdentifier) inner
+unfolding identifier
+name_end_at = refl
+
+name_at_sound : (x : List ℕ) → NameAtSound x (identifier x)
+name_at_sound [] = subst (NameAtSound []) (sym name_end_at) (record { place = None; fault = name_missing; is_at = tt })
+name_at_sound (c ∷ r) = by_flag ((c == 92) || is_identifier_start c) refl
+  where
+    by_flag : (b : Bool) → ((c == 92) || is_identifier_start c) ≡ b → NameAtSound (c ∷ r) (identifier (c ∷ r))
+    by_flag true h = from_name (c ∷ r) (identifier (c ∷ r)) (name_sound c r h)
+    by_flag false h = subst (NameAtSound (c ∷ r)) (sym (no_name_at c r h)) (record { place = Some []; fault = no_name c r h; is_at = refl })
+
+pub record NameTaken (x u r : List ℕ) (plain : Bool) : Type 0 where
+  pub name : List ℕ
+  pub split : x ≡ name ++ r
+  pub is_name : Ident name u plain
+  pub stops : Stopped r
+
+pub name_taken : (x y u r : List ℕ) (plain : Bool) → x ≡ y → identifier x ≡ got (u, plain) r → NameTaken y u r plain
+name_taken x y u r plain f e =
+    let k = subst (NameAtSound y) (ap identifier (sym f) ∙ e) (name_at_sound y) in
+    record { name = k.0; split = k.1; is_name = k.2; stops = k.3 }
+
+faulty_name : (x : List ℕ) (res : Read (List ℕ × Bool)) → NameAtSound x res → FaultyIn FaultyName x res
+faulty_name x (got a r) k = tt
+faulty_name x (bad e p) k = k
+
+pub name_faulty : (x y : List ℕ) → x ≡ y → FaultyIn FaultyName y (identifier x)
+name_faulty x y e = subst (λ z. FaultyIn FaultyName y (identifier z)) (sym e) (faulty_name y (identifier y) (name_at_sound y))

@@ -15,3 +15,4 @@ pub mod Cows
 pub mod Compared
 pub mod NumberParts
 pub mod ValueViews
+pub mod ScanNames

@@ -11,6 +11,7 @@ mod escapes;
 mod fault_tests;
 mod front;
 pub mod input;
+mod names;
 pub mod number;
 mod numbers;
 mod refusal;

@@ -1,6 +1,7 @@
 //! Tokens that are taken and refused, one after another.
 use crate::cow_str::CowStr;
 use crate::error::Error;
+use crate::number::Number;
 use crate::scanner::Scanner;
 use json5_grammar::code::ErrorCode;
 use json5_grammar::position::Position;
@@ -84,6 +85,56 @@ fn strings_are_read_with_their_escapes(rt: HostRuntime) -> Result<(), Fail> {
     ];
     for (text, want) in cases {
         assert_eq!(rt; string_of(&rt, text)?.as_str(), want, "{text}");
+    }
+    Ok(())
+}
+
+#[test]
+fn names_and_numbers_are_read(rt: HostRuntime) -> Result<(), Fail> {
+    let mut scanner = Scanner::new(rt.alloc(), "$a1 \\u0061b:-0x1F,+.5e1]");
+    match scanner.identifier() {
+        Ok(CowStr::Borrowed(name)) => assert_eq!(rt; name, "$a1"),
+        _ => assert!(rt; false),
+    }
+    assert!(rt; scanner.eat(' '));
+    match scanner.identifier() {
+        Ok(CowStr::Owned(name)) => assert_eq!(rt; name.as_str(), "ab"),
+        _ => assert!(rt; false),
+    }
+    assert!(rt; scanner.eat(':'));
+    assert!(rt; matches!(scanner.number(), Ok(Number::Whole(_))));
+    assert!(rt; scanner.eat(','));
+    assert!(rt; matches!(scanner.number(), Ok(Number::Decimal(_))));
+    assert!(rt; scanner.eat(']'));
+    let end = Error::new(ErrorCode::EofParsingNumber);
+    assert_eq!(rt; scanner.number().err(), Some(end));
+    Ok(())
+}
+
+/// The fault of a text at which a name is awaited.
+fn name_fault(rt: &HostRuntime, text: &'static str) -> Option<Error> {
+    Scanner::new(rt.alloc(), text).identifier().err()
+}
+
+#[test]
+fn faulty_names_are_blamed(rt: HostRuntime) -> Result<(), Fail> {
+    let cases = [
+        ("a", Error::new(ErrorCode::EofParsingIdentifier)),
+        (
+            "1:",
+            Error::new_at(place(0, 0), ErrorCode::ExpectedIdentifier),
+        ),
+        (
+            "a\\u0021:",
+            Error::new_at(place(0, 1), ErrorCode::ExpectedIdentifier),
+        ),
+        (
+            "a\\x41:",
+            Error::new_at(place(0, 2), ErrorCode::InvalidEscapeSequence),
+        ),
+    ];
+    for (text, want) in cases {
+        assert_eq!(rt; name_fault(&rt, text), Some(want), "{text}");
     }
     Ok(())
 }
