@@ -145,7 +145,10 @@ impl<I: Input> Deserializer<I> {
         ensures refused { IfErr result (λ e. IsOutOfMemory e ⊎ Refused FaultyNumber (cursor_of self.old) e) }
         ensures failed { OnErr result (self.new.failed ≡ true) }
     {
-        self.refuse(Error::new(ErrorCode::Failed))
+        match self.scanner.number() {
+            Ok(number) => Ok(number),
+            Err(e) => self.refuse(e),
+        }
     }
 
     /// Takes the string in front, its text in memory of its own.
