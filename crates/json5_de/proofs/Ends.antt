@@ -39,9 +39,10 @@ not_ended old mid o b p test is_it at end =
 
 pub ended : (old mid : State) (o : Option ℕ) (b : Bool) → PassedGap old mid → b ≡ false → b ≡ is_some o → o ≡ slice_get mid.unread 0 → AtEnd old × (mid ≡ record old { unread = [] })
 ended old mid o b p test is_it at =
-    let none = none_left mid.unread (peeked mid.unread o b false test is_it at) in
-    ((p.live, subst LastBlanks (sym (p.split ∙ ap (λ y. p.gap ++ y) none ∙ append-nil p.gap)) (gap_end (subst (Gap p.gap) none p.is_gap))),
-    p.rest ∙ ap (λ y. record old { unread = y }) none)
+    let none = none_left mid.unread (peeked mid.unread o b false test is_it at) in (
+      (p.live, subst LastBlanks (sym (p.split ∙ ap (λ y. p.gap ++ y) none ∙ append-nil p.gap)) (gap_end (subst (Gap p.gap) none p.is_gap))),
+      p.rest ∙ ap (λ y. record old { unread = y }) none,
+    )
 
 pub refused_trailing : (old mid : State) (e : Error) (o : Option ℕ) (b : Bool) → PassedGap old mid → b ≡ true → b ≡ is_some o → o ≡ slice_get mid.unread 0 → kind_of e ≡ code TrailingCharacters → IsPlaced (cursor_of mid) (Some []) e → RefusedBy Trailing old e
 refused_trailing old mid e o b p test is_it at says placed =

@@ -19,10 +19,10 @@ ghost use Rattle.json5_text.specs.Cows.{cow_bytes, is_borrowed};
 ghost use Rattle.json5_text.specs.NumberViews.{number_of};
 ghost use Rattle.json5_de.specs.Steps.{PassedGap, TookText, IsOffset, IsMismatch};
 
-use json5_text::ErrorCode;
-use json5_text::error::{Error, Result};
 use crate::mismatch::Mismatch;
+use json5_text::ErrorCode;
 use json5_text::cow_str::CowStr;
+use json5_text::error::{Error, Result};
 use json5_text::input::{Borrows, Input};
 use json5_text::number::Number;
 use json5_text::scanner::Scanner;
@@ -145,7 +145,10 @@ impl<I: Input> Deserializer<I> {
         ensures refused { IfErr result (λ e. IsOutOfMemory e ⊎ Refused FaultyNumber (cursor_of self.old) e) }
         ensures failed { OnErr result (self.new.failed ≡ true) }
     {
-        self.refuse(Error::new(ErrorCode::Failed))
+        match self.scanner.number() {
+            Ok(number) => Ok(number),
+            Err(e) => self.refuse(e),
+        }
     }
 
     /// Takes the string in front, its text in memory of its own.

@@ -41,7 +41,11 @@ fn signed(whole: Whole, max: i128) -> Option<i128>
     ensures high { IfSome result (λ n. n ≤ℤ max) }
 {
     let number = whole.as_i128()?;
-    if -1 - max <= number && number <= max { Some(number) } else { None }
+    if -1 - max <= number && number <= max {
+        Some(number)
+    } else {
+        None
+    }
 }
 
 impl Integer for u8 {

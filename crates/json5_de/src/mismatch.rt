@@ -41,7 +41,10 @@ fn write_range<W: fmt::Write>(f: &mut fmt::Formatter<W>, whole: Whole, name: &st
         if number <= u64::MAX as u128 {
             return write!(f, "invalid value: integer `{number}`, expected {name}");
         }
-        return write!(f, "invalid type: integer `{number}` as u128, expected {name}");
+        return write!(
+            f,
+            "invalid type: integer `{number}` as u128, expected {name}"
+        );
     }
     let Some(number) = whole.as_i128() else {
         return Ok(());
@@ -49,7 +52,10 @@ fn write_range<W: fmt::Write>(f: &mut fmt::Formatter<W>, whole: Whole, name: &st
     if number >= i64::MIN as i128 {
         return write!(f, "invalid value: integer `{number}`, expected {name}");
     }
-    write!(f, "invalid type: integer `{number}` as i128, expected {name}")
+    write!(
+        f,
+        "invalid type: integer `{number}` as i128, expected {name}"
+    )
 }
 
 /// The text between double quotes, these, backslashes, tabs and line ends escaped.

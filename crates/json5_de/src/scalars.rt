@@ -12,11 +12,11 @@ use crate::de::Deserializer;
 use crate::decimals::same_decimal;
 use crate::integers::Integer;
 use crate::mismatch::Mismatch;
-use json5_text::number::Number;
 use json5_text::ErrorCode;
 use json5_text::decimal::Decimal;
 use json5_text::error::Result;
 use json5_text::input::Input;
+use json5_text::number::Number;
 
 impl<I: Input> Deserializer<I> {
     fn read_unit(&mut self) -> Result<()>

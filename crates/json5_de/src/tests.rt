@@ -4,8 +4,7 @@ use crate::text::from_str;
 use json5_text::cow_str::CowStr;
 use json5_text::decimal::Decimal;
 use json5_text::error::{Error, Result};
-use json5_text::ErrorCode;
-use json5_text::Position;
+use json5_text::{ErrorCode, Position};
 use std::alloc::Global;
 use std::test::Fail;
 
@@ -36,12 +35,18 @@ fn whole_numbers_are_read(rt: HostRuntime) -> std::result::Result<(), Fail> {
     assert_eq!(rt; from_str::<u16>(alloc, "0")?, 0);
     assert_eq!(rt; from_str::<u32>(alloc, "0xdecaf")?, 912559);
     assert_eq!(rt; from_str::<u64>(alloc, "18446744073709551615")?, u64::MAX);
-    assert_eq!(rt; from_str::<u128>(alloc, "0xffffffffffffffffffffffffffffffff")?, u128::MAX);
+    assert_eq!(rt;
+        from_str::<u128>(alloc, "0xffffffffffffffffffffffffffffffff")?,
+        u128::MAX
+    );
     assert_eq!(rt; from_str::<i8>(alloc, "-128")?, i8::MIN);
     assert_eq!(rt; from_str::<i16>(alloc, "+123")?, 123);
     assert_eq!(rt; from_str::<i32>(alloc, "-0xC0FFEE")?, -12648430);
     assert_eq!(rt; from_str::<i64>(alloc, "-0x8000000000000000")?, i64::MIN);
-    assert_eq!(rt; from_str::<i128>(alloc, "-0x80000000000000000000000000000000")?, i128::MIN);
+    assert_eq!(rt;
+        from_str::<i128>(alloc, "-0x80000000000000000000000000000000")?,
+        i128::MIN
+    );
     Ok(())
 }
 
@@ -64,7 +69,10 @@ fn decimals_are_read(rt: HostRuntime) -> std::result::Result<(), Fail> {
 fn texts_are_read(rt: HostRuntime) -> std::result::Result<(), Fail> {
     let alloc = rt.alloc();
     assert_eq!(rt; from_str::<&str>(alloc, "'你好!'")?, "你好!");
-    assert_eq!(rt; from_str::<String>(alloc, "'\\u4f60\\u597d\\x21'")?.as_str(), "你好!");
+    assert_eq!(rt;
+        from_str::<String>(alloc, "'\\u4f60\\u597d\\x21'")?.as_str(),
+        "你好!"
+    );
     assert_eq!(rt; from_str::<char>(alloc, "'好'")?, '好');
     assert!(rt; matches!(from_str::<CowStr>(alloc, "'plain'")?, CowStr::Borrowed(_)));
     assert!(rt; matches!(from_str::<CowStr>(alloc, "'a\\tb'")?, CowStr::Owned(_)));

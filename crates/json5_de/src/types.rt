@@ -1,9 +1,9 @@
 //! The types that can be read.
 
 use crate::de::{Deserialize, Deserializer};
-use json5_text::error::Result;
 use json5_text::cow_str::CowStr;
 use json5_text::decimal::Decimal;
+use json5_text::error::Result;
 use json5_text::input::{Borrows, Input};
 
 impl<I: Input> Deserialize<I> for () {

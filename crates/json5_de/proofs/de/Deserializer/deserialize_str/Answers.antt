@@ -1,5 +1,4 @@
 use Rattle.json5_de.specs.Convert.{if_plain}
-
 use Rattle.json5_de.proofs.Awaited.{completes_or_memory, ends_or_memory, differs_or_memory}
 use Rattle.json5_de.proofs.AwaitsTexts.{awaits_text}
 use Rattle.json5_de.proofs.de.Deserializer.deserialize_str.Goals as goal

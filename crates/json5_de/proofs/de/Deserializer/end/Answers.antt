@@ -1,4 +1,3 @@
-use Rattle.std.proofs.Common.{◌≡◌, refl}
 use Rattle.std.proofs.lemmas.Result.{err_from_is_err_and}
 use Rattle.json5_de.proofs.Ends.{not_ended, ended, refused_trailing, end_not_blamed}
 use Rattle.json5_de.proofs.Taken.{refused_blanks}

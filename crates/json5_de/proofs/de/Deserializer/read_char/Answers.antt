@@ -1,10 +1,9 @@
-use Rattle.std.proofs.Common.{◌≡◌, List, ℕ, Bool, true, false, Some, None, refl, ap, inr, sym, ◌∙◌, subst, string_bytes}
-use Rattle.std.specs.Str.{chars, encode_utf8_all}
-use Rattle.std.proofs.lemmas.Result.{err_from_is_err_and, IfOk-weaker, IfErr-weaker}
+use Rattle.std.proofs.Common.{◌≡◌, false, None, refl, ap, inr, sym, ◌∙◌}
+use Rattle.std.specs.Str.{chars}
+use Rattle.std.proofs.lemmas.Result.{err_from_is_err_and}
 use Rattle.json5_grammar.specs.Trees as trees
 use Rattle.json5_grammar.specs.Values.{is_text}
-use Rattle.json5_text.specs.Cows.{cow_bytes, is_borrowed}
-use Rattle.json5_de.specs.Convert.{every_text, if_plain, every_cow, one_character}
+use Rattle.json5_de.specs.Convert.{one_character}
 use Rattle.json5_de.specs.Faults.{faulty_text}
 use Rattle.json5_de.proofs.Taken.{took_leaf, refused_blanks, refused_or_memory}
 use Rattle.json5_de.proofs.AwaitsTexts.{text_stops}
@@ -32,6 +31,8 @@ returns-in_default-clause-refused g c =
 pub returns-clause-sound : goal.returns-clause-sound
 returns-clause-sound g c =
     let (s, u, plain, took, str, bytes) = c.in_ok-text.ensures.taken in
-    let characters : chars c.as_str.result.now ≡ u = text_characters c.begin.new.self.unread c.owned_text.new.self.unread c.as_str.result.now took.split c.offset-start.ensures.scalars str (c.as_str.ensures.value ∙ bytes) in
-    (trees.text u plain, took_leaf c.args.self.now c.begin.new.self c.owned_text.new.self s (trees.text u plain) refl c.in_ok-begin.ensures.passed took (is_text str) (text_stops c.owned_text.new.self.unread str),
-    same_character u plain ∙ ap (λ x. one_character x false) (sym characters) ∙ c.in-Some.ensures)
+    let characters : chars c.as_str.result.now ≡ u = text_characters c.begin.new.self.unread c.owned_text.new.self.unread c.as_str.result.now took.split c.offset-start.ensures.scalars str (c.as_str.ensures.value ∙ bytes) in (
+      trees.text u plain,
+      took_leaf c.args.self.now c.begin.new.self c.owned_text.new.self s (trees.text u plain) refl c.in_ok-begin.ensures.passed took (is_text str) (text_stops c.owned_text.new.self.unread str),
+      same_character u plain ∙ ap (λ x. one_character x false) (sym characters) ∙ c.in-Some.ensures,
+    )

@@ -27,6 +27,8 @@ returns-in-Decimal-clause-sound g c =
 pub returns-in-Ok-clause-sound : goal.returns-in-Ok-clause-sound
 returns-in-Ok-clause-sound g c =
     let (s, took, num, stops) = c.in_ok-decimal.ensures.taken in
-    let n = number_of c.in_ok-decimal.field-0 in
-    (trees.number n, took_leaf c.args.self.now c.begin.new.self c.number.new.self s (trees.number n) refl c.in_ok-begin.ensures.passed took (is_number num) stops,
-    ap (λ m. every_decimal (number_of m)) c.in-Whole.is ∙ ap Some (sym c.in-Ok.ensures.ok))
+    let n = number_of c.in_ok-decimal.field-0 in (
+      trees.number n,
+      took_leaf c.args.self.now c.begin.new.self c.number.new.self s (trees.number n) refl c.in_ok-begin.ensures.passed took (is_number num) stops,
+      ap (λ m. every_decimal (number_of m)) c.in-Whole.is ∙ ap Some (sym c.in-Ok.ensures.ok),
+    )

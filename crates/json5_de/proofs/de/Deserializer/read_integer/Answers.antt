@@ -37,6 +37,8 @@ returns-in_default-from_whole-clause-refused g c =
 pub returns-clause-sound : goal.returns-clause-sound
 returns-clause-sound g c =
     let (s, took, num, stops) = c.in_ok-whole.ensures.taken in
-    let n = number_of c.in_ok-whole.field-0 in
-    (trees.number n, took_leaf c.args.self.now c.begin.new.self c.number.new.self s (trees.number n) refl c.in_ok-begin.ensures.passed took (is_number num) stops,
-    ap (λ m. as_whole g.T.Integer.within (number_of m)) c.in-Whole.is ∙ c.in-Some.ensures)
+    let n = number_of c.in_ok-whole.field-0 in (
+      trees.number n,
+      took_leaf c.args.self.now c.begin.new.self c.number.new.self s (trees.number n) refl c.in_ok-begin.ensures.passed took (is_number num) stops,
+      ap (λ m. as_whole g.T.Integer.within (number_of m)) c.in-Whole.is ∙ c.in-Some.ensures,
+    )

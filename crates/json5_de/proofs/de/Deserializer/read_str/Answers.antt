@@ -1,10 +1,10 @@
-use Rattle.std.proofs.Common.{◌≡◌, List, ℕ, Bool, true, false, Some, None, refl, ap, inr, sym, ◌∙◌, subst, string_bytes}
-use Rattle.std.specs.Str.{chars, encode_utf8_all}
-use Rattle.std.proofs.lemmas.Result.{err_from_is_err_and, IfOk-weaker, IfErr-weaker}
+use Rattle.std.proofs.Common.{◌≡◌, true, Some, None, refl, ap, inr, sym, ◌∙◌}
+use Rattle.std.specs.Str.{encode_utf8_all}
+use Rattle.std.proofs.lemmas.Result.{err_from_is_err_and}
 use Rattle.json5_grammar.specs.Trees as trees
 use Rattle.json5_grammar.specs.Values.{is_text}
 use Rattle.json5_text.specs.Cows.{cow_bytes, is_borrowed}
-use Rattle.json5_de.specs.Convert.{every_text, if_plain, every_cow, one_character}
+use Rattle.json5_de.specs.Convert.{if_plain}
 use Rattle.json5_de.specs.Faults.{faulty_text}
 use Rattle.json5_de.proofs.Taken.{took_leaf, refused_blanks, refused_or_memory}
 use Rattle.json5_de.proofs.AwaitsTexts.{text_stops}

@@ -1,14 +1,10 @@
-use Rattle.std.proofs.Common.{◌≡◌, List, ℕ, Bool, true, false, Some, None, refl, ap, inr, sym, ◌∙◌, subst, string_bytes}
-use Rattle.std.specs.Str.{chars, encode_utf8_all}
+use Rattle.std.proofs.Common.{Some, refl, ap, inr, sym}
 use Rattle.std.proofs.lemmas.Result.{err_from_is_err_and, IfOk-weaker, IfErr-weaker}
 use Rattle.json5_grammar.specs.Trees as trees
 use Rattle.json5_grammar.specs.Values.{is_text}
-use Rattle.json5_text.specs.Cows.{cow_bytes, is_borrowed}
-use Rattle.json5_de.specs.Convert.{every_text, if_plain, every_cow, one_character}
 use Rattle.json5_de.specs.Faults.{faulty_text}
 use Rattle.json5_de.proofs.Taken.{took_leaf, refused_blanks, refused_or_memory}
 use Rattle.json5_de.proofs.AwaitsTexts.{text_stops}
-use Rattle.json5_de.proofs.Mismatches.{refused_text}
 use Rattle.json5_de.proofs.de.Deserializer.read_string.Goals as goal
 
 pub returns-in_err-begin-clause-refused : goal.returns-in_err-begin-clause-refused
