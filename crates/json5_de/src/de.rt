@@ -81,8 +81,10 @@ impl<I: Input> Deserializer<I> {
         }
     }
 
-    /// The allocator of what is read.
-    pub fn allocator(&self) -> Global {
+    /// The allocator of what is read. At any time at most 128 brackets are open.
+    pub fn allocator(&self) -> Global
+        ensures { self.now.level ≤ max_depth }
+    {
         self.scanner.allocator()
     }
 
