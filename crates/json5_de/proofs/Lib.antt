@@ -10,3 +10,4 @@ pub mod AwaitsTexts
 pub mod Documents
 pub mod TextScalars
 pub mod WholeDecimals
+pub mod ScalarsAwaited

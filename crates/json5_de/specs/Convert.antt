@@ -4,6 +4,8 @@ use Rattle.std.specs.Fmt as numerals
 use Rattle.std.specs.Str.{encode_utf8_all}
 use Rattle.json5_grammar.specs.Numbers.{Number, Decimal, whole, decimal, finite, without_zeros, normal_exponent}
 use Rattle.json5_grammar.specs.Trees.{Tree, null, boolean, number, text, array, object}
+use Rattle.json5_text.specs.ValueViews.{Datum}
+use Rattle.json5_text.specs.ValueViews as datum
 
 -- null
 abbrev pub unit_of : Tree → Option (Unit {0})
@@ -95,3 +97,13 @@ one_character (c ∷ d ∷ u) plain = None
 
 abbrev pub char_of : Tree → Option ℕ
 char_of = as_text one_character
+
+-- ---- values of any kind
+
+-- what a value that is no collection stands for, without the marks
+abbrev pub datum_of : Tree → Option Datum
+datum_of null = Some datum.null
+datum_of (boolean b) = Some (datum.boolean b)
+datum_of (number n) = Some (datum.number n)
+datum_of (text u plain) = Some (datum.text u)
+datum_of _ = None

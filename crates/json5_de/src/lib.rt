@@ -1,6 +1,7 @@
 //! Typed reading of JSON5.
 #![tactic(auto)]
 
+mod any;
 pub mod de;
 mod decimals;
 mod integers;

@@ -5,6 +5,7 @@ use json5_text::cow_str::CowStr;
 use json5_text::decimal::Decimal;
 use json5_text::error::Result;
 use json5_text::input::{Borrows, Input};
+use json5_text::value::Value;
 
 impl<I: Input> Deserialize<I> for () {
     ghost use Rattle.json5_de.specs.Convert.{unit_of};
@@ -258,5 +259,20 @@ impl<'de, I: Borrows<'de>> Deserialize<I> for CowStr<'de> {
 
     fn deserialize(de: &mut Deserializer<I>) -> Result<CowStr<'de>> {
         de.deserialize_identifier()
+    }
+}
+
+impl<I: Input> Deserialize<I> for Value {
+    ghost use Rattle.json5_text.specs.ValueViews.{Datum, value_of};
+    ghost use Rattle.json5_de.specs.Convert.{datum_of};
+
+    ghost Content = { Datum };
+
+    ghost content = { value_of };
+
+    ghost convert = { datum_of };
+
+    fn deserialize(de: &mut Deserializer<I>) -> Result<Value> {
+        de.deserialize_any()
     }
 }

@@ -1,0 +1,95 @@
+use Rattle.std.proofs.Common.{◌≡◌, ◌⊎◌, List, ℕ, Some, refl, ap, inl, inr, sym, ◌∙◌, subst, string_bytes, true, false}
+use Rattle.std.specs.Str.{chars}
+use Rattle.std.specs.Prelude.{IfErr, Result, Ok, Err}
+use Rattle.std.proofs.lemmas.Result.{err_from_is_err_and}
+use Rattle.json5_grammar.specs.declared.code.ErrorCode.TheVariants as codes_of
+use Rattle.json5_grammar.specs.Trees as trees
+use Rattle.json5_grammar.specs.Values.{is_null, is_true, is_false, is_number, is_text, null_text, true_text, false_text}
+use Rattle.json5_text.specs.NumberViews.{number_of}
+use Rattle.json5_text.specs.Tokens.{FaultyWord}
+use Rattle.json5_de.specs.declared.any.Kind.TheVariants as kind
+use Rattle.json5_de.specs.Faults.{RefusedByOrMemory}
+use Rattle.json5_de.specs.Scalars.{FaultyScalar, kind_in, in_null, in_true, in_false, in_text, in_number}
+use Rattle.json5_de.specs.Steps.{TookText}
+use Rattle.json5_de.proofs.Taken.{took_leaf, refused_blanks, null_stops, true_stops, false_stops, chars_null, chars_true, chars_false}
+use Rattle.json5_de.proofs.AwaitsTexts.{text_stops}
+use Rattle.json5_de.proofs.ScalarsAwaited.{kind_there, none_left, in_token, or_memory_in, value_missing, no_value_there}
+use Rattle.json5_de.proofs.de.Deserializer.read_any.Goals as goal
+
+pub returns-in_err-begin-clause-refused : goal.returns-in_err-begin-clause-refused
+returns-in_err-begin-clause-refused g c =
+    let (y, is, from) = err_from_is_err_and c.from_residual.result c.from_residual.ensures.1 in
+    rw (is, from) (inr (refused_blanks c.args.self.now c.in_err-begin.field-0.0 c.in_err-begin.ensures.refused))
+
+pub returns-in_default-clause-refused : goal.returns-in_default-clause-refused
+returns-in_default-clause-refused g c =
+    let none = none_left c.begin.new.self.unread c.peek.result c.peek.ensures c.in_default.is in
+    rw c.refuse.ensures.result (inr (value_missing c.args.self.now c.begin.new.self c.new.result c.in_ok-begin.ensures.passed none c.new.ensures.kind c.new.ensures.place))
+
+pub returns-in_err-word-in-Null-clause-refused : goal.returns-in_err-word-in-Null-clause-refused
+returns-in_err-word-in-Null-clause-refused g c =
+    let (y, is, from) = err_from_is_err_and c.from_residual-in_err-word-in-Null.result c.from_residual-in_err-word-in-Null.ensures.1 in
+    let there = kind_there c.begin.new.self.unread c.peek.result c.in-Some.c c.kind_at.result kind.Null c.peek.ensures c.in-Some.is c.kind_at.ensures c.in-Null.is in
+    rw (is, from) (inr (in_token c.args.self.now c.begin.new.self c.in_err-word-in-Null.field-0.0
+    (λ reason place f. in_null there (subst (λ w. FaultyWord w codes_of.EofParsingNull codes_of.ExpectedNull c.begin.new.self.unread reason place) chars_null f))
+    c.in_ok-begin.ensures.passed c.in_err-word-in-Null.ensures.refused))
+
+pub returns-in_ok-word-in-Null-clause-sound : goal.returns-in_ok-word-in-Null-clause-sound
+returns-in_ok-word-in-Null-clause-sound g c =
+    let there = subst (λ s. TookText c.begin.new.self s c.word.new.self) chars_null c.in_ok-word-in-Null.ensures.taken in
+    (trees.null, took_leaf c.args.self.now c.begin.new.self c.word.new.self null_text trees.null refl c.in_ok-begin.ensures.passed there is_null (null_stops c.word.new.self.unread), refl)
+
+pub returns-in_err-word-in-True-clause-refused : goal.returns-in_err-word-in-True-clause-refused
+returns-in_err-word-in-True-clause-refused g c =
+    let (y, is, from) = err_from_is_err_and c.from_residual-in_err-word-in-True.result c.from_residual-in_err-word-in-True.ensures.1 in
+    let there = kind_there c.begin.new.self.unread c.peek.result c.in-Some.c c.kind_at.result kind.True c.peek.ensures c.in-Some.is c.kind_at.ensures c.in-True.is in
+    rw (is, from) (inr (in_token c.args.self.now c.begin.new.self c.in_err-word-in-True.field-0.0
+    (λ reason place f. in_true there (subst (λ w. FaultyWord w codes_of.EofParsingBool codes_of.ExpectedBool c.begin.new.self.unread reason place) chars_true f))
+    c.in_ok-begin.ensures.passed c.in_err-word-in-True.ensures.refused))
+
+pub returns-in_ok-word-in-True-clause-sound : goal.returns-in_ok-word-in-True-clause-sound
+returns-in_ok-word-in-True-clause-sound g c =
+    let there = subst (λ s. TookText c.begin.new.self s c.word-in-True.new.self) chars_true c.in_ok-word-in-True.ensures.taken in
+    (trees.boolean true, took_leaf c.args.self.now c.begin.new.self c.word-in-True.new.self true_text (trees.boolean true) refl c.in_ok-begin.ensures.passed there is_true (true_stops c.word-in-True.new.self.unread), refl)
+
+pub returns-in_err-word-in-False-clause-refused : goal.returns-in_err-word-in-False-clause-refused
+returns-in_err-word-in-False-clause-refused g c =
+    let (y, is, from) = err_from_is_err_and c.from_residual-in_err-word-in-False.result c.from_residual-in_err-word-in-False.ensures.1 in
+    let there = kind_there c.begin.new.self.unread c.peek.result c.in-Some.c c.kind_at.result kind.False c.peek.ensures c.in-Some.is c.kind_at.ensures c.in-False.is in
+    rw (is, from) (inr (in_token c.args.self.now c.begin.new.self c.in_err-word-in-False.field-0.0
+    (λ reason place f. in_false there (subst (λ w. FaultyWord w codes_of.EofParsingBool codes_of.ExpectedBool c.begin.new.self.unread reason place) chars_false f))
+    c.in_ok-begin.ensures.passed c.in_err-word-in-False.ensures.refused))
+
+pub returns-in_ok-word-in-False-clause-sound : goal.returns-in_ok-word-in-False-clause-sound
+returns-in_ok-word-in-False-clause-sound g c =
+    let there = subst (λ s. TookText c.begin.new.self s c.word-in-False.new.self) chars_false c.in_ok-word-in-False.ensures.taken in
+    (trees.boolean false, took_leaf c.args.self.now c.begin.new.self c.word-in-False.new.self false_text (trees.boolean false) refl c.in_ok-begin.ensures.passed there is_false (false_stops c.word-in-False.new.self.unread), refl)
+
+pub returns-in_err-text-in-Text-clause-refused : goal.returns-in_err-text-in-Text-clause-refused
+returns-in_err-text-in-Text-clause-refused g c =
+    let (y, is, from) = err_from_is_err_and c.from_residual-in_err-text-in-Text.result c.from_residual-in_err-text-in-Text.ensures.1 in
+    let there = kind_there c.begin.new.self.unread c.peek.result c.in-Some.c c.kind_at.result kind.Text c.peek.ensures c.in-Some.is c.kind_at.ensures c.in-Text.is in
+    rw (is, from) (or_memory_in c.args.self.now c.begin.new.self c.in_err-text-in-Text.field-0.0 (λ reason place f. in_text there f) c.in_ok-begin.ensures.passed c.in_err-text-in-Text.ensures.refused)
+
+pub returns-in_err-number-in-Number-clause-refused : goal.returns-in_err-number-in-Number-clause-refused
+returns-in_err-number-in-Number-clause-refused g c =
+    let (y, is, from) = err_from_is_err_and c.from_residual-in_err-number-in-Number.result c.from_residual-in_err-number-in-Number.ensures.1 in
+    let there = kind_there c.begin.new.self.unread c.peek.result c.in-Some.c c.kind_at.result kind.Number c.peek.ensures c.in-Some.is c.kind_at.ensures c.in-Number.is in
+    rw (is, from) (or_memory_in c.args.self.now c.begin.new.self c.in_err-number-in-Number.field-0.0 (λ reason place f. in_number there f) c.in_ok-begin.ensures.passed c.in_err-number-in-Number.ensures.refused)
+
+pub returns-in_ok-text-in-Text-clause-sound : goal.returns-in_ok-text-in-Text-clause-sound
+returns-in_ok-text-in-Text-clause-sound g c =
+    let (s, plain, took, str) = c.in_ok-text-in-Text.ensures.taken in
+    let u = chars (string_bytes c.in_ok-text-in-Text.text) in
+    (trees.text u plain, took_leaf c.args.self.now c.begin.new.self c.characters.new.self s (trees.text u plain) refl c.in_ok-begin.ensures.passed took (is_text str) (text_stops c.characters.new.self.unread str), refl)
+
+pub returns-in_ok-number-in-Number-clause-sound : goal.returns-in_ok-number-in-Number-clause-sound
+returns-in_ok-number-in-Number-clause-sound g c =
+    let (s, took, num, stops) = c.in_ok-number-in-Number.ensures.taken in
+    let n = number_of c.in_ok-number-in-Number.number in
+    (trees.number n, took_leaf c.args.self.now c.begin.new.self c.number.new.self s (trees.number n) refl c.in_ok-begin.ensures.passed took (is_number num) stops, ap Some (sym c.value_of_number.ensures))
+
+pub returns-in-Other-clause-refused : goal.returns-in-Other-clause-refused
+returns-in-Other-clause-refused g c =
+    let there = kind_there c.begin.new.self.unread c.peek.result c.in-Some.c c.kind_at.result kind.Other c.peek.ensures c.in-Some.is c.kind_at.ensures c.in-Other.is in
+    rw c.refuse-in-Other.ensures.result (inr (no_value_there c.args.self.now c.begin.new.self c.fault_here-error.result c.peek.result c.in-Some.c c.in_ok-begin.ensures.passed c.peek.ensures c.in-Some.is there c.fault_here-error.ensures.kind c.fault_here-error.ensures.placed))

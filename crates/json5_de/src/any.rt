@@ -1,0 +1,121 @@
+//! Reading of values of any kind.
+
+ghost use Rattle.std.specs.Prelude.{◌≡◌, ◌⊎◌, ℕ, List, Bool, string_bytes, Some, IfOk, IfErr, OnErr, true};
+ghost use Rattle.std.specs.Str.{chars};
+ghost use Rattle.json5_grammar.specs.declared.code.ErrorCode.TheVariants as codes;
+ghost use Rattle.json5_grammar.specs.Strings.{Str};
+ghost use Rattle.json5_text.specs.Cursor.{Refused, IsOutOfMemory};
+ghost use Rattle.json5_text.specs.Tokens.{FaultyString};
+ghost use Rattle.json5_text.specs.ValueViews.{value_of};
+ghost use Rattle.json5_text.specs.ValueViews as datum;
+ghost use Rattle.json5_text.specs.NumberViews.{number_of};
+ghost use Rattle.json5_de.specs.State.{cursor_of};
+ghost use Rattle.json5_de.specs.Law.{Gives, Completes, StaysFailed};
+ghost use Rattle.json5_de.specs.Steps.{TookText};
+ghost use Rattle.json5_de.specs.Faults.{RefusedByOrMemory, EndsWithOrMemory, DiffersWithOrMemory};
+ghost use Rattle.json5_de.specs.Convert.{datum_of};
+ghost use Rattle.json5_de.specs.Scalars.{kind_at, FaultyScalar, begins_scalar};
+
+use crate::de::Deserializer;
+use json5_text::ErrorCode;
+use json5_text::error::{Error, Result};
+use json5_text::input::Input;
+use json5_text::number::Number;
+use json5_text::value::Value;
+
+/// What a character begins.
+#[derive(Clone, Copy)]
+enum Kind {
+    Null,
+    True,
+    False,
+    Text,
+    Number,
+    Other,
+}
+
+/// What the character begins.
+fn kind_at(c: char) -> Kind
+    ensures { result ≡ kind_at c }
+{
+    match c {
+        'n' => Kind::Null,
+        't' => Kind::True,
+        'f' => Kind::False,
+        '"' | '\'' => Kind::Text,
+        '+' | '-' | '.' | 'I' | 'N' | '0'..='9' => Kind::Number,
+        _ => Kind::Other,
+    }
+}
+
+impl<I: Input> Deserializer<I> {
+    /// Takes the string in front; its characters are those of the text.
+    fn characters(&mut self) -> Result<String>
+        ensures taken { IfOk result (λ t. (s : List ℕ) × (plain : Bool) × TookText self.old s self.new × Str s (chars (string_bytes t)) plain) }
+        ensures refused { IfErr result (λ e. IsOutOfMemory e ⊎ Refused FaultyString (cursor_of self.old) e) }
+        ensures failed { OnErr result (self.new.failed ≡ true) }
+    {
+        let _offset = self.offset();
+        self.owned_text()
+    }
+
+    fn read_any(&mut self) -> Result<Value>
+        ensures sound { IfOk result (λ v. Gives value_of datum_of self.old self.new v) }
+        ensures refused { IfErr result (RefusedByOrMemory FaultyScalar self.old) }
+        ensures failed { OnErr result (self.new.failed ≡ true) }
+        ensures before { StaysFailed self.old self.new result }
+    {
+        self.begin()?;
+        let Some(c) = self.peek() else {
+            return self.refuse(Error::new(ErrorCode::EofParsingValue));
+        };
+        match kind_at(c) {
+            Kind::Null => {
+                self.word("null", ErrorCode::EofParsingNull, ErrorCode::ExpectedNull)?;
+                Ok(Value::Null)
+            }
+            Kind::True => {
+                self.word("true", ErrorCode::EofParsingBool, ErrorCode::ExpectedBool)?;
+                Ok(Value::Bool(true))
+            }
+            Kind::False => {
+                self.word("false", ErrorCode::EofParsingBool, ErrorCode::ExpectedBool)?;
+                Ok(Value::Bool(false))
+            }
+            Kind::Text => {
+                let text = self.characters()?;
+                Ok(Value::String(text))
+            }
+            Kind::Number => {
+                let number = self.number()?;
+                Ok(value_of_number(number))
+            }
+            Kind::Other => {
+                let error = self.fault_here(ErrorCode::ExpectedValue);
+                self.refuse(error)
+            }
+        }
+    }
+
+    /// Reads a value of any kind. Until they come, an array or an object is refused with `ExpectedValue` at its bracket.
+    pub fn deserialize_any(&mut self) -> Result<Value>
+        ensures sound { IfOk result (λ v. Gives value_of datum_of self.old self.new v) }
+        ensures complete { Completes datum_of self.old result }
+        ensures refused { IfErr result (RefusedByOrMemory FaultyScalar self.old) }
+        ensures ends { EndsWithOrMemory codes.EofParsingValue self.old result }
+        ensures differs { DiffersWithOrMemory begins_scalar codes.ExpectedValue self.old result }
+        ensures failed { OnErr result (self.new.failed ≡ true) }
+        ensures before { StaysFailed self.old self.new result }
+    {
+        self.read_any()
+    }
+}
+
+fn value_of_number(number: Number) -> Value
+    ensures { value_of result ≡ datum.number (number_of number) }
+{
+    match number {
+        Number::Whole(whole) => Value::Whole(whole),
+        Number::Decimal(decimal) => Value::Decimal(decimal),
+    }
+}
