@@ -90,24 +90,33 @@ fn strings_are_read_with_their_escapes(rt: HostRuntime) -> Result<(), Fail> {
 }
 
 #[test]
-fn names_and_numbers_are_read(rt: HostRuntime) -> Result<(), Fail> {
-    let mut scanner = Scanner::new(rt.alloc(), "$a1 \\u0061b:-0x1F,+.5e1]");
-    match scanner.identifier() {
-        Ok(CowStr::Borrowed(name)) => assert_eq!(rt; name, "$a1"),
-        _ => assert!(rt; false),
-    }
-    assert!(rt; scanner.eat(' '));
-    match scanner.identifier() {
-        Ok(CowStr::Owned(name)) => assert_eq!(rt; name.as_str(), "ab"),
-        _ => assert!(rt; false),
-    }
-    assert!(rt; scanner.eat(':'));
+fn numbers_are_read(rt: HostRuntime) -> Result<(), Fail> {
+    let mut scanner = Scanner::new(rt.alloc(), "-0x1F,+.5e1]");
     assert!(rt; matches!(scanner.number(), Ok(Number::Whole(_))));
     assert!(rt; scanner.eat(','));
     assert!(rt; matches!(scanner.number(), Ok(Number::Decimal(_))));
     assert!(rt; scanner.eat(']'));
     let end = Error::new(ErrorCode::EofParsingNumber);
     assert_eq!(rt; scanner.number().err(), Some(end));
+    Ok(())
+}
+
+/// The text of a name, and whether it is borrowed.
+fn name_of(rt: &HostRuntime, text: &'static str) -> Result<(String, bool), Fail> {
+    match Scanner::new(rt.alloc(), text).identifier() {
+        Ok(CowStr::Borrowed(name)) => Ok((String::from_str(rt.alloc(), name)?, true)),
+        Ok(CowStr::Owned(name)) => Ok((name, false)),
+        Err(error) => Ok((format!(in rt.alloc(); "{error}")?, false)),
+    }
+}
+
+#[test]
+fn names_are_read(rt: HostRuntime) -> Result<(), Fail> {
+    for (text, want, is_borrowed) in [("$a1 ", "$a1", true), ("\\u0061b:", "ab", false)] {
+        let (name, borrowed) = name_of(&rt, text)?;
+        assert_eq!(rt; name.as_str(), want, "{text}");
+        assert_eq!(rt; borrowed, is_borrowed, "{text}");
+    }
     Ok(())
 }
 
