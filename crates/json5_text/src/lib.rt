@@ -12,6 +12,8 @@ mod fault_tests;
 mod front;
 pub mod input;
 pub mod number;
+#[cfg(test)]
+mod number_tests;
 mod numbers;
 mod refusal;
 mod runs;
