@@ -226,7 +226,7 @@ impl Decimal {
             }
         };
         Ok(Decimal {
-            negative: self.negative,
+            negative: self.is_negative(),
             size,
         })
     }
@@ -241,7 +241,7 @@ impl PartialEq for Decimal {
     ghost laws = { decimal_partial_equivalence };
 
     fn eq(&self, other: &Decimal) -> bool {
-        if self.negative != other.negative {
+        if self.is_negative() != other.is_negative() {
             return false;
         }
         match (&self.size, &other.size) {
@@ -270,7 +270,7 @@ impl Hash for Decimal {
     ghost respects_eq = { decimals_alike };
 
     fn hash<H: Hasher>(&self, state: &mut H) {
-        self.negative.hash(state);
+        self.is_negative().hash(state);
         match &self.size {
             Size::Infinite => 0u8.hash(state),
             Size::NotANumber => 1u8.hash(state),
@@ -358,7 +358,7 @@ impl fmt::Display for Decimal {
     /// within the digits or before them. Zero is `0.0`; the others are `Infinity` and `NaN`. A minus stands
     /// before where it is negative.
     fn fmt<W: fmt::Write>(&self, f: &mut fmt::Formatter<W>) -> fmt::Result {
-        if self.negative {
+        if self.is_negative() {
             f.write_str("-")?;
         }
         match &self.size {

@@ -13,6 +13,8 @@ mod front;
 pub mod input;
 mod names;
 pub mod number;
+#[cfg(test)]
+mod number_tests;
 mod numbers;
 mod refusal;
 mod runs;
