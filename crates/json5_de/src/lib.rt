@@ -2,13 +2,16 @@
 #![tactic(auto)]
 
 mod any;
-pub mod de;
+mod de;
 mod decimals;
 mod integers;
 mod mismatch;
 mod scalars;
 #[cfg(test)]
 mod tests;
-pub mod text;
+mod text;
 mod texts;
 mod types;
+
+pub use de::{Deserialize, Deserializer};
+pub use text::from_str;
