@@ -1,17 +1,26 @@
 -- What the formatter gives is a document of the same tree.
-use Rattle.std.proofs.Common.{◌≡◌, ℕ, List, Option, Some, None, refl, sym, ap, ◌∙◌, subst}
+use Rattle.std.proofs.Common.{◌≡◌, ℕ, Bool, true, false, List, Option, Some, None, refl, sym, ap, ◌∙◌, subst, string_bytes}
+use Rattle.std.specs.Prelude.{cond, Result, Ok, Err, IfOk, IfErr, MatchResult}
+use Rattle.json5_grammar.specs.declared.code.ErrorCode.TheVariants as codes_of
+use Rattle.json5_grammar.specs.NumberText.{number_text}
+use Rattle.json5_grammar.specs.Quoting.{quoted_text}
+use Rattle.json5_grammar.specs.Values.{null_text}
+use Rattle.json5_grammar.proofs.Unique.{one_tree}
+use Rattle.json5_text.specs.declared.error.Error.{Error}
+use Rattle.json5_text.specs.Errors.{Kind, code, custom, failed_write, kind_of}
+use Rattle.json5_text.specs.Cursor.{IsOutOfMemory}
 use Rattle.std.specs.Str.{chars}
-use Rattle.std.specs.Prelude.{tt, ⊤}
 use Rattle.json5_grammar.specs.Trees.{Tree, null, boolean, number, text, array, object}
 use Rattle.json5_grammar.specs.Documents.{Doc}
 use Rattle.json5_text.specs.ValueViews.{Datum}
 use Rattle.json5_text.specs.ValueViews as datum
 use Rattle.json5_de.specs.Convert.{datum_of}
 use Rattle.json5_ser.specs.WrittenTrees.{Written}
-use Rattle.json5_ser.specs.Out.{out}
+use Rattle.json5_ser.specs.Out.{out, piece, stopped, no_number, bool_text}
+use Rattle.json5_ser.specs.Writable.{is_writable}
 use Rattle.json5_ser.specs.Marks.{marks, unmarked}
 use Rattle.json5_ser.specs.Lone.{IsLone}
-use Rattle.json5_ser.specs.Texts.{IsText}
+use Rattle.json5_ser.specs.Texts.{IsText, RefusesText, StopsAs}
 use Rattle.json5_ser.specs.ValueTrees.{datum_tree}
 use Rattle.json5_ser.proofs.LoneRead.{lone_document}
 use Rattle.json5_ser.proofs.Unmarked.{tree_again}
@@ -50,3 +59,27 @@ formatted x bytes t d doc e w = record {
   reads_back = subst (λ z. Doc 128 z (marks (datum_tree d))) (sym w.characters) (lone_document 128 0 (datum_tree d) (is_lone d) w.stop);
   same = tree_again 128 (datum_tree d) 0 w.stop ∙ same_tree t d e;
 }
+
+number_stop : (b : Bool) (s : List ℕ) (k : Kind) → StopsAs (cond b (piece s) (stopped no_number)) k → k ≡ code codes_of.OutOfMemory
+number_stop b s (code codes_of.OutOfMemory) h = refl
+number_stop true s (code codes_of.InvalidKey) h = absurd (cc)
+number_stop false s (code codes_of.InvalidKey) h = absurd (cc)
+number_stop true s (code codes_of.TooDeep) h = absurd (cc)
+number_stop false s (code codes_of.TooDeep) h = absurd (cc)
+number_stop b s (code _) h = absurd h
+number_stop b s failed_write h = absurd h
+number_stop b s (custom _) h = absurd h
+
+-- writing a scalar is refused for want of memory alone
+pub only_memory : (d : Datum) (e : Error) → RefusesText (out 128 (datum_tree d) 0) e → IsOutOfMemory e
+only_memory datum.null e h = number_stop true null_text (kind_of e) h.stops
+only_memory (datum.boolean b) e h = number_stop true (bool_text b) (kind_of e) h.stops
+only_memory (datum.number n) e h = number_stop (is_writable n) (number_text n) (kind_of e) h.stops
+only_memory (datum.text u) e h = number_stop true (quoted_text u) (kind_of e) h.stops
+
+-- what is written of a document's value
+pub completed : {S : Type 0} (bytes : S → List ℕ) (x : List ℕ) (t u : Tree) (d : Datum) (r : Result S Error) → Doc 128 x t → Doc 128 x u → datum_of t ≡ Some d
+    → IfOk r (λ s. IsText (out 128 (datum_tree d) 0) (bytes s)) → IfErr r (λ e. RefusesText (out 128 (datum_tree d) 0) e)
+    → MatchResult r (λ s. IsText (out 128 (unmarked u) 0) (bytes s)) IsOutOfMemory
+completed bytes x t u d (Ok s) a b is w k = subst (λ z. IsText (out 128 z 0) (bytes s)) (same_tree t d is ∙ ap unmarked (one_tree 128 128 x t u a b)) w
+completed bytes x t u d (Err e) a b is w k = only_memory d e k
