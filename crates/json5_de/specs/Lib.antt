@@ -3,3 +3,5 @@ pub mod Law
 pub mod Faults
 pub mod Convert
 pub mod Steps
+pub mod Access
+pub mod Seq

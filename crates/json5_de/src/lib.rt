@@ -2,5 +2,7 @@
 #![tactic(auto)]
 
 pub mod de;
+mod lists;
 mod scalars;
+pub mod seq;
 mod types;

@@ -1,0 +1,1 @@
+use Rattle.json5_de.proofs.de.Deserializer.bracket.Goals as goal
