@@ -1,5 +1,5 @@
 -- The steps of reading an array.
-use Rattle.std.proofs.Common.{◌≡◌, ℕ, ◌+◌, ◌-◌, ◌≤◌, Bool, true, false, not, List, [], ◌∷◌, ◌++◌, refl, ap, sym, ◌∙◌, subst, ◌⊎◌, inl, inr, Option, Some, None, arith}
+use Rattle.std.proofs.Common.{◌≡◌, ℕ, ◌+◌, ◌-◌, ◌≤◌, ◌<◌, Bool, true, false, not, List, [], ◌∷◌, ◌++◌, refl, ap, sym, ◌∙◌, subst, ◌⊎◌, inl, inr, Option, Some, None, arith}
 use Rattle.std.specs.Prelude.{◌==◌, ◌||◌, slice_get, Result, Ok, Err, IfErr, IsOk}
 use Rattle.std.proofs.lemmas.Bool.{both_ways}
 use Rattle.json5_grammar.specs.declared.code.ErrorCode.{ErrorCode}
@@ -12,9 +12,9 @@ use Rattle.json5_grammar.specs.Values.{Reads}
 use Rattle.json5_grammar.specs.Documents.{max_depth}
 use Rattle.json5_grammar.specs.Members.{IsSign, Opens, IsElement, IsClose, IsAtClose, GoesNowhere}
 use Rattle.json5_grammar.proofs.Basics.{same_char}
-use Rattle.json5_grammar.proofs.MembersRead.{comma_solid, bracket_solid, sign_here, reads_found}
+use Rattle.json5_grammar.proofs.MembersRead.{comma_solid, bracket_solid, opening_solid, sign_here, sign_found, reads_found}
 use Rattle.json5_grammar.proofs.MembersPassed.{behind_comma, no_comma_end}
-use Rattle.json5_grammar.proofs.MembersNowhere.{reads_here, end_here, no_sign, nowhere_blanks, nowhere_other, nowhere_comma}
+use Rattle.json5_grammar.proofs.MembersNowhere.{reads_here, end_here, no_sign, no_sign_in_blanks, nowhere_blanks, nowhere_other, nowhere_comma}
 use Rattle.json5_text.specs.declared.error.Error.{Error}
 use Rattle.json5_text.specs.Cursor.{Refused}
 use Rattle.json5_text.specs.Tokens.{FaultyBlanks}
@@ -27,7 +27,7 @@ use Rattle.json5_de.specs.Law.{TookValue}
 use Rattle.json5_de.specs.Steps.{PassedGap, TookText}
 use Rattle.json5_de.specs.Access.{Opened, Closed, TookElement, AtClose, Unawaited, at_end, at_char, NotOpened, no_bracket, array_missing, too_deep, NoBracket, other_sign, bracket_missing, NotClosed, not_here, behind_comma as comma_before}
 use Rattle.json5_de.specs.Seq.{IsBehindGap, Begun, AtElement, GoesOn, NoNext, no_comma, list_ends, in_blanks_behind}
-use Rattle.json5_de.specs.Faults.{Behind, in_blanks, RefusedBy}
+use Rattle.json5_de.specs.Faults.{Behind, in_blanks, behind_gap, RefusedBy}
 use Rattle.json5_de.proofs.Taken.{refused_token}
 use Rattle.json5_de.proofs.Places.{some_next, refused_as, refused_behind}
 
@@ -220,3 +220,19 @@ refused_bracket_behind due s mid next far e d p took q (f, n) =
 pub refused_blanks_behind : (due : Bool) (s mid next : State) (e : Error) → due ≡ true → PassedGap s mid → TookText mid (0x2C ∷ []) next → (next.failed ≡ false → Refused FaultyBlanks (cursor_of next) e) → RefusedBy (NotClosed due) s e
 refused_blanks_behind due s mid next e d p took f =
     refused_token s mid e p (refused_behind mid next e (0x2C ∷ []) took (λ reason place k. comma_before d (in_blanks k)) (f (failed_of took.rest ∙ failed_of p.rest ∙ p.live)))
+
+-- ---- no opening
+
+opens_begun : (level : ℕ) (x r : List ℕ) (reason : Option ErrorCode) (place : Option (List ℕ)) → x ≡ 0x5B ∷ r → level < max_depth → NotOpened level x reason place → ⊥
+opens_begun level x r reason place e room (no_bracket c q n) = let same : c ≡ 0x5B = cc in no_bool (ap (λ d. d == 0x5B) same) n
+opens_begun level x r reason place e room array_missing = absurd (cc)
+opens_begun level x r reason place e room (too_deep q full) = omega (arith, room, full)
+
+-- an array that is there is opened, within the limit
+pub no_opening_refusal : (level : ℕ) (x r : List ℕ) (reason : Option ErrorCode) (place : Option (List ℕ)) → Opens x r → level < max_depth → Behind (NotOpened level) x reason place → ⊥
+no_opening_refusal level x r reason place o room (in_blanks (b, p, shown, f)) = no_sign_in_blanks 0x5B x b p r reason place shown opening_solid f o
+no_opening_refusal level x r reason place o room (behind_gap {w = w} {x = y} {place = q} g s f) =
+    opens_begun level y r reason q (sign_found 0x5B (w ++ y) w y r opening_solid refl g s o) room f
+
+pub opening_refused : (s : State) (e : Error) (r : List ℕ) → RefusedBy (NotOpened s.level) s e → s.failed ≡ false → Opens s.unread r → s.level < max_depth → ⊥
+opening_refused s e r f live o room = let k = f live in no_opening_refusal s.level s.unread r k.reason k.place o room k.fault

@@ -4,3 +4,4 @@ pub mod Awaits
 pub mod Taken
 pub mod Places
 pub mod Arrays
+pub mod ListSteps

@@ -1,6 +1,6 @@
 //! Reading of arrays, one element after another.
 
-ghost use Rattle.std.specs.Prelude.{◌≡◌, ◌≢◌, ◌+◌, ◌-◌, ◌==◌, ◌||◌, ◌∷◌, ◌++◌, [], false, true, ℕ, List, Some, None, length, is_some, slice_get, IfOk, IfErr, OnErr, OnOk, IsOk, IsTrue, IsErrAnd};
+ghost use Rattle.std.specs.Prelude.{◌≡◌, ◌≢◌, ◌<◌, ◌+◌, ◌-◌, ◌==◌, ◌||◌, ◌∷◌, ◌++◌, [], false, true, ℕ, List, Some, None, length, is_some, slice_get, IfOk, IfErr, OnErr, OnOk, IsOk, IsTrue, IsErrAnd};
 ghost use Rattle.std.specs.Str.{encode_utf8_all};
 ghost use Rattle.std.specs.Borrow.{sem, RestsIfErr};
 ghost use Rattle.json5_grammar.specs.declared.code.ErrorCode.TheVariants as codes;
@@ -66,6 +66,7 @@ impl<I: Input> Deserializer<I> {
     fn open(&mut self) -> Result<usize>
         ensures opened { IfOk result (λ start. Opened self.old self.new) }
         ensures start { IfOk result (λ start. (before : List ℕ) → self.old.input ≡ before ++ 0x5B ∷ self.new.unread → start ≡ length (encode_utf8_all before)) }
+        ensures complete { (r : List ℕ) → self.old.failed ≡ false → Opens self.old.unread r → self.old.level < max_depth → IsOk result }
         ensures refused { IfErr result (RefusedBy (NotOpened self.old.level) self.old) }
         ensures failed { OnErr result (self.new.failed ≡ true) }
         ensures before { StaysFailed self.old self.new result }
@@ -160,6 +161,7 @@ impl<I: Input> Deserializer<I> {
         ensures lent { IfOk result (λ s. s.de.now.failed ≡ true) }
         ensures opened { IfOk result (λ s. Opened self.old (within s.de.now s.failed) × (s.failed ≡ false) × (s.due ≡ false)) }
         ensures start { IfOk result (λ s. (before : List ℕ) → self.old.input ≡ before ++ 0x5B ∷ s.de.now.unread → s.start ≡ length (encode_utf8_all before)) }
+        ensures complete { (r : List ℕ) → self.old.failed ≡ false → Opens self.old.unread r → self.old.level < max_depth → IsOk result }
         ensures refused { IfErr result (RefusedBy (NotOpened self.old.level) self.old) }
         ensures before { self.old.failed ≡ true → IsErrAnd result (λ e. (kind_of e ≡ code codes.Failed) × (place_of e ≡ None)) }
     {
