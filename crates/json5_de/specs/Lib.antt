@@ -5,3 +5,4 @@ pub mod Convert
 pub mod Steps
 pub mod Access
 pub mod Seq
+pub mod ConvertLists

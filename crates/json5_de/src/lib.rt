@@ -3,6 +3,8 @@
 
 pub mod de;
 mod lists;
+mod option;
 mod scalars;
 pub mod seq;
+mod tuples;
 mod types;

@@ -174,6 +174,34 @@ impl<I: Input> Deserializer<I> {
             failed: false,
         })
     }
+
+    /// As `deserialize_seq`. The length changes nothing.
+    pub fn deserialize_tuple(&mut self, _length: usize) -> Result<SeqAccess<'_, I>>
+        ensures* lends { sem 𝓛 (RestsIfErr (the_row I.row I.Input) self.entry (λ s. s.de.ghost_name) result (λ n. n.failed ≡ true)) }
+        ensures same_reference { IfOk result (λ s. s.de.ghost_name ≡ self.entry.ghost_name) }
+        ensures lent { IfOk result (λ s. s.de.now.failed ≡ true) }
+        ensures opened { IfOk result (λ s. Opened self.old (within s.de.now s.failed) × (s.failed ≡ false) × (s.due ≡ false)) }
+        ensures start { IfOk result (λ s. (before : List ℕ) → self.old.input ≡ before ++ 0x5B ∷ s.de.now.unread → s.start ≡ length (encode_utf8_all before)) }
+        ensures complete { (r : List ℕ) → self.old.failed ≡ false → Opens self.old.unread r → self.old.level < max_depth → IsOk result }
+        ensures refused { IfErr result (RefusedBy (NotOpened self.old.level) self.old) }
+        ensures before { self.old.failed ≡ true → IsErrAnd result (λ e. (kind_of e ≡ code codes.Failed) × (place_of e ≡ None)) }
+    {
+        self.deserialize_seq()
+    }
+
+    /// As `deserialize_seq`. The name and the length change nothing.
+    pub fn deserialize_tuple_struct(&mut self, _name: &'static str, _length: usize) -> Result<SeqAccess<'_, I>>
+        ensures* lends { sem 𝓛 (RestsIfErr (the_row I.row I.Input) self.entry (λ s. s.de.ghost_name) result (λ n. n.failed ≡ true)) }
+        ensures same_reference { IfOk result (λ s. s.de.ghost_name ≡ self.entry.ghost_name) }
+        ensures lent { IfOk result (λ s. s.de.now.failed ≡ true) }
+        ensures opened { IfOk result (λ s. Opened self.old (within s.de.now s.failed) × (s.failed ≡ false) × (s.due ≡ false)) }
+        ensures start { IfOk result (λ s. (before : List ℕ) → self.old.input ≡ before ++ 0x5B ∷ s.de.now.unread → s.start ≡ length (encode_utf8_all before)) }
+        ensures complete { (r : List ℕ) → self.old.failed ≡ false → Opens self.old.unread r → self.old.level < max_depth → IsOk result }
+        ensures refused { IfErr result (RefusedBy (NotOpened self.old.level) self.old) }
+        ensures before { self.old.failed ≡ true → IsErrAnd result (λ e. (kind_of e ≡ code codes.Failed) × (place_of e ≡ None)) }
+    {
+        self.deserialize_seq()
+    }
 }
 
 impl<'a, I: Input> SeqAccess<'a, I> {
