@@ -92,7 +92,7 @@ at_close_here due s mid p e =
       rest = p.rest;
     }
 
-only_read : (s t u : State) → OnlyRead s t → OnlyRead t u → OnlyRead s u
+pub only_read : (s t u : State) → OnlyRead s t → OnlyRead t u → OnlyRead s u
 only_read s t u a b = b ∙ ap (λ (m : State). record m { unread = u.unread }) a
 
 -- an element may begin
@@ -213,7 +213,7 @@ pub refused_bracket_behind : (due : Bool) (s mid next far : State) (e : Error) �
     → Refused (Unawaited codes.EofParsingArray codes.ExpectedClosingBracket) (cursor_of far) e × NotBegun (λ c. c == 0x5D) far.unread → RefusedBy (NotClosed due) s e
 refused_bracket_behind due s mid next far e d p took q (f, n) =
     let there : Refused (Behind (NoBracket false)) (cursor_of next) e =
-      refused_token next far e q (refused_as far far e refl (λ reason place k. no_bracket_here false far.unread reason place (λ is. absurd (no_bool is refl)) n k) f) q.live in
+    refused_token next far e q (refused_as far far e refl (λ reason place k. no_bracket_here false far.unread reason place (λ is. absurd (no_bool is refl)) n k) f) q.live in
     refused_token s mid e p (refused_behind mid next e (0x2C ∷ []) took (λ reason place k. comma_before d k) there)
 
 -- a faulty comment behind the comma

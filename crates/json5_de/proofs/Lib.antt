@@ -5,3 +5,5 @@ pub mod Taken
 pub mod Places
 pub mod Arrays
 pub mod ListSteps
+pub mod Options
+pub mod Members

@@ -26,7 +26,7 @@ counted_before s cursor offset same_input same_unread e before split =
     let apart = ap (λ x. length (encode_utf8_all x)) whole ∙ bytes_apart before cursor.unread in
     omega (arith, e, apart)
 
-none_next : (x : List ℕ) → slice_get x 0 ≡ None → x ≡ []
+pub none_next : (x : List ℕ) → slice_get x 0 ≡ None → x ≡ []
 none_next [] e = refl
 none_next (c ∷ x) e = absurd (cc)
 

@@ -15,10 +15,10 @@ ghost use Rattle.json5_de.specs.State.{State, cursor_of, OnlyRead};
 ghost use Rattle.json5_de.specs.Law.{Gives, Completes, StaysFailed};
 ghost use Rattle.json5_de.specs.Steps.{PassedGap, TookText};
 
-use json5_text::{ErrorCode, Position};
 use json5_text::error::{Error, Result};
 use json5_text::input::Input;
 use json5_text::scanner::Scanner;
+use json5_text::{ErrorCode, Position};
 use std::alloc::Global;
 use std::marker::Model;
 

@@ -44,7 +44,10 @@ impl<I: Input> Deserializer<I> {
     }
 
     /// Reads the T that a struct of one field holds. The name changes nothing.
-    pub fn deserialize_newtype_struct<T: Deserialize<I>>(&mut self, _name: &'static str) -> Result<T>
+    pub fn deserialize_newtype_struct<T: Deserialize<I>>(
+        &mut self,
+        _name: &'static str,
+    ) -> Result<T>
         ensures sound { IfOk result (λ v. Gives T.content T.convert self.old self.new v) }
         ensures complete { Completes T.convert self.old result }
     {

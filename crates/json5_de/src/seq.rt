@@ -74,7 +74,10 @@ impl<I: Input> Deserializer<I> {
         self.begin()?;
         let start = self.here();
         if !self.eat('[') {
-            return Err(self.unawaited(ErrorCode::EofParsingArray, ErrorCode::ExpectedOpeningBracket));
+            return Err(self.unawaited(
+                ErrorCode::EofParsingArray,
+                ErrorCode::ExpectedOpeningBracket,
+            ));
         }
         if !self.enter() {
             let error = Error::new_at(self.position_at(start), ErrorCode::TooDeep);
@@ -130,7 +133,10 @@ impl<I: Input> Deserializer<I> {
         ensures refused { IfErr result (λ e. Refused (Unawaited codes.EofParsingArray codes.ExpectedClosingBracket) (cursor_of self.old) e × NotBegun (λ c. c == 0x5D) self.old.unread) }
     {
         if !self.eat(']') {
-            return Err(self.unawaited(ErrorCode::EofParsingArray, ErrorCode::ExpectedClosingBracket));
+            return Err(self.unawaited(
+                ErrorCode::EofParsingArray,
+                ErrorCode::ExpectedClosingBracket,
+            ));
         }
         self.leave();
         Ok(())
@@ -190,7 +196,11 @@ impl<I: Input> Deserializer<I> {
     }
 
     /// As `deserialize_seq`. The name and the length change nothing.
-    pub fn deserialize_tuple_struct(&mut self, _name: &'static str, _length: usize) -> Result<SeqAccess<'_, I>>
+    pub fn deserialize_tuple_struct(
+        &mut self,
+        _name: &'static str,
+        _length: usize,
+    ) -> Result<SeqAccess<'_, I>>
         ensures* lends { sem 𝓛 (RestsIfErr (the_row I.row I.Input) self.entry (λ s. s.de.ghost_name) result (λ n. n.failed ≡ true)) }
         ensures same_reference { IfOk result (λ s. s.de.ghost_name ≡ self.entry.ghost_name) }
         ensures lent { IfOk result (λ s. s.de.now.failed ≡ true) }

@@ -7,33 +7,17 @@ use json5_text::input::Input;
 use std::alloc::Global;
 
 /// A list that ended too early, a fault at its bracket.
-fn too_short<I: Input>(seq: &SeqAccess<'_, I>, alloc: Global, length: usize, expected: &str, size: usize) -> Error {
+fn too_short<I: Input>(
+    seq: &SeqAccess<'_, I>,
+    alloc: Global,
+    length: usize,
+    expected: &str,
+    size: usize,
+) -> Error {
     let message = format_args!("invalid length {length}, expected {expected} {size}");
     match Error::custom(alloc, message) {
         Ok(error) => seq.place(error),
         Err(error) => seq.place(error),
-    }
-}
-
-/// An array of one element.
-impl<I: Input, A: Deserialize<I>> Deserialize<I> for (A,) {
-    ghost use Rattle.json5_grammar.specs.Members.{array_of};
-    ghost use Rattle.json5_de.specs.ConvertLists.{last_of};
-
-    ghost Content = { A.Content };
-
-    ghost content = { λ v. A.content v.0 };
-
-    ghost convert = { array_of (last_of A.convert) };
-
-    fn deserialize(de: &mut Deserializer<I>) -> Result<(A,)> {
-        let alloc = de.allocator();
-        let mut seq = de.deserialize_tuple(1)?;
-        let Some(first) = seq.next_element::<A>()? else {
-            return Err(too_short(&seq, alloc, 0, "a tuple of size", 1));
-        };
-        seq.end()?;
-        Ok((first,))
     }
 }
 

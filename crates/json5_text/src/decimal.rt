@@ -322,7 +322,11 @@ fn write_zeros<W: fmt::Write>(f: &mut fmt::Formatter<W>, count: usize) -> fmt::R
 }
 
 /// Writes digits with a point before the last `moved` of them.
-fn write_pointed<W: fmt::Write>(f: &mut fmt::Formatter<W>, digits: &str, moved: usize) -> fmt::Result
+fn write_pointed<W: fmt::Write>(
+    f: &mut fmt::Formatter<W>,
+    digits: &str,
+    moved: usize,
+) -> fmt::Result
     requires { Each is_digit digits.now }
     ensures { WritesOnOk W.write_str_gives f.old result (pointed digits.now moved) f.new }
 {
@@ -338,7 +342,11 @@ fn write_pointed<W: fmt::Write>(f: &mut fmt::Formatter<W>, digits: &str, moved: 
 }
 
 /// Writes a finite number without its sign.
-fn write_finite<W: fmt::Write>(f: &mut fmt::Formatter<W>, digits: &str, exponent: i16) -> fmt::Result
+fn write_finite<W: fmt::Write>(
+    f: &mut fmt::Formatter<W>,
+    digits: &str,
+    exponent: i16,
+) -> fmt::Result
     requires { Each is_digit digits.now }
     ensures { WritesOnOk W.write_str_gives f.old result (digits_text digits.now exponent) f.new }
 {

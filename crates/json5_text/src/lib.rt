@@ -6,17 +6,17 @@ pub mod char;
 pub mod cow_str;
 pub mod decimal;
 pub mod error;
-mod front;
 #[cfg(test)]
 mod fault_tests;
+mod front;
 pub mod input;
 pub mod number;
 mod refusal;
 mod runs;
 pub mod scanner;
+pub mod value;
 pub mod whole;
 mod words;
-pub mod value;
 
 pub use json5_grammar::code::ErrorCode;
 pub use json5_grammar::position::Position;

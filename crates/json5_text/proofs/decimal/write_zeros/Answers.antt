@@ -8,9 +8,9 @@ pub loop-left-preserved : goal.loop-left-preserved
 loop-left-preserved g c = let t = c.loop-left-test.true in record {
   bound = let b = c.loop-left.invariant.bound in omega arith;
   so_far = λ p.
-    let w = c.loop-left.invariant.so_far p in
-    put_two g.W.Write.write_str_gives _ _ _ _ _ _ w (c.in_ok-write_str.ensures.writes w.plain refl)
-    (rw c.many_zeros.ensures (let b = c.loop-left.invariant.bound in zeros_more (c.args.count - c.loop-left.left) 64 _ (omega arith)));
+      let w = c.loop-left.invariant.so_far p in
+      put_two g.W.Write.write_str_gives _ _ _ _ _ _ w (c.in_ok-write_str.ensures.writes w.plain refl)
+      (rw c.many_zeros.ensures (let b = c.loop-left.invariant.bound in zeros_more (c.args.count - c.loop-left.left) 64 _ (omega arith)));
 }
 
 pub returns : goal.returns

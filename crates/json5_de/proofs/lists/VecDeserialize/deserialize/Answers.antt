@@ -31,10 +31,10 @@ pub returns-in_err-item-clause-complete : goal.returns-in_err-item-clause-comple
 returns-in_err-item-clause-complete g c t r v live reads shallow converts =
     let (y, is, from) = err_from_is_err_and c.from_residual-in_err-item.result c.from_residual-in_err-item.ensures.1 in
     rw (is, from) (elim (readable_list g.T.Deserialize.convert c.loop-seq.seq.due c.args.de.now (within c.in_ok-seq.seq.de.now c.in_ok-seq.seq.failed) (within c.loop-seq.seq.de.now c.loop-seq.seq.failed)
-      (map g.T.Deserialize.content c.loop-seq.items.items) v t r c.in_ok-seq.ensures.opened.0 c.loop-seq.invariant.read c.loop-seq.invariant.rest reads shallow converts) [
-        inl w ↦ absurd (not_ok (c.in_err-item.ensures.closing w.0 c.loop-seq.invariant.live w.1))
+    (map g.T.Deserialize.content c.loop-seq.items.items) v t r c.in_ok-seq.ensures.opened.0 c.loop-seq.invariant.read c.loop-seq.invariant.rest reads shallow converts) [
+      | inl w ↦ absurd (not_ok (c.in_err-item.ensures.closing w.0 c.loop-seq.invariant.live w.1))
       | inr w ↦ c.in_err-item.ensures.complete w.0 w.1 w.2 c.loop-seq.invariant.live w.3 w.5 w.4
-      ])
+    ])
 
 pub loop-seq-smaller : goal.loop-seq-smaller
 loop-seq-smaller g c =
@@ -76,4 +76,4 @@ returns-clause-sound g c =
     let back : c.de-2-1.given.0 ≡ _ = c.de-2-1.given.1 (search rules) in
     subst (λ n. (t : Tree) × TookValue c.args.de.now t n × (array_of (contents g.T.Deserialize.convert) t ≡ Some (map g.T.Deserialize.content c.loop-seq.items.items))) (sym back)
     (took_list g.T.Deserialize.convert c.loop-seq.seq.due c.args.de.now first old _ (map g.T.Deserialize.content c.loop-seq.items.items) c.in_ok-seq.ensures.opened.0 c.loop-seq.invariant.read c.loop-seq.invariant.rest
-      (closed_found c.loop-seq.seq.due c.next_element.new.self.due old new _ at c.in_ok-end.ensures.closed))
+    (closed_found c.loop-seq.seq.due c.next_element.new.self.due old new _ at c.in_ok-end.ensures.closed))

@@ -1,1 +1,0 @@
-use Rattle.json5_de.proofs.de.Deserializer.bracket.Goals as goal
