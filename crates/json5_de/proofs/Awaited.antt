@@ -33,7 +33,7 @@ same_first : (c d : ℕ) (x y : List ℕ) → c ∷ x ≡ d ∷ y → c ≡ d
 same_first c d x y e = cc
 
 -- blanks to the end have no fault
-no_end_fault : (x : List ℕ) (reason : Option ErrorCode) (place : Option (List ℕ)) → LastBlanks x → FaultyBlanks x reason place → ⊥
+pub no_end_fault : (x : List ℕ) (reason : Option ErrorCode) (place : Option (List ℕ)) → LastBlanks x → FaultyBlanks x reason place → ⊥
 no_end_fault x reason place l (before, part, shown, fault) =
     no_blank_fault (Gap.at_end l) tt (subst (λ y. BlankFault y reason place before part shown) (sym (append-nil x)) fault)
 

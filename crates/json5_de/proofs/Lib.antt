@@ -7,3 +7,11 @@ pub mod Arrays
 pub mod ListSteps
 pub mod Options
 pub mod Members
+pub mod Offsets
+pub mod AwaitsNumbers
+pub mod Mismatches
+pub mod Ends
+pub mod AwaitsTexts
+pub mod Documents
+pub mod TextScalars
+pub mod WholeDecimals

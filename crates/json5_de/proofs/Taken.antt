@@ -105,3 +105,13 @@ refused_bool s e w b is next test equal peeked word f =
       says = f.says;
       placed = f.placed;
     }
+
+refused_by : {F G : List ℕ → Option ErrorCode → Option (List ℕ) → Type 0} (s : State) (e : Error) → ((x : List ℕ) (reason : Option ErrorCode) (place : Option (List ℕ)) → F x reason place → G x reason place)
+    → Refused F (cursor_of s) e → Refused G (cursor_of s) e
+refused_by s e wider f = record { reason = f.reason; place = f.place; fault = wider s.unread f.reason f.place f.fault; says = f.says; placed = f.placed }
+
+-- the token's own refusal
+pub refused_or_memory : {F G : List ℕ → Option ErrorCode → Option (List ℕ) → Type 0} (old mid : State) (e : Error) → ((x : List ℕ) (reason : Option ErrorCode) (place : Option (List ℕ)) → F x reason place → G x reason place)
+    → PassedGap old mid → IsOutOfMemory e ⊎ Refused F (cursor_of mid) e → RefusedByOrMemory G old e
+refused_or_memory old mid e wider p (inl m) = inl m
+refused_or_memory old mid e wider p (inr f) = inr (refused_token old mid e p (refused_by mid e wider f))

@@ -27,7 +27,7 @@ word_other k ks c r x reason place other e (word_ends (a ∷ p) q d is) =
     let first : k ≡ a = cc in
     absurd (other (same ∙ sym first))
 
-cons_same : (c d : ℕ) (x y : List ℕ) → c ∷ x ≡ d ∷ y → c ≡ d
+pub cons_same : (c d : ℕ) (x y : List ℕ) → c ∷ x ≡ d ∷ y → c ≡ d
 cons_same c d x y e = cc
 
 -- the word in front is no fault

@@ -1,6 +1,8 @@
 -- What each type takes of a tree: at most one content.
-use Rattle.std.specs.Prelude.{ℕ, ◌<◌, Bool, true, false, if◌then◌else◌, nat_lt, List, [], ◌∷◌, ℤ, pos, negsuc, Option, Some, None}
-use Rattle.json5_grammar.specs.Numbers.{Number, Decimal, whole, decimal}
+use Rattle.std.specs.Prelude.{ℕ, Bool, true, false, if◌then◌else◌, nat_lt, List, [], ◌∷◌, ℤ, pos, negsuc, nat_abs, Option, Some, None}
+use Rattle.std.specs.Fmt as numerals
+use Rattle.std.specs.Str.{encode_utf8_all}
+use Rattle.json5_grammar.specs.Numbers.{Number, Decimal, whole, decimal, finite, without_zeros, normal_exponent}
 use Rattle.json5_grammar.specs.Trees.{Tree, null, boolean, number, text, array, object}
 
 -- null
@@ -13,22 +15,83 @@ abbrev pub bool_of : Tree → Option Bool
 bool_of (boolean b) = Some b
 bool_of _ = None
 
-abbrev pub natural_below : ℕ → Number → Option ℕ
-natural_below bound (whole (pos n)) = if nat_lt n bound then Some n else None
-natural_below bound (whole (negsuc n)) = None
-natural_below bound (decimal d) = None
+-- ---- numbers
 
--- a whole number from 0 to below the bound
+-- a number that converts
+abbrev pub as_number : {C : Type 0} → (Number → Option C) → Tree → Option C
+as_number f (number n) = f n
+as_number f _ = None
+
+-- a whole number that converts
+abbrev pub as_whole : {C : Type 0} → (ℤ → Option C) → Number → Option C
+as_whole f (whole z) = f z
+as_whole f (decimal d) = None
+
+-- from 0 to below the bound
+abbrev pub natural_below : ℕ → ℤ → Option ℕ
+natural_below bound (pos n) = if nat_lt n bound then Some n else None
+natural_below bound (negsuc n) = None
+
+-- from the bound's negative to below the bound
+abbrev pub integer_below : ℕ → ℤ → Option ℤ
+integer_below bound (pos n) = if nat_lt n bound then Some (pos n) else None
+integer_below bound (negsuc n) = if nat_lt n bound then Some (negsuc n) else None
+
 abbrev pub unsigned_below : ℕ → Tree → Option ℕ
-unsigned_below bound (number n) = natural_below bound n
-unsigned_below bound _ = None
+unsigned_below bound = as_number (as_whole (natural_below bound))
 
-abbrev pub integer_below : ℕ → Number → Option ℤ
-integer_below bound (whole (pos n)) = if nat_lt n bound then Some (pos n) else None
-integer_below bound (whole (negsuc n)) = if nat_lt n bound then Some (negsuc n) else None
-integer_below bound (decimal d) = None
-
--- a whole number from the bound's negative to below the bound
 abbrev pub signed_below : ℕ → Tree → Option ℤ
-signed_below bound (number n) = integer_below bound n
-signed_below bound _ = None
+signed_below bound = as_number (as_whole (integer_below bound))
+
+abbrev pub is_minus : ℤ → Bool
+is_minus (pos n) = false
+is_minus (negsuc n) = true
+
+-- the decimal of the same number; zero has no sign
+abbrev pub same_decimal : Number → Decimal
+same_decimal (whole z) = let digits = numerals.decimal (nat_abs z) in finite (is_minus z) (without_zeros digits) (normal_exponent digits (pos 0))
+same_decimal (decimal d) = d
+
+abbrev pub every_decimal : Number → Option Decimal
+every_decimal n = Some (same_decimal n)
+
+abbrev pub decimal_of : Tree → Option Decimal
+decimal_of = as_number every_decimal
+
+-- ---- texts
+
+-- a text that converts; true where it is plain
+abbrev pub as_text : {C : Type 0} → (List ℕ → Bool → Option C) → Tree → Option C
+as_text f (text u plain) = f u plain
+as_text f _ = None
+
+-- a text, by its bytes
+abbrev pub every_text : List ℕ → Bool → Option (List ℕ)
+every_text u plain = Some (encode_utf8_all u)
+
+abbrev pub text_of : Tree → Option (List ℕ)
+text_of = as_text every_text
+
+-- a text without a backslash, by its bytes
+abbrev pub if_plain : List ℕ → Bool → Option (List ℕ)
+if_plain u true = Some (encode_utf8_all u)
+if_plain u false = None
+
+abbrev pub plain_of : Tree → Option (List ℕ)
+plain_of = as_text if_plain
+
+-- a text by its bytes, and whether it is plain
+abbrev pub every_cow : List ℕ → Bool → Option (List ℕ × Bool)
+every_cow u plain = Some (encode_utf8_all u, plain)
+
+abbrev pub cow_of : Tree → Option (List ℕ × Bool)
+cow_of = as_text every_cow
+
+-- a text of one character
+abbrev pub one_character : List ℕ → Bool → Option ℕ
+one_character [] plain = None
+one_character (c ∷ []) plain = Some c
+one_character (c ∷ d ∷ u) plain = None
+
+abbrev pub char_of : Tree → Option ℕ
+char_of = as_text one_character

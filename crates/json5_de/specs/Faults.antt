@@ -4,27 +4,29 @@ use Rattle.json5_grammar.specs.Codes.{behind_text}
 use Rattle.json5_grammar.specs.declared.code.ErrorCode.{ErrorCode}
 use Rattle.json5_grammar.specs.declared.code.ErrorCode.TheVariants as codes
 use Rattle.json5_grammar.specs.Blanks.{Blanks, LastBlanks, Gap, Solid, is_solid}
-use Rattle.json5_grammar.specs.Trees.{Tree}
-use Rattle.json5_grammar.specs.Values.{Val, Stops, null_text, true_text, false_text}
+use Rattle.json5_grammar.specs.Numbers.{Number, Num}
+use Rattle.json5_grammar.specs.Strings.{Str}
+use Rattle.json5_grammar.specs.Values.{Stops, null_text, true_text, false_text}
 use Rattle.json5_text.specs.declared.error.Error.{Error}
 use Rattle.json5_text.specs.Errors.{code, kind_of, place_of}
 use Rattle.json5_text.specs.Cursor.{IsPlaced, Refused, IsOutOfMemory}
-use Rattle.json5_text.specs.Tokens.{FaultyBlanks, FaultyWord}
+use Rattle.json5_text.specs.Tokens.{FaultyBlanks, FaultyWord, FaultyNumber, FaultyString}
 use Rattle.json5_de.specs.State.{State, cursor_of}
-
--- what a text is refused for: the code (None: a text of its own) and the text before the place (None: no place)
-abbrev pub Faults : Type 1
-Faults = List ℕ → Option ErrorCode → Option (List ℕ) → Type 0
 
 -- a comment in front is at fault, or behind the gap stands what isn't awaited
 pub data Behind (IsFault : List ℕ → Option ErrorCode → Option (List ℕ) → Type 0) : List ℕ → Option ErrorCode → Option (List ℕ) → Type 0 where
   in_blanks : {x : List ℕ} {reason : Option ErrorCode} {place : Option (List ℕ)} → FaultyBlanks x reason place → Behind IsFault x reason place
   behind_gap : {w x : List ℕ} {reason : Option ErrorCode} {place : Option (List ℕ)} → Gap w x → Solid x → IsFault x reason place → Behind IsFault (w ++ x) reason (behind_text w place)
 
--- a token in front is faulty, or it is whole and its tree isn't the type's: a text of its own, at the token's start
-pub data NotOf {C : Type 0} (IsFault : List ℕ → Option ErrorCode → Option (List ℕ) → Type 0) (convert : Tree → Option C) : List ℕ → Option ErrorCode → Option (List ℕ) → Type 0 where
-  faulty : {x : List ℕ} {reason : Option ErrorCode} {place : Option (List ℕ)} → IsFault x reason place → NotOf IsFault convert x reason place
-  other_type : {s : List ℕ} {t : Tree} (r : List ℕ) → Val s t → Stops s r → convert t ≡ None → NotOf IsFault convert (s ++ r) None (Some [])
+-- a number in front is faulty, or it is whole and isn't the type's: a text of its own, at the number's start
+pub data NotNumber {C : Type 0} (convert : Number → Option C) : List ℕ → Option ErrorCode → Option (List ℕ) → Type 0 where
+  faulty_number : {x : List ℕ} {reason : Option ErrorCode} {place : Option (List ℕ)} → FaultyNumber x reason place → NotNumber convert x reason place
+  other_number : {s : List ℕ} {n : Number} (r : List ℕ) → Num s n → Stops s r → convert n ≡ None → NotNumber convert (s ++ r) None (Some [])
+
+-- a string in front is faulty, or it is whole and isn't the type's: a text of its own, at the quote
+pub data NotText {C : Type 0} (convert : List ℕ → Bool → Option C) : List ℕ → Option ErrorCode → Option (List ℕ) → Type 0 where
+  faulty_text : {x : List ℕ} {reason : Option ErrorCode} {place : Option (List ℕ)} → FaultyString x reason place → NotText convert x reason place
+  other_text : {s u : List ℕ} {plain : Bool} (r : List ℕ) → Str s u plain → convert u plain ≡ None → NotText convert (s ++ r) None (Some [])
 
 -- a reader that hasn't failed refuses with a fault that the relation gives what is behind the blanks, at its place
 abbrev pub RefusedBy : (List ℕ → Option ErrorCode → Option (List ℕ) → Type 0) → State → Error → Type 0
@@ -44,6 +46,10 @@ begins_with c (d ∷ s) = d == c
 -- behind an `f` the word is `false`, else `true`
 abbrev pub FaultyBool : List ℕ → Option ErrorCode → Option (List ℕ) → Type 0
 FaultyBool x = FaultyWord (if begins_with 0x66 x then false_text else true_text) codes.EofParsingBool codes.ExpectedBool x
+
+-- a character where the end is awaited: TrailingCharacters at it
+pub data Trailing : List ℕ → Option ErrorCode → Option (List ℕ) → Type 0 where
+  trailing : (c : ℕ) (r : List ℕ) → Trailing (c ∷ r) (Some codes.TrailingCharacters) (Some [])
 
 -- this code, without a place
 abbrev pub IsUnplaced : ErrorCode → Error → Type 0

@@ -6,3 +6,4 @@ pub mod Steps
 pub mod Access
 pub mod Seq
 pub mod ConvertLists
+pub mod Integers

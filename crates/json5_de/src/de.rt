@@ -1,22 +1,31 @@
 //! The reader, and the law of a type that is read.
 
-ghost use Rattle.std.specs.Prelude.{◌≡◌, ◌≤◌, ℕ, List, Some, None, IfOk, IfErr, OnOk, OnErr, IsOk, IsErrAnd, true, false, slice_get};
-ghost use Rattle.std.specs.Prelude.{◌<◌, ◌+◌, ◌-◌, ◌==◌, [], ◌∷◌, ◌++◌, length};
-ghost use Rattle.std.specs.Str.{encode_utf8_all};
-ghost use Rattle.json5_grammar.specs.Characters.{NotBegun};
+ghost use Rattle.std.specs.Prelude.{◌≡◌, ◌≤◌, Bool, string_bytes, ◌⊎◌, ◌++◌, ℕ, List, [], length, Some, None, IfOk, IfErr, OnOk, OnErr, IsOk, IsErrAnd, true, false, slice_get};
+ghost use Rattle.std.specs.Prelude.{◌<◌, ◌+◌, ◌-◌, ◌==◌, ◌∷◌};
 ghost use Rattle.json5_grammar.specs.Positions.{position_behind};
 ghost use Rattle.std.specs.Str.{chars};
-ghost use Rattle.json5_text.specs.Errors.{code, kind_of, place_of};
-ghost use Rattle.json5_text.specs.Cursor.{Refused, Took};
-ghost use Rattle.json5_text.specs.Tokens.{FaultyBlanks, FaultyWord};
+ghost use Rattle.json5_text.specs.Errors.{Kind, code, kind_of, place_of};
+ghost use Rattle.json5_text.specs.Cursor.{Refused, IsPlaced, IsOutOfMemory};
+ghost use Rattle.json5_text.specs.Tokens.{FaultyBlanks, FaultyWord, FaultyNumber, FaultyString};
 ghost use Rattle.json5_grammar.specs.Documents.{max_depth};
 ghost use Rattle.json5_grammar.specs.declared.code.ErrorCode.TheVariants as codes;
 ghost use Rattle.json5_de.specs.State.{State, cursor_of, OnlyRead};
+ghost use Rattle.json5_de.specs.Faults.{RefusedBy, AtEnd, Trailing};
 ghost use Rattle.json5_de.specs.Law.{Gives, Completes, StaysFailed};
-ghost use Rattle.json5_de.specs.Steps.{PassedGap, TookText};
+ghost use Rattle.std.specs.Str.{all_scalars, encode_utf8_all};
+ghost use Rattle.json5_grammar.specs.Characters.{NotBegun};
+ghost use Rattle.json5_grammar.specs.Numbers.{Num};
+ghost use Rattle.json5_grammar.specs.Stops.{lengthens};
+ghost use Rattle.json5_grammar.specs.Strings.{Str};
+ghost use Rattle.json5_text.specs.Cows.{cow_bytes, is_borrowed};
+ghost use Rattle.json5_text.specs.NumberViews.{number_of};
+ghost use Rattle.json5_de.specs.Steps.{PassedGap, TookText, IsOffset, IsMismatch};
 
+use crate::mismatch::Mismatch;
+use json5_text::cow_str::CowStr;
 use json5_text::error::{Error, Result};
-use json5_text::input::Input;
+use json5_text::input::{Borrows, Input};
+use json5_text::number::Number;
 use json5_text::scanner::Scanner;
 use json5_text::{ErrorCode, Position};
 use std::alloc::Global;
@@ -74,8 +83,10 @@ impl<I: Input> Deserializer<I> {
         }
     }
 
-    /// The allocator of what is read.
-    pub fn allocator(&self) -> Global {
+    /// The allocator of what is read. At any time at most 128 brackets are open.
+    pub fn allocator(&self) -> Global
+        ensures { self.now.level ≤ max_depth }
+    {
         self.scanner.allocator()
     }
 
@@ -128,6 +139,92 @@ impl<I: Input> Deserializer<I> {
     {
         match self.scanner.word(word, ends, differs) {
             Ok(()) => Ok(()),
+            Err(e) => self.refuse(e),
+        }
+    }
+
+    /// Takes the number in front.
+    pub(crate) fn number(&mut self) -> Result<Number>
+        ensures taken { IfOk result (λ n. (s : List ℕ) × TookText self.old s self.new × Num s (number_of n) × NotBegun (lengthens s) self.new.unread) }
+        ensures refused { IfErr result (λ e. IsOutOfMemory e ⊎ Refused FaultyNumber (cursor_of self.old) e) }
+        ensures failed { OnErr result (self.new.failed ≡ true) }
+    {
+        match self.scanner.number() {
+            Ok(number) => Ok(number),
+            Err(e) => self.refuse(e),
+        }
+    }
+
+    /// Takes the string in front, its text in memory of its own.
+    pub(crate) fn owned_text(&mut self) -> Result<String>
+        ensures taken { IfOk result (λ t. (s u : List ℕ) × (plain : Bool) × TookText self.old s self.new × Str s u plain × (string_bytes t ≡ encode_utf8_all u)) }
+        ensures refused { IfErr result (λ e. IsOutOfMemory e ⊎ Refused FaultyString (cursor_of self.old) e) }
+        ensures failed { OnErr result (self.new.failed ≡ true) }
+    {
+        match self.scanner.string_owned() {
+            Ok(text) => Ok(text),
+            Err(e) => self.refuse(e),
+        }
+    }
+
+    /// A fault at the next character.
+    pub(crate) fn fault_here(&self, code: ErrorCode) -> Error
+        ensures kind { kind_of result ≡ Kind.code code }
+        ensures placed { IsPlaced (cursor_of self.now) (Some []) result }
+    {
+        let offset = self.offset();
+        Error::new_at(self.scanner.position_of(offset), code)
+    }
+
+    /// Takes the blanks at the end of the text, comments included; nothing else may be left. Else a comment's fault,
+    /// whose place is none where the end of the text shows it, or `TrailingCharacters` at the first other character.
+    pub fn end(&mut self) -> Result<()>
+        ensures sound { OnOk result (AtEnd self.old × (self.new ≡ record self.old { unread = [] })) }
+        ensures complete { AtEnd self.old → IsOk result }
+        ensures refused { IfErr result (RefusedBy Trailing self.old) }
+        ensures failed { OnErr result (self.new.failed ≡ true) }
+        ensures before { StaysFailed self.old self.new result }
+    {
+        self.begin()?;
+        if self.peek().is_some() {
+            let error = self.fault_here(ErrorCode::TrailingCharacters);
+            return self.refuse(error);
+        }
+        Ok(())
+    }
+
+    /// The count of bytes before what is unread.
+    pub(crate) fn offset(&self) -> usize
+        ensures offset { IsOffset self.now.input result }
+        ensures counted { (before : List ℕ) → self.now.input ≡ before ++ self.now.unread → result ≡ length (encode_utf8_all before) }
+        ensures scalars { all_scalars self.now.unread ≡ true }
+    {
+        self.scanner.offset()
+    }
+
+    /// Refuses what is whole, and isn't of the type that was awaited: a text of its own, at the offset.
+    pub(crate) fn mismatch<T>(&mut self, offset: usize, mismatch: &Mismatch<'_>) -> Result<T>
+        requires { IsOffset self.old.input offset }
+        ensures refused { IsErrAnd result (IsMismatch self.old.input offset) }
+        ensures failed { self.new.failed ≡ true }
+    {
+        let position = self.scanner.position_of(offset);
+        match Error::custom_at(self.scanner.allocator(), position, mismatch) {
+            Ok(error) => self.refuse(error),
+            Err(error) => self.refuse(error),
+        }
+    }
+}
+
+impl<'de, I: Borrows<'de>> Deserializer<I> {
+    /// Takes the string in front, its text borrowed where it holds no backslash.
+    pub(crate) fn text(&mut self) -> Result<CowStr<'de>>
+        ensures taken { IfOk result (λ t. (s u : List ℕ) × (plain : Bool) × TookText self.old s self.new × Str s u plain × (is_borrowed t ≡ plain) × (cow_bytes t ≡ encode_utf8_all u)) }
+        ensures refused { IfErr result (λ e. IsOutOfMemory e ⊎ Refused FaultyString (cursor_of self.old) e) }
+        ensures failed { OnErr result (self.new.failed ≡ true) }
+    {
+        match self.scanner.string() {
+            Ok(text) => Ok(text),
             Err(e) => self.refuse(e),
         }
     }

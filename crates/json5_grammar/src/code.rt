@@ -1,5 +1,5 @@
 //! The codes of faults.
-ghost use Rattle.std.specs.Prelude.{Some};
+ghost use Rattle.std.specs.Prelude.{◌≡◌, Some};
 
 use std::fmt;
 
@@ -76,14 +76,14 @@ pub enum ErrorCode {
     Failed,
 }
 
-/// The code in words, such as `expected comma`.
-impl fmt::Display for ErrorCode {
-    ghost output = { λ c. Some (code_text c) };
-
+impl ErrorCode {
     ghost use Rattle.json5_grammar.specs.CodeText.{code_text};
 
-    fn fmt<W: fmt::Write>(&self, f: &mut fmt::Formatter<W>) -> fmt::Result {
-        let text = match self {
+    /// The code in words, such as `expected comma`.
+    pub fn as_str(self) -> &'static str
+        ensures { result.now ≡ code_text self }
+    {
+        match self {
             ErrorCode::EofParsingArray => "EOF parsing array",
             ErrorCode::EofParsingBool => "EOF parsing bool",
             ErrorCode::EofParsingComment => "EOF parsing comment",
@@ -118,7 +118,17 @@ impl fmt::Display for ErrorCode {
             ErrorCode::TooDeep => "nested too deep",
             ErrorCode::OutOfMemory => "out of memory",
             ErrorCode::Failed => "failed before",
-        };
-        f.write_str(text)
+        }
+    }
+}
+
+/// The code in words, such as `expected comma`.
+impl fmt::Display for ErrorCode {
+    ghost output = { λ c. Some (code_text c) };
+
+    ghost use Rattle.json5_grammar.specs.CodeText.{code_text};
+
+    fn fmt<W: fmt::Write>(&self, f: &mut fmt::Formatter<W>) -> fmt::Result {
+        f.write_str(self.as_str())
     }
 }

@@ -3,12 +3,12 @@ use Rattle.std.proofs.Common.{◌≡◌, ℕ, List, [], ◌∷◌, ◌++◌, Boo
 use Rattle.std.specs.Result.{IsErrAnd}
 use Rattle.std.specs.Str.{encode_utf8_all, all_scalars}
 use Rattle.std.proofs.lemmas.Str.{encodes-append}
-use Rattle.std.specs.Io.KnownBytes.{Appends, Keeps}
+use Rattle.std.specs.Io.KnownBytes.{Appends}
 use Rattle.std.proofs.KnownBytes.{Appends-nil, Appends-trans}
 use Rattle.json5_text.specs.declared.error.Error.{Error}
-use Rattle.json5_text.specs.Errors.{Kind, code, custom, failed_write, kind_of, place_of}
-use Rattle.json5_ser.specs.Out.{Out, Stop, whole, invalid_key, too_deep, piece, after, ◌then◌}
-use Rattle.json5_ser.specs.Writes.{Seen, Wrote, Stopped, Broke, Idled, Refusal, by_key, by_depth, by_writer, by_refusal, by_none, refusal_of, RefusesBy, Refuses, Writes}
+use Rattle.json5_text.specs.Errors.{Kind, kind_of, place_of}
+use Rattle.json5_ser.specs.Out.{Out, Stop, whole, invalid_key, too_deep, no_number, piece, after, ◌then◌}
+use Rattle.json5_ser.specs.Writes.{Seen, Wrote, Stopped, Broke, Refusal, by_key, by_depth, by_writer, by_refusal, by_none, refusal_of, RefusesBy, Refuses, Writes}
 
 pub after_whole : (a b : Out) → a.stop ≡ whole → a then b ≡ record { text = a.text ++ b.text; stop = b.stop }
 after_whole a b e = ap (λ s. after a.text s b) e
@@ -23,11 +23,13 @@ after_after_2 : (s : List ℕ) (t : List ℕ) (e : Stop) (c : Out) → after (s 
 after_after_2 s t whole c = ap (λ l. record { text = l; stop = c.stop }) (append_assoc s t c.text)
 after_after_2 s t invalid_key c = refl
 after_after_2 s t too_deep c = refl
+after_after_2 s t no_number c = refl
 
 after_after : (s : List ℕ) (e : Stop) (b c : Out) → after (after s e b).text (after s e b).stop c ≡ after s e (b then c)
 after_after s whole b c = after_after_2 s b.text b.stop c
 after_after s invalid_key b c = refl
 after_after s too_deep b c = refl
+after_after s no_number b c = refl
 
 pub then_assoc : (a b c : Out) → (a then b) then c ≡ a then (b then c)
 then_assoc a b c = after_after a.text a.stop b c
@@ -60,6 +62,7 @@ Broke-after s whole b o n p =
     }
 Broke-after s invalid_key b o n p = record { was = p.was; front = p.front; rest = p.rest; cut = p.cut; bytes = p.bytes; failed = p.failed }
 Broke-after s too_deep b o n p = record { was = p.was; front = p.front; rest = p.rest; cut = p.cut; bytes = p.bytes; failed = p.failed }
+Broke-after s no_number b o n p = record { was = p.was; front = p.front; rest = p.rest; cut = p.cut; bytes = p.bytes; failed = p.failed }
 
 -- a refusal in the first part
 RefusesBy-before : (a b : Out) (o n : Seen) (r : Refusal) → RefusesBy a o r n → RefusesBy (a then b) o r n

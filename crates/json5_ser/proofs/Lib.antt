@@ -3,3 +3,8 @@ pub mod PiecesWritten
 pub mod TextsWhole
 pub mod QuotesFound
 pub mod EscapesSplit
+pub mod AsciiPieces
+pub mod DecimalPieces
+pub mod LoneRead
+pub mod Unmarked
+pub mod Writables

@@ -1,14 +1,14 @@
 -- What is written by one piece.
-use Rattle.std.proofs.Common.{◌≡◌, ℕ, List, [], ◌∷◌, ◌++◌, Bool, true, false, ◌&&◌, not, ◌==◌, refl, sym, ap, ◌∙◌, subst}
+use Rattle.std.proofs.Common.{◌≡◌, ℕ, List, [], ◌∷◌, ◌++◌, true, false, ◌&&◌, not, ◌==◌, refl, sym, ap, ◌∙◌, subst}
 use Rattle.std.specs.List.{list_any}
-use Rattle.std.specs.Str.{IsUtf8, IsAscii, chars, encode_utf8_all}
+use Rattle.std.specs.Str.{IsUtf8, IsAscii, chars}
 use Rattle.std.proofs.lemmas.Str.{encodes-chars, scalars-chars, chars-IsAscii}
 use Rattle.std.specs.Io.KnownBytes.{Appends}
 use Rattle.json5_grammar.specs.Values.{null_text, true_text, false_text}
 use Rattle.json5_grammar.specs.Strings.{is_quote}
 use Rattle.json5_grammar.specs.Quoting.{quote_for, escaped_all, quoted_text}
 use Rattle.json5_grammar.proofs.Basics.{by_test}
-use Rattle.json5_ser.specs.Out.{piece, whole, ◌then◌}
+use Rattle.json5_ser.specs.Out.{piece, ◌then◌}
 use Rattle.json5_ser.specs.Pieces.{AppendsFront}
 use Rattle.json5_ser.specs.Writes.{Seen, Wrote, Broke}
 

@@ -1,9 +1,9 @@
 -- Whether a text holds a quote.
-use Rattle.std.proofs.Common.{◌≡◌, ◌<◌, ℕ, ◌+◌, List, [], ◌∷◌, ◌++◌, Bool, true, false, ◌||◌, ◌&&◌, not, if◌then◌else◌, ◌==◌, length, take, drop, refl, sym, ap, ◌∙◌, subst, take-append-drop, arith}
+use Rattle.std.proofs.Common.{◌≡◌, ◌<◌, ℕ, List, [], ◌∷◌, ◌++◌, Bool, true, false, ◌||◌, ◌&&◌, not, if◌then◌else◌, ◌==◌, take, drop, refl, sym, ap, ◌∙◌, subst, take-append-drop, arith}
 use Rattle.std.specs.Char.{encode_utf8}
 use Rattle.std.specs.List.{list_any}
 use Rattle.std.specs.Str.{IsUtf8, chars, NoCharPasses, NonePass, IsCharBoundary}
-use Rattle.std.specs.Str.Pattern.{HasMatch, FindsChar, HasCharAt}
+use Rattle.std.specs.Str.Pattern.{HasMatch, FindsChar}
 use Rattle.std.proofs.lemmas.Str.{chars_from_encodes, chars-append, chars_past_char, IsUtf8-take, IsUtf8-drop, len_utf8_bounds, IsCharBoundary-before_ascii}
 use Rattle.std.proofs.lemmas.List.Folds.{list_any-append}
 use Rattle.json5_grammar.specs.Quoting.{quote_for}

@@ -1,4 +1,5 @@
 pub mod WrittenTrees
+pub mod Writable
 pub mod Out
 pub mod Marks
 pub mod Writes
@@ -6,3 +7,5 @@ pub mod Pieces
 pub mod Named
 pub mod Texts
 pub mod Escaping
+pub mod ValueTrees
+pub mod Lone

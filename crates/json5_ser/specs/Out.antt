@@ -2,17 +2,20 @@
 -- Each member of a collection stands on a line of its own, two spaces a level, with a comma behind it.
 use Rattle.std.specs.Prelude.{ℕ, ◌+◌, ◌*◌, List, [], ◌∷◌, ◌++◌, Bool, true, false, replicate, nat_lt, cond}
 use Rattle.json5_grammar.specs.Characters.{line_feed, comma_sign, colon_sign, left_bracket, right_bracket, left_brace, right_brace}
+use Rattle.json5_grammar.specs.Numbers.{Number}
 use Rattle.json5_grammar.specs.NumberText.{number_text}
 use Rattle.json5_grammar.specs.Quoting.{quoted_text, key_text}
 use Rattle.json5_grammar.specs.Values.{null_text, true_text, false_text}
+use Rattle.json5_ser.specs.Writable.{is_writable}
 use Rattle.json5_ser.specs.WrittenTrees as written
 use Rattle.json5_ser.specs.WrittenTrees.{Key, named, bad, Written, Elements, no_element, element, Fields, no_field, field}
 
--- whether the text is whole, or stops before a key or a bracket
+-- whether the text is whole, or stops before a key, a bracket, or what is no number of these types
 pub data Stop : Type 0 where
   whole : Stop
   invalid_key : Stop
   too_deep : Stop
+  no_number : Stop
 
 -- the codes of its characters, and how it stops
 pub record Out : Type 0 where
@@ -30,6 +33,7 @@ abbrev pub after : List ℕ → Stop → Out → Out
 after s whole o = record { text = s ++ o.text; stop = o.stop }
 after s invalid_key o = record { text = s; stop = invalid_key }
 after s too_deep o = record { text = s; stop = too_deep }
+after s no_number o = record { text = s; stop = no_number }
 
 infixr 10 ◌then◌
 abbrev pub ◌then◌ : Out → Out → Out
@@ -45,6 +49,9 @@ line d = line_feed ∷ replicate (2 * d) space
 abbrev pub bool_text : Bool → List ℕ
 bool_text true = true_text
 bool_text false = false_text
+
+abbrev pub number_out : Number → Out
+number_out n = cond (is_writable n) (piece (number_text n)) (stopped no_number)
 
 abbrev pub key_out : Key → Out
 key_out (named u) = piece (key_text u)
@@ -75,7 +82,7 @@ abbrev mutual
   pub out : ℕ → Written → ℕ → Out
   out limit written.null d = piece null_text
   out limit (written.boolean b) d = piece (bool_text b)
-  out limit (written.number n) d = piece (number_text n)
+  out limit (written.number n) d = number_out n
   out limit (written.text u) d = piece (quoted_text u)
   out limit (written.array ts) d = opening limit d left_bracket then elements_out limit ts d false
   out limit (written.object fs) d = opening limit d left_brace then fields_out limit fs d false

@@ -1,10 +1,10 @@
 -- What `to_string` answers.
-use Rattle.std.specs.Prelude.{◌≡◌, ℕ, List, Option, None, ⊤}
+use Rattle.std.specs.Prelude.{◌≡◌, ℕ, List, None, ⊤}
 use Rattle.std.specs.Str.{chars, encode_utf8_all}
 use Rattle.json5_grammar.specs.declared.code.ErrorCode.TheVariants as codes
 use Rattle.json5_text.specs.declared.error.Error.{Error}
 use Rattle.json5_text.specs.Errors.{Kind, code, custom, failed_write, kind_of, place_of}
-use Rattle.json5_ser.specs.Out.{Out, Stop, whole, invalid_key, too_deep}
+use Rattle.json5_ser.specs.Out.{Out, whole, invalid_key, too_deep}
 
 -- the bytes are the whole text
 pub record IsText (o : Out) (bytes : List ℕ) : Type 0 where

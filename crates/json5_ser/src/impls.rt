@@ -3,11 +3,12 @@
 ghost use Rattle.std.specs.Prelude.{pos, [], ◌∷◌, string_bytes};
 ghost use Rattle.std.specs.Str.{chars};
 ghost use Rattle.json5_text.specs.Cows.{cow_bytes};
-ghost use Rattle.json5_grammar.specs.Numbers.{whole};
+ghost use Rattle.json5_grammar.specs.Numbers.{whole, decimal};
 ghost use Rattle.json5_ser.specs.WrittenTrees.{null, boolean, number, text};
 
 use crate::{Serialize, Serializer};
 use json5_text::cow_str::CowStr;
+use json5_text::decimal::Decimal;
 use json5_text::error::Result;
 use std::io::Write;
 
@@ -136,6 +137,14 @@ impl Serialize for CowStr<'_> {
 
     fn serialize<W: Write + Drop>(&self, ser: &mut Serializer<W>) -> Result<()> {
         ser.serialize_str(self.as_str())
+    }
+}
+
+impl Serialize for Decimal {
+    ghost tree = { λ d. number (decimal d) };
+
+    fn serialize<W: Write + Drop>(&self, ser: &mut Serializer<W>) -> Result<()> {
+        ser.serialize_decimal(self)
     }
 }
 

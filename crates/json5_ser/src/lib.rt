@@ -1,11 +1,16 @@
 //! Typed writing of JSON5.
 #![tactic(auto)]
 
+mod decimals;
 mod impls;
+pub mod laws;
 mod quoting;
 mod serialize;
 mod serializer;
+#[cfg(test)]
+mod tests;
 mod texts;
+mod value;
 
 pub use serialize::Serialize;
 pub use serializer::Serializer;

@@ -8,4 +8,13 @@ pub mod ScanTokens
 pub mod EscapesSpelled
 pub mod FaultsCompared
 pub mod TextsCompared
+pub mod ScanEscapes
+pub mod ScanStrings
 pub mod ValuesCompared
+pub mod ScanNames
+pub mod NumberSteps
+pub mod NumberLiterals
+pub mod NumberValues
+pub mod NumberJudged
+pub mod NumberCases
+pub mod ScanNumbers

@@ -1,17 +1,17 @@
 -- Where a text is cut, behind ASCII characters that pass a test or before such ones at its end.
-use Rattle.std.proofs.Common.{◌≡◌, ℕ, zero, suc, ◌-◌, ◌<◌, Bool, true, false, List, [], ◌∷◌, ◌++◌, length, take, drop, refl, ap, sym, ◌∙◌, subst, arith}
+use Rattle.std.proofs.Common.{◌≡◌, ℕ, zero, suc, ◌-◌, ◌<◌, ◌≤◌, Bool, true, false, List, [], ◌∷◌, ◌++◌, length, take, drop, refl, ap, sym, ◌∙◌, subst, arith}
 use Rattle.std.specs.Prelude.{◌==◌, reverse, slice_index}
 use Rattle.std.specs.List.{take_while}
-use Rattle.std.specs.Str.{IsUtf8, IsAscii, IsCharBoundary}
+use Rattle.std.specs.Str.{encode_utf8_all, chars, IsUtf8, IsCharBoundary}
 use Rattle.std.proofs.Math.Seq.{take-append_seam, drop-append_seam}
 use Rattle.std.proofs.lemmas.List.{append-nil, reverse-append, reverse-reverse, length-append, length-reverse}
 use Rattle.std.proofs.lemmas.Bool.Decides.{nat_tests}
-use Rattle.std.proofs.lemmas.Str.{IsUtf8-drop, IsUtf8-from_ascii, IsCharBoundary-after_ascii, IsCharBoundary-at_seam}
-use Rattle.json5_grammar.specs.Characters.{is_digit, Each, no_char, char}
+use Rattle.std.proofs.lemmas.Str.{chars-IsAscii, chars-append, chars_from_encodes, encode_ascii, IsUtf8-drop, IsUtf8-from_ascii, IsCharBoundary-after_ascii, IsCharBoundary-at_seam}
+use Rattle.json5_grammar.specs.Characters.{is_digit, NotBegun, Each, no_char, char}
 use Rattle.json5_grammar.specs.Stops.{in_run}
 use Rattle.json5_grammar.specs.Numbers.{without_front_zeros}
 use Rattle.json5_grammar.specs.ReadNumbers.{front_of, rest_of}
-use Rattle.json5_grammar.proofs.NumberTests.{by_test, front_each, front_rest, rest_each}
+use Rattle.json5_grammar.proofs.NumberTests.{by_test, front_each, front_rest, front_all, rest_each, rest_all, rest_stops}
 use Rattle.json5_grammar.proofs.NumberStepLaws.{front_is}
 use Rattle.json5_grammar.proofs.DecimalsWritten.{Each-reverse}
 
@@ -30,6 +30,14 @@ is_zero c = c == 48
 
 pub zero_is_ascii : PassesAscii is_zero
 zero_is_ascii c h = grind (arith, nat_tests)
+
+pub each_below : {p : ℕ → Bool} {s : List ℕ} → PassesAscii p → Each p s → (i : ℕ) → slice_index s i < 128
+each_below a no_char i = omega arith
+each_below a (char {c = c} h e) zero = a c h
+each_below a (char h e) (suc i) = each_below a e i
+
+pub each_utf8 : {p : ℕ → Bool} {s : List ℕ} → PassesAscii p → Each p s → IsUtf8 s
+each_utf8 {s = s} a e = IsUtf8-from_ascii s (λ i. each_below a e i)
 
 -- ---- at the front
 
@@ -53,20 +61,42 @@ front_cut p s k e = ap (λ n. take n s) (front_count p s k e) ∙ ap (take (leng
 pub rest_cut : (p : ℕ → Bool) (s : List ℕ) (k : ℕ) → k ≡ length (take_while p s) → drop k s ≡ rest_of p s
 rest_cut p s k e = ap (λ n. drop n s) (front_count p s k e) ∙ ap (drop (length (front_of p s))) (front_rest p s) ∙ drop-append_seam (front_of p s) (rest_of p s)
 
+-- ---- the same of characters
+
+not_begun : (p : ℕ → Bool) (cs s : List ℕ) → PassesAscii p → encode_utf8_all cs ≡ s → NotBegun p s → NotBegun p cs
+not_begun p [] s a e n = tt
+not_begun p (c ∷ t) s a e n = decide (p c) refl
+  where
+    decide : (b : Bool) → p c ≡ b → p c ≡ false
+    decide false h = h
+    decide true h = subst (NotBegun p) (sym e ∙ ap (λ z. z ++ encode_utf8_all t) (encode_ascii c (a c h))) n
+
+rest_chars_stop : (p : ℕ → Bool) (s : List ℕ) → PassesAscii p → IsUtf8 s → NotBegun p (chars (rest_of p s))
+rest_chars_stop p s a u =
+    let v = rest_utf8 p s a u in
+    subst (NotBegun p) (chars_from_encodes v.0 (rest_of p s) v v.1.1) (not_begun p v.0 (rest_of p s) a v.1.1 (rest_stops p s))
+
+pub front_alone : (p : ℕ → Bool) (s : List ℕ) → PassesAscii p → chars (front_of p s) ≡ front_of p s
+front_alone p s a = chars-IsAscii (front_of p s) (λ i. each_below a (front_each p s) i)
+
+chars_split : (p : ℕ → Bool) (s : List ℕ) → PassesAscii p → chars s ≡ front_of p s ++ chars (rest_of p s)
+chars_split p s a = ap chars (front_rest p s) ∙ chars-append (front_of p s) (rest_of p s) (each_utf8 a (front_each p s)) ∙ ap (λ z. z ++ chars (rest_of p s)) (front_alone p s a)
+
+pub front_chars : (p : ℕ → Bool) (s : List ℕ) → PassesAscii p → IsUtf8 s → front_of p s ≡ front_of p (chars s)
+front_chars p s a u = sym (ap (front_of p) (chars_split p s a) ∙ front_all (chars (rest_of p s)) (front_each p s) (rest_chars_stop p s a u))
+
+pub rest_chars : (p : ℕ → Bool) (s : List ℕ) → PassesAscii p → IsUtf8 s → chars (rest_of p s) ≡ rest_of p (chars s)
+rest_chars p s a u = sym (ap (rest_of p) (chars_split p s a) ∙ rest_all (chars (rest_of p s)) (front_each p s) (rest_chars_stop p s a u))
+
+pub rest_shorter : (p : ℕ → Bool) (s : List ℕ) → length (rest_of p s) ≤ length s
+rest_shorter p s = omega (arith, ap length (front_rest p s), length-append (front_of p s) (rest_of p s))
+
 pub zeros_are_rest : (s : List ℕ) → rest_of is_zero s ≡ without_front_zeros s
 unfolding rest_of
 zeros_are_rest [] = refl
 zeros_are_rest (c ∷ s) = by_test (λ z. z ≡ without_front_zeros (c ∷ s)) (c == 48) (rest_of is_zero s) (c ∷ s) (λ h. rw h (zeros_are_rest s)) (λ h. rw h refl)
 
 -- ---- at the end
-
-pub each_below : {p : ℕ → Bool} {s : List ℕ} → PassesAscii p → Each p s → (i : ℕ) → slice_index s i < 128
-each_below a no_char i = omega arith
-each_below a (char {c = c} h e) zero = a c h
-each_below a (char h e) (suc i) = each_below a e i
-
-pub each_utf8 : {p : ℕ → Bool} {s : List ℕ} → PassesAscii p → Each p s → IsUtf8 s
-each_utf8 {s = s} a e = IsUtf8-from_ascii s (λ i. each_below a e i)
 
 -- what stands before the characters at the end that pass the test, and these
 back : (p : ℕ → Bool) (s : List ℕ) → s ≡ reverse (rest_of p (reverse s)) ++ reverse (front_of p (reverse s))

@@ -1,10 +1,7 @@
 -- Zeros in pieces, and digits that are cut.
-use Rattle.std.proofs.Common.{◌≡◌, ℕ, zero, suc, ◌+◌, ◌-◌, ◌<◌, ◌≤◌, List, [], ◌∷◌, ◌++◌, length, take, drop, refl, ap, sym, ◌∙◌, arith}
-use Rattle.std.specs.Prelude.{slice_index}
-use Rattle.std.specs.Str.{IsAscii, IsCharBoundary}
-use Rattle.std.specs.Fmt.{HasWritten, IsPlainFormatter}
+use Rattle.std.proofs.Common.{◌≡◌, ℕ, zero, suc, ◌+◌, ◌-◌, ◌≤◌, List, ◌++◌, length, take, refl, ap, sym, ◌∙◌, arith}
+use Rattle.std.specs.Str.{IsCharBoundary}
 use Rattle.std.proofs.Math.Seq.{take-append_seam}
-use Rattle.std.proofs.lemmas.Grind.{put_two}
 use Rattle.std.proofs.lemmas.List.{replicate-append-replicate, length-replicate}
 use Rattle.std.proofs.lemmas.Str.{IsCharBoundary-from_ascii}
 use Rattle.json5_grammar.specs.Characters.{is_digit, Each, no_char, char}

@@ -10,7 +10,7 @@ use Rattle.json5_grammar.specs.Characters.{is_digit, Each, no_char, char}
 use Rattle.json5_grammar.specs.Numbers.{without_front_zeros, without_zeros, normal_exponent, is_empty, InExponents}
 use Rattle.json5_grammar.specs.NumberText.{IsNormal}
 use Rattle.json5_text.specs.NumberSteps.{raised}
-use Rattle.json5_grammar.proofs.NumberTests.{by_test, Each-append}
+use Rattle.json5_grammar.proofs.NumberTests.{by_test}
 use Rattle.json5_grammar.proofs.DecimalsWritten.{Each-reverse}
 use Rattle.json5_grammar.proofs.NormalForms.{bare_twice}
 
@@ -25,7 +25,7 @@ front_parts : (a b : List ℕ) → without_front_zeros (a ++ b) ≡ cond (is_emp
 front_parts [] b = refl
 front_parts (c ∷ a) b = front_step c a b (front_parts a b) (c == 48) refl
 
-empty_is : (s : List ℕ) → length s ≡ 0 → s ≡ []
+pub empty_is : (s : List ℕ) → length s ≡ 0 → s ≡ []
 empty_is [] h = refl
 empty_is (c ∷ s) h = absurd (omega arith)
 
@@ -95,7 +95,7 @@ length_if : (b : Bool) (c : ℕ) (s t : List ℕ) → length t ≤ length s → 
 length_if true c s t h = omega arith
 length_if false c s t h = omega arith
 
-length-front : (s : List ℕ) → length (without_front_zeros s) ≤ length s
+pub length-front : (s : List ℕ) → length (without_front_zeros s) ≤ length s
 length-front [] = omega arith
 length-front (c ∷ s) = length_if (c == 48) c s (without_front_zeros s) (length-front s)
 

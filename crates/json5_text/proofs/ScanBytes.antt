@@ -1,6 +1,8 @@
 -- A text is cut where its characters are.
 use Rattle.std.proofs.Common.{◌≡◌, ℕ, ◌+◌, ◌-◌, ◌≤◌, Bool, true, false, List, [], ◌∷◌, ◌++◌, length, take, drop, refl, ap, sym, ◌∙◌, subst, arith, append_assoc}
 use Rattle.std.specs.Prelude.{◌&&◌}
+use Rattle.std.specs.List.{slice_range}
+use Rattle.std.proofs.lemmas.Grind.{common_steps}
 use Rattle.std.specs.Char.{IsScalar}
 use Rattle.std.specs.Str.{IsUtf8, IsCharBoundary, chars, encode_utf8_all, all_scalars}
 use Rattle.std.proofs.Math.Seq.{take-append_seam, drop-append_seam}
@@ -29,7 +31,7 @@ pub record Halves (text x y : List ℕ) : Type 0 where
 whole_bytes : {text x y : List ℕ} → Halves text x y → text ≡ encode_utf8_all x ++ encode_utf8_all y
 whole_bytes {text = text} {x = x} {y = y} h = sym (encodes-chars text h.is_text) ∙ ap encode_utf8_all h.split ∙ encodes-append x y
 
-parts_scalar : {text x y : List ℕ} → Halves text x y → (all_scalars x ≡ true) × (all_scalars y ≡ true)
+pub parts_scalar : {text x y : List ℕ} → Halves text x y → (all_scalars x ≡ true) × (all_scalars y ≡ true)
 parts_scalar {text = text} {x = x} {y = y} h = scalar_halves x y (sym (ap all_scalars h.split) ∙ scalars-chars text h.is_text)
 
 bytes_apart : {text x y : List ℕ} → Halves text x y → length text ≡ bytes_in x + bytes_in y
@@ -91,6 +93,15 @@ pub offset_counted : {text : List ℕ} {offset end : ℕ} → InText text offset
 offset_counted {text = text} {offset = offset} k =
     rw (encodes-chars text k.is_text, encodes-chars (drop offset text) (IsUtf8-drop text offset k.is_text k.cut), length-drop offset text)
     (let h : offset ≤ length text = k.cut.0 in omega arith)
+
+-- ---- what stands before a rest
+
+beginning : (n : ℕ) (text : List ℕ) → slice_range text 0 n ≡ take n text
+beginning n text = grind (arith, common_steps)
+
+pub before_rest : {part : List ℕ} (text x rest : List ℕ) → IsUtf8 text → IsUtf8 rest → chars text ≡ x ++ chars rest → part ≡ slice_range text 0 (length text - length rest) → chars part ≡ x
+before_rest text x rest u v e f =
+    ap chars (f ∙ beginning (length text - length rest) text ∙ ap (λ r. take (length text - length r) text) (sym (encodes-chars rest v))) ∙ take_half (record { is_text = u; split = e })
 
 -- the text is cut behind so many bytes
 pub cut_before : {text : List ℕ} {offset end cut : ℕ} (x y : List ℕ) → InText text offset end → chars text ≡ x ++ y → cut ≡ bytes_in x → IsCharBoundary text cut

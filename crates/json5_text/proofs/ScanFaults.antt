@@ -2,17 +2,15 @@
 use Rattle.std.proofs.Common.{◌≡◌, ℕ, List, ◌++◌, refl, ap, sym, ◌∙◌, append_assoc, Option, Some, None, ◌⊎◌, inl, inr, subst}
 use Rattle.std.specs.Prelude.{⊤}
 use Rattle.json5_grammar.specs.declared.code.ErrorCode.{ErrorCode}
-use Rattle.json5_grammar.specs.declared.position.Position.{Position}
-use Rattle.json5_grammar.specs.Positions.{position_behind}
 use Rattle.json5_grammar.specs.Reading.{Read, got, bad, Place, here, inner, IsAt}
 use Rattle.json5_text.specs.declared.error.Error.{Error}
 use Rattle.json5_text.specs.declared.refusal.Refusal.{Refusal}
 use Rattle.json5_text.specs.declared.refusal.Refusal.TheVariants as refusal
-use Rattle.json5_text.specs.Errors.{code, kind_of, place_of}
+use Rattle.json5_text.specs.Errors.{place_of}
 use Rattle.json5_text.specs.Outcome.{Outcome, gave, failed, outcome, bytes_in, left_at}
 use Rattle.json5_text.specs.Cursor.{Cursor, Says, IsPlaced, IsOutOfMemory, Refused}
 use Rattle.json5_text.specs.Refused.{Refuses}
-use Rattle.json5_text.specs.Scan.{HasCode, Leaves, InUnread, IsWhere, IsThere, MadeOf}
+use Rattle.json5_text.specs.Scan.{HasCode, Leaves, InUnread, IsThere, MadeOf}
 
 -- reading x is refused with a fault of x
 pub record FaultAt (IsFault : List ℕ → Option ErrorCode → Option (List ℕ) → Type 0) (x : List ℕ) (reason : Option ErrorCode) (p : Place) : Type 0 where
@@ -39,13 +37,13 @@ no_place x None inner e f = refl
 leaves : (s : Cursor) (place : Option (List ℕ)) (p : Place) (left : ℕ) → IsAt s.unread place p → left_at p ≡ Some left → Leaves s left
 leaves s place p left e f = let k = split_at s.unread place p left e f in record { passed = k.0; rest = k.1; split = k.2; counted = k.3 }
 
-abbrev Same : (A : Type 0) → Outcome A → Outcome A → Type 0
+abbrev pub Same : (A : Type 0) → Outcome A → Outcome A → Type 0
 Same A x y = x ≡ y
 
-same_failed : (A : Type 0) (e f : Option ErrorCode) (a b : Option ℕ) → Same A (failed e a) (failed f b) → (e ≡ f) × (a ≡ b)
+pub same_failed : (A : Type 0) (e f : Option ErrorCode) (a b : Option ℕ) → Same A (failed e a) (failed f b) → (e ≡ f) × (a ≡ b)
 same_failed A e f a b h = (cc, cc)
 
-gave_failed : (A : Type 0) (a : A) (r : List ℕ) (f : Option ErrorCode) (b : Option ℕ) → Same A (gave a r) (failed f b) → ⊥
+pub gave_failed : (A : Type 0) (a : A) (r : List ℕ) (f : Option ErrorCode) (b : Option ℕ) → Same A (gave a r) (failed f b) → ⊥
 gave_failed A a r f b h = cc
 
 -- the place of a refusal is within what is unread
@@ -112,3 +110,11 @@ refused {A = A} IsFault s err (refusal.InvalidNumber left) res k e m = custom_re
 refused {A = A} IsFault s err (refusal.TooLarge left) res k e m = custom_refused A IsFault s err res left k e m
 refused {A = A} IsFault s err (refusal.UnpairedSurrogate u left) res k e m = custom_refused A IsFault s err res left k e m
 refused IsFault s err refusal.OutOfMemory res k e m = inl m
+
+-- a code is no want of memory
+pub no_memory : (r : Refusal) → HasCode r → r ≡ refusal.OutOfMemory → ⊥
+no_memory (refusal.Code c left) h e = cc
+no_memory (refusal.InvalidNumber left) h e = h
+no_memory (refusal.TooLarge left) h e = h
+no_memory (refusal.UnpairedSurrogate u left) h e = h
+no_memory refusal.OutOfMemory h e = h

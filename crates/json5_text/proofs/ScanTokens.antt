@@ -1,19 +1,33 @@
 -- What is read below the scanner, in the words of its contracts.
-use Rattle.std.proofs.Common.{◌≡◌, ℕ, List, [], ◌∷◌, ◌++◌, length, refl, ap, sym, ◌∙◌, ◌⊎◌, inl, inr, subst, Option, Some, None}
+use Rattle.std.proofs.Common.{◌≡◌, ℕ, Bool, true, false, cond, List, [], ◌∷◌, ◌++◌, length, refl, ap, sym, ◌∙◌, ◌⊎◌, inl, inr, subst, Option, Some, None}
+use Rattle.std.specs.Prelude.{◌==◌, ◌||◌}
 use Rattle.std.specs.Str.{IsUtf8, chars}
 use Rattle.std.proofs.lemmas.Str.{encodes-chars}
 use Rattle.json5_grammar.specs.declared.code.ErrorCode.{ErrorCode}
 use Rattle.json5_grammar.specs.Blanks.{Gap, Solid}
-use Rattle.json5_grammar.specs.Reading.{Read, here, got, bad}
+use Rattle.json5_grammar.specs.Reading.{Read, here, inner, got, bad}
 use Rattle.json5_grammar.specs.ReadBlanks.{skip, between}
 use Rattle.json5_grammar.specs.ReadValues.{word_at}
+use Rattle.json5_grammar.specs.Characters.{is_identifier_start}
+use Rattle.json5_grammar.specs.declared.code.ErrorCode.TheVariants.{EofParsingIdentifier, ExpectedIdentifier}
+use Rattle.json5_grammar.specs.Names.{Ident}
+use Rattle.json5_grammar.specs.ReadTexts.{string, identifier}
+use Rattle.json5_grammar.specs.Strings.{is_quote, Str, quoted}
+use Rattle.json5_grammar.proofs.Basics.{by_test}
+use Rattle.json5_grammar.proofs.NamesSound.{Stopped, NameSound, name_sound}
+use Rattle.json5_grammar.proofs.StringsRead.{string_complete}
+use Rattle.json5_grammar.proofs.StringsSound.{StringSound, string_sound}
 use Rattle.json5_grammar.proofs.BlanksSound.{BlanksSound, skip_sound}
 use Rattle.json5_grammar.proofs.WordsRead.{WordIs, word_is}
-use Rattle.json5_text.specs.Outcome.{bytes_in}
+use Rattle.json5_text.specs.declared.refusal.Refusal.{Refusal}
+use Rattle.json5_text.specs.declared.refusal.Refusal.TheVariants as refusal
+use Rattle.json5_text.specs.Outcome.{gave, outcome, bytes_in}
+use Rattle.json5_text.specs.Refused.{Refuses}
 use Rattle.json5_text.specs.Cursor.{Cursor, Took}
-use Rattle.json5_text.specs.Tokens.{FaultyBlanks, FaultyWord, word_differs, word_ends}
+use Rattle.json5_text.specs.Tokens.{FaultyBlanks, FaultyWord, word_differs, word_ends, FaultyString, faulty, no_quote, string_missing, FaultyName, no_name, name_missing}
 use Rattle.json5_text.specs.Scan.{Leaves}
-use Rattle.json5_text.proofs.ScanFaults.{FaultAt, FaultyIn}
+use Rattle.json5_text.specs.ScanStrings.{string_at}
+use Rattle.json5_text.proofs.ScanFaults.{FaultAt, FaultyIn, gave_failed}
 
 pub left_counted : (r : List ℕ) → IsUtf8 r → length r ≡ bytes_in (chars r)
 left_counted r u = sym (ap length (encodes-chars r u))
@@ -59,3 +73,107 @@ faulty_word ends differs w x (bad e p) (inr (d, q, i, f, g)) =
 
 pub word_faulty : (ends differs : ErrorCode) (w x y : List ℕ) → x ≡ y → FaultyIn (FaultyWord w ends differs) y (word_at ends differs w x)
 word_faulty ends differs w x y e = subst (λ z. FaultyIn (FaultyWord w ends differs) y (word_at ends differs w z)) (sym e) (faulty_word ends differs w y (word_at ends differs w y) (word_is ends differs w y))
+
+-- ---- strings
+
+abbrev AtSound : List ℕ → Read (List ℕ × Bool) → Type 0
+AtSound x (got a r) = (s : List ℕ) × (x ≡ s ++ r) × Str s a.0 a.1
+AtSound x (bad e p) = FaultAt FaultyString x e p
+
+from_string : (x : List ℕ) (res : Read (List ℕ × Bool)) → StringSound x res → AtSound x res
+from_string x (got a r) k = k
+from_string x (bad e p) k = record { place = k.place; fault = faulty k.fault; is_at = k.is_at }
+
+at_sound : (x : List ℕ) → AtSound x (string_at x)
+unfolding string_at
+at_sound [] = record { place = None; fault = string_missing; is_at = tt }
+at_sound (c ∷ r) =
+    by_test (AtSound (c ∷ r)) (is_quote c) _ _ (λ h. from_string (c ∷ r) (string (c ∷ r)) (string_sound c r h))
+    (λ h. record { place = Some []; fault = no_quote c r h; is_at = refl })
+
+pub record StringTaken (x u r : List ℕ) (plain : Bool) : Type 0 where
+  pub string : List ℕ
+  pub split : x ≡ string ++ r
+  pub is_string : Str string u plain
+
+pub string_taken : (x y u r : List ℕ) (plain : Bool) → x ≡ y → string_at x ≡ got (u, plain) r → StringTaken y u r plain
+string_taken x y u r plain f e =
+    let k = subst (AtSound y) (ap string_at (sym f) ∙ e) (at_sound y) in
+    record { string = k.0; split = k.1; is_string = k.2 }
+
+faulty_string : (x : List ℕ) (res : Read (List ℕ × Bool)) → AtSound x res → FaultyIn FaultyString x res
+faulty_string x (got a r) k = tt
+faulty_string x (bad e p) k = k
+
+pub string_faulty : (x y : List ℕ) → x ≡ y → FaultyIn FaultyString y (string_at x)
+string_faulty x y e = subst (λ z. FaultyIn FaultyString y (string_at z)) (sym e) (faulty_string y (string_at y) (at_sound y))
+
+-- a string in front is read
+string_quoted : {s u : List ℕ} {plain : Bool} (r : List ℕ) → Str s u plain → string_at (s ++ r) ≡ string (s ++ r)
+unfolding string_at
+string_quoted r (quoted k i) = rw k refl
+
+string_in_front : {s u : List ℕ} {plain : Bool} (r : List ℕ) → Str s u plain → string_at (s ++ r) ≡ got (u, plain) r
+string_in_front r k = string_quoted r k ∙ string_complete r k
+
+of_memory : (r : Refusal) (u x : List ℕ) (plain : Bool) → Refuses {A = List ℕ × Bool} r (gave (u, plain) x) → r ≡ refusal.OutOfMemory
+of_memory (refusal.Code c left) u x plain h = absurd (gave_failed (List ℕ × Bool) (u, plain) x (Some c) left h)
+of_memory (refusal.InvalidNumber left) u x plain h = absurd (gave_failed (List ℕ × Bool) (u, plain) x None (Some left) h)
+of_memory (refusal.TooLarge left) u x plain h = absurd (gave_failed (List ℕ × Bool) (u, plain) x None (Some left) h)
+of_memory (refusal.UnpairedSurrogate k left) u x plain h = absurd (gave_failed (List ℕ × Bool) (u, plain) x None (Some left) h)
+of_memory refusal.OutOfMemory u x plain h = refl
+
+-- a plain string in front is not refused for want of memory
+pub plain_memory : (x y s u t : List ℕ) (r : Refusal) → x ≡ y → Refuses r (outcome (string_at x)) → (r ≡ refusal.OutOfMemory → (u t : List ℕ) → string_at x ≡ got (u, true) t → ⊥) → y ≡ s ++ t → Str s u true → ⊥
+plain_memory x y s u t r f h k e p =
+    let read : string_at x ≡ got (u, true) t = ap string_at (f ∙ e) ∙ string_in_front t p in
+    k (of_memory r u t true (subst (λ z. Refuses r (outcome z)) read h)) u t read
+
+-- ---- names
+
+abbrev NameAtSound : List ℕ → Read (List ℕ × Bool) → Type 0
+NameAtSound x (got a r) = (s : List ℕ) × (x ≡ s ++ r) × Ident s a.0 a.1 × Stopped r
+NameAtSound x (bad e p) = FaultAt FaultyName x e p
+
+from_name : (x : List ℕ) (res : Read (List ℕ × Bool)) → NameSound x res → NameAtSound x res
+from_name x (got a r) k = k
+from_name x (bad e p) k = record { place = k.place; fault = FaultyName.faulty k.fault; is_at = k.is_at }
+
+no_name_at : (c : ℕ) (r : List ℕ) → ((c == 92) || is_identifier_start c) ≡ false → identifier (c ∷ r) ≡ bad (Some ExpectedIdentifier) (here (c ∷ r))
+unfolding identifier
+no_name_at c r h = neither _ _ _ (c == 92) (is_identifier_start c) h
+  where
+    neither : {A : Type 0} (x y z : A) (a b : Bool) → (a || b) ≡ false → cond a x (cond b y z) ≡ z
+    neither x y z true b e = absurd (cc)
+    neither x y z false true e = absurd (cc)
+    neither x y z false false e = refl
+
+name_end_at : identifier [] ≡ bad (Some EofParsingIdentifier) inner
+unfolding identifier
+name_end_at = refl
+
+name_at_sound : (x : List ℕ) → NameAtSound x (identifier x)
+name_at_sound [] = subst (NameAtSound []) (sym name_end_at) (record { place = None; fault = name_missing; is_at = tt })
+name_at_sound (c ∷ r) = by_flag ((c == 92) || is_identifier_start c) refl
+  where
+    by_flag : (b : Bool) → ((c == 92) || is_identifier_start c) ≡ b → NameAtSound (c ∷ r) (identifier (c ∷ r))
+    by_flag true h = from_name (c ∷ r) (identifier (c ∷ r)) (name_sound c r h)
+    by_flag false h = subst (NameAtSound (c ∷ r)) (sym (no_name_at c r h)) (record { place = Some []; fault = no_name c r h; is_at = refl })
+
+pub record NameTaken (x u r : List ℕ) (plain : Bool) : Type 0 where
+  pub name : List ℕ
+  pub split : x ≡ name ++ r
+  pub is_name : Ident name u plain
+  pub stops : Stopped r
+
+pub name_taken : (x y u r : List ℕ) (plain : Bool) → x ≡ y → identifier x ≡ got (u, plain) r → NameTaken y u r plain
+name_taken x y u r plain f e =
+    let k = subst (NameAtSound y) (ap identifier (sym f) ∙ e) (name_at_sound y) in
+    record { name = k.0; split = k.1; is_name = k.2; stops = k.3 }
+
+faulty_name : (x : List ℕ) (res : Read (List ℕ × Bool)) → NameAtSound x res → FaultyIn FaultyName x res
+faulty_name x (got a r) k = tt
+faulty_name x (bad e p) k = k
+
+pub name_faulty : (x y : List ℕ) → x ≡ y → FaultyIn FaultyName y (identifier x)
+name_faulty x y e = subst (λ z. FaultyIn FaultyName y (identifier z)) (sym e) (faulty_name y (identifier y) (name_at_sound y))

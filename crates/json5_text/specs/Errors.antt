@@ -49,9 +49,6 @@ kind_text (code c) = code_text c
 kind_text (custom text) = text
 kind_text failed_write = codes "failed write"
 
-abbrev pub content_text : Content → List ℕ
-content_text c = kind_text (kind_of_content c)
-
 abbrev pub position_text : Position → List ℕ
 position_text p = codes "line " ++ decimal (p.line + 1) ++ codes " column " ++ decimal (p.column + 1)
 

@@ -7,9 +7,12 @@ pub mod NumberViews
 pub mod NumberDecimals
 pub mod NumberSteps
 pub mod NumberEquality
+pub mod ScanStrings
 pub mod NumberWholes
 pub mod Scan
 pub mod Escapes
 pub mod Cows
 pub mod Compared
+pub mod NumberParts
 pub mod ValueViews
+pub mod ScanNames

@@ -1,5 +1,5 @@
 -- What contracts see of a whole number.
-use Rattle.std.specs.Prelude.{◌≡◌, ℕ, suc, ◌^◌, ◌<◌, ◌≤◌, Bool, true, false, ℤ, pos, negsuc}
+use Rattle.std.specs.Prelude.{ℕ, suc, ◌^◌, ◌<◌, ◌≤◌, Bool, true, false, ℤ, pos, negsuc}
 
 abbrev pub is_below_zero : ℤ → Bool
 is_below_zero (pos n) = false

@@ -1,5 +1,5 @@
 -- What private clauses of the scanner say.
-use Rattle.std.specs.Prelude.{◌≡◌, ℕ, List, ◌++◌, length, Option, Some, None, ◌⊎◌, ⊤}
+use Rattle.std.specs.Prelude.{◌≡◌, ℕ, List, [], ◌∷◌, ◌++◌, length, Option, Some, None, ◌⊎◌, ⊤}
 use Rattle.std.specs.Str.{IsUtf8, IsCharBoundary}
 use Rattle.json5_grammar.specs.declared.code.ErrorCode.{ErrorCode}
 use Rattle.json5_grammar.specs.declared.position.Position.{Position}
@@ -56,3 +56,8 @@ MadeOf s (refusal.InvalidNumber left) e = IsOutOfMemory e ⊎ (Says None e × Is
 MadeOf s (refusal.TooLarge left) e = IsOutOfMemory e ⊎ (Says None e × IsThere s left e)
 MadeOf s (refusal.UnpairedSurrogate escape left) e = IsOutOfMemory e ⊎ (Says None e × IsThere s left e)
 MadeOf s refusal.OutOfMemory e = IsOutOfMemory e
+
+-- what may be there, as a list
+abbrev pub in_list : Option ℕ → List ℕ
+in_list None = []
+in_list (Some c) = c ∷ []

@@ -1,12 +1,14 @@
 -- What is refused where a token is awaited: the token's own faults, and what begins no such token.
-use Rattle.std.specs.Prelude.{◌≡◌, ◌≢◌, ℕ, false, ◌||◌, List, [], ◌∷◌, ◌++◌, Option, Some, None}
+use Rattle.std.specs.Prelude.{◌≡◌, ◌≢◌, ℕ, false, ◌||◌, ◌==◌, List, [], ◌∷◌, ◌++◌, Option, Some, None}
 use Rattle.json5_grammar.specs.declared.code.ErrorCode.{ErrorCode}
-use Rattle.json5_grammar.specs.declared.code.ErrorCode.TheVariants.{EofParsingNumber, EofParsingString, ExpectedNumber, ExpectedString}
+use Rattle.json5_grammar.specs.declared.code.ErrorCode.TheVariants.{EofParsingIdentifier, EofParsingNumber, EofParsingString, ExpectedIdentifier, ExpectedNumber, ExpectedString}
+use Rattle.json5_grammar.specs.Characters.{backslash, is_identifier_start}
 use Rattle.json5_grammar.specs.Codes.{Shown}
 use Rattle.json5_grammar.specs.Blanks.{BlankFault}
 use Rattle.json5_grammar.specs.NumberFaults.{NumberFault, is_sign, begins_number}
 use Rattle.json5_grammar.specs.Strings.{is_quote}
 use Rattle.json5_grammar.specs.StringFaults.{StringFault}
+use Rattle.json5_grammar.specs.NameFaults.{NameFault}
 
 -- blanks with a faulty comment behind them
 abbrev pub FaultyBlanks : List ℕ → Option ErrorCode → Option (List ℕ) → Type 0
@@ -30,3 +32,10 @@ pub data FaultyString : List ℕ → Option ErrorCode → Option (List ℕ) → 
   no_quote : (c : ℕ) (r : List ℕ) → is_quote c ≡ false → FaultyString (c ∷ r) (Some ExpectedString) (Some [])
   -- EofParsingString at the end
   string_missing : FaultyString [] (Some EofParsingString) None
+
+pub data FaultyName : List ℕ → Option ErrorCode → Option (List ℕ) → Type 0 where
+  faulty : {x before part : List ℕ} {reason : Option ErrorCode} {place : Option (List ℕ)} {shown : Shown} → NameFault x reason place before part shown → FaultyName x reason place
+  -- ExpectedIdentifier at a character that begins no name
+  no_name : (c : ℕ) (r : List ℕ) → ((c == backslash) || is_identifier_start c) ≡ false → FaultyName (c ∷ r) (Some ExpectedIdentifier) (Some [])
+  -- EofParsingIdentifier at the end
+  name_missing : FaultyName [] (Some EofParsingIdentifier) None

@@ -5,13 +5,12 @@ ghost use Rattle.std.specs.Fmt.{WritesOnOk};
 ghost use Rattle.json5_grammar.specs.Characters.{is_digit, Each};
 ghost use Rattle.json5_grammar.specs.Numbers as numbers;
 ghost use Rattle.json5_grammar.specs.NumberText.{zeros, pointed, digits_text, decimal_text, Normal};
-ghost use Rattle.json5_text.specs.Cursor.{IsOutOfMemory};
+ghost use Rattle.json5_text.specs.Errors.{LacksMemory};
 ghost use Rattle.json5_text.specs.NumberDecimals.{is_minus, is_infinity, is_not_a_number, digits_in, exponent_in};
 ghost use Rattle.json5_text.specs.NumberSteps.{raised};
 
-use crate::error::{Error, Result};
+use crate::error::Result;
 use crate::runs;
-use json5_grammar::code::ErrorCode;
 use std::alloc::{AllocError, Global};
 use std::fmt;
 use std::hash::{Hash, Hasher};
@@ -48,13 +47,6 @@ impl Model for Decimal {
     ghost view = { λ d. decimal_of d.negative d.size };
 
     ghost invariant = { λ d. Normal (decimal_of d.negative d.size) };
-}
-
-/// Want of memory, without a place.
-fn out_of_memory() -> Error
-    ensures { IsOutOfMemory result }
-{
-    Error::new(ErrorCode::OutOfMemory)
 }
 
 /// Digits in two parts, without the zeros in front.
@@ -167,16 +159,14 @@ impl Decimal {
     ) -> Result<Option<Decimal>>
         ensures some { IfOk result (λ found. IsSome found ↔ (Each is_digit digits.now × numbers.InExponents (numbers.normal_exponent digits.now exponent))) }
         ensures value { IfOk result (λ found. IfSome found (λ d. d ≡ numbers.finite negative (numbers.without_zeros digits.now) (numbers.normal_exponent digits.now exponent))) }
-        ensures err { IfErr result IsOutOfMemory }
+        ensures err { IfErr result LacksMemory }
     {
         let (digits, rest) = runs::split_digits(digits);
         if !rest.is_empty() {
             return Ok(None);
         }
-        match Decimal::normal(alloc, negative, digits, "", i128::from(exponent)) {
-            Ok(found) => Ok(found),
-            Err(_) => Err(out_of_memory()),
-        }
+        let found = Decimal::normal(alloc, negative, digits, "", i128::from(exponent))?;
+        Ok(found)
     }
 
     /// Whether it has a minus.
@@ -226,15 +216,14 @@ impl Decimal {
     /// The same number. The only error is want of memory.
     pub fn clone(&self, alloc: Global) -> Result<Decimal>
         ensures ok { IfOk result (λ d. d ≡ self.now) }
-        ensures err { IfErr result IsOutOfMemory }
+        ensures err { IfErr result LacksMemory }
     {
         let size = match &self.size {
             Size::Infinite => Size::Infinite,
             Size::NotANumber => Size::NotANumber,
-            Size::Finite(digits, exponent) => match String::from_str(alloc, digits.as_str()) {
-                Ok(copy) => Size::Finite(copy, *exponent),
-                Err(_) => return Err(out_of_memory()),
-            },
+            Size::Finite(digits, exponent) => {
+                Size::Finite(String::from_str(alloc, digits.as_str())?, *exponent)
+            }
         };
         Ok(Decimal {
             negative: self.negative,

@@ -1,7 +1,7 @@
 //! Faults.
 
 ghost use Rattle.std.specs.Prelude.{◌≡◌, ◌↔◌, ◌++◌, ℕ, List, Option, Some, None, IsTrue, IfOk, IfErr, string_bytes};
-ghost use Rattle.json5_text.specs.Errors.{Kind, code, custom, failed_write, kind_of, place_of, known_code, or_place, content_text, error_text, LacksMemory};
+ghost use Rattle.json5_text.specs.Errors.{Kind, code, custom, failed_write, kind_of, place_of, known_code, or_place, kind_text, error_text, LacksMemory};
 ghost use Rattle.json5_text.specs.Compared.{same_fault, same_fault_equiv};
 ghost use Rattle.std.specs.Cmp.{partial_equiv_from_equiv};
 
@@ -123,6 +123,17 @@ impl Error {
         }
     }
 
+    /// What the fault says, without its place: the code in words, the custom text, or `failed write`.
+    pub fn message(&self) -> &str
+        ensures { result.now ≡ kind_text (kind_of self.now) }
+    {
+        match &self.content {
+            Content::Code(code) => code.as_str(),
+            Content::Custom(text) => text.as_str(),
+            Content::FailedWrite => "failed write",
+        }
+    }
+
     /// The place, where there is one.
     pub fn position(&self) -> Option<Position>
         ensures { result ≡ place_of self.now }
@@ -178,28 +189,15 @@ impl Eq for Error {
     ghost laws = { same_fault_equiv };
 }
 
-/// What the fault says, without its place.
-impl fmt::Display for Content {
-    ghost output = { λ c. Some (content_text c) };
-
-    fn fmt<W: fmt::Write>(&self, f: &mut fmt::Formatter<W>) -> fmt::Result {
-        match self {
-            Content::Code(code) => write!(f, "{code}"),
-            Content::Custom(text) => write!(f, "{text}"),
-            Content::FailedWrite => f.write_str("failed write"),
-        }
-    }
-}
-
 /// What the fault says, and ` at ` and the position where it has one: `expected comma at line 1 column 4`.
 impl fmt::Display for Error {
     ghost output = { λ e. Some (error_text e) };
 
     fn fmt<W: fmt::Write>(&self, f: &mut fmt::Formatter<W>) -> fmt::Result {
-        let content = &self.content;
+        let message = self.message();
         match self.position() {
-            Some(position) => write!(f, "{content} at {position}"),
-            None => write!(f, "{content}"),
+            Some(position) => write!(f, "{message} at {position}"),
+            None => f.write_str(message),
         }
     }
 }

@@ -6,14 +6,20 @@ pub mod char;
 pub mod cow_str;
 pub mod decimal;
 pub mod error;
+mod escapes;
 #[cfg(test)]
 mod fault_tests;
 mod front;
 pub mod input;
+mod names;
 pub mod number;
+mod numbers;
 mod refusal;
 mod runs;
 pub mod scanner;
+#[cfg(test)]
+mod scanner_tests;
+mod strings;
 pub mod value;
 pub mod whole;
 mod words;

@@ -1,6 +1,9 @@
 //! What the functions below the scanner refuse with.
 
+ghost use Rattle.std.specs.Prelude.{◌≡◌};
+
 use json5_grammar::code::ErrorCode;
+use std::alloc::AllocError;
 
 /// A fault with the number of bytes that are left at its place, or want of memory.
 #[derive(Clone, Copy)]
@@ -14,4 +17,14 @@ pub(crate) enum Refusal {
     /// A surrogate's escape that is no part of a pair, and its value.
     UnpairedSurrogate(u16, usize),
     OutOfMemory,
+}
+
+impl From<AllocError> for Refusal {
+    ghost use Rattle.json5_text.specs.declared.refusal.Refusal.{Refusal};
+
+    ghost from_gives = { λ _ r. r ≡ Refusal.OutOfMemory };
+
+    fn from(_error: AllocError) -> Refusal {
+        Refusal::OutOfMemory
+    }
 }

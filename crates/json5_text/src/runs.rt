@@ -1,8 +1,10 @@
 //! Cutting a text behind the ASCII characters in front that pass a test, and before those at its end.
 
-ghost use Rattle.std.specs.Prelude.{◌≡◌, ◌==◌, length, reverse};
+ghost use Rattle.std.specs.Prelude.{◌≡◌, ◌==◌, ◌≤◌, length, reverse};
+ghost use Rattle.std.specs.Str.{IsUtf8, chars};
 ghost use Rattle.std.specs.List.{take_while};
 ghost use Rattle.json5_grammar.specs.Characters as characters;
+ghost use Rattle.json5_grammar.specs.Characters.{Each};
 ghost use Rattle.json5_grammar.specs.Stops as stops;
 ghost use Rattle.json5_grammar.specs.Numbers as numbers;
 ghost use Rattle.json5_grammar.specs.ReadNumbers.{front_of, rest_of};
@@ -46,16 +48,22 @@ fn back_zeros_len(bytes: &[u8]) -> usize
 
 /// The decimal run in front, and what follows it.
 pub(crate) fn split_run(text: &str) -> (&str, &str)
-    ensures front { result.0.now ≡ front_of stops.in_run text.now }
-    ensures rest { result.1.now ≡ rest_of stops.in_run text.now }
+    ensures front { chars result.0.now ≡ front_of stops.in_run (chars text.now) }
+    ensures rest { chars result.1.now ≡ rest_of stops.in_run (chars text.now) }
+    ensures text { IsUtf8 result.0.now × IsUtf8 result.1.now }
+    ensures shorter { length result.1.now ≤ length text.now }
 {
     text.split_at(run_len(text.as_bytes()))
 }
 
 /// The digits in front, and what follows them.
 pub(crate) fn split_digits(text: &str) -> (&str, &str)
-    ensures front { result.0.now ≡ front_of characters.is_digit text.now }
-    ensures rest { result.1.now ≡ rest_of characters.is_digit text.now }
+    ensures front { result.0.now ≡ front_of characters.is_digit (chars text.now) }
+    ensures digits { Each characters.is_digit result.0.now }
+    ensures rest { chars result.1.now ≡ rest_of characters.is_digit (chars text.now) }
+    ensures front_bytes { result.0.now ≡ front_of characters.is_digit text.now }
+    ensures rest_bytes { result.1.now ≡ rest_of characters.is_digit text.now }
+    ensures text { IsUtf8 result.1.now }
 {
     text.split_at(digits_len(text.as_bytes()))
 }

@@ -1,20 +1,31 @@
 //! The scanner: the tokens of a text, one after another.
 
-ghost use Rattle.std.specs.Prelude.{◌≡◌, ℕ, List, [], ◌∷◌, ◌++◌, true, false, ◌==◌, ◌⊎◌, length, take, drop, Some, None, slice_get, IsTrue, OnOk, OnErr, IfErr};
-ghost use Rattle.std.specs.Str.{chars, encode_utf8_all};
+ghost use Rattle.std.specs.Prelude.{◌≡◌, ℕ, Bool, List, [], ◌∷◌, ◌++◌, true, false, ◌==◌, ◌⊎◌, length, take, drop, Some, None, string_bytes, slice_get, IsTrue, OnOk, OnErr, IfOk, IfErr, IsOk};
+ghost use Rattle.std.specs.Str.{all_scalars, chars, encode_utf8_all};
 ghost use Rattle.json5_grammar.specs.Characters.{NotBegun};
 ghost use Rattle.json5_grammar.specs.Blanks.{Gap, Solid};
+ghost use Rattle.json5_grammar.specs.Strings.{Str};
+ghost use Rattle.json5_grammar.specs.Names.{Ident, goes_on_name};
+ghost use Rattle.json5_grammar.specs.Numbers.{Num};
+ghost use Rattle.json5_grammar.specs.Stops.{lengthens};
+ghost use Rattle.json5_text.specs.NumberViews.{number_of};
+ghost use Rattle.json5_text.specs.Cows.{cow_bytes, is_borrowed};
 ghost use Rattle.json5_grammar.specs.Positions.{position_behind};
 ghost use Rattle.json5_text.specs.Errors.{Kind, code, kind_of, place_of};
 ghost use Rattle.json5_text.specs.Cursor.{Cursor, offset_of, Refused, Took, Behind, Says, IsOutOfMemory};
-ghost use Rattle.json5_text.specs.Tokens.{FaultyBlanks, FaultyWord};
+ghost use Rattle.json5_text.specs.Tokens.{FaultyBlanks, FaultyName, FaultyNumber, FaultyString, FaultyWord};
 ghost use Rattle.json5_text.specs.Scan.{InText, Leaves, InUnread, IsWhere, IsThere, MadeOf};
 
 use crate::blanks::skip_blank;
+use crate::cow_str::CowStr;
 use crate::error::{Error, Result};
 use crate::front::front;
-use crate::input::Input;
+use crate::input::{Borrows, Input};
+use crate::names::read_name;
+use crate::number::Number;
+use crate::numbers::number;
 use crate::refusal::Refusal;
+use crate::strings::{read_owned, read_string};
 use crate::words::skip_word;
 use json5_grammar::code::ErrorCode;
 use json5_grammar::position::Position;
@@ -64,6 +75,7 @@ impl<I: Input> Scanner<I> {
     pub fn offset(&self) -> usize
         ensures counted { result ≡ offset_of self.now }
         ensures suffix { (before : List ℕ) × (self.now.input ≡ before ++ self.now.unread) }
+        ensures scalars { all_scalars self.now.unread ≡ true }
     {
         self.offset
     }
@@ -122,6 +134,37 @@ impl<I: Input> Scanner<I> {
         Ok(())
     }
 
+    /// Takes a number (JSON5 section 6). Where none begins the fault is `ExpectedNumber` at the character, and at the end
+    /// `EofParsingNumber` without a place. `LeadingZero` and `OverflowParsingNumber` stand at the number's start or, within
+    /// hexadecimal digits, at the digit; a run of a decimal's characters that is no literal, and a hexadecimal number past
+    /// -2^127, are custom faults. Memory is wanted for a decimal's digits and for a custom fault.
+    pub fn number(&mut self) -> Result<Number>
+        ensures taken { IfOk result (λ n. (s : List ℕ) × Took self.old s self.new × Num s (number_of n) × NotBegun (lengthens s) self.new.unread) }
+        ensures refused { IfErr result (λ e. IsOutOfMemory e ⊎ Refused FaultyNumber self.old e) }
+        ensures behind { OnErr result (Behind self.old self.new) }
+    {
+        let (number, left) = match number(self.alloc, self.rest()) {
+            Ok((number, rest)) => (number, rest.len()),
+            Err(refusal) => return Err(self.fault(refusal)),
+        };
+        self.leave(left);
+        Ok(number)
+    }
+
+    /// Takes a string and gives its text in memory of its own (JSON5 section 5). The faults are those of `string`.
+    pub fn string_owned(&mut self) -> Result<String>
+        ensures taken { IfOk result (λ t. (s u : List ℕ) × (plain : Bool) × Took self.old s self.new × Str s u plain × (string_bytes t ≡ encode_utf8_all u)) }
+        ensures refused { IfErr result (λ e. IsOutOfMemory e ⊎ Refused FaultyString self.old e) }
+        ensures behind { OnErr result (Behind self.old self.new) }
+    {
+        let (text, left) = match read_owned(self.alloc, self.rest()) {
+            Ok((text, rest)) => (text, rest.len()),
+            Err(refusal) => return Err(self.fault(refusal)),
+        };
+        self.leave(left);
+        Ok(text)
+    }
+
     /// What is unread.
     fn rest(&self) -> &str
         ensures { chars result.now ≡ self.now.unread }
@@ -173,6 +216,52 @@ impl<I: Input> Scanner<I> {
             Ok(error) => error,
             Err(error) => error,
         }
+    }
+}
+
+impl<'de, I: Borrows<'de>> Scanner<I> {
+    /// Takes a string and gives its text, borrowed where the string holds no backslash (JSON5 section 5). Where no string
+    /// begins the fault is `ExpectedString`; a line terminator in one is `LineTerminatorInString` at it, and a faulty escape
+    /// `InvalidEscapeSequence` or, at a surrogate without a pair, a custom fault at the backslash, except that a missing second
+    /// `\u` is faulty where it must stand. `EofParsingString` and `EofParsingEscapeSequence` have no place. Memory is
+    /// wanted where an escape is used, and for a custom fault.
+    pub fn string(&mut self) -> Result<CowStr<'de>>
+        ensures taken { IfOk result (λ t. (s u : List ℕ) × (plain : Bool) × Took self.old s self.new × Str s u plain × (is_borrowed t ≡ plain) × (cow_bytes t ≡ encode_utf8_all u)) }
+        ensures refused { IfErr result (λ e. IsOutOfMemory e ⊎ Refused FaultyString self.old e) }
+        ensures behind { OnErr result (Behind self.old self.new) }
+        ensures plain { (s u r : List ℕ) → self.old.unread ≡ s ++ r → Str s u true → IsOk result }
+    {
+        let (text, left) = match read_string(self.alloc, self.borrowed_rest()) {
+            Ok((text, rest)) => (text, rest.len()),
+            Err(refusal) => return Err(self.fault(refusal)),
+        };
+        self.leave(left);
+        Ok(text)
+    }
+
+    /// Takes an identifier and gives its text, borrowed where it holds no backslash (JSON5 section 3, ECMAScript 5.1 section
+    /// 7.6). A character that may not begin one is `ExpectedIdentifier` at it, and an escape of a character that may not stand
+    /// there is the same at the escape's backslash; faulty escapes are those of `string`. What stands behind the identifier must
+    /// be there: `EofParsingIdentifier`, like `EofParsingEscapeSequence`, has no place. Memory is wanted where an escape is used.
+    pub fn identifier(&mut self) -> Result<CowStr<'de>>
+        ensures taken { IfOk result (λ t. (s u : List ℕ) × (plain : Bool) × Took self.old s self.new × Ident s u plain × (is_borrowed t ≡ plain) × (cow_bytes t ≡ encode_utf8_all u)) }
+        ensures stops { OnOk result ((c : ℕ) × (r : List ℕ) × (self.new.unread ≡ c ∷ r) × (goes_on_name c ≡ false)) }
+        ensures refused { IfErr result (λ e. IsOutOfMemory e ⊎ Refused FaultyName self.old e) }
+        ensures behind { OnErr result (Behind self.old self.new) }
+    {
+        let (text, left) = match read_name(self.alloc, self.borrowed_rest()) {
+            Ok((text, rest)) => (text, rest.len()),
+            Err(refusal) => return Err(self.fault(refusal)),
+        };
+        self.leave(left);
+        Ok(text)
+    }
+
+    /// What is unread.
+    fn borrowed_rest(&self) -> &'de str
+        ensures { chars result.now ≡ self.now.unread }
+    {
+        &self.input.as_borrowed()[self.offset..]
     }
 }
 

@@ -1,4 +1,4 @@
-use Rattle.std.proofs.Common.{ℕ, length}
+use Rattle.std.proofs.Common.{length}
 use Rattle.json5_ser.specs.Escaping.{StandsBefore}
 use Rattle.json5_ser.proofs.quoting.split_at_escape.Given as goal
 

@@ -1,4 +1,4 @@
-use Rattle.std.proofs.Common.{◌≡◌, string_bytes, ap, refl, rules}
+use Rattle.std.proofs.Common.{string_bytes, ap, refl}
 use Rattle.json5_ser.proofs.TextsWhole.{whole_text}
 use Rattle.json5_ser.proofs.texts.to_string.Goals as goal
 

@@ -1,4 +1,4 @@
-use Rattle.std.proofs.Common.{◌≤◌, ◌-◌, arith, length}
+use Rattle.std.proofs.Common.{◌-◌, arith, length}
 use Rattle.json5_text.proofs.NumberWritten.{digits_boundary}
 use Rattle.json5_text.proofs.decimal.write_pointed.Goals as goal
 

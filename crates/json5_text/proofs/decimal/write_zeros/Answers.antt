@@ -1,6 +1,5 @@
-use Rattle.std.proofs.Common.{◌≤◌, ◌-◌, arith, refl}
+use Rattle.std.proofs.Common.{◌-◌, arith, refl}
 use Rattle.std.proofs.lemmas.Grind.{put_two}
-use Rattle.json5_grammar.specs.NumberText.{zeros}
 use Rattle.json5_text.proofs.NumberWritten.{zeros_more}
 use Rattle.json5_text.proofs.decimal.write_zeros.Goals as goal
 

@@ -1,13 +1,8 @@
-use Rattle.std.proofs.Common.{◌≡◌, List, ℕ, Bool, true, false, refl, subst, sym, ◌∙◌, if◌then◌else◌}
+use Rattle.std.proofs.Common.{true, false, refl, subst}
 use Rattle.std.proofs.lemmas.Result.{err_from_is_err_and}
 use Rattle.json5_grammar.specs.Trees.{boolean}
 use Rattle.json5_grammar.specs.Values.{true_text, false_text, is_true, is_false}
-use Rattle.json5_text.specs.Cursor.{Refused}
-use Rattle.json5_text.specs.Tokens.{FaultyWord}
-use Rattle.json5_grammar.specs.declared.code.ErrorCode.TheVariants as codes_of
-use Rattle.json5_de.specs.State.{cursor_of}
 use Rattle.json5_de.specs.Steps.{TookText}
-use Rattle.json5_de.specs.Faults.{FaultyBool, begins_with}
 use Rattle.json5_de.proofs.Taken.{took_leaf, refused_blanks, refused_token, refused_bool, true_stops, false_stops, chars_true, chars_false}
 use Rattle.json5_de.proofs.de.Deserializer.read_bool.Goals as goal
 

@@ -1,5 +1,4 @@
 use Rattle.std.specs.Str.{chars}
-use Rattle.std.proofs.Common.{rules}
 use Rattle.json5_ser.proofs.Joins.{Writes-as, Writes-exit, Reaches-first, Reaches-next, Reaches-exit, Reaches-last}
 use Rattle.json5_ser.proofs.PiecesWritten.{quoted_parts}
 use Rattle.json5_ser.proofs.serializer.Serializer.serialize_str.Goals as goal

@@ -1,4 +1,4 @@
-use Rattle.std.proofs.Common.{◌≡◌, [], ◌++◌, false, ◌∙◌, subst, sym}
+use Rattle.std.proofs.Common.{◌∙◌, subst}
 use Rattle.std.proofs.lemmas.List.{append-nil}
 use Rattle.json5_grammar.specs.Characters.{is_digit, Each, no_char}
 use Rattle.json5_grammar.proofs.NumberTests.{front_each}
@@ -8,28 +8,28 @@ use Rattle.json5_text.proofs.decimal.Decimal.finite.Goals as goal
 
 pub returns-then-not-is_empty-clause-some : goal.returns-then-not-is_empty-clause-some
 returns-then-not-is_empty-clause-some c =
-    let k = rw c.split_digits.ensures.rest at c.is_empty.ensures in
+    let k = rw c.split_digits.ensures.rest_bytes at c.is_empty.ensures in
     (λ h. absurd (cc), λ p. absurd (something_follows is_digit c.args.digits.now c.is_empty.result k c.if-not-is_empty.true p.0))
 
 pub normal-requires-clause-before_digits : goal.normal-requires-clause-before_digits
-normal-requires-clause-before_digits c = rw c.split_digits.ensures.front (front_each is_digit c.args.digits.now)
+normal-requires-clause-before_digits c = rw c.split_digits.ensures.front_bytes (front_each is_digit c.args.digits.now)
 
 pub normal-requires-clause-behind_digits : goal.normal-requires-clause-behind_digits
 normal-requires-clause-behind_digits c = no_char
 
-pub returns-in-Ok-clause-some : goal.returns-in-Ok-clause-some
-returns-in-Ok-clause-some c =
-    let k = rw c.split_digits.ensures.rest at c.is_empty.ensures in
+pub returns-clause-some : goal.returns-clause-some
+returns-clause-some c =
+    let k = rw c.split_digits.ensures.rest_bytes at c.is_empty.ensures in
     let all = nothing_follows is_digit c.args.digits.now c.is_empty.result k c.if-not-is_empty.false in
     let e = widened c.args.exponent c.from.result c.ranges.exponent c.from.ensures in
-    let d = append-nil c.split_digits.result.0.now ∙ c.split_digits.ensures.front ∙ all in
-    let y = rw (d, e) at c.in-Ok.ensures.in_range in
+    let d = append-nil c.split_digits.result.0.now ∙ c.split_digits.ensures.front_bytes ∙ all in
+    let y = rw (d, e) at c.in_ok-found.ensures.in_range in
     (λ h. (subst (Each is_digit) all (front_each is_digit c.args.digits.now), y.0 h), λ p. y.1 p.1)
 
-pub returns-in-Ok-clause-value : goal.returns-in-Ok-clause-value
-returns-in-Ok-clause-value c =
-    let k = rw c.split_digits.ensures.rest at c.is_empty.ensures in
+pub returns-clause-value : goal.returns-clause-value
+returns-clause-value c =
+    let k = rw c.split_digits.ensures.rest_bytes at c.is_empty.ensures in
     let all = nothing_follows is_digit c.args.digits.now c.is_empty.result k c.if-not-is_empty.false in
     let e = widened c.args.exponent c.from.result c.ranges.exponent c.from.ensures in
-    let d = append-nil c.split_digits.result.0.now ∙ c.split_digits.ensures.front ∙ all in
-    rw (d, e) at c.in-Ok.ensures.value
+    let d = append-nil c.split_digits.result.0.now ∙ c.split_digits.ensures.front_bytes ∙ all in
+    rw (d, e) at c.in_ok-found.ensures.value

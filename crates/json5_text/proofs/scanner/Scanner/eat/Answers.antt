@@ -1,6 +1,6 @@
-use Rattle.std.proofs.Common.{◌≡◌, ◌++◌, [], ◌∷◌, sym, ◌∙◌, subst}
+use Rattle.std.proofs.Common.{[], ◌∷◌, sym, ◌∙◌, subst}
 use Rattle.std.specs.Str.{chars}
-use Rattle.json5_text.specs.Cursor.{Cursor, Took}
+use Rattle.json5_text.specs.Cursor.{Took}
 use Rattle.json5_text.proofs.ScanTokens.{left_counted, leaves_rest}
 use Rattle.json5_text.proofs.scanner.Scanner.eat.Goals as goal
 

@@ -1,5 +1,4 @@
-use Rattle.std.proofs.Common.{◌≡◌, ◌++◌, refl, ap, sym, ◌∙◌}
-use Rattle.std.specs.Str.{chars}
+use Rattle.std.proofs.Common.{◌++◌, ap, sym, ◌∙◌}
 use Rattle.json5_text.specs.Cursor.{Cursor}
 use Rattle.json5_text.proofs.ScanBytes.{cut_left, drop_left, fits_left, whole_split}
 use Rattle.json5_text.proofs.scanner.Scanner.leave.Goals as goal

@@ -1,10 +1,10 @@
-use Rattle.std.proofs.Common.{◌≡◌, ◌++◌, sym, ◌∙◌, subst}
+use Rattle.std.proofs.Common.{sym, subst}
 use Rattle.std.specs.Str.{chars}
 use Rattle.json5_grammar.specs.Blanks.{Gap, Solid}
 use Rattle.json5_grammar.specs.ReadBlanks.{skip, between}
 use Rattle.json5_text.specs.Tokens.{FaultyBlanks}
 use Rattle.json5_text.proofs.ScanFaults.{refusal_in, coded}
-use Rattle.json5_text.proofs.ScanTokens.{Passed, left_counted, leaves_rest, blanks_passed, blanks_faulty}
+use Rattle.json5_text.proofs.ScanTokens.{left_counted, leaves_rest, blanks_passed, blanks_faulty}
 use Rattle.json5_text.proofs.scanner.Scanner.skip_blank.Goals as goal
 
 pub fault-requires : goal.fault-requires

@@ -1,4 +1,3 @@
-use Rattle.std.proofs.Common.{◌≡◌, ◌++◌, sym, ◌∙◌, subst}
 use Rattle.std.specs.Str.{chars}
 use Rattle.json5_grammar.specs.ReadValues.{word_at}
 use Rattle.json5_text.specs.Tokens.{FaultyWord}

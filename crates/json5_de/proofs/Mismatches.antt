@@ -1,0 +1,45 @@
+-- What is whole and isn't of the type: a text of its own, at its start.
+use Rattle.std.proofs.Common.{◌≡◌, ℕ, Bool, true, false, List, [], ◌∷◌, ◌++◌, length, refl, ap, sym, ◌∙◌, subst, ◌⊎◌, inl, inr, Option, Some, None}
+use Rattle.std.specs.Prelude.{Result, Ok, Err, IfErr, IsErrAnd}
+use Rattle.std.specs.Str.{encode_utf8_all}
+use Rattle.std.proofs.lemmas.List.{append-nil}
+use Rattle.json5_grammar.specs.declared.code.ErrorCode.{ErrorCode}
+use Rattle.json5_grammar.specs.Positions.{position_behind}
+use Rattle.json5_grammar.specs.Numbers.{Number, Num}
+use Rattle.json5_grammar.specs.Strings.{Str}
+use Rattle.json5_grammar.specs.Values.{Stops}
+use Rattle.json5_text.specs.declared.error.Error.{Error}
+use Rattle.json5_text.specs.Errors.{place_of}
+use Rattle.json5_text.specs.Cursor.{Says, Refused}
+use Rattle.json5_de.specs.State.{State, cursor_of}
+use Rattle.json5_de.specs.Faults.{RefusedByOrMemory, NotNumber, other_number, NotText, other_text}
+use Rattle.json5_de.specs.Steps.{PassedGap, TookText, IsMismatch}
+use Rattle.json5_de.proofs.Taken.{refused_token, input_of}
+
+-- the offset is that of what is unread
+abbrev pub StartsAt : State → ℕ → Type 0
+StartsAt s start = (before : List ℕ) → s.input ≡ before ++ s.unread → start ≡ length (encode_utf8_all before)
+
+mismatched : {F : List ℕ → Option ErrorCode → Option (List ℕ) → Type 0} (old mid new : State) (e : Error) (start : ℕ) (s : List ℕ) → PassedGap old mid → TookText mid s new → StartsAt mid start → F mid.unread None (Some [])
+    → IsMismatch new.input start e → RefusedByOrMemory F old e
+mismatched old mid new e start s p k at fault (inl m) = inl m
+mismatched old mid new e start s p k at fault (inr (says, placed)) =
+    inr (refused_token old mid e p (record {
+      reason = None;
+      place = Some [];
+      fault = fault;
+      says = says;
+      placed = λ before whole. subst (λ z. place_of e ≡ Some (position_behind z)) (sym (append-nil before)) (placed before mid.unread (input_of k.rest ∙ whole) (at before whole));
+    }))
+
+pub refused_number : {V C : Type 0} (f : Number → Option C) (old mid new : State) (result : Result V Error) (start : ℕ) (s : List ℕ) (n : Number) → PassedGap old mid → TookText mid s new → Num s n → Stops s new.unread → f n ≡ None
+    → StartsAt mid start → IsErrAnd result (IsMismatch new.input start) → IfErr result (RefusedByOrMemory (NotNumber f) old)
+refused_number f old mid new (Ok v) start s n p k num stops none at is = tt
+refused_number f old mid new (Err e) start s n p k num stops none at is =
+    mismatched old mid new e start s p k at (subst (λ x. NotNumber f x None (Some [])) (sym k.split) (other_number new.unread num stops none)) is
+
+pub refused_text : {V C : Type 0} (f : List ℕ → Bool → Option C) (old mid new : State) (result : Result V Error) (start : ℕ) (s u : List ℕ) (plain : Bool) → PassedGap old mid → TookText mid s new → Str s u plain → f u plain ≡ None
+    → StartsAt mid start → IsErrAnd result (IsMismatch new.input start) → IfErr result (RefusedByOrMemory (NotText f) old)
+refused_text f old mid new (Ok v) start s u plain p k str none at is = tt
+refused_text f old mid new (Err e) start s u plain p k str none at is =
+    mismatched old mid new e start s p k at (subst (λ x. NotText f x None (Some [])) (sym k.split) (other_text new.unread str none)) is

@@ -1,0 +1,35 @@
+//! The decimal of a whole number.
+
+ghost use Rattle.std.specs.Prelude.{◌≡◌, nat_abs, IfOk, IfErr};
+ghost use Rattle.json5_grammar.specs.Numbers as numbers;
+ghost use Rattle.json5_text.specs.Cursor.{IsOutOfMemory};
+ghost use Rattle.json5_de.specs.Convert.{same_decimal};
+
+use json5_text::decimal::Decimal;
+use json5_text::error::Result;
+use json5_text::whole::Whole;
+use std::alloc::Global;
+
+/// How far the number is from zero.
+fn magnitude(whole: Whole) -> u128
+    ensures { result ≡ nat_abs whole }
+{
+    if let Some(number) = whole.as_u128() {
+        return number;
+    }
+    match whole.as_i128() {
+        Some(number) => number.unsigned_abs(),
+        None => 0,
+    }
+}
+
+/// The decimal of the same number; zero has no sign. The only error is want of memory.
+pub(crate) fn same_decimal(alloc: Global, whole: Whole) -> Result<Decimal>
+    ensures ok { IfOk result (λ d. d ≡ same_decimal (numbers.whole whole)) }
+    ensures err { IfErr result IsOutOfMemory }
+{
+    let number = magnitude(whole);
+    let digits = format!(in alloc; "{number}")?;
+    let found = Decimal::finite(alloc, whole.as_u128().is_none(), digits.as_str(), 0)?;
+    Ok(found.unwrap())
+}

@@ -1,0 +1,79 @@
+//! The texts of faults at what is whole, and isn't of the type that was awaited.
+
+use json5_text::whole::Whole;
+use std::fmt;
+
+/// What stands in place of what was awaited.
+#[derive(Drop)]
+pub(crate) enum Mismatch<'a> {
+    /// A whole number that isn't in the range of the type of this name.
+    OutOfRange(Whole, &'a str),
+    /// A decimal where the integer type of this name is awaited.
+    NotWhole(&'a str),
+    /// A text with an escape where a borrowed one is awaited.
+    Escaped(&'a str),
+    /// A text that isn't one character.
+    NotCharacter(&'a str),
+}
+
+impl fmt::Display for Mismatch<'_> {
+    fn fmt<W: fmt::Write>(&self, f: &mut fmt::Formatter<W>) -> fmt::Result {
+        match self {
+            Mismatch::OutOfRange(whole, name) => write_range(f, *whole, name),
+            Mismatch::NotWhole(name) => write!(f, "invalid type: decimal, expected {name}"),
+            Mismatch::Escaped(text) => {
+                write!(f, "invalid type: string ")?;
+                write_quoted(f, text)?;
+                write!(f, ", expected a borrowed string")
+            }
+            Mismatch::NotCharacter(text) => {
+                write!(f, "invalid value: string ")?;
+                write_quoted(f, text)?;
+                write!(f, ", expected a character")
+            }
+        }
+    }
+}
+
+/// A number from -2^63 to 2^64-1 is an invalid value, any other one is of an invalid type.
+fn write_range<W: fmt::Write>(f: &mut fmt::Formatter<W>, whole: Whole, name: &str) -> fmt::Result {
+    if let Some(number) = whole.as_u128() {
+        if number <= u64::MAX as u128 {
+            return write!(f, "invalid value: integer `{number}`, expected {name}");
+        }
+        return write!(
+            f,
+            "invalid type: integer `{number}` as u128, expected {name}"
+        );
+    }
+    let Some(number) = whole.as_i128() else {
+        return Ok(());
+    };
+    if number >= i64::MIN as i128 {
+        return write!(f, "invalid value: integer `{number}`, expected {name}");
+    }
+    write!(
+        f,
+        "invalid type: integer `{number}` as i128, expected {name}"
+    )
+}
+
+/// The text between double quotes, these, backslashes, tabs and line ends escaped.
+fn write_quoted<W: fmt::Write>(f: &mut fmt::Formatter<W>, text: &str) -> fmt::Result {
+    f.write_char('"')?;
+    for c in text.chars() {
+        write_escaped(f, c)?;
+    }
+    f.write_char('"')
+}
+
+fn write_escaped<W: fmt::Write>(f: &mut fmt::Formatter<W>, c: char) -> fmt::Result {
+    match c {
+        '"' => f.write_str("\\\""),
+        '\\' => f.write_str("\\\\"),
+        '\t' => f.write_str("\\t"),
+        '\n' => f.write_str("\\n"),
+        '\r' => f.write_str("\\r"),
+        _ => f.write_char(c),
+    }
+}

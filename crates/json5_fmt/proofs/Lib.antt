@@ -1,0 +1,2 @@
+pub mod PiecesJoined
+pub mod LinesJoined

@@ -1,0 +1,13 @@
+-- What the formatter promises of the bytes of a text.
+use Rattle.std.specs.Prelude.{ℕ, List}
+use Rattle.std.specs.Str.{chars}
+use Rattle.json5_text.specs.declared.error.Error.{Error}
+use Rattle.json5.specs.Formatted.{IsFormatted, IsRefused}
+
+-- the text is a document, and this is written of it
+abbrev pub Formats : List ℕ → List ℕ → Type 0
+Formats text output = IsFormatted (chars text) output
+
+-- the text is refused so
+abbrev pub Refuses : List ℕ → Error → Type 0
+Refuses text e = IsRefused (chars text) e

@@ -1,0 +1,5 @@
+pub mod Formats
+pub mod Pieces
+pub mod Reports
+pub mod Runs
+pub mod Stops

@@ -1,0 +1,41 @@
+-- What a run reads and writes.
+use Rattle.std.specs.Prelude.{◌≡◌, ℕ, List, [], ◌∷◌, ◌++◌, Option, IfSome, ⊤}
+use Rattle.std.specs.Str.{IsUtf8}
+use Rattle.std.specs.Io.KnownBytes.{Appends, Keeps}
+use Rattle.json5_grammar.specs.Characters.{line_feed}
+use Rattle.json5_text.specs.declared.error.Error.{Error}
+use Rattle.json5_fmt.specs.Formats.{Formats, Refuses}
+use Rattle.json5_fmt.specs.Pieces.{AppendsFront}
+use Rattle.json5_fmt.specs.declared.stop.Stop.{Stop}
+use Rattle.json5_fmt.specs.declared.stop.Stop.TheVariants as stop
+
+abbrev pub line : List ℕ → List ℕ
+line text = text ++ line_feed ∷ []
+
+-- the bytes are a text, and what is written of it was written, and one LF
+abbrev pub WritesFormatted : Option (List ℕ) → Option (List ℕ) → List ℕ → Type 0
+WritesFormatted old new bytes = IsUtf8 bytes × ((output : List ℕ) × Formats bytes output × Appends old new (line output))
+
+-- a beginning of that was written
+abbrev pub BeginsFormatted : Option (List ℕ) → Option (List ℕ) → List ℕ → Type 0
+BeginsFormatted old new bytes = IsUtf8 bytes × ((output : List ℕ) × Formats bytes output × AppendsFront old new (line output))
+
+-- the bytes are a text that is refused so
+abbrev pub RefusesText : Error → List ℕ → Type 0
+RefusesText e bytes = IsUtf8 bytes × Refuses bytes e
+
+-- no text was read
+abbrev pub ReadStop : Option (List ℕ) → Stop → Type 0
+ReadStop input stop.NotUtf8 = IfSome input (λ bytes. ¬ (IsUtf8 bytes))
+ReadStop input (stop.Text e) = ⊥
+ReadStop input stop.NoMemory = ⊤
+ReadStop input stop.Read = ⊤
+ReadStop input stop.Write = ⊥
+
+-- nothing was written, but at a failed write
+abbrev pub RunStop : Option (List ℕ) → Option (List ℕ) → Option (List ℕ) → Stop → Type 0
+RunStop input old new stop.NotUtf8 = IfSome input (λ bytes. ¬ (IsUtf8 bytes)) × Keeps old new
+RunStop input old new (stop.Text e) = IfSome input (RefusesText e) × Keeps old new
+RunStop input old new stop.NoMemory = Keeps old new
+RunStop input old new stop.Read = Keeps old new
+RunStop input old new stop.Write = IfSome input (BeginsFormatted old new)

@@ -1,0 +1,18 @@
+-- How a fault of the text ends the program.
+use Rattle.std.specs.Prelude.{Option, Some, None}
+use Rattle.json5_grammar.specs.declared.code.ErrorCode.{ErrorCode}
+use Rattle.json5_grammar.specs.declared.code.ErrorCode.TheVariants as codes
+use Rattle.json5_text.specs.declared.error.Error.{Error}
+use Rattle.json5_text.specs.Errors.{Kind, code, custom, failed_write, kind_of}
+use Rattle.json5_fmt.specs.declared.stop.Stop.{Stop}
+use Rattle.json5_fmt.specs.declared.stop.Stop.TheVariants as stop
+
+abbrev pub stop_of_kind : Kind → Error → Stop
+stop_of_kind (code codes.OutOfMemory) e = stop.NoMemory
+stop_of_kind (code _) e = stop.Text e
+stop_of_kind (custom text) e = stop.Text e
+stop_of_kind failed_write e = stop.Text e
+
+-- want of memory is no fault of the text
+abbrev pub stop_at : Error → Stop
+stop_at e = stop_of_kind (kind_of e) e

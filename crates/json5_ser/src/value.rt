@@ -1,0 +1,44 @@
+//! Values of any kind, written.
+
+ghost use Rattle.std.specs.Prelude.{◌≡◌};
+ghost use Rattle.json5_grammar.specs.Numbers.{whole};
+ghost use Rattle.json5_ser.specs.WrittenTrees.{number};
+ghost use Rattle.json5_ser.specs.ValueTrees.{value_tree};
+ghost use Rattle.json5_ser.specs.Out.{out};
+ghost use Rattle.json5_ser.specs.Writes.{Writes};
+
+use crate::{Serialize, Serializer};
+use json5_text::error::Result;
+use json5_text::value::Value;
+use json5_text::whole::Whole;
+use std::io::Write;
+
+impl Serialize for Value {
+    ghost tree = { value_tree };
+
+    fn serialize<W: Write + Drop>(&self, ser: &mut Serializer<W>) -> Result<()> {
+        write_value(self, ser)
+    }
+}
+
+fn write_value<W: Write + Drop>(value: &Value, ser: &mut Serializer<W>) -> Result<()>
+    ensures { Writes (out 128 (value_tree value.now) ser.old.depth) ser.old result ser.new }
+{
+    match value {
+        Value::Null => ser.serialize_unit(),
+        Value::Bool(truth) => ser.serialize_bool(*truth),
+        Value::Whole(number) => write_whole(*number, ser),
+        Value::Decimal(number) => ser.serialize_decimal(number),
+        Value::String(text) => ser.serialize_str(text.as_str()),
+    }
+}
+
+fn write_whole<W: Write + Drop>(value: Whole, ser: &mut Serializer<W>) -> Result<()>
+    ensures { Writes (out 128 (number (whole value)) ser.old.depth) ser.old result ser.new }
+{
+    if let Some(positive) = value.as_u128() {
+        return ser.serialize_u128(positive);
+    }
+    let negative = value.as_i128();
+    ser.serialize_i128(negative.unwrap())
+}

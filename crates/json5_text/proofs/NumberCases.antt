@@ -1,0 +1,91 @@
+-- Reading a number by its first characters.
+use Rattle.std.proofs.Common.{◌≡◌, ℕ, Bool, true, false, ◌||◌, List, [], ◌∷◌, refl, ap, sym, ◌∙◌, arith, ◌≢◌, Some, None}
+use Rattle.std.specs.Prelude.{◌==◌, pos}
+use Rattle.std.proofs.lemmas.Bool.Decides.{nat_tests}
+use lib.Chars.{codes}
+use Rattle.json5_grammar.specs.declared.code.ErrorCode.TheVariants.{EofParsingNumber, ExpectedNumber, LeadingZero}
+use Rattle.json5_grammar.specs.Characters.{is_digit}
+use Rattle.json5_grammar.specs.Numbers.{Decimal, whole, decimal, infinite, nan, hex_start}
+use Rattle.json5_grammar.specs.Stops.{in_run, begins_run}
+use Rattle.json5_grammar.specs.Reading.{got, bad, here, inner}
+use Rattle.std.specs.Str.{chars}
+use Rattle.json5_text.proofs.NumberSteps.{infinity_rest, nan_rest}
+use Rattle.json5_grammar.specs.ReadNumbers.{word, hexadecimal, front_of, rest_of, literal_at, if_literal, decimal_run, at_zero, unsigned, number}
+
+other : (c d : ℕ) → c ≢ d → (c == d) ≡ false
+other c d h = grind (arith, nat_tests)
+
+same : (c d : ℕ) → c ≡ d → (c == d) ≡ true
+same c d h = grind (arith, nat_tests)
+
+-- ---- decimal runs
+
+pub run_refused : (q : List ℕ) (m : Bool) (x f : List ℕ) → f ≡ front_of in_run x → literal_at f ≡ None → decimal_run q m x ≡ bad None (here q)
+run_refused q m x f e h = ap (if_literal q m (rest_of in_run x)) (ap literal_at (sym e) ∙ h)
+
+-- ---- behind a first `0`
+
+pub zero_ends : (q : List ℕ) (m : Bool) (x : List ℕ) → x ≡ [] → at_zero q m x ≡ got (whole (pos 0)) x
+zero_ends q m x e = rw e refl
+
+pub zero_leads : (q : List ℕ) (m : Bool) (x y : List ℕ) (c : ℕ) (b : Bool) → x ≡ c ∷ y → b ≡ is_digit c → b ≡ true → at_zero q m x ≡ bad (Some LeadingZero) (here q)
+zero_leads q m x y c b e f h = let k = sym f ∙ h in rw (e, k) refl
+
+pub zero_hexadecimal : (q : List ℕ) (m : Bool) (x y : List ℕ) (c : ℕ) (b d : Bool) → x ≡ c ∷ y → b ≡ is_digit c → b ≡ false → d ≡ hex_start c → d ≡ true → at_zero q m x ≡ hexadecimal q m y
+zero_hexadecimal q m x y c b d e f h g l = let k = sym f ∙ h in let n = sym g ∙ l in rw e (rw (k, n) refl)
+
+pub zero_run : (q : List ℕ) (m : Bool) (t x y : List ℕ) (c : ℕ) (b d a : Bool) → t ≡ 48 ∷ x → x ≡ c ∷ y → b ≡ is_digit c → b ≡ false → d ≡ hex_start c → d ≡ false → a ≡ ((c == 46) || ((c == 101) || (c == 69))) → a ≡ true → at_zero q m x ≡ decimal_run q m t
+zero_run q m t x y c b d a z e f h g l i j = let k = sym f ∙ h in let n = sym g ∙ l in let o = sym i ∙ j in rw (z, e) (rw (k, n, o) refl)
+
+pub zero_alone : (q : List ℕ) (m : Bool) (x y : List ℕ) (c : ℕ) (b d a : Bool) → x ≡ c ∷ y → b ≡ is_digit c → b ≡ false → d ≡ hex_start c → d ≡ false → a ≡ ((c == 46) || ((c == 101) || (c == 69))) → a ≡ false → at_zero q m x ≡ got (whole (pos 0)) x
+zero_alone q m x y c b d a e f h g l i j = let k = sym f ∙ h in let n = sym g ∙ l in let o = sym i ∙ j in rw e (rw (k, n, o) refl)
+
+-- ---- without a sign
+
+pub unsigned_ends : (q : List ℕ) (m : Bool) (x : List ℕ) → x ≡ [] → unsigned q m x ≡ bad (Some EofParsingNumber) inner
+unfolding unsigned
+unsigned_ends q m x e = rw e refl
+
+infinity_at : (q : List ℕ) (m : Bool) (x y : List ℕ) (c : ℕ) → x ≡ c ∷ y → c ≡ 73 → unsigned q m x ≡ word (decimal (infinite m)) (codes "nfinity") y
+unfolding unsigned
+infinity_at q m x y c e h = rw (e, h) refl
+
+pub unsigned_infinity : (q : List ℕ) (m : Bool) (x y : List ℕ) (c : ℕ) (d : Decimal) → x ≡ c ∷ y → c ≡ 73 → d ≡ infinite m → unsigned q m x ≡ word (decimal d) (chars (codes "nfinity")) y
+unsigned_infinity q m x y c d e h f = infinity_at q m x y c e h ∙ ap (λ z. word (decimal (infinite m)) z y) (sym infinity_rest) ∙ ap (λ z. word (decimal z) (chars (codes "nfinity")) y) (sym f)
+
+nan_at : (q : List ℕ) (m : Bool) (x y : List ℕ) (c : ℕ) → x ≡ c ∷ y → c ≡ 78 → unsigned q m x ≡ word (decimal (nan m)) (codes "aN") y
+unfolding unsigned
+nan_at q m x y c e h = rw (e, h) refl
+
+pub unsigned_nan : (q : List ℕ) (m : Bool) (x y : List ℕ) (c : ℕ) (d : Decimal) → x ≡ c ∷ y → c ≡ 78 → d ≡ nan m → unsigned q m x ≡ word (decimal d) (chars (codes "aN")) y
+unsigned_nan q m x y c d e h f = nan_at q m x y c e h ∙ ap (λ z. word (decimal (nan m)) z y) (sym nan_rest) ∙ ap (λ z. word (decimal z) (chars (codes "aN")) y) (sym f)
+
+pub unsigned_zero : (q : List ℕ) (m : Bool) (x y : List ℕ) (c : ℕ) → x ≡ c ∷ y → c ≡ 48 → unsigned q m x ≡ at_zero q m y
+unfolding unsigned
+unsigned_zero q m x y c e h = rw (e, h) refl
+
+pub unsigned_run : (q : List ℕ) (m : Bool) (x y : List ℕ) (c : ℕ) (b : Bool) → x ≡ c ∷ y → c ≢ 73 → c ≢ 78 → c ≢ 48 → b ≡ begins_run c → b ≡ true → unsigned q m x ≡ decimal_run q m x
+unfolding unsigned
+unsigned_run q m x y c b e i n z f h = let k = sym f ∙ h in let o = other c 73 i in let p = other c 78 n in let r = other c 48 z in rw e (rw (o, p, r, k) refl)
+
+pub unsigned_other : (q : List ℕ) (m : Bool) (x y : List ℕ) (c : ℕ) (b : Bool) → x ≡ c ∷ y → c ≢ 73 → c ≢ 78 → c ≢ 48 → b ≡ begins_run c → b ≡ false → unsigned q m x ≡ bad (Some ExpectedNumber) (here x)
+unfolding unsigned
+unsigned_other q m x y c b e i n z f h = let k = sym f ∙ h in let o = other c 73 i in let p = other c 78 n in let r = other c 48 z in rw e (rw (o, p, r, k) refl)
+
+-- ---- with a sign
+
+pub number_ends : (x : List ℕ) → x ≡ [] → number x ≡ bad (Some EofParsingNumber) inner
+unfolding number
+number_ends x e = rw e refl
+
+pub number_plus : (x y : List ℕ) (c : ℕ) → x ≡ c ∷ y → c ≡ 43 → number x ≡ unsigned x false y
+unfolding number
+number_plus x y c e h = rw (e, h) refl
+
+pub number_minus : (x y : List ℕ) (c : ℕ) → x ≡ c ∷ y → c ≡ 45 → number x ≡ unsigned x true y
+unfolding number
+number_minus x y c e h = rw (e, h) refl
+
+pub number_bare : (x y : List ℕ) (c : ℕ) → x ≡ c ∷ y → c ≢ 43 → c ≢ 45 → number x ≡ unsigned x false x
+unfolding number
+number_bare x y c e p m = let o = other c 43 p in let r = other c 45 m in rw e (rw (o, r) refl)

@@ -1,0 +1,205 @@
+-- Steps of reading names.
+use Rattle.std.proofs.Common.{◌≡◌, ℕ, suc, ◌+◌, ◌<◌, ◌≤◌, Bool, true, false, cond, List, [], ◌∷◌, ◌++◌, length, refl, ap, sym, ◌∙◌, append_assoc, subst, arith, Option, Some, None}
+use Rattle.std.specs.Prelude.{◌==◌, ◌&&◌, not}
+use Rattle.std.specs.Char.{encode_utf8}
+use Rattle.std.specs.Str.{IsUtf8, chars, encode_utf8_all}
+use Rattle.std.proofs.lemmas.Bool.Decides.{nat_tests}
+use Rattle.std.proofs.lemmas.List.{length-append, append-nil}
+use Rattle.std.proofs.lemmas.Str.{encodes-append, encodes-chars}
+use Rattle.json5_grammar.specs.Characters.{NotBegun, Each, no_char, char, is_identifier_start, is_identifier_part}
+use Rattle.json5_grammar.specs.declared.code.ErrorCode.{ErrorCode}
+use Rattle.json5_grammar.specs.declared.code.ErrorCode.TheVariants.{EofParsingIdentifier, ExpectedIdentifier, InvalidEscapeSequence}
+use Rattle.json5_grammar.specs.Reading.{Read, Place, got, bad, here, inner, and_then}
+use Rattle.json5_grammar.specs.ReadTexts.{unicode_at, name_escape, fit, put, identifier}
+use Rattle.json5_grammar.proofs.NamesRead.{unicode_head}
+use Rattle.json5_grammar.proofs.NamesSound.{EscapedSound, escaped_sound, shorter}
+use Rattle.json5_grammar.proofs.StringsRead.{put_none, put_raw, put_escape, put_end}
+use Rattle.json5_grammar.proofs.Turns.{name_rest, name_end, name_stops, name_raw, name_escaped, name_bad, start_raw, start_escaped, start_bad}
+use Rattle.json5_text.specs.declared.refusal.Refusal.{Refusal}
+use Rattle.json5_text.specs.declared.names.Stop.{Stop}
+use Rattle.json5_text.specs.declared.names.Stop.TheVariants as stop
+use Rattle.json5_text.specs.Outcome.{outcome}
+use Rattle.json5_text.specs.Refused.{Refuses}
+use Rattle.json5_text.specs.ScanNames.{fits, is_raw_part, name_at, NoPart, StopsAt, GoesOn, IsFurther, StopsText}
+use Rattle.json5_text.proofs.ScanEscapes.{refuses_as}
+
+-- ---- characters that stand for themselves
+
+raw_parts : (c : ℕ) → is_raw_part c ≡ true → ((c == 92) ≡ false) × (is_identifier_part c ≡ true)
+raw_parts c h = both (c == 92) (is_identifier_part c) h
+  where
+    both : (a b : Bool) → (not a && b) ≡ true → (a ≡ false) × (b ≡ true)
+    both true b h = absurd (cc)
+    both false b h = (refl, h)
+
+pub part_more : (c : ℕ) (x y z : List ℕ) → is_raw_part c ≡ true → (raw : List ℕ) × (x ≡ raw ++ y) × Each is_raw_part raw → y ≡ c ∷ z → (raw : List ℕ) × (x ≡ raw ++ z) × Each is_raw_part raw
+part_more c x y z h (raw, e, k) f = (raw ++ c ∷ [], e ∙ ap (λ t. raw ++ t) f ∙ sym (append_assoc raw (c ∷ []) z), each_more raw k)
+  where
+    each_more : (raw : List ℕ) → Each is_raw_part raw → Each is_raw_part (raw ++ c ∷ [])
+    each_more [] k = char h no_char
+    each_more (d ∷ raw) (char i k) = char i (each_more raw k)
+
+pub no_part_from : (c : ℕ) (x r : List ℕ) → x ≡ c ∷ r → NotBegun is_raw_part x → (c ≡ 92 → ⊥) → NoPart x
+no_part_from c x r e s n =
+    let h : is_raw_part c ≡ false = subst (NotBegun is_raw_part) e s in
+    let a : (c == 92) ≡ false = grind arith in
+    record { first = c; rest = r; split = e; no_escape = a; no_part = other (c == 92) (is_identifier_part c) a h }
+  where
+    other : (a b : Bool) → a ≡ false → (not a && b) ≡ false → b ≡ false
+    other true b i h = absurd (cc)
+    other false b i h = h
+
+-- ---- the rest of a name
+
+rest_is : (x : List ℕ) → name_at false x ≡ name_rest x
+unfolding name_at name_rest
+rest_is x = refl
+
+pub whole_is : (x : List ℕ) → name_at true x ≡ identifier x
+unfolding name_at
+whole_is x = refl
+
+run_read : (raw x : List ℕ) → Each is_raw_part raw → name_at false (raw ++ x) ≡ put raw true (name_at false x)
+run_read [] x k = put_none (name_at false x)
+run_read (c ∷ raw) x (char h k) =
+    let f = raw_parts c h in
+    rest_is (c ∷ raw ++ x) ∙ name_raw c (raw ++ x) f.0 f.1 ∙ ap (put (c ∷ []) true) (sym (rest_is (raw ++ x)) ∙ run_read raw x k) ∙ put_raw c raw true (name_at false x)
+
+put_bad : (v : List ℕ) (p : Bool) (m : Read (List ℕ × Bool)) (e : Option ErrorCode) (z : Place) → m ≡ bad e z → put v p m ≡ bad e z
+put_bad v p m e z h = ap (put v p) h
+
+pub parts_end : (raw x y : List ℕ) → Each is_raw_part raw → x ≡ raw ++ y → y ≡ [] → name_at false x ≡ bad (Some EofParsingIdentifier) inner
+parts_end raw x y k e f = ap (name_at false) (e ∙ ap (λ z. raw ++ z) f) ∙ run_read raw [] k ∙ ap (put raw true) (rest_is [] ∙ name_end)
+
+stopped : (x : List ℕ) → NoPart x → name_at false x ≡ got ([], true) x
+stopped x k = ap (name_at false) k.split ∙ rest_is (k.first ∷ k.rest) ∙ name_stops k.first k.rest k.no_escape k.no_part ∙ ap (got ([], true)) (sym k.split)
+
+-- ---- an escape
+
+pub item_bad : (first : Bool) (r : Refusal) (x y : List ℕ) → x ≡ 92 ∷ y → Refuses r (outcome (and_then (name_escape x y) (fit (fits first) x))) → Refuses r (outcome (name_at first x))
+item_bad first r x y e h = refuses_as r (and_then (name_escape x y) (fit (fits first) x)) (name_at first x) (λ c p g. ap (name_at first) e ∙ at_backslash first c p (ap (λ t. and_then (name_escape t y) (fit (fits first) t)) (sym e) ∙ g)) h
+  where
+    at_backslash : (first : Bool) (c : Option ErrorCode) (p : Place) → and_then (name_escape (92 ∷ y) y) (fit (fits first) (92 ∷ y)) ≡ bad c p → name_at first (92 ∷ y) ≡ bad c p
+    at_backslash true c p g = whole_is (92 ∷ y) ∙ start_bad y c p g
+    at_backslash false c p g = rest_is (92 ∷ y) ∙ name_bad y c p g
+
+item_read : (first : Bool) (x y z : List ℕ) (n : ℕ) → x ≡ 92 ∷ y → and_then (name_escape x y) (fit (fits first) x) ≡ got n z → name_at first x ≡ put (n ∷ []) false (name_at false z)
+item_read first x y z n e g = ap (name_at first) e ∙ at_backslash first (ap (λ t. and_then (name_escape t y) (fit (fits first) t)) (sym e) ∙ g) ∙ ap (put (n ∷ []) false) (sym (rest_is z))
+  where
+    at_backslash : (first : Bool) → and_then (name_escape (92 ∷ y) y) (fit (fits first) (92 ∷ y)) ≡ got n z → name_at first (92 ∷ y) ≡ put (n ∷ []) false (name_rest z)
+    at_backslash true g = whole_is (92 ∷ y) ∙ start_escaped y z n g
+    at_backslash false g = rest_is (92 ∷ y) ∙ name_escaped y z n g
+
+pub behind_item : (first : Bool) (r : Refusal) (x y z : List ℕ) (n : ℕ) → x ≡ 92 ∷ y → and_then (name_escape x y) (fit (fits first) x) ≡ got n z → Refuses r (outcome (name_at false z)) → Refuses r (outcome (name_at first x))
+behind_item first r x y z n e g = refuses_as r (name_at false z) (name_at first x) (λ c p h. item_read first x y z n e g ∙ put_bad (n ∷ []) false (name_at false z) c p h)
+
+item_run : (first : Bool) (x y z raw t : List ℕ) (n : ℕ) → x ≡ 92 ∷ y → and_then (name_escape x y) (fit (fits first) x) ≡ got n z → z ≡ raw ++ t → Each is_raw_part raw → name_at first x ≡ put (n ∷ raw) false (name_at false t)
+item_run first x y z raw t n e g f k =
+    item_read first x y z n e g ∙ ap (λ s. put (n ∷ []) false (name_at false s)) f ∙ ap (put (n ∷ []) false) (run_read raw t k) ∙ put_escape (n ∷ []) raw true (name_at false t)
+
+pub goes_on : (first : Bool) (x y z raw t : List ℕ) (n : ℕ) (s : Stop) → x ≡ 92 ∷ y → and_then (name_escape x y) (fit (fits first) x) ≡ got n z → z ≡ raw ++ t → Each is_raw_part raw → StopsAt t s → GoesOn first x (n ∷ raw) s
+goes_on first x y z raw t n (stop.End rest) e g f k a =
+    item_run first x y z raw t n e g f k ∙ ap (put (n ∷ raw) false) (stopped t a.1) ∙ put_end (n ∷ raw) false t ∙ ap (got (n ∷ raw, false)) a.0
+goes_on first x y z raw t n (stop.Escape escape behind) e g f k a = (item_run first x y z raw t n e g f k ∙ ap (λ s. put (n ∷ raw) false (name_at false s)) a.0, a.1)
+
+item_shorter : (first : Bool) (x y z : List ℕ) (n : ℕ) → x ≡ 92 ∷ y → and_then (name_escape x y) (fit (fits first) x) ≡ got n z → length z < length x
+item_shorter first x y z n e g =
+    let k = subst (EscapedSound (fits first) (92 ∷ y)) (ap (λ t. and_then (name_escape t y) (fit (fits first) t)) (sym e) ∙ g) (escaped_sound (fits first) y) in
+    let l : length x ≡ length (92 ∷ y) = ap length e in
+    let m : length z < length (92 ∷ y) = shorter (92 ∷ y) k.0 z k.1 (unicode_head k.2) in
+    omega arith
+
+pub is_further : (first : Bool) (x y z raw t : List ℕ) (n : ℕ) (s : Stop) → x ≡ 92 ∷ y → and_then (name_escape x y) (fit (fits first) x) ≡ got n z → z ≡ raw ++ t → StopsAt t s → StopsText s → IsFurther x s
+is_further first x y z raw t n (stop.End rest) e g f a u = u
+is_further first x y z raw t n (stop.Escape escape behind) e g f a u =
+    let less = item_shorter first x y z n e g in
+    let whole : length z ≡ length raw + length t = ap length f ∙ length-append raw t in
+    let same : length t ≡ length (chars escape.now) = ap length a.0 in
+    (omega arith, u.0, u.1)
+
+pub char_put : (a b c r : List ℕ) (n : ℕ) → b ≡ a ++ encode_utf8 n → c ≡ b ++ r → IsUtf8 r → c ≡ a ++ encode_utf8_all (n ∷ chars r)
+char_put a b c r n e f u =
+    f ∙ ap (λ t. t ++ r) e ∙ append_assoc a (encode_utf8 n) r ∙ ap (λ t. a ++ (encode_utf8 n ++ t)) (sym (encodes-chars r u))
+
+-- ---- the character that an escape spells
+
+pub escape_none : (b xs : List ℕ) → xs ≡ [] → name_escape b xs ≡ bad (Some EofParsingIdentifier) inner
+unfolding name_escape
+escape_none b xs e = rw e refl
+
+pub escape_other : (c : ℕ) (b xs ys : List ℕ) → xs ≡ c ∷ ys → (c ≡ 117 → ⊥) → name_escape b xs ≡ bad (Some InvalidEscapeSequence) (here xs)
+unfolding name_escape
+escape_other c b xs ys e n = let t : (c == 117) ≡ false = grind arith in rw e (rw t refl)
+
+pub escape_unicode : (c : ℕ) (b xs ys : List ℕ) → xs ≡ c ∷ ys → c ≡ 117 → name_escape b xs ≡ unicode_at b ys
+unfolding name_escape
+escape_unicode c b xs ys e h = rw (e, h) refl
+
+pub item_fits : (p : ℕ → Bool) (b xs ys : List ℕ) (n : ℕ) → name_escape b xs ≡ got n ys → p n ≡ true → and_then (name_escape b xs) (fit p b) ≡ got n ys
+item_fits p b xs ys n e h = ap (λ z. and_then z (fit p b)) e ∙ rw h refl
+
+pub item_misfits : (p : ℕ → Bool) (b xs ys : List ℕ) (n : ℕ) → name_escape b xs ≡ got n ys → p n ≡ false → and_then (name_escape b xs) (fit p b) ≡ bad (Some ExpectedIdentifier) (here b)
+item_misfits p b xs ys n e h = ap (λ z. and_then z (fit p b)) e ∙ rw h refl
+
+-- ---- more of a name behind what was read
+
+abbrev pub Reached : Read (List ℕ × Bool) → Read (List ℕ × Bool) → List ℕ → List ℕ → Type 0
+Reached whole rest front text = (u : List ℕ) × (plain : Bool) × (whole ≡ put u plain rest) × (text ≡ front ++ encode_utf8_all u)
+
+both_bytes : (front a b u v : List ℕ) → a ≡ front ++ encode_utf8_all u → b ≡ a ++ encode_utf8_all v → b ≡ front ++ encode_utf8_all (u ++ v)
+both_bytes front a b u v e f = f ∙ ap (λ t. t ++ encode_utf8_all v) e ∙ append_assoc front (encode_utf8_all u) (encode_utf8_all v) ∙ ap (λ t. front ++ t) (sym (encodes-append u v))
+
+put_both : (u v : List ℕ) (p : Bool) (m : Read (List ℕ × Bool)) → put u p (put v false m) ≡ put (u ++ v) false m
+put_both u v true (got a r) = ap (λ t. got (t, false) r) (sym (append_assoc u v a.0))
+put_both u v false (got a r) = ap (λ t. got (t, false) r) (sym (append_assoc u v a.0))
+put_both u v p (bad e z) = refl
+
+pub reached_start : (whole : Read (List ℕ × Bool)) (front : List ℕ) → Reached whole whole front front
+reached_start whole front = ([], true, put_none whole, sym (append-nil front))
+
+pub reached_more : (whole rest next : Read (List ℕ × Bool)) (front a b v : List ℕ) → Reached whole rest front a → rest ≡ put v false next → b ≡ a ++ encode_utf8_all v → Reached whole next front b
+reached_more whole rest next front a b v (u, p, e, f) h i = (u ++ v, false, e ∙ ap (put u p) h ∙ put_both u v p next, both_bytes front a b u v f i)
+
+put_whole : (u v r : List ℕ) (p : Bool) → put u p (got (v, false) r) ≡ got (u ++ v, false) r
+put_whole u v r true = refl
+put_whole u v r false = refl
+
+pub reached_end : (whole rest : Read (List ℕ × Bool)) (front a b v r : List ℕ) → Reached whole rest front a → rest ≡ got (v, false) r → b ≡ a ++ encode_utf8_all v
+    → (u : List ℕ) × (whole ≡ got (u, false) r) × (b ≡ front ++ encode_utf8_all u)
+reached_end whole rest front a b v r (u, p, e, f) h i = (u ++ v, e ∙ ap (put u p) h ∙ put_whole u v r p, both_bytes front a b u v f i)
+
+pub reached_refused : (r : Refusal) (whole rest : Read (List ℕ × Bool)) (front a : List ℕ) → Reached whole rest front a → Refuses r (outcome rest) → Refuses r (outcome whole)
+reached_refused r whole rest front a (u, p, e, f) = refuses_as r rest whole (λ c z g. e ∙ put_bad u p rest c z g)
+
+-- ---- a name from its first character on
+
+pub name_none : (x : List ℕ) → x ≡ [] → identifier x ≡ bad (Some EofParsingIdentifier) inner
+unfolding identifier
+name_none x e = rw e refl
+
+pub name_other : (c : ℕ) (x r : List ℕ) → x ≡ c ∷ r → (c ≡ 92 → ⊥) → is_identifier_start c ≡ false → identifier x ≡ bad (Some ExpectedIdentifier) (here x)
+unfolding identifier
+name_other c x r e n h = let t : (c == 92) ≡ false = grind arith in rw e (rw (t, h) refl)
+
+name_raw_first : (c : ℕ) (x r : List ℕ) → x ≡ c ∷ r → (c ≡ 92 → ⊥) → is_identifier_start c ≡ true → identifier x ≡ put (c ∷ []) true (name_at false r)
+name_raw_first c x r e n h = let t : (c == 92) ≡ false = grind arith in ap identifier e ∙ start_raw c r t h ∙ ap (put (c ∷ []) true) (sym (rest_is r))
+
+pub first_refused : (c : ℕ) (w : Refusal) (x r : List ℕ) → x ≡ c ∷ r → (c ≡ 92 → ⊥) → is_identifier_start c ≡ true → Refuses w (outcome (name_at false r)) → Refuses w (outcome (identifier x))
+first_refused c w x r e n h = refuses_as w (name_at false r) (identifier x) (λ d z g. name_raw_first c x r e n h ∙ put_bad (c ∷ []) true (name_at false r) d z g)
+
+first_run : (c : ℕ) (x r raw t : List ℕ) → x ≡ c ∷ r → (c ≡ 92 → ⊥) → is_identifier_start c ≡ true → r ≡ raw ++ t → Each is_raw_part raw → identifier x ≡ put (c ∷ raw) true (name_at false t)
+first_run c x r raw t e n h f k =
+    name_raw_first c x r e n h ∙ ap (λ s. put (c ∷ []) true (name_at false s)) f ∙ ap (put (c ∷ []) true) (run_read raw t k) ∙ put_raw c raw true (name_at false t)
+
+pub plain_name : (c : ℕ) (x r raw t : List ℕ) → x ≡ c ∷ r → (c ≡ 92 → ⊥) → is_identifier_start c ≡ true → r ≡ raw ++ t → Each is_raw_part raw → NoPart t → identifier x ≡ got (c ∷ raw, true) t
+plain_name c x r raw t e n h f k s = first_run c x r raw t e n h f k ∙ ap (put (c ∷ raw) true) (stopped t s) ∙ put_end (c ∷ raw) true t
+
+pub escaped_name : (c : ℕ) (x r raw t u y : List ℕ) → x ≡ c ∷ r → (c ≡ 92 → ⊥) → is_identifier_start c ≡ true → r ≡ raw ++ t → Each is_raw_part raw → name_at false t ≡ got (u, false) y → identifier x ≡ got ((c ∷ raw) ++ u, false) y
+escaped_name c x r raw t u y e n h f k g = first_run c x r raw t e n h f k ∙ ap (put (c ∷ raw) true) g
+
+pub escaped_refused : (c : ℕ) (w : Refusal) (x r raw t : List ℕ) → x ≡ c ∷ r → (c ≡ 92 → ⊥) → is_identifier_start c ≡ true → r ≡ raw ++ t → Each is_raw_part raw → Refuses w (outcome (name_at false t)) → Refuses w (outcome (identifier x))
+escaped_refused c w x r raw t e n h f k = refuses_as w (name_at false t) (identifier x) (λ d z g. first_run c x r raw t e n h f k ∙ put_bad (c ∷ raw) true (name_at false t) d z g)
+
+-- where a run ends within the whole text
+pub split_whole : (c : ℕ) (x r raw t y : List ℕ) → x ≡ c ∷ r → r ≡ raw ++ t → t ≡ y → x ≡ (c ∷ raw) ++ y
+split_whole c x r raw t y e f g = e ∙ ap (λ z. c ∷ z) (f ∙ ap (λ z. raw ++ z) g)

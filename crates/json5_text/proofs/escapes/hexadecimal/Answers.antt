@@ -1,0 +1,44 @@
+use Rattle.std.proofs.Common.{◌≡◌, ◌<◌, ◌≤◌, ◌+◌, ◌-◌, ◌*◌, ◌^◌, Some, None, ap, sym, ◌∙◌, arith}
+use Rattle.std.specs.Char.{digit_value}
+use Rattle.std.specs.Str.{chars}
+use Rattle.json5_grammar.specs.declared.code.ErrorCode.TheVariants.{InvalidEscapeSequence}
+use Rattle.json5_text.specs.Outcome.{outcome}
+use Rattle.json5_text.proofs.ScanEscapes.{refused_here, hex_done, hex_ends, hex_wrong, hex_more, three_digits, one_more}
+use Rattle.json5_text.proofs.escapes.hexadecimal.Goals as goal
+
+pub returns-in_default-clause-read : goal.returns-in_default-clause-read
+returns-in_default-clause-read c = ap outcome (sym c.loop-wanted.invariant.read ∙ hex_ends c.loop-wanted.wanted c.loop-wanted.value _ _ c.loop-wanted-test.true c.in_default.ensures.chars)
+
+pub returns-in_default-to_digit-clause-read : goal.returns-in_default-to_digit-clause-read
+returns-in_default-to_digit-clause-read c =
+    let h : 16 ≤ digit_value c.in-Some.c = grind (arith, c.in_default-to_digit.ensures.value) in
+    rw c.invalid.ensures
+    (refused_here _ InvalidEscapeSequence c.args.escape.now c.utf8.escape (sym c.loop-wanted.invariant.read ∙ hex_wrong c.loop-wanted.wanted c.loop-wanted.value c.in-Some.c _ _ _ c.loop-wanted-test.true c.in-Some.ensures.chars h))
+
+pub overflow_mul-value : goal.overflow_mul-value
+overflow_mul-value c =
+    let h : c.loop-wanted.value < 4096 = three_digits (c.args.count - c.loop-wanted.wanted) c.loop-wanted.value (omega arith) c.loop-wanted.invariant.small in
+    omega arith
+
+pub overflow_add-value : goal.overflow_add-value
+overflow_add-value c =
+    let h : c.loop-wanted.value < 4096 = three_digits (c.args.count - c.loop-wanted.wanted) c.loop-wanted.value (omega arith) c.loop-wanted.invariant.small in
+    let d : c.in-Some-to_digit.digit < 16 = grind (arith, c.in-Some-to_digit.ensures.value) in
+    omega arith
+
+pub loop-wanted-preserved : goal.loop-wanted-preserved
+loop-wanted-preserved c =
+    let d : c.in-Some-to_digit.digit ≡ digit_value c.in-Some.c = grind (arith, c.in-Some-to_digit.ensures.value) in
+    let i : digit_value c.in-Some.c < 16 = grind (arith, c.in-Some-to_digit.ensures.value) in
+    let e : c.args.count - (c.loop-wanted.wanted - 1) ≡ c.args.count - c.loop-wanted.wanted + 1 = omega arith in
+    record {
+      text = c.in-Some.ensures.text;
+      fewer = omega arith;
+      small = rw (e, d) (one_more (c.args.count - c.loop-wanted.wanted) c.loop-wanted.value (digit_value c.in-Some.c) (omega arith) c.loop-wanted.invariant.small i);
+      read = rw d (sym (hex_more c.loop-wanted.wanted c.loop-wanted.value c.in-Some.c _ _ _ c.loop-wanted-test.true c.in-Some.ensures.chars i) ∙ c.loop-wanted.invariant.read);
+    }
+
+pub returns-clause-read : goal.returns-clause-read
+returns-clause-read c =
+    let z : c.loop-wanted.wanted ≡ 0 = omega arith in
+    sym c.loop-wanted.invariant.read ∙ hex_done c.loop-wanted.wanted c.loop-wanted.value _ _ z

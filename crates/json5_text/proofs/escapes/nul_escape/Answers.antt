@@ -1,0 +1,12 @@
+use Rattle.std.proofs.Common.{◌≡◌, true, arith}
+use Rattle.std.specs.Str.{chars}
+use Rattle.std.proofs.lemmas.Bool.Decides.{nat_tests}
+use Rattle.json5_grammar.specs.Characters.{is_digit}
+use Rattle.json5_grammar.specs.declared.code.ErrorCode.TheVariants.{InvalidEscapeSequence}
+use Rattle.json5_text.proofs.ScanEscapes.{refused_here, nul_digit}
+use Rattle.json5_text.proofs.escapes.nul_escape.Goals as goal
+
+pub returns-then-is_ascii_digit-clause-read : goal.returns-then-is_ascii_digit-clause-read
+returns-then-is_ascii_digit-clause-read c =
+    let d : is_digit c.in-Some.c ≡ true = grind (arith, nat_tests) in
+    rw c.invalid.ensures (refused_here _ InvalidEscapeSequence c.args.escape.now c.utf8.escape (nul_digit c.in-Some.c _ _ _ c.in-Some.ensures.chars d))

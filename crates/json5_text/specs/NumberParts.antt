@@ -1,0 +1,30 @@
+-- A decimal literal as code holds it. Private clauses and proofs alone cite it.
+use Rattle.std.specs.Prelude.{ℕ, min, Bool, ℤ, pos, Option, Some, None, IfSome}
+use Rattle.std.specs.Option.{option_map}
+use Rattle.json5_grammar.specs.Characters.{is_digit, Each}
+use Rattle.json5_grammar.specs.Numbers.{signed, spelled}
+use Rattle.json5_grammar.specs.ReadNumbers.{Parts, is_whole}
+use Rattle.json5_text.specs.declared.numbers.Exponent.{Exponent}
+use Rattle.json5_text.specs.declared.numbers.Literal.{Literal}
+
+abbrev pub raised_of : Exponent → ℤ
+raised_of e = signed e.negative (spelled 10 0 e.digits.now)
+
+abbrev pub parts_of : Literal → Parts
+parts_of l = record { before = l.before.now; behind = option_map (λ digits. digits.now) l.behind; raised = option_map raised_of l.exponent }
+
+-- the written exponent, or the limit where that is less
+abbrev pub limited_exponent : ℕ → Option Exponent → ℤ
+limited_exponent limit None = pos 0
+limited_exponent limit (Some e) = signed e.negative (min limit (spelled 10 0 e.digits.now))
+
+abbrev pub is_whole_literal : Bool → Literal → Bool
+is_whole_literal negative l = is_whole negative (parts_of l).before (parts_of l).behind (parts_of l).raised
+
+abbrev pub HasExponentDigits : Exponent → Type 0
+HasExponentDigits e = Each is_digit e.digits.now
+
+pub record HasDigits (l : Literal) : Type 0 where
+  pub before : Each is_digit l.before.now
+  pub behind : IfSome l.behind (λ digits. Each is_digit digits.now)
+  pub exponent : IfSome l.exponent HasExponentDigits

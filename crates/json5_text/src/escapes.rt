@@ -1,0 +1,176 @@
+//! Escapes in strings and names (JSON5 section 5.1, ECMAScript 5.1 section 7.8.4).
+
+ghost use Rattle.std.specs.Prelude.{◌≡◌, ◌≤◌, ◌<◌, ◌^◌, [], ◌&&◌, true, false, Some, None, length, MatchOption, MatchResult, IfOk};
+ghost use Rattle.std.specs.Str.{IsUtf8, chars};
+ghost use Rattle.json5_grammar.specs.Reading.{and_then, got};
+ghost use Rattle.json5_grammar.specs.Strings.{short_escape, is_high, is_low, joined};
+ghost use Rattle.json5_grammar.specs.ReadTexts.{hex, second, unicode_at, one_char, after_nul, after_cr, not_short, escape_at};
+ghost use Rattle.json5_text.specs.declared.refusal.Refusal.{Refusal};
+ghost use Rattle.json5_text.specs.Outcome.{outcome};
+ghost use Rattle.json5_text.specs.Refused.{Refuses};
+ghost use Rattle.json5_text.specs.Scan.{in_list};
+
+use crate::front::front;
+use crate::refusal::Refusal;
+use crate::words::skip_word;
+use json5_grammar::code::ErrorCode;
+
+/// The fault that stands at an escape's backslash, with which `escape` begins.
+fn invalid(escape: &str) -> Refusal
+    ensures { result ≡ Refusal.Code ErrorCode.InvalidEscapeSequence (Some (length escape.now)) }
+{
+    Refusal::Code(ErrorCode::InvalidEscapeSequence, Some(escape.len()))
+}
+
+/// The character that a string's escape spells, None where it spells none, and what follows it: `escape` begins with the
+/// backslash, and `text` stands behind it.
+pub(crate) fn read_escape<'t>(
+    escape: &str,
+    text: &'t str,
+) -> Result<(Option<char>, &'t str), Refusal>
+    ensures read { MatchResult result (λ p. escape_at (chars escape.now) (chars text.now) ≡ got (in_list p.0) (chars p.1.now))
+        (λ e. Refuses e (outcome (escape_at (chars escape.now) (chars text.now)))) }
+    ensures text { IfOk result (λ p. IsUtf8 p.1.now) }
+{
+    let Some((c, rest)) = front(text) else {
+        return Err(Refusal::Code(ErrorCode::EofParsingEscapeSequence, None));
+    };
+    match short_escape(c) {
+        Some(spelled) => Ok((Some(spelled), rest)),
+        None => long_escape(escape, c, rest),
+    }
+}
+
+/// The character behind a backslash that spells another one.
+fn short_escape(c: char) -> Option<char>
+    ensures { result ≡ short_escape c }
+{
+    match c {
+        'b' => Some('\u{8}'),
+        't' => Some('\t'),
+        'n' => Some('\n'),
+        'v' => Some('\u{b}'),
+        'f' => Some('\u{c}'),
+        'r' => Some('\r'),
+        _ => None,
+    }
+}
+
+/// An escape whose character `c` behind the backslash is no short one.
+fn long_escape<'t>(escape: &str, c: char, text: &'t str) -> Result<(Option<char>, &'t str), Refusal>
+    ensures read { MatchResult result (λ p. not_short None (chars escape.now) c (chars text.now) ≡ got (in_list p.0) (chars p.1.now))
+        (λ e. Refuses e (outcome (not_short None (chars escape.now) c (chars text.now)))) }
+    ensures text { IfOk result (λ p. IsUtf8 p.1.now) }
+{
+    match c {
+        '0' => nul_escape(escape, text),
+        'x' => byte_escape(escape, text),
+        'u' => {
+            let (spelled, rest) = unicode_escape(escape, text)?;
+            Ok((Some(spelled), rest))
+        }
+        '\r' => Ok((None, skip_line_feed(text))),
+        '\n' | '\u{2028}' | '\u{2029}' => Ok((None, text)),
+        '1'..='9' => Err(invalid(escape)),
+        _ => Ok((Some(c), text)),
+    }
+}
+
+/// Behind `\0`: no digit may follow.
+fn nul_escape<'t>(escape: &str, text: &'t str) -> Result<(Option<char>, &'t str), Refusal>
+    ensures read { MatchResult result (λ p. after_nul (chars escape.now) (chars text.now) ≡ got (in_list p.0) (chars p.1.now))
+        (λ e. Refuses e (outcome (after_nul (chars escape.now) (chars text.now)))) }
+    ensures text { IfOk result (λ p. IsUtf8 p.1.now) }
+{
+    if let Some((c, _)) = front(text) {
+        if c.is_ascii_digit() {
+            return Err(invalid(escape));
+        }
+    }
+    Ok((Some('\0'), text))
+}
+
+/// Behind `\x`: two hexadecimal digits.
+fn byte_escape<'t>(escape: &str, text: &'t str) -> Result<(Option<char>, &'t str), Refusal>
+    ensures read { MatchResult result (λ p. and_then (hex 2 0 (chars escape.now) (chars text.now)) one_char ≡ got (in_list p.0) (chars p.1.now))
+        (λ e. Refuses e (outcome (and_then (hex 2 0 (chars escape.now) (chars text.now)) one_char))) }
+    ensures text { IfOk result (λ p. IsUtf8 p.1.now) }
+{
+    let (value, rest) = hexadecimal(2, escape, text)?;
+    Ok((Some(char::from(value as u8)), rest))
+}
+
+/// Behind a backslash and CR: an LF belongs to it.
+fn skip_line_feed(text: &str) -> &str
+    ensures read { after_cr (chars text.now) ≡ got [] (chars result.now) }
+    ensures text { IsUtf8 result.now }
+{
+    match front(text) {
+        Some(('\n', rest)) => rest,
+        _ => text,
+    }
+}
+
+/// Behind `\u`: four hexadecimal digits, and another such escape behind a surrogate.
+pub(crate) fn unicode_escape<'t>(escape: &str, text: &'t str) -> Result<(char, &'t str), Refusal>
+    ensures read { MatchResult result (λ p. unicode_at (chars escape.now) (chars text.now) ≡ got p.0 (chars p.1.now))
+        (λ e. Refuses e (outcome (unicode_at (chars escape.now) (chars text.now)))) }
+    ensures text { IfOk result (λ p. IsUtf8 p.1.now) }
+{
+    let (unit, rest) = hexadecimal(4, escape, text)?;
+    match char::from_u32(unit) {
+        Some(c) => Ok((c, rest)),
+        None => second_escape(escape, unit, rest),
+    }
+}
+
+/// Behind the escape of the surrogate `unit`: the escape of the other one of a pair.
+fn second_escape<'t>(escape: &str, unit: u32, text: &'t str) -> Result<(char, &'t str), Refusal>
+    requires { unit < 0x1_0000 }
+    ensures read { MatchResult result (λ p. second unit (chars escape.now) (chars text.now) ≡ got p.0 (chars p.1.now))
+        (λ e. Refuses e (outcome (second unit (chars escape.now) (chars text.now)))) }
+    ensures text { IfOk result (λ p. IsUtf8 p.1.now) }
+{
+    let ends = ErrorCode::EofParsingEscapeSequence;
+    let digits = skip_word("\\u", text, ends, ErrorCode::InvalidEscapeSequence)?;
+    let (second, rest) = hexadecimal(4, escape, digits)?;
+    match pair(unit, second) {
+        Some(c) => Ok((c, rest)),
+        None => Err(Refusal::UnpairedSurrogate(unit as u16, escape.len())),
+    }
+}
+
+/// The character that two surrogates form, if the first is a high and the second a low one.
+fn pair(high: u32, low: u32) -> Option<char>
+    ensures { MatchOption result ((is_high high && is_low low) ≡ false) (λ c. ((is_high high && is_low low) ≡ true) × (c ≡ joined high low)) }
+{
+    if !matches!(high, 0xD800..=0xDBFF) || !matches!(low, 0xDC00..=0xDFFF) {
+        return None;
+    }
+    char::from_u32(0x1_0000 + (high - 0xD800) * 0x400 + (low - 0xDC00))
+}
+
+/// The value of so many hexadecimal digits, and what follows them.
+fn hexadecimal<'t>(count: u32, escape: &str, text: &'t str) -> Result<(u32, &'t str), Refusal>
+    requires { count ≤ 4 }
+    ensures read { MatchResult result (λ p. hex count 0 (chars escape.now) (chars text.now) ≡ got p.0 (chars p.1.now))
+        (λ e. Refuses e (outcome (hex count 0 (chars escape.now) (chars text.now)))) }
+    ensures text { IfOk result (λ p. IsUtf8 p.1.now) }
+    ensures bounded { IfOk result (λ p. p.0 < 16 ^ count) }
+{
+    let mut value = 0;
+    let mut wanted = count;
+    let mut rest = text;
+    while wanted > 0 {
+        let Some((c, next)) = front(rest) else {
+            return Err(Refusal::Code(ErrorCode::EofParsingEscapeSequence, None));
+        };
+        let Some(digit) = c.to_digit(16) else {
+            return Err(invalid(escape));
+        };
+        value = value * 16 + digit;
+        wanted -= 1;
+        rest = next;
+    }
+    Ok((value, rest))
+}

@@ -1,0 +1,454 @@
+//! Reading numbers: JSON5 section 6, ECMAScript 5.1 section 7.8.3.
+
+ghost use Rattle.std.specs.Prelude.{◌≡◌, ◌==◌, ◌||◌, ◌&&◌, not, ◌∷◌, ◌^◌, ◌+◌, ◌*◌, ◌≤◌, ◌<◌, min, MatchOption, MatchResult, IfOk, IfErr, IfSome, IsSome, Some, None, ℕ, List, true, pos, neg_ℤ, ◌-ℤ◌, ◌≤ℤ◌, ◌↔◌, length};
+ghost use Rattle.std.specs.Option.{option_map};
+ghost use Rattle.std.specs.Str.{IsUtf8, chars};
+ghost use Rattle.json5_grammar.specs.Characters.{is_digit, Each};
+ghost use Rattle.json5_grammar.specs.Numbers as numbers;
+ghost use Rattle.json5_grammar.specs.Stops as stops;
+ghost use Rattle.json5_grammar.specs.Reading.{got, bad, here};
+ghost use Rattle.json5_grammar.specs.ReadNumbers as model;
+ghost use Rattle.json5_grammar.specs.NumberSteps.{checked};
+ghost use Rattle.json5_text.specs.Outcome.{outcome};
+ghost use Rattle.json5_text.specs.Refused.{Refuses};
+ghost use Rattle.json5_text.specs.NumberViews.{number_of};
+ghost use Rattle.json5_text.specs.NumberParts.{raised_of, parts_of, limited_exponent, is_whole_literal, HasExponentDigits, HasDigits};
+
+use crate::decimal::Decimal;
+use crate::front::front;
+use crate::number::Number;
+use crate::refusal::Refusal;
+use crate::runs::{split_digits, split_run};
+use crate::whole::Whole;
+use crate::words::skip_word;
+use json5_grammar::code::ErrorCode;
+use std::alloc::Global;
+
+// ---- hexadecimal numbers
+
+/// One more digit, if the value stays within `u128`.
+fn one_more(value: u128, digit: u32) -> Option<u128>
+    ensures { MatchOption result (2 ^ 128 ≤ value * 16 + digit) (λ r. r ≡ value * 16 + digit) }
+{
+    value.checked_mul(16)?.checked_add(u128::from(digit))
+}
+
+/// The value of the hexadecimal digits in front and what follows them, or what begins with the digit that takes it past `u128`.
+#[tactic(auto, using(crate::proofs::NumberSteps::hexadecimal_steps))]
+fn hexadecimal_digits(text: &str) -> Result<(u128, &str), &str>
+    ensures read { MatchResult result
+        (λ p. model.hex_digits 0 (chars text.now) ≡ got p.0 (chars p.1.now))
+        (λ r. model.hex_digits 0 (chars text.now) ≡ bad (Some ErrorCode.OverflowParsingNumber) (here (chars r.now))) }
+    ensures bound { IfOk result (λ p. p.0 < 2 ^ 128) }
+    ensures text { MatchResult result (λ p. IsUtf8 p.1.now) (λ r. IsUtf8 r.now) }
+{
+    let mut value: u128 = 0;
+    let mut rest = text;
+    while let Some((c, next)) = front(rest) {
+        let Some(digit) = c.to_digit(16) else {
+            return Ok((value, rest));
+        };
+        let Some(more) = one_more(value, digit) else {
+            return Err(rest);
+        };
+        value = more;
+        rest = next;
+    }
+    Ok((value, rest))
+}
+
+/// What stands behind `0x`; `start` is the text from the number's start.
+fn hexadecimal<'t>(start: &str, negative: bool, text: &'t str) -> Result<(Whole, &'t str), Refusal>
+    ensures read { IfOk result (λ p. model.hexadecimal (chars start.now) negative (chars text.now) ≡ got (numbers.whole p.0) (chars p.1.now)) }
+    ensures refused { IfErr result (λ e. Refuses e (outcome (model.hexadecimal (chars start.now) negative (chars text.now)))) }
+    ensures text { IfOk result (λ p. IsUtf8 p.1.now) }
+{
+    let Some((first, _)) = front(text) else {
+        return Err(Refusal::Code(ErrorCode::EofParsingNumber, None));
+    };
+    let Some(_digit) = first.to_digit(16) else {
+        return Err(Refusal::Code(ErrorCode::ExpectedNumber, Some(text.len())));
+    };
+    match hexadecimal_digits(text) {
+        Ok((magnitude, rest)) => match Whole::from_parts(negative, magnitude) {
+            Some(number) => Ok((number, rest)),
+            None => Err(Refusal::TooLarge(start.len())),
+        },
+        Err(rest) => Err(Refusal::Code(ErrorCode::OverflowParsingNumber, Some(rest.len()))),
+    }
+}
+
+// ---- decimal literals
+
+/// An exponent past this is out of range, however many digits a text may have.
+const EXPONENT_LIMIT: u128 = 1 << 100;
+
+/// The exponent of a literal: its sign and its digits.
+#[derive(Clone, Copy)]
+struct Exponent<'t> {
+    negative: bool,
+    digits: &'t str,
+}
+
+/// A decimal literal without its sign: the digits before the point, those behind it, and the exponent.
+#[derive(Clone, Copy)]
+struct Literal<'t> {
+    before: &'t str,
+    behind: Option<&'t str>,
+    exponent: Option<Exponent<'t>>,
+}
+
+/// `e` or `E`.
+fn begins_exponent(c: char) -> bool
+    ensures { result ≡ ((c == 101) || (c == 69)) }
+{
+    c == 'e' || c == 'E'
+}
+
+/// The digits of an exponent, which are all of the text.
+fn read_exponent_digits(negative: bool, text: &str) -> Option<Exponent>
+    ensures read { MatchOption result (model.exponent_digits negative (chars text.now) ≡ None)
+        (λ e. model.exponent_digits negative (chars text.now) ≡ Some (Some (raised_of e))) }
+    ensures digits { IfSome result HasExponentDigits }
+{
+    let (digits, rest) = split_digits(text);
+    if digits.is_empty() {
+        return None;
+    }
+    if !rest.is_empty() {
+        return None;
+    }
+    Some(Exponent { negative, digits })
+}
+
+/// The exponent that is all of the text, if any: none where the text is empty. The text may also be neither.
+fn read_exponent(text: &str) -> Option<Option<Exponent>>
+    ensures read { MatchOption result (model.exponent_at (chars text.now) ≡ None)
+        (λ e. model.exponent_at (chars text.now) ≡ Some (option_map raised_of e)) }
+    ensures digits { IfSome result (λ e. IfSome e HasExponentDigits) }
+{
+    let Some((mark, rest)) = front(text) else {
+        return Some(None);
+    };
+    if !begins_exponent(mark) {
+        return None;
+    }
+    let (sign, digits) = front(rest)?;
+    if sign == '+' {
+        return Some(Some(read_exponent_digits(false, digits)?));
+    }
+    if sign == '-' {
+        return Some(Some(read_exponent_digits(true, digits)?));
+    }
+    Some(Some(read_exponent_digits(false, rest)?))
+}
+
+/// `0`, or digits that begin with another one.
+fn is_integer(digits: &str) -> bool
+    ensures { result ≡ model.is_integer digits.now }
+{
+    let bytes = digits.as_bytes();
+    bytes.len() == 1 || bytes.len() > 1 && bytes[0] != b'0'
+}
+
+/// The literal of these digits and of an exponent that is all of the rest.
+fn read_without_point<'t>(before: &'t str, rest: &'t str) -> Option<Literal<'t>>
+    requires { Each is_digit before.now }
+    ensures read { MatchOption result (model.no_point before.now (chars rest.now) ≡ None)
+        (λ l. model.no_point before.now (chars rest.now) ≡ Some (parts_of l)) }
+    ensures digits { IfSome result HasDigits }
+{
+    if !is_integer(before) {
+        return None;
+    }
+    let exponent = read_exponent(rest)?;
+    Some(Literal {
+        before,
+        behind: None,
+        exponent,
+    })
+}
+
+/// An integer before the point, or digits behind it alone.
+fn has_digits(before: &str, behind: &str) -> bool
+    ensures { result ≡ (model.is_integer before.now || (numbers.is_empty before.now && not (numbers.is_empty behind.now))) }
+{
+    is_integer(before) || before.is_empty() && !behind.is_empty()
+}
+
+/// The literal that is all of the run.
+fn read_literal(run: &str) -> Option<Literal>
+    ensures read { MatchOption result (model.literal_at (chars run.now) ≡ None)
+        (λ l. model.literal_at (chars run.now) ≡ Some (parts_of l)) }
+    ensures digits { IfSome result HasDigits }
+{
+    let (before, rest) = split_digits(run);
+    let Some((point, tail)) = front(rest) else {
+        return read_without_point(before, rest);
+    };
+    if point != '.' {
+        return read_without_point(before, rest);
+    }
+    let (behind, rest) = split_digits(tail);
+    if !has_digits(before, behind) {
+        return None;
+    }
+    let Some(exponent) = read_exponent(rest) else {
+        return None;
+    };
+    Some(Literal {
+        before,
+        behind: Some(behind),
+        exponent,
+    })
+}
+
+/// One more decimal digit, if the value stays within `u128`.
+fn ten_times(value: u128, digit: u8) -> Option<u128>
+    ensures value { MatchOption result (2 ^ 128 ≤ value * 10 + digit) (λ r. r ≡ value * 10 + digit) }
+    ensures bound { IfSome result (λ r. r < 2 ^ 128) }
+{
+    value.checked_mul(10)?.checked_add(u128::from(digit))
+}
+
+/// The value of the digits, if it is within `u128`.
+fn decimal_value(digits: &str) -> Option<u128>
+    requires { Each is_digit digits.now }
+    ensures { result ≡ checked (2 ^ 128) 10 0 digits.now }
+{
+    let mut value: u128 = 0;
+    for byte in digits.as_bytes() {
+        value = ten_times(value, byte - b'0')?;
+    }
+    Some(value)
+}
+
+/// The value of the digits, or `EXPONENT_LIMIT` where that is less.
+fn limited_value(digits: &str) -> u128
+    requires { Each is_digit digits.now }
+    ensures { result ≡ min EXPONENT_LIMIT (numbers.spelled 10 0 digits.now) }
+{
+    let mut value: u128 = 0;
+    for byte in digits.as_bytes() {
+        value = (value * 10 + u128::from(byte - b'0')).min(EXPONENT_LIMIT);
+    }
+    value
+}
+
+/// The digits behind the point, if any.
+fn digits_behind<'t>(literal: &Literal<'t>) -> &'t str
+    requires { HasDigits literal.now }
+    ensures value { result.now ≡ numbers.digits_behind (parts_of literal.now).behind }
+    ensures digits { Each is_digit result.now }
+{
+    match literal.behind {
+        Some(digits) => digits,
+        None => "",
+    }
+}
+
+/// The exponent as it is written, or `EXPONENT_LIMIT` where that is less, behind its sign; 0 where there is none.
+fn written_exponent(literal: &Literal) -> i128
+    requires { HasDigits literal.now }
+    ensures value { result ≡ limited_exponent EXPONENT_LIMIT literal.now.exponent }
+    ensures low { neg_ℤ (pos EXPONENT_LIMIT) ≤ℤ result }
+    ensures high { result ≤ℤ pos EXPONENT_LIMIT }
+{
+    let Some(exponent) = literal.exponent else {
+        return 0;
+    };
+    let value = limited_value(exponent.digits) as i128;
+    if exponent.negative { -value } else { value }
+}
+
+/// The written exponent, lowered by the count of digits behind the point.
+fn lowered_exponent(literal: &Literal, places: usize) -> i128
+    requires { HasDigits literal.now }
+    ensures value { result ≡ limited_exponent EXPONENT_LIMIT literal.now.exponent -ℤ pos places }
+    ensures low { neg_ℤ (pos (2 ^ 120)) ≤ℤ result }
+    ensures high { result ≤ℤ pos (2 ^ 120) }
+{
+    written_exponent(literal) - places as i128
+}
+
+/// The whole number that a literal without point and exponent means, if it is in range.
+fn whole_number(negative: bool, literal: &Literal) -> Option<Whole>
+    requires { HasDigits literal.now }
+    ensures whole { IsSome result ↔ (is_whole_literal negative literal.now ≡ true) }
+    ensures value { IfSome result (λ z. z ≡ numbers.signed negative (numbers.spelled 10 0 literal.now.before.now)) }
+{
+    if literal.behind.is_some() {
+        return None;
+    }
+    if literal.exponent.is_some() {
+        return None;
+    }
+    let Some(magnitude) = decimal_value(literal.before) else {
+        return None;
+    };
+    Whole::from_parts(negative, magnitude)
+}
+
+/// The number that a literal means; `start` is the text from the number's start.
+fn judge(alloc: Global, start: &str, negative: bool, literal: &Literal) -> Result<Number, Refusal>
+    requires { HasDigits literal.now }
+    ensures read { IfOk result (λ n. (rest : List ℕ) → model.if_literal (chars start.now) negative rest (Some (parts_of literal.now)) ≡ got (number_of n) rest) }
+    ensures refused { IfErr result (λ e. (rest : List ℕ) → Refuses e (outcome (model.if_literal (chars start.now) negative rest (Some (parts_of literal.now))))) }
+{
+    if let Some(whole) = whole_number(negative, literal) {
+        return Ok(Number::Whole(whole));
+    }
+    let behind = digits_behind(literal);
+    let exponent = lowered_exponent(literal, behind.len());
+    let Ok(found) = Decimal::normal(alloc, negative, literal.before, behind, exponent) else {
+        return Err(Refusal::OutOfMemory);
+    };
+    let Some(decimal) = found else {
+        return Err(Refusal::Code(ErrorCode::OverflowParsingNumber, Some(start.len())));
+    };
+    Ok(Number::Decimal(decimal))
+}
+
+/// The decimal run in front, which begins a number, and what follows it.
+fn decimal_run<'t>(
+    alloc: Global,
+    start: &str,
+    negative: bool,
+    text: &'t str,
+) -> Result<(Number, &'t str), Refusal>
+    ensures read { IfOk result (λ p. model.decimal_run (chars start.now) negative (chars text.now) ≡ got (number_of p.0) (chars p.1.now)) }
+    ensures refused { IfErr result (λ e. Refuses e (outcome (model.decimal_run (chars start.now) negative (chars text.now)))) }
+    ensures text { IfOk result (λ p. IsUtf8 p.1.now) }
+{
+    let (run, rest) = split_run(text);
+    let Some(literal) = read_literal(run) else {
+        return Err(Refusal::InvalidNumber(start.len()));
+    };
+    let number = judge(alloc, start, negative, &literal)?;
+    Ok((number, rest))
+}
+
+// ---- numbers
+
+/// `x` or `X`.
+fn begins_hexadecimal(c: char) -> bool
+    ensures { result ≡ numbers.hex_start c }
+{
+    c == 'x' || c == 'X'
+}
+
+/// What goes on with a decimal literal behind a first `0`.
+fn continues_zero(c: char) -> bool
+    ensures { result ≡ ((c == 46) || ((c == 101) || (c == 69))) }
+{
+    c == '.' || c == 'e' || c == 'E'
+}
+
+fn is_decimal_digit(c: char) -> bool
+    ensures { result ≡ is_digit c }
+{
+    c.is_ascii_digit()
+}
+
+/// What begins with `0`; `rest` is what follows it.
+fn after_zero<'t>(
+    alloc: Global,
+    start: &str,
+    negative: bool,
+    text: &'t str,
+    rest: &'t str,
+) -> Result<(Number, &'t str), Refusal>
+    requires zero { chars text.now ≡ 48 ∷ chars rest.now }
+    requires text { IsUtf8 rest.now }
+    ensures read { IfOk result (λ p. model.at_zero (chars start.now) negative (chars rest.now) ≡ got (number_of p.0) (chars p.1.now)) }
+    ensures refused { IfErr result (λ e. Refuses e (outcome (model.at_zero (chars start.now) negative (chars rest.now)))) }
+    ensures text { IfOk result (λ p. IsUtf8 p.1.now) }
+{
+    let Some((c, behind)) = front(rest) else {
+        return Ok((Number::Whole(Whole::from_u128(0)), rest));
+    };
+    if is_decimal_digit(c) {
+        return Err(Refusal::Code(ErrorCode::LeadingZero, Some(start.len())));
+    }
+    if begins_hexadecimal(c) {
+        return match hexadecimal(start, negative, behind) {
+            Ok((number, rest)) => Ok((Number::Whole(number), rest)),
+            Err(refusal) => Err(refusal),
+        };
+    }
+    if continues_zero(c) {
+        return decimal_run(alloc, start, negative, text);
+    }
+    Ok((Number::Whole(Whole::from_u128(0)), rest))
+}
+
+/// The number that is a word, and what follows the word's other letters.
+fn word<'t>(number: Decimal, letters: &str, text: &'t str) -> Result<(Number, &'t str), Refusal>
+    ensures read { IfOk result (λ p. model.word (numbers.decimal number) (chars letters.now) (chars text.now) ≡ got (number_of p.0) (chars p.1.now)) }
+    ensures refused { IfErr result (λ e. Refuses e (outcome (model.word (numbers.decimal number) (chars letters.now) (chars text.now)))) }
+    ensures text { IfOk result (λ p. IsUtf8 p.1.now) }
+{
+    match skip_word(
+        letters,
+        text,
+        ErrorCode::EofParsingNumber,
+        ErrorCode::ExpectedNumber,
+    ) {
+        Ok(rest) => Ok((Number::Decimal(number), rest)),
+        Err(refusal) => Err(refusal),
+    }
+}
+
+/// `.` or a digit.
+fn begins_run(c: char) -> bool
+    ensures { result ≡ stops.begins_run c }
+{
+    c.is_ascii_digit() || c == '.'
+}
+
+/// A number without its sign; `start` is the text from the sign on, if there is one.
+fn unsigned<'t>(
+    alloc: Global,
+    start: &str,
+    negative: bool,
+    text: &'t str,
+) -> Result<(Number, &'t str), Refusal>
+    ensures read { IfOk result (λ p. model.unsigned (chars start.now) negative (chars text.now) ≡ got (number_of p.0) (chars p.1.now)) }
+    ensures refused { IfErr result (λ e. Refuses e (outcome (model.unsigned (chars start.now) negative (chars text.now)))) }
+    ensures text { IfOk result (λ p. IsUtf8 p.1.now) }
+{
+    let Some((first, rest)) = front(text) else {
+        return Err(Refusal::Code(ErrorCode::EofParsingNumber, None));
+    };
+    if first == 'I' {
+        return word(Decimal::infinity(negative), "nfinity", rest);
+    }
+    if first == 'N' {
+        return word(Decimal::nan(negative), "aN", rest);
+    }
+    if first == '0' {
+        return after_zero(alloc, start, negative, text, rest);
+    }
+    if begins_run(first) {
+        return decimal_run(alloc, start, negative, text);
+    }
+    Err(Refusal::Code(ErrorCode::ExpectedNumber, Some(text.len())))
+}
+
+/// The number in front, and what follows it. Whole numbers, infinity and not-a-number take no memory.
+pub(crate) fn number(alloc: Global, text: &str) -> Result<(Number, &str), Refusal>
+    ensures read { IfOk result (λ p. model.number (chars text.now) ≡ got (number_of p.0) (chars p.1.now)) }
+    ensures refused { IfErr result (λ e. Refuses e (outcome (model.number (chars text.now)))) }
+    ensures text { IfOk result (λ p. IsUtf8 p.1.now) }
+{
+    let Some((sign, rest)) = front(text) else {
+        return Err(Refusal::Code(ErrorCode::EofParsingNumber, None));
+    };
+    if sign == '+' {
+        return unsigned(alloc, text, false, rest);
+    }
+    if sign == '-' {
+        return unsigned(alloc, text, true, rest);
+    }
+    unsigned(alloc, text, false, text)
+}

@@ -1,0 +1,174 @@
+//! Strings (JSON5 section 5, ECMAScript 5.1 section 7.8.4).
+
+ghost use Rattle.std.specs.Prelude.{◌≡◌, List, ℕ, Bool, true, false, ◌∷◌, ◌++◌, MatchResult, IfOk, IfErr, OnOk, length, string_bytes};
+ghost use Rattle.std.specs.Str.{IsUtf8, chars, encode_utf8_all};
+ghost use Rattle.json5_grammar.specs.Characters.{NotBegun, Each};
+ghost use Rattle.json5_grammar.specs.Reading.{got};
+ghost use Rattle.json5_grammar.specs.Strings.{is_raw, is_quote};
+ghost use Rattle.json5_grammar.specs.ReadTexts.{string};
+ghost use Rattle.json5_text.specs.declared.refusal.Refusal.{Refusal};
+ghost use Rattle.json5_text.specs.Outcome.{outcome};
+ghost use Rattle.json5_text.specs.Refused.{Refuses};
+ghost use Rattle.json5_text.specs.Scan.{HasCode, in_list};
+ghost use Rattle.json5_text.specs.ScanStrings.{string_at, IsText, StopsAt, GoesOn, IsFurther, StopsText};
+
+use crate::cow_str::CowStr;
+use crate::escapes::read_escape;
+use crate::front::front;
+use crate::refusal::Refusal;
+use json5_grammar::code::ErrorCode;
+use std::alloc::{AllocError, Global};
+
+/// Where a run of characters that stand for themselves ends.
+#[derive(Drop)]
+enum Stop<'t> {
+    /// At the closing quote, which this follows.
+    Quote(&'t str),
+    /// At the backslash of an escape: the text from the backslash on, and the text behind it.
+    Escape(&'t str, &'t str),
+}
+
+/// The text of the string in front, and what follows the string. It is borrowed where the string holds no backslash.
+pub(crate) fn read_string<'t>(
+    alloc: Global,
+    text: &'t str,
+) -> Result<(CowStr<'t>, &'t str), Refusal>
+    ensures read { MatchResult result (λ p. (u : List ℕ) × (plain : Bool) × (string_at (chars text.now) ≡ got (u, plain) (chars p.1.now)) × IsText p.0 u plain)
+        (λ e. Refuses e (outcome (string_at (chars text.now)))) }
+    ensures text { IfOk result (λ p. IsUtf8 p.1.now) }
+    ensures memory { IfErr result (λ e. e ≡ Refusal.OutOfMemory → (u r : List ℕ) → string_at (chars text.now) ≡ got (u, true) r → ⊥) }
+{
+    let Some((quote, body)) = front(text) else {
+        return Err(Refusal::Code(ErrorCode::EofParsingString, None));
+    };
+    if !is_quote(quote) {
+        return Err(Refusal::Code(ErrorCode::ExpectedString, Some(text.len())));
+    }
+    let (raw, stop) = read_run(quote, body)?;
+    match stop {
+        Stop::Quote(rest) => Ok((CowStr::Borrowed(raw), rest)),
+        Stop::Escape(escape, behind) => {
+            let (text, rest) = read_escaped(alloc, quote, raw, escape, behind)?;
+            Ok((CowStr::Owned(text), rest))
+        }
+    }
+}
+
+/// The text of the string in front in a `String` of its own, and what follows the string.
+pub(crate) fn read_owned(alloc: Global, text: &str) -> Result<(String, &str), Refusal>
+    ensures read { MatchResult result (λ p. (u : List ℕ) × (plain : Bool) × (string_at (chars text.now) ≡ got (u, plain) (chars p.1.now)) × (string_bytes p.0 ≡ encode_utf8_all u))
+        (λ e. Refuses e (outcome (string_at (chars text.now)))) }
+    ensures text { IfOk result (λ p. IsUtf8 p.1.now) }
+{
+    let (text, rest) = read_string(alloc, text)?;
+    match text {
+        CowStr::Borrowed(text) => Ok((String::from_str(alloc, text)?, rest)),
+        CowStr::Owned(text) => Ok((text, rest)),
+    }
+}
+
+fn is_quote(c: char) -> bool
+    ensures { result ≡ is_quote c }
+{
+    matches!(c, '"' | '\'')
+}
+
+/// The rest of a string from its first escape on, whose text begins with `raw`: the text, and what follows the string.
+fn read_escaped<'t>(
+    alloc: Global,
+    quote: char,
+    raw: &str,
+    escape: &'t str,
+    behind: &'t str,
+) -> Result<(String, &'t str), Refusal>
+    requires quote { is_quote quote ≡ true }
+    requires escape { chars escape.now ≡ 92 ∷ chars behind.now }
+    ensures read { MatchResult result (λ p. (u : List ℕ) × (string (quote ∷ chars escape.now) ≡ got (u, false) (chars p.1.now)) × (string_bytes p.0 ≡ raw.now ++ encode_utf8_all u))
+        (λ e. Refuses e (outcome (string (quote ∷ chars escape.now)))) }
+    ensures text { IfOk result (λ p. IsUtf8 p.1.now) }
+{
+    let mut text = String::from_str(alloc, raw)?;
+    let mut escape = escape;
+    let mut behind = behind;
+    loop {
+        match put_escape(&mut text, quote, escape, behind)? {
+            Stop::Quote(rest) => return Ok((text, rest)),
+            Stop::Escape(next, behind_next) => {
+                escape = next;
+                behind = behind_next;
+            }
+        }
+    }
+}
+
+/// Puts what an escape spells and the run behind it to the text, and says where that run ends.
+fn put_escape<'t>(
+    text: &mut String,
+    quote: char,
+    escape: &str,
+    behind: &'t str,
+) -> Result<Stop<'t>, Refusal>
+    requires quote { is_quote quote ≡ true }
+    requires escape { chars escape.now ≡ 92 ∷ chars behind.now }
+    ensures read { MatchResult result (λ stop. (u : List ℕ) × GoesOn quote (chars escape.now) u stop × (string_bytes text.new ≡ string_bytes text.old ++ encode_utf8_all u))
+        (λ e. Refuses e (outcome (string (quote ∷ chars escape.now)))) }
+    ensures further { IfOk result (IsFurther (chars escape.now)) }
+{
+    let (spelled, run) = read_escape(escape, behind)?;
+    push_spelled(text, spelled)?;
+    let (raw, stop) = read_run(quote, run)?;
+    text.push_str(raw)?;
+    Ok(stop)
+}
+
+fn push_spelled(text: &mut String, spelled: Option<char>) -> Result<(), AllocError>
+    ensures { OnOk result (string_bytes text.new ≡ string_bytes text.old ++ encode_utf8_all (in_list spelled)) }
+{
+    match spelled {
+        Some(c) => text.push(c),
+        None => Ok(()),
+    }
+}
+
+/// The characters in front that stand for themselves between these quotes, and where they end.
+fn read_run(quote: char, text: &str) -> Result<(&str, Stop<'_>), Refusal>
+    ensures read { MatchResult result (λ p. (rest : List ℕ) × (chars text.now ≡ chars p.0.now ++ rest) × Each (is_raw quote) (chars p.0.now) × StopsAt quote rest p.1)
+        (λ e. Refuses e (outcome (string (quote ∷ chars text.now)))) }
+    ensures text { IfOk result (λ p. IsUtf8 p.0.now × StopsText p.1) }
+    ensures known { IfErr result HasCode }
+{
+    let rest = skip_raw(quote, text);
+    let Some((c, next)) = front(rest) else {
+        return Err(Refusal::Code(ErrorCode::EofParsingString, None));
+    };
+    let raw = &text[..text.len() - rest.len()];
+    if c == quote {
+        Ok((raw, Stop::Quote(next)))
+    } else if c == '\\' {
+        Ok((raw, Stop::Escape(rest, next)))
+    } else {
+        Err(Refusal::Code(ErrorCode::LineTerminatorInString, Some(rest.len())))
+    }
+}
+
+/// What follows the characters in front that stand for themselves between these quotes.
+fn skip_raw(quote: char, text: &str) -> &str
+    ensures read { (raw : List ℕ) × (chars text.now ≡ raw ++ chars result.now) × Each (is_raw quote) raw }
+    ensures stops { NotBegun (is_raw quote) (chars result.now) }
+    ensures text { IsUtf8 result.now }
+{
+    let mut rest = text;
+    while let Some((c, next)) = front(rest) {
+        if !is_raw(quote, c) {
+            break;
+        }
+        rest = next;
+    }
+    rest
+}
+
+fn is_raw(quote: char, c: char) -> bool
+    ensures { result ≡ is_raw quote c }
+{
+    c != quote && !matches!(c, '\\' | '\n' | '\r')
+}
