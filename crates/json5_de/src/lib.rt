@@ -5,12 +5,16 @@ mod any;
 mod de;
 mod decimals;
 mod integers;
+mod lists;
 mod mismatch;
+mod option;
 mod scalars;
+pub mod seq;
 #[cfg(test)]
 mod tests;
 mod text;
 mod texts;
+mod tuples;
 mod types;
 
 pub use de::{Deserialize, Deserializer};
