@@ -9,7 +9,7 @@ mod lists;
 mod mismatch;
 mod option;
 mod scalars;
-pub mod seq;
+mod seq;
 #[cfg(test)]
 mod tests;
 mod text;
@@ -18,4 +18,5 @@ mod tuples;
 mod types;
 
 pub use de::{Deserialize, Deserializer};
+pub use seq::SeqAccess;
 pub use text::from_str;

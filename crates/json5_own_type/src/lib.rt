@@ -3,8 +3,8 @@
 
 ghost use Rattle.std.specs.Prelude.{◌≡◌, true};
 
-use json5_de::de::{Deserialize, Deserializer};
-use json5_de::seq::SeqAccess;
+use json5_de::{Deserialize, Deserializer};
+use json5_de::SeqAccess;
 use json5_text::error::{Error, Result};
 use json5_text::input::Input;
 use std::alloc::Global;
