@@ -2,6 +2,11 @@ pub mod Awaited
 pub mod Words
 pub mod Awaits
 pub mod Taken
+pub mod Places
+pub mod Arrays
+pub mod ListSteps
+pub mod Options
+pub mod Members
 pub mod Offsets
 pub mod AwaitsNumbers
 pub mod Mismatches

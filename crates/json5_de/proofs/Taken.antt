@@ -47,7 +47,7 @@ took_leaf old mid new s t flat p k v stops = record {
 pub input_of : {s t : State} → s ≡ t → s.input ≡ t.input
 input_of e = ap (λ (s : State). s.input) e
 
-placed_behind : (old mid : State) (e : Error) (w : List ℕ) (place : Option (List ℕ)) → old.unread ≡ w ++ mid.unread → mid.input ≡ old.input → IsPlaced (cursor_of mid) place e → IsPlaced (cursor_of old) (behind_text w place) e
+pub placed_behind : (old mid : State) (e : Error) (w : List ℕ) (place : Option (List ℕ)) → old.unread ≡ w ++ mid.unread → mid.input ≡ old.input → IsPlaced (cursor_of mid) place e → IsPlaced (cursor_of old) (behind_text w place) e
 placed_behind old mid e w None split same k = k
 placed_behind old mid e w (Some p) split same k = λ before whole.
     let there : mid.input ≡ (before ++ w) ++ mid.unread = same ∙ whole ∙ ap (λ y. before ++ y) split ∙ sym (append_assoc before w mid.unread) in

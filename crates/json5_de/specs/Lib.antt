@@ -4,4 +4,7 @@ pub mod Faults
 pub mod Scalars
 pub mod Convert
 pub mod Steps
+pub mod Access
+pub mod Seq
+pub mod ConvertLists
 pub mod Integers

@@ -1,6 +1,8 @@
 //! The reader, and the law of a type that is read.
 
 ghost use Rattle.std.specs.Prelude.{◌≡◌, ◌≤◌, Bool, string_bytes, ◌⊎◌, ◌++◌, ℕ, List, [], length, Some, None, IfOk, IfErr, OnOk, OnErr, IsOk, IsErrAnd, true, false, slice_get};
+ghost use Rattle.std.specs.Prelude.{◌<◌, ◌+◌, ◌-◌, ◌==◌, ◌∷◌};
+ghost use Rattle.json5_grammar.specs.Positions.{position_behind};
 ghost use Rattle.std.specs.Str.{chars};
 ghost use Rattle.json5_text.specs.Errors.{Kind, code, kind_of, place_of};
 ghost use Rattle.json5_text.specs.Cursor.{Refused, IsPlaced, IsOutOfMemory};
@@ -20,12 +22,12 @@ ghost use Rattle.json5_text.specs.NumberViews.{number_of};
 ghost use Rattle.json5_de.specs.Steps.{PassedGap, TookText, IsOffset, IsMismatch};
 
 use crate::mismatch::Mismatch;
-use json5_text::ErrorCode;
 use json5_text::cow_str::CowStr;
 use json5_text::error::{Error, Result};
 use json5_text::input::{Borrows, Input};
 use json5_text::number::Number;
 use json5_text::scanner::Scanner;
+use json5_text::{ErrorCode, Position};
 use std::alloc::Global;
 use std::marker::Model;
 
@@ -225,5 +227,56 @@ impl<'de, I: Borrows<'de>> Deserializer<I> {
             Ok(text) => Ok(text),
             Err(e) => self.refuse(e),
         }
+    }
+}
+
+impl<I: Input> Deserializer<I> {
+    /// Takes the reader back from what it was lent to, or lends it, while which it stands as failed.
+    pub(crate) fn set_failed(&mut self, failed: bool)
+        ensures { self.new ≡ record self.old { failed = failed } }
+    {
+        self.failed = failed;
+    }
+
+    /// Counts one more open bracket, where there is room, and says whether there was.
+    pub(crate) fn enter(&mut self) -> bool
+        ensures entered { result ≡ true → (self.old.level < max_depth) × (self.new ≡ record self.old { level = self.old.level + 1 }) }
+        ensures kept { result ≡ false → (self.old.level ≡ max_depth) × (self.new ≡ self.old) }
+    {
+        if self.level < 128 {
+            self.level += 1;
+            true
+        } else {
+            false
+        }
+    }
+
+    /// Counts one open bracket less.
+    pub(crate) fn leave(&mut self)
+        ensures { self.new ≡ record self.old { level = self.old.level - 1 } }
+    {
+        self.level = self.level.saturating_sub(1);
+    }
+
+    /// Takes the character where it is next, and says whether it was.
+    pub(crate) fn eat(&mut self, c: char) -> bool
+        ensures taken { result ≡ true → TookText self.old (c ∷ []) self.new }
+        ensures kept { (result ≡ false) → (self.new ≡ self.old) × NotBegun (λ d. d == c) self.old.unread }
+    {
+        self.scanner.eat(c)
+    }
+
+    /// The count of bytes before what is unread.
+    pub(crate) fn here(&self) -> usize
+        ensures { (before : List ℕ) → self.now.input ≡ before ++ self.now.unread → result ≡ length (encode_utf8_all before) }
+    {
+        self.scanner.offset()
+    }
+
+    /// The position of an offset in bytes; the end's, where no character begins there.
+    pub(crate) fn position_at(&self, offset: usize) -> Position
+        ensures { (before rest : List ℕ) → self.now.input ≡ before ++ rest → offset ≡ length (encode_utf8_all before) → result ≡ position_behind before }
+    {
+        self.scanner.position_at(offset)
     }
 }

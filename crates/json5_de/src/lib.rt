@@ -5,13 +5,18 @@ mod any;
 mod de;
 mod decimals;
 mod integers;
+mod lists;
 mod mismatch;
+mod option;
 mod scalars;
+mod seq;
 #[cfg(test)]
 mod tests;
 mod text;
 mod texts;
+mod tuples;
 mod types;
 
 pub use de::{Deserialize, Deserializer};
+pub use seq::SeqAccess;
 pub use text::from_str;

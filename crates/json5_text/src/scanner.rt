@@ -275,3 +275,17 @@ impl<I: Input> Scanner<I> {
         Position::from_offset(offset, self.input.as_text())
     }
 }
+
+impl<I: Input> Scanner<I> {
+    /// The position of an offset in bytes; the end's, where no character begins there.
+    pub fn position_at(&self, offset: usize) -> Position
+        ensures { (before rest : List ℕ) → self.now.input ≡ before ++ rest → offset ≡ length (encode_utf8_all before) → result ≡ position_behind before }
+    {
+        let _end = self.end;
+        let text = self.input.as_text();
+        match text.split_at_checked(offset) {
+            Some((before, _)) => Position::behind(before),
+            None => Position::behind(text),
+        }
+    }
+}

@@ -1,0 +1,238 @@
+-- The steps of reading an array.
+use Rattle.std.proofs.Common.{◌≡◌, ℕ, ◌+◌, ◌-◌, ◌≤◌, ◌<◌, Bool, true, false, not, List, [], ◌∷◌, ◌++◌, refl, ap, sym, ◌∙◌, subst, ◌⊎◌, inl, inr, Option, Some, None, arith}
+use Rattle.std.specs.Prelude.{◌==◌, ◌||◌, slice_get, Result, Ok, Err, IfErr, IsOk}
+use Rattle.std.proofs.lemmas.Bool.{both_ways}
+use Rattle.json5_grammar.specs.declared.code.ErrorCode.{ErrorCode}
+use Rattle.json5_grammar.specs.declared.code.ErrorCode.TheVariants as codes
+use Rattle.json5_grammar.specs.Codes.{behind_text}
+use Rattle.json5_grammar.specs.Characters.{NotBegun}
+use Rattle.json5_grammar.specs.Blanks.{Blanks, Gap, Solid, is_solid}
+use Rattle.json5_grammar.specs.Trees.{Tree, depth}
+use Rattle.json5_grammar.specs.Values.{Reads}
+use Rattle.json5_grammar.specs.Documents.{max_depth}
+use Rattle.json5_grammar.specs.Members.{IsSign, Opens, IsElement, IsClose, IsAtClose, GoesNowhere}
+use Rattle.json5_grammar.proofs.Basics.{same_char}
+use Rattle.json5_grammar.proofs.MembersRead.{comma_solid, bracket_solid, opening_solid, sign_here, sign_found, reads_found}
+use Rattle.json5_grammar.proofs.MembersPassed.{behind_comma, no_comma_end}
+use Rattle.json5_grammar.proofs.MembersNowhere.{reads_here, end_here, no_sign, no_sign_in_blanks, nowhere_blanks, nowhere_other, nowhere_comma}
+use Rattle.json5_text.specs.declared.error.Error.{Error}
+use Rattle.json5_text.specs.Cursor.{Refused}
+use Rattle.json5_text.specs.Tokens.{FaultyBlanks}
+use Rattle.json5_text.specs.Errors.{code, kind_of, place_of}
+use Rattle.json5_grammar.specs.declared.position.Position.{Position}
+use Rattle.json5_grammar.specs.Positions.{position_behind}
+use Rattle.std.proofs.lemmas.List.{append-nil}
+use Rattle.json5_de.specs.State.{State, cursor_of, OnlyRead}
+use Rattle.json5_de.specs.Law.{TookValue}
+use Rattle.json5_de.specs.Steps.{PassedGap, TookText}
+use Rattle.json5_de.specs.Access.{Opened, Closed, TookElement, AtClose, Unawaited, at_end, at_char, NotOpened, no_bracket, array_missing, too_deep, NoBracket, other_sign, bracket_missing, NotClosed, not_here, behind_comma as comma_before}
+use Rattle.json5_de.specs.Seq.{IsBehindGap, Begun, AtElement, GoesOn, NoNext, no_comma, list_ends, in_blanks_behind}
+use Rattle.json5_de.specs.Faults.{Behind, in_blanks, behind_gap, RefusedBy}
+use Rattle.json5_de.proofs.Taken.{refused_token}
+use Rattle.json5_de.proofs.Places.{some_next, refused_as, refused_behind}
+
+pub failed_of : {s t : State} → s ≡ t → s.failed ≡ t.failed
+failed_of e = ap (λ (s : State). s.failed) e
+
+pub level_of : {s t : State} → s ≡ t → s.level ≡ t.level
+level_of e = ap (λ (s : State). s.level) e
+
+pub unread_of : {s t : State} → s ≡ t → s.unread ≡ t.unread
+unread_of e = ap (λ (s : State). s.unread) e
+
+pub behind_gap_of : (old mid : State) → PassedGap old mid → IsBehindGap old.unread mid.unread
+behind_gap_of old mid p = record { gap = p.gap; split = p.split; is_gap = p.is_gap; solid = p.solid }
+
+-- ---- what is refused
+
+pub no_next : (x : List ℕ) (reason : Option ErrorCode) (place : Option (List ℕ)) → NotBegun (λ c. c == 0x2C) x → NotBegun (λ c. c == 0x5D) x → Unawaited codes.EofParsingArray codes.ExpectedComma x reason place → NoNext x reason place
+no_next x reason place m n at_end = list_ends
+no_next x reason place m n (at_char c r) = no_comma c r m n
+
+pub not_opened_here : (level : ℕ) (x : List ℕ) (reason : Option ErrorCode) (place : Option (List ℕ)) → NotBegun (λ c. c == 0x5B) x → Unawaited codes.EofParsingArray codes.ExpectedOpeningBracket x reason place → NotOpened level x reason place
+not_opened_here level x reason place n at_end = array_missing
+not_opened_here level x reason place n (at_char c r) = no_bracket c r n
+
+pub no_bracket_here : (comma : Bool) (x : List ℕ) (reason : Option ErrorCode) (place : Option (List ℕ)) → (comma ≡ true → NotBegun (λ c. c == 0x2C) x) → NotBegun (λ c. c == 0x5D) x
+    → Unawaited codes.EofParsingArray codes.ExpectedClosingBracket x reason place → NoBracket comma x reason place
+no_bracket_here comma x reason place m n at_end = bracket_missing
+no_bracket_here comma x reason place m n (at_char c r) = other_sign c r n m
+
+-- ---- what goes on
+
+-- behind the gap stands a sign
+pub sign_next : (sign : ℕ) (x y z : List ℕ) → IsBehindGap x y → y ≡ sign ∷ z → IsSign sign x z
+sign_next sign x y z g e = sign_here sign x g.gap z (g.split ∙ ap (λ k. g.gap ++ k) e) (subst (Gap g.gap) e g.is_gap)
+
+pub no_sign_next : (sign : ℕ) (x y r : List ℕ) → is_solid sign ≡ true → IsBehindGap x y → NotBegun (λ c. c == sign) y → IsSign sign x r → ⊥
+no_sign_next sign x y r h g n s = no_sign sign x g.gap y r h g.split g.is_gap g.solid n s
+
+-- neither the comma that is due nor the bracket
+pub nowhere_next : (due : Bool) (x y : List ℕ) → due ≡ true → IsBehindGap x y → NotBegun (λ c. c == 0x2C) y → NotBegun (λ c. c == 0x5D) y → GoesNowhere due x
+nowhere_next due x y is g m n = subst (λ b. GoesNowhere b x) (sym is) (nowhere_other x g.gap y g.split g.is_gap g.solid m n)
+
+-- a comment in front is at fault
+pub nowhere_faulty : (due : Bool) (s : State) (e : Error) → Refused FaultyBlanks (cursor_of s) e → GoesNowhere due s.unread
+nowhere_faulty due s e f = let (b, p, shown, fault) = f.fault in nowhere_blanks due s.unread b p f.reason f.place shown fault
+
+-- a comment behind the comma is at fault
+pub nowhere_behind : (due : Bool) (s mid next : State) (e : Error) → due ≡ true → PassedGap s mid → NotBegun (λ c. c == 0x5D) mid.unread → TookText mid (0x2C ∷ []) next → Refused FaultyBlanks (cursor_of next) e → GoesNowhere due s.unread
+nowhere_behind due s mid next e is p n took f =
+    let g = behind_gap_of s mid p in
+    subst (λ b. GoesNowhere b s.unread) (sym is)
+    (nowhere_comma s.unread next.unread (sign_next 0x2C s.unread mid.unread next.unread g took.split) (nowhere_faulty false next e f) (λ r c. no_sign_next 0x5D s.unread mid.unread r bracket_solid g n c))
+
+-- the bracket is next
+pub at_close_here : (due : Bool) (s mid : State) → PassedGap s mid → slice_get mid.unread 0 ≡ Some 0x5D → AtClose due s mid
+at_close_here due s mid p e =
+    let (r, split) = some_next mid.unread 0x5D e in
+    record {
+      live = p.live;
+      close = (r, end_here 0x5D due s.unread p.gap r (p.split ∙ ap (λ k. p.gap ++ k) split) (subst (Gap p.gap) split p.is_gap), split);
+      rest = p.rest;
+    }
+
+pub only_read : (s t u : State) → OnlyRead s t → OnlyRead t u → OnlyRead s u
+only_read s t u a b = b ∙ ap (λ (m : State). record m { unread = u.unread }) a
+
+-- an element may begin
+pub at_element_here : (due : Bool) (s mid : State) → due ≡ false → PassedGap s mid → NotBegun (λ c. c == 0x5D) mid.unread → AtElement due s mid
+at_element_here due s mid is p n = record { live = p.live; begun = subst (λ b. Begun b s.unread mid.unread) (sym is) (behind_gap_of s mid p); inside = n; rest = p.rest }
+
+-- the bracket or an element behind the comma
+pub goes_behind : (due is : Bool) (s mid next last : State) → due ≡ true → PassedGap s mid → TookText mid (0x2C ∷ []) next → PassedGap next last
+    → (is ≡ true → slice_get last.unread 0 ≡ Some 0x5D) → (is ≡ false → NotBegun (λ c. c == 0x5D) last.unread) → GoesOn due s last (not is)
+goes_behind due true s mid next last d p took q found other =
+    let (r, split) = some_next last.unread 0x5D (found refl) in
+    let comma = sign_next 0x2C s.unread mid.unread next.unread (behind_gap_of s mid p) took.split in
+    let bracket = sign_next 0x5D next.unread last.unread r (behind_gap_of next last q) split in
+    record {
+      live = p.live;
+      close = (r, subst (λ b. IsClose b s.unread r) (sym d) (inr (next.unread, comma, bracket)), split);
+      rest = only_read s mid last p.rest (only_read mid next last took.rest q.rest);
+    }
+goes_behind due false s mid next last d p took q found other =
+    let comma = sign_next 0x2C s.unread mid.unread next.unread (behind_gap_of s mid p) took.split in
+    record {
+      live = p.live;
+      begun = subst (λ b. Begun b s.unread last.unread) (sym d) (next.unread, comma, behind_gap_of next last q);
+      inside = other refl;
+      rest = only_read s mid last p.rest (only_read mid next last took.rest q.rest);
+    }
+
+-- ---- an element
+
+-- what is read where it may begin
+pub element_read : (due : Bool) (x y r : List ℕ) (t : Tree) → Begun due x y → Reads y t r → IsElement due x t r
+element_read false x y r t g p = reads_here x g.gap y r t g.split g.is_gap p
+element_read true x y r t (z, comma, g) p = (z, comma, reads_here z g.gap y r t g.split g.is_gap p)
+
+-- and what stands there
+pub element_found : (due : Bool) (x y r : List ℕ) (t : Tree) → Begun due x y → IsElement due x t r → Reads y t r
+element_found false x y r t g p = reads_found x g.gap y r t g.split g.is_gap g.solid p
+element_found true x y r t (z, comma, g) (k, other, p) = reads_found z g.gap y r t g.split g.is_gap g.solid (behind_comma (λ q. Reads q t r) x z k comma other p)
+
+-- the array isn't closed there
+pub no_close_found : (due : Bool) (x y r : List ℕ) → Begun due x y → NotBegun (λ c. c == 0x5D) y → IsClose due x r → ⊥
+no_close_found false x y r g n c = no_sign_next 0x5D x y r bracket_solid g n c
+no_close_found true x y r (z, comma, g) n (inl c) = no_comma_end 0x5D x z r bracket_solid refl comma c
+no_close_found true x y r (z, comma, g) n (inr (k, other, c)) = no_sign_next 0x5D z y r bracket_solid g n (behind_comma (λ q. IsSign 0x5D q r) x z k comma other c)
+
+pub took_element : (due : Bool) (s mid last : State) (t : Tree) → AtElement due s mid → TookValue mid t last → TookElement due s t last
+took_element due s mid last t at took = record {
+  live = at.live;
+  element = element_read due s.unread mid.unread last.unread t at.begun took.reads;
+  shallow = let deep = took.shallow in let level = level_of at.rest in omega (arith, deep, level);
+  rest = only_read s mid last at.rest took.rest;
+}
+
+-- ---- closing
+
+-- the bracket that stands behind the gap is taken
+pub closed_here : (due : Bool) (s mid last : State) → PassedGap s mid → (mid.unread ≡ 0x5D ∷ last.unread) × (last ≡ record mid { unread = last.unread; level = mid.level - 1 }) → Closed due s last
+closed_here due s mid last p (split, rest) = record {
+  live = p.live;
+  close = end_here 0x5D due s.unread p.gap last.unread (p.split ∙ ap (λ k. p.gap ++ k) split) (subst (Gap p.gap) split p.is_gap);
+  rest = rest ∙ ap (λ (m : State). record m { unread = last.unread; level = m.level - 1 }) p.rest;
+}
+
+-- or behind the comma
+pub closed_behind : (due : Bool) (s mid next far last : State) → due ≡ true → PassedGap s mid → TookText mid (0x2C ∷ []) next → PassedGap next far
+    → (far.unread ≡ 0x5D ∷ last.unread) × (last ≡ record far { unread = last.unread; level = far.level - 1 }) → Closed due s last
+closed_behind due s mid next far last d p took q (split, rest) =
+    let comma = sign_next 0x2C s.unread mid.unread next.unread (behind_gap_of s mid p) took.split in
+    let bracket = sign_next 0x5D next.unread far.unread last.unread (behind_gap_of next far q) split in
+    record {
+      live = p.live;
+      close = subst (λ b. IsClose b s.unread last.unread) (sym d) (inr (next.unread, comma, bracket));
+      rest = rest ∙ ap (λ (m : State). record m { unread = last.unread; level = m.level - 1 }) (only_read s mid far p.rest (only_read mid next far took.rest q.rest));
+    }
+
+pub no_bool : {b : Bool} → b ≡ true → b ≡ false → ⊥
+no_bool h k = let e : true ≡ false = sym h ∙ k in absurd (cc)
+
+-- one open bracket too many
+pub too_deep_here : (level : ℕ) (s next : State) (e : Error) (p : Position) → level ≡ max_depth → TookText s (0x5B ∷ []) next → kind_of e ≡ code codes.TooDeep → place_of e ≡ Some p
+    → ((before : List ℕ) → s.input ≡ before ++ s.unread → p ≡ position_behind before) → Refused (NotOpened level) (cursor_of s) e
+too_deep_here level s next e p full took kind place there = record {
+  reason = Some codes.TooDeep;
+  place = Some [];
+  fault = subst (λ x. NotOpened level x (Some codes.TooDeep) (Some [])) (sym took.split) (too_deep next.unread full);
+  says = kind;
+  placed = λ before split. place ∙ ap (λ q. Some q) (there before split) ∙ ap (λ q. Some (position_behind q)) (sym (append-nil before));
+}
+
+-- ---- no closing
+
+pub no_close_next : (due : Bool) (s mid : State) (r : List ℕ) → PassedGap s mid → (due ≡ true → NotBegun (λ c. c == 0x2C) mid.unread) → NotBegun (λ c. c == 0x5D) mid.unread → IsClose due s.unread r → ⊥
+no_close_next false s mid r p m n c = no_sign_next 0x5D s.unread mid.unread r bracket_solid (behind_gap_of s mid p) n c
+no_close_next true s mid r p m n (inl c) = no_sign_next 0x5D s.unread mid.unread r bracket_solid (behind_gap_of s mid p) n c
+no_close_next true s mid r p m n (inr (y, comma, c)) = no_sign_next 0x2C s.unread mid.unread y comma_solid (behind_gap_of s mid p) (m refl) comma
+
+pub comma_first : (x y : List ℕ) → x ≡ 0x2C ∷ y → NotBegun (λ c. c == 0x5D) x
+comma_first x y e = subst (NotBegun (λ c. c == 0x5D)) (sym e) refl
+
+pub no_close_behind : (due : Bool) (s mid next far : State) (r : List ℕ) → due ≡ true → PassedGap s mid → TookText mid (0x2C ∷ []) next → PassedGap next far → NotBegun (λ c. c == 0x5D) far.unread → IsClose due s.unread r → ⊥
+no_close_behind due s mid next far r d p took q n c =
+    no_close_found true s.unread far.unread r (next.unread, sign_next 0x2C s.unread mid.unread next.unread (behind_gap_of s mid p) took.split, behind_gap_of next far q) n (subst (λ b. IsClose b s.unread r) d c)
+
+pub ok_unless : {V E : Type 0} {P : E → Type 0} (result : Result V E) → IfErr result P → ((e : E) → P e → ⊥) → IsOk result
+ok_unless (Ok v) k h = refl
+ok_unless (Err e) k h = absurd (h e k)
+
+-- ---- what is refused in place of a closing bracket
+
+-- where no comma stands, or none may
+pub refused_bracket : (due : Bool) (s mid at : State) (e : Error) → PassedGap s mid → at ≡ mid → (due ≡ true → NotBegun (λ c. c == 0x2C) mid.unread)
+    → Refused (Unawaited codes.EofParsingArray codes.ExpectedClosingBracket) (cursor_of at) e × NotBegun (λ c. c == 0x5D) at.unread → RefusedBy (NotClosed due) s e
+refused_bracket due s mid at e p same m (f, n) =
+    refused_token s mid e p (refused_as at mid e same (λ reason place k. not_here (no_bracket_here due mid.unread reason place m (subst (NotBegun (λ c. c == 0x5D)) (unread_of same) n) k)) f)
+
+-- behind the comma
+pub refused_bracket_behind : (due : Bool) (s mid next far : State) (e : Error) → due ≡ true → PassedGap s mid → TookText mid (0x2C ∷ []) next → PassedGap next far
+    → Refused (Unawaited codes.EofParsingArray codes.ExpectedClosingBracket) (cursor_of far) e × NotBegun (λ c. c == 0x5D) far.unread → RefusedBy (NotClosed due) s e
+refused_bracket_behind due s mid next far e d p took q (f, n) =
+    let there : Refused (Behind (NoBracket false)) (cursor_of next) e =
+    refused_token next far e q (refused_as far far e refl (λ reason place k. no_bracket_here false far.unread reason place (λ is. absurd (no_bool is refl)) n k) f) q.live in
+    refused_token s mid e p (refused_behind mid next e (0x2C ∷ []) took (λ reason place k. comma_before d k) there)
+
+-- a faulty comment behind the comma
+pub refused_blanks_behind : (due : Bool) (s mid next : State) (e : Error) → due ≡ true → PassedGap s mid → TookText mid (0x2C ∷ []) next → (next.failed ≡ false → Refused FaultyBlanks (cursor_of next) e) → RefusedBy (NotClosed due) s e
+refused_blanks_behind due s mid next e d p took f =
+    refused_token s mid e p (refused_behind mid next e (0x2C ∷ []) took (λ reason place k. comma_before d (in_blanks k)) (f (failed_of took.rest ∙ failed_of p.rest ∙ p.live)))
+
+-- ---- no opening
+
+opens_begun : (level : ℕ) (x r : List ℕ) (reason : Option ErrorCode) (place : Option (List ℕ)) → x ≡ 0x5B ∷ r → level < max_depth → NotOpened level x reason place → ⊥
+opens_begun level x r reason place e room (no_bracket c q n) = let same : c ≡ 0x5B = cc in no_bool (ap (λ d. d == 0x5B) same) n
+opens_begun level x r reason place e room array_missing = absurd (cc)
+opens_begun level x r reason place e room (too_deep q full) = omega (arith, room, full)
+
+-- an array that is there is opened, within the limit
+pub no_opening_refusal : (level : ℕ) (x r : List ℕ) (reason : Option ErrorCode) (place : Option (List ℕ)) → Opens x r → level < max_depth → Behind (NotOpened level) x reason place → ⊥
+no_opening_refusal level x r reason place o room (in_blanks (b, p, shown, f)) = no_sign_in_blanks 0x5B x b p r reason place shown opening_solid f o
+no_opening_refusal level x r reason place o room (behind_gap {w = w} {x = y} {place = q} g s f) =
+    opens_begun level y r reason q (sign_found 0x5B (w ++ y) w y r opening_solid refl g s o) room f
+
+pub opening_refused : (s : State) (e : Error) (r : List ℕ) → RefusedBy (NotOpened s.level) s e → s.failed ≡ false → Opens s.unread r → s.level < max_depth → ⊥
+opening_refused s e r f live o room = let k = f live in no_opening_refusal s.level s.unread r k.reason k.place o room k.fault

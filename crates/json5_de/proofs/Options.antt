@@ -1,0 +1,155 @@
+-- The steps of reading an option.
+use Rattle.std.proofs.Common.{◌≡◌, ℕ, ◌+◌, ◌≤◌, Bool, true, false, List, [], ◌∷◌, ◌++◌, refl, ap, sym, ◌∙◌, subst, ◌⊎◌, inl, inr, Option, Some, None, arith}
+use Rattle.std.specs.Prelude.{◌==◌}
+use Rattle.json5_grammar.specs.declared.code.ErrorCode.{ErrorCode}
+use Rattle.json5_grammar.specs.Blanks.{Blanks, Gap, Solid, is_solid, BlankFault}
+use Rattle.json5_grammar.specs.Strings.{Str, quoted}
+use Rattle.json5_grammar.specs.Trees.{Tree, null, boolean, number, text, array, object, depth}
+use Rattle.json5_grammar.specs.Values.{Val, Stops, Reads, is_null, is_true, is_false, is_number, is_text, is_empty_array, is_array, is_empty_object, is_object, null_text}
+use Rattle.json5_grammar.specs.Documents.{max_depth}
+use Rattle.json5_grammar.proofs.BlanksRead.{begins_solid}
+use Rattle.json5_grammar.proofs.BlanksSound.{no_blank_fault, gap_before, gap_last}
+use Rattle.json5_grammar.proofs.Classes.{number_others, quote_others}
+use Rattle.json5_grammar.proofs.ValueHeads.{val_head, number_head}
+use Rattle.json5_grammar.proofs.MembersRead.{phrase_found, reads_found}
+use Rattle.json5_grammar.proofs.MembersNowhere.{reads_here, no_reads_in_blanks}
+use Rattle.json5_text.specs.declared.error.Error.{Error}
+use Rattle.json5_text.specs.Cursor.{Refused}
+use Rattle.json5_text.specs.Tokens.{FaultyBlanks}
+use Rattle.json5_de.specs.State.{State, cursor_of}
+use Rattle.json5_de.specs.Law.{TookValue}
+use Rattle.json5_de.specs.Convert.{unit_of}
+use Rattle.json5_de.specs.ConvertLists.{option_of, if_some}
+use Rattle.json5_de.specs.Faults.{AtEnd, AtOther}
+use Rattle.json5_de.specs.Steps.{PassedGap, TookText}
+use Rattle.json5_de.specs.Access.{Unawaited, at_end, at_char}
+use Rattle.json5_de.proofs.Awaited.{Awaited}
+use Rattle.json5_de.proofs.Arrays.{only_read, level_of, failed_of, no_bool}
+
+pub first_same : (c d : ℕ) (x y : List ℕ) → c ∷ x ≡ d ∷ y → c ≡ d
+first_same c d x y e = cc
+
+pub not_nil : (c : ℕ) (x y : List ℕ) → y ≡ c ∷ x → y ≡ [] → ⊥
+not_nil c x y e k = let none : c ∷ x ≡ [] = sym e ∙ k in absurd (cc)
+
+-- nothing but the end or a character is told apart
+pub awaits_nothing : {ends differs : ErrorCode} (begins : ℕ → Bool) → Awaited {C = Unit {0}} (Unawaited ends differs) (λ t. None) begins ends differs
+awaits_nothing {ends = ends} {differs = differs} begins = record {
+  at_end = λ reason place f. none [] reason place refl f;
+  at_other = λ c r reason place h f. some (c ∷ r) c r reason place refl f;
+  no_fault = λ s r t v reason place e k stops f. absurd (cc);
+  first = λ s t v e k. absurd (cc);
+}
+  where
+    none : (x : List ℕ) (reason : Option ErrorCode) (place : Option (List ℕ)) → x ≡ [] → Unawaited ends differs x reason place → (reason ≡ Some ends) × (place ≡ None)
+    none x reason place e at_end = (refl, refl)
+    none x reason place e (at_char c r) = absurd (cc)
+
+    some : (x : List ℕ) (c : ℕ) (r : List ℕ) (reason : Option ErrorCode) (place : Option (List ℕ)) → x ≡ c ∷ r → Unawaited ends differs x reason place → (reason ≡ Some differs) × (place ≡ Some [])
+    some x c r reason place e at_end = absurd (cc)
+    some x c r reason place e (at_char d q) = (refl, refl)
+
+-- ---- what is next
+
+-- where a value can be read no comment before it is at fault
+pub blanks_no_value : (s : State) (e : Error) (t : Tree) (r : List ℕ) → Refused FaultyBlanks (cursor_of s) e → Reads s.unread t r → ⊥
+blanks_no_value s e t r f p = let (b, part, shown, fault) = f.fault in no_reads_in_blanks s.unread b part r t f.reason f.place shown fault p
+
+-- nor before a character that stands there
+pub blanks_no_other : {begins : ℕ → Bool} (s : State) (e : Error) (w : List ℕ) → Refused FaultyBlanks (cursor_of s) e → AtOther begins s w → ⊥
+blanks_no_other s e w f o =
+    let (b, part, shown, fault) = f.fault in
+    no_blank_fault (Gap.blanks o.blank) (begins_solid o.char o.more o.solid) (subst (λ x. BlankFault x f.reason f.place b part shown) o.split fault)
+
+-- at the end nothing is next
+pub end_next : (s mid : State) (c : ℕ) (m : List ℕ) → AtEnd s → PassedGap s mid → mid.unread ≡ c ∷ m → ⊥
+end_next s mid c m at p e = not_nil c m mid.unread e (gap_last s.unread p.gap mid.unread at.1 p.is_gap p.solid p.split).1
+
+-- the character that stands there is next
+pub other_next : {begins : ℕ → Bool} (s mid : State) (w : List ℕ) → (o : AtOther begins s w) → PassedGap s mid → mid.unread ≡ o.char ∷ o.more
+other_next s mid w o p = (gap_before w p.gap mid.unread o.char o.more o.blank o.solid p.is_gap p.solid (sym o.split ∙ p.split)).1
+
+-- a value that can be read is next
+pub value_next : (s mid : State) (t : Tree) (r : List ℕ) → PassedGap s mid → Reads s.unread t r → Reads mid.unread t r
+value_next s mid t r p k = reads_found s.unread p.gap mid.unread r t p.split p.is_gap p.solid k
+
+pub value_no_end : (s mid : State) (t : Tree) (r : List ℕ) → PassedGap s mid → mid.unread ≡ [] → Reads s.unread t r → ⊥
+value_no_end s mid t r p e k =
+    let head = val_head k.value in
+    not_nil head.char (head.more ++ r) mid.unread (phrase_found s.unread p.gap mid.unread r t p.split p.is_gap p.solid k ∙ ap (λ z. z ++ r) head.is) e
+
+-- ---- null
+
+other_head : (c d : ℕ) (x y : List ℕ) → (d == 110) ≡ false → d ∷ y ≡ 110 ∷ x → ⊥
+other_head c d x y n e = no_bool (ap (λ k. k == 110) (first_same d 110 y x e)) n
+
+-- what begins with `n` is null
+n_is_null : {s : List ℕ} {t : Tree} (x : List ℕ) → s ≡ 110 ∷ x → Val s t → t ≡ null
+n_is_null x e is_null = refl
+n_is_null x e is_true = absurd (other_head 0 116 x _ refl e)
+n_is_null x e is_false = absurd (other_head 0 102 x _ refl e)
+n_is_null x e (is_number n) = let h = number_head n in absurd (other_head 0 h.0 x h.1 (number_others h.0 h.3).0 (sym h.2 ∙ e))
+n_is_null x e (is_text (quoted {q = q} {s = s} h i)) = absurd (other_head 0 q x (s ++ q ∷ []) (quote_others q h).0 e)
+n_is_null x e (is_empty_array {w = w} b) = absurd (other_head 0 91 x _ refl e)
+n_is_null x e (is_array {m = m} ms) = absurd (other_head 0 91 x _ refl e)
+n_is_null x e (is_empty_object {w = w} b) = absurd (other_head 0 123 x _ refl e)
+n_is_null x e (is_object {m = m} ps) = absurd (other_head 0 123 x _ refl e)
+
+null_begins : {s : List ℕ} {t : Tree} → t ≡ null → Val s t → (x : List ℕ) × (s ≡ 110 ∷ x)
+null_begins e is_null = (_, refl)
+null_begins e is_true = absurd (cc)
+null_begins e is_false = absurd (cc)
+null_begins e (is_number n) = absurd (cc)
+null_begins e (is_text k) = absurd (cc)
+null_begins e (is_empty_array b) = absurd (cc)
+null_begins e (is_array m) = absurd (cc)
+null_begins e (is_empty_object b) = absurd (cc)
+null_begins e (is_object m) = absurd (cc)
+
+-- where an `n` is next a value is null
+pub null_next : (s mid : State) (t : Tree) (m r : List ℕ) → PassedGap s mid → mid.unread ≡ 110 ∷ m → Reads s.unread t r → t ≡ null
+null_next s mid t m r p e k =
+    let head = val_head k.value in
+    let whole : 110 ∷ m ≡ head.char ∷ (head.more ++ r) = sym e ∙ phrase_found s.unread p.gap mid.unread r t p.split p.is_gap p.solid k ∙ ap (λ z. z ++ r) head.is in
+    n_is_null head.more (head.is ∙ ap (λ c. c ∷ head.more) (sym (first_same 110 head.char m (head.more ++ r) whole))) k.value
+
+-- where another character is next it isn't
+pub null_not_next : (y : List ℕ) (t : Tree) (c : ℕ) (m r : List ℕ) → y ≡ c ∷ m → Solid y → (c ≡ 110 → ⊥) → Reads y t r → t ≡ null → ⊥
+null_not_next y t c m r e solid n k is =
+    let (x, begins) = null_begins is k.value in
+    let whole : c ∷ m ≡ 110 ∷ (x ++ r) = sym e ∙ phrase_found y [] y r t refl (Gap.blanks Blanks.empty) solid k ∙ ap (λ z. z ++ r) begins in
+    n (first_same c 110 m (x ++ r) whole)
+
+-- ---- what it converts to
+
+pub option_some : {C : Type 0} (f : Tree → Option C) (t : Tree) (c : C) → (t ≡ null → ⊥) → f t ≡ Some c → option_of f t ≡ Some (Some c)
+option_some f null c n e = absurd (n refl)
+option_some f (boolean b) c n e = ap (if_some Some) e
+option_some f (number k) c n e = ap (if_some Some) e
+option_some f (text u plain) c n e = ap (if_some Some) e
+option_some f (array ts) c n e = ap (if_some Some) e
+option_some f (object ps) c n e = ap (if_some Some) e
+
+some_of : {C : Type 0} (o : Option C) (v : Option C) → if_some Some o ≡ Some v → (c : C) × (o ≡ Some c)
+some_of None v e = absurd (cc)
+some_of (Some c) v e = (c, refl)
+
+pub option_parts : {C : Type 0} (f : Tree → Option C) (t : Tree) (v : Option C) → (t ≡ null → ⊥) → option_of f t ≡ Some v → (c : C) × (f t ≡ Some c)
+option_parts f null v n e = absurd (n refl)
+option_parts f (boolean b) v n e = some_of (f (boolean b)) v e
+option_parts f (number k) v n e = some_of (f (number k)) v e
+option_parts f (text u plain) v n e = some_of (f (text u plain)) v e
+option_parts f (array ts) v n e = some_of (f (array ts)) v e
+option_parts f (object ps) v n e = some_of (f (object ps)) v e
+
+pub null_unit : (t : Tree) → t ≡ null → unit_of t ≡ Some tt
+null_unit t e = ap unit_of e
+
+-- a value that was read behind the blanks was read
+pub took_behind : (s mid new : State) (t : Tree) → PassedGap s mid → TookValue mid t new → TookValue s t new
+took_behind s mid new t p took = record {
+  live = p.live;
+  reads = reads_here s.unread p.gap mid.unread new.unread t p.split p.is_gap took.reads;
+  shallow = let level = level_of p.rest in let deep = took.shallow in omega (arith, level, deep);
+  rest = only_read s mid new p.rest took.rest;
+}

@@ -1,0 +1,77 @@
+-- Places of what is refused.
+use Rattle.std.proofs.Common.{◌≡◌, ℕ, ◌+◌, ◌-◌, List, [], ◌∷◌, ◌++◌, length, refl, ap, sym, ◌∙◌, subst, arith, Option, Some, None}
+use Rattle.std.specs.Prelude.{slice_get}
+use Rattle.std.specs.Str.{encode_utf8_all}
+use Rattle.std.proofs.lemmas.List.{length-append, append-nil}
+use Rattle.std.proofs.lemmas.Str.{encodes-append}
+use Rattle.json5_grammar.specs.declared.code.ErrorCode.{ErrorCode}
+use Rattle.json5_grammar.specs.declared.position.Position.{Position}
+use Rattle.json5_grammar.specs.Positions.{position_behind}
+use Rattle.json5_grammar.specs.Codes.{behind_text}
+use Rattle.json5_text.specs.declared.error.Error.{Error}
+use Rattle.json5_text.specs.Errors.{code, kind_of, place_of}
+use Rattle.json5_text.specs.Cursor.{Cursor, offset_of, Refused}
+use Rattle.json5_de.specs.State.{State, cursor_of}
+use Rattle.json5_de.specs.Steps.{TookText}
+use Rattle.json5_de.specs.Access.{Unawaited, at_end, at_char}
+use Rattle.json5_de.proofs.Taken.{placed_behind, input_of}
+
+bytes_apart : (x y : List ℕ) → length (encode_utf8_all (x ++ y)) ≡ length (encode_utf8_all x) + length (encode_utf8_all y)
+bytes_apart x y = ap length (encodes-append x y) ∙ length-append (encode_utf8_all x) (encode_utf8_all y)
+
+-- an offset counts the bytes before what is unread
+pub counted_before : (s : State) (cursor : Cursor) (offset : ℕ) → cursor.input ≡ s.input → cursor.unread ≡ s.unread → offset ≡ offset_of cursor → (before : List ℕ) → s.input ≡ before ++ s.unread → offset ≡ length (encode_utf8_all before)
+counted_before s cursor offset same_input same_unread e before split =
+    let whole : cursor.input ≡ before ++ cursor.unread = same_input ∙ split ∙ ap (λ z. before ++ z) (sym same_unread) in
+    let apart = ap (λ x. length (encode_utf8_all x)) whole ∙ bytes_apart before cursor.unread in
+    omega (arith, e, apart)
+
+pub none_next : (x : List ℕ) → slice_get x 0 ≡ None → x ≡ []
+none_next [] e = refl
+none_next (c ∷ x) e = absurd (cc)
+
+pub some_next : (x : List ℕ) (c : ℕ) → slice_get x 0 ≡ Some c → (r : List ℕ) × (x ≡ c ∷ r)
+some_next [] c e = absurd (cc)
+some_next (d ∷ x) c e = let same : d ≡ c = cc in (x, ap (λ k. k ∷ x) same)
+
+-- the end is refused
+pub refused_end : {ends differs : ErrorCode} (s : State) (e : Error) (next : Option ℕ) → next ≡ slice_get s.unread 0 → next ≡ None → kind_of e ≡ code ends → place_of e ≡ None → Refused (Unawaited ends differs) (cursor_of s) e
+refused_end {ends = ends} {differs = differs} s e next peeked is kind place = record {
+  reason = Some ends;
+  place = None;
+  fault = subst (λ x. Unawaited ends differs x (Some ends) None) (sym (none_next s.unread (sym peeked ∙ is))) at_end;
+  says = kind;
+  placed = place;
+}
+
+-- a character is refused
+pub refused_char : {ends differs : ErrorCode} (s : State) (e : Error) (next : Option ℕ) (c : ℕ) (p : Position) → next ≡ slice_get s.unread 0 → next ≡ Some c → kind_of e ≡ code differs → place_of e ≡ Some p
+    → ((before : List ℕ) → s.input ≡ before ++ s.unread → p ≡ position_behind before) → Refused (Unawaited ends differs) (cursor_of s) e
+refused_char {ends = ends} {differs = differs} s e next c p peeked is kind place there =
+    let (r, x) = some_next s.unread c (sym peeked ∙ is) in
+    record {
+      reason = Some differs;
+      place = Some [];
+      fault = subst (λ x. Unawaited ends differs x (Some differs) (Some [])) (sym x) (at_char c r);
+      says = kind;
+      placed = λ before split. place ∙ ap (λ q. Some q) (there before split) ∙ ap (λ q. Some (position_behind q)) (sym (append-nil before));
+    }
+
+-- another name for the same fault
+pub refused_as : {F G : List ℕ → Option ErrorCode → Option (List ℕ) → Type 0} (s t : State) (e : Error) → s ≡ t
+    → ((reason : Option ErrorCode) (place : Option (List ℕ)) → F t.unread reason place → G t.unread reason place) → Refused F (cursor_of s) e → Refused G (cursor_of t) e
+refused_as {F = F} {G = G} s t e same h f = moved (subst (λ (u : State). Refused F (cursor_of u) e) same f)
+  where
+    moved : Refused F (cursor_of t) e → Refused G (cursor_of t) e
+    moved f = record { reason = f.reason; place = f.place; fault = h f.reason f.place f.fault; says = f.says; placed = f.placed }
+
+-- a fault behind what was taken
+pub refused_behind : {F G : List ℕ → Option ErrorCode → Option (List ℕ) → Type 0} (s next : State) (e : Error) (w : List ℕ) → TookText s w next
+    → ((reason : Option ErrorCode) (place : Option (List ℕ)) → F next.unread reason place → G (w ++ next.unread) reason (behind_text w place)) → Refused F (cursor_of next) e → Refused G (cursor_of s) e
+refused_behind {G = G} s next e w took h f = record {
+  reason = f.reason;
+  place = behind_text w f.place;
+  fault = subst (λ x. G x f.reason (behind_text w f.place)) (sym took.split) (h f.reason f.place f.fault);
+  says = f.says;
+  placed = placed_behind s next e w f.place took.split (input_of took.rest) f.placed;
+}

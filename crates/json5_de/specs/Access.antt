@@ -1,0 +1,96 @@
+-- What contracts see of an access to an array.
+use Rattle.std.specs.Prelude.{◌≡◌, ◌≢◌, ℕ, ◌+◌, ◌-◌, ◌<◌, ◌≤◌, Bool, true, false, List, [], ◌∷◌, ◌++◌, length, Option, Some, None, Result, ◌==◌, ◌||◌}
+use Rattle.std.specs.Str.{encode_utf8_all}
+use Rattle.json5_grammar.specs.declared.code.ErrorCode.{ErrorCode}
+use Rattle.json5_grammar.specs.declared.code.ErrorCode.TheVariants as codes
+use Rattle.json5_grammar.specs.Codes.{behind_text}
+use Rattle.json5_grammar.specs.Positions.{position_behind}
+use Rattle.json5_grammar.specs.Trees.{Tree, depth}
+use Rattle.json5_grammar.specs.Documents.{max_depth}
+use Rattle.json5_grammar.specs.Members.{Opens, IsElement, IsClose, IsAtClose}
+use Rattle.json5_text.specs.declared.error.Error.{Error}
+use Rattle.json5_text.specs.Errors.{place_of}
+use Rattle.json5_de.specs.State.{State, OnlyRead}
+use Rattle.json5_de.specs.Law.{IsOkOrMemory}
+use Rattle.json5_de.specs.Faults.{Behind}
+
+-- what an access sees of the reader that is lent to it, which stands as failed meanwhile
+abbrev pub within : State → Bool → State
+within s failed = record s { failed = failed }
+
+-- ---- an array
+
+-- blanks and an opening bracket were taken, and one more bracket is open
+pub record Opened (old new : State) : Type 0 where
+  pub live : old.failed ≡ false
+  pub room : old.level < max_depth
+  pub bracket : Opens old.unread new.unread
+  pub rest : new ≡ record old { unread = new.unread; level = old.level + 1 }
+
+-- the closing bracket was taken, behind a comma where one may stand, and one bracket less is open
+pub record Closed (due : Bool) (old new : State) : Type 0 where
+  pub live : old.failed ≡ false
+  pub close : IsClose due old.unread new.unread
+  pub rest : new ≡ record old { unread = new.unread; level = old.level - 1 }
+
+-- an element of the tree t was read, behind the comma that was due
+pub record TookElement (due : Bool) (old : State) (t : Tree) (new : State) : Type 0 where
+  pub live : old.failed ≡ false
+  pub element : IsElement due old.unread t new.unread
+  pub shallow : old.level + depth t ≤ max_depth
+  pub rest : OnlyRead old new
+
+-- the closing bracket is next, behind the comma that may stand there
+pub record AtClose (due : Bool) (old new : State) : Type 0 where
+  pub live : old.failed ≡ false
+  pub close : IsAtClose due old.unread new.unread
+  pub rest : OnlyRead old new
+
+-- an element was read and stands for v, or the closing bracket is next
+abbrev pub GivesElement : {V C : Type 0} → (V → C) → (Tree → Option C) → Bool → State → State → Option V → Type 0
+GivesElement content convert due old new (Some v) = (t : Tree) × TookElement due old t new × (convert t ≡ Some (content v))
+GivesElement content convert due old new None = AtClose due old new
+
+-- an element that can be read is read, want of memory aside
+abbrev pub CompletesElement : {V C : Type 0} → (Tree → Option C) → Bool → State → Result V Error → Type 0
+CompletesElement {C = C} convert due old result =
+    (t : Tree) (r : List ℕ) (c : C) → old.failed ≡ false → IsElement due old.unread t r → old.level + depth t ≤ max_depth → convert t ≡ Some c → IsOkOrMemory result
+
+-- ---- places
+
+-- the offset counts the bytes before this text's place in the input
+pub record StartsBehind (input : List ℕ) (offset : ℕ) (before : List ℕ) : Type 0 where
+  pub rest : List ℕ
+  pub split : input ≡ before ++ rest
+  pub counted : offset ≡ length (encode_utf8_all before)
+
+-- the fault's place is where the offset stands
+abbrev pub IsAtOffset : List ℕ → ℕ → Error → Type 0
+IsAtOffset input offset e = (before : List ℕ) → StartsBehind input offset before → place_of e ≡ Some (position_behind before)
+
+abbrev pub HasPlace : Error → Type 0
+HasPlace e = place_of e ≢ None
+
+-- ---- what is refused
+
+-- at the end, without a place, or at any other character that stands there
+pub data Unawaited (ends differs : ErrorCode) : List ℕ → Option ErrorCode → Option (List ℕ) → Type 0 where
+  at_end : Unawaited ends differs [] (Some ends) None
+  at_char : (c : ℕ) (r : List ℕ) → Unawaited ends differs (c ∷ r) (Some differs) (Some [])
+
+-- where an array is awaited, and so many brackets are open: no bracket, or one too many
+pub data NotOpened (level : ℕ) : List ℕ → Option ErrorCode → Option (List ℕ) → Type 0 where
+  no_bracket : (c : ℕ) (r : List ℕ) → (c == 0x5B) ≡ false → NotOpened level (c ∷ r) (Some codes.ExpectedOpeningBracket) (Some [])
+  array_missing : NotOpened level [] (Some codes.EofParsingArray) None
+  too_deep : (r : List ℕ) → level ≡ max_depth → NotOpened level (0x5B ∷ r) (Some codes.TooDeep) (Some [])
+
+-- where the closing bracket is awaited
+pub data NoBracket (comma : Bool) : List ℕ → Option ErrorCode → Option (List ℕ) → Type 0 where
+  other_sign : (c : ℕ) (r : List ℕ) → (c == 0x5D) ≡ false → (comma ≡ true → (c == 0x2C) ≡ false) → NoBracket comma (c ∷ r) (Some codes.ExpectedClosingBracket) (Some [])
+  bracket_missing : NoBracket comma [] (Some codes.EofParsingArray) None
+
+-- where the closing bracket is awaited, and a comma before it where one is due
+pub data NotClosed (due : Bool) : List ℕ → Option ErrorCode → Option (List ℕ) → Type 0 where
+  not_here : {x : List ℕ} {reason : Option ErrorCode} {place : Option (List ℕ)} → NoBracket due x reason place → NotClosed due x reason place
+  behind_comma : {x : List ℕ} {reason : Option ErrorCode} {place : Option (List ℕ)} → due ≡ true → Behind (NoBracket false) x reason place
+      → NotClosed due (0x2C ∷ x) reason (behind_text (0x2C ∷ []) place)

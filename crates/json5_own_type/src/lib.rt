@@ -1,0 +1,58 @@
+//! A type of one's own that is read from JSON5, proved lawful by what json5_de promises alone.
+#![tactic(auto)]
+
+ghost use Rattle.std.specs.Prelude.{◌≡◌, true};
+
+use json5_de::{Deserialize, Deserializer};
+use json5_de::SeqAccess;
+use json5_text::error::{Error, Result};
+use json5_text::input::Input;
+use std::alloc::Global;
+
+/// Two ends, written as a list: `[low, high]`.
+#[derive(Drop)]
+pub struct Bounds<T> {
+    pub low: T,
+    pub high: T,
+}
+
+/// The fault of a list that ended too early, at its bracket.
+fn missing<I: Input>(seq: &SeqAccess<'_, I>, alloc: Global, field: &str) -> Error {
+    match Error::custom(alloc, format_args!("missing field `{field}`")) {
+        Ok(error) => seq.place(error),
+        Err(error) => seq.place(error),
+    }
+}
+
+impl<I: Input, T: Deserialize<I>> Deserialize<I> for Bounds<T> {
+    ghost use Rattle.json5_grammar.specs.Members.{array_of};
+    ghost use Rattle.json5_de.specs.ConvertLists.{first_of, last_of};
+
+    ghost Content = { T.Content × T.Content };
+
+    ghost content = { λ b. (T.content b.low, T.content b.high) };
+
+    ghost convert = { array_of (first_of T.convert (last_of T.convert)) };
+
+    fn deserialize(de: &mut Deserializer<I>) -> Result<Bounds<T>> {
+        let alloc = de.allocator();
+        let mut seq = de.deserialize_tuple_struct("Bounds", 2)?;
+        let Some(low) = seq.next_element::<T>()? else {
+            return Err(missing(&seq, alloc, "low"));
+        };
+        let Some(high) = seq.next_element::<T>()? else {
+            return Err(missing(&seq, alloc, "high"));
+        };
+        seq.end()?;
+        Ok(Bounds { low, high })
+    }
+}
+
+/// Gives the reader up after one element: from then on it answers `Failed`.
+pub fn gives_up<I: Input>(de: &mut Deserializer<I>) -> Result<()>
+    ensures { de.new.failed ≡ true }
+{
+    let mut seq = de.deserialize_seq()?;
+    let _first = seq.next_element::<bool>()?;
+    Ok(())
+}
