@@ -19,22 +19,20 @@ ghost use Rattle.json5_ser.specs.Marks.{unmarked};
 ghost use Rattle.json5_ser.specs.Texts.{IsText, RefusesText};
 ghost use Rattle.json5.specs.Formatted.{IsScalar, IsFormatted, IsRefused};
 
-use std::alloc::Global;
-
 pub use json5_de as de;
-pub use json5_ser as ser;
-pub use json5_text::char;
-
 pub use json5_de::{Deserialize, Deserializer};
 pub use json5_grammar::code::ErrorCode;
 pub use json5_grammar::position::Position;
+pub use json5_ser as ser;
 pub use json5_ser::{Serialize, Serializer};
+pub use json5_text::char;
 pub use json5_text::cow_str::CowStr;
 pub use json5_text::decimal::Decimal;
 pub use json5_text::error::{Error, Result};
 pub use json5_text::input::{Borrows, Input};
 pub use json5_text::value::Value;
 pub use json5_text::whole::Whole;
+use std::alloc::Global;
 
 /// The value that a text holds: the text is one value with blanks and comments round it (JSON5 section 2), nested at most 128 deep.
 ///

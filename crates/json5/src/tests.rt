@@ -8,13 +8,16 @@ use crate::{Deserialize, Result, Serialize, from_str, to_string};
 use std::alloc::{AllocError, Global};
 
 /// What a refused reading prints; `read` where a value was read.
-fn refusal<'de, T: Deserialize<&'de str>>(alloc: Global, text: &'de str) -> std::result::Result<String, AllocError> {
+fn refusal<'de, T: Deserialize<&'de str>>(
+    alloc: Global,
+    text: &'de str,
+) -> std::result::Result<String, AllocError> {
     printed(alloc, from_str::<T>(alloc, text))
 }
 
 /// What a refusal prints; `read` where there is none.
-fn printed<T: Drop>(alloc: Global, result: Result<T>) -> std::result::Result<String, AllocError> {
-    match result {
+fn printed<T: Drop>(alloc: Global, answer: Result<T>) -> std::result::Result<String, AllocError> {
+    match answer {
         Ok(_) => String::from_str(alloc, "read"),
         Err(e) => format!(in alloc; "{e}"),
     }

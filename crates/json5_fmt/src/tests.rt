@@ -98,7 +98,11 @@ fn printed(alloc: Global, bytes: &[u8], fails_at: usize) -> Result<String, Alloc
     if let Err(stop) = run(alloc, &mut input, &mut written) {
         report("stdin", &stop, &mut written);
     }
-    Ok(String::from_utf8(written).ok().unwrap_or(String::new(alloc)))
+    Ok(
+        String::from_utf8(written)
+            .ok()
+            .unwrap_or(String::new(alloc)),
+    )
 }
 
 #[test]
@@ -109,13 +113,19 @@ fn formats_or_reports(rt: HostRuntime) -> Result<(), Fail> {
         ("1e3", "1000.0\n"),
         ("nil", "stdin: expected null at line 1 column 2\n"),
         ("", "stdin: EOF parsing value\n"),
-        ("\n\n  true false", "stdin: trailing characters at line 3 column 8\n"),
+        (
+            "\n\n  true false",
+            "stdin: trailing characters at line 3 column 8\n",
+        ),
         ("[1 2]", "stdin: expected value at line 1 column 1\n"),
     ] {
         let text = printed(rt.alloc(), input.as_bytes(), 0)?;
         assert_eq!(rt; text.as_str(), want, "of {input}");
     }
-    assert_eq!(rt; printed(rt.alloc(), b"\xff", 0)?.as_str(), "stdin: not UTF-8\n");
+    assert_eq!(rt;
+        printed(rt.alloc(), b"\xff", 0)?.as_str(),
+        "stdin: not UTF-8\n"
+    );
     Ok(())
 }
 
@@ -123,7 +133,11 @@ fn formats_or_reports(rt: HostRuntime) -> Result<(), Fail> {
 fn a_failed_read_writes_nothing_else(rt: HostRuntime) -> Result<(), Fail> {
     for fails_at in 1..5 {
         let text = printed(rt.alloc(), b"null", fails_at)?;
-        assert_eq!(rt; text.as_str(), "stdin: cannot be read\n", "at call {fails_at}");
+        assert_eq!(rt;
+            text.as_str(),
+            "stdin: cannot be read\n",
+            "at call {fails_at}"
+        );
     }
     Ok(())
 }

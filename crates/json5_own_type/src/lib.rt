@@ -3,8 +3,7 @@
 
 ghost use Rattle.std.specs.Prelude.{◌≡◌, true};
 
-use json5_de::{Deserialize, Deserializer};
-use json5_de::SeqAccess;
+use json5_de::{Deserialize, Deserializer, SeqAccess};
 use json5_text::error::{Error, Result};
 use json5_text::input::Input;
 use std::alloc::Global;

@@ -59,36 +59,126 @@ const EDGES: &[(&str, &str)] = &[
     ("+18446744073709551617", "18446744073709551617"),
     ("0x10000000000000001", "18446744073709551617"),
     ("-0X10000000000000001", "-18446744073709551617"),
-    ("170141183460469231731687303715884105727", "170141183460469231731687303715884105727"),
-    ("-170141183460469231731687303715884105727", "-170141183460469231731687303715884105727"),
-    ("+170141183460469231731687303715884105727", "170141183460469231731687303715884105727"),
-    ("0x7fffffffffffffffffffffffffffffff", "170141183460469231731687303715884105727"),
-    ("-0X7FFFFFFFFFFFFFFFFFFFFFFFFFFFFFFF", "-170141183460469231731687303715884105727"),
-    ("170141183460469231731687303715884105728", "170141183460469231731687303715884105728"),
-    ("-170141183460469231731687303715884105728", "-170141183460469231731687303715884105728"),
-    ("+170141183460469231731687303715884105728", "170141183460469231731687303715884105728"),
-    ("0x80000000000000000000000000000000", "170141183460469231731687303715884105728"),
-    ("-0X80000000000000000000000000000000", "-170141183460469231731687303715884105728"),
-    ("170141183460469231731687303715884105729", "170141183460469231731687303715884105729"),
-    ("-170141183460469231731687303715884105729", "-170141183460469231731687303715884105729e0"),
-    ("+170141183460469231731687303715884105729", "170141183460469231731687303715884105729"),
-    ("0x80000000000000000000000000000001", "170141183460469231731687303715884105729"),
-    ("-0X80000000000000000000000000000001", "number too large to fit in target type at line 1 column 1"),
-    ("340282366920938463463374607431768211455", "340282366920938463463374607431768211455"),
-    ("-340282366920938463463374607431768211455", "-340282366920938463463374607431768211455e0"),
-    ("+340282366920938463463374607431768211455", "340282366920938463463374607431768211455"),
-    ("0xffffffffffffffffffffffffffffffff", "340282366920938463463374607431768211455"),
-    ("-0XFFFFFFFFFFFFFFFFFFFFFFFFFFFFFFFF", "number too large to fit in target type at line 1 column 1"),
-    ("340282366920938463463374607431768211456", "340282366920938463463374607431768211456e0"),
-    ("-340282366920938463463374607431768211456", "-340282366920938463463374607431768211456e0"),
-    ("+340282366920938463463374607431768211456", "340282366920938463463374607431768211456e0"),
-    ("0x100000000000000000000000000000000", "overflow parsing number at line 1 column 35"),
-    ("-0X100000000000000000000000000000000", "overflow parsing number at line 1 column 36"),
-    ("340282366920938463463374607431768211457", "340282366920938463463374607431768211457e0"),
-    ("-340282366920938463463374607431768211457", "-340282366920938463463374607431768211457e0"),
-    ("+340282366920938463463374607431768211457", "340282366920938463463374607431768211457e0"),
-    ("0x100000000000000000000000000000001", "overflow parsing number at line 1 column 35"),
-    ("-0X100000000000000000000000000000001", "overflow parsing number at line 1 column 36"),
+    (
+        "170141183460469231731687303715884105727",
+        "170141183460469231731687303715884105727",
+    ),
+    (
+        "-170141183460469231731687303715884105727",
+        "-170141183460469231731687303715884105727",
+    ),
+    (
+        "+170141183460469231731687303715884105727",
+        "170141183460469231731687303715884105727",
+    ),
+    (
+        "0x7fffffffffffffffffffffffffffffff",
+        "170141183460469231731687303715884105727",
+    ),
+    (
+        "-0X7FFFFFFFFFFFFFFFFFFFFFFFFFFFFFFF",
+        "-170141183460469231731687303715884105727",
+    ),
+    (
+        "170141183460469231731687303715884105728",
+        "170141183460469231731687303715884105728",
+    ),
+    (
+        "-170141183460469231731687303715884105728",
+        "-170141183460469231731687303715884105728",
+    ),
+    (
+        "+170141183460469231731687303715884105728",
+        "170141183460469231731687303715884105728",
+    ),
+    (
+        "0x80000000000000000000000000000000",
+        "170141183460469231731687303715884105728",
+    ),
+    (
+        "-0X80000000000000000000000000000000",
+        "-170141183460469231731687303715884105728",
+    ),
+    (
+        "170141183460469231731687303715884105729",
+        "170141183460469231731687303715884105729",
+    ),
+    (
+        "-170141183460469231731687303715884105729",
+        "-170141183460469231731687303715884105729e0",
+    ),
+    (
+        "+170141183460469231731687303715884105729",
+        "170141183460469231731687303715884105729",
+    ),
+    (
+        "0x80000000000000000000000000000001",
+        "170141183460469231731687303715884105729",
+    ),
+    (
+        "-0X80000000000000000000000000000001",
+        "number too large to fit in target type at line 1 column 1",
+    ),
+    (
+        "340282366920938463463374607431768211455",
+        "340282366920938463463374607431768211455",
+    ),
+    (
+        "-340282366920938463463374607431768211455",
+        "-340282366920938463463374607431768211455e0",
+    ),
+    (
+        "+340282366920938463463374607431768211455",
+        "340282366920938463463374607431768211455",
+    ),
+    (
+        "0xffffffffffffffffffffffffffffffff",
+        "340282366920938463463374607431768211455",
+    ),
+    (
+        "-0XFFFFFFFFFFFFFFFFFFFFFFFFFFFFFFFF",
+        "number too large to fit in target type at line 1 column 1",
+    ),
+    (
+        "340282366920938463463374607431768211456",
+        "340282366920938463463374607431768211456e0",
+    ),
+    (
+        "-340282366920938463463374607431768211456",
+        "-340282366920938463463374607431768211456e0",
+    ),
+    (
+        "+340282366920938463463374607431768211456",
+        "340282366920938463463374607431768211456e0",
+    ),
+    (
+        "0x100000000000000000000000000000000",
+        "overflow parsing number at line 1 column 35",
+    ),
+    (
+        "-0X100000000000000000000000000000000",
+        "overflow parsing number at line 1 column 36",
+    ),
+    (
+        "340282366920938463463374607431768211457",
+        "340282366920938463463374607431768211457e0",
+    ),
+    (
+        "-340282366920938463463374607431768211457",
+        "-340282366920938463463374607431768211457e0",
+    ),
+    (
+        "+340282366920938463463374607431768211457",
+        "340282366920938463463374607431768211457e0",
+    ),
+    (
+        "0x100000000000000000000000000000001",
+        "overflow parsing number at line 1 column 35",
+    ),
+    (
+        "-0X100000000000000000000000000000001",
+        "overflow parsing number at line 1 column 36",
+    ),
     ("0", "0"),
     ("-0", "0"),
     ("+0", "0"),
@@ -169,10 +259,22 @@ const EDGES: &[(&str, &str)] = &[
     ("NaN", "not a number"),
     ("-NaN", "-not a number"),
     ("+NaN", "not a number"),
-    ("340282366920938463463374607431768211456e0", "340282366920938463463374607431768211456e0"),
-    ("99999999999999999999999999999999999999999", "99999999999999999999999999999999999999999e0"),
-    ("1e99999999999999999999", "overflow parsing number at line 1 column 1"),
-    ("1e-99999999999999999999", "overflow parsing number at line 1 column 1"),
+    (
+        "340282366920938463463374607431768211456e0",
+        "340282366920938463463374607431768211456e0",
+    ),
+    (
+        "99999999999999999999999999999999999999999",
+        "99999999999999999999999999999999999999999e0",
+    ),
+    (
+        "1e99999999999999999999",
+        "overflow parsing number at line 1 column 1",
+    ),
+    (
+        "1e-99999999999999999999",
+        "overflow parsing number at line 1 column 1",
+    ),
     ("0.00000000000000000000000000000000000000001", "1e-41"),
 ];
 
@@ -186,7 +288,12 @@ fn reads_numbers_at_the_edges(rt: HostRuntime) -> std::result::Result<(), Fail> 
 }
 
 /// A text with so many zeros in its middle.
-fn with_zeros(alloc: Global, front: &str, zeros: u32, back: &str) -> std::result::Result<String, AllocError> {
+fn with_zeros(
+    alloc: Global,
+    front: &str,
+    zeros: u32,
+    back: &str,
+) -> std::result::Result<String, AllocError> {
     let mut text = String::from_str(alloc, front)?;
     for _ in 0..zeros {
         text.push('0')?;
@@ -203,12 +310,21 @@ fn judges_the_exponent_without_the_outer_zeros(rt: HostRuntime) -> std::result::
         ("1", 32768, "", "overflow parsing number at line 1 column 1"),
         ("0.", 39999, "1e40000", "1e0"),
         ("0.", 39999, "1e7232", "1e-32768"),
-        ("0.", 39999, "1e7231", "overflow parsing number at line 1 column 1"),
+        (
+            "0.",
+            39999,
+            "1e7231",
+            "overflow parsing number at line 1 column 1",
+        ),
         ("1", 40000, "e-40000", "1e0"),
         ("0.", 40000, "e99999999999999999999", "e0"),
     ] {
         let text = with_zeros(alloc, front, zeros, back)?;
-        assert_eq!(rt; shown(alloc, text.as_str())?.as_str(), want, "of {front}, {zeros} zeros, {back}");
+        assert_eq!(rt;
+            shown(alloc, text.as_str())?.as_str(),
+            want,
+            "of {front}, {zeros} zeros, {back}"
+        );
     }
     Ok(())
 }
@@ -244,7 +360,10 @@ fn formats_decimals(rt: HostRuntime) -> std::result::Result<(), Fail> {
         ("+Infinity", "Infinity"),
         ("-NaN", "-NaN"),
         ("NaN", "NaN"),
-        ("340282366920938463463374607431768211456", "340282366920938463463374607431768211456.0"),
+        (
+            "340282366920938463463374607431768211456",
+            "340282366920938463463374607431768211456.0",
+        ),
         ("Nan", "expected number at line 1 column 3"),
         ("-Nan", "expected number at line 1 column 4"),
         ("Inf", "EOF parsing number"),
@@ -279,10 +398,20 @@ fn reads_decimals(rt: HostRuntime) -> std::result::Result<(), Fail> {
         ("inf", "expected number at line 1 column 1"),
         ("1e32768", "overflow parsing number at line 1 column 1"),
     ] {
-        assert_eq!(rt; refusal::<Decimal>(alloc, text)?.as_str(), want, "of {text}");
+        assert_eq!(rt;
+            refusal::<Decimal>(alloc, text)?.as_str(),
+            want,
+            "of {text}"
+        );
     }
-    assert_eq!(rt; written(alloc, &from_str::<Decimal>(alloc, "-0")?)?.as_str(), "0.0");
-    assert_eq!(rt; written(alloc, &from_str::<Decimal>(alloc, "1200")?)?.as_str(), "1200.0");
+    assert_eq!(rt;
+        written(alloc, &from_str::<Decimal>(alloc, "-0")?)?.as_str(),
+        "0.0"
+    );
+    assert_eq!(rt;
+        written(alloc, &from_str::<Decimal>(alloc, "1200")?)?.as_str(),
+        "1200.0"
+    );
     Ok(())
 }
 
@@ -301,8 +430,17 @@ fn makes_decimals(rt: HostRuntime) -> std::result::Result<(), Fail> {
             None => assert!(rt; false, "none of {digits}"),
         }
     }
-    for (digits, exponent) in [("1", 32768), ("1a", 0), ("10", 32767), ("1", -32769), ("٣", 0)] {
-        assert!(rt; Decimal::finite(alloc, false, digits, exponent)?.is_none(), "some of {digits}");
+    for (digits, exponent) in [
+        ("1", 32768),
+        ("1a", 0),
+        ("10", 32767),
+        ("1", -32769),
+        ("٣", 0),
+    ] {
+        assert!(rt;
+            Decimal::finite(alloc, false, digits, exponent)?.is_none(),
+            "some of {digits}"
+        );
     }
     Ok(())
 }
@@ -314,7 +452,12 @@ fn reads_each_integer(rt: HostRuntime) -> std::result::Result<(), Fail> {
     assert!(rt; matches!(from_str::<u16>(alloc, "123"), Ok(123)));
     assert!(rt; matches!(from_str::<u32>(alloc, "0xdecaf"), Ok(912559)));
     assert!(rt; matches!(from_str::<u64>(alloc, "18446744073709551615"), Ok(u64::MAX)));
-    assert!(rt; matches!(from_str::<u128>(alloc, "0xffffffffffffffffffffffffffffffff"), Ok(u128::MAX)));
+    assert!(rt;
+        matches!(
+            from_str::<u128>(alloc, "0xffffffffffffffffffffffffffffffff"),
+            Ok(u128::MAX)
+        )
+    );
     assert!(rt; matches!(from_str::<i8>(alloc, "-123"), Ok(-123)));
     assert!(rt; matches!(from_str::<i16>(alloc, "-123"), Ok(-123)));
     assert!(rt; matches!(from_str::<i32>(alloc, "-0xC0FFEE"), Ok(-12648430)));
@@ -327,15 +470,33 @@ fn reads_each_integer(rt: HostRuntime) -> std::result::Result<(), Fail> {
 fn refuses_integers_out_of_range(rt: HostRuntime) -> std::result::Result<(), Fail> {
     let alloc = rt.alloc();
     for (text, want) in [
-        ("0x8000000000000000", "invalid value: integer `9223372036854775808`, expected i64 at line 1 column 1"),
-        ("-0x8000000000000001", "invalid type: integer `-9223372036854775809` as i128, expected i64 at line 1 column 1"),
+        (
+            "0x8000000000000000",
+            "invalid value: integer `9223372036854775808`, expected i64 at line 1 column 1",
+        ),
+        (
+            "-0x8000000000000001",
+            "invalid type: integer `-9223372036854775809` as i128, expected i64 at line 1 column 1",
+        ),
     ] {
         assert_eq!(rt; refusal::<i64>(alloc, text)?.as_str(), want, "of {text}");
     }
-    assert_eq!(rt; refusal::<u64>(alloc, "18446744073709551616")?.as_str(), "invalid type: integer `18446744073709551616` as u128, expected u64 at line 1 column 1");
-    assert_eq!(rt; refusal::<u128>(alloc, "340282366920938463463374607431768211456")?.as_str(), "invalid type: decimal, expected u128 at line 1 column 1");
-    assert_eq!(rt; refusal::<u8>(alloc, "256")?.as_str(), "invalid value: integer `256`, expected u8 at line 1 column 1");
-    assert_eq!(rt; refusal::<i8>(alloc, "[")?.as_str(), "expected number at line 1 column 1");
+    assert_eq!(rt;
+        refusal::<u64>(alloc, "18446744073709551616")?.as_str(),
+        "invalid type: integer `18446744073709551616` as u128, expected u64 at line 1 column 1"
+    );
+    assert_eq!(rt;
+        refusal::<u128>(alloc, "340282366920938463463374607431768211456")?.as_str(),
+        "invalid type: decimal, expected u128 at line 1 column 1"
+    );
+    assert_eq!(rt;
+        refusal::<u8>(alloc, "256")?.as_str(),
+        "invalid value: integer `256`, expected u8 at line 1 column 1"
+    );
+    assert_eq!(rt;
+        refusal::<i8>(alloc, "[")?.as_str(),
+        "expected number at line 1 column 1"
+    );
     Ok(())
 }
 

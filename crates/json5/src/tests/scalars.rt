@@ -48,12 +48,21 @@ fn reads_whole_numbers(rt: HostRuntime) -> std::result::Result<(), Fail> {
     let alloc = rt.alloc();
     for (text, want) in [
         ("0xffffffffffffffffffffffffffffffff", "read"),
-        (" -7 ", "invalid value: integer `-7`, expected u128 at line 1 column 2"),
+        (
+            " -7 ",
+            "invalid value: integer `-7`, expected u128 at line 1 column 2",
+        ),
         ("007", "leading zero at line 1 column 1"),
         ("0x", "EOF parsing number"),
         ("0x!", "expected number at line 1 column 3"),
-        ("0x100000000000000000000000000000000", "overflow parsing number at line 1 column 35"),
-        ("1.5", "invalid type: decimal, expected u128 at line 1 column 1"),
+        (
+            "0x100000000000000000000000000000000",
+            "overflow parsing number at line 1 column 35",
+        ),
+        (
+            "1.5",
+            "invalid type: decimal, expected u128 at line 1 column 1",
+        ),
         ("null", "expected number at line 1 column 1"),
         ("", "EOF parsing number"),
     ] {
@@ -61,12 +70,23 @@ fn reads_whole_numbers(rt: HostRuntime) -> std::result::Result<(), Fail> {
     }
     for (text, want) in [
         ("-0x80000000000000000000000000000000", "read"),
-        ("-0x80000000000000000000000000000001", "number too large to fit in target type at line 1 column 1"),
-        ("0x80000000000000000000000000000000", "invalid type: integer `170141183460469231731687303715884105728` as u128, expected i128 at line 1 column 1"),
+        (
+            "-0x80000000000000000000000000000001",
+            "number too large to fit in target type at line 1 column 1",
+        ),
+        (
+            "0x80000000000000000000000000000000",
+            "invalid type: integer `170141183460469231731687303715884105728` as u128, expected i128 at line 1 column 1",
+        ),
     ] {
         assert_eq!(rt; refusal::<i128>(alloc, text)?.as_str(), want, "of {text}");
     }
-    assert!(rt; matches!(from_str::<i128>(alloc, "-0x80000000000000000000000000000000"), Ok(i128::MIN)));
+    assert!(rt;
+        matches!(
+            from_str::<i128>(alloc, "-0x80000000000000000000000000000000"),
+            Ok(i128::MIN)
+        )
+    );
     assert!(rt; matches!(from_str::<u128>(alloc, " /* n */ 0x10 // end"), Ok(16)));
     Ok(())
 }
@@ -99,7 +119,10 @@ fn reads_one_value_after_another(rt: HostRuntime) -> std::result::Result<(), Fai
     assert!(rt; matches!(numbers.deserialize_u8(), Ok(2)));
     assert!(rt; numbers.end().is_ok());
     let mut cut = Deserializer::from_str(alloc, "tru");
-    assert_eq!(rt; printed(alloc, cut.deserialize_bool())?.as_str(), "EOF parsing bool");
+    assert_eq!(rt;
+        printed(alloc, cut.deserialize_bool())?.as_str(),
+        "EOF parsing bool"
+    );
     assert!(rt; matches!(cut.deserialize_bool(), Err(e) if e.code() == Some(ErrorCode::Failed)));
     Ok(())
 }
@@ -110,8 +133,14 @@ fn writes_scalars(rt: HostRuntime) -> std::result::Result<(), Fail> {
     assert_eq!(rt; written(alloc, &())?.as_str(), "null");
     assert_eq!(rt; written(alloc, &true)?.as_str(), "true");
     assert_eq!(rt; written(alloc, &false)?.as_str(), "false");
-    assert_eq!(rt; written(alloc, &i128::MIN)?.as_str(), "-170141183460469231731687303715884105728");
-    assert_eq!(rt; written(alloc, &u128::MAX)?.as_str(), "340282366920938463463374607431768211455");
+    assert_eq!(rt;
+        written(alloc, &i128::MIN)?.as_str(),
+        "-170141183460469231731687303715884105728"
+    );
+    assert_eq!(rt;
+        written(alloc, &u128::MAX)?.as_str(),
+        "340282366920938463463374607431768211455"
+    );
     assert_eq!(rt; written(alloc, &Value::Null)?.as_str(), "null");
     assert_eq!(rt; written(alloc, &&7u8)?.as_str(), "7");
     Ok(())

@@ -32,11 +32,17 @@ fn refuses_strings(rt: HostRuntime) -> std::result::Result<(), Fail> {
     let alloc = rt.alloc();
     for (text, want) in [
         ("\"\\uDE00\"", "invalid escape sequence at line 1 column 8"),
-        ("\"\\uD83D\\uD800\"", "unpaired surrogate found: d83d at line 1 column 2"),
+        (
+            "\"\\uD83D\\uD800\"",
+            "unpaired surrogate found: d83d at line 1 column 2",
+        ),
         ("'\\01'", "invalid escape sequence at line 1 column 2"),
         ("'\\42'", "invalid escape sequence at line 1 column 2"),
         ("'\\ubar'", "invalid escape sequence at line 1 column 2"),
-        ("\"\\uD83D\\x41\"", "invalid escape sequence at line 1 column 9"),
+        (
+            "\"\\uD83D\\x41\"",
+            "invalid escape sequence at line 1 column 9",
+        ),
         ("'\\x4g'", "invalid escape sequence at line 1 column 2"),
         ("'\\uD83C\\u", "EOF parsing escape sequence"),
         ("'...", "EOF parsing string"),
@@ -60,12 +66,23 @@ fn borrows_strings_without_escapes(rt: HostRuntime) -> std::result::Result<(), F
         assert_eq!(rt; from_str::<&str>(alloc, text)?, want, "of {text}");
     }
     for (text, want) in [
-        ("'one \\\r\nline'", "invalid type: string \"one line\", expected a borrowed string at line 1 column 1"),
-        ("'\\\n'", "invalid type: string \"\", expected a borrowed string at line 1 column 1"),
+        (
+            "'one \\\r\nline'",
+            "invalid type: string \"one line\", expected a borrowed string at line 1 column 1",
+        ),
+        (
+            "'\\\n'",
+            "invalid type: string \"\", expected a borrowed string at line 1 column 1",
+        ),
     ] {
         assert_eq!(rt; refusal::<&str>(alloc, text)?.as_str(), want, "of {text}");
     }
-    assert!(rt; matches!(from_str::<CowStr<'_>>(alloc, "'a'"), Ok(CowStr::Borrowed(_))));
+    assert!(rt;
+        matches!(
+            from_str::<CowStr<'_>>(alloc, "'a'"),
+            Ok(CowStr::Borrowed(_))
+        )
+    );
     assert!(rt; matches!(from_str::<CowStr<'_>>(alloc, "'\\a'"), Ok(CowStr::Owned(_))));
     Ok(())
 }
@@ -89,8 +106,14 @@ fn reads_characters(rt: HostRuntime) -> std::result::Result<(), Fail> {
     let alloc = rt.alloc();
     assert_eq!(rt; from_str::<char>(alloc, "'好'")?, '好');
     for (text, want) in [
-        ("''", "invalid value: string \"\", expected a character at line 1 column 1"),
-        ("'ab'", "invalid value: string \"ab\", expected a character at line 1 column 1"),
+        (
+            "''",
+            "invalid value: string \"\", expected a character at line 1 column 1",
+        ),
+        (
+            "'ab'",
+            "invalid value: string \"ab\", expected a character at line 1 column 1",
+        ),
         ("1", "expected string at line 1 column 1"),
     ] {
         assert_eq!(rt; refusal::<char>(alloc, text)?.as_str(), want, "of {text}");
@@ -111,7 +134,10 @@ fn writes_texts(rt: HostRuntime) -> std::result::Result<(), Fail> {
         ("", "\"\""),
     ] {
         assert_eq!(rt; written(alloc, &text)?.as_str(), want);
-        assert_eq!(rt; written(alloc, &String::from_str(alloc, text)?)?.as_str(), want);
+        assert_eq!(rt;
+            written(alloc, &String::from_str(alloc, text)?)?.as_str(),
+            want
+        );
         assert_eq!(rt; written(alloc, &CowStr::Borrowed(text))?.as_str(), want);
         let read = from_str::<String>(alloc, want)?;
         assert_eq!(rt; read.as_str(), text);
@@ -123,6 +149,8 @@ fn writes_texts(rt: HostRuntime) -> std::result::Result<(), Fail> {
 fn formats_texts(rt: HostRuntime) -> std::result::Result<(), Fail> {
     let alloc = rt.alloc();
     assert_eq!(rt; formatted(alloc, "'it\\'s' // \"")?.as_str(), "\"it's\"");
-    assert!(rt; from_str::<Value>(alloc, "'a'") == Ok(Value::String(String::from_str(alloc, "a")?)));
+    assert!(rt;
+        from_str::<Value>(alloc, "'a'") == Ok(Value::String(String::from_str(alloc, "a")?))
+    );
     Ok(())
 }
