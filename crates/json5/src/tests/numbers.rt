@@ -4,12 +4,11 @@ use super::*;
 use crate::{Decimal, Value};
 use std::test::Fail;
 
-/// A number by its parts: a whole one's digits, a decimal's digits and exponent; what the refusal prints where it is refused.
+/// A decimal by its digits and exponent, another value as it is written; what the refusal prints where it is refused.
 fn shown(alloc: Global, text: &str) -> std::result::Result<String, AllocError> {
     match from_str::<Value>(alloc, text) {
-        Ok(Value::Whole(whole)) => format!(in alloc; "{whole}"),
         Ok(Value::Decimal(decimal)) => parts(alloc, &decimal),
-        Ok(_) => String::from_str(alloc, "no number"),
+        Ok(_) => formatted(alloc, text),
         Err(e) => format!(in alloc; "{e}"),
     }
 }
