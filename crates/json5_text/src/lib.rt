@@ -13,8 +13,6 @@ mod front;
 pub mod input;
 mod names;
 pub mod number;
-#[cfg(test)]
-mod number_tests;
 mod numbers;
 mod refusal;
 mod runs;
