@@ -15,7 +15,8 @@ use Rattle.json5_grammar.specs.ReadNumbers.{word, hex_digits, hex_judged, hexade
 use Rattle.json5_grammar.specs.ReadValues.{word_at}
 use Rattle.json5_text.specs.declared.refusal.Refusal.{Refusal}
 use Rattle.json5_text.specs.declared.refusal.Refusal.TheVariants as refusal
-use Rattle.json5_text.specs.Refused.{Refuses}
+use Rattle.json5_text.specs.Refused.{Refuses, WantsForDigits}
+use Rattle.json5_text.specs.Scan.{HasCode}
 use lib.Chars.{codes}
 use Rattle.json5_text.specs.Outcome.{Outcome, bytes_in, outcome, gave, failed}
 
@@ -136,3 +137,11 @@ infinity_rest = refl
 pub nan_rest : chars (codes "aN") ≡ codes "aN"
 unfolding chars
 nan_rest = refl
+
+-- a code is no want of memory
+pub known_wants : (r : Refusal) (m : Read Number) → HasCode r → WantsForDigits r m
+known_wants (refusal.Code c left) m h = tt
+known_wants (refusal.InvalidNumber left) m h = absurd h
+known_wants (refusal.TooLarge left) m h = absurd h
+known_wants (refusal.UnpairedSurrogate u left) m h = absurd h
+known_wants refusal.OutOfMemory m h = absurd h

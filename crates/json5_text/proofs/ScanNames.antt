@@ -22,6 +22,7 @@ use Rattle.json5_text.specs.Outcome.{outcome}
 use Rattle.json5_text.specs.Refused.{Refuses}
 use Rattle.json5_text.specs.ScanNames.{fits, is_raw_part, name_at, NoPart, StopsAt, GoesOn, IsFurther, StopsText}
 use Rattle.json5_text.proofs.ScanEscapes.{refuses_as}
+use Rattle.json5_text.proofs.ScanStrings.{put_bad, both_bytes, put_both, put_whole}
 
 -- ---- characters that stand for themselves
 
@@ -64,9 +65,6 @@ run_read [] x k = put_none (name_at false x)
 run_read (c ∷ raw) x (char h k) =
     let f = raw_parts c h in
     rest_is (c ∷ raw ++ x) ∙ name_raw c (raw ++ x) f.0 f.1 ∙ ap (put (c ∷ []) true) (sym (rest_is (raw ++ x)) ∙ run_read raw x k) ∙ put_raw c raw true (name_at false x)
-
-put_bad : (v : List ℕ) (p : Bool) (m : Read (List ℕ × Bool)) (e : Option ErrorCode) (z : Place) → m ≡ bad e z → put v p m ≡ bad e z
-put_bad v p m e z h = ap (put v p) h
 
 pub parts_end : (raw x y : List ℕ) → Each is_raw_part raw → x ≡ raw ++ y → y ≡ [] → name_at false x ≡ bad (Some EofParsingIdentifier) inner
 parts_end raw x y k e f = ap (name_at false) (e ∙ ap (λ z. raw ++ z) f) ∙ run_read raw [] k ∙ ap (put raw true) (rest_is [] ∙ name_end)
@@ -146,23 +144,11 @@ item_misfits p b xs ys n e h = ap (λ z. and_then z (fit p b)) e ∙ rw h refl
 abbrev pub Reached : Read (List ℕ × Bool) → Read (List ℕ × Bool) → List ℕ → List ℕ → Type 0
 Reached whole rest front text = (u : List ℕ) × (plain : Bool) × (whole ≡ put u plain rest) × (text ≡ front ++ encode_utf8_all u)
 
-both_bytes : (front a b u v : List ℕ) → a ≡ front ++ encode_utf8_all u → b ≡ a ++ encode_utf8_all v → b ≡ front ++ encode_utf8_all (u ++ v)
-both_bytes front a b u v e f = f ∙ ap (λ t. t ++ encode_utf8_all v) e ∙ append_assoc front (encode_utf8_all u) (encode_utf8_all v) ∙ ap (λ t. front ++ t) (sym (encodes-append u v))
-
-put_both : (u v : List ℕ) (p : Bool) (m : Read (List ℕ × Bool)) → put u p (put v false m) ≡ put (u ++ v) false m
-put_both u v true (got a r) = ap (λ t. got (t, false) r) (sym (append_assoc u v a.0))
-put_both u v false (got a r) = ap (λ t. got (t, false) r) (sym (append_assoc u v a.0))
-put_both u v p (bad e z) = refl
-
 pub reached_start : (whole : Read (List ℕ × Bool)) (front : List ℕ) → Reached whole whole front front
 reached_start whole front = ([], true, put_none whole, sym (append-nil front))
 
 pub reached_more : (whole rest next : Read (List ℕ × Bool)) (front a b v : List ℕ) → Reached whole rest front a → rest ≡ put v false next → b ≡ a ++ encode_utf8_all v → Reached whole next front b
 reached_more whole rest next front a b v (u, p, e, f) h i = (u ++ v, false, e ∙ ap (put u p) h ∙ put_both u v p next, both_bytes front a b u v f i)
-
-put_whole : (u v r : List ℕ) (p : Bool) → put u p (got (v, false) r) ≡ got (u ++ v, false) r
-put_whole u v r true = refl
-put_whole u v r false = refl
 
 pub reached_end : (whole rest : Read (List ℕ × Bool)) (front a b v r : List ℕ) → Reached whole rest front a → rest ≡ got (v, false) r → b ≡ a ++ encode_utf8_all v
     → (u : List ℕ) × (whole ≡ got (u, false) r) × (b ≡ front ++ encode_utf8_all u)

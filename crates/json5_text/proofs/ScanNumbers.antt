@@ -1,4 +1,5 @@
 -- Numbers that are read below the scanner, in the words of its contract.
+use mathlib.Core.Bool.{true≢false}
 use Rattle.std.proofs.Common.{◌≡◌, ℕ, Bool, true, false, cond, List, [], ◌∷◌, ◌++◌, refl, ap, sym, ◌∙◌, subst, arith, Option, Some, None}
 use Rattle.std.specs.Prelude.{◌==◌, ◌||◌}
 use Rattle.std.proofs.lemmas.Bool.Decides.{nat_tests}
@@ -10,9 +11,15 @@ use Rattle.json5_grammar.specs.NumberFaults.{is_sign, begins_number}
 use Rattle.json5_grammar.specs.Stops.{lengthens, begins_run}
 use Rattle.json5_grammar.specs.Reading.{Read, Place, here, inner, got, bad, IsAt}
 use Rattle.json5_grammar.specs.ReadNumbers.{number, unsigned}
+use Rattle.json5_grammar.proofs.NumbersRead.{complete}
 use Rattle.json5_grammar.proofs.NumbersSound.{PlaceIs, SoundNumber, sound}
 use Rattle.json5_text.specs.Tokens.{FaultyNumber, no_number, number_missing}
+use Rattle.json5_text.specs.declared.refusal.Refusal.{Refusal}
+use Rattle.json5_text.specs.NumberViews.{keeps_digits}
+use Rattle.json5_text.specs.Outcome.{outcome}
+use Rattle.json5_text.specs.Refused.{Refuses, WantsForDigits}
 use Rattle.json5_text.proofs.ScanFaults.{FaultAt, FaultyIn}
+use Rattle.json5_text.proofs.ScanTokens.{of_memory}
 
 abbrev NumberAtSound : List ℕ → Read Number → Type 0
 NumberAtSound x (got n r) = (s : List ℕ) × (x ≡ s ++ r) × Num s n × NotBegun (lengthens s) r
@@ -68,3 +75,11 @@ faulty_number x (bad e p) k = k
 
 pub number_faulty : (x y : List ℕ) → x ≡ y → FaultyIn FaultyNumber y (number x)
 number_faulty x y e = subst (λ z. FaultyIn FaultyNumber y (number z)) (sym e) (faulty_number y (number y) (number_at_sound y))
+
+-- a number in front without digits to keep is not refused for want of memory
+pub number_memory : (x y s t : List ℕ) (n : Number) (r : Refusal) → x ≡ y → Refuses r (outcome (number x)) → WantsForDigits r (number x) → y ≡ s ++ t → Num s n → NotBegun (lengthens s) t → keeps_digits n ≡ false → ⊥
+number_memory x y s t n r f h k e num stops free =
+    let read : number x ≡ got n t = ap number (f ∙ e) ∙ complete num t stops in
+    let memory = of_memory r n t (subst (λ z. Refuses r (outcome z)) read h) in
+    let kept : keeps_digits n ≡ true = subst (λ z. WantsForDigits z (got n t)) memory (subst (WantsForDigits r) read k) in
+    true≢false (sym kept ∙ free)

@@ -48,7 +48,7 @@ run_read q (c ∷ raw) x (char h k) =
     let f = raw_fails q c h in
     string_is q (c ∷ raw ++ x) ∙ rest_raw q c (raw ++ x) f.0 f.1 f.2 ∙ ap (put (c ∷ []) true) (sym (string_is q (raw ++ x)) ∙ run_read q raw x k) ∙ put_raw c raw true (string (q ∷ x))
 
-put_bad : (v : List ℕ) (p : Bool) (m : Read (List ℕ × Bool)) (e : Option ErrorCode) (z : Place) → m ≡ bad e z → put v p m ≡ bad e z
+pub put_bad : (v : List ℕ) (p : Bool) (m : Read (List ℕ × Bool)) (e : Option ErrorCode) (z : Place) → m ≡ bad e z → put v p m ≡ bad e z
 put_bad v p m e z h = ap (put v p) h
 
 pub run_ends : (q : ℕ) (raw x y : List ℕ) → Each (is_raw q) raw → x ≡ raw ++ y → y ≡ [] → string (q ∷ x) ≡ bad (Some EofParsingString) inner
@@ -113,10 +113,10 @@ bytes_put a b c r v e f u =
 abbrev pub Reached : ℕ → List ℕ → List ℕ → List ℕ → List ℕ → Type 0
 Reached q x y front text = (u : List ℕ) × (plain : Bool) × (string (q ∷ x) ≡ put u plain (string (q ∷ y))) × (text ≡ front ++ encode_utf8_all u)
 
-both_bytes : (front a b u v : List ℕ) → a ≡ front ++ encode_utf8_all u → b ≡ a ++ encode_utf8_all v → b ≡ front ++ encode_utf8_all (u ++ v)
+pub both_bytes : (front a b u v : List ℕ) → a ≡ front ++ encode_utf8_all u → b ≡ a ++ encode_utf8_all v → b ≡ front ++ encode_utf8_all (u ++ v)
 both_bytes front a b u v e f = f ∙ ap (λ t. t ++ encode_utf8_all v) e ∙ append_assoc front (encode_utf8_all u) (encode_utf8_all v) ∙ ap (λ t. front ++ t) (sym (encodes-append u v))
 
-put_both : (u v : List ℕ) (p : Bool) (m : Read (List ℕ × Bool)) → put u p (put v false m) ≡ put (u ++ v) false m
+pub put_both : (u v : List ℕ) (p : Bool) (m : Read (List ℕ × Bool)) → put u p (put v false m) ≡ put (u ++ v) false m
 put_both u v true (got a r) = ap (λ t. got (t, false) r) (sym (append_assoc u v a.0))
 put_both u v false (got a r) = ap (λ t. got (t, false) r) (sym (append_assoc u v a.0))
 put_both u v p (bad e z) = refl
@@ -127,7 +127,7 @@ reached_start q x front = ([], true, put_none (string (q ∷ x)), sym (append-ni
 pub reached_more : (q : ℕ) (x y z front a b v : List ℕ) → Reached q x y front a → string (q ∷ y) ≡ put v false (string (q ∷ z)) → b ≡ a ++ encode_utf8_all v → Reached q x z front b
 reached_more q x y z front a b v (u, p, e, f) h i = (u ++ v, false, e ∙ ap (put u p) h ∙ put_both u v p (string (q ∷ z)), both_bytes front a b u v f i)
 
-put_whole : (u v r : List ℕ) (p : Bool) → put u p (got (v, false) r) ≡ got (u ++ v, false) r
+pub put_whole : (u v r : List ℕ) (p : Bool) → put u p (got (v, false) r) ≡ got (u ++ v, false) r
 put_whole u v r true = refl
 put_whole u v r false = refl
 

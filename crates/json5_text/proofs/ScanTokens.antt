@@ -116,18 +116,19 @@ string_quoted r (quoted k i) = rw k refl
 string_in_front : {s u : List ℕ} {plain : Bool} (r : List ℕ) → Str s u plain → string_at (s ++ r) ≡ got (u, plain) r
 string_in_front r k = string_quoted r k ∙ string_complete r k
 
-of_memory : (r : Refusal) (u x : List ℕ) (plain : Bool) → Refuses {A = List ℕ × Bool} r (gave (u, plain) x) → r ≡ refusal.OutOfMemory
-of_memory (refusal.Code c left) u x plain h = absurd (gave_failed (List ℕ × Bool) (u, plain) x (Some c) left h)
-of_memory (refusal.InvalidNumber left) u x plain h = absurd (gave_failed (List ℕ × Bool) (u, plain) x None (Some left) h)
-of_memory (refusal.TooLarge left) u x plain h = absurd (gave_failed (List ℕ × Bool) (u, plain) x None (Some left) h)
-of_memory (refusal.UnpairedSurrogate k left) u x plain h = absurd (gave_failed (List ℕ × Bool) (u, plain) x None (Some left) h)
-of_memory refusal.OutOfMemory u x plain h = refl
+-- what can be read is refused for want of memory alone
+pub of_memory : {A : Type 0} (r : Refusal) (a : A) (x : List ℕ) → Refuses {A = A} r (gave a x) → r ≡ refusal.OutOfMemory
+of_memory {A = A} (refusal.Code c left) a x h = absurd (gave_failed A a x (Some c) left h)
+of_memory {A = A} (refusal.InvalidNumber left) a x h = absurd (gave_failed A a x None (Some left) h)
+of_memory {A = A} (refusal.TooLarge left) a x h = absurd (gave_failed A a x None (Some left) h)
+of_memory {A = A} (refusal.UnpairedSurrogate k left) a x h = absurd (gave_failed A a x None (Some left) h)
+of_memory refusal.OutOfMemory a x h = refl
 
 -- a plain string in front is not refused for want of memory
 pub plain_memory : (x y s u t : List ℕ) (r : Refusal) → x ≡ y → Refuses r (outcome (string_at x)) → (r ≡ refusal.OutOfMemory → (u t : List ℕ) → string_at x ≡ got (u, true) t → ⊥) → y ≡ s ++ t → Str s u true → ⊥
 plain_memory x y s u t r f h k e p =
     let read : string_at x ≡ got (u, true) t = ap string_at (f ∙ e) ∙ string_in_front t p in
-    k (of_memory r u t true (subst (λ z. Refuses r (outcome z)) read h)) u t read
+    k (of_memory r (u, true) t (subst (λ z. Refuses r (outcome z)) read h)) u t read
 
 -- ---- names
 

@@ -1,4 +1,5 @@
 -- A number as the grammar has it.
+use Rattle.std.specs.Prelude.{Bool, true, false}
 use Rattle.json5_grammar.specs.Numbers as numbers
 use Rattle.json5_text.specs.declared.number.Number.{Number}
 use Rattle.json5_text.specs.declared.number.Number.TheVariants.{Whole, Decimal}
@@ -6,3 +7,10 @@ use Rattle.json5_text.specs.declared.number.Number.TheVariants.{Whole, Decimal}
 abbrev pub number_of : Number → numbers.Number
 number_of (Whole z) = numbers.whole z
 number_of (Decimal d) = numbers.decimal d
+
+-- a finite decimal, whose digits are kept in memory
+abbrev pub keeps_digits : numbers.Number → Bool
+keeps_digits (numbers.whole z) = false
+keeps_digits (numbers.decimal (numbers.infinite m)) = false
+keeps_digits (numbers.decimal (numbers.nan m)) = false
+keeps_digits (numbers.decimal (numbers.finite m ds e)) = true

@@ -1,8 +1,11 @@
 -- What a function below the scanner refused with, beside what reading on lists gives.
-use Rattle.std.specs.Prelude.{◌≡◌, Some, None, ⊤}
+use Rattle.std.specs.Prelude.{◌≡◌, true, Some, None, ⊤}
+use Rattle.json5_grammar.specs.Numbers.{Number}
+use Rattle.json5_grammar.specs.Reading.{Read, got, bad}
 use Rattle.json5_text.specs.Outcome.{Outcome, failed}
 use Rattle.json5_text.specs.declared.refusal.Refusal.{Refusal}
 use Rattle.json5_text.specs.declared.refusal.Refusal.TheVariants as refusal
+use Rattle.json5_text.specs.NumberViews.{keeps_digits}
 
 -- want of memory says nothing of the text
 abbrev pub Refuses : {A : Type 0} → Refusal → Outcome A → Type 0
@@ -11,3 +14,16 @@ Refuses (refusal.InvalidNumber left) m = m ≡ failed None (Some left)
 Refuses (refusal.TooLarge left) m = m ≡ failed None (Some left)
 Refuses (refusal.UnpairedSurrogate escape left) m = m ≡ failed None (Some left)
 Refuses refusal.OutOfMemory m = ⊤
+
+-- a number was read whose digits are kept in memory
+abbrev pub KeepsDigits : Read Number → Type 0
+KeepsDigits (got n r) = keeps_digits n ≡ true
+KeepsDigits (bad e p) = ⊥
+
+-- memory is wanted for a number's digits alone
+abbrev pub WantsForDigits : Refusal → Read Number → Type 0
+WantsForDigits (refusal.Code c left) m = ⊤
+WantsForDigits (refusal.InvalidNumber left) m = ⊤
+WantsForDigits (refusal.TooLarge left) m = ⊤
+WantsForDigits (refusal.UnpairedSurrogate escape left) m = ⊤
+WantsForDigits refusal.OutOfMemory m = KeepsDigits m

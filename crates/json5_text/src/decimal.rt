@@ -1,6 +1,6 @@
 //! Numbers of any count of decimal digits, kept as these digits.
 
-ghost use Rattle.std.specs.Prelude.{◌≡◌, ◌≤◌, ◌^◌, string_bytes, ◌++◌, ◌<◌, ◌↔◌, List, [], pos, neg_ℤ, ◌≤ℤ◌, reverse, length, replicate, IsSome, IfSome, IfOk, IfErr, Some};
+ghost use Rattle.std.specs.Prelude.{◌≡◌, ◌≤◌, ◌^◌, string_bytes, ◌++◌, ◌<◌, ◌↔◌, List, [], pos, neg_ℤ, ◌≤ℤ◌, reverse, length, replicate, IsSome, IfSome, IfOk, IfErr, OnErr, Some};
 ghost use Rattle.std.specs.Fmt.{WritesOnOk};
 ghost use Rattle.json5_grammar.specs.Characters.{is_digit, Each};
 ghost use Rattle.json5_grammar.specs.Numbers as numbers;
@@ -134,6 +134,7 @@ impl Decimal {
         requires high { exponent ≤ℤ pos (2 ^ 120) }
         ensures in_range { IfOk result (λ found. IsSome found ↔ numbers.InExponents (numbers.normal_exponent (before.now ++ behind.now) exponent)) }
         ensures value { IfOk result (λ found. IfSome found (λ d. d ≡ numbers.finite negative (numbers.without_zeros (before.now ++ behind.now)) (numbers.normal_exponent (before.now ++ behind.now) exponent))) }
+        ensures memory { OnErr result (numbers.InExponents (numbers.normal_exponent (before.now ++ behind.now) exponent)) }
     {
         let (front, back) = without_front_zeros(before, behind);
         let (first, last) = without_back_zeros(front, back);

@@ -10,7 +10,7 @@ ghost use Rattle.json5_grammar.specs.Reading.{got, bad, here};
 ghost use Rattle.json5_grammar.specs.ReadNumbers as model;
 ghost use Rattle.json5_grammar.specs.NumberSteps.{checked};
 ghost use Rattle.json5_text.specs.Outcome.{outcome};
-ghost use Rattle.json5_text.specs.Refused.{Refuses};
+ghost use Rattle.json5_text.specs.Refused.{Refuses, WantsForDigits};
 ghost use Rattle.json5_text.specs.NumberViews.{number_of};
 ghost use Rattle.json5_text.specs.NumberParts.{raised_of, parts_of, limited_exponent, is_whole_literal, HasExponentDigits, HasDigits};
 
@@ -61,6 +61,7 @@ fn hexadecimal_digits(text: &str) -> Result<(u128, &str), &str>
 fn hexadecimal<'t>(start: &str, negative: bool, text: &'t str) -> Result<(Whole, &'t str), Refusal>
     ensures read { IfOk result (λ p. model.hexadecimal (chars start.now) negative (chars text.now) ≡ got (numbers.whole p.0) (chars p.1.now)) }
     ensures refused { IfErr result (λ e. Refuses e (outcome (model.hexadecimal (chars start.now) negative (chars text.now)))) }
+    ensures memory { IfErr result (λ e. WantsForDigits e (model.hexadecimal (chars start.now) negative (chars text.now))) }
     ensures text { IfOk result (λ p. IsUtf8 p.1.now) }
 {
     let Some((first, _)) = front(text) else {
@@ -294,6 +295,7 @@ fn judge(alloc: Global, start: &str, negative: bool, literal: &Literal) -> Resul
     requires { HasDigits literal.now }
     ensures read { IfOk result (λ n. (rest : List ℕ) → model.if_literal (chars start.now) negative rest (Some (parts_of literal.now)) ≡ got (number_of n) rest) }
     ensures refused { IfErr result (λ e. (rest : List ℕ) → Refuses e (outcome (model.if_literal (chars start.now) negative rest (Some (parts_of literal.now))))) }
+    ensures memory { IfErr result (λ e. (rest : List ℕ) → WantsForDigits e (model.if_literal (chars start.now) negative rest (Some (parts_of literal.now)))) }
 {
     if let Some(whole) = whole_number(negative, literal) {
         return Ok(Number::Whole(whole));
@@ -318,6 +320,7 @@ fn decimal_run<'t>(
 ) -> Result<(Number, &'t str), Refusal>
     ensures read { IfOk result (λ p. model.decimal_run (chars start.now) negative (chars text.now) ≡ got (number_of p.0) (chars p.1.now)) }
     ensures refused { IfErr result (λ e. Refuses e (outcome (model.decimal_run (chars start.now) negative (chars text.now)))) }
+    ensures memory { IfErr result (λ e. WantsForDigits e (model.decimal_run (chars start.now) negative (chars text.now))) }
     ensures text { IfOk result (λ p. IsUtf8 p.1.now) }
 {
     let (run, rest) = split_run(text);
@@ -362,6 +365,7 @@ fn after_zero<'t>(
     requires text { IsUtf8 rest.now }
     ensures read { IfOk result (λ p. model.at_zero (chars start.now) negative (chars rest.now) ≡ got (number_of p.0) (chars p.1.now)) }
     ensures refused { IfErr result (λ e. Refuses e (outcome (model.at_zero (chars start.now) negative (chars rest.now)))) }
+    ensures memory { IfErr result (λ e. WantsForDigits e (model.at_zero (chars start.now) negative (chars rest.now))) }
     ensures text { IfOk result (λ p. IsUtf8 p.1.now) }
 {
     let Some((c, behind)) = front(rest) else {
@@ -386,6 +390,7 @@ fn after_zero<'t>(
 fn word<'t>(number: Decimal, letters: &str, text: &'t str) -> Result<(Number, &'t str), Refusal>
     ensures read { IfOk result (λ p. model.word (numbers.decimal number) (chars letters.now) (chars text.now) ≡ got (number_of p.0) (chars p.1.now)) }
     ensures refused { IfErr result (λ e. Refuses e (outcome (model.word (numbers.decimal number) (chars letters.now) (chars text.now)))) }
+    ensures memory { IfErr result (λ e. WantsForDigits e (model.word (numbers.decimal number) (chars letters.now) (chars text.now))) }
     ensures text { IfOk result (λ p. IsUtf8 p.1.now) }
 {
     match skip_word(
@@ -415,6 +420,7 @@ fn unsigned<'t>(
 ) -> Result<(Number, &'t str), Refusal>
     ensures read { IfOk result (λ p. model.unsigned (chars start.now) negative (chars text.now) ≡ got (number_of p.0) (chars p.1.now)) }
     ensures refused { IfErr result (λ e. Refuses e (outcome (model.unsigned (chars start.now) negative (chars text.now)))) }
+    ensures memory { IfErr result (λ e. WantsForDigits e (model.unsigned (chars start.now) negative (chars text.now))) }
     ensures text { IfOk result (λ p. IsUtf8 p.1.now) }
 {
     let Some((first, rest)) = front(text) else {
@@ -439,6 +445,7 @@ fn unsigned<'t>(
 pub(crate) fn number(alloc: Global, text: &str) -> Result<(Number, &str), Refusal>
     ensures read { IfOk result (λ p. model.number (chars text.now) ≡ got (number_of p.0) (chars p.1.now)) }
     ensures refused { IfErr result (λ e. Refuses e (outcome (model.number (chars text.now)))) }
+    ensures memory { IfErr result (λ e. WantsForDigits e (model.number (chars text.now))) }
     ensures text { IfOk result (λ p. IsUtf8 p.1.now) }
 {
     let Some((sign, rest)) = front(text) else {

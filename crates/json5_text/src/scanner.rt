@@ -6,9 +6,10 @@ ghost use Rattle.json5_grammar.specs.Characters.{NotBegun};
 ghost use Rattle.json5_grammar.specs.Blanks.{Gap, Solid};
 ghost use Rattle.json5_grammar.specs.Strings.{Str};
 ghost use Rattle.json5_grammar.specs.Names.{Ident, goes_on_name};
+ghost use Rattle.json5_grammar.specs.Numbers as numbers;
 ghost use Rattle.json5_grammar.specs.Numbers.{Num};
 ghost use Rattle.json5_grammar.specs.Stops.{lengthens};
-ghost use Rattle.json5_text.specs.NumberViews.{number_of};
+ghost use Rattle.json5_text.specs.NumberViews.{number_of, keeps_digits};
 ghost use Rattle.json5_text.specs.Cows.{cow_bytes, is_borrowed};
 ghost use Rattle.json5_grammar.specs.Positions.{position_behind};
 ghost use Rattle.json5_text.specs.Errors.{Kind, code, kind_of, place_of};
@@ -137,11 +138,13 @@ impl<I: Input> Scanner<I> {
     /// Takes a number (JSON5 section 6). Where none begins the fault is `ExpectedNumber` at the character, and at the end
     /// `EofParsingNumber` without a place. `LeadingZero` and `OverflowParsingNumber` stand at the number's start or, within
     /// hexadecimal digits, at the digit; a run of a decimal's characters that is no literal, and a hexadecimal number past
-    /// -2^127, are custom faults. Memory is wanted for a decimal's digits and for a custom fault.
+    /// -2^127, are custom faults. Memory is wanted for a finite decimal's digits and for a custom fault: a whole number, infinity
+    /// and not-a-number take none.
     pub fn number(&mut self) -> Result<Number>
         ensures taken { IfOk result (λ n. (s : List ℕ) × Took self.old s self.new × Num s (number_of n) × NotBegun (lengthens s) self.new.unread) }
         ensures refused { IfErr result (λ e. IsOutOfMemory e ⊎ Refused FaultyNumber self.old e) }
         ensures behind { OnErr result (Behind self.old self.new) }
+        ensures memory { (s r : List ℕ) (n : numbers.Number) → self.old.unread ≡ s ++ r → Num s n → NotBegun (lengthens s) r → keeps_digits n ≡ false → IsOk result }
     {
         let (number, left) = match number(self.alloc, self.rest()) {
             Ok((number, rest)) => (number, rest.len()),

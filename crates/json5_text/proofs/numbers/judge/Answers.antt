@@ -1,11 +1,12 @@
-use Rattle.std.proofs.Common.{arith, refl, ap, sym, ◌∙◌}
+use Rattle.std.proofs.Common.{◌++◌, arith, refl, ap, sym, ◌∙◌, subst}
 use mathlib.Core.Bool.{true≢false}
 use Rattle.std.specs.Str.{chars}
 use Rattle.std.proofs.lemmas.Int.{ints, to_z-of_z}
 use mir.Syntax.{w128}
-use Rattle.json5_grammar.specs.Numbers.{whole}
+use Rattle.json5_grammar.specs.Numbers.{whole, finite, without_zeros, normal_exponent}
 use Rattle.json5_grammar.specs.Reading.{got}
 use Rattle.json5_text.specs.NumberParts.{parts_of}
+use Rattle.json5_text.specs.Refused.{KeepsDigits}
 use Rattle.json5_text.proofs.NumberSteps.{failed_here}
 use Rattle.json5_text.proofs.NumberJudged.{judged_whole, found_is, not_whole, literal_decimal, literal_past}
 use Rattle.json5_text.proofs.numbers.judge.Goals as goal
@@ -32,3 +33,13 @@ returns-clause-read c = λ rest.
     let f = found_is c.args.literal.now c.digits_behind-behind.result.now r _ c.digits_behind-behind.ensures.value v.value s (omega arith) (omega arith) in
     let w = not_whole c.args.negative c.args.literal.now (λ h. true≢false (sym (c.in_default.ensures.whole.1 h))) in
     literal_decimal (chars c.args.start.now) c.args.negative rest c.args.literal.now c.digits_behind-behind.result.now _ c.in-Some-found.decimal f w (let n = rw c.in-Some-found.is at c.in-Ok.ensures.in_range in n.0 refl) (rw c.in-Some-found.is at c.in-Ok.ensures.value)
+
+pub returns-in_default-normal-clause-memory : goal.returns-in_default-normal-clause-memory
+returns-in_default-normal-clause-memory c = λ rest.
+    let r = c.lowered_exponent-exponent.result in
+    let v = c.lowered_exponent-exponent.ensures in
+    let s = to_z-of_z w128 r (let a = v.low in let b = v.high in omega (arith, ints)) in
+    let digits = c.args.literal.now.before.now ++ c.digits_behind-behind.result.now in
+    let f = found_is c.args.literal.now c.digits_behind-behind.result.now r _ c.digits_behind-behind.ensures.value v.value s (omega arith) (omega arith) in
+    let w = not_whole c.args.negative c.args.literal.now (λ h. true≢false (sym (c.in_default.ensures.whole.1 h))) in
+    subst KeepsDigits (sym (literal_decimal (chars c.args.start.now) c.args.negative rest c.args.literal.now c.digits_behind-behind.result.now _ (finite c.args.negative (without_zeros digits) (normal_exponent digits _)) f w c.in_default-normal.ensures.memory refl)) refl

@@ -10,14 +10,14 @@ returns-in_default-clause-refused c = ap outcome (number_ends (chars c.args.text
 pub returns-then-sign-eq43 : goal.returns-then-sign-eq43
 returns-then-sign-eq43 c =
     let e = number_plus (chars c.args.text.now) _ c.in-Some.sign c.in-Some.ensures.chars c.if-sign-eq43.true in
-    record { read = rw e c.unsigned.ensures.read; refused = rw e c.unsigned.ensures.refused; text = c.unsigned.ensures.text }
+    record { read = rw e c.unsigned.ensures.read; refused = rw e c.unsigned.ensures.refused; memory = rw e c.unsigned.ensures.memory; text = c.unsigned.ensures.text }
 
 pub returns-then-sign-eq45 : goal.returns-then-sign-eq45
 returns-then-sign-eq45 c =
     let e = number_minus (chars c.args.text.now) _ c.in-Some.sign c.in-Some.ensures.chars c.if-sign-eq45.true in
-    record { read = rw e c.unsigned-then-sign-eq45.ensures.read; refused = rw e c.unsigned-then-sign-eq45.ensures.refused; text = c.unsigned-then-sign-eq45.ensures.text }
+    record { read = rw e c.unsigned-then-sign-eq45.ensures.read; refused = rw e c.unsigned-then-sign-eq45.ensures.refused; memory = rw e c.unsigned-then-sign-eq45.ensures.memory; text = c.unsigned-then-sign-eq45.ensures.text }
 
 pub returns : goal.returns
 returns c =
     let e = number_bare (chars c.args.text.now) _ c.in-Some.sign c.in-Some.ensures.chars c.if-sign-eq43.false c.if-sign-eq45.false in
-    record { read = rw e c.unsigned-2.ensures.read; refused = rw e c.unsigned-2.ensures.refused; text = c.unsigned-2.ensures.text }
+    record { read = rw e c.unsigned-2.ensures.read; refused = rw e c.unsigned-2.ensures.refused; memory = rw e c.unsigned-2.ensures.memory; text = c.unsigned-2.ensures.text }

@@ -6,7 +6,7 @@ use Rattle.json5_grammar.specs.ReadNumbers.{number}
 use Rattle.json5_text.specs.NumberViews.{number_of}
 use Rattle.json5_text.specs.Tokens.{FaultyNumber}
 use Rattle.json5_text.proofs.ScanFaults.{refusal_in, refused}
-use Rattle.json5_text.proofs.ScanNumbers.{NumberTaken, number_taken, number_faulty}
+use Rattle.json5_text.proofs.ScanNumbers.{NumberTaken, number_taken, number_faulty, number_memory}
 use Rattle.json5_text.proofs.ScanTokens.{left_counted, leaves_rest}
 use Rattle.json5_text.proofs.scanner.Scanner.number.Goals as goal
 
@@ -27,3 +27,7 @@ returns-clause-taken g c =
     let k = number_taken (chars c.rest.result.now) c.args.self.now.unread (chars c.in-Ok.rest.now) (number_of c.in-Ok.number) c.rest.ensures c.in-Ok.ensures.read in
     let l = c.leave.ensures k.literal (chars c.in-Ok.rest.now) k.split (left_counted c.in-Ok.rest.now c.in-Ok.ensures.text) in
     (k.literal, l.0, k.is_number, subst (NotBegun (lengthens k.literal)) (sym l.1) k.stops)
+
+pub returns-in-Err-clause-memory : goal.returns-in-Err-clause-memory
+returns-in-Err-clause-memory g c =
+    λ s r n split num stops free. absurd (number_memory (chars c.rest.result.now) c.args.self.now.unread s r n c.in-Err.refusal c.rest.ensures c.in-Err.ensures.refused c.in-Err.ensures.memory split num stops free)
