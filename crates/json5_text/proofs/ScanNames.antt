@@ -22,7 +22,7 @@ use Rattle.json5_text.specs.Outcome.{outcome}
 use Rattle.json5_text.specs.Refused.{Refuses}
 use Rattle.json5_text.specs.ScanNames.{fits, is_raw_part, name_at, NoPart, StopsAt, GoesOn, IsFurther, StopsText}
 use Rattle.json5_text.proofs.ScanEscapes.{refuses_as}
-use Rattle.json5_text.proofs.ScanStrings.{put_bad, both_bytes, put_both, put_whole}
+use Rattle.json5_text.proofs.ScanStrings.{put_bad, both_bytes, put_both, put_whole, plain_put}
 
 -- ---- characters that stand for themselves
 
@@ -74,12 +74,15 @@ stopped x k = ap (name_at false) k.split ∙ rest_is (k.first ∷ k.rest) ∙ na
 
 -- ---- an escape
 
-pub item_bad : (first : Bool) (r : Refusal) (x y : List ℕ) → x ≡ 92 ∷ y → Refuses r (outcome (and_then (name_escape x y) (fit (fits first) x))) → Refuses r (outcome (name_at first x))
-item_bad first r x y e h = refuses_as r (and_then (name_escape x y) (fit (fits first) x)) (name_at first x) (λ c p g. ap (name_at first) e ∙ at_backslash first c p (ap (λ t. and_then (name_escape t y) (fit (fits first) t)) (sym e) ∙ g)) h
+bad_item : (first : Bool) (x y : List ℕ) (c : Option ErrorCode) (p : Place) → x ≡ 92 ∷ y → and_then (name_escape x y) (fit (fits first) x) ≡ bad c p → name_at first x ≡ bad c p
+bad_item first x y c p e g = ap (name_at first) e ∙ at_backslash first (ap (λ t. and_then (name_escape t y) (fit (fits first) t)) (sym e) ∙ g)
   where
-    at_backslash : (first : Bool) (c : Option ErrorCode) (p : Place) → and_then (name_escape (92 ∷ y) y) (fit (fits first) (92 ∷ y)) ≡ bad c p → name_at first (92 ∷ y) ≡ bad c p
-    at_backslash true c p g = whole_is (92 ∷ y) ∙ start_bad y c p g
-    at_backslash false c p g = rest_is (92 ∷ y) ∙ name_bad y c p g
+    at_backslash : (first : Bool) → and_then (name_escape (92 ∷ y) y) (fit (fits first) (92 ∷ y)) ≡ bad c p → name_at first (92 ∷ y) ≡ bad c p
+    at_backslash true g = whole_is (92 ∷ y) ∙ start_bad y c p g
+    at_backslash false g = rest_is (92 ∷ y) ∙ name_bad y c p g
+
+pub item_bad : (first : Bool) (r : Refusal) (x y : List ℕ) → x ≡ 92 ∷ y → Refuses r (outcome (and_then (name_escape x y) (fit (fits first) x))) → Refuses r (outcome (name_at first x))
+item_bad first r x y e h = refuses_as r (and_then (name_escape x y) (fit (fits first) x)) (name_at first x) (λ c p g. bad_item first x y c p e g) h
 
 item_read : (first : Bool) (x y z : List ℕ) (n : ℕ) → x ≡ 92 ∷ y → and_then (name_escape x y) (fit (fits first) x) ≡ got n z → name_at first x ≡ put (n ∷ []) false (name_at false z)
 item_read first x y z n e g = ap (name_at first) e ∙ at_backslash first (ap (λ t. and_then (name_escape t y) (fit (fits first) t)) (sym e) ∙ g) ∙ ap (put (n ∷ []) false) (sym (rest_is z))
@@ -189,3 +192,21 @@ escaped_refused c w x r raw t e n h f k = refuses_as w (name_at false t) (identi
 -- where a run ends within the whole text
 pub split_whole : (c : ℕ) (x r raw t y : List ℕ) → x ≡ c ∷ r → r ≡ raw ++ t → t ≡ y → x ≡ (c ∷ raw) ++ y
 split_whole c x r raw t y e f g = e ∙ ap (λ z. c ∷ z) (f ∙ ap (λ z. raw ++ z) g)
+
+-- ---- a name with an escape isn't plain
+
+pub item_not_plain : (first : Bool) (x y u r : List ℕ) → x ≡ 92 ∷ y → name_at first x ≡ got (u, true) r → ⊥
+item_not_plain first x y u r e f = either (and_then (name_escape x y) (fit (fits first) x)) refl
+  where
+    either : (res : Read ℕ) → and_then (name_escape x y) (fit (fits first) x) ≡ res → ⊥
+    either (got n z) h =
+        let p = (plain_put (n ∷ []) u r false (name_at false z) (sym (item_read first x y z n e h) ∙ f)).0 in
+        absurd (cc)
+    either (bad c p) h =
+        let g : name_at first x ≡ bad c p = bad_item first x y c p e h in
+        absurd (cc)
+
+pub escape_not_plain : (c : ℕ) (x r raw t y u z : List ℕ) → x ≡ c ∷ r → (c ≡ 92 → ⊥) → is_identifier_start c ≡ true → r ≡ raw ++ t → Each is_raw_part raw → t ≡ 92 ∷ y → identifier x ≡ got (u, true) z → ⊥
+escape_not_plain c x r raw t y u z e n h f k s g =
+    let p = plain_put (c ∷ raw) u z true (name_at false t) (sym (first_run c x r raw t e n h f k) ∙ g) in
+    item_not_plain false t y p.1.0 p.1.1 s p.1.2

@@ -173,7 +173,7 @@ abbrev flag : Read (List ℕ × Bool) → Bool
 flag (got a r) = a.1
 flag (bad e p) = false
 
-plain_put : (v u r : List ℕ) (p : Bool) (m : Read (List ℕ × Bool)) → put v p m ≡ got (u, true) r → (p ≡ true) × ((w : List ℕ) × (y : List ℕ) × (m ≡ got (w, true) y))
+pub plain_put : (v u r : List ℕ) (p : Bool) (m : Read (List ℕ × Bool)) → put v p m ≡ got (u, true) r → (p ≡ true) × ((w : List ℕ) × (y : List ℕ) × (m ≡ got (w, true) y))
 plain_put v u r true (got (w, true) y) e = (refl, (w, y, refl))
 plain_put v u r true (got (w, false) y) e = let h : false ≡ true = ap flag e in absurd (cc)
 plain_put v u r false (got a y) e = let h : false ≡ true = ap flag e in absurd (cc)

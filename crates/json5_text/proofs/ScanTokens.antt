@@ -10,7 +10,8 @@ use Rattle.json5_grammar.specs.ReadBlanks.{skip, between}
 use Rattle.json5_grammar.specs.ReadValues.{word_at}
 use Rattle.json5_grammar.specs.Characters.{is_identifier_start}
 use Rattle.json5_grammar.specs.declared.code.ErrorCode.TheVariants.{EofParsingIdentifier, ExpectedIdentifier}
-use Rattle.json5_grammar.specs.Names.{Ident}
+use Rattle.json5_grammar.specs.Names.{Ident, goes_on_name}
+use Rattle.json5_grammar.proofs.NamesRead.{name_complete}
 use Rattle.json5_grammar.specs.ReadTexts.{string, identifier}
 use Rattle.json5_grammar.specs.Strings.{is_quote, Str, quoted}
 use Rattle.json5_grammar.proofs.Basics.{by_test}
@@ -178,3 +179,10 @@ faulty_name x (bad e p) k = k
 
 pub name_faulty : (x y : List ℕ) → x ≡ y → FaultyIn FaultyName y (identifier x)
 name_faulty x y e = subst (λ z. FaultyIn FaultyName y (identifier z)) (sym e) (faulty_name y (identifier y) (name_at_sound y))
+
+-- a plain name in front is not refused for want of memory
+pub plain_name_memory : (x y s u t : List ℕ) (c : ℕ) (r : Refusal) → x ≡ y → Refuses r (outcome (identifier x)) → (r ≡ refusal.OutOfMemory → (u t : List ℕ) → identifier x ≡ got (u, true) t → ⊥) → y ≡ s ++ c ∷ t → Ident s u true
+    → goes_on_name c ≡ false → ⊥
+plain_name_memory x y s u t c r f h k e p stops =
+    let read : identifier x ≡ got (u, true) (c ∷ t) = ap identifier (f ∙ e) ∙ name_complete c t p stops in
+    k (of_memory r (u, true) (c ∷ t) (subst (λ z. Refuses r (outcome z)) read h)) u (c ∷ t) read

@@ -1,12 +1,14 @@
 //! Identifiers (JSON5 section 3, ECMAScript 5.1 section 7.6).
 
-ghost use Rattle.std.specs.Prelude.{◌≡◌, List, ℕ, Bool, true, false, ◌∷◌, ◌++◌, MatchResult, IfOk, string_bytes};
+ghost use Rattle.std.specs.Prelude.{◌≡◌, List, ℕ, Bool, true, false, ◌∷◌, ◌++◌, MatchResult, IfOk, IfErr, string_bytes};
 ghost use Rattle.std.specs.Str.{IsUtf8, chars, encode_utf8_all};
 ghost use Rattle.json5_grammar.specs.Characters.{NotBegun, Each};
 ghost use Rattle.json5_grammar.specs.Reading.{and_then, got};
 ghost use Rattle.json5_grammar.specs.ReadTexts.{name_escape, fit, identifier};
+ghost use Rattle.json5_text.specs.declared.refusal.Refusal.{Refusal};
 ghost use Rattle.json5_text.specs.Outcome.{outcome};
 ghost use Rattle.json5_text.specs.Refused.{Refuses};
+ghost use Rattle.json5_text.specs.Scan.{HasCode};
 ghost use Rattle.json5_text.specs.ScanStrings.{IsText};
 ghost use Rattle.json5_text.specs.ScanNames.{fits, is_raw_part, name_at, StopsAt, GoesOn, IsFurther, StopsText};
 
@@ -32,6 +34,7 @@ pub(crate) fn read_name<'t>(alloc: Global, text: &'t str) -> Result<(CowStr<'t>,
     ensures read { MatchResult result (λ p. (u : List ℕ) × (plain : Bool) × (identifier (chars text.now) ≡ got (u, plain) (chars p.1.now)) × IsText p.0 u plain)
         (λ e. Refuses e (outcome (identifier (chars text.now)))) }
     ensures text { IfOk result (λ p. IsUtf8 p.1.now) }
+    ensures memory { IfErr result (λ e. e ≡ Refusal.OutOfMemory → (u r : List ℕ) → identifier (chars text.now) ≡ got (u, true) r → ⊥) }
 {
     let Some((c, rest)) = front(text) else {
         return Err(Refusal::Code(ErrorCode::EofParsingIdentifier, None));
@@ -149,6 +152,7 @@ fn read_parts(text: &str) -> Result<(&str, Stop<'_>), Refusal>
     ensures read { MatchResult result (λ p. (rest : List ℕ) × (chars text.now ≡ chars p.0.now ++ rest) × Each is_raw_part (chars p.0.now) × StopsAt rest p.1)
         (λ e. Refuses e (outcome (name_at false (chars text.now)))) }
     ensures text { IfOk result (λ p. IsUtf8 p.0.now × StopsText p.1) }
+    ensures known { IfErr result HasCode }
 {
     let rest = skip_parts(text);
     let Some((c, next)) = front(rest) else {

@@ -251,6 +251,7 @@ impl<'de, I: Borrows<'de>> Scanner<I> {
         ensures stops { OnOk result ((c : ℕ) × (r : List ℕ) × (self.new.unread ≡ c ∷ r) × (goes_on_name c ≡ false)) }
         ensures refused { IfErr result (λ e. IsOutOfMemory e ⊎ Refused FaultyName self.old e) }
         ensures behind { OnErr result (Behind self.old self.new) }
+        ensures plain { (s u r : List ℕ) (c : ℕ) → self.old.unread ≡ s ++ c ∷ r → Ident s u true → goes_on_name c ≡ false → IsOk result }
     {
         let (text, left) = match read_name(self.alloc, self.borrowed_rest()) {
             Ok((text, rest)) => (text, rest.len()),

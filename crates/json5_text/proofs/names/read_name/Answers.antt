@@ -7,10 +7,11 @@ use Rattle.json5_grammar.specs.declared.code.ErrorCode.TheVariants.{ExpectedIden
 use Rattle.json5_text.specs.Outcome.{outcome}
 use Rattle.json5_text.specs.ScanNames.{StopsAt, StopsText}
 use Rattle.json5_text.proofs.ScanBytes.{left_fits, cut_half, before_rest}
+use Rattle.json5_text.proofs.ScanFaults.{no_memory}
 use Rattle.json5_text.proofs.ScanTokens.{left_counted}
 use Rattle.json5_text.proofs.ScanEscapes.{refused_here, refuses_as}
 use Rattle.json5_text.proofs.ScanStrings.{both_parts}
-use Rattle.json5_text.proofs.ScanNames.{whole_is, name_none, name_other, first_refused, plain_name, escaped_name, escaped_refused, split_whole}
+use Rattle.json5_text.proofs.ScanNames.{whole_is, name_none, name_other, first_refused, plain_name, escaped_name, escaped_refused, split_whole, item_not_plain, escape_not_plain}
 use Rattle.json5_text.proofs.names.read_name.Goals as goal
 
 pub returns-in_default-clause-read : goal.returns-in_default-clause-read
@@ -95,3 +96,23 @@ returns-in_ok-name-in-Escape-clause-read c =
       escaped_name c.in-Some.c _ _ (chars c.in_ok-stop.field-0-0.now) _ read.0 _ c.in-Some.ensures.chars c.if-c-eq92.false (sym c.if-not-is_json5_identifier_start.ensures) (k.1 ∙ ap (λ z. chars c.in_ok-stop.field-0-0.now ++ z) stops.0) k.2 read.1,
       (refl, read.2 ∙ both_parts c.range-raw.result.now read.0 c.range-raw.utf8 ∙ ap (λ z. encode_utf8_all (z ++ read.0)) raw),
     )
+
+pub returns-in_err-name-clause-memory : goal.returns-in_err-name-clause-memory
+returns-in_err-name-clause-memory c =
+    let p = err_from_is_err_and c.from_residual.result c.from_residual.ensures.1 in
+    rw (p.1, p.2)
+    (λ e u r read. item_not_plain true (chars c.args.text.now) (chars c.in-Some.rest.now) u r (c.in-Some.ensures.chars ∙ ap (λ z. z ∷ chars c.in-Some.rest.now) c.if-c-eq92.true) (whole_is (chars c.args.text.now) ∙ read))
+
+pub returns-in_err-stop-clause-memory : goal.returns-in_err-stop-clause-memory
+returns-in_err-stop-clause-memory c =
+    let p = err_from_is_err_and c.from_residual-in_err-stop.result c.from_residual-in_err-stop.ensures.1 in
+    rw (p.1, p.2) (λ e u r read. no_memory c.in_err-stop.field-0.0 c.in_err-stop.ensures.known e)
+
+pub returns-in_err-name-in-Escape-clause-memory : goal.returns-in_err-name-in-Escape-clause-memory
+returns-in_err-name-in-Escape-clause-memory c =
+    let p = err_from_is_err_and c.from_residual-in_err-name-in-Escape.result c.from_residual-in_err-name-in-Escape.ensures.1 in
+    let k = c.in_ok-stop.ensures.read in
+    let stops = subst (StopsAt k.0) c.in-Escape.is k.3 in
+    rw (p.1, p.2)
+    (λ e u r read. escape_not_plain c.in-Some.c (chars c.args.text.now) (chars c.in-Some.rest.now) (chars c.in_ok-stop.field-0-0.now) k.0 (chars c.in-Escape.behind.now) u r c.in-Some.ensures.chars c.if-c-eq92.false (sym c.if-not-is_json5_identifier_start.ensures) k.1 k.2
+    (stops.0 ∙ stops.1) read)
