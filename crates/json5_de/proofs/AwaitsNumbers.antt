@@ -73,7 +73,7 @@ not_faulty x r reason place e k stops (faulty f) = no_fault r f e k stops
 not_faulty x r reason place e k stops (no_number c y h) = begins_as r c y k (sym e) h
 not_faulty x r reason place e k stops number_missing = not_empty r k (sym e)
 
-number_phrase : {C : Type 0} {s : List ℕ} {t : Tree} (f : Number → Option C) (v : C) → as_number f t ≡ Some v → Val s t → (n : Number) × Num s n × (f n ≡ Some v)
+pub number_phrase : {C : Type 0} {s : List ℕ} {t : Tree} (f : Number → Option C) (v : C) → as_number f t ≡ Some v → Val s t → (n : Number) × Num s n × (f n ≡ Some v)
 number_phrase f v e is_null = absurd (cc)
 number_phrase f v e is_true = absurd (cc)
 number_phrase f v e is_false = absurd (cc)
@@ -93,7 +93,7 @@ other_begin : {C : Type 0} (f : Number → Option C) (x : List ℕ) (c : ℕ) (r
 other_begin f x c r reason place e h (faulty_number k) = other_faulty x c r reason place e h k
 other_begin f x c r reason place e h (other_number y k stops none) = begins_as y c r k e h
 
-none_some : {C : Type 0} {A : Type 0} (o : Option C) (v : C) → o ≡ None → o ≡ Some v → A
+pub none_some : {C : Type 0} {A : Type 0} (o : Option C) (v : C) → o ≡ None → o ≡ Some v → A
 none_some o v e h = absurd (cc)
 
 not_number : {C : Type 0} (f : Number → Option C) {s : List ℕ} {n : Number} (v : C) (x r : List ℕ) (reason : Option ErrorCode) (place : Option (List ℕ)) → x ≡ s ++ r → Num s n → f n ≡ Some v → Stops s r → NotNumber f x reason place → ⊥

@@ -72,7 +72,7 @@ not_faulty x r reason place e k (faulty {before = before} {part = part} {shown =
 not_faulty x r reason place e k (no_quote c y h) = quoted_other x c y refl h (rw e (quoted_more r (text_quote k)))
 not_faulty x r reason place e k string_missing = quoted_none x refl (rw e (quoted_more r (text_quote k)))
 
-text_phrase : {C : Type 0} {s : List ℕ} {t : Tree} (f : List ℕ → Bool → Option C) (v : C) → as_text f t ≡ Some v → Val s t → (u : List ℕ) × (plain : Bool) × Str s u plain × (f u plain ≡ Some v)
+pub text_phrase : {C : Type 0} {s : List ℕ} {t : Tree} (f : List ℕ → Bool → Option C) (v : C) → as_text f t ≡ Some v → Val s t → (u : List ℕ) × (plain : Bool) × Str s u plain × (f u plain ≡ Some v)
 text_phrase f v e is_null = absurd (cc)
 text_phrase f v e is_true = absurd (cc)
 text_phrase f v e is_false = absurd (cc)

@@ -14,11 +14,12 @@ ghost use Rattle.json5_de.specs.Faults.{RefusedBy, AtEnd, Trailing};
 ghost use Rattle.json5_de.specs.Law.{Gives, Completes, StaysFailed};
 ghost use Rattle.std.specs.Str.{all_scalars, encode_utf8_all};
 ghost use Rattle.json5_grammar.specs.Characters.{NotBegun};
+ghost use Rattle.json5_grammar.specs.Numbers as numbers;
 ghost use Rattle.json5_grammar.specs.Numbers.{Num};
 ghost use Rattle.json5_grammar.specs.Stops.{lengthens};
 ghost use Rattle.json5_grammar.specs.Strings.{Str};
 ghost use Rattle.json5_text.specs.Cows.{cow_bytes, is_borrowed};
-ghost use Rattle.json5_text.specs.NumberViews.{number_of};
+ghost use Rattle.json5_text.specs.NumberViews.{number_of, keeps_digits};
 ghost use Rattle.json5_de.specs.Steps.{PassedGap, TookText, IsOffset, IsMismatch};
 
 use crate::mismatch::Mismatch;
@@ -148,6 +149,7 @@ impl<I: Input> Deserializer<I> {
         ensures taken { IfOk result (λ n. (s : List ℕ) × TookText self.old s self.new × Num s (number_of n) × NotBegun (lengthens s) self.new.unread) }
         ensures refused { IfErr result (λ e. IsOutOfMemory e ⊎ Refused FaultyNumber (cursor_of self.old) e) }
         ensures failed { OnErr result (self.new.failed ≡ true) }
+        ensures memory { (s r : List ℕ) (n : numbers.Number) → self.old.unread ≡ s ++ r → Num s n → NotBegun (lengthens s) r → keeps_digits n ≡ false → IsOk result }
     {
         match self.scanner.number() {
             Ok(number) => Ok(number),
@@ -222,6 +224,7 @@ impl<'de, I: Borrows<'de>> Deserializer<I> {
         ensures taken { IfOk result (λ t. (s u : List ℕ) × (plain : Bool) × TookText self.old s self.new × Str s u plain × (is_borrowed t ≡ plain) × (cow_bytes t ≡ encode_utf8_all u)) }
         ensures refused { IfErr result (λ e. IsOutOfMemory e ⊎ Refused FaultyString (cursor_of self.old) e) }
         ensures failed { OnErr result (self.new.failed ≡ true) }
+        ensures plain { (s u r : List ℕ) → self.old.unread ≡ s ++ r → Str s u true → IsOk result }
     {
         match self.scanner.string() {
             Ok(text) => Ok(text),

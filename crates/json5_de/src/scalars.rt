@@ -72,6 +72,7 @@ impl<I: Input> Deserializer<I> {
 
     fn read_integer<T: Integer>(&mut self) -> Result<T>
         ensures sound { IfOk result (λ v. Gives T.value (as_number (as_whole T.within)) self.old self.new v) }
+        ensures complete { CompletesWithoutMemory (as_number (as_whole T.within)) self.old result }
         ensures refused { IfErr result (RefusedByOrMemory (NotNumber (as_whole T.within)) self.old) }
         ensures failed { OnErr result (self.new.failed ≡ true) }
         ensures before { StaysFailed self.old self.new result }
@@ -117,10 +118,10 @@ impl<I: Input> Deserializer<I> {
         self.read_decimal()
     }
 
-    /// Reads a whole number of the type.
+    /// Reads a whole number of the type, which takes no memory.
     fn integer<T: Integer>(&mut self) -> Result<T>
         ensures sound { IfOk result (λ v. Gives T.value (as_number (as_whole T.within)) self.old self.new v) }
-        ensures complete { Completes (as_number (as_whole T.within)) self.old result }
+        ensures complete { CompletesWithoutMemory (as_number (as_whole T.within)) self.old result }
         ensures refused { IfErr result (RefusedByOrMemory (NotNumber (as_whole T.within)) self.old) }
         ensures ends { EndsWithOrMemory codes.EofParsingNumber self.old result }
         ensures differs { DiffersWithOrMemory (λ c. is_sign c || begins_number c) codes.ExpectedNumber self.old result }
@@ -132,10 +133,10 @@ impl<I: Input> Deserializer<I> {
 }
 
 impl<I: Input> Deserializer<I> {
-    /// Reads a whole number as `u8`; another one is a custom fault at its start.
+    /// Reads a whole number as `u8`, which takes no memory; another one is a custom fault at its start.
     pub fn deserialize_u8(&mut self) -> Result<u8>
         ensures sound { IfOk result (λ v. Gives (λ n. n) (unsigned_below (2 ^ 8)) self.old self.new v) }
-        ensures complete { Completes (unsigned_below (2 ^ 8)) self.old result }
+        ensures complete { CompletesWithoutMemory (unsigned_below (2 ^ 8)) self.old result }
         ensures refused { IfErr result (RefusedByOrMemory (NotNumber (as_whole (natural_below (2 ^ 8)))) self.old) }
         ensures ends { EndsWithOrMemory codes.EofParsingNumber self.old result }
         ensures differs { DiffersWithOrMemory (λ c. is_sign c || begins_number c) codes.ExpectedNumber self.old result }
@@ -145,10 +146,10 @@ impl<I: Input> Deserializer<I> {
         self.integer::<u8>()
     }
 
-    /// Reads a whole number as `u16`; another one is a custom fault at its start.
+    /// Reads a whole number as `u16`, which takes no memory; another one is a custom fault at its start.
     pub fn deserialize_u16(&mut self) -> Result<u16>
         ensures sound { IfOk result (λ v. Gives (λ n. n) (unsigned_below (2 ^ 16)) self.old self.new v) }
-        ensures complete { Completes (unsigned_below (2 ^ 16)) self.old result }
+        ensures complete { CompletesWithoutMemory (unsigned_below (2 ^ 16)) self.old result }
         ensures refused { IfErr result (RefusedByOrMemory (NotNumber (as_whole (natural_below (2 ^ 16)))) self.old) }
         ensures ends { EndsWithOrMemory codes.EofParsingNumber self.old result }
         ensures differs { DiffersWithOrMemory (λ c. is_sign c || begins_number c) codes.ExpectedNumber self.old result }
@@ -158,10 +159,10 @@ impl<I: Input> Deserializer<I> {
         self.integer::<u16>()
     }
 
-    /// Reads a whole number as `u32`; another one is a custom fault at its start.
+    /// Reads a whole number as `u32`, which takes no memory; another one is a custom fault at its start.
     pub fn deserialize_u32(&mut self) -> Result<u32>
         ensures sound { IfOk result (λ v. Gives (λ n. n) (unsigned_below (2 ^ 32)) self.old self.new v) }
-        ensures complete { Completes (unsigned_below (2 ^ 32)) self.old result }
+        ensures complete { CompletesWithoutMemory (unsigned_below (2 ^ 32)) self.old result }
         ensures refused { IfErr result (RefusedByOrMemory (NotNumber (as_whole (natural_below (2 ^ 32)))) self.old) }
         ensures ends { EndsWithOrMemory codes.EofParsingNumber self.old result }
         ensures differs { DiffersWithOrMemory (λ c. is_sign c || begins_number c) codes.ExpectedNumber self.old result }
@@ -171,10 +172,10 @@ impl<I: Input> Deserializer<I> {
         self.integer::<u32>()
     }
 
-    /// Reads a whole number as `u64`; another one is a custom fault at its start.
+    /// Reads a whole number as `u64`, which takes no memory; another one is a custom fault at its start.
     pub fn deserialize_u64(&mut self) -> Result<u64>
         ensures sound { IfOk result (λ v. Gives (λ n. n) (unsigned_below (2 ^ 64)) self.old self.new v) }
-        ensures complete { Completes (unsigned_below (2 ^ 64)) self.old result }
+        ensures complete { CompletesWithoutMemory (unsigned_below (2 ^ 64)) self.old result }
         ensures refused { IfErr result (RefusedByOrMemory (NotNumber (as_whole (natural_below (2 ^ 64)))) self.old) }
         ensures ends { EndsWithOrMemory codes.EofParsingNumber self.old result }
         ensures differs { DiffersWithOrMemory (λ c. is_sign c || begins_number c) codes.ExpectedNumber self.old result }
@@ -184,10 +185,10 @@ impl<I: Input> Deserializer<I> {
         self.integer::<u64>()
     }
 
-    /// Reads a whole number as `u128`; another one is a custom fault at its start.
+    /// Reads a whole number as `u128`, which takes no memory; another one is a custom fault at its start.
     pub fn deserialize_u128(&mut self) -> Result<u128>
         ensures sound { IfOk result (λ v. Gives (λ n. n) (unsigned_below (2 ^ 128)) self.old self.new v) }
-        ensures complete { Completes (unsigned_below (2 ^ 128)) self.old result }
+        ensures complete { CompletesWithoutMemory (unsigned_below (2 ^ 128)) self.old result }
         ensures refused { IfErr result (RefusedByOrMemory (NotNumber (as_whole (natural_below (2 ^ 128)))) self.old) }
         ensures ends { EndsWithOrMemory codes.EofParsingNumber self.old result }
         ensures differs { DiffersWithOrMemory (λ c. is_sign c || begins_number c) codes.ExpectedNumber self.old result }
@@ -197,10 +198,10 @@ impl<I: Input> Deserializer<I> {
         self.integer::<u128>()
     }
 
-    /// Reads a whole number as `i8`; another one is a custom fault at its start.
+    /// Reads a whole number as `i8`, which takes no memory; another one is a custom fault at its start.
     pub fn deserialize_i8(&mut self) -> Result<i8>
         ensures sound { IfOk result (λ v. Gives (λ n. n) (signed_below (2 ^ 7)) self.old self.new v) }
-        ensures complete { Completes (signed_below (2 ^ 7)) self.old result }
+        ensures complete { CompletesWithoutMemory (signed_below (2 ^ 7)) self.old result }
         ensures refused { IfErr result (RefusedByOrMemory (NotNumber (as_whole (integer_below (2 ^ 7)))) self.old) }
         ensures ends { EndsWithOrMemory codes.EofParsingNumber self.old result }
         ensures differs { DiffersWithOrMemory (λ c. is_sign c || begins_number c) codes.ExpectedNumber self.old result }
@@ -210,10 +211,10 @@ impl<I: Input> Deserializer<I> {
         self.integer::<i8>()
     }
 
-    /// Reads a whole number as `i16`; another one is a custom fault at its start.
+    /// Reads a whole number as `i16`, which takes no memory; another one is a custom fault at its start.
     pub fn deserialize_i16(&mut self) -> Result<i16>
         ensures sound { IfOk result (λ v. Gives (λ n. n) (signed_below (2 ^ 15)) self.old self.new v) }
-        ensures complete { Completes (signed_below (2 ^ 15)) self.old result }
+        ensures complete { CompletesWithoutMemory (signed_below (2 ^ 15)) self.old result }
         ensures refused { IfErr result (RefusedByOrMemory (NotNumber (as_whole (integer_below (2 ^ 15)))) self.old) }
         ensures ends { EndsWithOrMemory codes.EofParsingNumber self.old result }
         ensures differs { DiffersWithOrMemory (λ c. is_sign c || begins_number c) codes.ExpectedNumber self.old result }
@@ -223,10 +224,10 @@ impl<I: Input> Deserializer<I> {
         self.integer::<i16>()
     }
 
-    /// Reads a whole number as `i32`; another one is a custom fault at its start.
+    /// Reads a whole number as `i32`, which takes no memory; another one is a custom fault at its start.
     pub fn deserialize_i32(&mut self) -> Result<i32>
         ensures sound { IfOk result (λ v. Gives (λ n. n) (signed_below (2 ^ 31)) self.old self.new v) }
-        ensures complete { Completes (signed_below (2 ^ 31)) self.old result }
+        ensures complete { CompletesWithoutMemory (signed_below (2 ^ 31)) self.old result }
         ensures refused { IfErr result (RefusedByOrMemory (NotNumber (as_whole (integer_below (2 ^ 31)))) self.old) }
         ensures ends { EndsWithOrMemory codes.EofParsingNumber self.old result }
         ensures differs { DiffersWithOrMemory (λ c. is_sign c || begins_number c) codes.ExpectedNumber self.old result }
@@ -236,10 +237,10 @@ impl<I: Input> Deserializer<I> {
         self.integer::<i32>()
     }
 
-    /// Reads a whole number as `i64`; another one is a custom fault at its start.
+    /// Reads a whole number as `i64`, which takes no memory; another one is a custom fault at its start.
     pub fn deserialize_i64(&mut self) -> Result<i64>
         ensures sound { IfOk result (λ v. Gives (λ n. n) (signed_below (2 ^ 63)) self.old self.new v) }
-        ensures complete { Completes (signed_below (2 ^ 63)) self.old result }
+        ensures complete { CompletesWithoutMemory (signed_below (2 ^ 63)) self.old result }
         ensures refused { IfErr result (RefusedByOrMemory (NotNumber (as_whole (integer_below (2 ^ 63)))) self.old) }
         ensures ends { EndsWithOrMemory codes.EofParsingNumber self.old result }
         ensures differs { DiffersWithOrMemory (λ c. is_sign c || begins_number c) codes.ExpectedNumber self.old result }
@@ -249,10 +250,10 @@ impl<I: Input> Deserializer<I> {
         self.integer::<i64>()
     }
 
-    /// Reads a whole number as `i128`; another one is a custom fault at its start.
+    /// Reads a whole number as `i128`, which takes no memory; another one is a custom fault at its start.
     pub fn deserialize_i128(&mut self) -> Result<i128>
         ensures sound { IfOk result (λ v. Gives (λ n. n) (signed_below (2 ^ 127)) self.old self.new v) }
-        ensures complete { Completes (signed_below (2 ^ 127)) self.old result }
+        ensures complete { CompletesWithoutMemory (signed_below (2 ^ 127)) self.old result }
         ensures refused { IfErr result (RefusedByOrMemory (NotNumber (as_whole (integer_below (2 ^ 127)))) self.old) }
         ensures ends { EndsWithOrMemory codes.EofParsingNumber self.old result }
         ensures differs { DiffersWithOrMemory (λ c. is_sign c || begins_number c) codes.ExpectedNumber self.old result }

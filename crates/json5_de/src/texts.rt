@@ -5,7 +5,7 @@ ghost use Rattle.std.specs.Str.{chars};
 ghost use Rattle.json5_grammar.specs.declared.code.ErrorCode.TheVariants as codes;
 ghost use Rattle.json5_grammar.specs.Strings.{is_quote};
 ghost use Rattle.json5_text.specs.Cows.{cow_bytes, is_borrowed};
-ghost use Rattle.json5_de.specs.Law.{Gives, Completes, StaysFailed};
+ghost use Rattle.json5_de.specs.Law.{Gives, Completes, CompletesWithoutMemory, StaysFailed};
 ghost use Rattle.json5_de.specs.Faults.{RefusedByOrMemory, NotText, EndsWithOrMemory, DiffersWithOrMemory};
 ghost use Rattle.json5_de.specs.Convert.{text_of, plain_of, cow_of, char_of, every_text, if_plain, every_cow, one_character};
 
@@ -83,6 +83,7 @@ impl<I: Input> Deserializer<I> {
 impl<'de, I: Borrows<'de>> Deserializer<I> {
     fn read_identifier(&mut self) -> Result<CowStr<'de>>
         ensures sound { IfOk result (λ v. Gives (λ t. (cow_bytes t, is_borrowed t)) cow_of self.old self.new v) }
+        ensures plain { CompletesWithoutMemory plain_of self.old result }
         ensures refused { IfErr result (RefusedByOrMemory (NotText every_cow) self.old) }
         ensures failed { OnErr result (self.new.failed ≡ true) }
         ensures before { StaysFailed self.old self.new result }
@@ -93,6 +94,7 @@ impl<'de, I: Borrows<'de>> Deserializer<I> {
 
     fn read_str(&mut self) -> Result<&'de str>
         ensures sound { IfOk result (λ v. Gives (λ t. t.now) plain_of self.old self.new v) }
+        ensures complete { CompletesWithoutMemory plain_of self.old result }
         ensures refused { IfErr result (RefusedByOrMemory (NotText if_plain) self.old) }
         ensures failed { OnErr result (self.new.failed ≡ true) }
         ensures before { StaysFailed self.old self.new result }
@@ -105,10 +107,11 @@ impl<'de, I: Borrows<'de>> Deserializer<I> {
         }
     }
 
-    /// Reads a text, borrowed where no escape is used.
+    /// Reads a text, borrowed where no escape is used, which then takes no memory.
     pub fn deserialize_identifier(&mut self) -> Result<CowStr<'de>>
         ensures sound { IfOk result (λ v. Gives (λ t. (cow_bytes t, is_borrowed t)) cow_of self.old self.new v) }
         ensures complete { Completes cow_of self.old result }
+        ensures plain { CompletesWithoutMemory plain_of self.old result }
         ensures refused { IfErr result (RefusedByOrMemory (NotText every_cow) self.old) }
         ensures ends { EndsWithOrMemory codes.EofParsingString self.old result }
         ensures differs { DiffersWithOrMemory is_quote codes.ExpectedString self.old result }
@@ -118,10 +121,10 @@ impl<'de, I: Borrows<'de>> Deserializer<I> {
         self.read_identifier()
     }
 
-    /// Reads a text without an escape; another one is a custom fault at the quote.
+    /// Reads a text without an escape, which takes no memory; another one is a custom fault at the quote.
     pub fn deserialize_str(&mut self) -> Result<&'de str>
         ensures sound { IfOk result (λ v. Gives (λ t. t.now) plain_of self.old self.new v) }
-        ensures complete { Completes plain_of self.old result }
+        ensures complete { CompletesWithoutMemory plain_of self.old result }
         ensures refused { IfErr result (RefusedByOrMemory (NotText if_plain) self.old) }
         ensures ends { EndsWithOrMemory codes.EofParsingString self.old result }
         ensures differs { DiffersWithOrMemory is_quote codes.ExpectedString self.old result }

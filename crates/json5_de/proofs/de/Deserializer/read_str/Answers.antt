@@ -7,8 +7,11 @@ use Rattle.json5_text.specs.Cows.{cow_bytes, is_borrowed}
 use Rattle.json5_de.specs.Convert.{if_plain}
 use Rattle.json5_de.specs.Faults.{faulty_text}
 use Rattle.json5_de.proofs.Taken.{took_leaf, refused_blanks, refused_or_memory}
-use Rattle.json5_de.proofs.AwaitsTexts.{text_stops}
+use Rattle.json5_de.proofs.Awaited.{wrongly_refused}
+use Rattle.json5_de.proofs.AwaitsTexts.{awaits_text, text_stops}
+use Rattle.json5_de.proofs.ListSteps.{not_ok}
 use Rattle.json5_de.proofs.Mismatches.{refused_text}
+use Rattle.json5_de.proofs.WithoutMemory.{plain_there, no_other_text}
 use Rattle.json5_de.proofs.de.Deserializer.read_str.Goals as goal
 
 pub returns-in_err-begin-clause-refused : goal.returns-in_err-begin-clause-refused
@@ -33,3 +36,18 @@ returns-in-Owned-clause-refused g c =
     let (s, u, plain, took, str, borrowed, bytes) = c.in_ok-text.ensures.taken in
     let none : if_plain u plain ≡ None = ap (if_plain u) (sym borrowed ∙ ap is_borrowed c.in-Owned.is) in
     refused_text if_plain c.args.self.now c.begin.new.self c.text.new.self c.mismatch.result c.offset-start.result s u plain c.in_ok-begin.ensures.passed took str none c.offset-start.ensures.counted c.mismatch.ensures.refused
+
+pub returns-in_err-begin-clause-complete : goal.returns-in_err-begin-clause-complete
+returns-in_err-begin-clause-complete g c = λ t r v live reads shallow converts.
+    absurd (wrongly_refused (awaits_text if_plain) c.args.self.now c.in_err-begin.field-0.0 t r v live reads converts (refused_blanks c.args.self.now c.in_err-begin.field-0.0 c.in_err-begin.ensures.refused))
+
+pub returns-in_err-text-clause-complete : goal.returns-in_err-text-clause-complete
+returns-in_err-text-clause-complete g c = λ t r v live reads shallow converts.
+    let k = plain_there c.args.self.now c.begin.new.self t r v c.in_ok-begin.ensures.passed reads converts in
+    absurd (not_ok (c.in_err-text.ensures.plain k.string k.text r k.split k.is_string))
+
+pub returns-in-Owned-clause-complete : goal.returns-in-Owned-clause-complete
+returns-in-Owned-clause-complete g c = λ t r v live reads shallow converts.
+    let (s, u, plain, took, str, borrowed, bytes) = c.in_ok-text.ensures.taken in
+    let none : if_plain u plain ≡ None = ap (if_plain u) (sym borrowed ∙ ap is_borrowed c.in-Owned.is) in
+    absurd (no_other_text if_plain c.args.self.now c.begin.new.self c.text.new.self s u plain t r v c.in_ok-begin.ensures.passed took str none reads converts)
