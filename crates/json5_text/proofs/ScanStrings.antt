@@ -1,5 +1,5 @@
 -- Steps of reading strings, between the quotes q.
-use Rattle.std.proofs.Common.{◌≡◌, ℕ, suc, ◌+◌, ◌<◌, ◌≤◌, Bool, true, false, cond, List, [], ◌∷◌, ◌++◌, length, refl, ap, sym, ◌∙◌, append_assoc, subst, arith, Option, Some, None}
+use Rattle.std.proofs.Common.{◌≡◌, ℕ, suc, ◌+◌, ◌<◌, Bool, true, false, List, [], ◌∷◌, ◌++◌, length, refl, ap, sym, ◌∙◌, append_assoc, subst, arith, Option, Some}
 use Rattle.std.specs.Prelude.{◌==◌, ◌||◌}
 use Rattle.std.specs.Str.{IsUtf8, chars, encode_utf8_all}
 use Rattle.std.proofs.lemmas.Bool.Decides.{nat_tests}
@@ -8,16 +8,16 @@ use Rattle.std.proofs.lemmas.Str.{encodes-append, encodes-chars}
 use Rattle.json5_grammar.specs.Characters.{NotBegun, Each, no_char, char}
 use Rattle.json5_grammar.specs.declared.code.ErrorCode.{ErrorCode}
 use Rattle.json5_grammar.specs.declared.code.ErrorCode.TheVariants.{EofParsingString, LineTerminatorInString, ExpectedString}
-use Rattle.json5_grammar.specs.Strings.{is_raw, is_quote, Escape}
-use Rattle.json5_grammar.specs.Reading.{Read, Place, got, bad, here, inner, and_then}
+use Rattle.json5_grammar.specs.Strings.{is_raw, is_quote}
+use Rattle.json5_grammar.specs.Reading.{Read, Place, got, bad, here, inner}
 use Rattle.json5_grammar.specs.ReadTexts.{escape_at, put, string}
 use Rattle.json5_grammar.proofs.EscapesSound.{EscapeSound, escape_sound}
 use Rattle.json5_grammar.proofs.StringsRead.{escape_head, put_none, put_raw, put_escape, put_end}
-use Rattle.json5_grammar.proofs.Turns.{string_rest, string_is, rest_end, rest_quote, rest_line, rest_raw, rest_bad, rest_escape}
+use Rattle.json5_grammar.proofs.Turns.{string_is, rest_end, rest_quote, rest_line, rest_raw, rest_bad, rest_escape}
 use Rattle.json5_text.specs.declared.refusal.Refusal.{Refusal}
 use Rattle.json5_text.specs.declared.strings.Stop.{Stop}
 use Rattle.json5_text.specs.declared.strings.Stop.TheVariants as stop
-use Rattle.json5_text.specs.Outcome.{failed, outcome}
+use Rattle.json5_text.specs.Outcome.{outcome}
 use Rattle.json5_text.specs.Refused.{Refuses}
 use Rattle.json5_text.specs.ScanStrings.{string_at, StopsAt, GoesOn, IsFurther, StopsText}
 use Rattle.json5_text.proofs.ScanEscapes.{refuses_as}

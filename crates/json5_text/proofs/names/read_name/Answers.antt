@@ -1,4 +1,4 @@
-use Rattle.std.proofs.Common.{◌≡◌, ◌-◌, ◌∷◌, ◌++◌, true, false, refl, length, ap, sym, ◌∙◌, subst}
+use Rattle.std.proofs.Common.{◌-◌, ◌∷◌, ◌++◌, true, false, refl, length, ap, sym, ◌∙◌, subst}
 use Rattle.std.specs.Str.{chars, encode_utf8_all, IsCharBoundary}
 use Rattle.std.proofs.lemmas.Result.{err_from_is_err_and}
 use Rattle.std.proofs.lemmas.Str.{encodes-chars}
@@ -9,7 +9,7 @@ use Rattle.json5_text.specs.ScanNames.{StopsAt, StopsText}
 use Rattle.json5_text.proofs.ScanBytes.{left_fits, cut_half, before_rest}
 use Rattle.json5_text.proofs.ScanFaults.{no_memory}
 use Rattle.json5_text.proofs.ScanTokens.{left_counted}
-use Rattle.json5_text.proofs.ScanEscapes.{refused_here, refuses_as}
+use Rattle.json5_text.proofs.ScanEscapes.{refused_here}
 use Rattle.json5_text.proofs.ScanStrings.{both_parts}
 use Rattle.json5_text.proofs.ScanNames.{whole_is, name_none, name_other, first_refused, plain_name, escaped_name, escaped_refused, split_whole, item_not_plain, escape_not_plain}
 use Rattle.json5_text.proofs.names.read_name.Goals as goal

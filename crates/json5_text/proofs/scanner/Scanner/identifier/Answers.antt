@@ -1,9 +1,9 @@
-use Rattle.std.proofs.Common.{◌≡◌, ◌++◌, ◌∷◌, sym, ap, ◌∙◌, subst}
+use Rattle.std.proofs.Common.{◌∙◌}
 use Rattle.std.specs.Str.{chars}
 use Rattle.json5_grammar.specs.ReadTexts.{identifier}
 use Rattle.json5_text.specs.Tokens.{FaultyName}
 use Rattle.json5_text.proofs.ScanFaults.{refusal_in, refused}
-use Rattle.json5_text.proofs.ScanTokens.{NameTaken, left_counted, leaves_rest, name_taken, name_faulty, plain_name_memory}
+use Rattle.json5_text.proofs.ScanTokens.{left_counted, leaves_rest, name_taken, name_faulty, plain_name_memory}
 use Rattle.json5_text.proofs.scanner.Scanner.identifier.Goals as goal
 
 pub fault-requires : goal.fault-requires

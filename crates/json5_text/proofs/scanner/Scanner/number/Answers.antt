@@ -1,4 +1,4 @@
-use Rattle.std.proofs.Common.{◌≡◌, ◌++◌, sym, ap, ◌∙◌, subst}
+use Rattle.std.proofs.Common.{sym, subst}
 use Rattle.std.specs.Str.{chars}
 use Rattle.json5_grammar.specs.Characters.{NotBegun}
 use Rattle.json5_grammar.specs.Stops.{lengthens}
@@ -6,7 +6,7 @@ use Rattle.json5_grammar.specs.ReadNumbers.{number}
 use Rattle.json5_text.specs.NumberViews.{number_of}
 use Rattle.json5_text.specs.Tokens.{FaultyNumber}
 use Rattle.json5_text.proofs.ScanFaults.{refusal_in, refused}
-use Rattle.json5_text.proofs.ScanNumbers.{NumberTaken, number_taken, number_faulty, number_memory}
+use Rattle.json5_text.proofs.ScanNumbers.{number_taken, number_faulty, number_memory}
 use Rattle.json5_text.proofs.ScanTokens.{left_counted, leaves_rest}
 use Rattle.json5_text.proofs.scanner.Scanner.number.Goals as goal
 
