@@ -34,7 +34,8 @@ use std::alloc::Global;
 use std::fmt::Display;
 use std::marker::Model;
 
-/// Reads tokens from the front of a text. What a token takes is gone; where a token is refused, nothing is.
+/// Reads tokens from the front of a text. What a token takes is gone; where a token is refused, nothing is. Memory is wanted
+/// for a finite decimal, for a text or a name with an escape, for a text in memory of its own and for a custom fault alone.
 #[derive(Drop)]
 pub struct Scanner<I: Input> {
     input: I,
@@ -245,7 +246,8 @@ impl<'de, I: Borrows<'de>> Scanner<I> {
     /// Takes an identifier and gives its text, borrowed where it holds no backslash (JSON5 section 3, ECMAScript 5.1 section
     /// 7.6). A character that may not begin one is `ExpectedIdentifier` at it, and an escape of a character that may not stand
     /// there is the same at the escape's backslash; faulty escapes are those of `string`. What stands behind the identifier must
-    /// be there: `EofParsingIdentifier`, like `EofParsingEscapeSequence`, has no place. Memory is wanted where an escape is used.
+    /// be there: `EofParsingIdentifier`, like `EofParsingEscapeSequence`, has no place. Memory is wanted where an escape is used,
+    /// and for a custom fault.
     pub fn identifier(&mut self) -> Result<CowStr<'de>>
         ensures taken { IfOk result (λ t. (s u : List ℕ) × (plain : Bool) × Took self.old s self.new × Ident s u plain × (is_borrowed t ≡ plain) × (cow_bytes t ≡ encode_utf8_all u)) }
         ensures stops { OnOk result ((c : ℕ) × (r : List ℕ) × (self.new.unread ≡ c ∷ r) × (goes_on_name c ≡ false)) }
