@@ -1,15 +1,14 @@
 -- What a type of numbers awaits.
-use Rattle.std.proofs.Common.{◌≡◌, ℕ, Bool, true, false, List, [], ◌∷◌, ◌++◌, refl, ap, sym, ◌∙◌, subst, ◌⊎◌, inl, inr, Option, Some, None}
+use Rattle.std.proofs.Common.{◌≡◌, ℕ, Bool, true, false, List, [], ◌∷◌, ◌++◌, refl, ap, sym, ◌∙◌, subst, Option, Some, None}
 use Rattle.std.specs.Prelude.{◌||◌}
 use Rattle.std.proofs.lemmas.List.{append_cancel_right}
 use Rattle.json5_grammar.specs.declared.code.ErrorCode.{ErrorCode}
 use Rattle.json5_grammar.specs.declared.code.ErrorCode.TheVariants.{EofParsingNumber, ExpectedNumber}
-use Rattle.json5_grammar.specs.Codes.{Shown}
-use Rattle.json5_grammar.specs.Reading.{Read, Place, here, inner, got, bad}
+use Rattle.json5_grammar.specs.Reading.{Read, Place, here, inner, bad}
 use Rattle.json5_grammar.specs.ReadNumbers as reading
-use Rattle.json5_grammar.specs.NumberFaults.{NumberFault, is_sign, begins_number}
+use Rattle.json5_grammar.specs.NumberFaults.{is_sign, begins_number}
 use Rattle.json5_grammar.specs.Numbers.{Number, Num, no_sign}
-use Rattle.json5_grammar.specs.Trees.{Tree, null, boolean, number, text, array, object}
+use Rattle.json5_grammar.specs.Trees.{Tree}
 use Rattle.json5_grammar.specs.Values.{Val, Stops, is_null, is_true, is_false, is_number, is_text, is_empty_array, is_array, is_empty_object, is_object}
 use Rattle.json5_grammar.proofs.NumbersRead.{number_unsigned}
 use Rattle.json5_grammar.proofs.NumbersSound.{PlaceIs, unsigned_bad}
@@ -19,7 +18,7 @@ use Rattle.json5_text.specs.Tokens.{FaultyNumber, faulty, no_number, number_miss
 use Rattle.json5_de.specs.Convert.{as_number}
 use Rattle.json5_de.specs.Faults.{NotNumber, faulty_number, other_number}
 use Rattle.json5_de.proofs.Awaited.{Awaited}
-use Rattle.json5_de.proofs.Words.{append_not_nil, cons_same}
+use Rattle.json5_de.proofs.Words.{cons_same}
 
 number_none : reading.number [] ≡ bad (Some EofParsingNumber) inner
 unfolding reading.number

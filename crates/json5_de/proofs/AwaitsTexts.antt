@@ -4,16 +4,16 @@ use Rattle.std.specs.Prelude.{◌||◌, ◌==◌}
 use Rattle.json5_grammar.specs.declared.code.ErrorCode.{ErrorCode}
 use Rattle.json5_grammar.specs.declared.code.ErrorCode.TheVariants.{EofParsingString, ExpectedString}
 use Rattle.json5_grammar.specs.Codes.{Shown}
-use Rattle.json5_grammar.specs.Reading.{Read, Place, here, inner, got, bad, IsAt}
+use Rattle.json5_grammar.specs.Reading.{Read, Place, inner, bad, IsAt}
 use Rattle.json5_grammar.specs.ReadTexts as reading
 use Rattle.json5_grammar.specs.Strings.{Str, quoted, is_quote}
 use Rattle.json5_grammar.specs.StringFaults.{StringFault, raw_terminator, string_ends, in_escape}
 use Rattle.json5_grammar.specs.Stops.{lengthens}
 use Rattle.json5_grammar.specs.Characters.{NotBegun}
-use Rattle.json5_grammar.specs.Trees.{Tree, null, boolean, number, text, array, object}
+use Rattle.json5_grammar.specs.Trees.{Tree}
 use Rattle.json5_grammar.specs.Values.{Val, Stops, is_null, is_true, is_false, is_number, is_text, is_empty_array, is_array, is_empty_object, is_object}
 use Rattle.json5_grammar.proofs.Basics.{eq_from}
-use Rattle.json5_grammar.proofs.StringsRead.{string_refused, no_string_fault, one_string}
+use Rattle.json5_grammar.proofs.StringsRead.{no_string_fault, one_string}
 use Rattle.json5_text.specs.Tokens.{FaultyString, faulty, no_quote, string_missing}
 use Rattle.json5_de.specs.Convert.{as_text}
 use Rattle.json5_de.specs.Faults.{NotText, faulty_text, other_text}

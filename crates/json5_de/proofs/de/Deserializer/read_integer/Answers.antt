@@ -1,10 +1,9 @@
-use Rattle.std.proofs.Common.{◌≡◌, List, ℕ, None, refl, ap, inr, sym, ◌∙◌, subst}
+use Rattle.std.proofs.Common.{◌≡◌, None, refl, ap, inr, ◌∙◌}
 use Rattle.std.proofs.lemmas.Result.{err_from_is_err_and}
-use Rattle.json5_grammar.specs.Numbers as numbers
 use Rattle.json5_grammar.specs.Trees as trees
 use Rattle.json5_grammar.specs.Values.{is_number}
 use Rattle.json5_text.specs.NumberViews.{number_of}
-use Rattle.json5_de.specs.Convert.{as_whole, as_number}
+use Rattle.json5_de.specs.Convert.{as_whole}
 use Rattle.json5_de.specs.Faults.{faulty_number}
 use Rattle.json5_de.proofs.Taken.{took_leaf, refused_blanks, refused_or_memory}
 use Rattle.json5_de.proofs.Awaited.{wrongly_refused}
