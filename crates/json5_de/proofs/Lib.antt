@@ -16,3 +16,4 @@ pub mod Documents
 pub mod TextScalars
 pub mod WholeDecimals
 pub mod ScalarsAwaited
+pub mod SoMany
