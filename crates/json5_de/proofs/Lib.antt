@@ -17,3 +17,4 @@ pub mod TextScalars
 pub mod WholeDecimals
 pub mod ScalarsAwaited
 pub mod SoMany
+pub mod ArrayCodes

@@ -27,7 +27,8 @@ impl<I: Input, T: Deserialize<I>> Deserialize<I> for Vec<T> {
     }
 }
 
-/// An array of exactly N elements, each of the type.
+/// An array of exactly N elements, each of the type. Fewer are refused at the opening bracket with a text of its own, more with
+/// `ExpectedClosingBracket` at the first that is too many.
 impl<I: Input, T: Deserialize<I>, const N: usize> Deserialize<I> for [T; N] {
     ghost use Rattle.std.specs.Prelude.{List, map};
     ghost use Rattle.json5_grammar.specs.Members.{array_of};
