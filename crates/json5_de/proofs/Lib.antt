@@ -17,3 +17,5 @@ pub mod TextScalars
 pub mod WholeDecimals
 pub mod ScalarsAwaited
 pub mod WithoutMemory
+pub mod SoMany
+pub mod ArrayCodes

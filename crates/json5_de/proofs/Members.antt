@@ -97,7 +97,7 @@ last_parts f no_more v e = absurd (cc)
 last_parts f (more t no_more) v e = (t, refl, e)
 last_parts f (more t (more u us)) v e = absurd (cc)
 
-member_next : {C : Type 0} (f : Tree → Option C) (due : Bool) (s : State) (t : Tree) (us : Trees) (c : C) (r : List ℕ) → f t ≡ Some c → Tail (more t us) due s.unread r → s.level + depths (more t us) ≤ max_depth → s.failed ≡ false → ElementNext f due s
+pub member_next : {C : Type 0} (f : Tree → Option C) (due : Bool) (s : State) (t : Tree) (us : Trees) (c : C) (r : List ℕ) → f t ≡ Some c → Tail (more t us) due s.unread r → s.level + depths (more t us) ≤ max_depth → s.failed ≡ false → ElementNext f due s
 member_next f due s t us c r is (q, e, tail) shallow live = record { tree = t; value = c; behind = q; is = is; element = e; shallow = omega (arith, shallow); live = live }
 
 pub first_next : {A B : Type 0} (f : Tree → Option A) (g : Trees → Option B) (due : Bool) (s : State) → MembersLeft (first_of f g) due s → ElementNext f due s
@@ -117,10 +117,10 @@ next_no_close f due s new n at = let (r, close, e) = at.close in element_or_clos
 more_same : (t u : Tree) (ts us : Trees) → more t ts ≡ more u us → ts ≡ us
 more_same t u ts us e = cc
 
--- the others, once it was read
-pub others_left : {A B : Type 0} (f : Tree → Option A) (g : Trees → Option B) (due now : Bool) (s new : State) (u : Tree) → MembersLeft (first_of f g) due s → TookElement due s u new → now ≡ (due || true) → MembersLeft g now new
-others_left f g due now s new u m took is =
-    let (t, us, a, b, e, is_a, are) = first_parts f g m.trees m.value m.is in
+-- those behind a member that was read
+pub behind_left : {B C : Type 0} (g : Trees → Option B) (h : Trees → Option C) (due now : Bool) (s new : State) (t u : Tree) (us : Trees) (b : B) → (m : MembersLeft h due s) → m.trees ≡ more t us → g us ≡ Some b
+    → TookElement due s u new → now ≡ (due || true) → MembersLeft g now new
+behind_left g h due now s new t u us b m e are took is =
     let (vs, split, tail) = element_left m.trees due s.unread new.unread m.behind u took.element m.tail in
     let same : us ≡ vs = more_same t u us vs (sym e ∙ split) in
     let level = same_level s new took.rest in
@@ -134,6 +134,12 @@ others_left f g due now s new u m took is =
       shallow = omega (arith, level, deep);
       live = still_live s new m.live took.rest;
     }
+
+-- the others, once it was read
+pub others_left : {A B : Type 0} (f : Tree → Option A) (g : Trees → Option B) (due now : Bool) (s new : State) (u : Tree) → MembersLeft (first_of f g) due s → TookElement due s u new → now ≡ (due || true) → MembersLeft g now new
+others_left f g due now s new u m took is =
+    let (t, us, a, b, e, is_a, are) = first_parts f g m.trees m.value m.is in
+    behind_left g (first_of f g) due now s new t u us b m e are took is
 
 -- none, once the last one was read: the closing bracket is next
 pub bracket_left : {A : Type 0} (f : Tree → Option A) (due now : Bool) (s new : State) (u : Tree) → MembersLeft (last_of f) due s → TookElement due s u new → now ≡ (due || true)

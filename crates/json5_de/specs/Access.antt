@@ -1,18 +1,19 @@
 -- What contracts see of an access to an array.
-use Rattle.std.specs.Prelude.{◌≡◌, ◌≢◌, ℕ, ◌+◌, ◌-◌, ◌<◌, ◌≤◌, Bool, true, false, List, [], ◌∷◌, ◌++◌, length, Option, Some, None, Result, ◌==◌, ◌||◌}
+use Rattle.std.specs.Prelude.{◌≡◌, ◌≢◌, ℕ, ◌+◌, ◌-◌, ◌<◌, ◌≤◌, Bool, true, false, List, [], ◌∷◌, ◌++◌, length, Option, Some, None, Result, IsErrAnd, ◌==◌, ◌||◌, ◌&&◌}
 use Rattle.std.specs.Str.{encode_utf8_all}
 use Rattle.json5_grammar.specs.declared.code.ErrorCode.{ErrorCode}
 use Rattle.json5_grammar.specs.declared.code.ErrorCode.TheVariants as codes
 use Rattle.json5_grammar.specs.Codes.{behind_text}
+use Rattle.json5_grammar.specs.Blanks.{Blanks}
 use Rattle.json5_grammar.specs.Positions.{position_behind}
 use Rattle.json5_grammar.specs.Trees.{Tree, depth}
 use Rattle.json5_grammar.specs.Documents.{max_depth}
 use Rattle.json5_grammar.specs.Members.{Opens, IsElement, IsClose, IsAtClose}
 use Rattle.json5_text.specs.declared.error.Error.{Error}
-use Rattle.json5_text.specs.Errors.{place_of}
+use Rattle.json5_text.specs.Errors.{code, kind_of, place_of}
 use Rattle.json5_de.specs.State.{State, OnlyRead}
 use Rattle.json5_de.specs.Law.{IsOkOrMemory}
-use Rattle.json5_de.specs.Faults.{Behind}
+use Rattle.json5_de.specs.Faults.{Behind, AtEnd, IsBehind}
 
 -- what an access sees of the reader that is lent to it, which stands as failed meanwhile
 abbrev pub within : State → Bool → State
@@ -70,6 +71,35 @@ IsAtOffset input offset e = (before : List ℕ) → StartsBehind input offset be
 
 abbrev pub HasPlace : Error → Type 0
 HasPlace e = place_of e ≢ None
+
+-- the code at the end, placed where the offset stands
+abbrev pub EndsAtOffset : {V : Type 0} → ErrorCode → ℕ → State → Result V Error → Type 0
+EndsAtOffset ends offset old result = AtEnd old → IsErrAnd result (λ e. (kind_of e ≡ code ends) × IsAtOffset old.input offset e)
+
+-- behind the blanks w stands an opening bracket, where no more may be open
+pub record AtFull (old : State) (w : List ℕ) : Type 0 where
+  pub live : old.failed ≡ false
+  pub full : old.level ≡ max_depth
+  pub blank : Blanks w
+  pub more : List ℕ
+  pub split : old.unread ≡ w ++ 0x5B ∷ more
+
+-- TooDeep at that bracket
+abbrev pub TooDeepAt : {V : Type 0} → State → Result V Error → Type 0
+TooDeepAt old result = (w : List ℕ) → AtFull old w → IsErrAnd result (IsBehind codes.TooDeep old w)
+
+-- ---- what begins the rest of an array
+
+abbrev pub is_opening : ℕ → Bool
+is_opening c = c == 0x5B
+
+-- behind an element
+abbrev pub is_comma_or_closing : ℕ → Bool
+is_comma_or_closing c = (c == 0x2C) || (c == 0x5D)
+
+-- the closing bracket, and before it the comma that may stand there
+abbrev pub begins_close : Bool → ℕ → Bool
+begins_close due c = (c == 0x5D) || (due && (c == 0x2C))
 
 -- ---- what is refused
 

@@ -1,6 +1,7 @@
 //! Lists of elements of one type.
 
 use crate::de::{Deserialize, Deserializer};
+use crate::tuples::too_short;
 use json5_text::error::Result;
 use json5_text::input::Input;
 
@@ -23,5 +24,36 @@ impl<I: Input, T: Deserialize<I>> Deserialize<I> for Vec<T> {
         }
         seq.end()?;
         Ok(items)
+    }
+}
+
+/// An array of exactly N elements, each of the type. Fewer are refused at the opening bracket with a text of its own, more with
+/// `ExpectedClosingBracket` at the first that is too many.
+impl<I: Input, T: Deserialize<I>, const N: usize> Deserialize<I> for [T; N] {
+    ghost use Rattle.std.specs.Prelude.{List, map};
+    ghost use Rattle.json5_grammar.specs.Members.{array_of};
+    ghost use Rattle.json5_de.specs.ConvertLists.{exactly};
+
+    ghost Content = { List T.Content };
+
+    ghost content = { λ v. map T.content v };
+
+    ghost convert = { array_of (exactly N T.convert) };
+
+    fn deserialize(de: &mut Deserializer<I>) -> Result<[T; N]> {
+        let alloc = de.allocator();
+        let mut items = Vec::new(alloc);
+        let mut seq = de.deserialize_tuple(N)?;
+        while items.len() < N {
+            let Some(item) = seq.next_element::<T>()? else {
+                return Err(too_short(&seq, alloc, items.len(), "an array of length", N));
+            };
+            items.push(item)?;
+        }
+        seq.end()?;
+        match <[T; N]>::try_from(items) {
+            Ok(items) => Ok(items),
+            Err(_) => unreachable!(),
+        }
     }
 }

@@ -43,15 +43,22 @@ impl<I: Input> Deserializer<I> {
         }
     }
 
-    /// Reads the T that a struct of one field holds. The name changes nothing.
+    /// Reads the T that a struct of one field holds, with the faults of T. The name changes nothing. After a refusal every later
+    /// call answers `Failed`.
     pub fn deserialize_newtype_struct<T: Deserialize<I>>(
         &mut self,
         _name: &'static str,
     ) -> Result<T>
         ensures sound { IfOk result (λ v. Gives T.content T.convert self.old self.new v) }
         ensures complete { Completes T.convert self.old result }
+        ensures failed { OnErr result (self.new.failed ≡ true) }
+        ensures before { StaysFailed self.old self.new result }
     {
-        T::deserialize(self)
+        self.live()?;
+        match T::deserialize(self) {
+            Ok(value) => Ok(value),
+            Err(e) => self.refuse(e),
+        }
     }
 
     /// Reads `null` as a struct without fields. The name changes nothing. Takes no memory.

@@ -8,13 +8,14 @@ ghost use Rattle.json5_grammar.specs.Characters.{NotBegun};
 ghost use Rattle.json5_grammar.specs.Blanks.{Blanks};
 ghost use Rattle.json5_grammar.specs.Documents.{max_depth};
 ghost use Rattle.json5_grammar.specs.Positions.{position_behind};
+ghost use Rattle.json5_grammar.specs.declared.position.Position.{Position};
 ghost use Rattle.json5_grammar.specs.Members.{Opens, IsClose, GoesNowhere};
 ghost use Rattle.json5_text.specs.Errors.{code, kind_of, place_of, or_place};
 ghost use Rattle.json5_text.specs.Cursor.{Refused};
 ghost use Rattle.json5_de.specs.State.{State, cursor_of};
 ghost use Rattle.json5_de.specs.Law.{StaysFailed};
-ghost use Rattle.json5_de.specs.Faults.{RefusedBy, EndsWith, DiffersWith, AtEnd, AtOther, IsBehind};
-ghost use Rattle.json5_de.specs.Access.{within, Opened, Closed, GivesElement, CompletesElement, StartsBehind, IsAtOffset, HasPlace, Unawaited, NotOpened, NoBracket, NotClosed};
+ghost use Rattle.json5_de.specs.Faults.{RefusedBy, EndsWith, DiffersWith, AtEnd};
+ghost use Rattle.json5_de.specs.Access.{within, Opened, Closed, GivesElement, CompletesElement, StartsBehind, EndsAtOffset, TooDeepAt, HasPlace, Unawaited, NotOpened, NotClosed, is_opening, is_comma_or_closing, begins_close};
 ghost use Rattle.json5_de.specs.Seq.{GoesOn, NoNext};
 ghost use Rattle.json5_de.specs.contracts.de.Deserializer.{the_row};
 
@@ -68,6 +69,9 @@ impl<I: Input> Deserializer<I> {
         ensures start { IfOk result (λ start. (before : List ℕ) → self.old.input ≡ before ++ 0x5B ∷ self.new.unread → start ≡ length (encode_utf8_all before)) }
         ensures complete { (r : List ℕ) → self.old.failed ≡ false → Opens self.old.unread r → self.old.level < max_depth → IsOk result }
         ensures refused { IfErr result (RefusedBy (NotOpened self.old.level) self.old) }
+        ensures ends { EndsWith codes.EofParsingArray self.old result }
+        ensures differs { DiffersWith is_opening codes.ExpectedOpeningBracket self.old result }
+        ensures too_deep { TooDeepAt self.old result }
         ensures failed { OnErr result (self.new.failed ≡ true) }
         ensures before { StaysFailed self.old self.new result }
     {
@@ -99,6 +103,7 @@ impl<I: Input> Deserializer<I> {
         ensures sound { IfOk result (λ more. GoesOn due self.old self.new more) }
         ensures refused { IfErr result (RefusedBy NoNext self.old) }
         ensures nowhere { OnErr result (self.old.failed ≡ false → GoesNowhere due self.old.unread) }
+        ensures stays { OnErr result (AtEnd self.old → self.new.input ≡ self.old.input) }
     {
         self.begin()?;
         if self.at_bracket() {
@@ -119,6 +124,9 @@ impl<I: Input> Deserializer<I> {
         ensures sound { IfOk result (λ o. GivesElement T.content T.convert due self.old self.new o) }
         ensures complete { CompletesElement T.convert due self.old result }
         ensures closing { (r : List ℕ) → self.old.failed ≡ false → IsClose due self.old.unread r → IsOk result }
+        ensures ends { due ≡ true → EndsWith codes.EofParsingArray self.old result }
+        ensures stays { due ≡ true → AtEnd self.old → self.new.input ≡ self.old.input }
+        ensures differs { due ≡ true → DiffersWith is_comma_or_closing codes.ExpectedComma self.old result }
     {
         if self.goes_on(due)? {
             Ok(Some(T::deserialize(self)?))
@@ -169,6 +177,9 @@ impl<I: Input> Deserializer<I> {
         ensures start { IfOk result (λ s. (before : List ℕ) → self.old.input ≡ before ++ 0x5B ∷ s.de.now.unread → s.start ≡ length (encode_utf8_all before)) }
         ensures complete { (r : List ℕ) → self.old.failed ≡ false → Opens self.old.unread r → self.old.level < max_depth → IsOk result }
         ensures refused { IfErr result (RefusedBy (NotOpened self.old.level) self.old) }
+        ensures ends { EndsWith codes.EofParsingArray self.old result }
+        ensures differs { DiffersWith is_opening codes.ExpectedOpeningBracket self.old result }
+        ensures too_deep { TooDeepAt self.old result }
         ensures before { self.old.failed ≡ true → IsErrAnd result (λ e. (kind_of e ≡ code codes.Failed) × (place_of e ≡ None)) }
     {
         let start = self.open()?;
@@ -190,6 +201,9 @@ impl<I: Input> Deserializer<I> {
         ensures start { IfOk result (λ s. (before : List ℕ) → self.old.input ≡ before ++ 0x5B ∷ s.de.now.unread → s.start ≡ length (encode_utf8_all before)) }
         ensures complete { (r : List ℕ) → self.old.failed ≡ false → Opens self.old.unread r → self.old.level < max_depth → IsOk result }
         ensures refused { IfErr result (RefusedBy (NotOpened self.old.level) self.old) }
+        ensures ends { EndsWith codes.EofParsingArray self.old result }
+        ensures differs { DiffersWith is_opening codes.ExpectedOpeningBracket self.old result }
+        ensures too_deep { TooDeepAt self.old result }
         ensures before { self.old.failed ≡ true → IsErrAnd result (λ e. (kind_of e ≡ code codes.Failed) × (place_of e ≡ None)) }
     {
         self.deserialize_seq()
@@ -208,6 +222,9 @@ impl<I: Input> Deserializer<I> {
         ensures start { IfOk result (λ s. (before : List ℕ) → self.old.input ≡ before ++ 0x5B ∷ s.de.now.unread → s.start ≡ length (encode_utf8_all before)) }
         ensures complete { (r : List ℕ) → self.old.failed ≡ false → Opens self.old.unread r → self.old.level < max_depth → IsOk result }
         ensures refused { IfErr result (RefusedBy (NotOpened self.old.level) self.old) }
+        ensures ends { EndsWith codes.EofParsingArray self.old result }
+        ensures differs { DiffersWith is_opening codes.ExpectedOpeningBracket self.old result }
+        ensures too_deep { TooDeepAt self.old result }
         ensures before { self.old.failed ≡ true → IsErrAnd result (λ e. (kind_of e ≡ code codes.Failed) × (place_of e ≡ None)) }
     {
         self.deserialize_seq()
@@ -215,8 +232,9 @@ impl<I: Input> Deserializer<I> {
 }
 
 impl<'a, I: Input> SeqAccess<'a, I> {
-    /// The next element; none where the closing bracket is next, which stays unread. `ExpectedComma` stands at what isn't the
-    /// comma behind an element, and a fault without a place gets the opening bracket's.
+    /// The next element; none where the closing bracket is next, which stays unread. Behind an element `ExpectedComma` stands at
+    /// what is neither a comma nor the bracket, and `EofParsingArray` says that the text ends; else the element's own faults come.
+    /// A fault without a place gets the opening bracket's. After a refusal every later call answers `Failed`.
     pub fn next_element<T: Deserialize<I>>(&mut self) -> Result<Option<T>>
         ensures same_reference { self.new.de.ghost_name ≡ self.old.de.ghost_name }
         ensures lent { self.new.de.now.failed ≡ true }
@@ -226,7 +244,10 @@ impl<'a, I: Input> SeqAccess<'a, I> {
         ensures closing { (r : List ℕ) → self.old.failed ≡ false → IsClose self.old.due self.old.de.now.unread r → IsOk result }
         ensures start { self.new.start ≡ self.old.start }
         ensures placed { IfErr result HasPlace }
+        ensures ends { self.old.due ≡ true → EndsAtOffset codes.EofParsingArray self.old.start (within self.old.de.now self.old.failed) result }
+        ensures differs { self.old.due ≡ true → DiffersWith is_comma_or_closing codes.ExpectedComma (within self.old.de.now self.old.failed) result }
         ensures failed { OnErr result (self.new.failed ≡ true) }
+        ensures before { self.old.failed ≡ true → IsErrAnd result (λ e. kind_of e ≡ code codes.Failed) }
     {
         if self.failed {
             self.de.set_failed(true);
@@ -251,6 +272,7 @@ impl<'a, I: Input> SeqAccess<'a, I> {
     /// The fault, at the opening bracket where it has no place.
     pub fn place(&self, error: Error) -> Error
         ensures kind { kind_of result ≡ kind_of error }
+        ensures kept { (p : Position) → place_of error ≡ Some p → place_of result ≡ Some p }
         ensures place { (before : List ℕ) → StartsBehind self.now.de.now.input self.now.start before → place_of result ≡ or_place (place_of error) (position_behind before) }
         ensures placed { HasPlace result }
     {
@@ -263,7 +285,10 @@ impl<'a, I: Input> SeqAccess<'a, I> {
         ensures closed { OnOk result (Closed self.entry.due (within self.entry.de.now self.entry.failed) self.exit.0.now) }
         ensures complete { (r : List ℕ) → self.entry.failed ≡ false → IsClose self.entry.due self.entry.de.now.unread r → IsOk result }
         ensures refused { IfErr result (RefusedBy (NotClosed self.entry.due) (within self.entry.de.now self.entry.failed)) }
+        ensures ends { EndsWith codes.EofParsingArray (within self.entry.de.now self.entry.failed) result }
+        ensures differs { DiffersWith (begins_close self.entry.due) codes.ExpectedClosingBracket (within self.entry.de.now self.entry.failed) result }
         ensures failed { OnErr result (self.exit.0.now.failed ≡ true) }
+        ensures before { self.entry.failed ≡ true → IsErrAnd result (λ e. (kind_of e ≡ code codes.Failed) × (place_of e ≡ None)) }
     {
         let SeqAccess {
             de,

@@ -7,7 +7,7 @@ use json5_text::input::Input;
 use std::alloc::Global;
 
 /// A list that ended too early, a fault at its bracket.
-fn too_short<I: Input>(
+pub(crate) fn too_short<I: Input>(
     seq: &SeqAccess<'_, I>,
     alloc: Global,
     length: usize,

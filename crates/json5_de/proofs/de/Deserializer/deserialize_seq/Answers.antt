@@ -15,6 +15,9 @@ returns-in_err-start g c =
         start = tt;
         complete = c.in_err-start.ensures.complete;
         refused = c.in_err-start.ensures.refused;
+        ends = c.in_err-start.ensures.ends;
+        differs = c.in_err-start.ensures.differs;
+        too_deep = c.in_err-start.ensures.too_deep;
         before = λ h. (c.in_err-start.ensures.before h).0;
       },
     )

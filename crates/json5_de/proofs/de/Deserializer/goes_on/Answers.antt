@@ -3,6 +3,8 @@ use Rattle.std.proofs.lemmas.Result.{err_from_is_err_and}
 use Rattle.json5_de.specs.Seq.{in_blanks_behind}
 use Rattle.json5_de.proofs.Taken.{refused_blanks, refused_token}
 use Rattle.json5_de.proofs.Places.{refused_as, refused_behind}
+use Rattle.json5_de.proofs.Ends.{end_not_blamed}
+use Rattle.json5_de.proofs.Options.{end_next}
 use Rattle.json5_de.proofs.Arrays.{failed_of, behind_gap_of, no_next, nowhere_next, nowhere_faulty, nowhere_behind, goes_behind, at_close_here, at_element_here}
 use Rattle.json5_de.proofs.de.Deserializer.goes_on.Goals as goal
 
@@ -48,3 +50,14 @@ pub returns-clause-sound : goal.returns-clause-sound
 returns-clause-sound g c =
     goes_behind c.args.due c.at_bracket-2.result c.args.self.now c.begin.new.self c.eat.new.self c.begin-2.new.self c.if-not-due.false c.in_ok-begin.ensures.passed (c.if-not-eat.ensures.taken refl)
     c.in_ok-begin-2.ensures.passed c.at_bracket-2.ensures.found c.at_bracket-2.ensures.other
+
+pub returns-in_err-begin-clause-stays : goal.returns-in_err-begin-clause-stays
+returns-in_err-begin-clause-stays g c =
+    let (y, is, from) = err_from_is_err_and c.from_residual.result c.from_residual.ensures.1 in
+    rw is (λ at. end_not_blamed c.args.self.now c.in_err-begin.field-0.0 at c.in_err-begin.ensures.refused)
+
+pub returns-in_err-begin-2-clause-stays : goal.returns-in_err-begin-2-clause-stays
+returns-in_err-begin-2-clause-stays g c =
+    let (y, is, from) = err_from_is_err_and c.from_residual-in_err-begin-2.result c.from_residual-in_err-begin-2.ensures.1 in
+    let took = c.if-not-eat.ensures.taken refl in
+    rw is (λ at. absurd (end_next c.args.self.now c.begin.new.self 0x2C c.eat.new.self.unread at c.in_ok-begin.ensures.passed took.split))

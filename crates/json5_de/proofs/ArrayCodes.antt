@@ -1,0 +1,191 @@
+-- The codes of what is refused round an array's members.
+use Rattle.std.proofs.Common.{◌≡◌, ℕ, Bool, true, false, not, List, [], ◌∷◌, ◌++◌, refl, ap, sym, ◌∙◌, subst, ◌⊎◌, inl, inr, Option, Some, None, arith}
+use Rattle.std.specs.Prelude.{◌==◌, ◌||◌, ◌&&◌, Result, Ok, Err, IfErr, IsErrAnd}
+use Rattle.std.proofs.lemmas.List.{append-nil}
+use Rattle.json5_grammar.specs.declared.code.ErrorCode.{ErrorCode}
+use Rattle.json5_grammar.specs.declared.code.ErrorCode.TheVariants as codes
+use Rattle.json5_grammar.specs.declared.position.Position.{Position}
+use Rattle.json5_grammar.specs.Blanks.{Gap, is_solid}
+use Rattle.json5_grammar.specs.Members.{IsSign, IsClose}
+use Rattle.json5_grammar.proofs.BlanksRead.{begins_solid}
+use Rattle.json5_grammar.proofs.MembersRead.{comma_solid, bracket_solid, opening_solid}
+use Rattle.json5_grammar.proofs.MembersNowhere.{no_sign}
+use Rattle.json5_text.specs.declared.error.Error.{Error}
+use Rattle.json5_text.specs.Errors.{code, kind_of, place_of}
+use Rattle.json5_de.specs.State.{State}
+use Rattle.json5_de.specs.Access.{within, Opened, Closed, NotOpened, no_bracket, array_missing, too_deep, NoBracket, other_sign, bracket_missing, NotClosed, not_here, behind_comma, AtFull, is_opening, is_comma_or_closing, begins_close}
+use Rattle.json5_de.specs.Seq.{GoesOn, NoNext, no_comma, list_ends, in_blanks_behind}
+use Rattle.json5_de.specs.Faults.{AtEnd, AtOther, IsBehind, RefusedBy}
+use Rattle.json5_de.proofs.Awaited.{Awaited, other_fault}
+use Rattle.json5_de.proofs.Options.{first_same}
+use Rattle.json5_de.proofs.Arrays.{no_bool}
+
+-- ---- what is awaited
+
+-- behind an element
+pub awaits_more : Awaited {C = Unit {0}} NoNext (λ t. None) is_comma_or_closing codes.EofParsingArray codes.ExpectedComma
+awaits_more = record {
+  at_end = λ reason place f. at_none [] reason place refl f;
+  at_other = λ c r reason place h f. at_some (c ∷ r) c r reason place refl h f;
+  no_fault = λ s r t v reason place e k stops f. absurd (cc);
+  first = λ s t v e k. absurd (cc);
+}
+  where
+    at_none : (x : List ℕ) (reason : Option ErrorCode) (place : Option (List ℕ)) → x ≡ [] → NoNext x reason place → (reason ≡ Some codes.EofParsingArray) × (place ≡ None)
+    at_none x reason place e (no_comma c r m n) = absurd (cc)
+    at_none x reason place e list_ends = (refl, refl)
+    at_none x reason place e (in_blanks_behind f) = absurd (cc)
+
+    at_some : (x : List ℕ) (c : ℕ) (r : List ℕ) (reason : Option ErrorCode) (place : Option (List ℕ)) → x ≡ c ∷ r → is_comma_or_closing c ≡ false → NoNext x reason place → (reason ≡ Some codes.ExpectedComma) × (place ≡ Some [])
+    at_some x c r reason place e h (no_comma d q m n) = (refl, refl)
+    at_some x c r reason place e h list_ends = absurd (cc)
+    at_some x c r reason place e h (in_blanks_behind {x = y} f) = absurd (no_bool {b = true} refl (subst (λ d. is_comma_or_closing d ≡ false) (sym (first_same 0x2C c y r e)) h))
+
+-- where an array is
+pub awaits_opening : (level : ℕ) → Awaited {C = Unit {0}} (NotOpened level) (λ t. None) is_opening codes.EofParsingArray codes.ExpectedOpeningBracket
+awaits_opening level = record {
+  at_end = λ reason place f. at_none [] reason place refl f;
+  at_other = λ c r reason place h f. at_some (c ∷ r) c r reason place refl h f;
+  no_fault = λ s r t v reason place e k stops f. absurd (cc);
+  first = λ s t v e k. absurd (cc);
+}
+  where
+    at_none : (x : List ℕ) (reason : Option ErrorCode) (place : Option (List ℕ)) → x ≡ [] → NotOpened level x reason place → (reason ≡ Some codes.EofParsingArray) × (place ≡ None)
+    at_none x reason place e (no_bracket c r n) = absurd (cc)
+    at_none x reason place e array_missing = (refl, refl)
+    at_none x reason place e (too_deep r full) = absurd (cc)
+
+    at_some : (x : List ℕ) (c : ℕ) (r : List ℕ) (reason : Option ErrorCode) (place : Option (List ℕ)) → x ≡ c ∷ r → is_opening c ≡ false → NotOpened level x reason place → (reason ≡ Some codes.ExpectedOpeningBracket) × (place ≡ Some [])
+    at_some x c r reason place e h (no_bracket d q n) = (refl, refl)
+    at_some x c r reason place e h array_missing = absurd (cc)
+    at_some x c r reason place e h (too_deep q full) = absurd (no_bool {b = true} refl (subst (λ d. is_opening d ≡ false) (sym (first_same 0x5B c q r e)) h))
+
+-- one more bracket than may be open
+awaits_room : (level : ℕ) → Awaited {C = Unit {0}} (NotOpened level) (λ t. None) (λ c. not (is_opening c)) codes.EofParsingArray codes.TooDeep
+awaits_room level = record {
+  at_end = λ reason place f. at_none [] reason place refl f;
+  at_other = λ c r reason place h f. at_some (c ∷ r) c r reason place refl h f;
+  no_fault = λ s r t v reason place e k stops f. absurd (cc);
+  first = λ s t v e k. absurd (cc);
+}
+  where
+    at_none : (x : List ℕ) (reason : Option ErrorCode) (place : Option (List ℕ)) → x ≡ [] → NotOpened level x reason place → (reason ≡ Some codes.EofParsingArray) × (place ≡ None)
+    at_none x reason place e (no_bracket c r n) = absurd (cc)
+    at_none x reason place e array_missing = (refl, refl)
+    at_none x reason place e (too_deep r full) = absurd (cc)
+
+    at_some : (x : List ℕ) (c : ℕ) (r : List ℕ) (reason : Option ErrorCode) (place : Option (List ℕ)) → x ≡ c ∷ r → not (is_opening c) ≡ false → NotOpened level x reason place → (reason ≡ Some codes.TooDeep) × (place ≡ Some [])
+    at_some x c r reason place e h (no_bracket d q n) = absurd (no_bool {b = true} refl (subst (λ b. not b ≡ false) (subst (λ k. is_opening k ≡ false) (first_same d c q r e) n) h))
+    at_some x c r reason place e h array_missing = absurd (cc)
+    at_some x c r reason place e h (too_deep q full) = (refl, refl)
+
+-- where an array ends
+pub awaits_closing : (due : Bool) → Awaited {C = Unit {0}} (NotClosed due) (λ t. None) (begins_close due) codes.EofParsingArray codes.ExpectedClosingBracket
+awaits_closing due = record {
+  at_end = λ reason place f. at_none [] reason place refl f;
+  at_other = λ c r reason place h f. at_some (c ∷ r) c r reason place refl h f;
+  no_fault = λ s r t v reason place e k stops f. absurd (cc);
+  first = λ s t v e k. absurd (cc);
+}
+  where
+    at_none : (x : List ℕ) (reason : Option ErrorCode) (place : Option (List ℕ)) → x ≡ [] → NotClosed due x reason place → (reason ≡ Some codes.EofParsingArray) × (place ≡ None)
+    at_none x reason place e (not_here (other_sign c r n m)) = absurd (cc)
+    at_none x reason place e (not_here bracket_missing) = (refl, refl)
+    at_none x reason place e (behind_comma d f) = absurd (cc)
+
+    at_comma : (b : Bool) → b ≡ true → begins_close b 0x2C ≡ true
+    at_comma true d = refl
+    at_comma false d = absurd (cc)
+
+    at_some : (x : List ℕ) (c : ℕ) (r : List ℕ) (reason : Option ErrorCode) (place : Option (List ℕ)) → x ≡ c ∷ r → begins_close due c ≡ false → NotClosed due x reason place → (reason ≡ Some codes.ExpectedClosingBracket) × (place ≡ Some [])
+    at_some x c r reason place e h (not_here (other_sign d q n m)) = (refl, refl)
+    at_some x c r reason place e h (not_here bracket_missing) = absurd (cc)
+    at_some x c r reason place e h (behind_comma {x = y} d f) = absurd (no_bool (at_comma due d) (subst (λ k. begins_close due k ≡ false) (sym (first_same 0x2C c y r e)) h))
+
+-- ---- where nothing goes on
+
+pub end_no_sign : (sign : ℕ) (s : State) (r : List ℕ) → is_solid sign ≡ true → AtEnd s → IsSign sign s.unread r → ⊥
+end_no_sign sign s r h (live, l) k = no_sign sign s.unread s.unread [] r h (sym (append-nil s.unread)) (Gap.at_end l) tt tt k
+
+pub other_no_sign : {begins : ℕ → Bool} (sign : ℕ) (s : State) (w r : List ℕ) → is_solid sign ≡ true → (o : AtOther begins s w) → (o.char == sign) ≡ false → IsSign sign s.unread r → ⊥
+other_no_sign sign s w r h o n k = no_sign sign s.unread w (o.char ∷ o.more) r h o.split (Gap.blanks o.blank) (begins_solid o.char o.more o.solid) n k
+
+either_false : (a b : Bool) → (a || b) ≡ false → (a ≡ false) × (b ≡ false)
+either_false true b h = absurd (cc)
+either_false false b h = (refl, h)
+
+-- what went on began with a comma or the bracket
+went_on : (due more : Bool) (old new : State) → due ≡ true → GoesOn due old new more → ((z : List ℕ) × IsSign 0x2C old.unread z) ⊎ ((z : List ℕ) × IsSign 0x5D old.unread z)
+went_on false more old new d at = absurd (cc)
+went_on true true old new d at = let (z, comma, g) = at.begun in inl (z, comma)
+went_on true false old new d at = let (r, close, e) = at.close in either r close
+  where
+    either : (r : List ℕ) → IsClose true old.unread r → ((z : List ℕ) × IsSign 0x2C old.unread z) ⊎ ((z : List ℕ) × IsSign 0x5D old.unread z)
+    either r (inl k) = inr (r, k)
+    either r (inr (y, comma, k)) = inl (y, comma)
+
+pub end_goes_nowhere : (due more : Bool) (old new : State) → due ≡ true → AtEnd old → GoesOn due old new more → ⊥
+end_goes_nowhere due more old new d at k = elim (went_on due more old new d k) [
+  | inl w ↦ end_no_sign 0x2C old w.0 comma_solid at w.1
+  | inr w ↦ end_no_sign 0x5D old w.0 bracket_solid at w.1
+]
+
+pub other_goes_nowhere : (due more : Bool) (old new : State) (w : List ℕ) → due ≡ true → AtOther is_comma_or_closing old w → GoesOn due old new more → ⊥
+other_goes_nowhere due more old new w d o k =
+    let neither = either_false (o.char == 0x2C) (o.char == 0x5D) o.other in
+    elim (went_on due more old new d k) [
+      | inl z ↦ other_no_sign 0x2C old w z.0 comma_solid o neither.0 z.1
+      | inr z ↦ other_no_sign 0x5D old w z.0 bracket_solid o neither.1 z.1
+    ]
+
+pub end_not_opened : (old new : State) → AtEnd old → Opened old new → ⊥
+end_not_opened old new at k = end_no_sign 0x5B old new.unread opening_solid at k.bracket
+
+pub other_not_opened : (old new : State) (w : List ℕ) → AtOther is_opening old w → Opened old new → ⊥
+other_not_opened old new w o k = other_no_sign 0x5B old w new.unread opening_solid o o.other k.bracket
+
+pub full_not_opened : (old new : State) (w : List ℕ) → AtFull old w → Opened old new → ⊥
+full_not_opened old new w at k = let full = at.full in let room = k.room in omega (arith, full, room)
+
+pub end_not_closed : (due : Bool) (old new : State) → AtEnd old → Closed due old new → ⊥
+end_not_closed due old new at k = by due k.close
+  where
+    by : (b : Bool) → IsClose b old.unread new.unread → ⊥
+    by false c = end_no_sign 0x5D old new.unread bracket_solid at c
+    by true (inl c) = end_no_sign 0x5D old new.unread bracket_solid at c
+    by true (inr (y, comma, c)) = end_no_sign 0x2C old y comma_solid at comma
+
+pub other_not_closed : (due : Bool) (old new : State) (w : List ℕ) → AtOther (begins_close due) old w → Closed due old new → ⊥
+other_not_closed due old new w o k = by due refl k.close
+  where
+    by : (b : Bool) → due ≡ b → IsClose b old.unread new.unread → ⊥
+    by b e c =
+        let neither = either_false (o.char == 0x5D) (b && (o.char == 0x2C)) (subst (λ d. begins_close d o.char ≡ false) e o.other) in
+        by_sign b neither c
+      where
+        by_sign : (b : Bool) → ((o.char == 0x5D) ≡ false) × ((b && (o.char == 0x2C)) ≡ false) → IsClose b old.unread new.unread → ⊥
+        by_sign false n c = other_no_sign 0x5D old w new.unread bracket_solid o n.0 c
+        by_sign true n (inl c) = other_no_sign 0x5D old w new.unread bracket_solid o n.0 c
+        by_sign true n (inr (y, comma, c)) = other_no_sign 0x2C old w y comma_solid o n.1 comma
+
+-- ---- what is said of one bracket too many
+
+pub full_fault : (old : State) (e : Error) (w : List ℕ) → AtFull old w → RefusedBy (NotOpened old.level) old e → IsBehind codes.TooDeep old w e
+full_fault old e w at k =
+    other_fault (awaits_room old.level) old e w (record { live = at.live; blank = at.blank; char = 0x5B; more = at.more; split = at.split; solid = opening_solid; other = refl }) k
+
+-- ---- a reader that an access lends
+
+pub end_within : (s t : State) (failed : Bool) → t ≡ within s false → AtEnd (within s failed) → AtEnd t
+end_within s t failed e (live, l) = subst AtEnd (sym e) (refl, l)
+
+pub other_within : {begins : ℕ → Bool} (s t : State) (failed : Bool) (w : List ℕ) → t ≡ within s false → AtOther begins (within s failed) w → AtOther begins t w
+other_within {begins = begins} s t failed w e o =
+    subst (λ u. AtOther begins u w) (sym e) (record { live = refl; blank = o.blank; char = o.char; more = o.more; split = o.split; solid = o.solid; other = o.other })
+
+pub behind_within : (c : ErrorCode) (s t : State) (failed : Bool) (w : List ℕ) (e : Error) → t ≡ within s false → IsBehind c t w e → IsBehind c (within s failed) w e
+behind_within c s t failed w e is k = subst (λ u. IsBehind c u w e) is k
+
+-- a fault that has a place keeps it
+pub behind_placed : (c : ErrorCode) (s : State) (w : List ℕ) (d e : Error) → kind_of e ≡ kind_of d → ((p : Position) → place_of d ≡ Some p → place_of e ≡ Some p) → IsBehind c s w d → IsBehind c s w e
+behind_placed c s w d e kind kept (says, placed) = (kind ∙ says, λ before split. kept _ (placed before split))
