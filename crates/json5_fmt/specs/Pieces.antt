@@ -1,16 +1,6 @@
--- What becomes of bytes that are given to a writer.
-use Rattle.std.specs.Prelude.{◌≡◌, ℕ, List, [], ◌∷◌, ◌++◌, Option, Result, Ok, Err}
+-- Texts in a row.
+use Rattle.std.specs.Prelude.{ℕ, List, [], ◌∷◌, ◌++◌}
 use Rattle.std.specs.Borrow.{Bor}
-use Rattle.std.specs.Io.KnownBytes.{Appends}
-
--- a beginning of the bytes was appended
-abbrev pub AppendsFront : Option (List ℕ) → Option (List ℕ) → List ℕ → Type 0
-AppendsFront old new bytes = (front : List ℕ) × (rest : List ℕ) × (bytes ≡ front ++ rest) × Appends old new front
-
--- all bytes were appended, or a beginning
-abbrev pub Pushes : {A E : Type 0} → Option (List ℕ) → Option (List ℕ) → List ℕ → Result A E → Type 0
-Pushes old new bytes (Ok x) = Appends old new bytes
-Pushes old new bytes (Err e) = AppendsFront old new bytes
 
 -- the texts, one behind the other
 abbrev pub joined : List (Bor (List ℕ)) → List ℕ

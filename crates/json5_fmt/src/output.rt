@@ -1,23 +1,10 @@
-//! Writing whole pieces.
+//! Writing texts in a row.
 
-ghost use Rattle.json5_fmt.specs.Pieces.{Pushes, joined};
+ghost use Rattle.json5_ser.specs.Pieces.{Pushes};
+ghost use Rattle.json5_fmt.specs.Pieces.{joined};
 
-use std::io::{self, ErrorKind, Write};
-
-/// Calls `write` until all bytes are taken. An error, and a call that takes nothing, end it, and no call follows.
-pub fn write_whole<W: Write>(writer: &mut W, bytes: &[u8]) -> io::Result<()>
-    ensures { Pushes (W.contents writer.old) (W.contents writer.new) bytes.now result }
-{
-    let mut rest = bytes;
-    while !rest.is_empty() {
-        match writer.write(rest) {
-            Ok(0) => return Err(io::Error::from(ErrorKind::WriteZero)),
-            Ok(n) => rest = &rest[n..],
-            Err(e) => return Err(e),
-        }
-    }
-    Ok(())
-}
+use json5_ser::output::write_whole;
+use std::io::{self, Write};
 
 /// Writes the texts, one behind the other.
 pub fn write_texts<W: Write>(writer: &mut W, texts: &[&str]) -> io::Result<()>

@@ -1,7 +1,7 @@
 //! The lines on standard error.
 
 ghost use Rattle.std.specs.Prelude.{◌≡◌};
-ghost use Rattle.json5_fmt.specs.Pieces.{AppendsFront, Pushes};
+ghost use Rattle.json5_ser.specs.Pieces.{AppendsFront, Pushes};
 ghost use Rattle.json5_fmt.specs.Reports.{fault_line, report_line, status_of, usage_line};
 
 use crate::output::write_texts;

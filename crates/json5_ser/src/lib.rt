@@ -4,6 +4,7 @@
 mod decimals;
 mod impls;
 pub mod laws;
+pub mod output;
 mod quoting;
 mod serialize;
 mod serializer;

@@ -8,14 +8,13 @@ ghost use Rattle.json5_grammar.specs.Quoting.{escaped_all};
 ghost use Rattle.json5_ser.specs.WrittenTrees.{null, boolean, number, text};
 ghost use Rattle.json5_ser.specs.Out.{out, piece};
 ghost use Rattle.json5_ser.specs.Writes.{Seen, Writes};
-ghost use Rattle.json5_ser.specs.Pieces.{Pushes};
 
+use crate::output::write_whole;
 use crate::quoting::{quote_for, quote_text, split_at_escape};
 use itoa::{Buffer, Integer};
 use json5_text::ErrorCode;
 use json5_text::error::{Error, Result};
-use std::io;
-use std::io::{ErrorKind, Write};
+use std::io::Write;
 use std::marker::Model;
 
 /// Writes values to `W`. After a refusal every call answers `Failed`.
@@ -32,22 +31,6 @@ impl<W: Write + Drop> Model for Serializer<W> {
     ghost view = { λ s. record { known = W.contents s.writer; depth = s.depth; failed = s.failed } };
 
     ghost invariant = { λ s. s.depth ≤ 128 };
-}
-
-/// Calls `write` until all bytes are taken. An error, `Interrupted` too, and a call that takes
-/// nothing end it, and no call follows.
-fn write_whole<W: Write>(writer: &mut W, bytes: &[u8]) -> io::Result<()>
-    ensures { Pushes (W.contents writer.old) (W.contents writer.new) bytes.now result }
-{
-    let mut rest = bytes;
-    while !rest.is_empty() {
-        match writer.write(rest) {
-            Ok(0) => return Err(io::Error::from(ErrorKind::WriteZero)),
-            Ok(n) => rest = &rest[n..],
-            Err(e) => return Err(e),
-        }
-    }
-    Ok(())
 }
 
 impl<W: Write + Drop> Serializer<W> {

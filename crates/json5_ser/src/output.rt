@@ -1,0 +1,21 @@
+//! Writing whole pieces.
+
+ghost use Rattle.json5_ser.specs.Pieces.{Pushes};
+
+use std::io::{self, ErrorKind, Write};
+
+/// Calls `write` until all bytes are taken. An error, `Interrupted` too, and a call that takes nothing, which is answered with
+/// `WriteZero`, end it, and no call follows: then a beginning of the bytes was written.
+pub fn write_whole<W: Write>(writer: &mut W, bytes: &[u8]) -> io::Result<()>
+    ensures { Pushes (W.contents writer.old) (W.contents writer.new) bytes.now result }
+{
+    let mut rest = bytes;
+    while !rest.is_empty() {
+        match writer.write(rest) {
+            Ok(0) => return Err(io::Error::from(ErrorKind::WriteZero)),
+            Ok(n) => rest = &rest[n..],
+            Err(e) => return Err(e),
+        }
+    }
+    Ok(())
+}
