@@ -1,17 +1,14 @@
 -- The steps of reading an array.
-use Rattle.std.proofs.Common.{◌≡◌, ℕ, ◌+◌, ◌-◌, ◌≤◌, ◌<◌, Bool, true, false, not, List, [], ◌∷◌, ◌++◌, refl, ap, sym, ◌∙◌, subst, ◌⊎◌, inl, inr, Option, Some, None, arith}
-use Rattle.std.specs.Prelude.{◌==◌, ◌||◌, slice_get, Result, Ok, Err, IfErr, IsOk}
-use Rattle.std.proofs.lemmas.Bool.{both_ways}
+use Rattle.std.proofs.Common.{◌≡◌, ℕ, ◌-◌, ◌<◌, Bool, true, false, not, List, [], ◌∷◌, ◌++◌, refl, ap, sym, ◌∙◌, subst, inl, inr, Option, Some, arith}
+use Rattle.std.specs.Prelude.{◌==◌, slice_get, Result, Ok, Err, IfErr, IsOk}
 use Rattle.json5_grammar.specs.declared.code.ErrorCode.{ErrorCode}
 use Rattle.json5_grammar.specs.declared.code.ErrorCode.TheVariants as codes
-use Rattle.json5_grammar.specs.Codes.{behind_text}
 use Rattle.json5_grammar.specs.Characters.{NotBegun}
-use Rattle.json5_grammar.specs.Blanks.{Blanks, Gap, Solid, is_solid}
-use Rattle.json5_grammar.specs.Trees.{Tree, depth}
+use Rattle.json5_grammar.specs.Blanks.{Gap, is_solid}
+use Rattle.json5_grammar.specs.Trees.{Tree}
 use Rattle.json5_grammar.specs.Values.{Reads}
 use Rattle.json5_grammar.specs.Documents.{max_depth}
-use Rattle.json5_grammar.specs.Members.{IsSign, Opens, IsElement, IsClose, IsAtClose, GoesNowhere}
-use Rattle.json5_grammar.proofs.Basics.{same_char}
+use Rattle.json5_grammar.specs.Members.{IsSign, Opens, IsElement, IsClose, GoesNowhere}
 use Rattle.json5_grammar.proofs.MembersRead.{comma_solid, bracket_solid, opening_solid, sign_here, sign_found, reads_found}
 use Rattle.json5_grammar.proofs.MembersPassed.{behind_comma, no_comma_end}
 use Rattle.json5_grammar.proofs.MembersNowhere.{reads_here, end_here, no_sign, no_sign_in_blanks, nowhere_blanks, nowhere_other, nowhere_comma}
@@ -25,8 +22,8 @@ use Rattle.std.proofs.lemmas.List.{append-nil}
 use Rattle.json5_de.specs.State.{State, cursor_of, OnlyRead}
 use Rattle.json5_de.specs.Law.{TookValue}
 use Rattle.json5_de.specs.Steps.{PassedGap, TookText}
-use Rattle.json5_de.specs.Access.{Opened, Closed, TookElement, AtClose, Unawaited, at_end, at_char, NotOpened, no_bracket, array_missing, too_deep, NoBracket, other_sign, bracket_missing, NotClosed, not_here, behind_comma as comma_before}
-use Rattle.json5_de.specs.Seq.{IsBehindGap, Begun, AtElement, GoesOn, NoNext, no_comma, list_ends, in_blanks_behind}
+use Rattle.json5_de.specs.Access.{Closed, TookElement, AtClose, Unawaited, at_end, at_char, NotOpened, no_bracket, array_missing, too_deep, NoBracket, other_sign, bracket_missing, NotClosed, not_here, behind_comma as comma_before}
+use Rattle.json5_de.specs.Seq.{IsBehindGap, Begun, AtElement, GoesOn, NoNext, no_comma, list_ends}
 use Rattle.json5_de.specs.Faults.{Behind, in_blanks, behind_gap, RefusedBy}
 use Rattle.json5_de.proofs.Taken.{refused_token}
 use Rattle.json5_de.proofs.Places.{some_next, refused_as, refused_behind}

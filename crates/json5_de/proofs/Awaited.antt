@@ -1,23 +1,20 @@
 -- What follows, for every kind of value, from what it gives and what it refuses.
-use Rattle.std.proofs.Common.{◌≡◌, ℕ, ◌+◌, ◌≤◌, Bool, true, false, List, [], ◌∷◌, ◌++◌, refl, ap, sym, ◌∙◌, subst, append_assoc, ◌⊎◌, inl, inr, Option, Some, None}
-use Rattle.std.specs.Prelude.{Result, Ok, Err, IsOk, IfOk, IfErr, IsErrAnd}
+use Rattle.std.proofs.Common.{◌≡◌, ℕ, Bool, true, false, List, [], ◌∷◌, ◌++◌, refl, ap, sym, ◌∙◌, subst, inl, inr, Option, Some, None}
+use Rattle.std.specs.Prelude.{Result, Ok, Err, IsOk, IfOk, IfErr}
 use Rattle.std.proofs.lemmas.List.{append-nil}
 use Rattle.json5_grammar.specs.declared.code.ErrorCode.{ErrorCode}
 use Rattle.json5_grammar.specs.Codes.{behind_text}
-use Rattle.json5_grammar.specs.Blanks.{Blanks, LastBlanks, Gap, Solid, is_solid, BlankFault}
-use Rattle.json5_grammar.specs.Trees.{Tree, depth}
+use Rattle.json5_grammar.specs.Blanks.{Blanks, LastBlanks, Gap, is_solid, BlankFault}
+use Rattle.json5_grammar.specs.Trees.{Tree}
 use Rattle.json5_grammar.specs.Values.{Val, Stops, Reads}
-use Rattle.json5_grammar.specs.Documents.{max_depth}
 use Rattle.json5_grammar.proofs.BlanksRead.{begins_solid}
 use Rattle.json5_grammar.proofs.BlanksSound.{one_gap, no_blank_fault, gap_last, gap_before}
 use Rattle.json5_grammar.proofs.ValueHeads.{val_head, value_solid}
-use Rattle.json5_grammar.proofs.Unique.{one_front}
 use Rattle.json5_text.specs.declared.error.Error.{Error}
-use Rattle.json5_text.specs.Errors.{code, kind_of, place_of}
-use Rattle.json5_text.specs.Cursor.{Says, IsPlaced, Refused, IsOutOfMemory}
+use Rattle.json5_text.specs.Cursor.{Says, IsPlaced}
 use Rattle.json5_text.specs.Tokens.{FaultyBlanks}
 use Rattle.json5_de.specs.State.{State, cursor_of}
-use Rattle.json5_de.specs.Law.{TookValue, Gives, Completes, CompletesWithoutMemory, IsOkOrMemory}
+use Rattle.json5_de.specs.Law.{Gives, Completes, CompletesWithoutMemory, IsOkOrMemory}
 use Rattle.json5_de.specs.Faults.{Behind, in_blanks, behind_gap, RefusedBy, RefusedByOrMemory, IsUnplaced, IsBehind, AtEnd, AtOther, EndsWith, EndsWithOrMemory, DiffersWith, DiffersWithOrMemory}
 
 -- a kind of value: what is refused where one is awaited, its trees, what begins one, and the codes at the end and at another character

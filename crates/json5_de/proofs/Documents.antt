@@ -1,5 +1,5 @@
 -- A whole text is a document.
-use Rattle.std.proofs.Common.{◌≡◌, ℕ, ◌+◌, ◌≤◌, Bool, true, false, List, refl, ap, sym, ◌∙◌, subst, Option, Some, None, arith, zero-add}
+use Rattle.std.proofs.Common.{◌≡◌, ℕ, ◌+◌, ◌≤◌, false, List, ap, sym, ◌∙◌, subst, arith}
 use Rattle.json5_grammar.specs.Blanks.{LastBlanks}
 use Rattle.json5_grammar.specs.Trees.{Tree, depth}
 use Rattle.json5_grammar.specs.Values.{Reads}

@@ -1,14 +1,14 @@
 -- What a proof about a type that is read as a list cites.
-use Rattle.std.proofs.Common.{◌≡◌, ℕ, ◌+◌, ◌-◌, ◌≤◌, ◌<◌, Bool, true, false, List, [], ◌∷◌, ◌++◌, length, map, refl, ap, sym, ◌∙◌, subst, arith, Option, Some, None, ◌||◌, ◌⊎◌}
+use Rattle.std.proofs.Common.{◌≡◌, ℕ, ◌+◌, ◌-◌, ◌≤◌, Bool, true, false, List, [], ◌∷◌, ◌++◌, map, refl, ap, ◌∙◌, arith, Option, Some, ◌||◌, ◌⊎◌}
 use Rattle.json5_grammar.specs.Trees.{Tree, Trees, array, depth, depths}
 use Rattle.json5_grammar.specs.Values.{Reads}
 use Rattle.json5_grammar.specs.Documents.{max_depth}
-use Rattle.json5_grammar.specs.Members.{Opens, IsElement, IsClose, Passed, contents, array_of}
-use Rattle.json5_grammar.proofs.MembersPassed.{array_closed, close_found, found_closes, element_shorter}
+use Rattle.json5_grammar.specs.Members.{IsElement, IsClose, Passed, contents, array_of}
+use Rattle.json5_grammar.proofs.MembersPassed.{array_closed, close_found, found_closes}
 use Rattle.json5_grammar.proofs.MembersConverted.{MembersSoFar, none_so_far, more_so_far, still_readable}
 use Rattle.json5_de.specs.State.{State, OnlyRead}
 use Rattle.json5_de.specs.Law.{TookValue}
-use Rattle.json5_de.specs.Access.{Opened, Closed, TookElement, AtClose, within}
+use Rattle.json5_de.specs.Access.{Opened, Closed, TookElement, AtClose}
 
 only_read : (s t u : State) → OnlyRead s t → OnlyRead t u → OnlyRead s u
 only_read s t u a b = b ∙ ap (λ (m : State). record m { unread = u.unread }) a

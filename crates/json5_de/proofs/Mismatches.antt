@@ -1,5 +1,5 @@
 -- What is whole and isn't of the type: a text of its own, at its start.
-use Rattle.std.proofs.Common.{◌≡◌, ℕ, Bool, true, false, List, [], ◌∷◌, ◌++◌, length, refl, ap, sym, ◌∙◌, subst, ◌⊎◌, inl, inr, Option, Some, None}
+use Rattle.std.proofs.Common.{◌≡◌, ℕ, Bool, List, [], ◌++◌, length, sym, ◌∙◌, subst, inl, inr, Option, Some, None}
 use Rattle.std.specs.Prelude.{Result, Ok, Err, IfErr, IsErrAnd}
 use Rattle.std.specs.Str.{encode_utf8_all}
 use Rattle.std.proofs.lemmas.List.{append-nil}
@@ -10,8 +10,7 @@ use Rattle.json5_grammar.specs.Strings.{Str}
 use Rattle.json5_grammar.specs.Values.{Stops}
 use Rattle.json5_text.specs.declared.error.Error.{Error}
 use Rattle.json5_text.specs.Errors.{place_of}
-use Rattle.json5_text.specs.Cursor.{Says, Refused}
-use Rattle.json5_de.specs.State.{State, cursor_of}
+use Rattle.json5_de.specs.State.{State}
 use Rattle.json5_de.specs.Faults.{RefusedByOrMemory, NotNumber, other_number, NotText, other_text}
 use Rattle.json5_de.specs.Steps.{PassedGap, TookText, IsMismatch}
 use Rattle.json5_de.proofs.Taken.{refused_token, input_of}

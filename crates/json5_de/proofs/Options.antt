@@ -1,12 +1,11 @@
 -- The steps of reading an option.
-use Rattle.std.proofs.Common.{◌≡◌, ℕ, ◌+◌, ◌≤◌, Bool, true, false, List, [], ◌∷◌, ◌++◌, refl, ap, sym, ◌∙◌, subst, ◌⊎◌, inl, inr, Option, Some, None, arith}
+use Rattle.std.proofs.Common.{◌≡◌, ℕ, Bool, false, List, [], ◌∷◌, ◌++◌, refl, ap, sym, ◌∙◌, subst, Option, Some, None, arith}
 use Rattle.std.specs.Prelude.{◌==◌}
 use Rattle.json5_grammar.specs.declared.code.ErrorCode.{ErrorCode}
-use Rattle.json5_grammar.specs.Blanks.{Blanks, Gap, Solid, is_solid, BlankFault}
-use Rattle.json5_grammar.specs.Strings.{Str, quoted}
-use Rattle.json5_grammar.specs.Trees.{Tree, null, boolean, number, text, array, object, depth}
-use Rattle.json5_grammar.specs.Values.{Val, Stops, Reads, is_null, is_true, is_false, is_number, is_text, is_empty_array, is_array, is_empty_object, is_object, null_text}
-use Rattle.json5_grammar.specs.Documents.{max_depth}
+use Rattle.json5_grammar.specs.Blanks.{Blanks, Gap, Solid, BlankFault}
+use Rattle.json5_grammar.specs.Strings.{quoted}
+use Rattle.json5_grammar.specs.Trees.{Tree, null, boolean, number, text, array, object}
+use Rattle.json5_grammar.specs.Values.{Val, Reads, is_null, is_true, is_false, is_number, is_text, is_empty_array, is_array, is_empty_object, is_object}
 use Rattle.json5_grammar.proofs.BlanksRead.{begins_solid}
 use Rattle.json5_grammar.proofs.BlanksSound.{no_blank_fault, gap_before, gap_last}
 use Rattle.json5_grammar.proofs.Classes.{number_others, quote_others}
@@ -21,10 +20,10 @@ use Rattle.json5_de.specs.Law.{TookValue}
 use Rattle.json5_de.specs.Convert.{unit_of}
 use Rattle.json5_de.specs.ConvertLists.{option_of, if_some}
 use Rattle.json5_de.specs.Faults.{AtEnd, AtOther}
-use Rattle.json5_de.specs.Steps.{PassedGap, TookText}
+use Rattle.json5_de.specs.Steps.{PassedGap}
 use Rattle.json5_de.specs.Access.{Unawaited, at_end, at_char}
 use Rattle.json5_de.proofs.Awaited.{Awaited}
-use Rattle.json5_de.proofs.Arrays.{only_read, level_of, failed_of, no_bool}
+use Rattle.json5_de.proofs.Arrays.{only_read, level_of, no_bool}
 
 pub first_same : (c d : ℕ) (x y : List ℕ) → c ∷ x ≡ d ∷ y → c ≡ d
 first_same c d x y e = cc

@@ -1,12 +1,12 @@
 -- A value of any kind is awaited: what begins one, and what is refused.
-use Rattle.std.proofs.Common.{◌≡◌, ℕ, Bool, true, false, List, [], ◌∷◌, ◌++◌, refl, ap, sym, ◌∙◌, subst, arith, ◌⊎◌, inl, inr, Option, Some, None}
-use Rattle.std.specs.Prelude.{◌==◌, ◌||◌, cond, slice_get}
+use Rattle.std.proofs.Common.{◌≡◌, ℕ, true, false, List, [], ◌∷◌, ◌++◌, refl, ap, sym, ◌∙◌, subst, arith, ◌⊎◌, inl, inr, Option, Some, None}
+use Rattle.std.specs.Prelude.{◌==◌, ◌||◌, slice_get}
 use Rattle.std.proofs.lemmas.Bool.Decides.{nat_tests}
 use lib.Chars.{codes}
 use Rattle.json5_grammar.specs.declared.code.ErrorCode.{ErrorCode}
 use Rattle.json5_grammar.specs.declared.code.ErrorCode.TheVariants as codes_of
 use Rattle.json5_grammar.specs.NumberFaults.{is_sign, begins_number}
-use Rattle.json5_grammar.specs.Strings.{is_quote, Str, quoted}
+use Rattle.json5_grammar.specs.Strings.{is_quote, quoted}
 use Rattle.json5_grammar.specs.Trees.{Tree, null, boolean, number, text, array, object}
 use Rattle.json5_grammar.specs.Values.{Val, Stops, is_null, is_true, is_false, is_number, is_text, is_empty_array, is_array, is_empty_object, is_object, null_text, true_text, false_text}
 use Rattle.json5_grammar.proofs.ValueHeads.{number_head}
@@ -14,7 +14,7 @@ use Rattle.json5_text.specs.ValueViews.{Datum}
 use Rattle.json5_text.specs.declared.error.Error.{Error}
 use Rattle.json5_text.specs.Errors.{code, kind_of, place_of}
 use Rattle.json5_text.specs.Cursor.{IsPlaced, Refused, IsOutOfMemory}
-use Rattle.json5_text.specs.Tokens.{FaultyWord, FaultyNumber, FaultyString}
+use Rattle.json5_text.specs.Tokens.{FaultyNumber, FaultyString}
 use Rattle.json5_de.specs.declared.any.Kind.{Kind}
 use Rattle.json5_de.specs.declared.any.Kind.TheVariants as kind
 use Rattle.json5_de.specs.State.{State, cursor_of}
@@ -23,7 +23,6 @@ use Rattle.json5_de.specs.Convert.{datum_of, every_text, every_decimal, same_dec
 use Rattle.json5_de.specs.Faults.{RefusedBy, RefusedByOrMemory, faulty_text, faulty_number}
 use Rattle.json5_de.specs.Scalars.{kind_at, kind_in, is_scalar_kind, begins_scalar, FaultyScalar, scalar_missing, no_scalar, in_null, in_true, in_false, in_text, in_number}
 use Rattle.json5_de.proofs.Awaited.{Awaited}
-use Rattle.json5_de.proofs.Awaits.{awaits_null}
 use Rattle.json5_de.proofs.AwaitsNumbers.{awaits_number}
 use Rattle.json5_de.proofs.AwaitsTexts.{awaits_text}
 use Rattle.json5_de.proofs.Taken.{refused_token}

@@ -3,7 +3,7 @@ use Rattle.std.specs.Prelude.{ℕ, Bool, true, false, if◌then◌else◌, nat_l
 use Rattle.std.specs.Fmt as numerals
 use Rattle.std.specs.Str.{encode_utf8_all}
 use Rattle.json5_grammar.specs.Numbers.{Number, Decimal, whole, decimal, finite, without_zeros, normal_exponent}
-use Rattle.json5_grammar.specs.Trees.{Tree, null, boolean, number, text, array, object}
+use Rattle.json5_grammar.specs.Trees.{Tree, null, boolean, number, text}
 use Rattle.json5_text.specs.ValueViews.{Datum}
 use Rattle.json5_text.specs.ValueViews as datum
 

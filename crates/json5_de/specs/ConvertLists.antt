@@ -1,7 +1,7 @@
 -- What options and lists take of a tree.
-use Rattle.std.specs.Prelude.{◌≡◌, ◌==◌, ℕ, Bool, true, false, if◌then◌else◌, List, [], ◌∷◌, length, Option, Some, None}
+use Rattle.std.specs.Prelude.{◌==◌, ℕ, if◌then◌else◌, List, length, Option, Some, None}
 use Rattle.json5_grammar.specs.Trees.{Tree, Trees, null, boolean, number, text, array, object, no_more, more}
-use Rattle.json5_grammar.specs.Members.{joint, array_of, contents}
+use Rattle.json5_grammar.specs.Members.{joint, contents}
 
 -- some of what there is
 abbrev pub if_some : {A B : Type 0} → (A → B) → Option A → Option B

@@ -269,13 +269,6 @@ impl<I: Input> Deserializer<I> {
         self.scanner.eat(c)
     }
 
-    /// The count of bytes before what is unread.
-    pub(crate) fn here(&self) -> usize
-        ensures { (before : List ℕ) → self.now.input ≡ before ++ self.now.unread → result ≡ length (encode_utf8_all before) }
-    {
-        self.scanner.offset()
-    }
-
     /// The position of an offset in bytes; the end's, where no character begins there.
     pub(crate) fn position_at(&self, offset: usize) -> Position
         ensures { (before rest : List ℕ) → self.now.input ≡ before ++ rest → offset ≡ length (encode_utf8_all before) → result ≡ position_behind before }

@@ -33,7 +33,7 @@ impl<I: Input> Deserializer<I> {
             self.word("null", ErrorCode::EofParsingNull, ErrorCode::ExpectedNull)?;
             return Ok(None);
         }
-        let start = self.here();
+        let start = self.offset();
         match T::deserialize(self) {
             Ok(value) => Ok(Some(value)),
             Err(e) => {

@@ -56,7 +56,7 @@ impl<I: Input> Deserializer<I> {
         ensures state { self.new ≡ record self.old { failed = true } }
     {
         let error = match self.peek() {
-            Some(_) => Error::new_at(self.position_at(self.here()), differs),
+            Some(_) => Error::new_at(self.position_at(self.offset()), differs),
             None => Error::new(ends),
         };
         self.set_failed(true);
@@ -76,7 +76,7 @@ impl<I: Input> Deserializer<I> {
         ensures before { StaysFailed self.old self.new result }
     {
         self.begin()?;
-        let start = self.here();
+        let start = self.offset();
         if !self.eat('[') {
             return Err(self.unawaited(
                 ErrorCode::EofParsingArray,

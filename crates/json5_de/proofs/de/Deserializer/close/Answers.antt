@@ -1,4 +1,4 @@
-use Rattle.std.proofs.Common.{◌≡◌, ◌∙◌, sym, ap, subst, true, false, refl, [], ◌∷◌}
+use Rattle.std.proofs.Common.{◌∙◌, refl}
 use Rattle.std.proofs.lemmas.Result.{err_from_is_err_and, IfErr-weaker}
 use Rattle.json5_de.proofs.Taken.{refused_blanks}
 use Rattle.json5_de.proofs.Arrays.{failed_of, unread_of, no_bool, nowhere_faulty, nowhere_behind, comma_first, no_close_next, no_close_behind, ok_unless, refused_bracket, refused_bracket_behind, refused_blanks_behind}

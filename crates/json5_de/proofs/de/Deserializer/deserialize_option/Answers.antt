@@ -1,4 +1,4 @@
-use Rattle.std.proofs.Common.{◌≡◌, ◌∙◌, sym, ap, subst, true, false, refl, Some, None, arith, ◌∷◌}
+use Rattle.std.proofs.Common.{◌∙◌, sym, ap, subst, false, refl, arith, ◌∷◌}
 use Rattle.std.specs.Prelude.{◌==◌}
 use Rattle.std.proofs.lemmas.Result.{err_from_is_err_and}
 use Rattle.json5_grammar.specs.declared.code.ErrorCode.TheVariants as codes
@@ -8,7 +8,6 @@ use Rattle.json5_text.specs.Cursor.{Refused}
 use Rattle.json5_text.specs.Tokens.{FaultyWord}
 use Rattle.json5_de.specs.State.{cursor_of}
 use Rattle.json5_de.specs.Steps.{TookText}
-use Rattle.json5_de.specs.Access.{Unawaited}
 use Rattle.json5_de.proofs.Awaited.{end_fault, wrongly_refused}
 use Rattle.json5_de.proofs.Awaits.{awaits_null}
 use Rattle.json5_de.proofs.Taken.{took_leaf, refused_blanks, refused_token, null_stops, chars_null}

@@ -1,4 +1,4 @@
-use Rattle.std.proofs.Common.{◌≡◌, ◌∙◌, sym, ap, subst, true, false, refl, [], ◌∷◌, ◌++◌, arith}
+use Rattle.std.proofs.Common.{◌≡◌, ◌∙◌, sym, subst, true, false, refl, arith}
 use Rattle.std.proofs.lemmas.Result.{err_from_is_err_and}
 use Rattle.json5_de.proofs.Taken.{refused_blanks, refused_token, input_of}
 use Rattle.json5_de.proofs.Places.{refused_as}
@@ -28,7 +28,7 @@ returns-then-not-enter-clause-refused g c =
     let full = level_of (sym passed.rest) ∙ level_of (sym took.rest) ∙ kept.0 in
     rw c.refuse.ensures.result (refused_token c.args.self.now c.begin.new.self c.new_at-error.result passed
     (too_deep_here c.args.self.now.level c.begin.new.self c.eat.new.self c.new_at-error.result c.position_at.result full took c.new_at-error.ensures.kind c.new_at-error.ensures.place
-    (λ before split. c.position_at.ensures before c.begin.new.self.unread (input_of kept.1 ∙ input_of took.rest ∙ split) (c.here-start.ensures before split))))
+    (λ before split. c.position_at.ensures before c.begin.new.self.unread (input_of kept.1 ∙ input_of took.rest ∙ split) (c.offset-start.ensures.counted before split))))
 
 pub returns-in_err-begin-clause-complete : goal.returns-in_err-begin-clause-complete
 returns-in_err-begin-clause-complete g c r live opens room =

@@ -1,6 +1,5 @@
-use Rattle.std.proofs.Common.{◌≡◌, ◌⊎◌, List, ℕ, Some, refl, ap, inl, inr, sym, ◌∙◌, subst, string_bytes, true, false}
+use Rattle.std.proofs.Common.{Some, refl, ap, inr, sym, subst, string_bytes, true, false}
 use Rattle.std.specs.Str.{chars}
-use Rattle.std.specs.Prelude.{IfErr, Result, Ok, Err}
 use Rattle.std.proofs.lemmas.Result.{err_from_is_err_and}
 use Rattle.json5_grammar.specs.declared.code.ErrorCode.TheVariants as codes_of
 use Rattle.json5_grammar.specs.Trees as trees
@@ -8,8 +7,7 @@ use Rattle.json5_grammar.specs.Values.{is_null, is_true, is_false, is_number, is
 use Rattle.json5_text.specs.NumberViews.{number_of}
 use Rattle.json5_text.specs.Tokens.{FaultyWord}
 use Rattle.json5_de.specs.declared.any.Kind.TheVariants as kind
-use Rattle.json5_de.specs.Faults.{RefusedByOrMemory}
-use Rattle.json5_de.specs.Scalars.{FaultyScalar, kind_in, in_null, in_true, in_false, in_text, in_number}
+use Rattle.json5_de.specs.Scalars.{in_null, in_true, in_false, in_text, in_number}
 use Rattle.json5_de.specs.Steps.{TookText}
 use Rattle.json5_de.proofs.Taken.{took_leaf, refused_blanks, null_stops, true_stops, false_stops, chars_null, chars_true, chars_false}
 use Rattle.json5_de.proofs.AwaitsTexts.{text_stops}

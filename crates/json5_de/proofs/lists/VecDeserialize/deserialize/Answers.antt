@@ -1,14 +1,13 @@
-use Rattle.std.proofs.Common.{rules, arith, subst, refl, sym, ap, ◌∙◌, ◌≡◌, ◌||◌, Bool, true, false, Some, map, [], ◌∷◌, ◌++◌, inl, inr}
+use Rattle.std.proofs.Common.{rules, subst, refl, sym, ap, ◌∙◌, ◌≡◌, Some, map, [], ◌∷◌, ◌++◌, inl, inr}
 use Rattle.std.proofs.lemmas.Result.{err_from_is_err_and}
 use Rattle.json5_grammar.specs.Documents.{max_depth}
 use Rattle.json5_grammar.specs.Trees.{Tree}
 use Rattle.json5_grammar.specs.Members.{array_of, contents}
 use Rattle.json5_grammar.proofs.MembersPassed.{element_shorter}
-use Rattle.json5_grammar.proofs.MembersConverted.{MembersSoFar, array_begins, still_readable}
-use Rattle.json5_de.specs.State.{State}
+use Rattle.json5_grammar.proofs.MembersConverted.{array_begins}
 use Rattle.json5_de.specs.Law.{TookValue}
 use Rattle.json5_de.specs.Access.{within}
-use Rattle.json5_de.proofs.ListSteps.{nothing_read, element_was_read, still_live, opened_level, closed_found, can_close, no_members, member_read, took_list, readable_list, map_snoc, or_true, not_ok}
+use Rattle.json5_de.proofs.ListSteps.{element_was_read, still_live, closed_found, can_close, no_members, member_read, took_list, readable_list, map_snoc, or_true, not_ok}
 use Rattle.json5_de.proofs.lists.VecDeserialize.deserialize.Goals as goal
 
 pub returns-in_err-seq-clause-complete : goal.returns-in_err-seq-clause-complete

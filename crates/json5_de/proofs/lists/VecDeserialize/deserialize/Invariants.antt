@@ -1,4 +1,4 @@
-use Rattle.std.proofs.Common.{◌≡◌, ◌+◌, length, map, false, true}
+use Rattle.std.proofs.Common.{◌≡◌, length, map, false, true}
 use Rattle.json5_grammar.specs.Documents.{max_depth}
 use Rattle.json5_grammar.proofs.MembersConverted.{MembersSoFar}
 use Rattle.json5_de.specs.State.{OnlyRead}

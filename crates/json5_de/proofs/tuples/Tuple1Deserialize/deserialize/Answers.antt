@@ -1,4 +1,4 @@
-use Rattle.std.proofs.Common.{rules, subst, refl, sym, ◌≡◌, Some}
+use Rattle.std.proofs.Common.{rules, subst, sym, ◌≡◌, Some}
 use Rattle.std.proofs.lemmas.Result.{err_from_is_err_and}
 use Rattle.json5_grammar.specs.Documents.{max_depth}
 use Rattle.json5_grammar.specs.Trees.{array, more, no_more}
