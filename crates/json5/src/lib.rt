@@ -20,11 +20,11 @@ ghost use Rattle.json5_ser.specs.Texts.{IsText, RefusesText};
 ghost use Rattle.json5.specs.Formatted.{IsScalar, IsFormatted, IsRefused};
 
 pub use json5_de as de;
-pub use json5_de::{Deserialize, Deserializer};
+pub use json5_de::{Deserialize, Deserializer, SeqAccess};
 pub use json5_grammar::code::ErrorCode;
 pub use json5_grammar::position::Position;
 pub use json5_ser as ser;
-pub use json5_ser::{Serialize, Serializer};
+pub use json5_ser::{Serialize, Serializer, to_writer};
 pub use json5_text::char;
 pub use json5_text::cow_str::CowStr;
 pub use json5_text::decimal::Decimal;

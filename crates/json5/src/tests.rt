@@ -1,5 +1,8 @@
 //! The worked rows and vectors, over the public calls. A refusal is compared by what it prints: its text and its place.
 
+mod calls;
+mod failed;
+mod lists;
 mod numbers;
 mod scalars;
 mod texts;

@@ -1,6 +1,9 @@
 //! A type of one's own that is read from JSON5, proved lawful by what json5_de promises alone.
 #![tactic(auto)]
 
+#[cfg(test)]
+mod tests;
+
 ghost use Rattle.std.specs.Prelude.{◌≡◌, true};
 
 use json5_de::{Deserialize, Deserializer, SeqAccess};

@@ -1,7 +1,8 @@
 //! Texts and characters.
 
 use super::*;
-use crate::{CowStr, Value};
+use crate::{CowStr, Deserializer, Value};
+use json5_text::scanner::Scanner;
 use std::test::Fail;
 
 #[test]
@@ -87,17 +88,31 @@ fn borrows_strings_without_escapes(rt: HostRuntime) -> std::result::Result<(), F
     Ok(())
 }
 
-/// A slice of the text, from a reader that is gone.
-fn borrowed<'de>(alloc: Global, text: &'de str) -> Result<&'de str> {
-    let mut de = crate::Deserializer::from_str(alloc, text);
-    de.deserialize_str()
+/// Two slices of the text, from a reader that is gone.
+fn borrowed<'de>(alloc: Global, text: &'de str) -> Result<(&'de str, CowStr<'de>)> {
+    let mut de = Deserializer::from_str(alloc, text);
+    let first = de.deserialize_str()?;
+    let second = de.deserialize_identifier()?;
+    Ok((first, second))
+}
+
+/// A string's slice of the text and a name's, from a scanner that is gone.
+fn scanned<'de>(alloc: Global, text: &'de str) -> Result<(CowStr<'de>, CowStr<'de>)> {
+    let mut scanner = Scanner::new(alloc, text);
+    let first = scanner.string()?;
+    scanner.skip_blank()?;
+    let second = scanner.identifier()?;
+    Ok((first, second))
 }
 
 #[test]
 fn a_borrowed_text_outlives_its_reader(rt: HostRuntime) -> std::result::Result<(), Fail> {
-    let text = "'kept'";
-    let kept = borrowed(rt.alloc(), text)?;
-    assert_eq!(rt; kept, "kept");
+    let (first, second) = borrowed(rt.alloc(), "'kept' 'too'")?;
+    assert_eq!(rt; first, "kept");
+    assert!(rt; matches!(second, CowStr::Borrowed("too")));
+    let (first, second) = scanned(rt.alloc(), "'kept' too:")?;
+    assert!(rt; matches!(first, CowStr::Borrowed("kept")));
+    assert!(rt; matches!(second, CowStr::Borrowed("too")));
     Ok(())
 }
 

@@ -1,0 +1,38 @@
+//! The type at one concrete element, and what its own faults print.
+
+use crate::{Bounds, gives_up};
+use json5_de::{Deserializer, from_str};
+use json5_text::ErrorCode;
+use json5_text::error::Error;
+use std::test::Fail;
+
+#[test]
+fn bounds_are_read(rt: HostRuntime) -> Result<(), Fail> {
+    let bounds = from_str::<Bounds<i32>>(rt.alloc(), "[-1, 2,]")?;
+    assert_eq!(rt; bounds.low, -1);
+    assert_eq!(rt; bounds.high, 2);
+    Ok(())
+}
+
+#[test]
+fn bounds_are_refused(rt: HostRuntime) -> Result<(), Fail> {
+    for (text, want) in [
+        (" []", "missing field `low` at line 1 column 2"),
+        ("[1]", "missing field `high` at line 1 column 1"),
+        ("[1, 2, 3]", "expected closing bracket at line 1 column 8"),
+    ] {
+        let Err(e) = from_str::<Bounds<u8>>(rt.alloc(), text) else {
+            assert!(rt; false, "of {text}");
+            continue;
+        };
+        assert_eq!(rt; format!(in rt.alloc(); "{e}")?.as_str(), want, "of {text}");
+    }
+    Ok(())
+}
+
+#[test]
+fn a_reader_given_up_fails(rt: HostRuntime) {
+    let mut de = Deserializer::from_str(rt.alloc(), "[true, false]");
+    assert!(rt; gives_up(&mut de).is_ok());
+    assert!(rt; de.deserialize_bool() == Err(Error::new(ErrorCode::Failed)));
+}
