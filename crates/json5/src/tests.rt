@@ -2,6 +2,7 @@
 
 mod calls;
 mod failed;
+mod fixed;
 mod lists;
 mod numbers;
 mod scalars;

@@ -15,7 +15,7 @@ use Rattle.json5_grammar.specs.ReadTexts.{hex, paired, second_u, second, first, 
 use Rattle.json5_grammar.specs.ReadValues.{word_at}
 use Rattle.json5_text.specs.declared.refusal.Refusal.{Refusal}
 use Rattle.json5_text.specs.declared.refusal.Refusal.TheVariants as refusal
-use Rattle.json5_text.specs.Outcome.{Outcome, gave, failed, outcome, left_at}
+use Rattle.json5_text.specs.Outcome.{failed, outcome, left_at}
 use Rattle.json5_text.specs.Refused.{Refuses}
 use Rattle.json5_text.proofs.ScanFaults.{same_failed, gave_failed}
 

@@ -1,7 +1,6 @@
 -- What private clauses of the scanner say.
 use Rattle.std.specs.Prelude.{◌≡◌, ℕ, List, [], ◌∷◌, ◌++◌, length, Option, Some, None, ◌⊎◌, ⊤}
 use Rattle.std.specs.Str.{IsUtf8, IsCharBoundary}
-use Rattle.json5_grammar.specs.declared.code.ErrorCode.{ErrorCode}
 use Rattle.json5_grammar.specs.declared.position.Position.{Position}
 use Rattle.json5_grammar.specs.Positions.{position_behind}
 use Rattle.json5_text.specs.declared.error.Error.{Error}

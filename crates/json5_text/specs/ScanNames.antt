@@ -1,5 +1,5 @@
 -- What private clauses say of names.
-use Rattle.std.specs.Prelude.{◌≡◌, ℕ, suc, ◌<◌, Bool, true, false, not, ◌&&◌, ◌==◌, List, [], ◌∷◌, length}
+use Rattle.std.specs.Prelude.{◌≡◌, ℕ, suc, ◌<◌, Bool, true, false, not, ◌&&◌, ◌==◌, List, ◌∷◌, length}
 use Rattle.std.specs.Str.{IsUtf8, chars}
 use Rattle.json5_grammar.specs.Characters.{is_identifier_start, is_identifier_part}
 use Rattle.json5_grammar.specs.Reading.{Read, got}

@@ -1,5 +1,5 @@
 -- What private clauses say of strings.
-use Rattle.std.specs.Prelude.{◌≡◌, ℕ, Bool, true, false, cond, ◌<◌, List, [], ◌∷◌, length, Some}
+use Rattle.std.specs.Prelude.{◌≡◌, ℕ, Bool, false, cond, ◌<◌, List, [], ◌∷◌, length, Some}
 use Rattle.std.specs.Str.{IsUtf8, chars, encode_utf8_all}
 use Rattle.json5_grammar.specs.declared.code.ErrorCode.TheVariants.{EofParsingString, ExpectedString}
 use Rattle.json5_grammar.specs.Strings.{is_quote}

@@ -1,5 +1,4 @@
 use Rattle.std.proofs.Common.{◌≡◌, true, arith}
-use Rattle.std.specs.Str.{chars}
 use Rattle.std.proofs.lemmas.Bool.Decides.{nat_tests}
 use Rattle.json5_grammar.specs.Characters.{is_digit}
 use Rattle.json5_grammar.specs.declared.code.ErrorCode.TheVariants.{InvalidEscapeSequence}

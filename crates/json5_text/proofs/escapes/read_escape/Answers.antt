@@ -1,4 +1,4 @@
-use Rattle.std.proofs.Common.{◌≡◌, Some, None, sym, ap, ◌∙◌, arith}
+use Rattle.std.proofs.Common.{Some, None, sym, ap, ◌∙◌}
 use Rattle.std.specs.Str.{chars}
 use Rattle.json5_text.specs.Outcome.{outcome}
 use Rattle.json5_text.proofs.ScanEscapes.{escape_end, escape_step}

@@ -1,9 +1,8 @@
-use Rattle.std.proofs.Common.{◌≡◌, [], ◌∷◌, length, Some, None, sym, ap, ◌∙◌, arith}
+use Rattle.std.proofs.Common.{length, Some, None, sym, ap, ◌∙◌}
 use Rattle.std.specs.Str.{chars}
 use Rattle.std.proofs.lemmas.Str.{encodes-chars}
 use Rattle.json5_grammar.specs.Reading.{got}
-use Rattle.json5_grammar.specs.ReadTexts.{hex, second, paired}
-use Rattle.json5_grammar.specs.ReadValues.{word_at}
+use Rattle.json5_grammar.specs.ReadTexts.{second, paired}
 use Rattle.json5_text.specs.Outcome.{failed, outcome}
 use Rattle.std.proofs.lemmas.Result.{err_from_is_err_and}
 use Rattle.json5_text.proofs.ScanEscapes.{then_refuses, other_half, second_word, second_digits, second_pair, second_unpaired}

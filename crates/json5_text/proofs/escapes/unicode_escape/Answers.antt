@@ -1,4 +1,4 @@
-use Rattle.std.proofs.Common.{◌≡◌, sym, ap, ◌∙◌, arith}
+use Rattle.std.proofs.Common.{sym, ap, ◌∙◌}
 use Rattle.std.specs.Str.{chars}
 use Rattle.json5_grammar.specs.Reading.{got}
 use Rattle.json5_grammar.specs.ReadTexts.{hex, first, unicode_at}

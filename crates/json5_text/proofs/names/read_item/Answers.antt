@@ -1,5 +1,4 @@
 use Rattle.std.proofs.Common.{sym}
-use Rattle.std.specs.Str.{chars}
 use Rattle.json5_grammar.specs.declared.code.ErrorCode.TheVariants.{ExpectedIdentifier}
 use Rattle.json5_text.specs.ScanNames.{fits}
 use Rattle.json5_text.proofs.ScanEscapes.{refused_here}

@@ -1,4 +1,4 @@
-use Rattle.std.proofs.Common.{◌≡◌, ◌-◌, ◌∷◌, refl, length, ap, sym, ◌∙◌, subst}
+use Rattle.std.proofs.Common.{◌-◌, ◌∷◌, refl, length, ap, sym, ◌∙◌, subst}
 use Rattle.std.specs.Str.{chars, IsCharBoundary}
 use Rattle.json5_text.specs.Outcome.{outcome}
 use Rattle.json5_text.proofs.ScanBytes.{left_fits, cut_half, before_rest}

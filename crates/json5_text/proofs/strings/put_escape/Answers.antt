@@ -1,4 +1,4 @@
-use Rattle.std.proofs.Common.{◌≡◌, ◌++◌, ap, sym, ◌∙◌, string_bytes}
+use Rattle.std.proofs.Common.{◌++◌}
 use Rattle.std.specs.Str.{chars}
 use Rattle.std.proofs.lemmas.Result.{err_from_is_err_and}
 use Rattle.json5_text.specs.Scan.{in_list}

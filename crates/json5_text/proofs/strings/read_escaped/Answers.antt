@@ -1,4 +1,4 @@
-use Rattle.std.proofs.Common.{◌≡◌, ap, sym, ◌∙◌, subst}
+use Rattle.std.proofs.Common.{sym, subst}
 use Rattle.std.specs.Str.{chars}
 use Rattle.json5_text.specs.ScanStrings.{GoesOn, IsFurther}
 use Rattle.json5_text.proofs.ScanStrings.{Reached, reached_start, reached_more, reached_end}

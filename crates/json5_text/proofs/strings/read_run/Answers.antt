@@ -1,10 +1,8 @@
-use Rattle.std.proofs.Common.{◌≡◌, ◌-◌, ◌++◌, ◌∷◌, refl, List, ℕ, length, take, Some, ap, sym, ◌∙◌, subst, arith}
+use Rattle.std.proofs.Common.{◌-◌, ◌∷◌, refl, length, ap, sym, ◌∙◌, subst}
 use Rattle.std.specs.Str.{chars, IsCharBoundary}
-use Rattle.json5_grammar.specs.Characters.{Each}
-use Rattle.json5_grammar.specs.Strings.{is_raw}
 use Rattle.json5_grammar.specs.declared.code.ErrorCode.TheVariants.{LineTerminatorInString}
-use Rattle.json5_text.specs.Outcome.{bytes_in, outcome}
-use Rattle.json5_text.proofs.ScanBytes.{Halves, left_fits, cut_half, before_rest}
+use Rattle.json5_text.specs.Outcome.{outcome}
+use Rattle.json5_text.proofs.ScanBytes.{left_fits, cut_half, before_rest}
 use Rattle.json5_text.proofs.ScanTokens.{left_counted}
 use Rattle.json5_text.proofs.ScanEscapes.{refused_here}
 use Rattle.json5_text.proofs.ScanStrings.{run_ends, run_line}

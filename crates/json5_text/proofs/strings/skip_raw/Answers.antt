@@ -1,5 +1,4 @@
-use Rattle.std.proofs.Common.{◌≡◌, true, [], refl, sym, ◌∙◌, arith}
-use Rattle.std.specs.Str.{chars}
+use Rattle.std.proofs.Common.{◌≡◌, true, [], refl, arith}
 use Rattle.json5_grammar.specs.Characters.{no_char}
 use Rattle.json5_grammar.specs.Strings.{is_raw}
 use Rattle.json5_text.proofs.ScanStrings.{raw_more}

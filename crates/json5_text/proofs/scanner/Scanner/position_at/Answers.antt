@@ -1,4 +1,4 @@
-use Rattle.std.proofs.Common.{◌≡◌, ◌++◌, ℕ, List, take, ap, sym, ◌∙◌, subst, false, true}
+use Rattle.std.proofs.Common.{◌≡◌, take, ap, sym, ◌∙◌, subst, false, true}
 use Rattle.std.specs.Str.{chars, IsCharBoundary}
 use Rattle.json5_grammar.specs.Positions.{position_behind}
 use Rattle.json5_text.specs.Cursor.{Cursor}

@@ -1,9 +1,8 @@
-use Rattle.std.proofs.Common.{◌≡◌, ◌++◌, sym, ap, ◌∙◌, subst}
 use Rattle.std.specs.Str.{chars}
 use Rattle.json5_text.specs.ScanStrings.{string_at}
 use Rattle.json5_text.specs.Tokens.{FaultyString}
 use Rattle.json5_text.proofs.ScanFaults.{refusal_in, refused}
-use Rattle.json5_text.proofs.ScanTokens.{StringTaken, left_counted, leaves_rest, string_taken, string_faulty, plain_memory}
+use Rattle.json5_text.proofs.ScanTokens.{left_counted, leaves_rest, string_taken, string_faulty, plain_memory}
 use Rattle.json5_text.proofs.scanner.Scanner.string.Goals as goal
 
 pub fault-requires : goal.fault-requires
