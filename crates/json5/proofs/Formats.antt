@@ -1,5 +1,5 @@
 -- What the formatter gives is a document of the same tree.
-use Rattle.std.proofs.Common.{◌≡◌, ℕ, Bool, true, false, List, Option, Some, None, refl, sym, ap, ◌∙◌, subst, string_bytes}
+use Rattle.std.proofs.Common.{◌≡◌, ℕ, Bool, true, false, List, Some, refl, sym, ap, ◌∙◌, subst}
 use Rattle.std.specs.Prelude.{cond, Result, Ok, Err, IfOk, IfErr, MatchResult}
 use Rattle.json5_grammar.specs.declared.code.ErrorCode.TheVariants as codes_of
 use Rattle.json5_grammar.specs.NumberText.{number_text}
@@ -9,13 +9,11 @@ use Rattle.json5_grammar.proofs.Unique.{one_tree}
 use Rattle.json5_text.specs.declared.error.Error.{Error}
 use Rattle.json5_text.specs.Errors.{Kind, code, custom, failed_write, kind_of}
 use Rattle.json5_text.specs.Cursor.{IsOutOfMemory}
-use Rattle.std.specs.Str.{chars}
 use Rattle.json5_grammar.specs.Trees.{Tree, null, boolean, number, text, array, object}
 use Rattle.json5_grammar.specs.Documents.{Doc}
 use Rattle.json5_text.specs.ValueViews.{Datum}
 use Rattle.json5_text.specs.ValueViews as datum
 use Rattle.json5_de.specs.Convert.{datum_of}
-use Rattle.json5_ser.specs.WrittenTrees.{Written}
 use Rattle.json5_ser.specs.Out.{out, piece, stopped, no_number, bool_text}
 use Rattle.json5_ser.specs.Writable.{is_writable}
 use Rattle.json5_ser.specs.Marks.{marks, unmarked}

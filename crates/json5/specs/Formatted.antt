@@ -1,7 +1,7 @@
 -- What the formatter gives.
 use Rattle.std.specs.Prelude.{◌≡◌, ℕ, List, ⊤}
 use Rattle.std.specs.Str.{chars}
-use Rattle.json5_grammar.specs.Trees.{Tree, null, boolean, number, text, array, object}
+use Rattle.json5_grammar.specs.Trees.{Tree, array, object}
 use Rattle.json5_grammar.specs.Documents.{Doc}
 use Rattle.json5_text.specs.declared.error.Error.{Error}
 use Rattle.json5_text.specs.Cursor.{IsOutOfMemory}

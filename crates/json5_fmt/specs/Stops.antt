@@ -1,6 +1,4 @@
 -- How a fault of the text ends the program.
-use Rattle.std.specs.Prelude.{Option, Some, None}
-use Rattle.json5_grammar.specs.declared.code.ErrorCode.{ErrorCode}
 use Rattle.json5_grammar.specs.declared.code.ErrorCode.TheVariants as codes
 use Rattle.json5_text.specs.declared.error.Error.{Error}
 use Rattle.json5_text.specs.Errors.{Kind, code, custom, failed_write, kind_of}
