@@ -1,6 +1,6 @@
 -- The codes of what is refused round an array's members.
-use Rattle.std.proofs.Common.{◌≡◌, ℕ, Bool, true, false, not, List, [], ◌∷◌, ◌++◌, refl, ap, sym, ◌∙◌, subst, ◌⊎◌, inl, inr, Option, Some, None, arith}
-use Rattle.std.specs.Prelude.{◌==◌, ◌||◌, ◌&&◌, Result, Ok, Err, IfErr, IsErrAnd}
+use Rattle.std.proofs.Common.{◌≡◌, ℕ, Bool, true, false, not, List, [], ◌∷◌, refl, sym, ◌∙◌, subst, ◌⊎◌, inl, inr, Option, Some, None, arith}
+use Rattle.std.specs.Prelude.{◌==◌, ◌||◌, ◌&&◌}
 use Rattle.std.proofs.lemmas.List.{append-nil}
 use Rattle.json5_grammar.specs.declared.code.ErrorCode.{ErrorCode}
 use Rattle.json5_grammar.specs.declared.code.ErrorCode.TheVariants as codes
@@ -11,9 +11,9 @@ use Rattle.json5_grammar.proofs.BlanksRead.{begins_solid}
 use Rattle.json5_grammar.proofs.MembersRead.{comma_solid, bracket_solid, opening_solid}
 use Rattle.json5_grammar.proofs.MembersNowhere.{no_sign}
 use Rattle.json5_text.specs.declared.error.Error.{Error}
-use Rattle.json5_text.specs.Errors.{code, kind_of, place_of}
+use Rattle.json5_text.specs.Errors.{kind_of, place_of}
 use Rattle.json5_de.specs.State.{State}
-use Rattle.json5_de.specs.Access.{within, Opened, Closed, NotOpened, no_bracket, array_missing, too_deep, NoBracket, other_sign, bracket_missing, NotClosed, not_here, behind_comma, AtFull, is_opening, is_comma_or_closing, begins_close}
+use Rattle.json5_de.specs.Access.{within, Opened, Closed, NotOpened, no_bracket, array_missing, too_deep, other_sign, bracket_missing, NotClosed, not_here, behind_comma, AtFull, is_opening, is_comma_or_closing, begins_close}
 use Rattle.json5_de.specs.Seq.{GoesOn, NoNext, no_comma, list_ends, in_blanks_behind}
 use Rattle.json5_de.specs.Faults.{AtEnd, AtOther, IsBehind, RefusedBy}
 use Rattle.json5_de.proofs.Awaited.{Awaited, other_fault}

@@ -1,9 +1,9 @@
 -- What is left of a list of a fixed length, while it is read, and what was read of it.
-use Rattle.std.proofs.Common.{◌≡◌, ℕ, ◌+◌, ◌-◌, ◌≤◌, ◌<◌, Bool, true, false, List, [], ◌∷◌, ◌++◌, refl, ap, sym, ◌∙◌, subst, arith, Option, Some, None, ◌||◌, ◌⊎◌, inl, inr}
+use Rattle.std.proofs.Common.{◌≡◌, ℕ, ◌+◌, ◌≤◌, Bool, true, false, List, refl, sym, ◌∙◌, subst, arith, Option, Some, None, ◌||◌}
 use Rattle.json5_grammar.specs.Trees.{Tree, Trees, array, no_more, more, depth, depths}
 use Rattle.json5_grammar.specs.Values.{Reads}
 use Rattle.json5_grammar.specs.Documents.{max_depth}
-use Rattle.json5_grammar.specs.Members.{Opens, IsElement, IsClose, Passed, Tail, snoc, joint, array_of}
+use Rattle.json5_grammar.specs.Members.{IsElement, IsClose, Passed, Tail, snoc, joint, array_of}
 use Rattle.json5_grammar.proofs.MembersRead.{array_front}
 use Rattle.json5_grammar.proofs.MembersPassed.{one_opening, element_left, element_or_close, passed_more, shallow_snoc}
 use Rattle.json5_grammar.proofs.MembersConverted.{array_only}

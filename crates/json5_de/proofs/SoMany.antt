@@ -1,8 +1,8 @@
 -- Lists of so many members of one type: what is left of them while they are read, and what was read.
-use Rattle.std.proofs.Common.{◌≡◌, ℕ, ◌+◌, ◌-◌, ◌≤◌, ◌<◌, Bool, true, false, List, [], ◌∷◌, ◌++◌, length, map, refl, ap, sym, ◌∙◌, subst, arith, Option, Some, None, ◌||◌}
+use Rattle.std.proofs.Common.{◌≡◌, ℕ, ◌+◌, ◌-◌, ◌≤◌, ◌<◌, Bool, true, false, List, [], ◌∷◌, ◌++◌, length, map, refl, ap, ◌∙◌, subst, arith, Option, Some, None, ◌||◌}
 use Rattle.std.specs.Prelude.{◌==◌, if◌then◌else◌}
 use Rattle.std.proofs.lemmas.List.{length-map, length-append}
-use Rattle.json5_grammar.specs.Trees.{Tree, Trees, array, no_more, more, depths}
+use Rattle.json5_grammar.specs.Trees.{Tree, Trees, no_more, more, depths}
 use Rattle.json5_grammar.specs.Documents.{max_depth}
 use Rattle.json5_grammar.specs.Members.{IsClose, Tail, contents, array_of}
 use Rattle.json5_grammar.proofs.MembersConverted.{MembersSoFar, array_only, both_parts}

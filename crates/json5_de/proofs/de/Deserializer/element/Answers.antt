@@ -1,6 +1,5 @@
-use Rattle.std.proofs.Common.{◌≡◌, ◌∙◌, sym, ap, subst, true, false, Some, None, rules, arith}
+use Rattle.std.proofs.Common.{◌∙◌, arith}
 use Rattle.std.proofs.lemmas.Result.{err_from_is_err_and}
-use Rattle.json5_de.specs.Seq.{GoesOn}
 use Rattle.json5_de.proofs.Arrays.{element_found, no_close_found, took_element, level_of, failed_of}
 use Rattle.json5_de.proofs.Awaited.{end_fault, other_fault}
 use Rattle.json5_de.proofs.ArrayCodes.{awaits_more, end_goes_nowhere, other_goes_nowhere}

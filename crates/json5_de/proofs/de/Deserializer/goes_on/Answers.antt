@@ -1,11 +1,11 @@
-use Rattle.std.proofs.Common.{◌≡◌, ◌∙◌, sym, ap, subst, true, false, refl, [], ◌∷◌}
+use Rattle.std.proofs.Common.{◌∙◌, refl, [], ◌∷◌}
 use Rattle.std.proofs.lemmas.Result.{err_from_is_err_and}
 use Rattle.json5_de.specs.Seq.{in_blanks_behind}
 use Rattle.json5_de.proofs.Taken.{refused_blanks, refused_token}
 use Rattle.json5_de.proofs.Places.{refused_as, refused_behind}
 use Rattle.json5_de.proofs.Ends.{end_not_blamed}
 use Rattle.json5_de.proofs.Options.{end_next}
-use Rattle.json5_de.proofs.Arrays.{failed_of, behind_gap_of, no_next, nowhere_next, nowhere_faulty, nowhere_behind, goes_behind, at_close_here, at_element_here}
+use Rattle.json5_de.proofs.Arrays.{failed_of, behind_gap_of, no_next, nowhere_next, nowhere_faulty, nowhere_behind, goes_behind}
 use Rattle.json5_de.proofs.de.Deserializer.goes_on.Goals as goal
 
 pub returns-in_err-begin-clause-refused : goal.returns-in_err-begin-clause-refused

@@ -1,4 +1,4 @@
-use Rattle.std.proofs.Common.{◌≡◌, ◌∙◌, sym, ap, subst, true, false, refl, [], ◌∷◌, ◌++◌, arith}
+use Rattle.std.proofs.Common.{◌≡◌, ◌∙◌, sym, subst, true, false, refl, arith}
 use Rattle.std.proofs.lemmas.Result.{err_from_is_err_and}
 use Rattle.json5_de.proofs.Taken.{refused_blanks, refused_token, input_of}
 use Rattle.json5_de.proofs.Places.{refused_as}

@@ -1,4 +1,4 @@
-use Rattle.std.proofs.Common.{rules, arith, subst, refl, sym, ap, ◌∙◌, ◌≡◌, ◌-◌, ◌<◌, ◌≤◌, length, Some, map, [], ◌∷◌, ◌++◌, ◌||◌, true}
+use Rattle.std.proofs.Common.{rules, arith, subst, refl, sym, ap, ◌∙◌, ◌≡◌, ◌-◌, ◌<◌, length, Some, map, [], ◌∷◌, ◌++◌}
 use Rattle.std.specs.Vec.{vec_len}
 use Rattle.std.proofs.lemmas.Result.{err_from_is_err_and}
 use Rattle.json5_grammar.specs.Documents.{max_depth}
