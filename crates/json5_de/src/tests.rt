@@ -148,3 +148,21 @@ fn faults_have_codes_and_places(rt: HostRuntime) {
     assert!(rt; from_str::<()>(alloc, "null /") == Err(Error::new(ErrorCode::EofParsingComment)));
     assert!(rt; from_str::<()>(alloc, "null / ") == Err(at(0, 6, ErrorCode::ExpectedComment)));
 }
+
+#[test]
+fn arrays_of_a_fixed_length_are_read(rt: HostRuntime) -> std::result::Result<(), Fail> {
+    let alloc = rt.alloc();
+    assert!(rt; from_str::<[i32; 2]>(alloc, "[1, /* and */ 2,]")? == [1, 2]);
+    assert!(rt; from_str::<[bool; 0]>(alloc, "[]").is_ok());
+    assert_eq!(rt;
+        refusal::<[i32; 2]>(alloc, " [1]")?.as_str(),
+        "invalid length 1, expected an array of length 2 at line 1 column 2"
+    );
+    assert!(rt; from_str::<[i32; 2]>(alloc, "[1") == Err(at(0, 0, ErrorCode::EofParsingArray)));
+    assert!(rt;
+        from_str::<[i32; 2]>(alloc, "[1,2,3]") == Err(at(0, 5, ErrorCode::ExpectedClosingBracket))
+    );
+    assert!(rt; from_str::<[i32; 2]>(alloc, "[0-2]") == Err(at(0, 2, ErrorCode::ExpectedComma)));
+    assert!(rt; from_str::<[i32; 2]>(alloc, "") == Err(Error::new(ErrorCode::EofParsingArray)));
+    Ok(())
+}
