@@ -149,6 +149,27 @@ fn faults_have_codes_and_places(rt: HostRuntime) {
     assert!(rt; from_str::<()>(alloc, "null / ") == Err(at(0, 6, ErrorCode::ExpectedComment)));
 }
 
+/// A reader with so many brackets open.
+fn inside(alloc: Global, text: &str, open: u8) -> Deserializer<&str> {
+    let mut de = Deserializer::from_str(alloc, text);
+    for _ in 0..open {
+        let _ = de.enter();
+    }
+    de
+}
+
+#[test]
+fn one_bracket_too_many_is_refused(rt: HostRuntime) -> std::result::Result<(), Fail> {
+    let alloc = rt.alloc();
+    let mut last = inside(alloc, "[[7]]", 126);
+    let read = Vec::<Vec<u8>>::deserialize(&mut last)?;
+    assert_eq!(rt; read.len(), 1);
+    let mut past = inside(alloc, " [[7]]", 127);
+    assert!(rt; Vec::<Vec<u8>>::deserialize(&mut past) == Err(at(0, 2, ErrorCode::TooDeep)));
+    assert!(rt; past.deserialize_u8() == Err(Error::new(ErrorCode::Failed)));
+    Ok(())
+}
+
 #[test]
 fn arrays_of_a_fixed_length_are_read(rt: HostRuntime) -> std::result::Result<(), Fail> {
     let alloc = rt.alloc();
