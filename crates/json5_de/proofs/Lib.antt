@@ -7,6 +7,7 @@ pub mod Arrays
 pub mod ListSteps
 pub mod Options
 pub mod Members
+pub mod Elements
 pub mod Offsets
 pub mod AwaitsNumbers
 pub mod Mismatches

@@ -1,17 +1,18 @@
 -- What contracts see of an access to an array.
-use Rattle.std.specs.Prelude.{◌≡◌, ◌≢◌, ℕ, ◌+◌, ◌-◌, ◌<◌, ◌≤◌, Bool, true, false, List, [], ◌∷◌, ◌++◌, length, Option, Some, None, Result, IsErrAnd, ◌==◌, ◌||◌, ◌&&◌}
+use Rattle.std.specs.Prelude.{◌≡◌, ◌≢◌, ◌⊎◌, ℕ, ◌+◌, ◌-◌, ◌<◌, ◌≤◌, Bool, true, false, List, [], ◌∷◌, ◌++◌, length, Option, Some, None, Result, Ok, Err, IsErrAnd, ◌==◌, ◌||◌, ◌&&◌}
 use Rattle.std.specs.Str.{encode_utf8_all}
 use Rattle.json5_grammar.specs.declared.code.ErrorCode.{ErrorCode}
 use Rattle.json5_grammar.specs.declared.code.ErrorCode.TheVariants as codes
 use Rattle.json5_grammar.specs.Codes.{behind_text}
 use Rattle.json5_grammar.specs.Blanks.{Blanks}
 use Rattle.json5_grammar.specs.Positions.{position_behind}
-use Rattle.json5_grammar.specs.Trees.{Tree, depth}
+use Rattle.json5_grammar.specs.Trees.{Tree, Trees, array, more, no_more, depth, depths}
 use Rattle.json5_grammar.specs.Documents.{max_depth}
-use Rattle.json5_grammar.specs.Members.{Opens, IsElement, IsClose, IsAtClose}
+use Rattle.json5_grammar.specs.Members.{Opens, IsElement, IsClose, IsAtClose, Passed, Tail, snoc}
 use Rattle.json5_text.specs.declared.error.Error.{Error}
 use Rattle.json5_text.specs.Errors.{code, kind_of, place_of}
 use Rattle.json5_de.specs.State.{State, OnlyRead}
+use Rattle.json5_text.specs.Cursor.{IsOutOfMemory}
 use Rattle.json5_de.specs.Law.{IsOkOrMemory}
 use Rattle.json5_de.specs.Faults.{Behind, AtEnd, IsBehind}
 
@@ -56,6 +57,39 @@ GivesElement content convert due old new None = AtClose due old new
 abbrev pub CompletesElement : {V C : Type 0} → (Tree → Option C) → Bool → State → Result V Error → Type 0
 CompletesElement {C = C} convert due old result =
     (t : Tree) (r : List ℕ) (c : C) → old.failed ≡ false → IsElement due old.unread t r → old.level + depth t ≤ max_depth → convert t ≡ Some c → IsOkOrMemory result
+
+-- ---- an array as a whole: what was read of it, and what is left
+
+-- an array stands at `from`, these elements of it were read, and perhaps the comma behind the last one
+pub record ElementsRead (from : State) (ts : Trees) (due : Bool) (now : State) : Type 0 where
+  pub live : from.failed ≡ false
+  pub shallow : from.level + depth (array ts) ≤ max_depth
+  pub inside : List ℕ
+  pub bracket : Opens from.unread inside
+  pub behind : List ℕ
+  pub passed : Passed ts false inside due behind
+  pub here : (now.unread ≡ behind) ⊎ IsAtClose due behind now.unread
+  pub rest : now ≡ record from { unread = now.unread; level = from.level + 1 }
+
+-- these elements are left and then the closing bracket, with r behind it
+pub record ElementsLeft (ts : Trees) (r : List ℕ) (due : Bool) (now : State) : Type 0 where
+  pub live : now.failed ≡ false
+  pub shallow : now.level + depths ts ≤ max_depth
+  pub tail : Tail ts due now.unread r
+
+-- an element that stands for v was read more, or none
+abbrev pub ReadsMore : {V C : Type 0} → (V → C) → (Tree → Option C) → Bool → State → Bool → State → Option V → Type 0
+ReadsMore content convert due old now new (Some v) = (t : Tree) × (convert t ≡ Some (content v)) × ((from : State) (ts : Trees) → ElementsRead from ts due old → ElementsRead from (snoc ts t) now new)
+ReadsMore content convert due old now new None = (from : State) (ts : Trees) → ElementsRead from ts due old → ElementsRead from ts now new
+
+-- of the elements that were left the first was read, want of memory aside; or none, where none was left
+abbrev pub LeavesFewer : {V C : Type 0} → (V → C) → (Tree → Option C) → Trees → List ℕ → Bool → State → Result (Option V) Error → Type 0
+LeavesFewer content convert no_more r now new (Ok None) = ElementsLeft no_more r now new
+LeavesFewer content convert no_more r now new (Ok (Some v)) = ⊥
+LeavesFewer content convert no_more r now new (Err e) = ⊥
+LeavesFewer content convert (more t ts) r now new (Ok (Some v)) = (convert t ≡ Some (content v)) × ElementsLeft ts r now new
+LeavesFewer content convert (more t ts) r now new (Ok None) = ⊥
+LeavesFewer {C = C} content convert (more t ts) r now new (Err e) = (c : C) → convert t ≡ Some c → IsOutOfMemory e
 
 -- ---- places
 

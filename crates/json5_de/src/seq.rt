@@ -1,6 +1,6 @@
 //! Reading of arrays, one element after another.
 
-ghost use Rattle.std.specs.Prelude.{◌≡◌, ◌≢◌, ◌<◌, ◌+◌, ◌-◌, ◌==◌, ◌||◌, ◌∷◌, ◌++◌, [], false, true, ℕ, List, Some, None, length, is_some, slice_get, IfOk, IfErr, OnErr, OnOk, IsOk, IsTrue, IsErrAnd};
+ghost use Rattle.std.specs.Prelude.{◌≡◌, ◌≢◌, ◌<◌, ◌≤◌, ◌+◌, ◌-◌, ◌==◌, ◌||◌, ◌∷◌, ◌++◌, [], false, true, ℕ, List, Some, None, length, is_some, slice_get, IfOk, IfErr, OnErr, OnOk, IsOk, IsTrue, IsErrAnd, IsOkAnd};
 ghost use Rattle.std.specs.Str.{encode_utf8_all};
 ghost use Rattle.std.specs.Borrow.{sem, RestsIfErr};
 ghost use Rattle.json5_grammar.specs.declared.code.ErrorCode.TheVariants as codes;
@@ -9,13 +9,15 @@ ghost use Rattle.json5_grammar.specs.Blanks.{Blanks};
 ghost use Rattle.json5_grammar.specs.Documents.{max_depth};
 ghost use Rattle.json5_grammar.specs.Positions.{position_behind};
 ghost use Rattle.json5_grammar.specs.declared.position.Position.{Position};
+ghost use Rattle.json5_grammar.specs.Trees.{Trees, array, no_more, depth};
+ghost use Rattle.json5_grammar.specs.Values.{Reads};
 ghost use Rattle.json5_grammar.specs.Members.{Opens, IsClose, GoesNowhere};
 ghost use Rattle.json5_text.specs.Errors.{code, kind_of, place_of, or_place};
 ghost use Rattle.json5_text.specs.Cursor.{Refused};
 ghost use Rattle.json5_de.specs.State.{State, cursor_of};
-ghost use Rattle.json5_de.specs.Law.{StaysFailed};
+ghost use Rattle.json5_de.specs.Law.{StaysFailed, TookValue};
 ghost use Rattle.json5_de.specs.Faults.{RefusedBy, EndsWith, DiffersWith, AtEnd};
-ghost use Rattle.json5_de.specs.Access.{within, Opened, Closed, GivesElement, CompletesElement, StartsBehind, EndsAtOffset, TooDeepAt, HasPlace, Unawaited, NotOpened, NotClosed, is_opening, is_comma_or_closing, begins_close};
+ghost use Rattle.json5_de.specs.Access.{within, Opened, Closed, GivesElement, CompletesElement, StartsBehind, EndsAtOffset, TooDeepAt, HasPlace, Unawaited, NotOpened, NotClosed, is_opening, is_comma_or_closing, begins_close, ElementsRead, ElementsLeft, ReadsMore, LeavesFewer};
 ghost use Rattle.json5_de.specs.Seq.{GoesOn, NoNext};
 ghost use Rattle.json5_de.specs.contracts.de.Deserializer.{the_row};
 
@@ -181,6 +183,8 @@ impl<I: Input> Deserializer<I> {
         ensures differs { DiffersWith is_opening codes.ExpectedOpeningBracket self.old result }
         ensures too_deep { TooDeepAt self.old result }
         ensures before { self.old.failed ≡ true → IsErrAnd result (λ e. (kind_of e ≡ code codes.Failed) × (place_of e ≡ None)) }
+        ensures read { IfOk result (λ s. ElementsRead self.old no_more s.due (within s.de.now s.failed)) }
+        ensures left { (ts : Trees) (r : List ℕ) → self.old.failed ≡ false → Reads self.old.unread (array ts) r → self.old.level + depth (array ts) ≤ max_depth → IsOkAnd result (λ s. ElementsLeft ts r s.due (within s.de.now s.failed)) }
     {
         let start = self.open()?;
         self.set_failed(true);
@@ -205,6 +209,8 @@ impl<I: Input> Deserializer<I> {
         ensures differs { DiffersWith is_opening codes.ExpectedOpeningBracket self.old result }
         ensures too_deep { TooDeepAt self.old result }
         ensures before { self.old.failed ≡ true → IsErrAnd result (λ e. (kind_of e ≡ code codes.Failed) × (place_of e ≡ None)) }
+        ensures read { IfOk result (λ s. ElementsRead self.old no_more s.due (within s.de.now s.failed)) }
+        ensures left { (ts : Trees) (r : List ℕ) → self.old.failed ≡ false → Reads self.old.unread (array ts) r → self.old.level + depth (array ts) ≤ max_depth → IsOkAnd result (λ s. ElementsLeft ts r s.due (within s.de.now s.failed)) }
     {
         self.deserialize_seq()
     }
@@ -226,6 +232,8 @@ impl<I: Input> Deserializer<I> {
         ensures differs { DiffersWith is_opening codes.ExpectedOpeningBracket self.old result }
         ensures too_deep { TooDeepAt self.old result }
         ensures before { self.old.failed ≡ true → IsErrAnd result (λ e. (kind_of e ≡ code codes.Failed) × (place_of e ≡ None)) }
+        ensures read { IfOk result (λ s. ElementsRead self.old no_more s.due (within s.de.now s.failed)) }
+        ensures left { (ts : Trees) (r : List ℕ) → self.old.failed ≡ false → Reads self.old.unread (array ts) r → self.old.level + depth (array ts) ≤ max_depth → IsOkAnd result (λ s. ElementsLeft ts r s.due (within s.de.now s.failed)) }
     {
         self.deserialize_seq()
     }
@@ -248,6 +256,8 @@ impl<'a, I: Input> SeqAccess<'a, I> {
         ensures differs { self.old.due ≡ true → DiffersWith is_comma_or_closing codes.ExpectedComma (within self.old.de.now self.old.failed) result }
         ensures failed { OnErr result (self.new.failed ≡ true) }
         ensures before { self.old.failed ≡ true → IsErrAnd result (λ e. kind_of e ≡ code codes.Failed) }
+        ensures read { IfOk result (λ o. ReadsMore T.content T.convert self.old.due (within self.old.de.now self.old.failed) self.new.due (within self.new.de.now self.new.failed) o) }
+        ensures left { (ts : Trees) (r : List ℕ) → ElementsLeft ts r self.old.due (within self.old.de.now self.old.failed) → LeavesFewer T.content T.convert ts r self.new.due (within self.new.de.now self.new.failed) result }
     {
         if self.failed {
             self.de.set_failed(true);
@@ -289,6 +299,8 @@ impl<'a, I: Input> SeqAccess<'a, I> {
         ensures differs { DiffersWith (begins_close self.entry.due) codes.ExpectedClosingBracket (within self.entry.de.now self.entry.failed) result }
         ensures failed { OnErr result (self.exit.0.now.failed ≡ true) }
         ensures before { self.entry.failed ≡ true → IsErrAnd result (λ e. (kind_of e ≡ code codes.Failed) × (place_of e ≡ None)) }
+        ensures read { OnOk result ((from : State) (ts : Trees) → ElementsRead from ts self.entry.due (within self.entry.de.now self.entry.failed) → TookValue from (array ts) self.exit.0.now) }
+        ensures left { (r : List ℕ) → ElementsLeft no_more r self.entry.due (within self.entry.de.now self.entry.failed) → IsOk result }
     {
         let SeqAccess {
             de,

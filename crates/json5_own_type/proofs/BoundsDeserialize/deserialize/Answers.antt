@@ -1,90 +1,80 @@
-use Rattle.std.proofs.Common.{rules, subst, refl, sym, ◌≡◌, Some}
+use Rattle.std.proofs.Common.{rules, subst, refl, sym, ap, ◌≡◌, Option, Some, None}
 use Rattle.std.proofs.lemmas.Result.{err_from_is_err_and}
-use Rattle.json5_grammar.specs.Documents.{max_depth}
-use Rattle.json5_grammar.specs.Trees.{array, more, no_more}
-use Rattle.json5_grammar.specs.Members.{array_of}
-use Rattle.json5_grammar.proofs.MembersConverted.{array_begins}
+use Rattle.json5_grammar.specs.Trees.{Tree, Trees, null, boolean, number, text, array, object, more, no_more}
+use Rattle.json5_grammar.specs.Members.{joint, array_of}
 use Rattle.json5_de.specs.Law.{TookValue}
 use Rattle.json5_de.specs.ConvertLists.{first_of, last_of}
-use Rattle.json5_de.specs.Access.{within}
-use Rattle.json5_de.proofs.ListSteps.{not_ok}
-use Rattle.json5_de.proofs.Members.{none_read, one_read, all_read, all_left, last_next, next_no_close, bracket_left, first_next, others_left}
 use Rattle.json5_own_type.proofs.BoundsDeserialize.deserialize.Goals as goal
+
+joint_parts : {A B : Type 0} (o : Option A) (p : Option B) (v : A × B) → joint o p ≡ Some v → (a : A) × (b : B) × (o ≡ Some a) × (p ≡ Some b)
+joint_parts None p v e = absurd (cc)
+joint_parts (Some a) None v e = absurd (cc)
+joint_parts (Some a) (Some b) v e = (a, b, refl, refl)
+
+last_part : {A : Type 0} (f : Tree → Option A) (ts : Trees) (v : A) → last_of f ts ≡ Some v → (t : Tree) × (ts ≡ more t no_more) × (f t ≡ Some v)
+last_part f no_more v e = absurd (cc)
+last_part f (more t no_more) v e = (t, refl, e)
+last_part f (more t (more u us)) v e = absurd (cc)
+
+-- a tree that converts is a list of two that convert
+two : {A : Type 0} (f : Tree → Option A) (t : Tree) (v : A × A) → array_of (first_of f (last_of f)) t ≡ Some v → (a b : Tree) × (x y : A) × (t ≡ array (more a (more b no_more))) × (f a ≡ Some x) × (f b ≡ Some y)
+two f null v e = absurd (cc)
+two f (boolean b) v e = absurd (cc)
+two f (number n) v e = absurd (cc)
+two f (text u plain) v e = absurd (cc)
+two f (object ps) v e = absurd (cc)
+two f (array no_more) v e = absurd (cc)
+two f (array (more a ts)) v e =
+    let (x, y, is_x, are) = joint_parts (f a) (last_of f ts) v e in
+    let (b, only, is_y) = last_part f ts y are in
+    (a, b, x, y, ap (λ us. array (more a us)) only, is_x, is_y)
 
 pub returns-in_err-seq-clause-complete : goal.returns-in_err-seq-clause-complete
 returns-in_err-seq-clause-complete g c t r v live reads shallow converts =
-    let (y, opens, room) = array_begins (first_of g.T.Deserialize.convert (last_of g.T.Deserialize.convert)) c.args.de.now.level max_depth c.args.de.now.unread r t v reads shallow converts in
-    absurd (not_ok (c.in_err-seq.ensures.complete y live opens room))
+    let (a, b, x, y, e, is_x, is_y) = two g.T.Deserialize.convert t v converts in
+    absurd (c.in_err-seq.ensures.left (more a (more b no_more)) r live (rw e at reads) (rw e at shallow))
 
 pub returns-in_err-low-clause-complete : goal.returns-in_err-low-clause-complete
 returns-in_err-low-clause-complete g c t r v live reads shallow converts =
-    let (y, is, from) = err_from_is_err_and c.from_residual-in_err-low.result c.from_residual-in_err-low.ensures.1 in
-    let (opened, good, due) = c.in_ok-seq.ensures.opened in
-    let s_0 = within c.in_ok-seq.seq.de.now c.in_ok-seq.seq.failed in
-    let left_0 = all_left (first_of g.T.Deserialize.convert (last_of g.T.Deserialize.convert)) c.in_ok-seq.seq.due c.args.de.now s_0 t v r due opened reads shallow converts in
-    let next = first_next g.T.Deserialize.convert (last_of g.T.Deserialize.convert) c.in_ok-seq.seq.due s_0 left_0 in
-    rw (is, from) (c.in_err-low.ensures.complete next.tree next.behind next.value next.live next.element next.shallow next.is)
+    let (a, b, x, y, e, is_x, is_y) = two g.T.Deserialize.convert t v converts in
+    let both = c.in_ok-seq.ensures.left (more a (more b no_more)) r live (rw e at reads) (rw e at shallow) in
+    let (error, is, from) = err_from_is_err_and c.from_residual-in_err-low.result c.from_residual-in_err-low.ensures.1 in
+    rw (is, from) (c.in_err-low.ensures.left (more a (more b no_more)) r both x is_x)
 
 pub returns-in_default-clause-complete : goal.returns-in_default-clause-complete
 returns-in_default-clause-complete g c t r v live reads shallow converts =
-    let (opened, good, due) = c.in_ok-seq.ensures.opened in
-    let s_0 = within c.in_ok-seq.seq.de.now c.in_ok-seq.seq.failed in
-    let s_1 = within c.next_element.new.self.de.now c.next_element.new.self.failed in
-    let left_0 = all_left (first_of g.T.Deserialize.convert (last_of g.T.Deserialize.convert)) c.in_ok-seq.seq.due c.args.de.now s_0 t v r due opened reads shallow converts in
-    let next = first_next g.T.Deserialize.convert (last_of g.T.Deserialize.convert) c.in_ok-seq.seq.due s_0 left_0 in
-    let at = rw c.in_default.is at c.in_ok-low.ensures.sound in
-    absurd (next_no_close g.T.Deserialize.convert c.in_ok-seq.seq.due s_0 s_1 next at)
+    let (a, b, x, y, e, is_x, is_y) = two g.T.Deserialize.convert t v converts in
+    let both = c.in_ok-seq.ensures.left (more a (more b no_more)) r live (rw e at reads) (rw e at shallow) in
+    absurd (rw c.in_default.is at c.in_ok-low.ensures.left (more a (more b no_more)) r both)
 
 pub returns-in_err-high-clause-complete : goal.returns-in_err-high-clause-complete
 returns-in_err-high-clause-complete g c t r v live reads shallow converts =
-    let (y, is, from) = err_from_is_err_and c.from_residual-in_err-high.result c.from_residual-in_err-high.ensures.1 in
-    let (opened, good, due) = c.in_ok-seq.ensures.opened in
-    let s_0 = within c.in_ok-seq.seq.de.now c.in_ok-seq.seq.failed in
-    let s_1 = within c.next_element.new.self.de.now c.next_element.new.self.failed in
-    let left_0 = all_left (first_of g.T.Deserialize.convert (last_of g.T.Deserialize.convert)) c.in_ok-seq.seq.due c.args.de.now s_0 t v r due opened reads shallow converts in
-    let (t_0, took_0, is_0) = rw c.in-Some.is at c.in_ok-low.ensures.sound in
-    let left_1 = others_left g.T.Deserialize.convert (last_of g.T.Deserialize.convert) c.in_ok-seq.seq.due c.next_element.new.self.due s_0 s_1 t_0 left_0 took_0 (rw c.in-Some.is at c.in_ok-low.ensures.due) in
-    let next = last_next g.T.Deserialize.convert c.next_element.new.self.due s_1 left_1 in
-    rw (is, from) (c.in_err-high.ensures.complete next.tree next.behind next.value next.live next.element next.shallow next.is)
+    let (a, b, x, y, e, is_x, is_y) = two g.T.Deserialize.convert t v converts in
+    let both = c.in_ok-seq.ensures.left (more a (more b no_more)) r live (rw e at reads) (rw e at shallow) in
+    let (same, one) = rw c.in-Some.is at c.in_ok-low.ensures.left (more a (more b no_more)) r both in
+    let (error, is, from) = err_from_is_err_and c.from_residual-in_err-high.result c.from_residual-in_err-high.ensures.1 in
+    rw (is, from) (c.in_err-high.ensures.left (more b no_more) r one y is_y)
 
 pub returns-in_default-2-clause-complete : goal.returns-in_default-2-clause-complete
 returns-in_default-2-clause-complete g c t r v live reads shallow converts =
-    let (opened, good, due) = c.in_ok-seq.ensures.opened in
-    let s_0 = within c.in_ok-seq.seq.de.now c.in_ok-seq.seq.failed in
-    let s_1 = within c.next_element.new.self.de.now c.next_element.new.self.failed in
-    let s_2 = within c.next_element-2.new.self.de.now c.next_element-2.new.self.failed in
-    let left_0 = all_left (first_of g.T.Deserialize.convert (last_of g.T.Deserialize.convert)) c.in_ok-seq.seq.due c.args.de.now s_0 t v r due opened reads shallow converts in
-    let (t_0, took_0, is_0) = rw c.in-Some.is at c.in_ok-low.ensures.sound in
-    let left_1 = others_left g.T.Deserialize.convert (last_of g.T.Deserialize.convert) c.in_ok-seq.seq.due c.next_element.new.self.due s_0 s_1 t_0 left_0 took_0 (rw c.in-Some.is at c.in_ok-low.ensures.due) in
-    let next = last_next g.T.Deserialize.convert c.next_element.new.self.due s_1 left_1 in
-    let at = rw c.in_default-2.is at c.in_ok-high.ensures.sound in
-    absurd (next_no_close g.T.Deserialize.convert c.next_element.new.self.due s_1 s_2 next at)
+    let (a, b, x, y, e, is_x, is_y) = two g.T.Deserialize.convert t v converts in
+    let both = c.in_ok-seq.ensures.left (more a (more b no_more)) r live (rw e at reads) (rw e at shallow) in
+    let (same, one) = rw c.in-Some.is at c.in_ok-low.ensures.left (more a (more b no_more)) r both in
+    absurd (rw c.in_default-2.is at c.in_ok-high.ensures.left (more b no_more) r one)
 
 pub returns-in_err-end-clause-complete : goal.returns-in_err-end-clause-complete
 returns-in_err-end-clause-complete g c t r v live reads shallow converts =
-    let (opened, good, due) = c.in_ok-seq.ensures.opened in
-    let s_0 = within c.in_ok-seq.seq.de.now c.in_ok-seq.seq.failed in
-    let s_1 = within c.next_element.new.self.de.now c.next_element.new.self.failed in
-    let s_2 = within c.next_element-2.new.self.de.now c.next_element-2.new.self.failed in
-    let left_0 = all_left (first_of g.T.Deserialize.convert (last_of g.T.Deserialize.convert)) c.in_ok-seq.seq.due c.args.de.now s_0 t v r due opened reads shallow converts in
-    let (t_0, took_0, is_0) = rw c.in-Some.is at c.in_ok-low.ensures.sound in
-    let left_1 = others_left g.T.Deserialize.convert (last_of g.T.Deserialize.convert) c.in_ok-seq.seq.due c.next_element.new.self.due s_0 s_1 t_0 left_0 took_0 (rw c.in-Some.is at c.in_ok-low.ensures.due) in
-    let (t_1, took_1, is_1) = rw c.in-Some-2.is at c.in_ok-high.ensures.sound in
-    let (q, close, still) = bracket_left g.T.Deserialize.convert c.next_element.new.self.due c.next_element-2.new.self.due s_1 s_2 t_1 left_1 took_1 (rw c.in-Some-2.is at c.in_ok-high.ensures.due) in
-    absurd (not_ok (c.in_err-end.ensures.complete q still close))
+    let (a, b, x, y, e, is_x, is_y) = two g.T.Deserialize.convert t v converts in
+    let both = c.in_ok-seq.ensures.left (more a (more b no_more)) r live (rw e at reads) (rw e at shallow) in
+    let (same_a, one) = rw c.in-Some.is at c.in_ok-low.ensures.left (more a (more b no_more)) r both in
+    let (same_b, none) = rw c.in-Some-2.is at c.in_ok-high.ensures.left (more b no_more) r one in
+    let closed = c.in_err-end.ensures.left r none in
+    absurd (cc)
 
 pub returns-clause-sound : goal.returns-clause-sound
 returns-clause-sound g c =
-    let (opened, good, due) = c.in_ok-seq.ensures.opened in
-    let s_0 = within c.in_ok-seq.seq.de.now c.in_ok-seq.seq.failed in
-    let s_1 = within c.next_element.new.self.de.now c.next_element.new.self.failed in
-    let s_2 = within c.next_element-2.new.self.de.now c.next_element-2.new.self.failed in
-    let (t_0, took_0, is_0) = rw c.in-Some.is at c.in_ok-low.ensures.sound in
-    let (t_1, took_1, is_1) = rw c.in-Some-2.is at c.in_ok-high.ensures.sound in
-    let read_0 = none_read c.in_ok-seq.seq.due c.args.de.now s_0 due opened in
-    let read_1 = one_read no_more s_0 s_0 s_1 c.in_ok-seq.seq.due c.next_element.new.self.due t_0 read_0 took_0 (rw c.in-Some.is at c.in_ok-low.ensures.due) in
-    let read_2 = one_read (more t_0 no_more) s_0 s_1 s_2 c.next_element.new.self.due c.next_element-2.new.self.due t_1 read_1 took_1 (rw c.in-Some-2.is at c.in_ok-high.ensures.due) in
-    let all = all_read (more t_0 (more t_1 no_more)) c.args.de.now s_0 s_2 _ c.next_element-2.new.self.due opened read_2 c.in_ok-end.ensures.closed in
+    let (t, is_t, then_t) = rw c.in-Some.is at c.in_ok-low.ensures.read in
+    let (u, is_u, then_u) = rw c.in-Some-2.is at c.in_ok-high.ensures.read in
+    let took = c.in_ok-end.ensures.read c.args.de.now (more t (more u no_more)) (then_u c.args.de.now (more t no_more) (then_t c.args.de.now no_more c.in_ok-seq.ensures.read)) in
     let back : c.de-2-1.given.0 ≡ _ = c.de-2-1.given.1 (search rules) in
-    let converts : array_of (first_of g.T.Deserialize.convert (last_of g.T.Deserialize.convert)) (array (more t_0 (more t_1 no_more))) ≡ Some (g.T.Deserialize.content c.in-Some.low, g.T.Deserialize.content c.in-Some-2.high) = rw (is_0, is_1) refl in
-    (array (more t_0 (more t_1 no_more)), subst (λ s. TookValue c.args.de.now (array (more t_0 (more t_1 no_more))) s) (sym back) all, converts)
+    (array (more t (more u no_more)), subst (λ s. TookValue c.args.de.now (array (more t (more u no_more))) s) (sym back) took, rw (is_t, is_u) refl)
