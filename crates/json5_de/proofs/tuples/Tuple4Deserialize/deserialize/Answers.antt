@@ -1,170 +1,89 @@
-use Rattle.std.proofs.Common.{rules, subst, refl, sym, ◌≡◌, Some}
+use Rattle.std.proofs.Common.{◌≡◌, ◌+◌, ◌≤◌, ℕ, List, Option, Some, arith}
 use Rattle.std.proofs.lemmas.Result.{err_from_is_err_and}
 use Rattle.json5_grammar.specs.Documents.{max_depth}
-use Rattle.json5_grammar.specs.Trees.{array, more, no_more}
+use Rattle.json5_grammar.specs.Trees.{Tree, array, more, no_more, depth}
+use Rattle.json5_grammar.specs.Values.{Reads}
 use Rattle.json5_grammar.specs.Members.{array_of}
-use Rattle.json5_grammar.proofs.MembersConverted.{array_begins}
-use Rattle.json5_de.specs.Law.{TookValue}
+use Rattle.json5_de.specs.State.{State}
 use Rattle.json5_de.specs.ConvertLists.{first_of, last_of}
-use Rattle.json5_de.specs.Access.{within}
 use Rattle.json5_de.proofs.ListSteps.{not_ok}
-use Rattle.json5_de.proofs.Members.{none_read, one_read, all_read, all_left, last_next, next_no_close, bracket_left, first_next, others_left}
 use Rattle.json5_de.proofs.tuples.Tuple4Deserialize.deserialize.Goals as goal
 
-pub returns-in_err-seq-clause-complete : goal.returns-in_err-seq-clause-complete
-returns-in_err-seq-clause-complete g c t r v live reads shallow converts =
-    let (y, opens, room) = array_begins (first_of g.A.Deserialize.convert (first_of g.B.Deserialize.convert (first_of g.C.Deserialize.convert (last_of g.D.Deserialize.convert)))) c.args.de.now.level max_depth c.args.de.now.unread r t v reads shallow converts in
-    absurd (not_ok (c.in_err-seq.ensures.complete y live opens room))
+-- a tree that converts is a list of four that convert
+four : {A B C D : Type 0} (f : Tree → Option A) (g : Tree → Option B) (h : Tree → Option C) (k : Tree → Option D) (s : State) (t : Tree) (r : List ℕ) (v : A × (B × (C × D))) → Reads s.unread t r → s.level + depth t ≤ max_depth → array_of (first_of f (first_of g (first_of h (last_of k)))) t ≡ Some v
+    → (first second third fourth : Tree) × (x : A) × (y : B) × (z : C) × (w : D) × (f first ≡ Some x) × (g second ≡ Some y) × (h third ≡ Some z) × (k fourth ≡ Some w) × Reads s.unread (array (more first (more second (more third (more fourth no_more))))) r × (s.level + depth (array (more first (more second (more third (more fourth no_more))))) ≤ max_depth)
+four f g h k s t r v reads shallow converts = grind arith
 
 pub returns-in_err-first-clause-complete : goal.returns-in_err-first-clause-complete
 returns-in_err-first-clause-complete g c t r v live reads shallow converts =
-    let (y, is, from) = err_from_is_err_and c.from_residual-in_err-first.result c.from_residual-in_err-first.ensures.1 in
-    let (opened, good, due) = c.in_ok-seq.ensures.opened in
-    let s_0 = within c.in_ok-seq.seq.de.now c.in_ok-seq.seq.failed in
-    let left_0 = all_left (first_of g.A.Deserialize.convert (first_of g.B.Deserialize.convert (first_of g.C.Deserialize.convert (last_of g.D.Deserialize.convert)))) c.in_ok-seq.seq.due c.args.de.now s_0 t v r due opened reads shallow converts in
-    let next = first_next g.A.Deserialize.convert (first_of g.B.Deserialize.convert (first_of g.C.Deserialize.convert (last_of g.D.Deserialize.convert))) c.in_ok-seq.seq.due s_0 left_0 in
-    rw (is, from) (c.in_err-first.ensures.complete next.tree next.behind next.value next.live next.element next.shallow next.is)
+    let (first, second, third, fourth, x, y, z, w, is_first, is_second, is_third, is_fourth, list, deep) = four g.A.Deserialize.convert g.B.Deserialize.convert g.C.Deserialize.convert g.D.Deserialize.convert c.args.de.now t r v reads shallow converts in
+    let all = c.in_ok-seq.ensures.left _ r live list deep in
+    let (error, is, from) = err_from_is_err_and c.from_residual-in_err-first.result c.from_residual-in_err-first.ensures.1 in
+    rw (is, from) (c.in_err-first.ensures.left _ r all x is_first)
 
 pub returns-in_default-clause-complete : goal.returns-in_default-clause-complete
 returns-in_default-clause-complete g c t r v live reads shallow converts =
-    let (opened, good, due) = c.in_ok-seq.ensures.opened in
-    let s_0 = within c.in_ok-seq.seq.de.now c.in_ok-seq.seq.failed in
-    let s_1 = within c.next_element.new.self.de.now c.next_element.new.self.failed in
-    let left_0 = all_left (first_of g.A.Deserialize.convert (first_of g.B.Deserialize.convert (first_of g.C.Deserialize.convert (last_of g.D.Deserialize.convert)))) c.in_ok-seq.seq.due c.args.de.now s_0 t v r due opened reads shallow converts in
-    let next = first_next g.A.Deserialize.convert (first_of g.B.Deserialize.convert (first_of g.C.Deserialize.convert (last_of g.D.Deserialize.convert))) c.in_ok-seq.seq.due s_0 left_0 in
-    let at = rw c.in_default.is at c.in_ok-first.ensures.sound in
-    absurd (next_no_close g.A.Deserialize.convert c.in_ok-seq.seq.due s_0 s_1 next at)
+    let (first, second, third, fourth, x, y, z, w, is_first, is_second, is_third, is_fourth, list, deep) = four g.A.Deserialize.convert g.B.Deserialize.convert g.C.Deserialize.convert g.D.Deserialize.convert c.args.de.now t r v reads shallow converts in
+    let all = c.in_ok-seq.ensures.left _ r live list deep in
+    absurd (rw c.in_default.is at c.in_ok-first.ensures.left _ r all)
 
 pub returns-in_err-second-clause-complete : goal.returns-in_err-second-clause-complete
 returns-in_err-second-clause-complete g c t r v live reads shallow converts =
-    let (y, is, from) = err_from_is_err_and c.from_residual-in_err-second.result c.from_residual-in_err-second.ensures.1 in
-    let (opened, good, due) = c.in_ok-seq.ensures.opened in
-    let s_0 = within c.in_ok-seq.seq.de.now c.in_ok-seq.seq.failed in
-    let s_1 = within c.next_element.new.self.de.now c.next_element.new.self.failed in
-    let left_0 = all_left (first_of g.A.Deserialize.convert (first_of g.B.Deserialize.convert (first_of g.C.Deserialize.convert (last_of g.D.Deserialize.convert)))) c.in_ok-seq.seq.due c.args.de.now s_0 t v r due opened reads shallow converts in
-    let (t_0, took_0, is_0) = rw c.in-Some.is at c.in_ok-first.ensures.sound in
-    let left_1 = others_left g.A.Deserialize.convert (first_of g.B.Deserialize.convert (first_of g.C.Deserialize.convert (last_of g.D.Deserialize.convert))) c.in_ok-seq.seq.due c.next_element.new.self.due s_0 s_1 t_0 left_0 took_0 (rw c.in-Some.is at c.in_ok-first.ensures.due) in
-    let next = first_next g.B.Deserialize.convert (first_of g.C.Deserialize.convert (last_of g.D.Deserialize.convert)) c.next_element.new.self.due s_1 left_1 in
-    rw (is, from) (c.in_err-second.ensures.complete next.tree next.behind next.value next.live next.element next.shallow next.is)
+    let (first, second, third, fourth, x, y, z, w, is_first, is_second, is_third, is_fourth, list, deep) = four g.A.Deserialize.convert g.B.Deserialize.convert g.C.Deserialize.convert g.D.Deserialize.convert c.args.de.now t r v reads shallow converts in
+    let all = c.in_ok-seq.ensures.left _ r live list deep in
+    let (same_first, behind_first) = rw c.in-Some.is at c.in_ok-first.ensures.left _ r all in
+    let (error, is, from) = err_from_is_err_and c.from_residual-in_err-second.result c.from_residual-in_err-second.ensures.1 in
+    rw (is, from) (c.in_err-second.ensures.left _ r behind_first y is_second)
 
 pub returns-in_default-2-clause-complete : goal.returns-in_default-2-clause-complete
 returns-in_default-2-clause-complete g c t r v live reads shallow converts =
-    let (opened, good, due) = c.in_ok-seq.ensures.opened in
-    let s_0 = within c.in_ok-seq.seq.de.now c.in_ok-seq.seq.failed in
-    let s_1 = within c.next_element.new.self.de.now c.next_element.new.self.failed in
-    let s_2 = within c.next_element-2.new.self.de.now c.next_element-2.new.self.failed in
-    let left_0 = all_left (first_of g.A.Deserialize.convert (first_of g.B.Deserialize.convert (first_of g.C.Deserialize.convert (last_of g.D.Deserialize.convert)))) c.in_ok-seq.seq.due c.args.de.now s_0 t v r due opened reads shallow converts in
-    let (t_0, took_0, is_0) = rw c.in-Some.is at c.in_ok-first.ensures.sound in
-    let left_1 = others_left g.A.Deserialize.convert (first_of g.B.Deserialize.convert (first_of g.C.Deserialize.convert (last_of g.D.Deserialize.convert))) c.in_ok-seq.seq.due c.next_element.new.self.due s_0 s_1 t_0 left_0 took_0 (rw c.in-Some.is at c.in_ok-first.ensures.due) in
-    let next = first_next g.B.Deserialize.convert (first_of g.C.Deserialize.convert (last_of g.D.Deserialize.convert)) c.next_element.new.self.due s_1 left_1 in
-    let at = rw c.in_default-2.is at c.in_ok-second.ensures.sound in
-    absurd (next_no_close g.B.Deserialize.convert c.next_element.new.self.due s_1 s_2 next at)
+    let (first, second, third, fourth, x, y, z, w, is_first, is_second, is_third, is_fourth, list, deep) = four g.A.Deserialize.convert g.B.Deserialize.convert g.C.Deserialize.convert g.D.Deserialize.convert c.args.de.now t r v reads shallow converts in
+    let all = c.in_ok-seq.ensures.left _ r live list deep in
+    let (same_first, behind_first) = rw c.in-Some.is at c.in_ok-first.ensures.left _ r all in
+    absurd (rw c.in_default-2.is at c.in_ok-second.ensures.left _ r behind_first)
 
 pub returns-in_err-third-clause-complete : goal.returns-in_err-third-clause-complete
 returns-in_err-third-clause-complete g c t r v live reads shallow converts =
-    let (y, is, from) = err_from_is_err_and c.from_residual-in_err-third.result c.from_residual-in_err-third.ensures.1 in
-    let (opened, good, due) = c.in_ok-seq.ensures.opened in
-    let s_0 = within c.in_ok-seq.seq.de.now c.in_ok-seq.seq.failed in
-    let s_1 = within c.next_element.new.self.de.now c.next_element.new.self.failed in
-    let s_2 = within c.next_element-2.new.self.de.now c.next_element-2.new.self.failed in
-    let left_0 = all_left (first_of g.A.Deserialize.convert (first_of g.B.Deserialize.convert (first_of g.C.Deserialize.convert (last_of g.D.Deserialize.convert)))) c.in_ok-seq.seq.due c.args.de.now s_0 t v r due opened reads shallow converts in
-    let (t_0, took_0, is_0) = rw c.in-Some.is at c.in_ok-first.ensures.sound in
-    let left_1 = others_left g.A.Deserialize.convert (first_of g.B.Deserialize.convert (first_of g.C.Deserialize.convert (last_of g.D.Deserialize.convert))) c.in_ok-seq.seq.due c.next_element.new.self.due s_0 s_1 t_0 left_0 took_0 (rw c.in-Some.is at c.in_ok-first.ensures.due) in
-    let (t_1, took_1, is_1) = rw c.in-Some-2.is at c.in_ok-second.ensures.sound in
-    let left_2 = others_left g.B.Deserialize.convert (first_of g.C.Deserialize.convert (last_of g.D.Deserialize.convert)) c.next_element.new.self.due c.next_element-2.new.self.due s_1 s_2 t_1 left_1 took_1 (rw c.in-Some-2.is at c.in_ok-second.ensures.due) in
-    let next = first_next g.C.Deserialize.convert (last_of g.D.Deserialize.convert) c.next_element-2.new.self.due s_2 left_2 in
-    rw (is, from) (c.in_err-third.ensures.complete next.tree next.behind next.value next.live next.element next.shallow next.is)
+    let (first, second, third, fourth, x, y, z, w, is_first, is_second, is_third, is_fourth, list, deep) = four g.A.Deserialize.convert g.B.Deserialize.convert g.C.Deserialize.convert g.D.Deserialize.convert c.args.de.now t r v reads shallow converts in
+    let all = c.in_ok-seq.ensures.left _ r live list deep in
+    let (same_first, behind_first) = rw c.in-Some.is at c.in_ok-first.ensures.left _ r all in
+    let (same_second, behind_second) = rw c.in-Some-2.is at c.in_ok-second.ensures.left _ r behind_first in
+    let (error, is, from) = err_from_is_err_and c.from_residual-in_err-third.result c.from_residual-in_err-third.ensures.1 in
+    rw (is, from) (c.in_err-third.ensures.left _ r behind_second z is_third)
 
 pub returns-in_default-3-clause-complete : goal.returns-in_default-3-clause-complete
 returns-in_default-3-clause-complete g c t r v live reads shallow converts =
-    let (opened, good, due) = c.in_ok-seq.ensures.opened in
-    let s_0 = within c.in_ok-seq.seq.de.now c.in_ok-seq.seq.failed in
-    let s_1 = within c.next_element.new.self.de.now c.next_element.new.self.failed in
-    let s_2 = within c.next_element-2.new.self.de.now c.next_element-2.new.self.failed in
-    let s_3 = within c.next_element-3.new.self.de.now c.next_element-3.new.self.failed in
-    let left_0 = all_left (first_of g.A.Deserialize.convert (first_of g.B.Deserialize.convert (first_of g.C.Deserialize.convert (last_of g.D.Deserialize.convert)))) c.in_ok-seq.seq.due c.args.de.now s_0 t v r due opened reads shallow converts in
-    let (t_0, took_0, is_0) = rw c.in-Some.is at c.in_ok-first.ensures.sound in
-    let left_1 = others_left g.A.Deserialize.convert (first_of g.B.Deserialize.convert (first_of g.C.Deserialize.convert (last_of g.D.Deserialize.convert))) c.in_ok-seq.seq.due c.next_element.new.self.due s_0 s_1 t_0 left_0 took_0 (rw c.in-Some.is at c.in_ok-first.ensures.due) in
-    let (t_1, took_1, is_1) = rw c.in-Some-2.is at c.in_ok-second.ensures.sound in
-    let left_2 = others_left g.B.Deserialize.convert (first_of g.C.Deserialize.convert (last_of g.D.Deserialize.convert)) c.next_element.new.self.due c.next_element-2.new.self.due s_1 s_2 t_1 left_1 took_1 (rw c.in-Some-2.is at c.in_ok-second.ensures.due) in
-    let next = first_next g.C.Deserialize.convert (last_of g.D.Deserialize.convert) c.next_element-2.new.self.due s_2 left_2 in
-    let at = rw c.in_default-3.is at c.in_ok-third.ensures.sound in
-    absurd (next_no_close g.C.Deserialize.convert c.next_element-2.new.self.due s_2 s_3 next at)
+    let (first, second, third, fourth, x, y, z, w, is_first, is_second, is_third, is_fourth, list, deep) = four g.A.Deserialize.convert g.B.Deserialize.convert g.C.Deserialize.convert g.D.Deserialize.convert c.args.de.now t r v reads shallow converts in
+    let all = c.in_ok-seq.ensures.left _ r live list deep in
+    let (same_first, behind_first) = rw c.in-Some.is at c.in_ok-first.ensures.left _ r all in
+    let (same_second, behind_second) = rw c.in-Some-2.is at c.in_ok-second.ensures.left _ r behind_first in
+    absurd (rw c.in_default-3.is at c.in_ok-third.ensures.left _ r behind_second)
 
 pub returns-in_err-fourth-clause-complete : goal.returns-in_err-fourth-clause-complete
 returns-in_err-fourth-clause-complete g c t r v live reads shallow converts =
-    let (y, is, from) = err_from_is_err_and c.from_residual-in_err-fourth.result c.from_residual-in_err-fourth.ensures.1 in
-    let (opened, good, due) = c.in_ok-seq.ensures.opened in
-    let s_0 = within c.in_ok-seq.seq.de.now c.in_ok-seq.seq.failed in
-    let s_1 = within c.next_element.new.self.de.now c.next_element.new.self.failed in
-    let s_2 = within c.next_element-2.new.self.de.now c.next_element-2.new.self.failed in
-    let s_3 = within c.next_element-3.new.self.de.now c.next_element-3.new.self.failed in
-    let left_0 = all_left (first_of g.A.Deserialize.convert (first_of g.B.Deserialize.convert (first_of g.C.Deserialize.convert (last_of g.D.Deserialize.convert)))) c.in_ok-seq.seq.due c.args.de.now s_0 t v r due opened reads shallow converts in
-    let (t_0, took_0, is_0) = rw c.in-Some.is at c.in_ok-first.ensures.sound in
-    let left_1 = others_left g.A.Deserialize.convert (first_of g.B.Deserialize.convert (first_of g.C.Deserialize.convert (last_of g.D.Deserialize.convert))) c.in_ok-seq.seq.due c.next_element.new.self.due s_0 s_1 t_0 left_0 took_0 (rw c.in-Some.is at c.in_ok-first.ensures.due) in
-    let (t_1, took_1, is_1) = rw c.in-Some-2.is at c.in_ok-second.ensures.sound in
-    let left_2 = others_left g.B.Deserialize.convert (first_of g.C.Deserialize.convert (last_of g.D.Deserialize.convert)) c.next_element.new.self.due c.next_element-2.new.self.due s_1 s_2 t_1 left_1 took_1 (rw c.in-Some-2.is at c.in_ok-second.ensures.due) in
-    let (t_2, took_2, is_2) = rw c.in-Some-3.is at c.in_ok-third.ensures.sound in
-    let left_3 = others_left g.C.Deserialize.convert (last_of g.D.Deserialize.convert) c.next_element-2.new.self.due c.next_element-3.new.self.due s_2 s_3 t_2 left_2 took_2 (rw c.in-Some-3.is at c.in_ok-third.ensures.due) in
-    let next = last_next g.D.Deserialize.convert c.next_element-3.new.self.due s_3 left_3 in
-    rw (is, from) (c.in_err-fourth.ensures.complete next.tree next.behind next.value next.live next.element next.shallow next.is)
+    let (first, second, third, fourth, x, y, z, w, is_first, is_second, is_third, is_fourth, list, deep) = four g.A.Deserialize.convert g.B.Deserialize.convert g.C.Deserialize.convert g.D.Deserialize.convert c.args.de.now t r v reads shallow converts in
+    let all = c.in_ok-seq.ensures.left _ r live list deep in
+    let (same_first, behind_first) = rw c.in-Some.is at c.in_ok-first.ensures.left _ r all in
+    let (same_second, behind_second) = rw c.in-Some-2.is at c.in_ok-second.ensures.left _ r behind_first in
+    let (same_third, behind_third) = rw c.in-Some-3.is at c.in_ok-third.ensures.left _ r behind_second in
+    let (error, is, from) = err_from_is_err_and c.from_residual-in_err-fourth.result c.from_residual-in_err-fourth.ensures.1 in
+    rw (is, from) (c.in_err-fourth.ensures.left _ r behind_third w is_fourth)
 
 pub returns-in_default-4-clause-complete : goal.returns-in_default-4-clause-complete
 returns-in_default-4-clause-complete g c t r v live reads shallow converts =
-    let (opened, good, due) = c.in_ok-seq.ensures.opened in
-    let s_0 = within c.in_ok-seq.seq.de.now c.in_ok-seq.seq.failed in
-    let s_1 = within c.next_element.new.self.de.now c.next_element.new.self.failed in
-    let s_2 = within c.next_element-2.new.self.de.now c.next_element-2.new.self.failed in
-    let s_3 = within c.next_element-3.new.self.de.now c.next_element-3.new.self.failed in
-    let s_4 = within c.next_element-4.new.self.de.now c.next_element-4.new.self.failed in
-    let left_0 = all_left (first_of g.A.Deserialize.convert (first_of g.B.Deserialize.convert (first_of g.C.Deserialize.convert (last_of g.D.Deserialize.convert)))) c.in_ok-seq.seq.due c.args.de.now s_0 t v r due opened reads shallow converts in
-    let (t_0, took_0, is_0) = rw c.in-Some.is at c.in_ok-first.ensures.sound in
-    let left_1 = others_left g.A.Deserialize.convert (first_of g.B.Deserialize.convert (first_of g.C.Deserialize.convert (last_of g.D.Deserialize.convert))) c.in_ok-seq.seq.due c.next_element.new.self.due s_0 s_1 t_0 left_0 took_0 (rw c.in-Some.is at c.in_ok-first.ensures.due) in
-    let (t_1, took_1, is_1) = rw c.in-Some-2.is at c.in_ok-second.ensures.sound in
-    let left_2 = others_left g.B.Deserialize.convert (first_of g.C.Deserialize.convert (last_of g.D.Deserialize.convert)) c.next_element.new.self.due c.next_element-2.new.self.due s_1 s_2 t_1 left_1 took_1 (rw c.in-Some-2.is at c.in_ok-second.ensures.due) in
-    let (t_2, took_2, is_2) = rw c.in-Some-3.is at c.in_ok-third.ensures.sound in
-    let left_3 = others_left g.C.Deserialize.convert (last_of g.D.Deserialize.convert) c.next_element-2.new.self.due c.next_element-3.new.self.due s_2 s_3 t_2 left_2 took_2 (rw c.in-Some-3.is at c.in_ok-third.ensures.due) in
-    let next = last_next g.D.Deserialize.convert c.next_element-3.new.self.due s_3 left_3 in
-    let at = rw c.in_default-4.is at c.in_ok-fourth.ensures.sound in
-    absurd (next_no_close g.D.Deserialize.convert c.next_element-3.new.self.due s_3 s_4 next at)
+    let (first, second, third, fourth, x, y, z, w, is_first, is_second, is_third, is_fourth, list, deep) = four g.A.Deserialize.convert g.B.Deserialize.convert g.C.Deserialize.convert g.D.Deserialize.convert c.args.de.now t r v reads shallow converts in
+    let all = c.in_ok-seq.ensures.left _ r live list deep in
+    let (same_first, behind_first) = rw c.in-Some.is at c.in_ok-first.ensures.left _ r all in
+    let (same_second, behind_second) = rw c.in-Some-2.is at c.in_ok-second.ensures.left _ r behind_first in
+    let (same_third, behind_third) = rw c.in-Some-3.is at c.in_ok-third.ensures.left _ r behind_second in
+    absurd (rw c.in_default-4.is at c.in_ok-fourth.ensures.left _ r behind_third)
 
 pub returns-in_err-end-clause-complete : goal.returns-in_err-end-clause-complete
 returns-in_err-end-clause-complete g c t r v live reads shallow converts =
-    let (opened, good, due) = c.in_ok-seq.ensures.opened in
-    let s_0 = within c.in_ok-seq.seq.de.now c.in_ok-seq.seq.failed in
-    let s_1 = within c.next_element.new.self.de.now c.next_element.new.self.failed in
-    let s_2 = within c.next_element-2.new.self.de.now c.next_element-2.new.self.failed in
-    let s_3 = within c.next_element-3.new.self.de.now c.next_element-3.new.self.failed in
-    let s_4 = within c.next_element-4.new.self.de.now c.next_element-4.new.self.failed in
-    let left_0 = all_left (first_of g.A.Deserialize.convert (first_of g.B.Deserialize.convert (first_of g.C.Deserialize.convert (last_of g.D.Deserialize.convert)))) c.in_ok-seq.seq.due c.args.de.now s_0 t v r due opened reads shallow converts in
-    let (t_0, took_0, is_0) = rw c.in-Some.is at c.in_ok-first.ensures.sound in
-    let left_1 = others_left g.A.Deserialize.convert (first_of g.B.Deserialize.convert (first_of g.C.Deserialize.convert (last_of g.D.Deserialize.convert))) c.in_ok-seq.seq.due c.next_element.new.self.due s_0 s_1 t_0 left_0 took_0 (rw c.in-Some.is at c.in_ok-first.ensures.due) in
-    let (t_1, took_1, is_1) = rw c.in-Some-2.is at c.in_ok-second.ensures.sound in
-    let left_2 = others_left g.B.Deserialize.convert (first_of g.C.Deserialize.convert (last_of g.D.Deserialize.convert)) c.next_element.new.self.due c.next_element-2.new.self.due s_1 s_2 t_1 left_1 took_1 (rw c.in-Some-2.is at c.in_ok-second.ensures.due) in
-    let (t_2, took_2, is_2) = rw c.in-Some-3.is at c.in_ok-third.ensures.sound in
-    let left_3 = others_left g.C.Deserialize.convert (last_of g.D.Deserialize.convert) c.next_element-2.new.self.due c.next_element-3.new.self.due s_2 s_3 t_2 left_2 took_2 (rw c.in-Some-3.is at c.in_ok-third.ensures.due) in
-    let (t_3, took_3, is_3) = rw c.in-Some-4.is at c.in_ok-fourth.ensures.sound in
-    let (q, close, still) = bracket_left g.D.Deserialize.convert c.next_element-3.new.self.due c.next_element-4.new.self.due s_3 s_4 t_3 left_3 took_3 (rw c.in-Some-4.is at c.in_ok-fourth.ensures.due) in
-    absurd (not_ok (c.in_err-end.ensures.complete q still close))
-
-pub returns-clause-sound : goal.returns-clause-sound
-returns-clause-sound g c =
-    let (opened, good, due) = c.in_ok-seq.ensures.opened in
-    let s_0 = within c.in_ok-seq.seq.de.now c.in_ok-seq.seq.failed in
-    let s_1 = within c.next_element.new.self.de.now c.next_element.new.self.failed in
-    let s_2 = within c.next_element-2.new.self.de.now c.next_element-2.new.self.failed in
-    let s_3 = within c.next_element-3.new.self.de.now c.next_element-3.new.self.failed in
-    let s_4 = within c.next_element-4.new.self.de.now c.next_element-4.new.self.failed in
-    let (t_0, took_0, is_0) = rw c.in-Some.is at c.in_ok-first.ensures.sound in
-    let (t_1, took_1, is_1) = rw c.in-Some-2.is at c.in_ok-second.ensures.sound in
-    let (t_2, took_2, is_2) = rw c.in-Some-3.is at c.in_ok-third.ensures.sound in
-    let (t_3, took_3, is_3) = rw c.in-Some-4.is at c.in_ok-fourth.ensures.sound in
-    let read_0 = none_read c.in_ok-seq.seq.due c.args.de.now s_0 due opened in
-    let read_1 = one_read no_more s_0 s_0 s_1 c.in_ok-seq.seq.due c.next_element.new.self.due t_0 read_0 took_0 (rw c.in-Some.is at c.in_ok-first.ensures.due) in
-    let read_2 = one_read (more t_0 no_more) s_0 s_1 s_2 c.next_element.new.self.due c.next_element-2.new.self.due t_1 read_1 took_1 (rw c.in-Some-2.is at c.in_ok-second.ensures.due) in
-    let read_3 = one_read (more t_0 (more t_1 no_more)) s_0 s_2 s_3 c.next_element-2.new.self.due c.next_element-3.new.self.due t_2 read_2 took_2 (rw c.in-Some-3.is at c.in_ok-third.ensures.due) in
-    let read_4 = one_read (more t_0 (more t_1 (more t_2 no_more))) s_0 s_3 s_4 c.next_element-3.new.self.due c.next_element-4.new.self.due t_3 read_3 took_3 (rw c.in-Some-4.is at c.in_ok-fourth.ensures.due) in
-    let all = all_read (more t_0 (more t_1 (more t_2 (more t_3 no_more)))) c.args.de.now s_0 s_4 _ c.next_element-4.new.self.due opened read_4 c.in_ok-end.ensures.closed in
-    let back : c.de-2-1.given.0 ≡ _ = c.de-2-1.given.1 (search rules) in
-    let converts : array_of (first_of g.A.Deserialize.convert (first_of g.B.Deserialize.convert (first_of g.C.Deserialize.convert (last_of g.D.Deserialize.convert)))) (array (more t_0 (more t_1 (more t_2 (more t_3 no_more))))) ≡ Some (g.A.Deserialize.content c.in-Some.first, (g.B.Deserialize.content c.in-Some-2.second, (g.C.Deserialize.content c.in-Some-3.third, g.D.Deserialize.content c.in-Some-4.fourth))) = rw (is_0, is_1, is_2, is_3) refl in
-    (array (more t_0 (more t_1 (more t_2 (more t_3 no_more)))), subst (λ s. TookValue c.args.de.now (array (more t_0 (more t_1 (more t_2 (more t_3 no_more))))) s) (sym back) all, converts)
+    let (first, second, third, fourth, x, y, z, w, is_first, is_second, is_third, is_fourth, list, deep) = four g.A.Deserialize.convert g.B.Deserialize.convert g.C.Deserialize.convert g.D.Deserialize.convert c.args.de.now t r v reads shallow converts in
+    let all = c.in_ok-seq.ensures.left _ r live list deep in
+    let (same_first, behind_first) = rw c.in-Some.is at c.in_ok-first.ensures.left _ r all in
+    let (same_second, behind_second) = rw c.in-Some-2.is at c.in_ok-second.ensures.left _ r behind_first in
+    let (same_third, behind_third) = rw c.in-Some-3.is at c.in_ok-third.ensures.left _ r behind_second in
+    let (same_fourth, behind_fourth) = rw c.in-Some-4.is at c.in_ok-fourth.ensures.left _ r behind_third in
+    absurd (not_ok (c.in_err-end.ensures.left r behind_fourth))
