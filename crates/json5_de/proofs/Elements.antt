@@ -1,7 +1,7 @@
 -- An array as a whole, while its elements are read: what was read of it, and what is left.
 use Rattle.std.proofs.Common.{◌≡◌, ℕ, ◌+◌, ◌-◌, ◌<◌, ◌≤◌, Bool, true, false, List, ◌∷◌, refl, sym, ap, ◌∙◌, subst, arith, Option, Some, None, Result, Ok, Err, ◌||◌, inl, inr}
 use Rattle.std.specs.Prelude.{is_some, IfOk, IsOk}
-use Rattle.json5_grammar.specs.Trees.{Tree, Trees, array, no_more, more, depth, depths}
+use Rattle.json5_grammar.specs.Trees.{Tree, Trees, array, no_more, more, depth}
 use Rattle.json5_grammar.specs.Values.{Reads}
 use Rattle.json5_grammar.specs.Documents.{max_depth}
 use Rattle.json5_grammar.specs.Members.{Opens, IsElement, IsClose, Passed, Tail, snoc}
@@ -11,11 +11,27 @@ use Rattle.json5_text.specs.declared.error.Error.{Error}
 use Rattle.json5_de.specs.State.{State, OnlyRead}
 use Rattle.json5_de.specs.Law.{TookValue}
 use Rattle.json5_de.specs.Access.{Opened, Closed, TookElement, AtClose, GivesElement, CompletesElement, ElementsRead, ElementsLeft, ReadsMore, LeavesFewer}
-use Rattle.json5_de.proofs.ListSteps.{same_level, opened_level, opened_live, still_live, or_true}
+
+pub or_true : (b : Bool) → (b || true) ≡ true
+or_true true = refl
+or_true false = refl
 
 pub or_false : (b : Bool) → (b || false) ≡ b
 or_false true = refl
 or_false false = refl
+
+-- a reader that only read hasn't failed, and has as many brackets open
+still_live : (old new : State) → old.failed ≡ false → OnlyRead old new → new.failed ≡ false
+still_live old new live rest = ap (λ (m : State). m.failed) rest ∙ live
+
+same_level : (old new : State) → OnlyRead old new → new.level ≡ old.level
+same_level old new rest = ap (λ (m : State). m.level) rest
+
+opened_live : (old first : State) → Opened old first → first.failed ≡ false
+opened_live old first o = ap (λ (m : State). m.failed) o.rest ∙ o.live
+
+opened_level : (old first : State) → Opened old first → first.level ≡ old.level + 1
+opened_level old first o = ap (λ (m : State). m.level) o.rest
 
 -- ---- what was read
 

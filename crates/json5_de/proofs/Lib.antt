@@ -4,10 +4,9 @@ pub mod Awaits
 pub mod Taken
 pub mod Places
 pub mod Arrays
-pub mod ListSteps
 pub mod Options
-pub mod Members
 pub mod Elements
+pub mod ManyElements
 pub mod Offsets
 pub mod AwaitsNumbers
 pub mod Mismatches
@@ -18,5 +17,4 @@ pub mod TextScalars
 pub mod WholeDecimals
 pub mod ScalarsAwaited
 pub mod WithoutMemory
-pub mod SoMany
 pub mod ArrayCodes

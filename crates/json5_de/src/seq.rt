@@ -1,6 +1,6 @@
 //! Reading of arrays, one element after another.
 
-ghost use Rattle.std.specs.Prelude.{◌≡◌, ◌≢◌, ◌<◌, ◌≤◌, ◌+◌, ◌-◌, ◌==◌, ◌||◌, ◌∷◌, ◌++◌, [], false, true, ℕ, List, Some, None, length, is_some, slice_get, IfOk, IfErr, OnErr, OnOk, IsOk, IsTrue, IsErrAnd, IsOkAnd};
+ghost use Rattle.std.specs.Prelude.{◌≡◌, ◌≢◌, ◌<◌, ◌≤◌, ◌+◌, ◌-◌, ◌==◌, ◌||◌, ◌∷◌, ◌++◌, [], false, true, ℕ, List, Some, None, length, is_some, slice_get, IfOk, IfErr, OnErr, OnOk, IsOk, IsTrue, IsErrAnd, IsOkAnd, IfSome};
 ghost use Rattle.std.specs.Str.{encode_utf8_all};
 ghost use Rattle.std.specs.Borrow.{sem, RestsIfErr};
 ghost use Rattle.json5_grammar.specs.declared.code.ErrorCode.TheVariants as codes;
@@ -251,6 +251,7 @@ impl<'a, I: Input> SeqAccess<'a, I> {
         ensures complete { CompletesElement T.convert self.old.due (within self.old.de.now self.old.failed) result }
         ensures closing { (r : List ℕ) → self.old.failed ≡ false → IsClose self.old.due self.old.de.now.unread r → IsOk result }
         ensures start { self.new.start ≡ self.old.start }
+        ensures shorter { IfOk result (λ o. IfSome o (λ v. length self.new.de.now.unread < length self.old.de.now.unread)) }
         ensures placed { IfErr result HasPlace }
         ensures ends { self.old.due ≡ true → EndsAtOffset codes.EofParsingArray self.old.start (within self.old.de.now self.old.failed) result }
         ensures differs { self.old.due ≡ true → DiffersWith is_comma_or_closing codes.ExpectedComma (within self.old.de.now self.old.failed) result }

@@ -1,6 +1,6 @@
 use Rattle.std.proofs.Common.{rules, refl, false}
+use Rattle.std.proofs.lemmas.Bool.{false≢true}
 use Rattle.std.proofs.lemmas.Result.{err_from_is_err_and}
-use Rattle.json5_de.proofs.ListSteps.{not_ok}
 use Rattle.json5_de.specs.Access.{within, Opened}
 use Rattle.json5_de.proofs.Elements.{array_opens, opened_read, opened_left}
 use Rattle.json5_de.proofs.de.Deserializer.deserialize_seq.Goals as goal
@@ -23,7 +23,7 @@ returns-in_err-start g c =
         too_deep = c.in_err-start.ensures.too_deep;
         before = λ h. (c.in_err-start.ensures.before h).0;
         read = tt;
-        left = λ ts r live reads shallow. let (y, opens, room) = array_opens c.args.self.now ts r reads shallow in absurd (not_ok (c.in_err-start.ensures.complete y live opens room));
+        left = λ ts r live reads shallow. let (y, opens, room) = array_opens c.args.self.now ts r reads shallow in absurd (false≢true (c.in_err-start.ensures.complete y live opens room));
       },
     )
 

@@ -1,4 +1,5 @@
 use Rattle.std.proofs.Common.{◌≡◌, None, refl, ap, inr, ◌∙◌}
+use Rattle.std.proofs.lemmas.Bool.{false≢true}
 use Rattle.std.proofs.lemmas.Result.{err_from_is_err_and}
 use Rattle.json5_grammar.specs.Trees as trees
 use Rattle.json5_grammar.specs.Values.{is_number}
@@ -8,7 +9,6 @@ use Rattle.json5_de.specs.Faults.{faulty_number}
 use Rattle.json5_de.proofs.Taken.{took_leaf, refused_blanks, refused_or_memory}
 use Rattle.json5_de.proofs.Awaited.{wrongly_refused}
 use Rattle.json5_de.proofs.AwaitsNumbers.{awaits_number}
-use Rattle.json5_de.proofs.ListSteps.{not_ok}
 use Rattle.json5_de.proofs.Mismatches.{refused_number}
 use Rattle.json5_de.proofs.WithoutMemory.{whole_there, no_other_number}
 use Rattle.json5_de.proofs.de.Deserializer.read_integer.Goals as goal
@@ -53,7 +53,7 @@ returns-in_err-begin-clause-complete g c = λ t r v live reads shallow converts.
 pub returns-in_err-whole-clause-complete : goal.returns-in_err-whole-clause-complete
 returns-in_err-whole-clause-complete g c = λ t r v live reads shallow converts.
     let k = whole_there g.T.Integer.within c.args.self.now c.begin.new.self t r v c.in_ok-begin.ensures.passed reads converts in
-    absurd (not_ok (c.in_err-whole.ensures.memory k.literal r k.number k.split k.is_number k.stops k.free))
+    absurd (false≢true (c.in_err-whole.ensures.memory k.literal r k.number k.split k.is_number k.stops k.free))
 
 pub returns-in_default-clause-complete : goal.returns-in_default-clause-complete
 returns-in_default-clause-complete g c = λ t r v live reads shallow converts.

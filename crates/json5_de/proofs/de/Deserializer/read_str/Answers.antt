@@ -1,4 +1,5 @@
 use Rattle.std.proofs.Common.{◌≡◌, true, Some, None, refl, ap, inr, sym, ◌∙◌}
+use Rattle.std.proofs.lemmas.Bool.{false≢true}
 use Rattle.std.specs.Str.{encode_utf8_all}
 use Rattle.std.proofs.lemmas.Result.{err_from_is_err_and}
 use Rattle.json5_grammar.specs.Trees as trees
@@ -9,7 +10,6 @@ use Rattle.json5_de.specs.Faults.{faulty_text}
 use Rattle.json5_de.proofs.Taken.{took_leaf, refused_blanks, refused_or_memory}
 use Rattle.json5_de.proofs.Awaited.{wrongly_refused}
 use Rattle.json5_de.proofs.AwaitsTexts.{awaits_text, text_stops}
-use Rattle.json5_de.proofs.ListSteps.{not_ok}
 use Rattle.json5_de.proofs.Mismatches.{refused_text}
 use Rattle.json5_de.proofs.WithoutMemory.{plain_there, no_other_text}
 use Rattle.json5_de.proofs.de.Deserializer.read_str.Goals as goal
@@ -44,7 +44,7 @@ returns-in_err-begin-clause-complete g c = λ t r v live reads shallow converts.
 pub returns-in_err-text-clause-complete : goal.returns-in_err-text-clause-complete
 returns-in_err-text-clause-complete g c = λ t r v live reads shallow converts.
     let k = plain_there c.args.self.now c.begin.new.self t r v c.in_ok-begin.ensures.passed reads converts in
-    absurd (not_ok (c.in_err-text.ensures.plain k.string k.text r k.split k.is_string))
+    absurd (false≢true (c.in_err-text.ensures.plain k.string k.text r k.split k.is_string))
 
 pub returns-in-Owned-clause-complete : goal.returns-in-Owned-clause-complete
 returns-in-Owned-clause-complete g c = λ t r v live reads shallow converts.

@@ -1,24 +1,20 @@
-use Rattle.std.proofs.Common.{◌≡◌, ◌-◌, ◌≤◌, length, map, false, true}
+use Rattle.std.proofs.Common.{◌≡◌, ◌+◌, ◌-◌, ◌≤◌, ℕ, List, Some, length, true}
 use Rattle.std.specs.Vec.{vec_len}
-use Rattle.json5_grammar.specs.Documents.{max_depth}
-use Rattle.json5_grammar.proofs.MembersConverted.{MembersSoFar}
-use Rattle.json5_de.specs.State.{OnlyRead}
-use Rattle.json5_de.specs.ConvertLists.{exactly}
-use Rattle.json5_de.specs.Access.{within}
-use Rattle.json5_de.proofs.Members.{MembersLeft}
+use Rattle.json5_grammar.specs.Trees.{Trees}
+use Rattle.json5_grammar.specs.Members.{contents}
+use Rattle.json5_de.specs.Access.{within, ElementsLeft}
+use Rattle.json5_de.proofs.ManyElements.{ManyLeft, ManyRead}
 use Rattle.json5_de.proofs.lists.ArrayDeserialize.deserialize.Given as goal
 
 abbrev pub invariant-loop-alloc : goal.invariant-loop-alloc
 invariant-loop-alloc g l = record {
   same_reference : l.seq.de.ghost_name ≡ l.initial.seq.de.ghost_name;
   lent : l.seq.de.now.failed ≡ true;
-  live : l.seq.failed ≡ false;
-  rest : OnlyRead (within l.initial.seq.de.now l.initial.seq.failed) (within l.seq.de.now l.seq.failed);
-  read : MembersSoFar g.T.Deserialize.convert l.initial.seq.de.now.level max_depth l.initial.seq.de.now.unread l.seq.due l.seq.de.now.unread (map g.T.Deserialize.content l.items.items);
+  read : ManyRead g.T.Deserialize.content g.T.Deserialize.convert l.items.items l.initial.seq.due (within l.initial.seq.de.now l.initial.seq.failed) l.seq.due (within l.seq.de.now l.seq.failed);
   counted : length l.items.items ≡ vec_len l.items;
   few : vec_len l.items ≤ g.row.N;
-  left : MembersLeft (exactly g.row.N g.T.Deserialize.convert) l.initial.seq.due (within l.initial.seq.de.now l.initial.seq.failed)
-      → MembersLeft (exactly (g.row.N - vec_len l.items) g.T.Deserialize.convert) l.seq.due (within l.seq.de.now l.seq.failed);
+  left : (ts : Trees) (r : List ℕ) (cs : List g.T.Deserialize.Content) → contents g.T.Deserialize.convert ts ≡ Some cs → length cs ≡ g.row.N → ElementsLeft ts r l.initial.seq.due (within l.initial.seq.de.now l.initial.seq.failed)
+      → (w : ManyLeft g.T.Deserialize.convert r l.seq.due (within l.seq.de.now l.seq.failed)) × (length w.values + vec_len l.items ≡ g.row.N);
 }
 
 abbrev pub decreases-loop-alloc : goal.decreases-loop-alloc

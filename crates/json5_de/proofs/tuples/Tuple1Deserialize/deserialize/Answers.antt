@@ -1,4 +1,5 @@
 use Rattle.std.proofs.Common.{◌≡◌, ◌+◌, ◌≤◌, ℕ, List, Option, Some, arith}
+use Rattle.std.proofs.lemmas.Bool.{false≢true}
 use Rattle.std.proofs.lemmas.Result.{err_from_is_err_and}
 use Rattle.json5_grammar.specs.Documents.{max_depth}
 use Rattle.json5_grammar.specs.Trees.{Tree, array, more, no_more, depth}
@@ -6,7 +7,6 @@ use Rattle.json5_grammar.specs.Values.{Reads}
 use Rattle.json5_grammar.specs.Members.{array_of}
 use Rattle.json5_de.specs.State.{State}
 use Rattle.json5_de.specs.ConvertLists.{last_of}
-use Rattle.json5_de.proofs.ListSteps.{not_ok}
 use Rattle.json5_de.proofs.tuples.Tuple1Deserialize.deserialize.Goals as goal
 
 -- a tree that converts is a list of one that converts
@@ -32,4 +32,4 @@ returns-in_err-end-clause-complete g c t r v live reads shallow converts =
     let (first, x, is_first, list, deep) = one g.A.Deserialize.convert c.args.de.now t r v reads shallow converts in
     let all = c.in_ok-seq.ensures.left _ r live list deep in
     let (same_first, behind_first) = rw c.in-Some.is at c.in_ok-first.ensures.left _ r all in
-    absurd (not_ok (c.in_err-end.ensures.left r behind_first))
+    absurd (false≢true (c.in_err-end.ensures.left r behind_first))

@@ -1,4 +1,5 @@
 use Rattle.std.proofs.Common.{◌≡◌, ◌+◌, ◌≤◌, ℕ, List, Option, Some, arith}
+use Rattle.std.proofs.lemmas.Bool.{false≢true}
 use Rattle.std.proofs.lemmas.Result.{err_from_is_err_and}
 use Rattle.json5_grammar.specs.Documents.{max_depth}
 use Rattle.json5_grammar.specs.Trees.{Tree, array, more, no_more, depth}
@@ -6,7 +7,6 @@ use Rattle.json5_grammar.specs.Values.{Reads}
 use Rattle.json5_grammar.specs.Members.{array_of}
 use Rattle.json5_de.specs.State.{State}
 use Rattle.json5_de.specs.ConvertLists.{first_of, last_of}
-use Rattle.json5_de.proofs.ListSteps.{not_ok}
 use Rattle.json5_de.proofs.tuples.Tuple3Deserialize.deserialize.Goals as goal
 
 -- a tree that converts is a list of three that convert
@@ -66,4 +66,4 @@ returns-in_err-end-clause-complete g c t r v live reads shallow converts =
     let (same_first, behind_first) = rw c.in-Some.is at c.in_ok-first.ensures.left _ r all in
     let (same_second, behind_second) = rw c.in-Some-2.is at c.in_ok-second.ensures.left _ r behind_first in
     let (same_third, behind_third) = rw c.in-Some-3.is at c.in_ok-third.ensures.left _ r behind_second in
-    absurd (not_ok (c.in_err-end.ensures.left r behind_third))
+    absurd (false≢true (c.in_err-end.ensures.left r behind_third))
