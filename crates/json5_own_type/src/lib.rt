@@ -50,6 +50,29 @@ impl<I: Input, T: Deserialize<I>> Deserialize<I> for Bounds<T> {
     }
 }
 
+/// A point, written as a list: `[x, y]`. A tuple reads it.
+#[derive(Drop)]
+pub struct Point<T> {
+    pub x: T,
+    pub y: T,
+}
+
+impl<I: Input, T: Deserialize<I>> Deserialize<I> for Point<T> {
+    ghost use Rattle.json5_grammar.specs.Members.{array_of};
+    ghost use Rattle.json5_de.specs.ConvertLists.{first_of, last_of};
+
+    ghost Content = { T.Content × T.Content };
+
+    ghost content = { λ p. (T.content p.x, T.content p.y) };
+
+    ghost convert = { array_of (first_of T.convert (last_of T.convert)) };
+
+    fn deserialize(de: &mut Deserializer<I>) -> Result<Point<T>> {
+        let (x, y) = <(T, T)>::deserialize(de)?;
+        Ok(Point { x, y })
+    }
+}
+
 /// Gives the reader up after one element: from then on it answers `Failed`.
 pub fn gives_up<I: Input>(de: &mut Deserializer<I>) -> Result<()>
     ensures { de.new.failed ≡ true }

@@ -1,6 +1,6 @@
 //! The type at one concrete element, and what its own faults print.
 
-use crate::{Bounds, gives_up};
+use crate::{Bounds, Point, gives_up};
 use json5_de::{Deserializer, from_str};
 use json5_text::ErrorCode;
 use json5_text::error::Error;
@@ -27,6 +27,19 @@ fn bounds_are_refused(rt: HostRuntime) -> Result<(), Fail> {
         };
         assert_eq!(rt; format!(in rt.alloc(); "{e}")?.as_str(), want, "of {text}");
     }
+    Ok(())
+}
+
+#[test]
+fn points_are_read(rt: HostRuntime) -> Result<(), Fail> {
+    let point = from_str::<Point<&str>>(rt.alloc(), "['east', /* then */ 'north']")?;
+    assert_eq!(rt; point.x, "east");
+    assert_eq!(rt; point.y, "north");
+    let Err(e) = from_str::<Point<u8>>(rt.alloc(), "[1]") else {
+        assert!(rt; false);
+        return Ok(());
+    };
+    assert_eq!(rt; format!(in rt.alloc(); "{e}")?.as_str(), "invalid length 1, expected a tuple of size 2 at line 1 column 1");
     Ok(())
 }
 
