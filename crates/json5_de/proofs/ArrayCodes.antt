@@ -1,5 +1,5 @@
 -- The codes of what is refused round an array's members.
-use Rattle.std.proofs.Common.{◌≡◌, ℕ, Bool, true, false, not, List, [], ◌∷◌, refl, sym, ◌∙◌, subst, ◌⊎◌, inl, inr, Option, Some, None, arith}
+use Rattle.std.proofs.Common.{◌≡◌, ℕ, Bool, true, false, not, List, [], ◌∷◌, refl, sym, ◌∙◌, subst, ◌⊎◌, inl, inr, Option, Some, None}
 use Rattle.std.specs.Prelude.{◌==◌, ◌||◌, ◌&&◌}
 use Rattle.std.proofs.lemmas.List.{append-nil}
 use Rattle.json5_grammar.specs.declared.code.ErrorCode.{ErrorCode}
@@ -13,7 +13,7 @@ use Rattle.json5_grammar.proofs.MembersNowhere.{no_sign}
 use Rattle.json5_text.specs.declared.error.Error.{Error}
 use Rattle.json5_text.specs.Errors.{kind_of, place_of}
 use Rattle.json5_de.specs.State.{State}
-use Rattle.json5_de.specs.Access.{within, Opened, Closed, NotOpened, no_bracket, array_missing, too_deep, other_sign, bracket_missing, NotClosed, not_here, behind_comma, AtFull, is_opening, is_comma_or_closing, begins_close}
+use Rattle.json5_de.specs.Access.{within, Closed, NotOpened, no_bracket, array_missing, too_deep, other_sign, bracket_missing, NotClosed, not_here, behind_comma, AtFull, is_opening, is_comma_or_closing, begins_close}
 use Rattle.json5_de.specs.Seq.{GoesOn, NoNext, no_comma, list_ends, in_blanks_behind}
 use Rattle.json5_de.specs.Faults.{AtEnd, AtOther, IsBehind, RefusedBy}
 use Rattle.json5_de.proofs.Awaited.{Awaited, other_fault}
@@ -137,15 +137,6 @@ other_goes_nowhere due more old new w d o k =
       | inl z ↦ other_no_sign 0x2C old w z.0 comma_solid o neither.0 z.1
       | inr z ↦ other_no_sign 0x5D old w z.0 bracket_solid o neither.1 z.1
     ]
-
-pub end_not_opened : (old new : State) → AtEnd old → Opened old new → ⊥
-end_not_opened old new at k = end_no_sign 0x5B old new.unread opening_solid at k.bracket
-
-pub other_not_opened : (old new : State) (w : List ℕ) → AtOther is_opening old w → Opened old new → ⊥
-other_not_opened old new w o k = other_no_sign 0x5B old w new.unread opening_solid o o.other k.bracket
-
-pub full_not_opened : (old new : State) (w : List ℕ) → AtFull old w → Opened old new → ⊥
-full_not_opened old new w at k = let full = at.full in let room = k.room in omega (arith, full, room)
 
 pub end_not_closed : (due : Bool) (old new : State) → AtEnd old → Closed due old new → ⊥
 end_not_closed due old new at k = by due k.close

@@ -1,5 +1,5 @@
 -- The steps of reading an array.
-use Rattle.std.proofs.Common.{◌≡◌, ℕ, ◌-◌, ◌<◌, Bool, true, false, not, List, [], ◌∷◌, ◌++◌, refl, ap, sym, ◌∙◌, subst, inl, inr, Option, Some, arith}
+use Rattle.std.proofs.Common.{◌≡◌, ℕ, ◌<◌, Bool, true, false, not, List, [], ◌∷◌, ◌++◌, refl, ap, sym, ◌∙◌, subst, inl, inr, Option, Some, arith}
 use Rattle.std.specs.Prelude.{◌==◌, slice_get, Result, Ok, Err, IfErr, IsOk}
 use Rattle.json5_grammar.specs.declared.code.ErrorCode.{ErrorCode}
 use Rattle.json5_grammar.specs.declared.code.ErrorCode.TheVariants as codes
@@ -11,7 +11,7 @@ use Rattle.json5_grammar.specs.Documents.{max_depth}
 use Rattle.json5_grammar.specs.Members.{IsSign, Opens, IsElement, IsClose, GoesNowhere}
 use Rattle.json5_grammar.proofs.MembersRead.{comma_solid, bracket_solid, opening_solid, sign_here, sign_found, reads_found}
 use Rattle.json5_grammar.proofs.MembersPassed.{behind_comma, no_comma_end}
-use Rattle.json5_grammar.proofs.MembersNowhere.{reads_here, end_here, no_sign, no_sign_in_blanks, nowhere_blanks, nowhere_other, nowhere_comma}
+use Rattle.json5_grammar.proofs.MembersNowhere.{reads_here, no_sign, no_sign_in_blanks, nowhere_blanks, nowhere_other, nowhere_comma}
 use Rattle.json5_text.specs.declared.error.Error.{Error}
 use Rattle.json5_text.specs.Cursor.{Refused}
 use Rattle.json5_text.specs.Tokens.{FaultyBlanks}
@@ -22,7 +22,7 @@ use Rattle.std.proofs.lemmas.List.{append-nil}
 use Rattle.json5_de.specs.State.{State, cursor_of, OnlyRead}
 use Rattle.json5_de.specs.Law.{TookValue}
 use Rattle.json5_de.specs.Steps.{PassedGap, TookText}
-use Rattle.json5_de.specs.Access.{Closed, TookElement, AtClose, Unawaited, at_end, at_char, NotOpened, no_bracket, array_missing, too_deep, NoBracket, other_sign, bracket_missing, NotClosed, not_here, behind_comma as comma_before}
+use Rattle.json5_de.specs.Access.{TookElement, Unawaited, at_end, at_char, NotOpened, no_bracket, array_missing, too_deep, NoBracket, other_sign, bracket_missing, NotClosed, not_here, behind_comma as comma_before}
 use Rattle.json5_de.specs.Seq.{IsBehindGap, Begun, AtElement, GoesOn, NoNext, no_comma, list_ends}
 use Rattle.json5_de.specs.Faults.{Behind, in_blanks, behind_gap, RefusedBy}
 use Rattle.json5_de.proofs.Taken.{refused_token}
@@ -79,22 +79,8 @@ nowhere_behind due s mid next e is p n took f =
     subst (λ b. GoesNowhere b s.unread) (sym is)
     (nowhere_comma s.unread next.unread (sign_next 0x2C s.unread mid.unread next.unread g took.split) (nowhere_faulty false next e f) (λ r c. no_sign_next 0x5D s.unread mid.unread r bracket_solid g n c))
 
--- the bracket is next
-pub at_close_here : (due : Bool) (s mid : State) → PassedGap s mid → slice_get mid.unread 0 ≡ Some 0x5D → AtClose due s mid
-at_close_here due s mid p e =
-    let (r, split) = some_next mid.unread 0x5D e in
-    record {
-      live = p.live;
-      close = (r, end_here 0x5D due s.unread p.gap r (p.split ∙ ap (λ k. p.gap ++ k) split) (subst (Gap p.gap) split p.is_gap), split);
-      rest = p.rest;
-    }
-
 pub only_read : (s t u : State) → OnlyRead s t → OnlyRead t u → OnlyRead s u
 only_read s t u a b = b ∙ ap (λ (m : State). record m { unread = u.unread }) a
-
--- an element may begin
-pub at_element_here : (due : Bool) (s mid : State) → due ≡ false → PassedGap s mid → NotBegun (λ c. c == 0x5D) mid.unread → AtElement due s mid
-at_element_here due s mid is p n = record { live = p.live; begun = subst (λ b. Begun b s.unread mid.unread) (sym is) (behind_gap_of s mid p); inside = n; rest = p.rest }
 
 -- the bracket or an element behind the comma
 pub goes_behind : (due is : Bool) (s mid next last : State) → due ≡ true → PassedGap s mid → TookText mid (0x2C ∷ []) next → PassedGap next last
@@ -144,26 +130,6 @@ took_element due s mid last t at took = record {
 }
 
 -- ---- closing
-
--- the bracket that stands behind the gap is taken
-pub closed_here : (due : Bool) (s mid last : State) → PassedGap s mid → (mid.unread ≡ 0x5D ∷ last.unread) × (last ≡ record mid { unread = last.unread; level = mid.level - 1 }) → Closed due s last
-closed_here due s mid last p (split, rest) = record {
-  live = p.live;
-  close = end_here 0x5D due s.unread p.gap last.unread (p.split ∙ ap (λ k. p.gap ++ k) split) (subst (Gap p.gap) split p.is_gap);
-  rest = rest ∙ ap (λ (m : State). record m { unread = last.unread; level = m.level - 1 }) p.rest;
-}
-
--- or behind the comma
-pub closed_behind : (due : Bool) (s mid next far last : State) → due ≡ true → PassedGap s mid → TookText mid (0x2C ∷ []) next → PassedGap next far
-    → (far.unread ≡ 0x5D ∷ last.unread) × (last ≡ record far { unread = last.unread; level = far.level - 1 }) → Closed due s last
-closed_behind due s mid next far last d p took q (split, rest) =
-    let comma = sign_next 0x2C s.unread mid.unread next.unread (behind_gap_of s mid p) took.split in
-    let bracket = sign_next 0x5D next.unread far.unread last.unread (behind_gap_of next far q) split in
-    record {
-      live = p.live;
-      close = subst (λ b. IsClose b s.unread last.unread) (sym d) (inr (next.unread, comma, bracket));
-      rest = rest ∙ ap (λ (m : State). record m { unread = last.unread; level = m.level - 1 }) (only_read s mid far p.rest (only_read mid next far took.rest q.rest));
-    }
 
 pub no_bool : {b : Bool} → b ≡ true → b ≡ false → ⊥
 no_bool h k = let e : true ≡ false = sym h ∙ k in absurd (cc)

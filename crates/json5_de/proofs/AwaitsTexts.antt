@@ -4,8 +4,7 @@ use Rattle.std.specs.Prelude.{◌||◌, ◌==◌}
 use Rattle.json5_grammar.specs.declared.code.ErrorCode.{ErrorCode}
 use Rattle.json5_grammar.specs.declared.code.ErrorCode.TheVariants.{EofParsingString, ExpectedString}
 use Rattle.json5_grammar.specs.Codes.{Shown}
-use Rattle.json5_grammar.specs.Reading.{Read, Place, inner, bad, IsAt}
-use Rattle.json5_grammar.specs.ReadTexts as reading
+use Rattle.json5_grammar.specs.Reading.{Read, Place, bad}
 use Rattle.json5_grammar.specs.Strings.{Str, quoted, is_quote}
 use Rattle.json5_grammar.specs.StringFaults.{StringFault, raw_terminator, string_ends, in_escape}
 use Rattle.json5_grammar.specs.Stops.{lengthens}
@@ -20,19 +19,11 @@ use Rattle.json5_de.specs.Faults.{NotText, faulty_text, other_text}
 use Rattle.json5_de.proofs.Awaited.{Awaited}
 use Rattle.json5_de.proofs.Words.{cons_same}
 
-string_none : reading.string [] ≡ bad (Some EofParsingString) inner
-unfolding reading.string
-string_none = refl
-
 same_bad : {A : Type 0} (a : Read A) (e d : Option ErrorCode) (p q : Place) → a ≡ bad e p → a ≡ bad d q → (e ≡ d) × (p ≡ q)
 same_bad a e d p q h k = (cc, cc)
 
 not_both : {A : Type 0} (b : Bool) → b ≡ true → b ≡ false → A
 not_both b h k = let e : true ≡ false = sym h ∙ k in absurd (cc)
-
-inner_place : (x : List ℕ) (place : Option (List ℕ)) → IsAt x place inner → place ≡ None
-inner_place x None k = refl
-inner_place x (Some p) k = absurd k
 
 -- x begins with a quote
 abbrev Quoted : List ℕ → Type 0

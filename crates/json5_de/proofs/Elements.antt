@@ -1,6 +1,7 @@
 -- An array as a whole, while its elements are read: what was read of it, and what is left.
 use Rattle.std.proofs.Common.{◌≡◌, ℕ, ◌+◌, ◌-◌, ◌<◌, ◌≤◌, Bool, true, false, List, ◌∷◌, refl, sym, ap, ◌∙◌, subst, arith, Option, Some, None, Result, Ok, Err, ◌||◌, inl, inr}
 use Rattle.std.specs.Prelude.{is_some, IfOk, IsOk}
+use Rattle.std.proofs.Math.Bool.{or-true, or-false}
 use Rattle.json5_grammar.specs.Trees.{Tree, Trees, array, no_more, more, depth}
 use Rattle.json5_grammar.specs.Values.{Reads}
 use Rattle.json5_grammar.specs.Documents.{max_depth}
@@ -11,14 +12,6 @@ use Rattle.json5_text.specs.declared.error.Error.{Error}
 use Rattle.json5_de.specs.State.{State, OnlyRead}
 use Rattle.json5_de.specs.Law.{TookValue}
 use Rattle.json5_de.specs.Access.{Opened, Closed, TookElement, AtClose, GivesElement, CompletesElement, ElementsRead, ElementsLeft, ReadsMore, LeavesFewer}
-
-pub or_true : (b : Bool) → (b || true) ≡ true
-or_true true = refl
-or_true false = refl
-
-pub or_false : (b : Bool) → (b || false) ≡ b
-or_false true = refl
-or_false false = refl
 
 -- a reader that only read hasn't failed, and has as many brackets open
 still_live : (old new : State) → old.failed ≡ false → OnlyRead old new → new.failed ≡ false
@@ -62,57 +55,57 @@ element_behind from old ts due t y e is = elim e.here [
 ]
 
 -- one more
-pub element_read : (from old new : State) (ts : Trees) (due now : Bool) (t : Tree) → TookElement due old t new → now ≡ (due || true) → ElementsRead from ts due old → ElementsRead from (snoc ts t) now new
-element_read from old new ts due now t took is e = record {
+one_read_more : (from old new : State) (ts : Trees) (due now : Bool) (t : Tree) → TookElement due old t new → now ≡ (due || true) → ElementsRead from ts due old → ElementsRead from (snoc ts t) now new
+one_read_more from old new ts due now t took is e = record {
   live = e.live;
   shallow = let level = inside_level from old ts due e in let deep = took.shallow in let high = e.shallow in
       let both = shallow_snoc ts t (from.level + 1) max_depth (omega (arith, high)) (omega (arith, deep, level)) in omega (arith, both);
   inside = e.inside;
   bracket = e.bracket;
   behind = new.unread;
-  passed = subst (λ b. Passed (snoc ts t) false e.inside b new.unread) (sym (is ∙ or_true due)) (passed_more ts false due e.inside e.behind new.unread t e.passed (element_behind from old ts due t new.unread e took.element));
+  passed = subst (λ b. Passed (snoc ts t) false e.inside b new.unread) (sym (is ∙ or-true due)) (passed_more ts false due e.inside e.behind new.unread t e.passed (element_behind from old ts due t new.unread e took.element));
   here = inl refl;
   rest = only_behind from old new e.rest took.rest;
 }
 
-closed_behind : (from old : State) (ts : Trees) (due : Bool) (r : List ℕ) → (e : ElementsRead from ts due old) → IsClose due old.unread r → IsClose due e.behind r
-closed_behind from old ts due r e is = elim e.here [
+close_behind_read : (from old : State) (ts : Trees) (due : Bool) (r : List ℕ) → (e : ElementsRead from ts due old) → IsClose due old.unread r → IsClose due e.behind r
+close_behind_read from old ts due r e is = elim e.here [
   | inl same ↦ subst (λ x. IsClose due x r) same is
   | inr at ↦ close_found due due e.behind old.unread r at is
 ]
 
 -- none, and the closing bracket is next
-pub bracket_read : (from old new : State) (ts : Trees) (due now : Bool) → AtClose due old new → now ≡ (due || false) → ElementsRead from ts due old → ElementsRead from ts now new
+bracket_read : (from old new : State) (ts : Trees) (due now : Bool) → AtClose due old new → now ≡ (due || false) → ElementsRead from ts due old → ElementsRead from ts now new
 bracket_read from old new ts due now at is e =
     let (r, close, next) = at.close in
-    subst (λ b. ElementsRead from ts b new) (sym (is ∙ or_false due)) (record {
+    subst (λ b. ElementsRead from ts b new) (sym (is ∙ or-false due)) (record {
       live = e.live;
       shallow = e.shallow;
       inside = e.inside;
       bracket = e.bracket;
       behind = e.behind;
       passed = e.passed;
-      here = inr (r, closed_behind from old ts due r e close, next);
+      here = inr (r, close_behind_read from old ts due r e close, next);
       rest = only_behind from old new e.rest at.rest;
     })
 
-back : (n : ℕ) → n + 1 - 1 ≡ n
-back n = omega arith
+more_and_less : (n : ℕ) → n + 1 - 1 ≡ n
+more_and_less n = omega arith
 
 -- the whole array
 pub all_read : (from last new : State) (ts : Trees) (due : Bool) → Closed due last new → ElementsRead from ts due last → TookValue from (array ts) new
 all_read from last new ts due c e = record {
   live = e.live;
-  reads = array_closed from.unread e.inside e.behind new.unread ts due e.bracket e.passed (closed_behind from last ts due new.unread e c.close);
+  reads = array_closed from.unread e.inside e.behind new.unread ts due e.bracket e.passed (close_behind_read from last ts due new.unread e c.close);
   shallow = e.shallow;
   rest = c.rest
       ∙ ap (λ (m : State). record m { unread = new.unread; level = m.level - 1 }) e.rest
-      ∙ ap (λ n. record from { unread = new.unread; level = n }) (back from.level);
+      ∙ ap (λ n. record from { unread = new.unread; level = n }) (more_and_less from.level);
 }
 
 -- what a call for an element reads
 pub reads_more : {V C : Type 0} (content : V → C) (convert : Tree → Option C) (due now : Bool) (old new : State) (o : Option V) → GivesElement content convert due old new o → now ≡ (due || is_some o) → ReadsMore content convert due old now new o
-reads_more content convert due now old new (Some v) (t, took, is) d = (t, is, λ from ts e. element_read from old new ts due now t took d e)
+reads_more content convert due now old new (Some v) (t, took, is) d = (t, is, λ from ts e. one_read_more from old new ts due now t took d e)
 reads_more content convert due now old new None at d = λ from ts e. bracket_read from old new ts due now at d e
 
 -- ---- what is left
@@ -136,20 +129,22 @@ same_head : (t u : Tree) (ts us : Trees) → more t ts ≡ more u us → (t ≡ 
 same_head t u ts us e = (cc, cc)
 
 -- those behind the first, once it was read
-pub first_taken : (due now : Bool) (old new : State) (t u : Tree) (ts : Trees) (r : List ℕ) → TookElement due old u new → now ≡ (due || true) → ElementsLeft (more t ts) r due old → (t ≡ u) × ElementsLeft ts r now new
+first_taken : (due now : Bool) (old new : State) (t u : Tree) (ts : Trees) (r : List ℕ) → TookElement due old u new → now ≡ (due || true) → ElementsLeft (more t ts) r due old → (t ≡ u) × ElementsLeft ts r now new
 first_taken due now old new t u ts r took is e =
     let (us, split, tail) = element_left (more t ts) due old.unread new.unread r u took.element e.tail in
     let (same, rest) = same_head t u ts us split in
     let level = same_level old new took.rest in
-    let shallow = e.shallow in
-    (same, record {
-      live = still_live old new e.live took.rest;
-      shallow = omega (arith, level, shallow);
-      tail = subst (λ d. Tail ts d new.unread r) (sym (is ∙ or_true due)) (subst (λ vs. Tail vs true new.unread r) (sym rest) tail);
-    })
+    let shallow = e.shallow in (
+      same,
+      record {
+        live = still_live old new e.live took.rest;
+        shallow = omega (arith, level, shallow);
+        tail = subst (λ d. Tail ts d new.unread r) (sym (is ∙ or-true due)) (subst (λ vs. Tail vs true new.unread r) (sym rest) tail);
+      },
+    )
 
 -- none, where none was left
-pub none_taken : (due now : Bool) (old new : State) (r : List ℕ) → AtClose due old new → ElementsLeft no_more r due old → ElementsLeft no_more r now new
+none_taken : (due now : Bool) (old new : State) (r : List ℕ) → AtClose due old new → ElementsLeft no_more r due old → ElementsLeft no_more r now new
 none_taken due now old new r at e =
     let (q, close, next) = at.close in
     let level = same_level old new at.rest in

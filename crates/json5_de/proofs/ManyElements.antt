@@ -1,7 +1,7 @@
 -- Lists of one type, while they are read in a loop.
 use Rattle.std.proofs.Common.{◌≡◌, ℕ, ◌+◌, ◌≤◌, Bool, true, false, List, [], ◌∷◌, ◌++◌, length, map, refl, ap, sym, ◌∙◌, arith, Option, Some, None, Ok, Err}
 use Rattle.std.specs.Prelude.{◌==◌, if◌then◌else◌}
-use Rattle.std.proofs.lemmas.List.{length-append}
+use Rattle.std.proofs.lemmas.List.{length-append, map-append}
 use Rattle.json5_grammar.specs.Documents.{max_depth}
 use Rattle.json5_grammar.specs.Trees.{Tree, Trees, array, no_more, more, depth}
 use Rattle.json5_grammar.specs.Values.{Reads}
@@ -14,9 +14,9 @@ use Rattle.json5_de.specs.ConvertLists.{exactly, if_length}
 use Rattle.json5_de.specs.Access.{ElementsRead, ElementsLeft, LeavesFewer}
 
 -- a tree that converts is an array
-pub array_only : {C : Type 0} (g : Trees → Option C) (s : State) (t : Tree) (r : List ℕ) (v : C) → Reads s.unread t r → s.level + depth t ≤ max_depth → array_of g t ≡ Some v
+pub is_array : {C : Type 0} (g : Trees → Option C) (s : State) (t : Tree) (r : List ℕ) (v : C) → Reads s.unread t r → s.level + depth t ≤ max_depth → array_of g t ≡ Some v
     → (ts : Trees) × (g ts ≡ Some v) × Reads s.unread (array ts) r × (s.level + depth (array ts) ≤ max_depth)
-array_only g s t r v reads shallow converts = grind arith
+is_array g s t r v reads shallow converts = grind arith
 
 -- ---- what is left
 
@@ -48,10 +48,6 @@ none_left content f (more t ts) r now new left = absurd left
 
 -- ---- what was read
 
-pub map_snoc : {A B : Type 0} (f : A → B) (xs : List A) (x : A) → map f (xs ++ x ∷ []) ≡ map f xs ++ f x ∷ []
-map_snoc f [] x = refl
-map_snoc f (y ∷ xs) x = ap (λ s. f y ∷ s) (map_snoc f xs x)
-
 -- these were read since the first state, and stand for the values
 pub record ManyRead {V C : Type 0} (content : V → C) (f : Tree → Option C) (vs : List V) (start : Bool) (first : State) (due : Bool) (s : State) : Type 0 where
   pub trees : Trees
@@ -65,7 +61,7 @@ pub one_more : {V C : Type 0} (content : V → C) (f : Tree → Option C) (vs ws
     → ManyRead content f vs start first due s → ws ≡ vs ++ v ∷ [] → f t ≡ Some (content v) → ((from : State) (ts : Trees) → ElementsRead from ts due s → ElementsRead from (snoc ts t) now new) → ManyRead content f ws start first now new
 one_more content f vs ws v start due now first s new t m e is on = record {
   trees = snoc m.trees t;
-  are = let all = ap (λ xs. map content xs) e ∙ map_snoc content vs v in rw all (contents_snoc f m.trees t (map content vs) (content v) m.are is);
+  are = let all = ap (λ xs. map content xs) e ∙ map-append content vs (v ∷ []) in rw all (contents_snoc f m.trees t (map content vs) (content v) m.are is);
   read = λ from read. on from m.trees (m.read from read);
 }
 

@@ -60,7 +60,7 @@ CompletesElement {C = C} convert due old result =
 
 -- ---- an array as a whole: what was read of it, and what is left
 
--- an array stands at `from`, these elements of it were read, and perhaps the comma behind the last one
+-- an array begins at `from`, these elements of it were read, and perhaps what stands before the closing bracket, the last comma included
 pub record ElementsRead (from : State) (ts : Trees) (due : Bool) (now : State) : Type 0 where
   pub live : from.failed ≡ false
   pub shallow : from.level + depth (array ts) ≤ max_depth
@@ -71,18 +71,19 @@ pub record ElementsRead (from : State) (ts : Trees) (due : Bool) (now : State) :
   pub here : (now.unread ≡ behind) ⊎ IsAtClose due behind now.unread
   pub rest : now ≡ record from { unread = now.unread; level = from.level + 1 }
 
--- these elements are left and then the closing bracket, with r behind it
+-- these elements are left, behind a comma where one is due, and then the closing bracket, with r behind it; none is too deep
 pub record ElementsLeft (ts : Trees) (r : List ℕ) (due : Bool) (now : State) : Type 0 where
   pub live : now.failed ≡ false
   pub shallow : now.level + depths ts ≤ max_depth
   pub tail : Tail ts due now.unread r
 
--- an element that stands for v was read more, or none
+-- one element more was read, which stands for v; or none, and what was read is the same (that the bracket is next says `GivesElement`)
 abbrev pub ReadsMore : {V C : Type 0} → (V → C) → (Tree → Option C) → Bool → State → Bool → State → Option V → Type 0
 ReadsMore content convert due old now new (Some v) = (t : Tree) × (convert t ≡ Some (content v)) × ((from : State) (ts : Trees) → ElementsRead from ts due old → ElementsRead from (snoc ts t) now new)
 ReadsMore content convert due old now new None = (from : State) (ts : Trees) → ElementsRead from ts due old → ElementsRead from ts now new
 
--- of the elements that were left the first was read, want of memory aside; or none, where none was left
+-- where elements are left and the first converts, it was read, want of memory aside, and the others are left; where none is left, none was given.
+-- Nothing is said of the refusal of one that doesn't convert.
 abbrev pub LeavesFewer : {V C : Type 0} → (V → C) → (Tree → Option C) → Trees → List ℕ → Bool → State → Result (Option V) Error → Type 0
 LeavesFewer content convert no_more r now new (Ok None) = ElementsLeft no_more r now new
 LeavesFewer content convert no_more r now new (Ok (Some v)) = ⊥

@@ -9,7 +9,7 @@ ghost use Rattle.json5_text.specs.Cursor.{Refused, IsPlaced, IsOutOfMemory};
 ghost use Rattle.json5_text.specs.Tokens.{FaultyBlanks, FaultyWord, FaultyNumber, FaultyString};
 ghost use Rattle.json5_grammar.specs.Documents.{max_depth};
 ghost use Rattle.json5_grammar.specs.declared.code.ErrorCode.TheVariants as codes;
-ghost use Rattle.json5_de.specs.State.{State, cursor_of, OnlyRead};
+ghost use Rattle.json5_de.specs.State.{State, cursor_of};
 ghost use Rattle.json5_de.specs.Faults.{RefusedBy, AtEnd, Trailing};
 ghost use Rattle.json5_de.specs.Law.{Gives, Completes, StaysFailed};
 ghost use Rattle.std.specs.Str.{all_scalars, encode_utf8_all};

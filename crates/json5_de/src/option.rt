@@ -1,8 +1,7 @@
 //! Reading of options, and of structs that hold one value or none.
 
-ghost use Rattle.std.specs.Prelude.{◌≡◌, ◌==◌, ℕ, List, Some, None, IfOk, IfErr, OnErr, true, false};
+ghost use Rattle.std.specs.Prelude.{◌≡◌, ◌==◌, ℕ, List, Some, None, IfOk, IfErr, OnErr, true};
 ghost use Rattle.json5_grammar.specs.declared.code.ErrorCode.TheVariants as codes;
-ghost use Rattle.json5_de.specs.State.{State};
 ghost use Rattle.json5_de.specs.Law.{Gives, Completes, CompletesWithoutMemory, StaysFailed};
 ghost use Rattle.json5_de.specs.Convert.{unit_of};
 ghost use Rattle.json5_de.specs.ConvertLists.{option_of, if_some};

@@ -1,9 +1,8 @@
 //! Reading of null, booleans and numbers.
 
-ghost use Rattle.std.specs.Prelude.{◌≡◌, ◌==◌, ◌||◌, ◌^◌, ℕ, IfOk, IfErr, OnErr, OnOk, true, false};
+ghost use Rattle.std.specs.Prelude.{◌≡◌, ◌==◌, ◌||◌, ◌^◌, IfOk, IfErr, OnErr, true, false};
 ghost use Rattle.json5_grammar.specs.declared.code.ErrorCode.TheVariants as codes;
 ghost use Rattle.json5_grammar.specs.NumberFaults.{is_sign, begins_number};
-ghost use Rattle.json5_de.specs.State.{State, cursor_of};
 ghost use Rattle.json5_de.specs.Law.{Gives, Completes, CompletesWithoutMemory, StaysFailed};
 ghost use Rattle.json5_de.specs.Faults.{RefusedBy, RefusedByOrMemory, FaultyNull, FaultyBool, NotNumber, EndsWith, EndsWithOrMemory, DiffersWith, DiffersWithOrMemory};
 ghost use Rattle.json5_de.specs.Convert.{unit_of, bool_of, decimal_of, every_decimal, as_number, as_whole, natural_below, integer_below, unsigned_below, signed_below};

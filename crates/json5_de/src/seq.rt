@@ -1,11 +1,10 @@
 //! Reading of arrays, one element after another.
 
-ghost use Rattle.std.specs.Prelude.{◌≡◌, ◌≢◌, ◌<◌, ◌≤◌, ◌+◌, ◌-◌, ◌==◌, ◌||◌, ◌∷◌, ◌++◌, [], false, true, ℕ, List, Some, None, length, is_some, slice_get, IfOk, IfErr, OnErr, OnOk, IsOk, IsTrue, IsErrAnd, IsOkAnd, IfSome};
+ghost use Rattle.std.specs.Prelude.{◌≡◌, ◌<◌, ◌≤◌, ◌+◌, ◌-◌, ◌==◌, ◌||◌, ◌∷◌, ◌++◌, false, true, ℕ, List, Some, None, length, is_some, slice_get, IfOk, IfErr, OnErr, OnOk, IsOk, IsErrAnd, IsOkAnd, IfSome};
 ghost use Rattle.std.specs.Str.{encode_utf8_all};
 ghost use Rattle.std.specs.Borrow.{sem, RestsIfErr};
 ghost use Rattle.json5_grammar.specs.declared.code.ErrorCode.TheVariants as codes;
 ghost use Rattle.json5_grammar.specs.Characters.{NotBegun};
-ghost use Rattle.json5_grammar.specs.Blanks.{Blanks};
 ghost use Rattle.json5_grammar.specs.Documents.{max_depth};
 ghost use Rattle.json5_grammar.specs.Positions.{position_behind};
 ghost use Rattle.json5_grammar.specs.declared.position.Position.{Position};

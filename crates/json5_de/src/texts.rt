@@ -1,6 +1,6 @@
 //! Reading of texts.
 
-ghost use Rattle.std.specs.Prelude.{◌≡◌, ◌⊎◌, ℕ, List, Bool, string_bytes, Some, None, MatchOption, IfOk, IfErr, OnErr, OnOk, true, false};
+ghost use Rattle.std.specs.Prelude.{◌≡◌, string_bytes, Some, None, MatchOption, IfOk, IfErr, OnErr, true, false};
 ghost use Rattle.std.specs.Str.{chars};
 ghost use Rattle.json5_grammar.specs.declared.code.ErrorCode.TheVariants as codes;
 ghost use Rattle.json5_grammar.specs.Strings.{is_quote};

@@ -6,14 +6,13 @@ use Rattle.json5_grammar.specs.Characters.{NotBegun}
 use Rattle.json5_grammar.specs.Codes.{ErrorCode, Shown}
 use Rattle.json5_grammar.specs.Blanks.{Blanks, Gap, is_solid, Solid, BlankFault}
 use Rattle.json5_grammar.specs.Trees.{Tree}
-use Rattle.json5_grammar.specs.Faults.{begins_value}
 use Rattle.json5_grammar.specs.Values.{Reads}
-use Rattle.json5_grammar.specs.Members.{IsSign, Opens, IsElement, IsEnd, IsClose, GoesNowhere}
+use Rattle.json5_grammar.specs.Members.{IsSign, IsClose, GoesNowhere}
 use Rattle.json5_grammar.proofs.Basics.{same_char}
 use Rattle.json5_grammar.proofs.BlanksRead.{begins_solid}
 use Rattle.json5_grammar.proofs.BlanksSound.{gap_blanks, no_blank_fault}
 use Rattle.json5_grammar.proofs.ValueHeads.{val_head, value_solid}
-use Rattle.json5_grammar.proofs.MembersRead.{comma_solid, bracket_solid, opening_solid, sign_here, sign_found, reads_behind, phrase_found, reads_found}
+use Rattle.json5_grammar.proofs.MembersRead.{comma_solid, bracket_solid, sign_found, reads_behind, reads_found}
 use Rattle.json5_grammar.proofs.MembersPassed.{behind_comma}
 
 -- ---- what goes on
@@ -33,18 +32,6 @@ reads_here x w y r t e g p = subst (λ z. Reads z t r) (sym e) (reads_behind w y
     blanks_of [] k g = absurd (head_of r (sym k ∙ p.split))
     blanks_of (c ∷ z) k g = gap_blanks c z (subst (λ q. Gap w q) k g)
 
--- the closing sign behind a gap, whether a comma is due or not
-pub end_here : (sign : ℕ) (due : Bool) (x w r : List ℕ) → x ≡ w ++ sign ∷ r → Gap w (sign ∷ r) → IsEnd sign due x r
-end_here sign false x w r e g = sign_here sign x w r e g
-end_here sign true x w r e g = inl (sign_here sign x w r e g)
-
--- a comma behind a gap, and then what goes on where none is due
-pub end_behind_comma : (sign : ℕ) (x w y r : List ℕ) → x ≡ w ++ 44 ∷ y → Gap w (44 ∷ y) → IsEnd sign false y r → IsEnd sign true x r
-end_behind_comma sign x w y r e g k = inr (y, sign_here 44 x w y e g, k)
-
-pub element_behind_comma : (x w y r : List ℕ) (t : Tree) → x ≡ w ++ 44 ∷ y → Gap w (44 ∷ y) → Reads y t r → IsElement true x t r
-element_behind_comma x w y r t e g p = (y, sign_here 44 x w y e g, p)
-
 -- ---- what doesn't
 
 -- no sign goes on where the rest behind the gap doesn't begin with it
@@ -58,15 +45,7 @@ pub no_sign_in_blanks : (sign : ℕ) (x b p r : List ℕ) (code : Option ErrorCo
 no_sign_in_blanks sign x b p r code place shown h f a =
     no_blank_fault (Gap.blanks a.blank) (begins_solid sign r h) (subst (λ z. BlankFault z code place b p shown) a.split f)
 
--- no phrase stands where the rest behind the gap begins no value
-pub no_reads : (x w y r : List ℕ) (t : Tree) → x ≡ w ++ y → Gap w y → Solid y → NotBegun begins_value y → Reads x t r → ⊥
-no_reads x w y r t e g s n p =
-    let head = val_head p.value in
-    let k : y ≡ head.char ∷ (head.more ++ r) = phrase_found x w y r t e g s p ∙ ap (λ z. z ++ r) head.is in
-    let begins : NotBegun begins_value (head.char ∷ (head.more ++ r)) = subst (NotBegun begins_value) k n in
-    both_ways (begins_value head.char) begins head.begins
-
--- nor where a comment is at fault
+-- no phrase stands where a comment is at fault
 pub no_reads_in_blanks : (x b p r : List ℕ) (t : Tree) (code : Option ErrorCode) (place : Option (List ℕ)) (shown : Shown) → BlankFault x code place b p shown → Reads x t r → ⊥
 no_reads_in_blanks x b p r t code place shown f a =
     no_blank_fault (Gap.blanks a.blank) (value_solid r (val_head a.value)) (subst (λ z. BlankFault z code place b p shown) a.split f)
@@ -102,7 +81,3 @@ nowhere_other x w y e g s m n = nowhere_due x (λ z c. no_sign 44 x w y z comma_
 -- no value and no bracket, where no comma is due
 pub nowhere_begun : (x w y : List ℕ) → x ≡ w ++ y → Gap w y → Solid y → ((t : Tree) (r : List ℕ) → Reads y t r → ⊥) → NotBegun (λ c. c == 93) y → GoesNowhere false x
 nowhere_begun x w y e g s m n = record { no_element = λ t r a. m t r (reads_found x w y r t e g s a); no_close = λ r c. no_sign 93 x w y r bracket_solid e g s n c }
-
--- no array stands where the rest behind the gap doesn't begin with its bracket
-pub not_opened : (x w y r : List ℕ) → x ≡ w ++ y → Gap w y → Solid y → NotBegun (λ c. c == 91) y → Opens x r → ⊥
-not_opened x w y r e g s n o = no_sign 91 x w y r opening_solid e g s n o

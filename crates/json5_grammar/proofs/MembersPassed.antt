@@ -127,11 +127,6 @@ element_left (more u ts) due x y r t e (z, f, tl) =
     let one = one_element due x z y u t f e in
     (ts, more_same u t ts ts one.0 refl, subst (λ k. Tail ts true k r) one.1 tl)
 
--- where the closing bracket goes on no member is left
-pub close_left : (ts : Trees) (due : Bool) (x r q : List ℕ) → IsClose due x q → Tail ts due x r → (ts ≡ no_more) × (q ≡ r)
-close_left no_more due x r q c k = (refl, one_close due x q r c k)
-close_left (more t ts) due x r q c (y, e, tl) = absurd (element_or_close due x y q t e c)
-
 -- where neither goes on no array does
 pub nowhere_tail : (ts : Trees) (due : Bool) (x r : List ℕ) → GoesNowhere due x → Tail ts due x r → ⊥
 nowhere_tail no_more due x r n c = n.no_close r c
@@ -154,10 +149,6 @@ pub array_nowhere : (x y z r : List ℕ) (us ts : Trees) (due : Bool) → Opens 
 array_nowhere x y z r us ts due o p n reads =
     let (vs, e, tl) = array_left x y z r us ts due o p reads in
     nowhere_tail vs due z r n tl
-
--- an array begins with its bracket
-pub array_opens : (x r : List ℕ) (ts : Trees) → Reads x (array ts) r → (y : List ℕ) × Opens x y
-array_opens x r ts p = let (y, o, tl) = array_front x r ts p in (y, o)
 
 -- ---- lengths
 
@@ -193,14 +184,3 @@ depths_snoc (more u us) t = let rest = depths_snoc us t in omega (arith, rest)
 -- one more member of an allowed depth
 pub shallow_snoc : (ts : Trees) (t : Tree) (level limit : ℕ) → level + depths ts ≤ limit → level + depth t ≤ limit → level + depths (snoc ts t) ≤ limit
 shallow_snoc ts t level limit a b = let e = depths_snoc ts t in omega (arith, a, b, e)
-
--- a member is no deeper than the deepest
-pub member_shallow : (ts us : Trees) (t : Tree) → depth t ≤ depths (joined ts (more t us))
-member_shallow ts us t = let e = depths_joined ts (more t us) in omega (arith, e)
-
--- ---- lists of trees
-
--- one more behind the others
-pub joined_snoc : (ts us : Trees) (t : Tree) → joined (snoc ts t) us ≡ joined ts (more t us)
-joined_snoc no_more us t = refl
-joined_snoc (more u ts) us t = ap (more u) (joined_snoc ts us t)

@@ -1,5 +1,5 @@
 //! Positions in a text.
-ghost use Rattle.std.specs.Prelude.{◌≡◌, ◌+◌, ◌<◌, ◌++◌, ◌^◌, Some, take, decimal};
+ghost use Rattle.std.specs.Prelude.{◌≡◌, ◌+◌, ◌<◌, ◌++◌, Some, take, decimal};
 ghost use Rattle.std.specs.Str.{IsCharBoundary, chars};
 ghost use lib.Chars.{codes};
 ghost use Rattle.json5_grammar.specs.Positions.{position_behind};

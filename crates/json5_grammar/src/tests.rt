@@ -59,7 +59,7 @@ fn positions_are_printed(rt: HostRuntime) -> Result<(), Fail> {
 }
 
 #[test]
-fn codes_are_printed(rt: HostRuntime) -> Result<(), Fail> {
+fn codes_at_the_end_are_printed(rt: HostRuntime) -> Result<(), Fail> {
     for (code, text) in [
         (ErrorCode::EofParsingArray, "EOF parsing array"),
         (ErrorCode::EofParsingBool, "EOF parsing bool"),
@@ -74,6 +74,15 @@ fn codes_are_printed(rt: HostRuntime) -> Result<(), Fail> {
         (ErrorCode::EofParsingObject, "EOF parsing object"),
         (ErrorCode::EofParsingString, "EOF parsing string"),
         (ErrorCode::EofParsingValue, "EOF parsing value"),
+    ] {
+        assert_eq!(rt; format!(in rt.alloc(); "{code}")?.as_str(), text);
+    }
+    Ok(())
+}
+
+#[test]
+fn codes_of_what_is_awaited_are_printed(rt: HostRuntime) -> Result<(), Fail> {
+    for (code, text) in [
         (ErrorCode::ExpectedBool, "expected bool"),
         (ErrorCode::ExpectedClosingBrace, "expected closing brace"),
         (
@@ -97,6 +106,15 @@ fn codes_are_printed(rt: HostRuntime) -> Result<(), Fail> {
             "expected string or object",
         ),
         (ErrorCode::ExpectedValue, "expected value"),
+    ] {
+        assert_eq!(rt; format!(in rt.alloc(); "{code}")?.as_str(), text);
+    }
+    Ok(())
+}
+
+#[test]
+fn other_codes_are_printed(rt: HostRuntime) -> Result<(), Fail> {
+    for (code, text) in [
         (ErrorCode::InvalidBytes, "invalid bytes"),
         (ErrorCode::InvalidEscapeSequence, "invalid escape sequence"),
         (ErrorCode::InvalidKey, "invalid key"),

@@ -1,4 +1,4 @@
-//! A type of one's own that is read from JSON5, proved lawful by what json5_de promises alone.
+//! Types of one's own that are read from JSON5, proved lawful by what json5_de promises alone.
 #![tactic(auto)]
 
 #[cfg(test)]
@@ -14,7 +14,9 @@ use std::alloc::Global;
 /// Two ends, written as a list: `[low, high]`.
 #[derive(Drop)]
 pub struct Bounds<T> {
+    /// The first of the list.
     pub low: T,
+    /// The second.
     pub high: T,
 }
 
@@ -50,10 +52,35 @@ impl<I: Input, T: Deserialize<I>> Deserialize<I> for Bounds<T> {
     }
 }
 
+/// The number of a port, which is read as a number.
+#[derive(Drop)]
+pub struct Port {
+    /// From 0 to 65535.
+    pub number: u16,
+}
+
+impl<I: Input> Deserialize<I> for Port {
+    ghost use Rattle.std.specs.Prelude.{ℕ, ◌^◌};
+    ghost use Rattle.json5_de.specs.Convert.{unsigned_below};
+
+    ghost Content = { ℕ };
+
+    ghost content = { λ p. p.number };
+
+    ghost convert = { unsigned_below (2 ^ 16) };
+
+    fn deserialize(de: &mut Deserializer<I>) -> Result<Port> {
+        let number = de.deserialize_u16()?;
+        Ok(Port { number })
+    }
+}
+
 /// A point, written as a list: `[x, y]`. A tuple reads it.
 #[derive(Drop)]
 pub struct Point<T> {
+    /// The first of the list.
     pub x: T,
+    /// The second.
     pub y: T,
 }
 

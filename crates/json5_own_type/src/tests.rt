@@ -1,6 +1,6 @@
-//! The type at one concrete element, and what its own faults print.
+//! The types at concrete elements, and what their faults print.
 
-use crate::{Bounds, Point, gives_up};
+use crate::{Bounds, Point, Port, gives_up};
 use json5_de::{Deserializer, from_str};
 use json5_text::ErrorCode;
 use json5_text::error::Error;
@@ -31,6 +31,21 @@ fn bounds_are_refused(rt: HostRuntime) -> Result<(), Fail> {
 }
 
 #[test]
+fn ports_are_read(rt: HostRuntime) -> Result<(), Fail> {
+    let port = from_str::<Port>(rt.alloc(), "/* default */ 8080")?;
+    assert_eq!(rt; port.number, 8080);
+    let Err(e) = from_str::<Port>(rt.alloc(), "65536") else {
+        assert!(rt; false);
+        return Ok(());
+    };
+    assert_eq!(rt;
+        format!(in rt.alloc(); "{e}")?.as_str(),
+        "invalid value: integer `65536`, expected u16 at line 1 column 1"
+    );
+    Ok(())
+}
+
+#[test]
 fn points_are_read(rt: HostRuntime) -> Result<(), Fail> {
     let point = from_str::<Point<&str>>(rt.alloc(), "['east', /* then */ 'north']")?;
     assert_eq!(rt; point.x, "east");
@@ -39,7 +54,10 @@ fn points_are_read(rt: HostRuntime) -> Result<(), Fail> {
         assert!(rt; false);
         return Ok(());
     };
-    assert_eq!(rt; format!(in rt.alloc(); "{e}")?.as_str(), "invalid length 1, expected a tuple of size 2 at line 1 column 1");
+    assert_eq!(rt;
+        format!(in rt.alloc(); "{e}")?.as_str(),
+        "invalid length 1, expected a tuple of size 2 at line 1 column 1"
+    );
     Ok(())
 }
 

@@ -1,5 +1,6 @@
 ghost use Rattle.std.specs.Prelude.{◌≡◌, Some};
 
+use crate::output::write_whole;
 use crate::{Serialize, Serializer, to_string, to_writer};
 use json5_text::ErrorCode;
 use json5_text::cow_str::CowStr;
@@ -67,6 +68,18 @@ fn writes<T: Serialize>(alloc: Global, value: &T, wanted: &str) -> Result<bool, 
     let mut bytes = Vec::new(alloc);
     to_writer(&mut bytes, value)?;
     Ok(text.as_str() == wanted && bytes.as_slice() == wanted.as_bytes())
+}
+
+#[test]
+fn pieces_are_written_whole_or_up_to_a_failed_write(rt: HostRuntime) {
+    let mut slow = Slow::new(rt.alloc(), 2, 9);
+    assert!(rt; write_whole(&mut slow, "abcde".as_bytes()).is_ok());
+    assert_eq!(rt; slow.bytes.as_slice(), "abcde".as_bytes());
+    assert_eq!(rt; slow.calls, 3);
+    let mut short = Slow::new(rt.alloc(), 2, 1);
+    assert!(rt; write_whole(&mut short, "abcde".as_bytes()).is_err());
+    assert_eq!(rt; short.bytes.as_slice(), "ab".as_bytes());
+    assert_eq!(rt; short.calls, 2);
 }
 
 #[test]

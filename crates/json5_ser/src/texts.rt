@@ -1,6 +1,6 @@
 //! Whole texts.
 
-ghost use Rattle.std.specs.Prelude.{◌≡◌, Option, ℕ, List, string_bytes, IfOk, IfErr};
+ghost use Rattle.std.specs.Prelude.{string_bytes, IfOk, IfErr};
 ghost use Rattle.json5_ser.specs.Out.{out};
 ghost use Rattle.json5_ser.specs.Writes.{Writes, fresh, ended};
 ghost use Rattle.json5_ser.specs.Texts.{IsText, RefusesText};

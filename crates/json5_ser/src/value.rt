@@ -1,6 +1,5 @@
 //! Values of any kind, written.
 
-ghost use Rattle.std.specs.Prelude.{◌≡◌};
 ghost use Rattle.json5_grammar.specs.Numbers.{whole};
 ghost use Rattle.json5_ser.specs.WrittenTrees.{number};
 ghost use Rattle.json5_ser.specs.ValueTrees.{value_tree};

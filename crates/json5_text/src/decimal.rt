@@ -1,6 +1,6 @@
 //! Numbers of any count of decimal digits, kept as these digits.
 
-ghost use Rattle.std.specs.Prelude.{◌≡◌, ◌≤◌, ◌^◌, string_bytes, ◌++◌, ◌<◌, ◌↔◌, List, [], pos, neg_ℤ, ◌≤ℤ◌, reverse, length, replicate, IsSome, IfSome, IfOk, IfErr, OnErr, Some};
+ghost use Rattle.std.specs.Prelude.{◌≡◌, ◌≤◌, ◌^◌, string_bytes, ◌++◌, ◌<◌, ◌↔◌, pos, neg_ℤ, ◌≤ℤ◌, reverse, IsSome, IfSome, IfOk, IfErr, OnErr, Some};
 ghost use Rattle.std.specs.Fmt.{WritesOnOk};
 ghost use Rattle.json5_grammar.specs.Characters.{is_digit, Each};
 ghost use Rattle.json5_grammar.specs.Numbers as numbers;

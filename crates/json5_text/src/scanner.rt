@@ -1,6 +1,6 @@
 //! The scanner: the tokens of a text, one after another.
 
-ghost use Rattle.std.specs.Prelude.{◌≡◌, ℕ, Bool, List, [], ◌∷◌, ◌++◌, true, false, ◌==◌, ◌⊎◌, length, take, drop, Some, None, string_bytes, slice_get, IsTrue, OnOk, OnErr, IfOk, IfErr, IsOk};
+ghost use Rattle.std.specs.Prelude.{◌≡◌, ℕ, Bool, List, [], ◌∷◌, ◌++◌, true, false, ◌==◌, ◌⊎◌, length, drop, Some, None, string_bytes, slice_get, IsTrue, OnOk, OnErr, IfOk, IfErr, IsOk};
 ghost use Rattle.std.specs.Str.{all_scalars, chars, encode_utf8_all};
 ghost use Rattle.json5_grammar.specs.Characters.{NotBegun};
 ghost use Rattle.json5_grammar.specs.Blanks.{Gap, Solid};
@@ -12,7 +12,7 @@ ghost use Rattle.json5_grammar.specs.Stops.{lengthens};
 ghost use Rattle.json5_text.specs.NumberViews.{number_of, keeps_digits};
 ghost use Rattle.json5_text.specs.Cows.{cow_bytes, is_borrowed};
 ghost use Rattle.json5_grammar.specs.Positions.{position_behind};
-ghost use Rattle.json5_text.specs.Errors.{Kind, code, kind_of, place_of};
+ghost use Rattle.json5_text.specs.Errors.{code};
 ghost use Rattle.json5_text.specs.Cursor.{Cursor, offset_of, Refused, Took, Behind, Says, IsOutOfMemory};
 ghost use Rattle.json5_text.specs.Tokens.{FaultyBlanks, FaultyName, FaultyNumber, FaultyString, FaultyWord};
 ghost use Rattle.json5_text.specs.Scan.{InText, Leaves, InUnread, IsWhere, IsThere, MadeOf};

@@ -32,6 +32,20 @@ fn tokens_are_taken_from_the_front(rt: HostRuntime) -> Result<(), Fail> {
     Ok(())
 }
 
+/// The position of what is unread.
+fn position_here(scanner: &Scanner<&str>) -> Position {
+    scanner.position_of(scanner.offset())
+}
+
+#[test]
+fn offsets_have_positions(rt: HostRuntime) {
+    let mut scanner = Scanner::new(rt.alloc(), "\n /*\u{e9}*/ null");
+    assert_eq!(rt; position_here(&scanner), place(0, 0));
+    assert!(rt; scanner.skip_blank().is_ok());
+    assert_eq!(rt; position_here(&scanner), place(1, 7));
+    assert_eq!(rt; scanner.position_at(scanner.offset()), place(1, 7));
+}
+
 /// The fault of a text at which blanks are awaited.
 fn blank_fault(rt: &HostRuntime, text: &'static str) -> Option<Error> {
     Scanner::new(rt.alloc(), text).skip_blank().err()

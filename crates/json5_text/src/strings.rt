@@ -1,6 +1,6 @@
 //! Strings (JSON5 section 5, ECMAScript 5.1 section 7.8.4).
 
-ghost use Rattle.std.specs.Prelude.{◌≡◌, List, ℕ, Bool, true, false, ◌∷◌, ◌++◌, MatchResult, IfOk, IfErr, OnOk, length, string_bytes};
+ghost use Rattle.std.specs.Prelude.{◌≡◌, List, ℕ, Bool, true, false, ◌∷◌, ◌++◌, MatchResult, IfOk, IfErr, OnOk, string_bytes};
 ghost use Rattle.std.specs.Str.{IsUtf8, chars, encode_utf8_all};
 ghost use Rattle.json5_grammar.specs.Characters.{NotBegun, Each};
 ghost use Rattle.json5_grammar.specs.Reading.{got};

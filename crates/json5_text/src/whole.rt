@@ -1,6 +1,6 @@
 //! Whole numbers of 128 bits, signed or not.
 
-ghost use Rattle.std.specs.Prelude.{◌≡◌, ◌^◌, ◌≤◌, ◌↔◌, Bool, true, ℤ, pos, neg_ℤ, ◌≤ℤ◌, ◌<ℤ◌, IsTrue, IsSome, IfSome, Some};
+ghost use Rattle.std.specs.Prelude.{◌≡◌, ◌^◌, ◌≤◌, ◌↔◌, ℤ, pos, ◌≤ℤ◌, ◌<ℤ◌, IsSome, IfSome, Some};
 ghost use Rattle.std.specs.Fmt.{signed_decimal};
 ghost use Rattle.json5_grammar.specs.Numbers.{signed, InWhole};
 

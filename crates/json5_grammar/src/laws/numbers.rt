@@ -1,5 +1,5 @@
 //! The laws of numbers, each the contract of a function that does nothing.
-ghost use Rattle.std.specs.Prelude.{◌≡◌, ◌⊎◌, ℕ, Bool, ◌||◌, ℤ, List, ◌++◌, Option};
+ghost use Rattle.std.specs.Prelude.{◌≡◌, ◌⊎◌, ℕ, ◌||◌, ℤ, List, ◌++◌, Option};
 ghost use Rattle.std.specs.Fmt.{signed_decimal};
 ghost use Rattle.json5_grammar.specs.Characters.{Begun, NotBegun};
 ghost use Rattle.json5_grammar.specs.Codes.{ErrorCode, Shown, by_char};

@@ -30,8 +30,7 @@ returns-in_err-start g c =
 pub returns : goal.returns
 returns g c =
     let first = within c.set_failed.new.self false in
-    let opened : Opened c.args.self.now first = search rules in
-    (
+    let opened : Opened c.args.self.now first = search rules in (
       (refl, λ w. refl, tt),
       record {
         lends = tt;

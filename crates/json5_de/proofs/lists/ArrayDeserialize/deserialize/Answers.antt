@@ -7,7 +7,7 @@ use Rattle.json5_grammar.specs.Trees.{array}
 use Rattle.json5_de.specs.Law.{TookValue}
 use Rattle.json5_de.specs.ConvertLists.{exactly}
 use Rattle.json5_de.specs.Access.{within, ElementsLeft}
-use Rattle.json5_de.proofs.ManyElements.{array_only, next_refused, others_left, none_left, none_yet, one_more, exactly_parts, exactly_from, no_value, no_member, counted_more}
+use Rattle.json5_de.proofs.ManyElements.{is_array, next_refused, others_left, none_left, none_yet, one_more, exactly_parts, exactly_from, no_value, no_member, counted_more}
 use Rattle.json5_de.proofs.lists.ArrayDeserialize.deserialize.Goals as goal
 
 pub loop-alloc-init : goal.loop-alloc-init
@@ -24,7 +24,7 @@ loop-alloc-init g c =
 
 pub returns-in_err-item-clause-complete : goal.returns-in_err-item-clause-complete
 returns-in_err-item-clause-complete g c t r v live reads shallow converts =
-    let (ts, is_all, list, deep) = array_only (exactly g.row.N g.T.Deserialize.convert) c.args.de.now t r v reads shallow converts in
+    let (ts, is_all, list, deep) = is_array (exactly g.row.N g.T.Deserialize.convert) c.args.de.now t r v reads shallow converts in
     let (are, count) = exactly_parts g.T.Deserialize.convert g.row.N ts v is_all in
     let (w, fewer) = c.loop-alloc.invariant.left ts r v are count (c.in_ok-seq.ensures.left ts r live list deep) in
     let (error, is, from) = err_from_is_err_and c.from_residual-in_err-item.result c.from_residual-in_err-item.ensures.1 in
@@ -35,7 +35,7 @@ returns-in_default-clause-complete g c t r v live reads shallow converts =
     let new = within c.next_element.new.self.de.now c.next_element.new.self.failed in
     let test = c.loop-alloc-test.true in
     let len = c.len.ensures in
-    let (ts, is_all, list, deep) = array_only (exactly g.row.N g.T.Deserialize.convert) c.args.de.now t r v reads shallow converts in
+    let (ts, is_all, list, deep) = is_array (exactly g.row.N g.T.Deserialize.convert) c.args.de.now t r v reads shallow converts in
     let (are, count) = exactly_parts g.T.Deserialize.convert g.row.N ts v is_all in
     let (w, fewer) = c.loop-alloc.invariant.left ts r v are count (c.in_ok-seq.ensures.left ts r live list deep) in
     let (none, left) = none_left g.T.Deserialize.content g.T.Deserialize.convert w.trees r c.next_element.new.self.due new (rw c.in_default.is at c.in_ok-item.ensures.left w.trees r w.left) in
@@ -77,7 +77,7 @@ returns-in_err-end-clause-complete g c t r v live reads shallow converts =
     let old = within c.loop-alloc.seq.de.now c.loop-alloc.seq.failed in
     let test = c.loop-alloc-test.false in
     let len = c.len.ensures in
-    let (ts, is_all, list, deep) = array_only (exactly g.row.N g.T.Deserialize.convert) c.args.de.now t r v reads shallow converts in
+    let (ts, is_all, list, deep) = is_array (exactly g.row.N g.T.Deserialize.convert) c.args.de.now t r v reads shallow converts in
     let (are, count) = exactly_parts g.T.Deserialize.convert g.row.N ts v is_all in
     let (w, fewer) = c.loop-alloc.invariant.left ts r v are count (c.in_ok-seq.ensures.left ts r live list deep) in
     let none = no_value g.T.Deserialize.convert w.trees w.values w.are (omega (arith, test, len, fewer)) in

@@ -5,7 +5,7 @@ use Rattle.json5_grammar.specs.Trees.{array}
 use Rattle.json5_grammar.specs.Members.{contents}
 use Rattle.json5_de.specs.Law.{TookValue}
 use Rattle.json5_de.specs.Access.{within}
-use Rattle.json5_de.proofs.ManyElements.{array_only, next_refused, others_left, none_left, none_yet, one_more}
+use Rattle.json5_de.proofs.ManyElements.{is_array, next_refused, others_left, none_left, none_yet, one_more}
 use Rattle.json5_de.proofs.lists.VecDeserialize.deserialize.Goals as goal
 
 pub loop-seq-init : goal.loop-seq-init
@@ -18,7 +18,7 @@ loop-seq-init g c = record {
 
 pub returns-in_err-item-clause-complete : goal.returns-in_err-item-clause-complete
 returns-in_err-item-clause-complete g c t r v live reads shallow converts =
-    let (ts, are, list, deep) = array_only (contents g.T.Deserialize.convert) c.args.de.now t r v reads shallow converts in
+    let (ts, are, list, deep) = is_array (contents g.T.Deserialize.convert) c.args.de.now t r v reads shallow converts in
     let w = c.loop-seq.invariant.left ts r v are (c.in_ok-seq.ensures.left ts r live list deep) in
     let (error, is, from) = err_from_is_err_and c.from_residual-in_err-item.result c.from_residual-in_err-item.ensures.1 in
     rw (is, from) (next_refused g.T.Deserialize.content g.T.Deserialize.convert w.trees r c.next_element.new.self.due (within c.next_element.new.self.de.now c.next_element.new.self.failed) _ w.values w.are (c.in_err-item.ensures.left w.trees r w.left))
@@ -45,7 +45,7 @@ loop-seq-preserved g c =
 pub returns-in_err-end-clause-complete : goal.returns-in_err-end-clause-complete
 returns-in_err-end-clause-complete g c t r v live reads shallow converts =
     let new = within c.next_element.new.self.de.now c.next_element.new.self.failed in
-    let (ts, are, list, deep) = array_only (contents g.T.Deserialize.convert) c.args.de.now t r v reads shallow converts in
+    let (ts, are, list, deep) = is_array (contents g.T.Deserialize.convert) c.args.de.now t r v reads shallow converts in
     let w = c.loop-seq.invariant.left ts r v are (c.in_ok-seq.ensures.left ts r live list deep) in
     let (none, left) = none_left g.T.Deserialize.content g.T.Deserialize.convert w.trees r c.next_element.new.self.due new (rw c.in_default.is at c.in_ok-item.ensures.left w.trees r w.left) in
     absurd (false≢true (c.in_err-end.ensures.left r left))
