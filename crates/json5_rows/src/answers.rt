@@ -1,0 +1,133 @@
+//! What calls answer, as text. Values are printed as Rust's `Debug` prints them, but for decimals.
+
+use json5::{Decimal, Error, Position, Result, Value};
+use std::alloc::{AllocError, Global};
+use std::fmt::{self, Debug};
+
+/// The text of what a call gives, or its fault.
+pub type Answer = Result<String>;
+
+/// The text of what was given.
+pub fn shown<T: Debug + Drop>(alloc: Global, given: Result<T>) -> Answer {
+    let value = given?;
+    Ok(format!(in alloc; "{value:?}")?)
+}
+
+/// The fault of a row that names nothing known.
+pub fn unknown(alloc: Global) -> Answer {
+    Err(Error::custom(alloc, "no such type or call")?)
+}
+
+/// The answer, its fault as it is printed: `expected comma at line 1 column 4`.
+pub fn by_message(alloc: Global, answer: Answer) -> std::result::Result<String, AllocError> {
+    match answer {
+        Ok(text) => Ok(text),
+        Err(error) => format!(in alloc; "{error}"),
+    }
+}
+
+/// The answer, its fault by code and place: `ExpectedComma at 0:3`.
+pub fn by_code(alloc: Global, answer: Answer) -> std::result::Result<String, AllocError> {
+    match answer {
+        Ok(text) => Ok(text),
+        Err(error) => code_and_place(alloc, &error),
+    }
+}
+
+fn code_and_place(alloc: Global, error: &Error) -> std::result::Result<String, AllocError> {
+    let cause = cause(alloc, error)?;
+    match error.position() {
+        Some(position) => {
+            let place = place(alloc, position)?;
+            format!(in alloc; "{cause} at {place}")
+        }
+        None => format!(in alloc; "{cause} no place"),
+    }
+}
+
+fn cause(alloc: Global, error: &Error) -> std::result::Result<String, AllocError> {
+    let message = error.message();
+    match error.code() {
+        Some(code) => format!(in alloc; "{code:?}"),
+        None => format!(in alloc; "custom {message:?}"),
+    }
+}
+
+/// The line and the column, counted from 0.
+pub fn place(alloc: Global, position: Position) -> std::result::Result<String, AllocError> {
+    let Position { line, column } = position;
+    format!(in alloc; "{line}:{column}")
+}
+
+/// The answers of several calls, with `; ` between them.
+#[derive(Drop)]
+pub struct Answers {
+    alloc: Global,
+    text: String,
+}
+
+impl Answers {
+    pub fn new(alloc: Global) -> Answers {
+        Answers {
+            alloc,
+            text: String::new(alloc),
+        }
+    }
+
+    /// One more answer.
+    pub fn push(&mut self, answer: Answer) -> std::result::Result<(), AllocError> {
+        let answer = by_code(self.alloc, answer)?;
+        self.push_text(answer.as_str())
+    }
+
+    /// One more answer of one's own words.
+    pub fn push_text(&mut self, text: &str) -> std::result::Result<(), AllocError> {
+        if !self.text.is_empty() {
+            self.text.push_str("; ")?;
+        }
+        self.text.push_str(text)
+    }
+
+    pub fn into_text(self) -> String {
+        self.text
+    }
+}
+
+/// A decimal by its digits and its exponent: `-15e-1`; zero has no digits.
+#[derive(Drop)]
+pub struct Digits(pub Decimal);
+
+impl Debug for Digits {
+    fn fmt<W: fmt::Write>(&self, f: &mut fmt::Formatter<W>) -> fmt::Result {
+        write_digits(&self.0, f)
+    }
+}
+
+fn write_digits<W: fmt::Write>(decimal: &Decimal, f: &mut fmt::Formatter<W>) -> fmt::Result {
+    let sign = if decimal.is_negative() { "-" } else { "" };
+    if decimal.is_infinite() {
+        return write!(f, "{sign}infinity");
+    }
+    if decimal.is_nan() {
+        return write!(f, "{sign}not a number");
+    }
+    let digits = decimal.digits();
+    let exponent = decimal.exponent();
+    write!(f, "{sign}{digits}e{exponent}")
+}
+
+/// A value of any kind: `null`, a truth, a whole number, a decimal by its digits, or a text in quotes.
+#[derive(Drop)]
+pub struct Any(pub Value);
+
+impl Debug for Any {
+    fn fmt<W: fmt::Write>(&self, f: &mut fmt::Formatter<W>) -> fmt::Result {
+        match &self.0 {
+            Value::Null => f.write_str("null"),
+            Value::Bool(truth) => write!(f, "{truth}"),
+            Value::Whole(number) => write!(f, "{number}"),
+            Value::Decimal(decimal) => write_digits(decimal, f),
+            Value::String(text) => write!(f, "{text:?}"),
+        }
+    }
+}

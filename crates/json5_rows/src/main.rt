@@ -1,0 +1,26 @@
+//! Answers rows of calls of the library, which are its tests: stdin has the rows, and stdout what each must answer.
+#![tactic(auto)]
+
+mod answers;
+mod reads;
+mod rows;
+mod scans;
+mod sequences;
+mod spelling;
+mod texts;
+mod writes;
+
+use std::io::{self, BufRead, BufReader, BufWriter, Write};
+
+fn main(rt: HostRuntime) -> io::Result<()> {
+    let alloc = rt.alloc();
+    let mut output = BufWriter::new(alloc, rt.stdout())?;
+    for line in BufReader::new(alloc, rt.stdin())?.lines(alloc) {
+        let line = line?;
+        if rows::is_row(line.as_str()) {
+            let answer = rows::answer_of(alloc, line.as_str())?;
+            writeln!(output, "{line} => {answer}")?;
+        }
+    }
+    output.flush()
+}

@@ -1,0 +1,75 @@
+//! Reading a text as a type.
+
+use crate::answers::{Answer, Any, Digits, shown, unknown};
+use json5::{CowStr, Deserialize, from_str};
+use json5_own_type::{Bounds, Point, Port};
+use std::alloc::Global;
+use std::fmt::Debug;
+
+/// Answers at the type that has this name; else goes on.
+macro_rules! read_as {
+    ($name:ident, $alloc:ident, $text:ident; $($t:ty),* $(,)?) => {
+        $(if $name == stringify!($t) {
+            return read_value::<$t>($alloc, $text);
+        })*
+    };
+}
+
+fn read_value<'de, T: Deserialize<&'de str> + Debug>(alloc: Global, text: &'de str) -> Answer {
+    shown(alloc, from_str::<T>(alloc, text))
+}
+
+/// What reading the text as the type with this name gives.
+pub fn read(alloc: Global, name: &str, text: &str) -> Answer {
+    match name {
+        "Decimal" => shown(alloc, from_str(alloc, text).map(Digits)),
+        "Value" => shown(alloc, from_str(alloc, text).map(Any)),
+        "Port" => shown(alloc, from_str(alloc, text).map(|Port { number }| number)),
+        _ => read_integer(alloc, name, text),
+    }
+}
+
+fn read_integer(alloc: Global, name: &str, text: &str) -> Answer {
+    read_as!(name, alloc, text; u8, u16, u32, u64, u128, i8, i16, i32, i64, i128);
+    read_scalar(alloc, name, text)
+}
+
+fn read_scalar(alloc: Global, name: &str, text: &str) -> Answer {
+    read_as!(name, alloc, text; (), bool, char, &str, CowStr, String);
+    read_list(alloc, name, text)
+}
+
+fn read_list(alloc: Global, name: &str, text: &str) -> Answer {
+    read_as!(name, alloc, text; Vec<i32>, Vec<char>, Vec<()>, Vec<&str>, Vec<Vec<i32>>);
+    read_array(alloc, name, text)
+}
+
+fn read_array(alloc: Global, name: &str, text: &str) -> Answer {
+    read_as!(name, alloc, text; [i32; 0], [bool; 0], [char; 1], [i32; 2], [i32; 3], Vec<[u8; 2]>);
+    read_option(alloc, name, text)
+}
+
+fn read_option(alloc: Global, name: &str, text: &str) -> Answer {
+    read_as!(name, alloc, text; Option<bool>, Option<Option<bool>>, Option<(i32,)>, Vec<Option<&str>>);
+    read_tuple(alloc, name, text)
+}
+
+fn read_tuple(alloc: Global, name: &str, text: &str) -> Answer {
+    read_as!(name, alloc, text; (i32,), (i32, i32), (i32, i32, i32), (char, i32, &str));
+    read_as!(name, alloc, text; (u8, bool, u8, bool), Vec<(i32,)>, Vec<(u8, u8, u8, u8)>);
+    read_pair(alloc, name, text)
+}
+
+fn read_pair(alloc: Global, name: &str, text: &str) -> Answer {
+    match name {
+        "Bounds<i32>" => shown(
+            alloc,
+            from_str::<Bounds<i32>>(alloc, text).map(|b| (b.low, b.high)),
+        ),
+        "Point<&str>" => shown(
+            alloc,
+            from_str::<Point<&str>>(alloc, text).map(|p| (p.x, p.y)),
+        ),
+        _ => unknown(alloc),
+    }
+}

@@ -1,0 +1,39 @@
+//! Rows, and the call that each names.
+
+use crate::answers::{Answer, by_code, by_message};
+use crate::spelling::{shortened, unescaped};
+use crate::{reads, scans, sequences, texts, writes};
+use std::alloc::{AllocError, Global};
+
+/// Whether the line is a row: neither blank nor a comment.
+pub fn is_row(line: &str) -> bool {
+    !line.is_empty() && !line.starts_with('#')
+}
+
+/// What the row's call answers, long runs of zeros shortened.
+pub fn answer_of(alloc: Global, row: &str) -> Result<String, AllocError> {
+    let (call, spelled) = row.split_once('|').unwrap_or((row, ""));
+    let text = unescaped(alloc, spelled)?;
+    let answer = match call.strip_prefix("printed ") {
+        Some(call) => by_message(alloc, answer(alloc, call, text.as_str()))?,
+        None => by_code(alloc, answer(alloc, call, text.as_str()))?,
+    };
+    shortened(alloc, answer.as_str())
+}
+
+/// Makes the call; one without a name is a reading of the type.
+fn answer(alloc: Global, call: &str, text: &str) -> Answer {
+    let (name, words) = call.split_once(' ').unwrap_or((call, ""));
+    match name {
+        "write" => writes::write(alloc, words, text),
+        "display" => writes::display(alloc, text),
+        "format" => json5::format(alloc, text),
+        "sequence" => sequences::sequence(alloc, words, text),
+        "scan" => scans::scan(alloc, words, text),
+        "position" => texts::position(alloc, words, text),
+        "finite" => texts::finite(alloc, words, text),
+        "escape" => texts::escaped(alloc, words, text),
+        "characters" => texts::characters(alloc, words, text),
+        _ => reads::read(alloc, call, text),
+    }
+}

@@ -1,0 +1,62 @@
+//! Calls of one scanner, one after another: `scan blank eat[ number peek|TEXT`.
+
+use crate::answers::{Answer, Answers, Any, place, shown, unknown};
+use json5::{ErrorCode, Result, Value};
+use json5_text::number::Number;
+use json5_text::scanner::Scanner;
+use std::alloc::Global;
+
+/// What each call answers.
+pub fn scan(alloc: Global, names: &str, text: &str) -> Answer {
+    let mut scanner = Scanner::new(alloc, text);
+    let mut answers = Answers::new(alloc);
+    for name in names.split_whitespace() {
+        answers.push(call(&mut scanner, name))?;
+    }
+    Ok(answers.into_text())
+}
+
+fn call(scanner: &mut Scanner<&str>, name: &str) -> Answer {
+    let alloc = scanner.allocator();
+    match name {
+        "blank" => shown(alloc, scanner.skip_blank()),
+        "null" => shown(alloc, null(scanner)),
+        "number" => shown(alloc, scanner.number().map(any)),
+        "string" => shown(alloc, scanner.string()),
+        "string_owned" => shown(alloc, scanner.string_owned()),
+        "identifier" => shown(alloc, scanner.identifier()),
+        _ => look(scanner, name),
+    }
+}
+
+/// Calls that can't be refused.
+fn look(scanner: &mut Scanner<&str>, name: &str) -> Answer {
+    let alloc = scanner.allocator();
+    match name {
+        "peek" => shown(alloc, Ok(scanner.peek())),
+        "offset" => shown(alloc, Ok(scanner.offset())),
+        "place" => Ok(place(alloc, scanner.position_at(scanner.offset()))?),
+        _ => match name.strip_prefix("eat") {
+            Some(c) => shown(alloc, Ok(eat(scanner, c))),
+            None => unknown(alloc),
+        },
+    }
+}
+
+fn eat(scanner: &mut Scanner<&str>, text: &str) -> bool {
+    match text.chars().next() {
+        Some(c) => scanner.eat(c),
+        None => false,
+    }
+}
+
+fn null(scanner: &mut Scanner<&str>) -> Result<()> {
+    scanner.word("null", ErrorCode::EofParsingNull, ErrorCode::ExpectedNull)
+}
+
+fn any(number: Number) -> Any {
+    match number {
+        Number::Whole(whole) => Any(Value::Whole(whole)),
+        Number::Decimal(decimal) => Any(Value::Decimal(decimal)),
+    }
+}
