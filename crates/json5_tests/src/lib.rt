@@ -1,0 +1,13 @@
+//! Tests of the library that need code of their own. All others are the rows of json5_rows.
+#![tactic(auto)]
+
+#[cfg(test)]
+mod brackets;
+#[cfg(test)]
+mod errors;
+#[cfg(test)]
+mod readers;
+#[cfg(test)]
+mod values;
+#[cfg(test)]
+mod writers;

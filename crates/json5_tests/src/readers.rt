@@ -1,0 +1,54 @@
+//! Readers: what outlives them, and what they answer once an access was dropped.
+
+use json5::{CowStr, Deserializer, Error, ErrorCode, Result};
+use json5_own_type::gives_up;
+use json5_text::scanner::Scanner;
+use std::alloc::Global;
+use std::test::Fail;
+
+/// Two slices of the text, from a reader that is gone.
+fn read_slices<'de>(alloc: Global, text: &'de str) -> Result<(&'de str, CowStr<'de>)> {
+    let mut de = Deserializer::from_str(alloc, text);
+    Ok((de.deserialize_str()?, de.deserialize_identifier()?))
+}
+
+/// A string's slice of the text and a name's, from a scanner that is gone.
+fn scanned_slices<'de>(alloc: Global, text: &'de str) -> Result<(CowStr<'de>, CowStr<'de>)> {
+    let mut scanner = Scanner::new(alloc, text);
+    let first = scanner.string()?;
+    scanner.skip_blank()?;
+    Ok((first, scanner.identifier()?))
+}
+
+/// Whether slices of the text outlive a reader and a scanner.
+fn slices_are_kept(alloc: Global) -> Result<bool> {
+    let (first, second) = read_slices(alloc, "'kept' 'too'")?;
+    let (third, fourth) = scanned_slices(alloc, "'kept' too:")?;
+    Ok(
+        first == "kept"
+            && second.as_str() == "too"
+            && third.as_str() == "kept"
+            && fourth.as_str() == "too",
+    )
+}
+
+#[test]
+fn slices_outlive_their_reader(rt: HostRuntime) -> std::result::Result<(), Fail> {
+    assert!(rt; slices_are_kept(rt.alloc())?);
+    Ok(())
+}
+
+/// Whether a reader whose access was dropped refuses, and still has its allocator.
+fn fails_when_dropped(alloc: Global) -> Result<bool> {
+    let mut de = Deserializer::from_str(alloc, "[true, false]");
+    gives_up(&mut de)?;
+    let refused = de.deserialize_bool() == Err(Error::new(ErrorCode::Failed));
+    let text = String::from_str(de.allocator(), "given")?;
+    Ok(refused && text.as_str() == "given")
+}
+
+#[test]
+fn a_dropped_access_leaves_its_reader_failed(rt: HostRuntime) -> std::result::Result<(), Fail> {
+    assert!(rt; fails_when_dropped(rt.alloc())?);
+    Ok(())
+}

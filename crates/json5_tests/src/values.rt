@@ -1,0 +1,72 @@
+//! Numbers and texts: conversions, clones, equality, order and hashes.
+
+use json5::{CowStr, Decimal, Result, Whole, from_str};
+use std::alloc::Global;
+use std::cmp::Ordering;
+use std::hash::{DefaultHasher, Hash, Hasher};
+use std::test::Fail;
+
+fn hash_of<T: Hash>(value: &T) -> u64 {
+    let mut state = DefaultHasher::new();
+    value.hash(&mut state);
+    state.finish()
+}
+
+/// Whether a whole number is these of the two types.
+fn is_both(number: Whole, unsigned: Option<u128>, signed: Option<i128>) -> bool {
+    number.as_u128() == unsigned && number.as_i128() == signed
+}
+
+#[test]
+fn whole_numbers_tell_their_ranges(rt: HostRuntime) {
+    assert!(rt; is_both(Whole::from_u128(u128::MAX), Some(u128::MAX), None));
+    assert!(rt; is_both(Whole::from_i128(i128::MIN), None, Some(i128::MIN)));
+    assert!(rt; is_both(Whole::from_i128(7), Some(7), Some(7)));
+}
+
+/// Whether decimals that are written in two ways are equal and hash alike.
+fn are_alike(alloc: Global, first: &str, second: &str) -> Result<bool> {
+    let first = from_str::<Decimal>(alloc, first)?;
+    let second = from_str::<Decimal>(alloc, second)?;
+    Ok(first == second && hash_of(&first) == hash_of(&second))
+}
+
+/// Whether the clone of a decimal is equal to it.
+fn clones_alike(alloc: Global, text: &str) -> Result<bool> {
+    let decimal = from_str::<Decimal>(alloc, text)?;
+    let copy = decimal.clone(alloc)?;
+    Ok(copy == decimal && hash_of(&copy) == hash_of(&decimal))
+}
+
+#[test]
+fn equal_decimals_hash_alike(rt: HostRuntime) -> std::result::Result<(), Fail> {
+    for (first, second) in [("1.50", "15e-1"), ("0e9", "0.0"), ("+NaN", "NaN")] {
+        assert!(rt;
+            are_alike(rt.alloc(), first, second)?,
+            "{first} and {second}"
+        );
+    }
+    for text in ["-1.50", "-Infinity", "-NaN", "-0."] {
+        assert!(rt; clones_alike(rt.alloc(), text)?, "{text}");
+    }
+    Ok(())
+}
+
+/// Whether a borrowed and an owned text are equal, order alike and hash alike.
+fn compare_alike(alloc: Global) -> Result<bool> {
+    let borrowed = CowStr::Borrowed("key");
+    let owned = CowStr::Owned(String::from_str(alloc, "key")?);
+    let later = CowStr::Borrowed("kez");
+    Ok(
+        borrowed == owned
+            && owned.as_str() == "key"
+            && hash_of(&borrowed) == hash_of(&owned)
+            && later.cmp(&owned) == Ordering::Greater,
+    )
+}
+
+#[test]
+fn borrowed_and_owned_texts_compare_alike(rt: HostRuntime) -> std::result::Result<(), Fail> {
+    assert!(rt; compare_alike(rt.alloc())?);
+    Ok(())
+}

@@ -1,0 +1,146 @@
+//! Writing: the methods of a serializer, and writers that fail or take a part of what they are given.
+
+use json5::{
+    Decimal, Error, ErrorCode, Result, Serialize, Serializer, from_str, to_string, to_writer,
+};
+use json5_ser::output::write_whole;
+use std::alloc::Global;
+use std::io::{self, ErrorKind, Write};
+use std::test::Fail;
+
+/// Takes `step` bytes a call, and answers `Interrupted` once no call is left. It counts the calls.
+#[derive(Drop)]
+struct Slow {
+    bytes: Vec<u8>,
+    step: usize,
+    left: usize,
+    calls: usize,
+}
+
+impl Slow {
+    fn new(alloc: Global, step: usize, left: usize) -> Slow {
+        Slow {
+            bytes: Vec::new(alloc),
+            step,
+            left,
+            calls: 0,
+        }
+    }
+
+    fn was_given(&self, text: &str, calls: usize) -> bool {
+        self.bytes.as_slice() == text.as_bytes() && self.calls == calls
+    }
+}
+
+impl Write for Slow {
+    fn write(&mut self, buf: &[u8]) -> io::Result<usize> {
+        self.calls = self.calls.saturating_add(1);
+        if self.left == 0 {
+            return Err(io::Error::from(ErrorKind::Interrupted));
+        }
+        let count = self.step.min(buf.len());
+        self.bytes.extend_from_slice(&buf[..count])?;
+        self.left -= 1;
+        Ok(count)
+    }
+
+    fn flush(&mut self) -> io::Result<()> {
+        Ok(())
+    }
+}
+
+fn write_integers(ser: &mut Serializer<Vec<u8>>) -> Result<()> {
+    ser.serialize_u8(1)?;
+    ser.serialize_u16(2)?;
+    ser.serialize_u32(3)?;
+    ser.serialize_u64(4)?;
+    ser.serialize_u128(5)?;
+    ser.serialize_i8(-1)?;
+    ser.serialize_i16(-2)?;
+    ser.serialize_i32(-3)?;
+    ser.serialize_i64(-4)?;
+    ser.serialize_i128(-5)
+}
+
+fn write_others(ser: &mut Serializer<Vec<u8>>) -> Result<()> {
+    ser.serialize_unit()?;
+    ser.serialize_bool(true)?;
+    ser.serialize_char('a')?;
+    ser.serialize_str("b")?;
+    ser.serialize_decimal(&Decimal::infinity(true))
+}
+
+#[test]
+fn each_method_writes_its_value(rt: HostRuntime) -> std::result::Result<(), Fail> {
+    let mut ser = Serializer::new(Vec::new(rt.alloc()));
+    write_integers(&mut ser)?;
+    write_others(&mut ser)?;
+    let text = String::from_utf8(ser.into_inner())?;
+    assert_eq!(rt; text.as_str(), "12345-1-2-3-4-5nulltrue\"a\"\"b\"-Infinity");
+    Ok(())
+}
+
+/// Whether this is what is written of the value, to a text and to a writer.
+fn writes<T: Serialize>(alloc: Global, value: &T, wanted: &str) -> Result<bool> {
+    let text = to_string(alloc, value)?;
+    let mut bytes = Vec::new(alloc);
+    to_writer(&mut bytes, value)?;
+    Ok(text.as_str() == wanted && bytes.as_slice() == wanted.as_bytes())
+}
+
+#[test]
+fn a_writer_gets_the_text(rt: HostRuntime) -> std::result::Result<(), Fail> {
+    assert!(rt; writes(rt.alloc(), &"a\"", "'a\"'")?);
+    assert!(rt; writes(rt.alloc(), &&-7i8, "-7")?);
+    Ok(())
+}
+
+#[test]
+fn pieces_are_written_whole_or_up_to_a_failed_write(rt: HostRuntime) {
+    let mut slow = Slow::new(rt.alloc(), 2, 9);
+    assert!(rt; write_whole(&mut slow, b"abcde").is_ok() && slow.was_given("abcde", 3));
+    let mut short = Slow::new(rt.alloc(), 2, 1);
+    assert!(rt; write_whole(&mut short, b"abcde").is_err() && short.was_given("ab", 2));
+}
+
+fn failed_write() -> Error {
+    Error::from(io::Error::from(ErrorKind::WriteZero))
+}
+
+/// Whether a writer that takes one byte a call and fails after so many was given this text, and no call after the one that failed.
+fn ends_with(alloc: Global, count: usize, text: &str) -> bool {
+    let mut ser = Serializer::new(Slow::new(alloc, 1, count));
+    let stopped = ser.serialize_str("abc") == Err(failed_write());
+    let refused = ser.serialize_unit() == Err(Error::new(ErrorCode::Failed));
+    let slow = ser.into_inner();
+    stopped && refused && slow.was_given(text, text.len() + 1)
+}
+
+#[test]
+fn a_failed_write_ends_the_text(rt: HostRuntime) {
+    for (count, text) in ["", "\"", "\"a", "\"ab", "\"abc"].iter().enumerate() {
+        assert!(rt; ends_with(rt.alloc(), count, text), "{text}");
+    }
+}
+
+#[test]
+fn a_writer_that_takes_nothing_fails(rt: HostRuntime) {
+    let mut slow = Slow::new(rt.alloc(), 0, 9);
+    assert!(rt; to_writer(&mut slow, &"abc") == Err(failed_write()) && slow.was_given("", 1));
+}
+
+/// How many bytes are written of the value, and in how many calls.
+fn writes_of<T: Serialize>(alloc: Global, value: &T) -> Result<(usize, usize)> {
+    let mut slow = Slow::new(alloc, usize::MAX, usize::MAX);
+    to_writer(&mut slow, value)?;
+    Ok((slow.bytes.len(), slow.calls))
+}
+
+#[test]
+fn long_stretches_take_few_writes(rt: HostRuntime) -> std::result::Result<(), Fail> {
+    let stretches = writes_of(rt.alloc(), &"one stretch, \n and another")?;
+    assert_eq!(rt; stretches, (29, 5));
+    let zeros = writes_of(rt.alloc(), &from_str::<Decimal>(rt.alloc(), "1e1000")?)?;
+    assert_eq!(rt; zeros, (1003, 18));
+    Ok(())
+}
