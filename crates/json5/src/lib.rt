@@ -6,9 +6,6 @@
 //! ```
 #![tactic(auto)]
 
-#[cfg(test)]
-mod tests;
-
 ghost use Rattle.std.specs.Prelude.{◌≡◌, IfOk, IfErr, MatchResult, Some, string_bytes};
 ghost use Rattle.std.specs.Str.{chars};
 ghost use Rattle.json5_grammar.specs.Trees.{Tree};

@@ -10,8 +10,6 @@ mod mismatch;
 mod option;
 mod scalars;
 mod seq;
-#[cfg(test)]
-mod tests;
 mod text;
 mod texts;
 mod tuples;

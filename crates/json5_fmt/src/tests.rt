@@ -1,63 +1,52 @@
-//! What is written on standard error, and runs over writers that fail.
+//! What is written on standard error, and runs over readers and writers that fail.
 use crate::reports::{report, usage};
 use crate::run::run;
 use crate::stop::Stop;
 use json5_text::error::Error;
 use json5_text::{ErrorCode, Position};
-use std::alloc::{AllocError, Global};
+use std::alloc::Global;
 use std::io::{self, Read, Write};
 use std::test::Fail;
 
-/// A writer that takes one byte a call and fails at one call.
-#[derive(Drop)]
-struct Slow {
-    bytes: Vec<u8>,
-    calls: usize,
-    fails_at: usize,
-}
-
-impl Write for Slow {
-    ghost use Rattle.std.specs.Prelude.{Some};
-
-    ghost contents = { λ w. Some w.bytes.items };
-
-    fn write(&mut self, buf: &[u8]) -> io::Result<usize> {
-        self.calls = self.calls.saturating_add(1);
-        if self.calls == self.fails_at {
-            return Err(io::Error::new(io::ErrorKind::Other, "no"));
-        }
-        match buf.first() {
-            None => Ok(0),
-            Some(byte) => {
-                self.bytes.push(*byte)?;
-                Ok(1)
-            }
-        }
+/// The line of each cause and of the usage, and the status that it ends with on a line of its own.
+fn lines(alloc: Global) -> Result<String, Fail> {
+    let place = Position { line: 0, column: 3 };
+    let stops = [
+        Stop::Text(Error::new_at(place, ErrorCode::ExpectedComma)),
+        Stop::Text(Error::new(ErrorCode::EofParsingValue)),
+        Stop::NotUtf8,
+        Stop::NoMemory,
+        Stop::Read,
+        Stop::Write,
+    ];
+    let mut lines = Vec::new(alloc);
+    for stop in &stops {
+        let status = report("a.json5", stop, &mut lines);
+        writeln!(lines, "{status}")?;
     }
-
-    fn flush(&mut self) -> io::Result<()> {
-        Ok(())
-    }
+    let status = usage(&mut lines);
+    writeln!(lines, "{status}")?;
+    Ok(String::from_utf8(lines)?)
 }
 
 #[test]
-fn a_fault_is_one_line(rt: HostRuntime) -> Result<(), Fail> {
-    let comma = Error::new_at(Position { line: 0, column: 3 }, ErrorCode::ExpectedComma);
-    let mut lines = Vec::new(rt.alloc());
-    assert_eq!(rt; report("stdin", &Stop::Text(comma), &mut lines), 1);
-    let end = Error::new(ErrorCode::EofParsingValue);
-    assert_eq!(rt; report("a.json5", &Stop::Text(end), &mut lines), 1);
-    assert_eq!(rt; report("stdin", &Stop::NotUtf8, &mut lines), 1);
-    assert_eq!(rt; report("stdin", &Stop::NoMemory, &mut lines), 2);
-    assert_eq!(rt; report("stdin", &Stop::Read, &mut lines), 2);
-    assert_eq!(rt; report("stdin", &Stop::Write, &mut lines), 2);
-    assert_eq!(rt; usage(&mut lines), 2);
-    let text = String::from_utf8(lines)
-        .ok()
-        .unwrap_or(String::new(rt.alloc()));
+fn each_cause_has_its_line_and_status(rt: HostRuntime) -> Result<(), Fail> {
     assert_eq!(rt;
-        text.as_str(),
-        "stdin: expected comma at line 1 column 4\na.json5: EOF parsing value\nstdin: not UTF-8\nstdin: out of memory\nstdin: cannot be read\noutput: cannot be written\nusage: json5_fmt [check FILE... or print FILE...]\n"
+        lines(rt.alloc())?.as_str(),
+        "a.json5: expected comma at line 1 column 4\n\
+        1\n\
+        a.json5: EOF parsing value\n\
+        1\n\
+        a.json5: not UTF-8\n\
+        1\n\
+        a.json5: out of memory\n\
+        2\n\
+        a.json5: cannot be read\n\
+        2\n\
+        output: cannot be written\n\
+        2\n\
+        usage: json5_fmt [check FILE... or print FILE...]\n\
+        2\n"
     );
     Ok(())
 }
@@ -87,8 +76,8 @@ impl Read for Trickle<'_> {
     }
 }
 
-/// What the program writes for an input: its output, or its line on standard error.
-fn printed(alloc: Global, bytes: &[u8], fails_at: usize) -> Result<String, AllocError> {
+/// What a run over a reader that fails at this call writes: its output, or the line of its cause.
+fn printed(alloc: Global, bytes: &[u8], fails_at: usize) -> Result<String, Fail> {
     let mut input = Trickle {
         bytes,
         calls: 0,
@@ -98,40 +87,48 @@ fn printed(alloc: Global, bytes: &[u8], fails_at: usize) -> Result<String, Alloc
     if let Err(stop) = run(alloc, &mut input, &mut written) {
         report("stdin", &stop, &mut written);
     }
-    Ok(
-        String::from_utf8(written)
-            .ok()
-            .unwrap_or(String::new(alloc)),
-    )
+    Ok(String::from_utf8(written)?)
+}
+
+/// What the runs over these inputs write, one after another.
+fn printed_all(alloc: Global, inputs: &[&str]) -> Result<String, Fail> {
+    let mut text = String::new(alloc);
+    for input in inputs {
+        let output = printed(alloc, input.as_bytes(), 0)?;
+        text.push_str(output.as_str())?;
+    }
+    Ok(text)
 }
 
 #[test]
-fn formats_or_reports(rt: HostRuntime) -> Result<(), Fail> {
-    for (input, want) in [
-        (" /* n */ 0x10 // end", "16\n"),
-        ("\u{feff}'it\\'s'", "\"it's\"\n"),
-        ("1e3", "1000.0\n"),
-        ("nil", "stdin: expected null at line 1 column 2\n"),
-        ("", "stdin: EOF parsing value\n"),
-        (
-            "\n\n  true false",
-            "stdin: trailing characters at line 3 column 8\n",
-        ),
-        ("[1 2]", "stdin: expected value at line 1 column 1\n"),
-    ] {
-        let text = printed(rt.alloc(), input.as_bytes(), 0)?;
-        assert_eq!(rt; text.as_str(), want, "of {input}");
-    }
+fn a_document_is_formatted_and_another_text_is_reported(rt: HostRuntime) -> Result<(), Fail> {
+    let inputs = [
+        " /* n */ 0x10 // end",
+        "\u{feff}'it\\'s'",
+        "1e3",
+        "nil",
+        "",
+        "\n\n  true false",
+        "[1 2]",
+    ];
     assert_eq!(rt;
-        printed(rt.alloc(), b"\xff", 0)?.as_str(),
-        "stdin: not UTF-8\n"
+        printed_all(rt.alloc(), &inputs)?.as_str(),
+        "16\n\
+        \"it's\"\n\
+        1000.0\n\
+        stdin: expected null at line 1 column 2\n\
+        stdin: EOF parsing value\n\
+        stdin: trailing characters at line 3 column 8\n\
+        stdin: expected value at line 1 column 1\n"
     );
     Ok(())
 }
 
 #[test]
-fn a_failed_read_writes_nothing_else(rt: HostRuntime) -> Result<(), Fail> {
-    for fails_at in 1..5 {
+fn what_cannot_be_read_writes_nothing_else(rt: HostRuntime) -> Result<(), Fail> {
+    let bytes = printed(rt.alloc(), b"\xff", 0)?;
+    assert_eq!(rt; bytes.as_str(), "stdin: not UTF-8\n");
+    for fails_at in 1..6 {
         let text = printed(rt.alloc(), b"null", fails_at)?;
         assert_eq!(rt;
             text.as_str(),
@@ -142,27 +139,51 @@ fn a_failed_read_writes_nothing_else(rt: HostRuntime) -> Result<(), Fail> {
     Ok(())
 }
 
-#[test]
-fn a_failed_write_ends_the_run(rt: HostRuntime) -> Result<(), Fail> {
-    let mut slow = Slow {
-        bytes: Vec::new(rt.alloc()),
-        calls: 0,
-        fails_at: 3,
-    };
+/// A writer that takes one byte a call, and fails once it has so many.
+#[derive(Drop)]
+struct Slow {
+    bytes: Vec<u8>,
+    limit: usize,
+    calls: usize,
+}
+
+impl Write for Slow {
+    fn write(&mut self, buf: &[u8]) -> io::Result<usize> {
+        self.calls = self.calls.saturating_add(1);
+        if self.bytes.len() == self.limit {
+            return Err(io::Error::new(io::ErrorKind::Other, "no"));
+        }
+        match buf.first() {
+            None => Ok(0),
+            Some(byte) => {
+                self.bytes.push(*byte)?;
+                Ok(1)
+            }
+        }
+    }
+
+    fn flush(&mut self) -> io::Result<()> {
+        Ok(())
+    }
+}
+
+/// Whether a run over a writer that fails once it has this text ends with the call that failed.
+fn ends_after(alloc: Global, text: &str) -> bool {
     let mut input: &[u8] = b"null";
-    let result = run(rt.alloc(), &mut input, &mut slow);
-    assert!(rt; matches!(&result, Err(Stop::Write)));
-    assert_eq!(rt; slow.bytes.as_slice(), b"nu".as_slice());
-    assert_eq!(rt; slow.calls, 3);
-    Ok(())
+    let mut slow = Slow {
+        bytes: Vec::new(alloc),
+        limit: text.len(),
+        calls: 0,
+    };
+    let ended = run(alloc, &mut input, &mut slow);
+    matches!(ended, Err(Stop::Write))
+        && slow.bytes.as_slice() == text.as_bytes()
+        && slow.calls == text.len() + 1
 }
 
 #[test]
-fn bytes_that_are_no_text_write_nothing(rt: HostRuntime) -> Result<(), Fail> {
-    let mut output = Vec::new(rt.alloc());
-    let mut input: &[u8] = b"\xff";
-    let result = run(rt.alloc(), &mut input, &mut output);
-    assert!(rt; matches!(&result, Err(Stop::NotUtf8)));
-    assert!(rt; output.is_empty());
-    Ok(())
+fn a_failed_write_ends_the_run(rt: HostRuntime) {
+    for text in ["", "n", "nu", "nul", "null"] {
+        assert!(rt; ends_after(rt.alloc(), text), "{text}");
+    }
 }

@@ -4,5 +4,3 @@
 pub mod code;
 pub mod laws;
 pub mod position;
-#[cfg(test)]
-mod tests;

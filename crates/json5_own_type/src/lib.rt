@@ -1,9 +1,6 @@
 //! Types of one's own that are read from JSON5, proved lawful by what json5_de promises alone.
 #![tactic(auto)]
 
-#[cfg(test)]
-mod tests;
-
 ghost use Rattle.std.specs.Prelude.{◌≡◌, true};
 
 use json5_de::{Deserialize, Deserializer, SeqAccess};

@@ -8,8 +8,6 @@ pub mod output;
 mod quoting;
 mod serialize;
 mod serializer;
-#[cfg(test)]
-mod tests;
 mod texts;
 mod value;
 

@@ -130,15 +130,16 @@ fn printed_faults(alloc: Global) -> json5::Result<String> {
     let text = Error::custom(alloc, "missing field `a`")?;
     let number = Error::custom_at(alloc, SECOND, 17u8)?;
     let broken = Error::custom(alloc, Broken)?;
+    let owned = Error::from_text(String::from_str(alloc, "of mine")?);
     let write = Error::from(io::Error::from(ErrorKind::Interrupted));
-    Ok(format!(in alloc; "{bare}; {placed}; {text}; {number}; {broken}; {write}")?)
+    Ok(format!(in alloc; "{bare}; {placed}; {text}; {number}; {broken}; {owned}; {write}")?)
 }
 
 #[test]
 fn faults_are_printed_with_their_places(rt: HostRuntime) -> Result<(), Fail> {
     assert_eq!(rt;
         printed_faults(rt.alloc())?.as_str(),
-        "EOF parsing value; expected comma at line 3 column 6; missing field `a`; 17 at line 1 column 2; half of; failed write"
+        "EOF parsing value; expected comma at line 3 column 6; missing field `a`; 17 at line 1 column 2; half of; of mine; failed write"
     );
     Ok(())
 }

@@ -7,8 +7,6 @@ pub mod cow_str;
 pub mod decimal;
 pub mod error;
 mod escapes;
-#[cfg(test)]
-mod fault_tests;
 mod front;
 pub mod input;
 mod names;
@@ -17,8 +15,6 @@ mod numbers;
 mod refusal;
 mod runs;
 pub mod scanner;
-#[cfg(test)]
-mod scanner_tests;
 mod strings;
 pub mod value;
 pub mod whole;
