@@ -7,6 +7,9 @@ use std::fmt::{self, Debug};
 /// The text of what a call gives, or its fault.
 pub type Answer = Result<String>;
 
+/// What printing gives.
+pub type Printed<T> = std::result::Result<T, AllocError>;
+
 /// The text of what was given.
 pub fn shown<T: Debug + Drop>(alloc: Global, given: Result<T>) -> Answer {
     let value = given?;
@@ -19,7 +22,7 @@ pub fn unknown(alloc: Global) -> Answer {
 }
 
 /// The answer, its fault as it is printed: `expected comma at line 1 column 4`.
-pub fn by_message(alloc: Global, answer: Answer) -> std::result::Result<String, AllocError> {
+pub fn by_message(alloc: Global, answer: Answer) -> Printed<String> {
     match answer {
         Ok(text) => Ok(text),
         Err(error) => format!(in alloc; "{error}"),
@@ -27,14 +30,14 @@ pub fn by_message(alloc: Global, answer: Answer) -> std::result::Result<String, 
 }
 
 /// The answer, its fault by code and place: `ExpectedComma at 0:3`.
-pub fn by_code(alloc: Global, answer: Answer) -> std::result::Result<String, AllocError> {
+pub fn by_code(alloc: Global, answer: Answer) -> Printed<String> {
     match answer {
         Ok(text) => Ok(text),
         Err(error) => code_and_place(alloc, &error),
     }
 }
 
-fn code_and_place(alloc: Global, error: &Error) -> std::result::Result<String, AllocError> {
+fn code_and_place(alloc: Global, error: &Error) -> Printed<String> {
     let cause = cause(alloc, error)?;
     match error.position() {
         Some(position) => {
@@ -45,7 +48,7 @@ fn code_and_place(alloc: Global, error: &Error) -> std::result::Result<String, A
     }
 }
 
-fn cause(alloc: Global, error: &Error) -> std::result::Result<String, AllocError> {
+fn cause(alloc: Global, error: &Error) -> Printed<String> {
     let message = error.message();
     match error.code() {
         Some(code) => format!(in alloc; "{code:?}"),
@@ -54,43 +57,23 @@ fn cause(alloc: Global, error: &Error) -> std::result::Result<String, AllocError
 }
 
 /// The line and the column, counted from 0.
-pub fn place(alloc: Global, position: Position) -> std::result::Result<String, AllocError> {
+pub fn place(alloc: Global, position: Position) -> Printed<String> {
     let Position { line, column } = position;
     format!(in alloc; "{line}:{column}")
 }
 
-/// The answers of several calls, with `; ` between them.
-#[derive(Drop)]
-pub struct Answers {
-    alloc: Global,
-    text: String,
+/// Appends the answer of one more call, after `; ` where it isn't the first.
+pub fn push_answer(alloc: Global, answer: Answer, answers: &mut String) -> Printed<()> {
+    let answer = by_code(alloc, answer)?;
+    push_text(answer.as_str(), answers)
 }
 
-impl Answers {
-    pub fn new(alloc: Global) -> Answers {
-        Answers {
-            alloc,
-            text: String::new(alloc),
-        }
+/// Appends one more text, after `; ` where it isn't the first.
+pub fn push_text(text: &str, answers: &mut String) -> Printed<()> {
+    if !answers.is_empty() {
+        answers.push_str("; ")?;
     }
-
-    /// One more answer.
-    pub fn push(&mut self, answer: Answer) -> std::result::Result<(), AllocError> {
-        let answer = by_code(self.alloc, answer)?;
-        self.push_text(answer.as_str())
-    }
-
-    /// One more answer of one's own words.
-    pub fn push_text(&mut self, text: &str) -> std::result::Result<(), AllocError> {
-        if !self.text.is_empty() {
-            self.text.push_str("; ")?;
-        }
-        self.text.push_str(text)
-    }
-
-    pub fn into_text(self) -> String {
-        self.text
-    }
+    answers.push_str(text)
 }
 
 /// A decimal by its digits and its exponent: `-15e-1`; zero has no digits.

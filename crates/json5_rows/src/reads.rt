@@ -24,7 +24,7 @@ pub fn read(alloc: Global, name: &str, text: &str) -> Answer {
     match name {
         "Decimal" => shown(alloc, from_str(alloc, text).map(Digits)),
         "Value" => shown(alloc, from_str(alloc, text).map(Any)),
-        "Port" => shown(alloc, from_str(alloc, text).map(|Port { number }| number)),
+        "Port" => read_port(alloc, text),
         _ => read_integer(alloc, name, text),
     }
 }
@@ -62,14 +62,23 @@ fn read_tuple(alloc: Global, name: &str, text: &str) -> Answer {
 
 fn read_pair(alloc: Global, name: &str, text: &str) -> Answer {
     match name {
-        "Bounds<i32>" => shown(
-            alloc,
-            from_str::<Bounds<i32>>(alloc, text).map(|b| (b.low, b.high)),
-        ),
-        "Point<&str>" => shown(
-            alloc,
-            from_str::<Point<&str>>(alloc, text).map(|p| (p.x, p.y)),
-        ),
+        "Bounds<i32>" => read_bounds(alloc, text),
+        "Point<&str>" => read_point(alloc, text),
         _ => unknown(alloc),
     }
+}
+
+fn read_port(alloc: Global, text: &str) -> Answer {
+    let Port { number } = from_str::<Port>(alloc, text)?;
+    shown(alloc, Ok(number))
+}
+
+fn read_bounds(alloc: Global, text: &str) -> Answer {
+    let Bounds { low, high } = from_str::<Bounds<i32>>(alloc, text)?;
+    shown(alloc, Ok((low, high)))
+}
+
+fn read_point(alloc: Global, text: &str) -> Answer {
+    let Point { x, y } = from_str::<Point<&str>>(alloc, text)?;
+    shown(alloc, Ok((x, y)))
 }

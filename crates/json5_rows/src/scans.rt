@@ -1,6 +1,6 @@
 //! Calls of one scanner, one after another: `scan blank eat[ number peek|TEXT`.
 
-use crate::answers::{Answer, Answers, Any, place, shown, unknown};
+use crate::answers::{Answer, Any, place, push_answer, shown, unknown};
 use json5::{ErrorCode, Result, Value};
 use json5_text::number::Number;
 use json5_text::scanner::Scanner;
@@ -9,11 +9,11 @@ use std::alloc::Global;
 /// What each call answers.
 pub fn scan(alloc: Global, names: &str, text: &str) -> Answer {
     let mut scanner = Scanner::new(alloc, text);
-    let mut answers = Answers::new(alloc);
+    let mut answers = String::new(alloc);
     for name in names.split_whitespace() {
-        answers.push(call(&mut scanner, name))?;
+        push_answer(alloc, call(&mut scanner, name), &mut answers)?;
     }
-    Ok(answers.into_text())
+    Ok(answers)
 }
 
 fn call(scanner: &mut Scanner<&str>, name: &str) -> Answer {

@@ -2,21 +2,21 @@
 //!
 //! The calls in brackets are those of the access that the call opens. It is dropped where the last of them isn't `end`.
 
-use crate::answers::{Answer, Answers, Any, Digits, shown, unknown};
+use crate::answers::{Answer, Any, Digits, Printed, push_answer, push_text, shown, unknown};
 use json5::{Deserializer, Error, ErrorCode, SeqAccess};
-use std::alloc::{AllocError, Global};
+use std::alloc::Global;
 
 /// What each call answers.
 pub fn sequence(alloc: Global, names: &str, text: &str) -> Answer {
     let mut de = Deserializer::from_str(alloc, text);
-    let mut answers = Answers::new(alloc);
+    let mut answers = String::new(alloc);
     for name in names.split_whitespace() {
         match name.split_once('(') {
             Some((opening, steps)) => open(&mut de, opening, steps, &mut answers)?,
-            None => answers.push(call_integer(&mut de, name))?,
+            None => push_answer(alloc, call_integer(&mut de, name), &mut answers)?,
         }
     }
-    Ok(answers.into_text())
+    Ok(answers)
 }
 
 fn call_integer(de: &mut Deserializer<&str>, name: &str) -> Answer {
@@ -62,19 +62,22 @@ fn call_other(de: &mut Deserializer<&str>, name: &str) -> Answer {
     }
 }
 
-type Done = Result<(), AllocError>;
-
 /// Opens an array, and makes the calls of its access.
 macro_rules! walk_opened {
     ($opened:expr, $steps:ident, $alloc:ident, $answers:ident) => {
         match $opened {
             Ok(access) => walk(access, $steps, $alloc, $answers),
-            Err(e) => $answers.push(Err(e)),
+            Err(e) => push_answer($alloc, Err(e), $answers),
         }
     };
 }
 
-fn open(de: &mut Deserializer<&str>, opening: &str, steps: &str, answers: &mut Answers) -> Done {
+fn open(
+    de: &mut Deserializer<&str>,
+    opening: &str,
+    steps: &str,
+    answers: &mut String,
+) -> Printed<()> {
     let alloc = de.allocator();
     match opening {
         "tuple" => walk_opened!(de.deserialize_tuple(2), steps, alloc, answers),
@@ -91,18 +94,23 @@ fn open(de: &mut Deserializer<&str>, opening: &str, steps: &str, answers: &mut A
 }
 
 /// Makes the calls of an access, and drops it where the last isn't `end`.
-fn walk(access: SeqAccess<'_, &str>, steps: &str, alloc: Global, answers: &mut Answers) -> Done {
+fn walk(
+    access: SeqAccess<'_, &str>,
+    steps: &str,
+    alloc: Global,
+    answers: &mut String,
+) -> Printed<()> {
     let mut access = access;
-    answers.push_text("opened")?;
+    push_text("opened", answers)?;
     match steps.strip_suffix("end)") {
         Some(steps) => {
             elements(&mut access, steps, alloc, answers)?;
-            answers.push(shown(alloc, access.end()))
+            push_answer(alloc, shown(alloc, access.end()), answers)
         }
         None => {
             elements(&mut access, steps.trim_end_matches(')'), alloc, answers)?;
             drop(access);
-            answers.push_text("dropped")
+            push_text("dropped", answers)
         }
     }
 }
@@ -111,15 +119,16 @@ fn elements(
     access: &mut SeqAccess<'_, &str>,
     steps: &str,
     alloc: Global,
-    answers: &mut Answers,
-) -> Done {
+    answers: &mut String,
+) -> Printed<()> {
     for step in steps.split_terminator(',') {
-        answers.push(match step {
+        let answer = match step {
             "u8" => shown(alloc, access.next_element::<u8>()),
             "i32" => shown(alloc, access.next_element::<i32>()),
             "place" => Err(access.place(Error::new(ErrorCode::InvalidKey))),
             _ => unknown(alloc),
-        })?;
+        };
+        push_answer(alloc, answer, answers)?;
     }
     Ok(())
 }
