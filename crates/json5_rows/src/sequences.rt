@@ -124,7 +124,6 @@ fn elements(
     for step in steps.split_terminator(',') {
         let answer = match step {
             "u8" => shown(alloc, access.next_element::<u8>()),
-            "i32" => shown(alloc, access.next_element::<i32>()),
             "place" => Err(access.place(Error::new(ErrorCode::InvalidKey))),
             _ => unknown(alloc),
         };
