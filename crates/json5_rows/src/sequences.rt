@@ -122,12 +122,15 @@ fn elements(
     answers: &mut String,
 ) -> Printed<()> {
     for step in steps.split_terminator(',') {
-        let answer = match step {
-            "u8" => shown(alloc, access.next_element::<u8>()),
-            "place" => Err(access.place(Error::new(ErrorCode::InvalidKey))),
-            _ => unknown(alloc),
-        };
-        push_answer(alloc, answer, answers)?;
+        push_answer(alloc, call_access(access, step, alloc), answers)?;
     }
     Ok(())
+}
+
+fn call_access(access: &mut SeqAccess<'_, &str>, name: &str, alloc: Global) -> Answer {
+    match name {
+        "u8" => shown(alloc, access.next_element::<u8>()),
+        "place" => Err(access.place(Error::new(ErrorCode::InvalidKey))),
+        _ => unknown(alloc),
+    }
 }
