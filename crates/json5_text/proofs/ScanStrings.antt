@@ -9,7 +9,7 @@ use Rattle.json5_grammar.specs.Characters.{NotBegun, Each, no_char, char}
 use Rattle.json5_grammar.specs.declared.code.ErrorCode.{ErrorCode}
 use Rattle.json5_grammar.specs.declared.code.ErrorCode.TheVariants.{EofParsingString, LineTerminatorInString, ExpectedString}
 use Rattle.json5_grammar.specs.Strings.{is_raw, is_quote}
-use Rattle.json5_grammar.specs.Reading.{Read, Place, got, bad, here, inner}
+use Rattle.json5_grammar.specs.Reading.{Read, Place, got, bad, here, inner, and_then}
 use Rattle.json5_grammar.specs.ReadTexts.{escape_at, put, string}
 use Rattle.json5_grammar.proofs.EscapesSound.{EscapeSound, escape_sound}
 use Rattle.json5_grammar.proofs.StringsRead.{escape_head, put_none, put_raw, put_escape, put_end}
@@ -19,8 +19,8 @@ use Rattle.json5_text.specs.declared.strings.Stop.{Stop}
 use Rattle.json5_text.specs.declared.strings.Stop.TheVariants as stop
 use Rattle.json5_text.specs.Outcome.{outcome}
 use Rattle.json5_text.specs.Refused.{Refuses}
-use Rattle.json5_text.specs.ScanStrings.{string_at, StopsAt, GoesOn, IsFurther, StopsText}
-use Rattle.json5_text.proofs.ScanEscapes.{refuses_as}
+use Rattle.json5_text.specs.ScanStrings.{string_at, escape_then, StopsAt, GoesOn, IsFurther, StopsText}
+use Rattle.json5_text.proofs.ScanEscapes.{refuses_as, then_refuses}
 
 -- ---- characters that stand for themselves
 
@@ -65,27 +65,40 @@ run_line q c raw x y z k e n f no_quote no_slash =
 
 -- ---- an escape and the run behind it
 
-pub escape_refused : (q : ℕ) (r : Refusal) (x y : List ℕ) → is_quote q ≡ true → x ≡ 92 ∷ y → Refuses r (outcome (escape_at x y)) → Refuses r (outcome (string (q ∷ x)))
-escape_refused q r x y k e h =
-    refuses_as r (escape_at x y) (string (q ∷ x)) (λ c p g. ap (λ t. string (q ∷ t)) e ∙ string_is q (92 ∷ y) ∙ rest_bad q y c p (quote_no_backslash q k) (ap (λ t. escape_at t y) (sym e) ∙ g)) h
+pub escape_refused : (q : ℕ) (r : Refusal) (x y : List ℕ) → Refuses r (outcome (escape_at x y)) → Refuses r (outcome (escape_then q x y))
+escape_refused q r x y h = then_refuses r (escape_at x y) (escape_then q x y) (λ v z. put v false (string (q ∷ z))) refl h
+
+-- what stands after the escape
+after_escape : (q : ℕ) (x y v z : List ℕ) → escape_at x y ≡ got v z → escape_then q x y ≡ put v false (string (q ∷ z))
+after_escape q x y v z h = ap (λ m. and_then m (λ v z. put v false (string (q ∷ z)))) h
 
 -- an escape in front
 escape_read : (q : ℕ) (x y v z : List ℕ) → is_quote q ≡ true → x ≡ 92 ∷ y → escape_at x y ≡ got v z → string (q ∷ x) ≡ put v false (string (q ∷ z))
 escape_read q x y v z k e h =
     ap (λ t. string (q ∷ t)) e ∙ string_is q (92 ∷ y) ∙ rest_escape q y v z (quote_no_backslash q k) (ap (λ t. escape_at t y) (sym e) ∙ h) ∙ ap (put v false) (sym (string_is q z))
 
-pub behind_escape : (q : ℕ) (r : Refusal) (x y v z : List ℕ) → is_quote q ≡ true → x ≡ 92 ∷ y → escape_at x y ≡ got v z → Refuses r (outcome (string (q ∷ z))) → Refuses r (outcome (string (q ∷ x)))
-behind_escape q r x y v z k e h = refuses_as r (string (q ∷ z)) (string (q ∷ x)) (λ c p g. escape_read q x y v z k e h ∙ put_bad v false (string (q ∷ z)) c p g)
+-- a string that begins with an escape
+pub string_escape : (q : ℕ) (x y : List ℕ) → is_quote q ≡ true → x ≡ 92 ∷ y → string (q ∷ x) ≡ escape_then q x y
+string_escape q x y k e = either (escape_at x y) refl
+  where
+    either : (res : Read (List ℕ)) → escape_at x y ≡ res → string (q ∷ x) ≡ escape_then q x y
+    either (got v z) h = escape_read q x y v z k e h ∙ sym (ap (λ m. and_then m (λ v z. put v false (string (q ∷ z)))) h)
+    either (bad c p) h =
+        ap (λ t. string (q ∷ t)) e ∙ string_is q (92 ∷ y) ∙ rest_bad q y c p (quote_no_backslash q k) (ap (λ t. escape_at t y) (sym e) ∙ h)
+        ∙ sym (ap (λ m. and_then m (λ v z. put v false (string (q ∷ z)))) h)
 
-escape_run : (q : ℕ) (x y v z raw t : List ℕ) → is_quote q ≡ true → x ≡ 92 ∷ y → escape_at x y ≡ got v z → z ≡ raw ++ t → Each (is_raw q) raw → string (q ∷ x) ≡ put (v ++ raw) false (string (q ∷ t))
-escape_run q x y v z raw t k e h f r =
-    escape_read q x y v z k e h ∙ ap (λ s. put v false (string (q ∷ s))) f ∙ ap (put v false) (run_read q raw t r) ∙ put_escape v raw true (string (q ∷ t))
+pub behind_escape : (q : ℕ) (r : Refusal) (x y v z : List ℕ) → escape_at x y ≡ got v z → Refuses r (outcome (string (q ∷ z))) → Refuses r (outcome (escape_then q x y))
+behind_escape q r x y v z h = refuses_as r (string (q ∷ z)) (escape_then q x y) (λ c p g. after_escape q x y v z h ∙ put_bad v false (string (q ∷ z)) c p g)
 
-pub goes_on : (q : ℕ) (x y v z raw t : List ℕ) (s : Stop) → is_quote q ≡ true → x ≡ 92 ∷ y → escape_at x y ≡ got v z → z ≡ raw ++ t → Each (is_raw q) raw → StopsAt q t s → GoesOn q x (v ++ raw) s
-goes_on q x y v z raw t (stop.Quote rest) k e h f r a =
-    escape_run q x y v z raw t k e h f r ∙ ap (λ s. put (v ++ raw) false (string (q ∷ s))) a
+escape_run : (q : ℕ) (x y v z raw t : List ℕ) → escape_at x y ≡ got v z → z ≡ raw ++ t → Each (is_raw q) raw → escape_then q x y ≡ put (v ++ raw) false (string (q ∷ t))
+escape_run q x y v z raw t h f r =
+    after_escape q x y v z h ∙ ap (λ s. put v false (string (q ∷ s))) f ∙ ap (put v false) (run_read q raw t r) ∙ put_escape v raw true (string (q ∷ t))
+
+pub goes_on : (q : ℕ) (x y v z raw t : List ℕ) (s : Stop) → escape_at x y ≡ got v z → z ≡ raw ++ t → Each (is_raw q) raw → StopsAt q t s → GoesOn q (escape_then q x y) (v ++ raw) s
+goes_on q x y v z raw t (stop.Quote rest) h f r a =
+    escape_run q x y v z raw t h f r ∙ ap (λ s. put (v ++ raw) false (string (q ∷ s))) a
     ∙ ap (put (v ++ raw) false) (string_is q (q ∷ chars rest.now) ∙ rest_quote q q (chars rest.now) (grind arith)) ∙ put_end (v ++ raw) false (chars rest.now)
-goes_on q x y v z raw t (stop.Escape escape behind) k e h f r a = (escape_run q x y v z raw t k e h f r ∙ ap (λ s. put (v ++ raw) false (string (q ∷ s))) a.0, a.1)
+goes_on q x y v z raw t (stop.Escape escape behind) h f r a = (escape_run q x y v z raw t h f r ∙ ap (λ s. put (v ++ raw) false (string (q ∷ s))) a.0, a.1)
 
 escape_shorter : (x y v z : List ℕ) → x ≡ 92 ∷ y → escape_at x y ≡ got v z → length z < length x
 escape_shorter x y v z e h =
@@ -95,9 +108,9 @@ escape_shorter x y v z e h =
     let first : length k.0 ≡ suc (length head.0) = ap length head.1 in
     omega arith
 
-pub is_further : (q : ℕ) (x y v z raw t : List ℕ) (s : Stop) → x ≡ 92 ∷ y → escape_at x y ≡ got v z → z ≡ raw ++ t → StopsAt q t s → StopsText s → IsFurther x s
-is_further q x y v z raw t (stop.Quote rest) e h f a u = u
-is_further q x y v z raw t (stop.Escape escape behind) e h f a u =
+pub is_further : (q : ℕ) (x y v z raw t : List ℕ) (s : Stop) → escape_at x y ≡ got v z → z ≡ raw ++ t → StopsAt q t s → StopsText s → x ≡ 92 ∷ y → IsFurther x s
+is_further q x y v z raw t (stop.Quote rest) h f a u e = u
+is_further q x y v z raw t (stop.Escape escape behind) h f a u e =
     let shorter = escape_shorter x y v z e h in
     let whole : length z ≡ length raw + length t = ap length f ∙ length-append raw t in
     let same : length t ≡ length (chars escape.now) = ap length a.0 in

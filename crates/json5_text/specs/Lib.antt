@@ -10,9 +10,11 @@ pub mod NumberEquality
 pub mod ScanStrings
 pub mod NumberWholes
 pub mod Scan
+pub mod Answered
 pub mod Escapes
 pub mod Cows
 pub mod Compared
 pub mod NumberParts
 pub mod ValueViews
 pub mod ScanNames
+pub mod ScanBlanks

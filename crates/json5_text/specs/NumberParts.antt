@@ -14,9 +14,13 @@ abbrev pub parts_of : Literal → Parts
 parts_of l = record { before = l.before.now; behind = option_map (λ digits. digits.now) l.behind; raised = option_map raised_of l.exponent }
 
 -- the written exponent, or the limit where that is less
+abbrev pub signed_limited : ℕ → Exponent → ℤ
+signed_limited limit e = signed e.negative (min limit (spelled 10 0 e.digits.now))
+
+-- 0 where there is none
 abbrev pub limited_exponent : ℕ → Option Exponent → ℤ
 limited_exponent limit None = pos 0
-limited_exponent limit (Some e) = signed e.negative (min limit (spelled 10 0 e.digits.now))
+limited_exponent limit (Some e) = signed_limited limit e
 
 abbrev pub is_whole_literal : Bool → Literal → Bool
 is_whole_literal negative l = is_whole negative (parts_of l).before (parts_of l).behind (parts_of l).raised

@@ -1,6 +1,7 @@
 -- What private clauses of the scanner say.
-use Rattle.std.specs.Prelude.{◌≡◌, ℕ, List, [], ◌∷◌, ◌++◌, length, Option, Some, None, ◌⊎◌, ⊤}
-use Rattle.std.specs.Str.{IsUtf8, IsCharBoundary}
+use Rattle.std.specs.Prelude.{◌≡◌, ℕ, Bool, List, [], ◌∷◌, ◌++◌, length, Option, Some, None, ◌⊎◌, ⊤}
+use Rattle.std.specs.Str.{IsUtf8, IsCharBoundary, chars}
+use Rattle.json5_grammar.specs.Characters.{NotBegun, Each}
 use Rattle.json5_grammar.specs.declared.position.Position.{Position}
 use Rattle.json5_grammar.specs.Positions.{position_behind}
 use Rattle.json5_text.specs.declared.error.Error.{Error}
@@ -55,6 +56,13 @@ MadeOf s (refusal.InvalidNumber left) e = IsOutOfMemory e ⊎ (Says None e × Is
 MadeOf s (refusal.TooLarge left) e = IsOutOfMemory e ⊎ (Says None e × IsThere s left e)
 MadeOf s (refusal.UnpairedSurrogate escape left) e = IsOutOfMemory e ⊎ (Says None e × IsThere s left e)
 MadeOf s refusal.OutOfMemory e = IsOutOfMemory e
+
+-- all in front that passes the test is passed over
+pub record SkipsAll (p : ℕ → Bool) (whole rest : List ℕ) : Type 0 where
+  pub passed : List ℕ
+  pub split : chars whole ≡ passed ++ chars rest
+  pub each : Each p passed
+  pub stops : NotBegun p (chars rest)
 
 -- what may be there, as a list
 abbrev pub in_list : Option ℕ → List ℕ
