@@ -5,9 +5,10 @@ use Rattle.std.specs.List.{slice_range}
 use Rattle.std.proofs.lemmas.Grind.{common_steps}
 use Rattle.std.specs.Str.{IsUtf8, IsCharBoundary, chars, encode_utf8_all, all_scalars}
 use Rattle.std.proofs.Math.Seq.{take-append_seam, drop-append_seam}
-use Rattle.std.proofs.lemmas.List.{length-append, length-drop, take-append-drop}
+use Rattle.std.proofs.lemmas.List.{length-append, length-drop, length-take, take-append-drop}
 use Rattle.std.proofs.lemmas.Str.{encodes-chars, scalars-chars, chars-encodes, encodes-append, chars-append, IsUtf8-take, IsUtf8-drop, IsCharBoundary-at_seam}
 use Rattle.json5_text.specs.Outcome.{bytes_in}
+use Rattle.json5_text.specs.Cursor.{IsOffset}
 use Rattle.json5_text.specs.Scan.{InText}
 
 both_true : (a b : Bool) → (a && b) ≡ true → (a ≡ true) × (b ≡ true)
@@ -62,9 +63,19 @@ halves_at text i u b = record {
   split = sym (ap chars (take-append-drop i text)) ∙ chars-append (take i text) (drop i text) (IsUtf8-take text i u b);
 }
 
+pub boundary_offset : (text : List ℕ) (i : ℕ) → IsUtf8 text → IsCharBoundary text i → IsOffset (chars text) i
+boundary_offset text i u b =
+    let inside : i ≤ length text = b.0 in
+    let same = encodes-chars (take i text) (IsUtf8-take text i u b) in
+    (chars (take i text), chars (drop i text), (halves_at text i u b).split, (let taken = length-take i text in let bytes = ap length same in omega arith))
+
 -- and cut again behind p
 pub halves_behind : {text x y : List ℕ} (p q : List ℕ) → Halves text x y → y ≡ p ++ q → Halves text (x ++ p) q
 halves_behind {x = x} p q h e = record { is_text = h.is_text; split = h.split ∙ ap (λ z. x ++ z) e ∙ sym (append_assoc x p q) }
+
+-- texts of the same characters have the same bytes
+pub same_text : (a b : List ℕ) → IsUtf8 a → IsUtf8 b → chars a ≡ chars b → a ≡ b
+same_text a b u v e = sym (encodes-chars a u) ∙ ap encode_utf8_all e ∙ encodes-chars b v
 
 -- ---- the scanner's text
 

@@ -3,6 +3,7 @@ pub mod Outcome
 pub mod Refused
 pub mod Cursor
 pub mod Tokens
+pub mod Takes
 pub mod NumberViews
 pub mod NumberDecimals
 pub mod NumberSteps
