@@ -18,4 +18,5 @@ pub mod Compared
 pub mod NumberParts
 pub mod ValueViews
 pub mod ScanNames
+pub mod ScanNumbers
 pub mod ScanBlanks

@@ -1,5 +1,5 @@
 -- A decimal literal as code holds it. Private clauses and proofs alone cite it.
-use Rattle.std.specs.Prelude.{ℕ, min, Bool, ℤ, pos, Option, Some, None, IfSome}
+use Rattle.std.specs.Prelude.{◌≡◌, ℕ, min, Bool, ℤ, pos, Option, Some, None, IfSome}
 use Rattle.std.specs.Option.{option_map}
 use Rattle.json5_grammar.specs.Characters.{is_digit, Each}
 use Rattle.json5_grammar.specs.Numbers.{signed, spelled}
@@ -32,3 +32,13 @@ pub record HasDigits (l : Literal) : Type 0 where
   pub before : Each is_digit l.before.now
   pub behind : IfSome l.behind (λ digits. Each is_digit digits.now)
   pub exponent : IfSome l.exponent HasExponentDigits
+
+-- the literal, and that its parts are digits
+pub record IsLiteral (reading : Option Parts) (l : Literal) : Type 0 where
+  pub read : reading ≡ Some (parts_of l)
+  pub digits : HasDigits l
+
+-- the literal, if reading gives one
+abbrev pub ReadsLiteral : Option Parts → Option Literal → Type 0
+ReadsLiteral reading None = reading ≡ None
+ReadsLiteral reading (Some l) = IsLiteral reading l

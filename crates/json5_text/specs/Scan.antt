@@ -9,7 +9,7 @@ use Rattle.json5_text.specs.declared.refusal.Refusal.{Refusal}
 use Rattle.json5_text.specs.declared.refusal.Refusal.TheVariants as refusal
 use Rattle.json5_text.specs.Errors.{code, kind_of, place_of}
 use Rattle.json5_text.specs.Outcome.{bytes_in}
-use Rattle.json5_text.specs.Cursor.{Cursor, Says, IsOutOfMemory}
+use Rattle.json5_text.specs.Cursor.{Cursor, Took, Says, IsOutOfMemory}
 
 -- the offset lies between characters of the text, which has so many bytes
 pub record InText (text : List ℕ) (offset end : ℕ) : Type 0 where
@@ -31,6 +31,10 @@ pub record Leaves (s : Cursor) (left : ℕ) : Type 0 where
   pub rest : List ℕ
   pub split : s.unread ≡ passed ++ rest
   pub counted : left ≡ bytes_in rest
+
+-- what stood before them was taken
+abbrev pub LeavesAt : Cursor → ℕ → Cursor → Type 0
+LeavesAt old left new = (taken rest : List ℕ) → old.unread ≡ taken ++ rest → left ≡ bytes_in rest → Took old taken new × (new.unread ≡ rest)
 
 -- the place with so many bytes left is within what is unread
 abbrev pub InUnread : Cursor → Refusal → Type 0

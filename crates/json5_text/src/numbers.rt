@@ -11,8 +11,9 @@ ghost use Rattle.json5_grammar.specs.ReadNumbers as model;
 ghost use Rattle.json5_grammar.specs.NumberSteps.{checked};
 ghost use Rattle.json5_text.specs.Answered.{AnswersNumber, Judges};
 ghost use Rattle.json5_text.specs.NumberViews.{number_of};
-ghost use Rattle.json5_text.specs.NumberParts.{raised_of, parts_of, signed_limited, limited_exponent, is_whole_literal, HasExponentDigits, HasDigits};
+ghost use Rattle.json5_text.specs.NumberParts.{raised_of, parts_of, signed_limited, limited_exponent, is_whole_literal, HasExponentDigits, HasDigits, ReadsLiteral};
 ghost use Rattle.json5_text.specs.NumberSteps.{IsSmallExponent};
+ghost use Rattle.json5_text.specs.ScanNumbers.{GivesHex, Overflows};
 
 use crate::decimal::Decimal;
 use crate::front::front;
@@ -36,11 +37,7 @@ fn one_more(value: u128, digit: u32) -> Option<u128>
 /// The value of the hexadecimal digits in front and what follows them, or what begins with the digit that takes it past `u128`.
 #[tactic(auto, using(crate::proofs::NumberSteps::hexadecimal_steps))]
 fn hexadecimal_digits(text: &str) -> Result<(u128, &str), &str>
-    ensures read { MatchResult result
-        (λ p. model.hex_digits 0 (chars text.now) ≡ got p.0 (chars p.1.now))
-        (λ r. model.hex_digits 0 (chars text.now) ≡ bad (Some ErrorCode.OverflowParsingNumber) (here (chars r.now))) }
-    ensures bound { IfOk result (λ p. p.0 < 2 ^ 128) }
-    ensures text { MatchResult result (λ p. IsUtf8 p.1.now) (λ r. IsUtf8 r.now) }
+    ensures { MatchResult result (λ p. GivesHex (chars text.now) p.0 p.1.now) (λ rest. Overflows (chars text.now) rest.now) }
 {
     let mut value: u128 = 0;
     let mut rest = text;
@@ -105,8 +102,7 @@ fn begins_exponent(c: char) -> bool
 
 /// The digits of an exponent, which are all of the text.
 fn read_exponent_digits(negative: bool, text: &str) -> Option<Exponent>
-    ensures read { MatchOption result (model.exponent_digits negative (chars text.now) ≡ None)
-        (λ e. model.exponent_digits negative (chars text.now) ≡ Some (Some (raised_of e))) }
+    ensures read { model.exponent_digits negative (chars text.now) ≡ option_map (λ e. Some (raised_of e)) result }
     ensures digits { IfSome result HasExponentDigits }
 {
     let (digits, rest) = split_digits(text);
@@ -121,8 +117,7 @@ fn read_exponent_digits(negative: bool, text: &str) -> Option<Exponent>
 
 /// The exponent that is all of the text, if any: none where the text is empty. The text may also be neither.
 fn read_exponent(text: &str) -> Option<Option<Exponent>>
-    ensures read { MatchOption result (model.exponent_at (chars text.now) ≡ None)
-        (λ e. model.exponent_at (chars text.now) ≡ Some (option_map raised_of e)) }
+    ensures read { model.exponent_at (chars text.now) ≡ option_map (option_map raised_of) result }
     ensures digits { IfSome result (λ e. IfSome e HasExponentDigits) }
 {
     let Some((mark, rest)) = front(text) else {
@@ -152,9 +147,7 @@ fn is_integer(digits: &str) -> bool
 /// The literal of these digits and of an exponent that is all of the rest.
 fn read_without_point<'t>(before: &'t str, rest: &'t str) -> Option<Literal<'t>>
     requires { Each is_digit before.now }
-    ensures read { MatchOption result (model.no_point before.now (chars rest.now) ≡ None)
-        (λ l. model.no_point before.now (chars rest.now) ≡ Some (parts_of l)) }
-    ensures digits { IfSome result HasDigits }
+    ensures { ReadsLiteral (model.no_point before.now (chars rest.now)) result }
 {
     if !is_integer(before) {
         return None;
@@ -176,9 +169,7 @@ fn has_digits(before: &str, behind: &str) -> bool
 
 /// The literal that is all of the run.
 fn read_literal(run: &str) -> Option<Literal>
-    ensures read { MatchOption result (model.literal_at (chars run.now) ≡ None)
-        (λ l. model.literal_at (chars run.now) ≡ Some (parts_of l)) }
-    ensures digits { IfSome result HasDigits }
+    ensures { ReadsLiteral (model.literal_at (chars run.now)) result }
 {
     let (before, rest) = split_digits(run);
     let Some((point, tail)) = front(rest) else {

@@ -6,7 +6,7 @@ ghost use Rattle.json5_grammar.specs.Characters.{NotBegun};
 ghost use Rattle.json5_grammar.specs.Positions.{position_behind};
 ghost use Rattle.json5_text.specs.Cursor.{Cursor, offset_of, Took, IsOutOfMemory, IsOffset, IsPositionOf};
 ghost use Rattle.json5_text.specs.Errors.{IsCustomAt};
-ghost use Rattle.json5_text.specs.Scan.{InText, Leaves, InUnread, IsWhere, MadeOf};
+ghost use Rattle.json5_text.specs.Scan.{InText, Leaves, LeavesAt, InUnread, IsWhere, MadeOf};
 ghost use Rattle.json5_text.specs.Takes.{PassesBlanks, TakesWord, TakesNumber, TakesOwned, TakesString, TakesName};
 
 use crate::blanks::skip_blank;
@@ -185,7 +185,7 @@ impl<I: Input> Scanner<I> {
     /// Leaves so many bytes unread.
     fn leave(&mut self, left: usize)
         requires { Leaves self.old left }
-        ensures { (taken rest : List ℕ) → self.old.unread ≡ taken ++ rest → left ≡ length (encode_utf8_all rest) → Took self.old taken self.new × (self.new.unread ≡ rest) }
+        ensures { LeavesAt self.old left self.new }
     {
         self.offset = self.end - left;
     }
@@ -208,10 +208,16 @@ impl<I: Input> Scanner<I> {
             Refusal::Code(code, Some(left)) => Error::new_at(self.position(left), code),
             Refusal::InvalidNumber(left) => self.custom(self.position(left), "invalid number"),
             Refusal::TooLarge(left) => {
-                self.custom(self.position(left), "number too large to fit in target type")
+                self.custom(
+                    self.position(left),
+                    "number too large to fit in target type",
+                )
             }
             Refusal::UnpairedSurrogate(escape, left) => {
-                self.custom(self.position(left), format_args!("unpaired surrogate found: {escape:x}"))
+                self.custom(
+                    self.position(left),
+                    format_args!("unpaired surrogate found: {escape:x}"),
+                )
             }
             Refusal::OutOfMemory => Error::new(ErrorCode::OutOfMemory),
         }
