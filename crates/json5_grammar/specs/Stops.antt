@@ -1,7 +1,7 @@
 -- Where a number stops: the characters that lengthen one.
 -- JSON5 section 6, ECMAScript 5.1 section 7.8.3 (a literal is as long as it can be).
 use Rattle.std.specs.Prelude.{ℕ, Bool, false, if◌then◌else◌, ◌&&◌, ◌||◌, ◌==◌, List, [], ◌∷◌}
-use Rattle.json5_grammar.specs.Characters.{plus_sign, minus_sign, point_sign, digit_zero, letter_x, is_digit, is_hex_digit}
+use Rattle.json5_grammar.specs.Characters.{plus_sign, minus_sign, point_sign, digit_zero, letter_x, is_digit, is_hex_digit, NotBegun}
 use Rattle.json5_grammar.specs.Numbers.{hex_start}
 
 abbrev pub in_run : ℕ → Bool
@@ -23,3 +23,7 @@ lengthens_body (a ∷ b ∷ s) c = if (a == digit_zero) && hex_start b then is_h
 abbrev pub lengthens : List ℕ → ℕ → Bool
 lengthens [] c = false
 lengthens (a ∷ s) c = if (a == plus_sign) || (a == minus_sign) then lengthens_body s c else lengthens_body (a ∷ s) c
+
+-- a number with the text s ends before r
+abbrev pub EndsAt : List ℕ → List ℕ → Type 0
+EndsAt s r = NotBegun (lengthens s) r
