@@ -23,7 +23,7 @@ not_eq c d h = grind arith
 pub same_char : (q : ℕ) → (q == q) ≡ true
 same_char q = grind arith
 
--- a place behind more text
+-- a place after more text
 pub at_behind : (t x : List ℕ) (pl : Option (List ℕ)) (p : Place) → IsAt x pl p → IsAt (t ++ x) (behind_text t pl) p
 at_behind t x (Some b) (here q) e = ap (λ z. t ++ z) e ∙ sym (append_assoc t b q)
 at_behind t x (Some b) inner h = absurd h

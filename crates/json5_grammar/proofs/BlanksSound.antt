@@ -12,9 +12,9 @@ use Rattle.json5_grammar.proofs.Basics.{by_test, eq_from, neq_from, not_eq, at_b
 use Rattle.json5_grammar.proofs.Refusals.{Refuses, one_refusal, not_both, refuses_behind, one_answer}
 use Rattle.json5_grammar.proofs.BlanksRead.{skip_slash, skip_blanks, skip_gap, skip_rest, solid_from, begins_solid}
 
--- ---- blanks behind blanks
+-- ---- blanks after blanks
 
--- blanks behind blanks are blanks
+-- blanks after blanks are blanks
 pub Blanks-append : {v w : List ℕ} → Blanks v → Blanks w → Blanks (v ++ w)
 Blanks-append empty b = b
 Blanks-append (blank h a) b = blank h (Blanks-append a b)

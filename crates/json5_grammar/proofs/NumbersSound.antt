@@ -77,7 +77,7 @@ word_sound {s = s} k ks n r (bad e p) g w a st (inl (v, d, q, c, y, i, j, t, u, 
 word_sound {s = s} k ks n r (bad e p) g w a st (inr (d, q, i, u, l)) =
     rw (u, l) (record { place = None; is_place = refl; part = s ++ k ∷ r; shown = by_end; fault = number_word_ends (k ∷ ks) (k ∷ r) s d w g (q, ap (λ z. k ∷ z) i) (cons_not_nil k r) })
 
--- ---- what shows a fault behind a run
+-- ---- what shows a fault after a run
 
 pub record Followed (p : ℕ → Bool) (r : List ℕ) : Type 0 where
   pub text : List ℕ

@@ -9,7 +9,7 @@ use Rattle.json5_grammar.specs.Stops.{in_run, begins_run}
 abbrev pub is_sign : ℕ → Bool
 is_sign c = (c == plus_sign) || (c == minus_sign)
 
--- behind a sign
+-- after a sign
 abbrev pub begins_number : ℕ → Bool
 begins_number c = is_digit c || ((c == point_sign) || ((c == 73) || (c == 78)))
 
@@ -40,16 +40,16 @@ pub data NumberFault : List ℕ → Option ErrorCode → Option (List ℕ) → L
   -- EofParsingNumber: the text ends in `Infinity` or `NaN`
   number_word_ends : (w p s : List ℕ) {m : Bool} (d : ℕ) → NumberWord w → Sign s m → Cut w p d → p ≢ []
       → NumberFault (s ++ p) (Some EofParsingNumber) None (s ++ p) by_end
-  -- ExpectedNumber at the character behind a sign that begins no number
+  -- ExpectedNumber at the character after a sign that begins no number
   sign_without_number : (r : List ℕ) {sign c : ℕ} → is_sign sign ≡ true → begins_number c ≡ false
       → NumberFault (sign ∷ c ∷ r) (Some ExpectedNumber) (Some (sign ∷ [])) (sign ∷ c ∷ []) by_char
-  -- EofParsingNumber: the text ends behind a sign
+  -- EofParsingNumber: the text ends after a sign
   sign_ends : {sign : ℕ} → is_sign sign ≡ true
       → NumberFault (sign ∷ []) (Some EofParsingNumber) None (sign ∷ []) by_end
-  -- ExpectedNumber at the character behind `0x` that is no hexadecimal digit
+  -- ExpectedNumber at the character after `0x` that is no hexadecimal digit
   no_hexadecimal_digit : (r s : List ℕ) {m : Bool} (x c : ℕ) → Sign s m → hex_start x ≡ true → is_hex_digit c ≡ false
       → NumberFault (s ++ digit_zero ∷ x ∷ c ∷ r) (Some ExpectedNumber) (Some (s ++ digit_zero ∷ x ∷ [])) (s ++ digit_zero ∷ x ∷ c ∷ []) by_char
-  -- EofParsingNumber: the text ends behind `0x`
+  -- EofParsingNumber: the text ends after `0x`
   hexadecimal_ends : (s : List ℕ) {m : Bool} (x : ℕ) → Sign s m → hex_start x ≡ true
       → NumberFault (s ++ digit_zero ∷ x ∷ []) (Some EofParsingNumber) None (s ++ digit_zero ∷ x ∷ []) by_end
   -- OverflowParsingNumber at the digit that takes a hexadecimal number past 128 bits
@@ -64,7 +64,7 @@ pub data NumberFault : List ℕ → Option ErrorCode → Option (List ℕ) → L
   -- OverflowParsingNumber at the number's start: a literal whose exponent is out of range
   literal_overflows : (r s l i c : List ℕ) {shown : Shown} {m : Bool} {d : Option (List ℕ)} {w : Option ℤ} → Run (s ++ l) → Sign s m → Literal l i d w → ((n : Number) → Num (s ++ l) n → ⊥) → Behind in_run r c shown
       → NumberFault ((s ++ l) ++ r) (Some OverflowParsingNumber) (Some []) ((s ++ l) ++ c) shown
-  -- LeadingZero at the number's start: a digit behind a first `0`
+  -- LeadingZero at the number's start: a digit after a first `0`
   leading_zero : (r s : List ℕ) {m : Bool} (c : ℕ) → Sign s m → is_digit c ≡ true
       → NumberFault (s ++ digit_zero ∷ c ∷ r) (Some LeadingZero) (Some []) (s ++ digit_zero ∷ c ∷ []) by_char
 

@@ -21,7 +21,7 @@ unfoldable pub hex_digits : ℕ → List ℕ → Read ℕ
 hex_digits n [] = got n []
 hex_digits n (c ∷ r) = cond (is_hex_digit c) (cond (nat_lt (n * 16 + digit_value c) (2 ^ 128)) (hex_digits (n * 16 + digit_value c) r) (bad (Some OverflowParsingNumber) (here (c ∷ r)))) (got n (c ∷ r))
 
--- q is the text from the number's start on; true behind a minus
+-- q is the text from the number's start on; true after a minus
 abbrev pub hex_judged : List ℕ → Bool → Read ℕ → Read Number
 hex_judged q false (got n r) = got (whole (pos n)) r
 hex_judged q true (got n r) = cond (nat_le n (2 ^ 127)) (got (whole (neg_ℤ (pos n))) r) (bad None (here q))
@@ -42,7 +42,7 @@ unfoldable pub rest_of : (ℕ → Bool) → List ℕ → List ℕ
 rest_of p [] = []
 rest_of p (c ∷ s) = cond (p c) (rest_of p s) (c ∷ s)
 
--- digits before the point, digits behind it, the written exponent
+-- digits before the point, digits after it, the written exponent
 pub record Parts : Type 0 where
   pub before : List ℕ
   pub behind : Option (List ℕ)
@@ -118,7 +118,7 @@ at_zero q m (c ∷ r) =
     (cond ((c == 46) || ((c == 101) || (c == 69))) (decimal_run q m (48 ∷ c ∷ r))
     (got (whole (pos 0)) (c ∷ r))))
 
--- behind the sign
+-- after the sign
 unfoldable pub unsigned : List ℕ → Bool → List ℕ → Read Number
 unsigned q m [] = bad (Some EofParsingNumber) inner
 unsigned q m (c ∷ r) =

@@ -7,7 +7,7 @@ use Rattle.json5_grammar.specs.Strings.{short_escape, is_high, is_low, joined, i
 use Rattle.json5_grammar.specs.StringFaults.{is_surrogate}
 use Rattle.json5_grammar.specs.Reading.{Read, and_then, here, inner, got, bad}
 
--- k hexadecimal digits behind those of n; b is the rest from the escape's backslash on
+-- k hexadecimal digits after those of n; b is the rest from the escape's backslash on
 unfoldable pub hex : ℕ → ℕ → List ℕ → List ℕ → Read ℕ
 hex zero n b r = got n r
 hex (suc k) n b [] = bad (Some EofParsingEscapeSequence) inner
@@ -27,7 +27,7 @@ second n b (c ∷ r) = cond (c == 92) (second_u n b r) (bad (Some InvalidEscapeS
 abbrev pub first : List ℕ → ℕ → List ℕ → Read ℕ
 first b n r = cond (is_surrogate n) (second n b r) (got n r)
 
--- behind `\u`
+-- after `\u`
 unfoldable pub unicode_at : List ℕ → List ℕ → Read ℕ
 unicode_at b r = and_then (hex 4 0 b r) (first b)
 
@@ -53,7 +53,7 @@ not_short None b c r =
     (cond (is_digit c) (bad (Some InvalidEscapeSequence) (here b))
     (got (c ∷ []) r))))))
 
--- behind a string's backslash
+-- after a string's backslash
 unfoldable pub escape_at : List ℕ → List ℕ → Read (List ℕ)
 escape_at b [] = bad (Some EofParsingEscapeSequence) inner
 escape_at b (c ∷ r) = not_short (short_escape c) b c r
@@ -78,7 +78,7 @@ unfoldable pub string : List ℕ → Read (List ℕ × Bool)
 string [] = bad (Some EofParsingString) inner
 string (q ∷ r) = items (suc (length r)) q r
 
--- behind a name's backslash
+-- after a name's backslash
 unfoldable pub name_escape : List ℕ → List ℕ → Read ℕ
 name_escape b [] = bad (Some EofParsingIdentifier) inner
 name_escape b (c ∷ r) = cond (c == 117) (unicode_at b r) (bad (Some InvalidEscapeSequence) (here (c ∷ r)))

@@ -23,7 +23,7 @@ same c d h = grind (arith, nat_tests)
 pub run_refused : (q : List ℕ) (m : Bool) (x f : List ℕ) → f ≡ front_of in_run x → literal_at f ≡ None → decimal_run q m x ≡ bad None (here q)
 run_refused q m x f e h = ap (if_literal q m (rest_of in_run x)) (ap literal_at (sym e) ∙ h)
 
--- ---- behind a first `0`
+-- ---- after a first `0`
 
 pub zero_ends : (q : List ℕ) (m : Bool) (x : List ℕ) → x ≡ [] → at_zero q m x ≡ got (whole (pos 0)) x
 zero_ends q m x e = rw e refl

@@ -53,7 +53,7 @@ hex_past n c xs ys e h l = let a : nat_lt (n * 16 + digit_value c) (2 ^ 128) ≡
 
 pub ruleset hexadecimal_steps = (hex_end, hex_other, hex_more, hex_past)
 
--- behind `0x`
+-- after `0x`
 
 pub hexadecimal_ends : (q xs : List ℕ) (m : Bool) → xs ≡ [] → hexadecimal q m xs ≡ bad (Some EofParsingNumber) inner
 hexadecimal_ends q xs m e = rw e refl

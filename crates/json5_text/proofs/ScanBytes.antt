@@ -69,7 +69,7 @@ boundary_offset text i u b =
     let same = encodes-chars (take i text) (IsUtf8-take text i u b) in
     (chars (take i text), chars (drop i text), (halves_at text i u b).split, (let taken = length-take i text in let bytes = ap length same in omega arith))
 
--- and cut again behind p
+-- and cut again after p
 pub halves_behind : {text x y : List ℕ} (p q : List ℕ) → Halves text x y → y ≡ p ++ q → Halves text (x ++ p) q
 halves_behind {x = x} p q h e = record { is_text = h.is_text; split = h.split ∙ ap (λ z. x ++ z) e ∙ sym (append_assoc x p q) }
 
@@ -113,7 +113,7 @@ pub before_rest : {part : List ℕ} (text x rest : List ℕ) → IsUtf8 text →
 before_rest text x rest u v e f =
     ap chars (f ∙ beginning (length text - length rest) text ∙ ap (λ r. take (length text - length r) text) (sym (encodes-chars rest v))) ∙ take_half (record { is_text = u; split = e })
 
--- the text is cut behind so many bytes
+-- the text is cut after so many bytes
 pub cut_before : {text : List ℕ} {offset end cut : ℕ} (x y : List ℕ) → InText text offset end → chars text ≡ x ++ y → cut ≡ bytes_in x → IsCharBoundary text cut
 cut_before {text = text} {cut = cut} x y k e l =
     let h : Halves text x y = record { is_text = k.is_text; split = e } in

@@ -147,7 +147,7 @@ sign_chars = chars-encodes (92 ∷ 117 ∷ []) refl
 pub second_word : (n : ℕ) (b xs : List ℕ) → second n b xs ≡ and_then (word_at EofParsingEscapeSequence InvalidEscapeSequence escape_sign xs) (other_half n b)
 second_word n b xs = second_list n b xs ∙ ap (λ w. and_then (word_at EofParsingEscapeSequence InvalidEscapeSequence w xs) (other_half n b)) (sym sign_chars)
 
--- it stands there, and four digits behind it
+-- it stands there, and four digits after it
 pub second_digits : (n : ℕ) (b xs ys : List ℕ) → word_at EofParsingEscapeSequence InvalidEscapeSequence escape_sign xs ≡ got tt ys → second n b xs ≡ and_then (hex 4 0 b ys) (paired n b)
 second_digits n b xs ys e = second_word n b xs ∙ ap (λ z. and_then z (other_half n b)) e
 
@@ -157,7 +157,7 @@ second_pair n k b xs ys zs e f h = second_digits n b xs ys e ∙ ap (λ z. and_t
 pub second_unpaired : (n k : ℕ) (b xs ys zs : List ℕ) → word_at EofParsingEscapeSequence InvalidEscapeSequence escape_sign xs ≡ got tt ys → hex 4 0 b ys ≡ got k zs → (is_high n && is_low k) ≡ false → second n b xs ≡ bad None (here b)
 second_unpaired n k b xs ys zs e f h = second_digits n b xs ys e ∙ ap (λ z. and_then z (paired n b)) f ∙ rw h refl
 
--- ---- behind the backslash
+-- ---- after the backslash
 
 pub escape_end : (b xs : List ℕ) → xs ≡ [] → escape_at b xs ≡ bad (Some EofParsingEscapeSequence) inner
 unfolding escape_at

@@ -154,7 +154,7 @@ item_fits p b xs ys n e h = ap (λ z. and_then z (fit p b)) e ∙ rw h refl
 pub item_misfits : (p : ℕ → Bool) (b xs ys : List ℕ) (n : ℕ) → name_escape b xs ≡ got n ys → p n ≡ false → and_then (name_escape b xs) (fit p b) ≡ bad (Some ExpectedIdentifier) (here b)
 item_misfits p b xs ys n e h = ap (λ z. and_then z (fit p b)) e ∙ rw h refl
 
--- ---- more of a name behind what was read
+-- ---- more of a name after what was read
 
 abbrev pub Reached : Read (List ℕ × Bool) → Read (List ℕ × Bool) → List ℕ → List ℕ → Type 0
 Reached whole rest front text = (u : List ℕ) × (plain : Bool) × (whole ≡ put u plain rest) × (text ≡ front ++ encode_utf8_all u)

@@ -63,7 +63,7 @@ run_line q c raw x y z k e n f no_quote no_slash =
     ap (λ t. string (q ∷ t)) (e ∙ ap (λ t. raw ++ t) f) ∙ run_read q raw (c ∷ z) k
     ∙ ap (put raw true) (string_is q (c ∷ z) ∙ rest_line q c z a b (not_raw q c h a b)) ∙ ap (λ t. bad (Some LineTerminatorInString) (here t)) (sym f)
 
--- ---- an escape and the run behind it
+-- ---- an escape and the run after it
 
 pub escape_refused : (q : ℕ) (r : Refusal) (x y : List ℕ) → Refuses r (outcome (escape_at x y)) → Refuses r (outcome (escape_then q x y))
 escape_refused q r x y h = then_refuses r (escape_at x y) (escape_then q x y) (λ v z. put v false (string (q ∷ z))) refl h
@@ -121,7 +121,7 @@ pub bytes_put : (a b c r v : List ℕ) → b ≡ a ++ encode_utf8_all v → c �
 bytes_put a b c r v e f u =
     f ∙ ap (λ t. t ++ r) e ∙ append_assoc a (encode_utf8_all v) r ∙ ap (λ t. a ++ t) (ap (λ t. encode_utf8_all v ++ t) (sym (encodes-chars r u)) ∙ sym (encodes-append v (chars r)))
 
--- ---- more of a string behind what was read
+-- ---- more of a string after what was read
 
 abbrev pub Reached : ℕ → List ℕ → List ℕ → List ℕ → List ℕ → Type 0
 Reached q x y front text = (u : List ℕ) × (plain : Bool) × (string (q ∷ x) ≡ put u plain (string (q ∷ y))) × (text ≡ front ++ encode_utf8_all u)
@@ -151,7 +151,7 @@ reached_end q x y front a b v r (u, p, e, f) h i = (u ++ v, e ∙ ap (put u p) h
 pub reached_refused : (q : ℕ) (r : Refusal) (x y front a : List ℕ) → Reached q x y front a → Refuses r (outcome (string (q ∷ y))) → Refuses r (outcome (string (q ∷ x)))
 reached_refused q r x y front a (u, p, e, f) = refuses_as r (string (q ∷ y)) (string (q ∷ x)) (λ c z g. e ∙ put_bad u p (string (q ∷ y)) c z g)
 
--- ---- where a string is awaited
+-- ---- where a string is expected
 
 pub at_none : (x : List ℕ) → x ≡ [] → string_at x ≡ bad (Some EofParsingString) inner
 unfolding string_at

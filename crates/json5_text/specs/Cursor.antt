@@ -21,7 +21,7 @@ abbrev pub Says : Option ErrorCode → Error → Type 0
 Says (Some c) e = kind_of e ≡ code c
 Says None e = (text : List ℕ) × (kind_of e ≡ custom text)
 
--- the fault's place, where the text before the place begins behind what is read
+-- the fault's place, where the text before the place begins after what is read
 abbrev pub IsPlaced : Cursor → Option (List ℕ) → Error → Type 0
 IsPlaced s None e = place_of e ≡ None
 IsPlaced s (Some p) e = (before : List ℕ) → s.input ≡ before ++ s.unread → place_of e ≡ Some (position_behind (before ++ p))

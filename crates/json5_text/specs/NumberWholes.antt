@@ -10,7 +10,7 @@ abbrev pub distance : ℤ → ℕ
 distance (pos n) = n
 distance (negsuc n) = suc n
 
--- behind a minus at most 2^127 and not 0
+-- after a minus at most 2^127 and not 0
 abbrev pub IsSignedWhole : Bool → ℕ → Type 0
 IsSignedWhole false n = n < 2 ^ 128
 IsSignedWhole true n = (0 < n) × (n ≤ 2 ^ 127)

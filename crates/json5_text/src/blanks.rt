@@ -10,7 +10,7 @@ use crate::char::{is_json5_line_terminator, is_json5_whitespace};
 use crate::front::front;
 use crate::refusal::Refusal;
 use json5_grammar::code::ErrorCode;
-/// Behind `//`: what follows the line's end.
+/// After `//`: what follows the line's end.
 #[tactic(auto, using(crate::proofs::ScanSteps::line_steps))]
 fn skip_line(text: &str) -> &str
     ensures { Continues Mode.line text.now result.now }
@@ -25,7 +25,7 @@ fn skip_line(text: &str) -> &str
     rest
 }
 
-/// Behind `/*`: what follows the first `*/`.
+/// After `/*`: what follows the first `*/`.
 #[tactic(auto, using(crate::proofs::ScanSteps::block_steps))]
 fn skip_block(text: &str) -> Option<&str>
     ensures { MatchOption result (IsUnclosed (chars text.now)) (λ rest. Continues Mode.block text.now rest.now) }
@@ -44,7 +44,7 @@ fn skip_block(text: &str) -> Option<&str>
     None
 }
 
-/// Behind a comment's first slash: what follows the comment.
+/// After a comment's first slash: what follows the comment.
 fn skip_comment(text: &str) -> Result<&str, Refusal>
     ensures { MatchResult result (λ rest. Continues slash text.now rest.now) (λ e. RefusesByCode e (skip slash (chars text.now))) }
 {

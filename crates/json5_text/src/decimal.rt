@@ -89,7 +89,7 @@ fn bare_exponent(exponent: i128, count: usize, bare_count: usize) -> Option<i16>
     i16::try_from(raised).ok()
 }
 
-/// Both texts, one behind the other.
+/// Both texts, one after the other.
 fn joined(alloc: Global, first: &str, last: &str) -> std::result::Result<String, AllocError>
     ensures { IfOk result (λ text. string_bytes text ≡ first.now ++ last.now) }
 {

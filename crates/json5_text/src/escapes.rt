@@ -22,7 +22,7 @@ fn invalid(escape: &str) -> Refusal
 }
 
 /// The character that a string's escape spells, None where it spells none, and what follows it: `escape` begins with the
-/// backslash, and `text` stands behind it.
+/// backslash, and `text` stands after it.
 pub(crate) fn read_escape<'t>(
     escape: &str,
     text: &'t str,
@@ -38,7 +38,7 @@ pub(crate) fn read_escape<'t>(
     }
 }
 
-/// The character behind a backslash that spells another one.
+/// The character after a backslash that spells another one.
 fn short_escape(c: char) -> Option<char>
     ensures { result ≡ short_escape c }
 {
@@ -53,7 +53,7 @@ fn short_escape(c: char) -> Option<char>
     }
 }
 
-/// An escape whose character `c` behind the backslash is no short one.
+/// An escape whose character `c` after the backslash is no short one.
 fn long_escape<'t>(escape: &str, c: char, text: &'t str) -> Result<(Option<char>, &'t str), Refusal>
     ensures { AnswersAs in_list (not_short None (chars escape.now) c (chars text.now)) result }
 {
@@ -71,7 +71,7 @@ fn long_escape<'t>(escape: &str, c: char, text: &'t str) -> Result<(Option<char>
     }
 }
 
-/// Behind `\0`: no digit may follow.
+/// After `\0`: no digit may follow.
 fn nul_escape<'t>(escape: &str, text: &'t str) -> Result<(Option<char>, &'t str), Refusal>
     ensures { AnswersAs in_list (after_nul (chars escape.now) (chars text.now)) result }
 {
@@ -83,7 +83,7 @@ fn nul_escape<'t>(escape: &str, text: &'t str) -> Result<(Option<char>, &'t str)
     Ok((Some('\0'), text))
 }
 
-/// Behind `\x`: two hexadecimal digits.
+/// After `\x`: two hexadecimal digits.
 fn byte_escape<'t>(escape: &str, text: &'t str) -> Result<(Option<char>, &'t str), Refusal>
     ensures { AnswersAs in_list (and_then (hex 2 0 (chars escape.now) (chars text.now)) one_char) result }
 {
@@ -91,7 +91,7 @@ fn byte_escape<'t>(escape: &str, text: &'t str) -> Result<(Option<char>, &'t str
     Ok((Some(char::from(value as u8)), rest))
 }
 
-/// Behind a backslash and CR: an LF belongs to it.
+/// After a backslash and CR: an LF belongs to it.
 fn skip_line_feed(text: &str) -> &str
     ensures { Gives (after_cr (chars text.now)) [] result.now }
 {
@@ -101,7 +101,7 @@ fn skip_line_feed(text: &str) -> &str
     }
 }
 
-/// Behind `\u`: four hexadecimal digits, and another such escape behind a surrogate.
+/// After `\u`: four hexadecimal digits, and another such escape after a surrogate.
 pub(crate) fn unicode_escape<'t>(escape: &str, text: &'t str) -> Result<(char, &'t str), Refusal>
     ensures { Answers (unicode_at (chars escape.now) (chars text.now)) result }
 {
@@ -112,7 +112,7 @@ pub(crate) fn unicode_escape<'t>(escape: &str, text: &'t str) -> Result<(char, &
     }
 }
 
-/// Behind the escape of the surrogate `unit`: the escape of the other one of a pair.
+/// After the escape of the surrogate `unit`: the escape of the other one of a pair.
 fn second_escape<'t>(escape: &str, unit: u32, text: &'t str) -> Result<(char, &'t str), Refusal>
     requires { unit < 0x1_0000 }
     ensures { Answers (second unit (chars escape.now) (chars text.now)) result }

@@ -21,7 +21,7 @@ use std::alloc::Global;
 enum Stop<'t> {
     /// Before this, which goes on no name.
     End(&'t str),
-    /// At the backslash of an escape: the text from the backslash on, and the text behind it.
+    /// At the backslash of an escape: the text from the backslash on, and the text after it.
     Escape(&'t str, &'t str),
 }
 
@@ -81,7 +81,7 @@ fn read_escaped<'t>(
     }
 }
 
-/// Puts what an escape spells and the run behind it to the name, and says where that run ends.
+/// Puts what an escape spells and the run after it to the name, and says where that run ends.
 fn put_escape<'t>(
     name: &mut String,
     is_first: bool,

@@ -54,7 +54,7 @@ fn hexadecimal_digits(text: &str) -> Result<(u128, &str), &str>
     Ok((value, rest))
 }
 
-/// What stands behind `0x`; `start` is the text from the number's start.
+/// What stands after `0x`; `start` is the text from the number's start.
 fn hexadecimal<'t>(start: &str, negative: bool, text: &'t str) -> Result<(Whole, &'t str), Refusal>
     ensures { AnswersNumber numbers.whole (model.hexadecimal (chars start.now) negative (chars text.now)) result }
 {
@@ -85,7 +85,7 @@ struct Exponent<'t> {
     digits: &'t str,
 }
 
-/// A decimal literal without its sign: the digits before the point, those behind it, and the exponent.
+/// A decimal literal without its sign: the digits before the point, those after it, and the exponent.
 #[derive(Clone, Copy)]
 struct Literal<'t> {
     before: &'t str,
@@ -160,7 +160,7 @@ fn read_without_point<'t>(before: &'t str, rest: &'t str) -> Option<Literal<'t>>
     })
 }
 
-/// An integer before the point, or digits behind it alone.
+/// An integer before the point, or digits after it alone.
 fn has_digits(before: &str, behind: &str) -> bool
     ensures { result ≡ (model.is_integer before.now || (numbers.is_empty before.now && not (numbers.is_empty behind.now))) }
 {
@@ -212,7 +212,7 @@ fn decimal_value(text: &str) -> Option<u128>
     Some(value)
 }
 
-/// The digits behind the point, if any.
+/// The digits after the point, if any.
 fn digits_behind<'t>(literal: &Literal<'t>) -> &'t str
     requires { IfSome literal.now.behind (λ digits. Each is_digit digits.now) }
     ensures value { result.now ≡ numbers.digits_behind (parts_of literal.now).behind }
@@ -236,7 +236,7 @@ fn limited_value(exponent: &str) -> u128
     value
 }
 
-/// The exponent as it is written, or `EXPONENT_LIMIT` behind its sign where that is less.
+/// The exponent as it is written, or `EXPONENT_LIMIT` after its sign where that is less.
 fn written_exponent(exponent: &Exponent) -> i128
     requires { HasExponentDigits exponent.now }
     ensures { result ≡ signed_limited EXPONENT_LIMIT exponent.now }
@@ -245,7 +245,7 @@ fn written_exponent(exponent: &Exponent) -> i128
     if exponent.negative { -value } else { value }
 }
 
-/// The written exponent, 0 where there is none, lowered by the count of digits behind the point.
+/// The written exponent, 0 where there is none, lowered by the count of digits after the point.
 fn lowered_exponent(literal: &Literal, places: usize) -> i128
     requires { IfSome literal.now.exponent HasExponentDigits }
     ensures value { result ≡ limited_exponent EXPONENT_LIMIT literal.now.exponent -ℤ pos places }
@@ -321,7 +321,7 @@ fn begins_hexadecimal(c: char) -> bool
     c == 'x' || c == 'X'
 }
 
-/// What goes on with a decimal literal behind a first `0`.
+/// What goes on with a decimal literal after a first `0`.
 fn continues_zero(c: char) -> bool
     ensures { result ≡ ((c == 46) || ((c == 101) || (c == 69))) }
 {

@@ -1,4 +1,4 @@
-//! Cutting a text behind the ASCII characters in front that pass a test, and before those at its end.
+//! Cutting a text after the ASCII characters in front that pass a test, and before those at its end.
 
 ghost use Rattle.std.specs.Prelude.{◌≡◌, ◌==◌, ◌≤◌, length, reverse};
 ghost use Rattle.std.specs.Str.{IsUtf8, chars};

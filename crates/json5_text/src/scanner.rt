@@ -99,7 +99,7 @@ impl<I: Input> Scanner<I> {
     }
 
     /// Passes over blanks: white space, line terminators and comments (JSON5 sections 7 and 8). `ExpectedComment` stands at a
-    /// character behind a slash that begins no comment, and `EofParsingComment` has no place.
+    /// character after a slash that begins no comment, and `EofParsingComment` has no place.
     pub fn skip_blank(&mut self) -> Result<()>
         ensures { PassesBlanks self.old self.new result }
     {
@@ -253,7 +253,7 @@ impl<'de, I: Borrows<'de>> Scanner<I> {
 
     /// Takes an identifier and gives its text, borrowed where it holds no backslash (JSON5 section 3, ECMAScript 5.1 section
     /// 7.6). A character that may not begin one is `ExpectedIdentifier` at it, and an escape of a character that may not stand
-    /// there is the same at the escape's backslash; faulty escapes are those of `string`. What stands behind the identifier must
+    /// there is the same at the escape's backslash; faulty escapes are those of `string`. What stands after the identifier must
     /// be there: `EofParsingIdentifier`, like `EofParsingEscapeSequence`, has no place. Memory is wanted where an escape is used,
     /// and for a custom fault.
     pub fn identifier(&mut self) -> Result<CowStr<'de>>

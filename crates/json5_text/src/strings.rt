@@ -21,7 +21,7 @@ use std::alloc::{AllocError, Global};
 enum Stop<'t> {
     /// At the closing quote, which this follows.
     Quote(&'t str),
-    /// At the backslash of an escape: the text from the backslash on, and the text behind it.
+    /// At the backslash of an escape: the text from the backslash on, and the text after it.
     Escape(&'t str, &'t str),
 }
 
@@ -91,7 +91,7 @@ fn read_escaped<'t>(
     }
 }
 
-/// Puts what an escape spells and the run behind it to the text, and says where that run ends.
+/// Puts what an escape spells and the run after it to the text, and says where that run ends.
 fn put_escape<'t>(
     text: &mut String,
     quote: char,

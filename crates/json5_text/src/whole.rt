@@ -50,7 +50,7 @@ impl Whole {
         }
     }
 
-    /// The number with this distance from zero, behind a minus or not; none where it is below `i128::MIN`.
+    /// The number with this distance from zero, after a minus or not; none where it is below `i128::MIN`.
     pub(crate) fn from_parts(negative: bool, magnitude: u128) -> Option<Whole>
         ensures in_range { IsSome result ↔ InWhole (signed negative magnitude) }
         ensures value { IfSome result (λ w. w ≡ signed negative magnitude) }
@@ -96,7 +96,7 @@ impl Whole {
 impl fmt::Display for Whole {
     ghost output = { λ z. Some (signed_decimal z) };
 
-    /// The number's decimal digits, behind a minus where it is below zero.
+    /// The number's decimal digits, after a minus where it is below zero.
     fn fmt<W: fmt::Write>(&self, f: &mut fmt::Formatter<W>) -> fmt::Result {
         match self.as_i128() {
             Some(number) => number.fmt(f),

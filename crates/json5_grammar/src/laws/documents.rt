@@ -28,7 +28,7 @@ pub fn one_phrase()
     ensures { (x r q : List ℕ) (t u : Tree) → Reads x t r → Reads x u q → (t ≡ u) × (r ≡ q) }
 {}
 
-/// A document is a phrase with blanks behind it, nested within the limit.
+/// A document is a phrase with blanks after it, nested within the limit.
 pub fn phrases()
     ensures of_document { (limit : ℕ) (x : List ℕ) (t : Tree) → Doc limit x t → (r : List ℕ) × Reads x t r × LastBlanks r × (depth t ≤ limit) }
     ensures to_document { (limit : ℕ) (x r : List ℕ) (t : Tree) → Reads x t r → LastBlanks r → depth t ≤ limit → Doc limit x t }

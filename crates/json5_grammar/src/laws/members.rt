@@ -8,7 +8,7 @@ ghost use Rattle.json5_grammar.specs.Values.{Reads};
 ghost use Rattle.json5_grammar.specs.Members.{Opens, IsElement, IsClose, IsAtClose, Tail, Passed, GoesNowhere, snoc, joined, OpensObject, IsKey, IsKeyValue, IsBrace, PairsTail, PairsPassed, NoPairGoes, snoc_pair, joined_pairs};
 ghost use Rattle.json5_grammar.specs.MembersLeft.{NotAt, NoValue, RestOf, ClosesOrGoesOn, OneMorePair, RestOfPairs, ValueAndRest};
 
-/// An array is what is opened and has its members and the closing bracket behind.
+/// An array is what is opened and has its members and the closing bracket after it.
 pub fn array_from_front()
     ensures apart { (x r : List ℕ) (ts : Trees) → Reads x (array ts) r → (y : List ℕ) × Opens x y × Tail ts false y r }
     ensures together { (x y r : List ℕ) (ts : Trees) → Opens x y → Tail ts false y r → Reads x (array ts) r }
@@ -43,7 +43,7 @@ pub fn passed_members()
     ensures close { (ts : Trees) (due now : Bool) (x y r : List ℕ) → Passed ts due x now y → IsClose now y r → Tail ts due x r }
 {}
 
-/// What a whole array has behind members that were passed.
+/// What a whole array has after members that were passed.
 pub fn rest_of_array()
     ensures rest { (us ts : Trees) (due now : Bool) (x y r : List ℕ) → Passed us due x now y → Tail ts due x r → RestOf us ts now y r }
     ensures goes { (ts : Trees) (due : Bool) (x r : List ℕ) → Tail ts due x r → ClosesOrGoesOn ts due x r }
@@ -66,7 +66,7 @@ pub fn nothing_goes_on()
     ensures first { (x w y : List ℕ) → x ≡ w ++ y → Gap w y → Solid y → NoValue y → NotAt right_bracket y → GoesNowhere false x }
 {}
 
-/// An object is what is opened and has its pairs and the closing brace behind.
+/// An object is what is opened and has its pairs and the closing brace after it.
 pub fn object_from_front()
     ensures apart { (x r : List ℕ) (ps : Pairs) → Reads x (object ps) r → (y : List ℕ) × OpensObject x y × PairsTail ps false y r }
     ensures together { (x y r : List ℕ) (ps : Pairs) → OpensObject x y → PairsTail ps false y r → Reads x (object ps) r }
