@@ -1,6 +1,6 @@
 -- The fault table: the faults of a text, each with its code, its place, the part that is blamed, and what shows it.
 use Rattle.std.specs.Prelude.{◌≡◌, ◌≢◌, ℕ, Bool, true, false, ◌||◌, ◌==◌, List, [], ◌∷◌, ◌++◌, length, Option, Some, None, ◌⊎◌}
-use Rattle.json5_grammar.specs.Characters.{double_quote, single_quote, plus_sign, comma_sign, minus_sign, colon_sign, left_bracket, backslash, right_bracket, left_brace, right_brace, is_identifier_start}
+use Rattle.json5_grammar.specs.Characters.{letter_f, letter_n, letter_t, double_quote, single_quote, plus_sign, comma_sign, minus_sign, colon_sign, left_bracket, backslash, right_bracket, left_brace, right_brace, is_identifier_start}
 use Rattle.json5_grammar.specs.Codes.{ErrorCode, EofParsingArray, EofParsingObject, EofParsingValue, ExpectedColon, ExpectedComma, ExpectedIdentifier, ExpectedValue, TrailingCharacters, TooDeep, Shown, by_char, by_end}
 use Rattle.json5_grammar.specs.Blanks.{is_solid, CommentFault}
 use Rattle.json5_grammar.specs.NumberFaults.{begins_number, NumberFault}
@@ -17,7 +17,7 @@ innermost (b ∷ o) = Some b.before
 
 -- `n t f " ' + - . I N [ {` and digits
 abbrev pub begins_value : ℕ → Bool
-begins_value c = begins_number c || ((c == 110) || ((c == 116) || ((c == 102) || ((c == double_quote) || ((c == single_quote) || ((c == plus_sign) || ((c == minus_sign) || ((c == left_bracket) || (c == left_brace)))))))))
+begins_value c = begins_number c || ((c == letter_n) || ((c == letter_t) || ((c == letter_f) || ((c == double_quote) || ((c == single_quote) || ((c == plus_sign) || ((c == minus_sign) || ((c == left_bracket) || (c == left_brace)))))))))
 
 abbrev pub is_allowed_close : Awaits → ℕ → Bool
 is_allowed_close value c = false

@@ -1,7 +1,7 @@
 -- The faults of a number, from its first character on.
 use Rattle.std.specs.Prelude.{◌≡◌, ◌≢◌, ℕ, ◌^◌, ◌≤◌, ◌<◌, Bool, true, false, ◌||◌, ◌==◌, List, [], ◌∷◌, ◌++◌, ℤ, Option, Some, None}
 use lib.Chars.{codes}
-use Rattle.json5_grammar.specs.Characters.{plus_sign, minus_sign, point_sign, digit_zero, is_digit, is_hex_digit, Each}
+use Rattle.json5_grammar.specs.Characters.{capital_e, capital_i, capital_n, letter_e, plus_sign, minus_sign, point_sign, digit_zero, is_digit, is_hex_digit, Each}
 use Rattle.json5_grammar.specs.Codes.{ErrorCode, EofParsingNumber, ExpectedNumber, LeadingZero, OverflowParsingNumber, Shown, by_char, by_end}
 use Rattle.json5_grammar.specs.Numbers.{Number, Sign, spelled, Literal, hex_start, Num}
 use Rattle.json5_grammar.specs.Stops.{in_run, begins_run}
@@ -11,7 +11,7 @@ is_sign c = (c == plus_sign) || (c == minus_sign)
 
 -- after a sign
 abbrev pub begins_number : ℕ → Bool
-begins_number c = is_digit c || ((c == point_sign) || ((c == 73) || (c == 78)))
+begins_number c = is_digit c || ((c == point_sign) || ((c == capital_i) || (c == capital_n)))
 
 -- p begins the word, d would follow
 abbrev pub Cut : List ℕ → List ℕ → ℕ → Type 0
@@ -24,7 +24,7 @@ pub data NumberWord : List ℕ → Type 0 where
 -- n is all of a decimal run: a sign, a point or digit, and more; a first `0` begins one only before `. e E`
 pub data Run : List ℕ → Type 0 where
   run : {s n : List ℕ} {m : Bool} {c : ℕ} → Sign s m → begins_run c ≡ true → c ≢ digit_zero → Each in_run n → Run (s ++ c ∷ n)
-  zero_run : {s n : List ℕ} {m : Bool} (c : ℕ) → Sign s m → ((c == point_sign) || ((c == 101) || (c == 69))) ≡ true → Each in_run n → Run (s ++ digit_zero ∷ c ∷ n)
+  zero_run : {s n : List ℕ} {m : Bool} (c : ℕ) → Sign s m → ((c == point_sign) || ((c == letter_e) || (c == capital_e))) ≡ true → Each in_run n → Run (s ++ digit_zero ∷ c ∷ n)
 
 -- the text r ends or begins with a character that fails the test: that character, or nothing
 pub data Behind (p : ℕ → Bool) : List ℕ → List ℕ → Shown → Type 0 where

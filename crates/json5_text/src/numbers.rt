@@ -3,7 +3,7 @@
 ghost use Rattle.std.specs.Prelude.{◌≡◌, ◌==◌, ◌||◌, ◌&&◌, not, ◌∷◌, ◌^◌, ◌+◌, ◌*◌, ◌≤◌, ◌<◌, min, MatchOption, MatchResult, IfOk, IfErr, IfSome, IsSome, Some, None, ℕ, List, true, pos, neg_ℤ, ◌-ℤ◌, ◌≤ℤ◌, ◌↔◌};
 ghost use Rattle.std.specs.Option.{option_map};
 ghost use Rattle.std.specs.Str.{IsUtf8, chars};
-ghost use Rattle.json5_grammar.specs.Characters.{is_digit, Each};
+ghost use Rattle.json5_grammar.specs.Characters.{point_sign, digit_zero, capital_e, letter_e, is_digit, Each};
 ghost use Rattle.json5_grammar.specs.Numbers as numbers;
 ghost use Rattle.json5_grammar.specs.Stops as stops;
 ghost use Rattle.json5_grammar.specs.Reading.{got, bad, here};
@@ -95,7 +95,7 @@ struct Literal<'t> {
 
 /// `e` or `E`.
 fn begins_exponent(c: char) -> bool
-    ensures { result ≡ ((c == 101) || (c == 69)) }
+    ensures { result ≡ ((c == letter_e) || (c == capital_e)) }
 {
     c == 'e' || c == 'E'
 }
@@ -323,7 +323,7 @@ fn begins_hexadecimal(c: char) -> bool
 
 /// What goes on with a decimal literal after a first `0`.
 fn continues_zero(c: char) -> bool
-    ensures { result ≡ ((c == 46) || ((c == 101) || (c == 69))) }
+    ensures { result ≡ ((c == point_sign) || ((c == letter_e) || (c == capital_e))) }
 {
     c == '.' || c == 'e' || c == 'E'
 }
@@ -342,7 +342,7 @@ fn after_zero<'t>(
     text: &'t str,
     rest: &'t str,
 ) -> Result<(Number, &'t str), Refusal>
-    requires zero { chars text.now ≡ 48 ∷ chars rest.now }
+    requires zero { chars text.now ≡ digit_zero ∷ chars rest.now }
     requires text { IsUtf8 rest.now }
     ensures { AnswersNumber number_of (model.at_zero (chars start.now) negative (chars rest.now)) result }
 {

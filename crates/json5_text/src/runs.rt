@@ -35,13 +35,13 @@ fn digits_len(bytes: &[u8]) -> usize
 }
 
 fn front_zeros_len(bytes: &[u8]) -> usize
-    ensures { result ≡ length (take_while (λ byte. byte == 48) bytes.now) }
+    ensures { result ≡ length (take_while (λ byte. byte == characters.digit_zero) bytes.now) }
 {
     bytes.iter().take_while(|byte| **byte == b'0').count()
 }
 
 fn back_zeros_len(bytes: &[u8]) -> usize
-    ensures { result ≡ length (take_while (λ byte. byte == 48) (reverse bytes.now)) }
+    ensures { result ≡ length (take_while (λ byte. byte == characters.digit_zero) (reverse bytes.now)) }
 {
     bytes.iter().rev().take_while(|byte| **byte == b'0').count()
 }
