@@ -6,6 +6,7 @@ use Rattle.json5_grammar.specs.Blanks.{Blanks, Gap, is_solid}
 use Rattle.json5_grammar.specs.Trees.{Tree, Pairs, object, no_pair, pair, depth, pair_depths}
 use Rattle.json5_grammar.specs.Values.{no_last_comma, last_comma, Val, is_empty_object, is_object, Entries, last_pair, next_pair, Entry, entry, Stops, Reads}
 use Rattle.json5_grammar.specs.Members.{IsSign, OpensObject, ReadsKey, IsKey, IsKeyValue, IsBrace, IsAtBrace, PairsTail, PairsPassed, NoPairGoes, joined_pairs, snoc_pair}
+use Rattle.json5_grammar.proofs.Basics.{first_same}
 use Rattle.json5_grammar.proofs.BlanksRead.{begins_solid, printable_solid}
 use Rattle.json5_grammar.proofs.BlanksSound.{one_gap}
 use Rattle.json5_grammar.proofs.Classes.{EndsValues, comma_ends_values, brace_ends_values, colon_no_name}
@@ -24,9 +25,6 @@ brace_solid = printable_solid 125 refl refl
 
 pub opening_brace_solid : is_solid 123 ≡ true
 opening_brace_solid = printable_solid 123 refl refl
-
-first_same : (c d : ℕ) (x y : List ℕ) → c ∷ x ≡ d ∷ y → c ≡ d
-first_same c d x y e = cc
 
 -- one key goes on, and one rest is left
 pub one_reads_key : (x r y u v : List ℕ) (p q : Bool) → ReadsKey x u p r → ReadsKey x v q y → (u ≡ v) × (p ≡ q) × (r ≡ y)

@@ -6,6 +6,7 @@ use Rattle.json5_grammar.specs.Trees.{Tree, Trees, array, no_more, more}
 use Rattle.json5_grammar.specs.Faults.{begins_value}
 use Rattle.json5_grammar.specs.Values.{no_last_comma, last_comma, Val, is_empty_array, is_array, Members, last, next, Stops, Reads}
 use Rattle.json5_grammar.specs.Members.{IsSign, Opens, Tail}
+use Rattle.json5_grammar.proofs.Basics.{first_same, rest_same}
 use Rattle.json5_grammar.proofs.BlanksRead.{begins_solid, printable_solid}
 use Rattle.json5_grammar.proofs.BlanksSound.{Blanks-append, one_gap, gap_blanks}
 use Rattle.json5_grammar.proofs.Classes.{comma_ends_values, bracket_ends_values}
@@ -21,12 +22,6 @@ bracket_solid = printable_solid 93 refl refl
 
 pub opening_solid : is_solid 91 ≡ true
 opening_solid = printable_solid 91 refl refl
-
-first_same : (c d : ℕ) (x y : List ℕ) → c ∷ x ≡ d ∷ y → c ≡ d
-first_same c d x y e = cc
-
-rest_same : (c d : ℕ) (x y : List ℕ) → c ∷ x ≡ d ∷ y → x ≡ y
-rest_same c d x y e = cc
 
 -- one sign goes on, and one rest is left
 pub one_sign : (c d : ℕ) (x r q : List ℕ) → is_solid c ≡ true → is_solid d ≡ true → IsSign c x r → IsSign d x q → (c ≡ d) × (r ≡ q)

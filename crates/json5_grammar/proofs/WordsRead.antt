@@ -9,7 +9,7 @@ use Rattle.json5_grammar.specs.Parts.{IsPrefix}
 use Rattle.json5_grammar.specs.Reading.{Place, here, inner, Read, got, bad, IsAt}
 use Rattle.json5_grammar.specs.Values.{null_text, true_text, false_text}
 use Rattle.json5_grammar.specs.ReadValues.{word_at}
-use Rattle.json5_grammar.proofs.Basics.{by_test, eq_from, neq_from, not_eq, same_char}
+use Rattle.json5_grammar.proofs.Basics.{by_test, eq_from, neq_from, not_eq, same_char, cons_not_nil}
 use Rattle.json5_grammar.proofs.Refusals.{Refuses, one_refusal, not_both}
 
 -- a word in front is read
@@ -51,9 +51,6 @@ word_is eof wrong (k ∷ ks) (c ∷ r) =
     by_test (WordIs eof wrong (k ∷ ks) (c ∷ r)) (c == k) (word_at eof wrong ks r) (bad (Some wrong) (here (c ∷ r)))
     (λ h. subst (λ z. WordIs eof wrong (k ∷ ks) (z ∷ r) (word_at eof wrong ks r)) (sym (eq_from c k h)) (word_more eof wrong k ks r (word_at eof wrong ks r) (word_is eof wrong ks r)))
     (λ h. inl ([], k, ks, c, r, refl, refl, neq_from c k h, refl, refl))
-
-cons_not_nil : (k : ℕ) (v : List ℕ) → k ∷ v ≢ []
-cons_not_nil k v e = cc
 
 from_is : {eof wrong : ErrorCode} (k : ℕ) (ks r : List ℕ) (res : Read (Unit {0})) → Word (k ∷ ks) wrong eof → WordIs eof wrong ks r res → WordSound (k ∷ ks) (k ∷ r) res
 from_is k ks r (got u y) w e = ap (λ z. k ∷ z) e

@@ -5,7 +5,7 @@ use Rattle.std.specs.Char.{IsScalar, digit_value}
 use Rattle.std.specs.Str.{IsUtf8, chars}
 use Rattle.std.proofs.lemmas.Str.{encodes-chars, chars-encodes}
 use Rattle.std.proofs.lemmas.Bool.Decides.{nat_tests}
-use Rattle.json5_grammar.specs.Characters.{is_terminator, is_hex_digit, is_digit}
+use Rattle.json5_grammar.specs.Characters.{is_terminator, is_digit}
 use Rattle.json5_grammar.specs.declared.code.ErrorCode.{ErrorCode}
 use Rattle.json5_grammar.specs.declared.code.ErrorCode.TheVariants.{EofParsingEscapeSequence, InvalidEscapeSequence}
 use Rattle.json5_grammar.specs.Reading.{Read, Place, got, bad, here, inner, and_then}
@@ -13,6 +13,7 @@ use Rattle.json5_grammar.specs.Strings.{short_escape, is_high, is_low, joined}
 use Rattle.json5_grammar.specs.StringFaults.{is_surrogate}
 use Rattle.json5_grammar.specs.ReadTexts.{hex, paired, second_u, second, first, unicode_at, after_nul, not_short, escape_at}
 use Rattle.json5_grammar.specs.ReadValues.{word_at}
+use Rattle.json5_grammar.proofs.Basics.{hex_value, no_hex}
 use Rattle.json5_text.specs.declared.refusal.Refusal.{Refusal}
 use Rattle.json5_text.specs.declared.refusal.Refusal.TheVariants as refusal
 use Rattle.json5_text.specs.Outcome.{failed, outcome, left_at}
@@ -44,12 +45,6 @@ pub refused_here : {A : Type 0} (m : Read A) (code : ErrorCode) (bytes : List �
 refused_here m code bytes u e = ap outcome e ∙ ap (λ z. failed (Some code) (Some (length z))) (encodes-chars bytes u)
 
 -- ---- hexadecimal digits
-
-hex_value : (c : ℕ) → digit_value c < 16 → is_hex_digit c ≡ true
-hex_value c h = grind (arith, nat_tests)
-
-no_hex : (c : ℕ) → 16 ≤ digit_value c → is_hex_digit c ≡ false
-no_hex c h = grind (arith, nat_tests)
 
 pub hex_done : (w n : ℕ) (b xs : List ℕ) → w ≡ 0 → hex w n b xs ≡ got n xs
 unfolding hex
