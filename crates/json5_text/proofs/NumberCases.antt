@@ -1,7 +1,6 @@
 -- Reading a number by its first characters.
-use Rattle.std.proofs.Common.{◌≡◌, ℕ, Bool, true, false, ◌||◌, List, [], ◌∷◌, refl, ap, sym, ◌∙◌, arith, ◌≢◌, Some, None}
+use Rattle.std.proofs.Common.{◌≡◌, ℕ, Bool, true, false, ◌||◌, List, [], ◌∷◌, refl, ap, sym, ◌∙◌, ◌≢◌, Some, None}
 use Rattle.std.specs.Prelude.{◌==◌, pos}
-use Rattle.std.proofs.lemmas.Bool.Decides.{nat_tests}
 use lib.Chars.{codes}
 use Rattle.json5_grammar.specs.declared.code.ErrorCode.TheVariants.{EofParsingNumber, ExpectedNumber, LeadingZero}
 use Rattle.json5_grammar.specs.Characters.{is_digit}
@@ -12,9 +11,6 @@ use Rattle.std.specs.Str.{chars}
 use Rattle.json5_grammar.proofs.Basics.{not_eq}
 use Rattle.json5_text.proofs.NumberSteps.{infinity_rest, nan_rest}
 use Rattle.json5_grammar.specs.ReadNumbers.{word, hexadecimal, front_of, rest_of, literal_at, if_literal, decimal_run, at_zero, unsigned, number}
-
-same : (c d : ℕ) → c ≡ d → (c == d) ≡ true
-same c d h = grind (arith, nat_tests)
 
 -- ---- decimal runs
 

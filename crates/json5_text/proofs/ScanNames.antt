@@ -3,9 +3,9 @@ use Rattle.std.proofs.Common.{◌≡◌, ℕ, ◌+◌, ◌<◌, Bool, true, fals
 use Rattle.std.specs.Prelude.{◌==◌, ◌&&◌, not}
 use Rattle.std.specs.Char.{encode_utf8}
 use Rattle.std.specs.Str.{IsUtf8, chars, encode_utf8_all}
-use Rattle.std.proofs.lemmas.List.{length-append, append-nil}
+use Rattle.std.proofs.lemmas.List.{length-append}
 use Rattle.std.proofs.lemmas.Str.{encodes-chars}
-use Rattle.json5_grammar.specs.Characters.{NotBegun, Each, no_char, char, is_identifier_start, is_identifier_part}
+use Rattle.json5_grammar.specs.Characters.{NotBegun, Each, char, is_identifier_start, is_identifier_part}
 use Rattle.json5_grammar.specs.declared.code.ErrorCode.{ErrorCode}
 use Rattle.json5_grammar.specs.declared.code.ErrorCode.TheVariants.{EofParsingIdentifier, ExpectedIdentifier, InvalidEscapeSequence}
 use Rattle.json5_grammar.specs.Reading.{Read, Place, got, bad, here, inner, and_then}
@@ -21,7 +21,7 @@ use Rattle.json5_text.specs.Outcome.{outcome}
 use Rattle.json5_text.specs.Refused.{Refuses}
 use Rattle.json5_text.specs.ScanNames.{fits, is_raw_part, name_at, item, item_then, NoPart, StopsAt, GoesOn, IsFurther, StopsText}
 use Rattle.json5_text.proofs.ScanEscapes.{refuses_as, then_refuses}
-use Rattle.json5_text.proofs.ScanStrings.{put_bad, both_bytes, put_both, put_whole, plain_put}
+use Rattle.json5_text.proofs.ScanStrings.{put_bad, plain_put}
 
 -- ---- characters that stand for themselves
 
@@ -31,13 +31,6 @@ raw_parts c h = both (c == 92) (is_identifier_part c) h
     both : (a b : Bool) → (not a && b) ≡ true → (a ≡ false) × (b ≡ true)
     both true b h = absurd (cc)
     both false b h = (refl, h)
-
-pub part_more : (c : ℕ) (x y z : List ℕ) → is_raw_part c ≡ true → (raw : List ℕ) × (x ≡ raw ++ y) × Each is_raw_part raw → y ≡ c ∷ z → (raw : List ℕ) × (x ≡ raw ++ z) × Each is_raw_part raw
-part_more c x y z h (raw, e, k) f = (raw ++ c ∷ [], e ∙ ap (λ t. raw ++ t) f ∙ sym (append_assoc raw (c ∷ []) z), each_more raw k)
-  where
-    each_more : (raw : List ℕ) → Each is_raw_part raw → Each is_raw_part (raw ++ c ∷ [])
-    each_more [] k = char h no_char
-    each_more (d ∷ raw) (char i k) = char i (each_more raw k)
 
 pub no_part_from : (c : ℕ) (x r : List ℕ) → x ≡ c ∷ r → NotBegun is_raw_part x → (c ≡ 92 → ⊥) → NoPart x
 no_part_from c x r e s n =
@@ -153,24 +146,6 @@ item_fits p b xs ys n e h = ap (λ z. and_then z (fit p b)) e ∙ rw h refl
 
 pub item_misfits : (p : ℕ → Bool) (b xs ys : List ℕ) (n : ℕ) → name_escape b xs ≡ got n ys → p n ≡ false → and_then (name_escape b xs) (fit p b) ≡ bad (Some ExpectedIdentifier) (here b)
 item_misfits p b xs ys n e h = ap (λ z. and_then z (fit p b)) e ∙ rw h refl
-
--- ---- more of a name after what was read
-
-abbrev pub Reached : Read (List ℕ × Bool) → Read (List ℕ × Bool) → List ℕ → List ℕ → Type 0
-Reached whole rest front text = (u : List ℕ) × (plain : Bool) × (whole ≡ put u plain rest) × (text ≡ front ++ encode_utf8_all u)
-
-pub reached_start : (whole : Read (List ℕ × Bool)) (front : List ℕ) → Reached whole whole front front
-reached_start whole front = ([], true, put_none whole, sym (append-nil front))
-
-pub reached_more : (whole rest next : Read (List ℕ × Bool)) (front a b v : List ℕ) → Reached whole rest front a → rest ≡ put v false next → b ≡ a ++ encode_utf8_all v → Reached whole next front b
-reached_more whole rest next front a b v (u, p, e, f) h i = (u ++ v, false, e ∙ ap (put u p) h ∙ put_both u v p next, both_bytes front a b u v f i)
-
-pub reached_end : (whole rest : Read (List ℕ × Bool)) (front a b v r : List ℕ) → Reached whole rest front a → rest ≡ got (v, false) r → b ≡ a ++ encode_utf8_all v
-    → (u : List ℕ) × (whole ≡ got (u, false) r) × (b ≡ front ++ encode_utf8_all u)
-reached_end whole rest front a b v r (u, p, e, f) h i = (u ++ v, e ∙ ap (put u p) h ∙ put_whole u v r p, both_bytes front a b u v f i)
-
-pub reached_refused : (r : Refusal) (whole rest : Read (List ℕ × Bool)) (front a : List ℕ) → Reached whole rest front a → Refuses r (outcome rest) → Refuses r (outcome whole)
-reached_refused r whole rest front a (u, p, e, f) = refuses_as r rest whole (λ c z g. e ∙ put_bad u p rest c z g)
 
 -- ---- a name from its first character on
 

@@ -33,11 +33,11 @@ not_raw q c h i j = grind (arith, nat_tests)
 quote_no_backslash : (q : ℕ) → is_quote q ≡ true → (92 == q) ≡ false
 quote_no_backslash q h = grind (arith, nat_tests)
 
--- one more character
-pub raw_more : (q c : ℕ) (x y z : List ℕ) → is_raw q c ≡ true → (raw : List ℕ) × (x ≡ raw ++ y) × Each (is_raw q) raw → y ≡ c ∷ z → (raw : List ℕ) × (x ≡ raw ++ z) × Each (is_raw q) raw
-raw_more q c x y z h (raw, e, k) f = (raw ++ c ∷ [], e ∙ ap (λ t. raw ++ t) f ∙ sym (append_assoc raw (c ∷ []) z), each_more raw k)
+-- one more character that passes the test
+pub one_more : (p : ℕ → Bool) (c : ℕ) (x y z : List ℕ) → p c ≡ true → (raw : List ℕ) × (x ≡ raw ++ y) × Each p raw → y ≡ c ∷ z → (raw : List ℕ) × (x ≡ raw ++ z) × Each p raw
+one_more p c x y z h (raw, e, k) f = (raw ++ c ∷ [], e ∙ ap (λ t. raw ++ t) f ∙ sym (append_assoc raw (c ∷ []) z), each_more raw k)
   where
-    each_more : (raw : List ℕ) → Each (is_raw q) raw → Each (is_raw q) (raw ++ c ∷ [])
+    each_more : (raw : List ℕ) → Each p raw → Each p (raw ++ c ∷ [])
     each_more [] k = char h no_char
     each_more (d ∷ raw) (char i k) = char i (each_more raw k)
 
@@ -121,10 +121,7 @@ pub bytes_put : (a b c r v : List ℕ) → b ≡ a ++ encode_utf8_all v → c �
 bytes_put a b c r v e f u =
     f ∙ ap (λ t. t ++ r) e ∙ append_assoc a (encode_utf8_all v) r ∙ ap (λ t. a ++ t) (ap (λ t. encode_utf8_all v ++ t) (sym (encodes-chars r u)) ∙ sym (encodes-append v (chars r)))
 
--- ---- more of a string after what was read
-
-abbrev pub Reached : ℕ → List ℕ → List ℕ → List ℕ → List ℕ → Type 0
-Reached q x y front text = (u : List ℕ) × (plain : Bool) × (string (q ∷ x) ≡ put u plain (string (q ∷ y))) × (text ≡ front ++ encode_utf8_all u)
+-- ---- more of a text after what was read
 
 pub both_bytes : (front a b u v : List ℕ) → a ≡ front ++ encode_utf8_all u → b ≡ a ++ encode_utf8_all v → b ≡ front ++ encode_utf8_all (u ++ v)
 both_bytes front a b u v e f = f ∙ ap (λ t. t ++ encode_utf8_all v) e ∙ append_assoc front (encode_utf8_all u) (encode_utf8_all v) ∙ ap (λ t. front ++ t) (sym (encodes-append u v))
@@ -134,22 +131,25 @@ put_both u v true (got a r) = ap (λ t. got (t, false) r) (sym (append_assoc u v
 put_both u v false (got a r) = ap (λ t. got (t, false) r) (sym (append_assoc u v a.0))
 put_both u v p (bad e z) = refl
 
-pub reached_start : (q : ℕ) (x front : List ℕ) → Reached q x x front front
-reached_start q x front = ([], true, put_none (string (q ∷ x)), sym (append-nil front))
-
-pub reached_more : (q : ℕ) (x y z front a b v : List ℕ) → Reached q x y front a → string (q ∷ y) ≡ put v false (string (q ∷ z)) → b ≡ a ++ encode_utf8_all v → Reached q x z front b
-reached_more q x y z front a b v (u, p, e, f) h i = (u ++ v, false, e ∙ ap (put u p) h ∙ put_both u v p (string (q ∷ z)), both_bytes front a b u v f i)
-
 pub put_whole : (u v r : List ℕ) (p : Bool) → put u p (got (v, false) r) ≡ got (u ++ v, false) r
 put_whole u v r true = refl
 put_whole u v r false = refl
 
-pub reached_end : (q : ℕ) (x y front a b v r : List ℕ) → Reached q x y front a → string (q ∷ y) ≡ got (v, false) r → b ≡ a ++ encode_utf8_all v
-    → (u : List ℕ) × (string (q ∷ x) ≡ got (u, false) r) × (b ≡ front ++ encode_utf8_all u)
-reached_end q x y front a b v r (u, p, e, f) h i = (u ++ v, e ∙ ap (put u p) h ∙ put_whole u v r p, both_bytes front a b u v f i)
+abbrev pub Reached : Read (List ℕ × Bool) → Read (List ℕ × Bool) → List ℕ → List ℕ → Type 0
+Reached whole rest front text = (u : List ℕ) × (plain : Bool) × (whole ≡ put u plain rest) × (text ≡ front ++ encode_utf8_all u)
 
-pub reached_refused : (q : ℕ) (r : Refusal) (x y front a : List ℕ) → Reached q x y front a → Refuses r (outcome (string (q ∷ y))) → Refuses r (outcome (string (q ∷ x)))
-reached_refused q r x y front a (u, p, e, f) = refuses_as r (string (q ∷ y)) (string (q ∷ x)) (λ c z g. e ∙ put_bad u p (string (q ∷ y)) c z g)
+pub reached_start : (whole : Read (List ℕ × Bool)) (front : List ℕ) → Reached whole whole front front
+reached_start whole front = ([], true, put_none whole, sym (append-nil front))
+
+pub reached_more : (whole rest next : Read (List ℕ × Bool)) (front a b v : List ℕ) → Reached whole rest front a → rest ≡ put v false next → b ≡ a ++ encode_utf8_all v → Reached whole next front b
+reached_more whole rest next front a b v (u, p, e, f) h i = (u ++ v, false, e ∙ ap (put u p) h ∙ put_both u v p next, both_bytes front a b u v f i)
+
+pub reached_end : (whole rest : Read (List ℕ × Bool)) (front a b v r : List ℕ) → Reached whole rest front a → rest ≡ got (v, false) r → b ≡ a ++ encode_utf8_all v
+    → (u : List ℕ) × (whole ≡ got (u, false) r) × (b ≡ front ++ encode_utf8_all u)
+reached_end whole rest front a b v r (u, p, e, f) h i = (u ++ v, e ∙ ap (put u p) h ∙ put_whole u v r p, both_bytes front a b u v f i)
+
+pub reached_refused : (r : Refusal) (whole rest : Read (List ℕ × Bool)) (front a : List ℕ) → Reached whole rest front a → Refuses r (outcome rest) → Refuses r (outcome whole)
+reached_refused r whole rest front a (u, p, e, f) = refuses_as r rest whole (λ c z g. e ∙ put_bad u p rest c z g)
 
 -- ---- where a string is expected
 

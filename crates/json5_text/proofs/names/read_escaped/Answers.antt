@@ -2,7 +2,8 @@ use Rattle.std.proofs.Common.{sym, subst, ◌∙◌}
 use Rattle.std.specs.Str.{chars}
 use Rattle.std.proofs.lemmas.Result.{err_from_is_err_and}
 use Rattle.json5_text.specs.ScanNames.{name_at, item_then, GoesOn, IsFurther}
-use Rattle.json5_text.proofs.ScanNames.{name_item, Reached, reached_start, reached_more, reached_end, reached_refused}
+use Rattle.json5_text.proofs.ScanStrings.{Reached, reached_start, reached_more, reached_end, reached_refused}
+use Rattle.json5_text.proofs.ScanNames.{name_item}
 use Rattle.json5_text.proofs.names.read_escaped.Goals as goal
 
 pub loop-name-init : goal.loop-name-init
