@@ -1,7 +1,9 @@
 -- Tests, places, and texts that depend on the next character alone.
-use Rattle.std.proofs.Common.{◌≡◌, ℕ, Bool, true, false, cond, List, [], ◌∷◌, ◌++◌, refl, ap, sym, ◌∙◌, append_assoc, arith, ◌≢◌, subst, Option, Some, None}
-use Rattle.std.specs.Prelude.{◌==◌, ⊤}
-use Rattle.json5_grammar.specs.Characters.{NotBegun, is_digit}
+use Rattle.std.proofs.Common.{◌≡◌, ℕ, ◌<◌, ◌≤◌, Bool, true, false, cond, ◌||◌, List, [], ◌∷◌, ◌++◌, refl, ap, sym, ◌∙◌, append_assoc, arith, ◌≢◌, subst, Option, Some, None}
+use Rattle.std.specs.Prelude.{◌==◌, ◌&&◌, ⊤}
+use Rattle.std.specs.Char.{digit_value}
+use Rattle.std.proofs.lemmas.Bool.Decides.{nat_tests}
+use Rattle.json5_grammar.specs.Characters.{NotBegun, is_digit, is_hex_digit}
 use Rattle.json5_grammar.specs.Strings.{Items, no_item, raw, escape, Escape, short, nul, byte, unicode, line_end, cr_lf, lone_cr, itself}
 use Rattle.json5_grammar.specs.Codes.{behind_text}
 use Rattle.json5_grammar.specs.Reading.{Place, here, inner, IsAt}
@@ -23,7 +25,36 @@ not_eq c d h = grind arith
 pub same_char : (q : ℕ) → (q == q) ≡ true
 same_char q = grind arith
 
--- a place behind more text
+-- ---- parts of lists and tests
+
+pub first_same : (c d : ℕ) (x y : List ℕ) → c ∷ x ≡ d ∷ y → c ≡ d
+first_same c d x y e = cc
+
+pub rest_same : (c d : ℕ) (x y : List ℕ) → c ∷ x ≡ d ∷ y → x ≡ y
+rest_same c d x y e = cc
+
+pub cons_not_nil : (c : ℕ) (x : List ℕ) → c ∷ x ≢ []
+cons_not_nil c x e = cc
+
+pub both_true : (a b : Bool) → (a && b) ≡ true → (a ≡ true) × (b ≡ true)
+both_true true true e = (refl, refl)
+both_true true false e = absurd (cc)
+both_true false b e = absurd (cc)
+
+pub either_false : (a b : Bool) → (a || b) ≡ false → (a ≡ false) × (b ≡ false)
+either_false true b e = absurd (cc)
+either_false false b e = (refl, e)
+
+-- what is a hexadecimal digit has a value below 16
+pub hex_value : (c : ℕ) → digit_value c < 16 → is_hex_digit c ≡ true
+hex_value c h = grind (arith, nat_tests)
+
+pub no_hex : (c : ℕ) → 16 ≤ digit_value c → is_hex_digit c ≡ false
+no_hex c h = grind (arith, nat_tests)
+
+-- ---- places, and the next character
+
+-- a place after more text
 pub at_behind : (t x : List ℕ) (pl : Option (List ℕ)) (p : Place) → IsAt x pl p → IsAt (t ++ x) (behind_text t pl) p
 at_behind t x (Some b) (here q) e = ap (λ z. t ++ z) e ∙ sym (append_assoc t b q)
 at_behind t x (Some b) inner h = absurd h

@@ -71,7 +71,7 @@ mutual
   skip_block y (star h i) = skip_star y i h
   skip_block y (other {c = c} ne i) = rw (not_eq c 42 ne) (skip_block y i)
 
-  -- and so is one behind a star in it
+  -- and so is one after a star in it
   pub skip_star : {x : List ℕ} (y : List ℕ) → Inside x → NotBegun (λ c. c == 47) x → skip Mode.star (x ++ 42 ∷ 47 ∷ y) ≡ skip between y
   skip_star y ends h = refl
   skip_star y (star k i) h = skip_star y i k

@@ -5,15 +5,16 @@ use Rattle.std.proofs.lemmas.List.{append-nil}
 use Rattle.json5_grammar.specs.Characters.{is_terminator, is_blank, NotBegun, Each, no_char, char}
 use Rattle.json5_grammar.specs.Codes.{ErrorCode, ExpectedComment, EofParsingComment, Shown, by_char, by_end, behind_text}
 use Rattle.json5_grammar.specs.Blanks.{Inside, ends, star, other, Blanks, empty, blank, line, block, LastBlanks, open_line, Gap, at_end, is_solid, Solid, CommentFault, no_comment, slash_ends, block_ends, BlankFault, in_comment}
+use Rattle.json5_grammar.specs.Blames.{BlankBlame, HasGap, IsBlamed}
 use Rattle.json5_grammar.specs.Reading.{Place, here, inner, Read, got, bad, IsAt}
 use Rattle.json5_grammar.specs.ReadBlanks.{Mode, between, slash, skip}
 use Rattle.json5_grammar.proofs.Basics.{by_test, eq_from, neq_from, not_eq, at_behind}
 use Rattle.json5_grammar.proofs.Refusals.{Refuses, one_refusal, not_both, refuses_behind, one_answer}
 use Rattle.json5_grammar.proofs.BlanksRead.{skip_slash, skip_blanks, skip_gap, skip_rest, solid_from, begins_solid}
 
--- ---- blanks behind blanks
+-- ---- blanks after blanks
 
--- blanks behind blanks are blanks
+-- blanks after blanks are blanks
 pub Blanks-append : {v w : List ℕ} → Blanks v → Blanks w → Blanks (v ++ w)
 Blanks-append empty b = b
 Blanks-append (blank h a) b = blank h (Blanks-append a b)
@@ -228,12 +229,9 @@ gap_end {w = w} g = last_of g
     last_of (at_end l) = l
 
 -- each text is a gap before a solid rest or has a fault of blanks
-pub blanks_judged : (x : List ℕ)
-    → ((w : List ℕ) × (r : List ℕ) × (x ≡ w ++ r) × Gap w r × Solid r)
-    ⊎ ((code : Option ErrorCode) × (place : Option (List ℕ)) × (before : List ℕ) × (part : List ℕ) × (shown : Shown) × BlankFault x code place before part shown)
+pub blanks_judged : (x : List ℕ) → HasGap x ⊎ IsBlamed BlankBlame x
 blanks_judged x = by_answer (skip between x) (skip_sound x)
   where
-    by_answer : (res : Read (Unit {0})) → BlanksSound x res → ((w : List ℕ) × (r : List ℕ) × (x ≡ w ++ r) × Gap w r × Solid r)
-        ⊎ ((code : Option ErrorCode) × (place : Option (List ℕ)) × (before : List ℕ) × (part : List ℕ) × (shown : Shown) × BlankFault x code place before part shown)
+    by_answer : (res : Read (Unit {0})) → BlanksSound x res → HasGap x ⊎ IsBlamed BlankBlame x
     by_answer (got u r) (w, e, g, s) = inl (w, r, e, g, s)
-    by_answer (bad code p) b = inr (code, b.place, b.before, b.part, b.shown, b.fault)
+    by_answer (bad code p) b = inr (record { code = code; place = b.place; before = b.before; part = b.part; shown = b.shown }, b.fault)

@@ -148,7 +148,7 @@ no_body [] c z i h = refl
 no_body (a ∷ []) c z i h = rw (z, i) (then_false (a == 48) (begins_run a))
 no_body (a ∷ b ∷ s) c z i h = rw (h, i) (then_false ((a == 48) && hex_start b) (begins_run a))
 
--- a character that is in no run, behind no zero and no hexadecimal digit lengthens no value
+-- a character that is in no run, after no zero and no hexadecimal digit lengthens no value
 pub ends_values : (c : ℕ) → after_zero c ≡ false → in_run c ≡ false → is_hex_digit c ≡ false → EndsValues c
 ends_values c z i h [] = refl
 ends_values c z i h (a ∷ s) = rw (no_body s c z i h, no_body (a ∷ s) c z i h) (same (is_sign a))

@@ -25,7 +25,7 @@ at_single b r d s = at_first b r d ∙ rw s
 pub at_second : {h : List ℕ} {n : ℕ} (b r : List ℕ) → Hex4 h n → is_surrogate n ≡ true → unicode_at b (h ++ r) ≡ second n b r
 at_second b r d s = at_first b r d ∙ rw s
 
--- behind both `\u`
+-- after both `\u`
 pub at_both : {h : List ℕ} {n : ℕ} (b y r : List ℕ) → Hex4 h n → is_surrogate n ≡ true → unicode_at b ((h ++ 92 ∷ 117 ∷ y) ++ r) ≡ and_then (hex 4 0 b (y ++ r)) (paired n b)
 at_both {h = h} b y r d s = ap (unicode_at b) (append_assoc h (92 ∷ 117 ∷ y) r) ∙ at_second b (92 ∷ 117 ∷ y ++ r) d s
 

@@ -8,7 +8,7 @@ use Rattle.json5_grammar.specs.Reading.{Place, here, inner, Read, got, bad}
 use Rattle.json5_grammar.specs.ReadTexts.{hex}
 use Rattle.json5_grammar.proofs.Basics.{by_test}
 
--- the value of digits behind those of n
+-- the value of digits after those of n
 abbrev pub spelled : ℕ → List ℕ → ℕ
 spelled n [] = n
 spelled n (c ∷ s) = spelled (n * 16 + digit_value c) s

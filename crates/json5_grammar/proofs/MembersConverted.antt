@@ -9,7 +9,7 @@ both_parts None p cs h = absurd (cc)
 both_parts (Some c) None cs h = absurd (cc)
 both_parts (Some c) (Some rest) cs h = (c, rest, refl, refl, cc)
 
--- one more behind a list
+-- one more after a list
 pub one_behind : {C : Type 0} (d c : C) (rest cs : List C) (o : Option C) (q : Option (List C)) → o ≡ Some d → q ≡ Some (rest ++ c ∷ []) → cs ≡ d ∷ rest → both o q ≡ Some (cs ++ c ∷ [])
 one_behind d c rest cs o q a b e = rw (a, b, e) refl
 

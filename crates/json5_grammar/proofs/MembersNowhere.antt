@@ -1,4 +1,4 @@
--- What a text goes on with, from what stands behind the gap in front.
+-- What a text goes on with, from what stands after the gap in front.
 use Rattle.std.proofs.Common.{◌≡◌, ℕ, Bool, true, false, List, [], ◌∷◌, ◌++◌, refl, ap, sym, ◌∙◌, inl, inr, subst, Option}
 use Rattle.std.specs.Prelude.{◌==◌}
 use Rattle.std.proofs.lemmas.Bool.{both_ways}
@@ -17,7 +17,7 @@ use Rattle.json5_grammar.proofs.MembersPassed.{behind_comma}
 
 -- ---- what goes on
 
--- a phrase behind a gap
+-- a phrase after a gap
 pub reads_here : (x w y r : List ℕ) (t : Tree) → x ≡ w ++ y → Gap w y → Reads y t r → Reads x t r
 reads_here x w y r t e g p = subst (λ z. Reads z t r) (sym e) (reads_behind w y r t (blanks_of y refl g) p)
   where
@@ -34,7 +34,7 @@ reads_here x w y r t e g p = subst (λ z. Reads z t r) (sym e) (reads_behind w y
 
 -- ---- what doesn't
 
--- no sign goes on where the rest behind the gap doesn't begin with it
+-- no sign goes on where the rest after the gap doesn't begin with it
 pub no_sign : (sign : ℕ) (x w y r : List ℕ) → is_solid sign ≡ true → x ≡ w ++ y → Gap w y → Solid y → NotBegun (λ c. c == sign) y → IsSign sign x r → ⊥
 no_sign sign x w y r h e g s n a =
     let begins : NotBegun (λ c. c == sign) (sign ∷ r) = subst (NotBegun (λ c. c == sign)) (sign_found sign x w y r h e g s a) n in
@@ -60,7 +60,7 @@ nowhere_due x m n = record { no_element = λ t r a. m a.0 a.1; no_close = λ r c
     by_close r (inl c) = n r c
     by_close r (inr (y, c, d)) = m y c
 
--- nothing behind the comma
+-- nothing after the comma
 pub nowhere_comma : (x y : List ℕ) → IsSign 44 x y → GoesNowhere false y → ((r : List ℕ) → IsSign 93 x r → ⊥) → GoesNowhere true x
 nowhere_comma x y s h n = record { no_element = λ t r a. h.no_element t r (behind_comma (λ k. Reads k t r) x y a.0 s a.1 a.2); no_close = λ r c. by_close r c }
   where

@@ -6,6 +6,7 @@ use Rattle.json5_grammar.specs.Blanks.{Blanks, Gap, is_solid}
 use Rattle.json5_grammar.specs.Trees.{Tree, Pairs, object, no_pair, pair, depth, pair_depths}
 use Rattle.json5_grammar.specs.Values.{no_last_comma, last_comma, Val, is_empty_object, is_object, Entries, last_pair, next_pair, Entry, entry, Stops, Reads}
 use Rattle.json5_grammar.specs.Members.{IsSign, OpensObject, ReadsKey, IsKey, IsKeyValue, IsBrace, IsAtBrace, PairsTail, PairsPassed, NoPairGoes, joined_pairs, snoc_pair}
+use Rattle.json5_grammar.proofs.Basics.{first_same}
 use Rattle.json5_grammar.proofs.BlanksRead.{begins_solid, printable_solid}
 use Rattle.json5_grammar.proofs.BlanksSound.{one_gap}
 use Rattle.json5_grammar.proofs.Classes.{EndsValues, comma_ends_values, brace_ends_values, colon_no_name}
@@ -24,9 +25,6 @@ brace_solid = printable_solid 125 refl refl
 
 pub opening_brace_solid : is_solid 123 ≡ true
 opening_brace_solid = printable_solid 123 refl refl
-
-first_same : (c d : ℕ) (x y : List ℕ) → c ∷ x ≡ d ∷ y → c ≡ d
-first_same c d x y e = cc
 
 -- one key goes on, and one rest is left
 pub one_reads_key : (x r y u v : List ℕ) (p q : Bool) → ReadsKey x u p r → ReadsKey x v q y → (u ≡ v) × (p ≡ q) × (r ≡ y)
@@ -103,7 +101,7 @@ pub pairs_more : (ps : Pairs) (due now : Bool) (x y k z u : List ℕ) (p : Bool)
 pairs_more no_pair due now x y k z u p t (d, s) a e = (k, z, subst (λ w. IsKey due w u p k) (sym s) (subst (λ b. IsKey b y u p k) (sym d) a), e, (refl, refl))
 pairs_more (pair v m w ps) due now x y k z u p t (g, h, a, e, ok) b f = (g, h, a, e, pairs_more ps true now h y k z u p t ok b f)
 
--- the pairs behind them up to the closing brace
+-- the pairs after them up to the closing brace
 pub pairs_tail : (ps qs : Pairs) (due now : Bool) (x y r : List ℕ) → PairsPassed ps due x now y → PairsTail qs now y r → PairsTail (joined_pairs ps qs) due x r
 pairs_tail no_pair qs due now x y r (d, s) tl = subst (λ k. PairsTail qs due k r) (sym s) (subst (λ b. PairsTail qs b y r) (sym d) tl)
 pairs_tail (pair v m w ps) qs due now x y r (g, h, a, e, ok) tl = (g, h, a, e, pairs_tail ps qs true now h y r ok tl)
@@ -116,7 +114,7 @@ joined_none (pair u p t ps) = ap (pair u p t) (joined_none ps)
 pub pairs_close : (ps : Pairs) (due now : Bool) (x y r : List ℕ) → PairsPassed ps due x now y → IsBrace now y r → PairsTail ps due x r
 pairs_close ps due now x y r p c = subst (λ qs. PairsTail qs due x r) (joined_none ps) (pairs_tail ps no_pair due now x y r p c)
 
--- what a whole object has behind the pairs that were passed
+-- what a whole object has after the pairs that were passed
 pub pairs_rest : (qs ps : Pairs) (due now : Bool) (x y r : List ℕ) → PairsPassed qs due x now y → PairsTail ps due x r → (ws : Pairs) × (ps ≡ joined_pairs qs ws) × PairsTail ws now y r
 pairs_rest no_pair ps due now x y r (d, s) tl = (ps, refl, subst (λ k. PairsTail ps now k r) s (subst (λ b. PairsTail ps b x r) d tl))
 pairs_rest (pair v m u qs) no_pair due now x y r (g, h, a, e, ok) c = absurd (key_or_brace due x g r v m a c)
@@ -131,7 +129,7 @@ pairs_rest (pair v m u qs) (pair w n t ps) due now x y r (g, h, a, e, ok) (k, z,
 regroup : (a k b w s v y : List ℕ) → (a ++ (k ++ (b ++ 58 ∷ (w ++ (s ++ v))))) ++ y ≡ a ++ (k ++ (b ++ 58 ∷ (w ++ (s ++ (v ++ y)))))
 regroup a k b w s v y = simp append_assoc
 
--- the key and the value of a pair, up to the character behind it
+-- the key and the value of a pair, up to the character after it
 entry_read : {p u : List ℕ} {plain : Bool} {t : Tree} (c : ℕ) (y : List ℕ) → EndsValues c → Entry p u plain t → (k : List ℕ) × (v : List ℕ) × IsKey false (p ++ c ∷ y) u plain k × IsKeyValue k t (v ++ c ∷ y) × Blanks v
 entry_read c y ends (entry {a = a} {k = k} {b = b} {w = w} {s = s} {v = v} ba kt bb bw vs bv) = (
   b ++ 58 ∷ (w ++ (s ++ (v ++ c ∷ y))),
@@ -141,7 +139,7 @@ entry_read c y ends (entry {a = a} {k = k} {b = b} {w = w} {s = s} {v = v} ba kt
   bv,
 )
 
--- a key, a value and blanks behind it are a pair
+-- a key, a value and blanks after it are a pair
 entry_of : {x u y z v g : List ℕ} {plain : Bool} {t : Tree} → ReadsKey x u plain y → IsKeyValue y t z → z ≡ v ++ g → Blanks v → (p : List ℕ) × (x ≡ p ++ g) × Entry p u plain t
 entry_of {v = v} {g = g} key (q, s, e) k b = (
   key.front ++ (key.spelling ++ (s.front ++ 58 ∷ (e.front ++ (e.phrase ++ v)))),
@@ -225,20 +223,20 @@ object_reads x y r (pair u plain t ps) o tl =
 pub object_closed : (x y z r : List ℕ) (ps : Pairs) (due : Bool) → OpensObject x y → PairsPassed ps false y due z → IsBrace due z r → Reads x (object ps) r
 object_closed x y z r ps due o p c = object_reads x y r ps o (pairs_close ps false due y z r p c)
 
--- what is left of an object that was opened, behind the pairs that were passed
+-- what is left of an object that was opened, after the pairs that were passed
 pub object_left : (x y z r : List ℕ) (qs ps : Pairs) (due : Bool) → OpensObject x y → PairsPassed qs false y due z → Reads x (object ps) r → (ws : Pairs) × (ps ≡ joined_pairs qs ws) × PairsTail ws due z r
 object_left x y z r qs ps due o p reads =
     let (q, b, tl) = object_front x r ps reads in
     pairs_rest qs ps false due y z r p (subst (λ k. PairsTail ps false k r) (one_opening_brace x q y b o) tl)
 
--- what is left of an object is the closing brace, or a pair and what is left behind it
+-- what is left of an object is the closing brace, or a pair and what is left after it
 pub pairs_go : (ps : Pairs) (due : Bool) (x r : List ℕ) → PairsTail ps due x r
     → ((ps ≡ no_pair) × IsBrace due x r)
     ⊎ ((u : List ℕ) × (plain : Bool) × (t : Tree) × (qs : Pairs) × (y : List ℕ) × (z : List ℕ) × (ps ≡ pair u plain t qs) × IsKey due x u plain y × IsKeyValue y t z × PairsTail qs true z r)
 pairs_go no_pair due x r c = inl (refl, c)
 pairs_go (pair u plain t ps) due x r (y, z, key, value, tl) = inr (u, plain, t, ps, y, z, refl, key, value, tl)
 
--- behind a key that was read stands its value, and what is left behind that
+-- after a key that was read stands its value, and what is left after that
 pub value_left : (ps : Pairs) (due : Bool) (x y r u : List ℕ) (plain : Bool) → IsKey due x u plain y → PairsTail ps due x r
     → (t : Tree) × (qs : Pairs) × (z : List ℕ) × (ps ≡ pair u plain t qs) × IsKeyValue y t z × PairsTail qs true z r
 value_left no_pair due x y r u plain key c = absurd (key_or_brace due x y r u plain key c)
@@ -289,7 +287,7 @@ shallow_snoc_pair ps u p t level limit a b = let e = pair_depths_snoc ps u p t i
 pub pair_shallow : (ps qs : Pairs) (u : List ℕ) (p : Bool) (t : Tree) → depth t ≤ pair_depths (joined_pairs ps (pair u p t qs))
 pair_shallow ps qs u p t = let e = pair_depths_joined ps (pair u p t qs) in omega (arith, e)
 
--- one more behind the others
+-- one more after the others
 pub joined_snoc_pair : (ps qs : Pairs) (u : List ℕ) (p : Bool) (t : Tree) → joined_pairs (snoc_pair ps u p t) qs ≡ joined_pairs ps (pair u p t qs)
 joined_snoc_pair no_pair qs u p t = refl
 joined_snoc_pair (pair v m s ps) qs u p t = ap (pair v m s) (joined_snoc_pair ps qs u p t)

@@ -104,7 +104,7 @@ pub record PairGoesOn {K V : Type 0} (g : List ℕ → Bool → Option K) (f : T
   pub converts_value : f tree ≡ Some value
   pub shallow : level + depth tree ≤ limit
 
--- behind pairs that were read of an object that can be read the closing brace goes on, or such a pair
+-- after pairs that were read of an object that can be read the closing brace goes on, or such a pair
 pub pairs_readable : {K V : Type 0} (g : List ℕ → Bool → Option K) (f : Tree → Option V) (level limit : ℕ) (x y z r : List ℕ) (due : Bool) (cs ds : List (K × V)) (t : Tree)
     → OpensObject x y → PairsSoFar g f (level + 1) limit y due z cs → Reads x t r → level + depth t ≤ limit → object_of (pair_contents g f) t ≡ Some ds
     → ((q : List ℕ) × IsBrace due z q) ⊎ PairGoesOn g f (level + 1) limit due z

@@ -12,11 +12,11 @@ use Rattle.json5_grammar.proofs.MembersRead.{comma_solid, bracket_solid, opening
 
 -- ---- one way to go on
 
--- one rest behind a sign
+-- one rest after a sign
 pub same_sign : (c : ℕ) (x r q : List ℕ) → is_solid c ≡ true → IsSign c x r → IsSign c x q → r ≡ q
 same_sign c x r q h a b = (one_sign c c x r q h h a b).1
 
--- what stands behind the comma
+-- what stands after the comma
 pub behind_comma : (P : List ℕ → Type 0) (x y z : List ℕ) → IsSign 44 x y → IsSign 44 x z → P z → P y
 behind_comma P x y z c d p = subst P (same_sign 44 x z y comma_solid d c) p
 
@@ -90,7 +90,7 @@ pub passed_more : (ts : Trees) (due now : Bool) (x y z : List ℕ) (t : Tree) �
 passed_more no_more due now x y z t (d, s) e = (z, subst (λ k. IsElement due k t z) (sym s) (subst (λ b. IsElement b y t z) (sym d) e), (refl, refl))
 passed_more (more u us) due now x y z t (w, f, p) e = (w, f, passed_more us true now w y z t p e)
 
--- the members behind them up to the closing bracket
+-- the members after them up to the closing bracket
 pub passed_tail : (ts us : Trees) (due now : Bool) (x y r : List ℕ) → Passed ts due x now y → Tail us now y r → Tail (joined ts us) due x r
 passed_tail no_more us due now x y r (d, s) tl = subst (λ k. Tail us due k r) (sym s) (subst (λ b. Tail us b y r) (sym d) tl)
 passed_tail (more t ts) us due now x y r (w, f, p) tl = (w, f, passed_tail ts us true now w y r p tl)
@@ -103,7 +103,7 @@ joined_none (more t ts) = ap (more t) (joined_none ts)
 pub passed_close : (ts : Trees) (due now : Bool) (x y r : List ℕ) → Passed ts due x now y → IsClose now y r → Tail ts due x r
 passed_close ts due now x y r p c = subst (λ us. Tail us due x r) (joined_none ts) (passed_tail ts no_more due now x y r p c)
 
--- what a whole array has behind the members that were passed
+-- what a whole array has after the members that were passed
 pub passed_rest : (us ts : Trees) (due now : Bool) (x y r : List ℕ) → Passed us due x now y → Tail ts due x r → (vs : Trees) × (ts ≡ joined us vs) × Tail vs now y r
 passed_rest no_more ts due now x y r (d, s) tl = (ts, refl, subst (λ k. Tail ts now k r) s (subst (λ b. Tail ts b x r) d tl))
 passed_rest (more u us) no_more due now x y r (w, e, p) c = absurd (element_or_close due x w r u e c)
@@ -114,13 +114,13 @@ passed_rest (more u us) (more t ts) due now x y r (w, e, p) (z, f, tl) =
 
 -- ---- a member or the bracket, or nothing
 
--- what is left of an array is the closing bracket, or a member and what is left behind it
+-- what is left of an array is the closing bracket, or a member and what is left after it
 pub tail_goes : (ts : Trees) (due : Bool) (x r : List ℕ) → Tail ts due x r
     → ((ts ≡ no_more) × IsClose due x r) ⊎ ((t : Tree) × (us : Trees) × (y : List ℕ) × (ts ≡ more t us) × IsElement due x t y × Tail us true y r)
 tail_goes no_more due x r c = inl (refl, c)
 tail_goes (more t ts) due x r (y, e, tl) = inr (t, ts, y, refl, e, tl)
 
--- behind a member that was read stands what is left
+-- after a member that was read stands what is left
 pub element_left : (ts : Trees) (due : Bool) (x y r : List ℕ) (t : Tree) → IsElement due x t y → Tail ts due x r → (us : Trees) × (ts ≡ more t us) × Tail us true y r
 element_left no_more due x y r t e c = absurd (element_or_close due x y r t e c)
 element_left (more u ts) due x y r t e (z, f, tl) =
@@ -138,13 +138,13 @@ nowhere_tail (more t ts) due x r n (y, e, tl) = n.no_element t y e
 pub array_closed : (x y z r : List ℕ) (ts : Trees) (due : Bool) → Opens x y → Passed ts false y due z → IsClose due z r → Reads x (array ts) r
 array_closed x y z r ts due o p c = array_reads x y r ts o (passed_close ts false due y z r p c)
 
--- what is left of an array that was opened, behind the members that were passed
+-- what is left of an array that was opened, after the members that were passed
 pub array_left : (x y z r : List ℕ) (us ts : Trees) (due : Bool) → Opens x y → Passed us false y due z → Reads x (array ts) r → (vs : Trees) × (ts ≡ joined us vs) × Tail vs due z r
 array_left x y z r us ts due o p reads =
     let (q, b, tl) = array_front x r ts reads in
     passed_rest us ts false due y z r p (subst (λ k. Tail ts false k r) (one_opening x q y b o) tl)
 
--- an array can't be read where, behind members that were passed, nothing of one goes on
+-- an array can't be read where, after members that were passed, nothing of one goes on
 pub array_nowhere : (x y z r : List ℕ) (us ts : Trees) (due : Bool) → Opens x y → Passed us false y due z → GoesNowhere due z → Reads x (array ts) r → ⊥
 array_nowhere x y z r us ts due o p n reads =
     let (vs, e, tl) = array_left x y z r us ts due o p reads in

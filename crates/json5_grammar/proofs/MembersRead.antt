@@ -6,6 +6,7 @@ use Rattle.json5_grammar.specs.Trees.{Tree, Trees, array, no_more, more}
 use Rattle.json5_grammar.specs.Faults.{begins_value}
 use Rattle.json5_grammar.specs.Values.{no_last_comma, last_comma, Val, is_empty_array, is_array, Members, last, next, Stops, Reads}
 use Rattle.json5_grammar.specs.Members.{IsSign, Opens, Tail}
+use Rattle.json5_grammar.proofs.Basics.{first_same, rest_same}
 use Rattle.json5_grammar.proofs.BlanksRead.{begins_solid, printable_solid}
 use Rattle.json5_grammar.proofs.BlanksSound.{Blanks-append, one_gap, gap_blanks}
 use Rattle.json5_grammar.proofs.Classes.{comma_ends_values, bracket_ends_values}
@@ -22,12 +23,6 @@ bracket_solid = printable_solid 93 refl refl
 pub opening_solid : is_solid 91 ≡ true
 opening_solid = printable_solid 91 refl refl
 
-first_same : (c d : ℕ) (x y : List ℕ) → c ∷ x ≡ d ∷ y → c ≡ d
-first_same c d x y e = cc
-
-rest_same : (c d : ℕ) (x y : List ℕ) → c ∷ x ≡ d ∷ y → x ≡ y
-rest_same c d x y e = cc
-
 -- one sign goes on, and one rest is left
 pub one_sign : (c d : ℕ) (x r q : List ℕ) → is_solid c ≡ true → is_solid d ≡ true → IsSign c x r → IsSign d x q → (c ≡ d) × (r ≡ q)
 one_sign c d x r q h k a b =
@@ -42,7 +37,7 @@ sign_no_value c x r q t h n a p =
     let e : head.char ≡ c = first_same head.char c (head.more ++ r) q (sym (ap (λ z. z ++ r) head.is) ∙ g.1) in
     both_ways (begins_value head.char) (ap begins_value e ∙ n) head.begins
 
--- behind a gap stands the sign
+-- after a gap stands the sign
 pub sign_here : (c : ℕ) (x w r : List ℕ) → x ≡ w ++ c ∷ r → Gap w (c ∷ r) → IsSign c x r
 sign_here c x w r e g = record { front = w; split = e; blank = gap_blanks c r g }
 
@@ -50,7 +45,7 @@ sign_here c x w r e g = record { front = w; split = e; blank = gap_blanks c r g 
 pub sign_behind : (c : ℕ) (w x r : List ℕ) → Blanks w → IsSign c x r → IsSign c (w ++ x) r
 sign_behind c w x r b a = record { front = w ++ a.front; split = ap (λ z. w ++ z) a.split ∙ sym (append_assoc w a.front (c ∷ r)); blank = Blanks-append b a.blank }
 
--- behind the gap before a sign it stands alone
+-- after the gap before a sign it stands alone
 pub sign_found : (c : ℕ) (x w y r : List ℕ) → is_solid c ≡ true → x ≡ w ++ y → Gap w y → Solid y → IsSign c x r → y ≡ c ∷ r
 sign_found c x w y r h e g s a = (one_gap a.front (c ∷ r) w y (Gap.blanks a.blank) (begins_solid c r h) g s (sym a.split ∙ e)).1
 
@@ -65,7 +60,7 @@ reads_behind w x r t b p = record {
   stops = p.stops;
 }
 
--- behind the gap before a phrase it begins
+-- after the gap before a phrase it begins
 pub phrase_found : (x w y r : List ℕ) (t : Tree) → x ≡ w ++ y → Gap w y → Solid y → (p : Reads x t r) → y ≡ p.phrase ++ r
 phrase_found x w y r t e g s p = (one_gap p.front (p.phrase ++ r) w y (Gap.blanks p.blank) (value_solid r (val_head p.value)) g s (sym p.split ∙ e)).1
 
@@ -85,7 +80,7 @@ reads_found x w y r t e g s p = record {
 regroup : (w s v c r : List ℕ) → (w ++ (s ++ (v ++ c))) ++ r ≡ w ++ (s ++ (v ++ (c ++ r)))
 regroup w s v c r = simp append_assoc
 
--- members may stand behind the comma that is due
+-- members may stand after the comma that is due
 pub tail_comma : (ts : Trees) (x y r : List ℕ) → IsSign 44 x y → Tail ts false y r → Tail ts true x r
 tail_comma no_more x y r s c = inr (y, s, c)
 tail_comma (more t ts) x y r s (z, e, tl) = (z, (y, s, e), tl)

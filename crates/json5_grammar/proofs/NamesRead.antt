@@ -114,7 +114,7 @@ start_bad : (t : List ℕ) (c : Option ErrorCode) (p : Place) → ((k : List ℕ
 unfolding identifier
 start_bad t c p h = h (parts (suc (length t)))
 
--- behind whole items a backslash that no name goes on with
+-- after whole items a backslash that no name goes on with
 named_bad : {s : List ℕ} (t : List ℕ) (c : Option ErrorCode) (p : Place) → Named s → name_escape (92 ∷ t) t ≡ bad c p → identifier (s ++ 92 ∷ t) ≡ bad c p
 named_bad t c p no_item_yet h = start_bad t c p (λ k. item_bad is_identifier_start k t c p h)
 named_bad t c p (some_items {u = u} {plain = plain} i) h =

@@ -12,7 +12,7 @@ use Rattle.json5_grammar.specs.Codes.{ErrorCode, Shown, by_char, by_end, Expecte
 use Rattle.json5_grammar.specs.NumberFaults.{is_sign, begins_number, NumberWord, Run, run, zero_run, Behind, behind_end, behind_char, NumberFault, number_word_differs, number_word_ends, sign_without_number, sign_ends, no_hexadecimal_digit, hexadecimal_ends, hexadecimal_overflows, negative_too_large, not_a_literal, literal_overflows, leading_zero}
 use Rattle.json5_grammar.specs.Reading.{Place, Read, got, bad, here, inner}
 use Rattle.json5_grammar.specs.ReadNumbers.{Parts, front_of, rest_of, literal_at, in_exponents, is_whole, judged, if_literal, decimal_run, at_zero, hex_judged, hexadecimal, hex_digits, word, unsigned, number}
-use Rattle.json5_grammar.proofs.Basics.{by_test, eq_from, neq_from}
+use Rattle.json5_grammar.proofs.Basics.{by_test, eq_from, neq_from, rest_same, cons_not_nil}
 use Rattle.json5_grammar.proofs.NumberTests.{in_whole_yes, in_whole_true, in_exponents_yes, begins_run_in_run, dot_or_e_in_run, front_each, rest_stops, front_rest}
 use Rattle.json5_grammar.proofs.Literals.{literal_found, literal_is, LiteralIs, literal_head, Longer, zero_more, begun}
 use Rattle.json5_grammar.proofs.NumbersRead.{number_bare, lengthens_bare, lengthens_longer, lengthens_hex, stops_same, signed_zero, run_read, Bare, bare, longer_bare, head_bare, complete}
@@ -60,9 +60,6 @@ word_is n (k ∷ ks) (c ∷ r) =
     (λ h. subst (λ z. WordIs n (k ∷ ks) (z ∷ r) (word n ks r)) (sym (eq_from c k h)) (word_more n k ks r (word n ks r) (word_is n ks r)))
     (λ h. inl ([], k, ks, c, r, refl, refl, neq_from c k h, refl, refl))
 
-cons_not_nil : (k : ℕ) (v : List ℕ) → k ∷ v ≢ []
-cons_not_nil k v e = cc
-
 word_sound : {s : List ℕ} {m : Bool} (k : ℕ) (ks : List ℕ) (n : Number) (r : List ℕ) (res : Read Number) → Sign s m → NumberWord (k ∷ ks) → Num (s ++ k ∷ ks) n → ((y : List ℕ) → NotBegun (lengthens (s ++ k ∷ ks)) y)
     → WordIs n ks r res → SoundNumber (s ++ k ∷ r) res
 word_sound {s = s} k ks n r (got i y) g w a st (e, f) = (s ++ k ∷ ks, ap (λ z. s ++ k ∷ z) f ∙ sym (append_assoc s (k ∷ ks) y), rw e a, st y)
@@ -77,7 +74,7 @@ word_sound {s = s} k ks n r (bad e p) g w a st (inl (v, d, q, c, y, i, j, t, u, 
 word_sound {s = s} k ks n r (bad e p) g w a st (inr (d, q, i, u, l)) =
     rw (u, l) (record { place = None; is_place = refl; part = s ++ k ∷ r; shown = by_end; fault = number_word_ends (k ∷ ks) (k ∷ r) s d w g (q, ap (λ z. k ∷ z) i) (cons_not_nil k r) })
 
--- ---- what shows a fault behind a run
+-- ---- what shows a fault after a run
 
 pub record Followed (p : ℕ → Bool) (r : List ℕ) : Type 0 where
   pub text : List ℕ
@@ -179,19 +176,16 @@ bare_none : {l : List ℕ} (d : ℕ) (n : List ℕ) → Bare l → l ≡ d ∷ n
 bare_none d n (bare h) e k = bare_not h e k
 
 -- a text with a sign has one sign
-same_tail : (a b : ℕ) (l n : List ℕ) → a ∷ l ≡ b ∷ n → l ≡ n
-same_tail a b l n e = cc
-
 pub sign_split : {s t : List ℕ} {m k : Bool} (l n : List ℕ) → Sign s m → Sign t k → Bare l → Bare n → s ++ l ≡ t ++ n → l ≡ n
 sign_split l n no_sign no_sign a b e = e
 sign_split l n no_sign plus a b e = absurd (bare_none 43 n a e refl)
 sign_split l n no_sign minus a b e = absurd (bare_none 45 n a e refl)
 sign_split l n plus no_sign a b e = absurd (bare_none 43 l b (sym e) refl)
-sign_split l n plus plus a b e = same_tail 43 43 l n e
-sign_split l n plus minus a b e = same_tail 43 45 l n e
+sign_split l n plus plus a b e = rest_same 43 43 l n e
+sign_split l n plus minus a b e = rest_same 43 45 l n e
 sign_split l n minus no_sign a b e = absurd (bare_none 45 l b (sym e) refl)
-sign_split l n minus plus a b e = same_tail 45 43 l n e
-sign_split l n minus minus a b e = same_tail 45 45 l n e
+sign_split l n minus plus a b e = rest_same 45 43 l n e
+sign_split l n minus minus a b e = rest_same 45 45 l n e
 
 tail_of : {p : ℕ → Bool} {c : ℕ} {s : List ℕ} → Each p (c ∷ s) → Each p s
 tail_of (char h e) = e

@@ -80,7 +80,7 @@ word_refused_end : {s w : List ℕ} {m : Bool} (p : List ℕ) (d : ℕ) → Numb
 word_refused_end [] d w g (q, i) n = absurd (n refl)
 word_refused_end {m = m} (k ∷ v) d w g (q, i) n = let o = word_head m w in record { place = inner; answer = word_number k (v ++ d ∷ q) v g o i ∙ word_ends o.means v d q; is_place = refl }
 
--- ---- behind a sign
+-- ---- after a sign
 
 record SignIs (a : ℕ) (r : List ℕ) : Type 0 where
   minus : Bool

@@ -1,4 +1,4 @@
--- Counting from the front gives the position behind a text.
+-- Counting from the front gives the position after a text.
 use Rattle.std.proofs.Common.{◌≡◌, ◌≤◌, ℕ, suc, ◌+◌, Bool, true, false, if◌then◌else◌, ◌||◌, ◌&&◌, List, [], ◌∷◌, length, refl, ap, ◌∙◌, arith}
 use Rattle.std.specs.Prelude.{◌==◌, not}
 use Rattle.std.specs.List.{list_any}
@@ -8,7 +8,7 @@ use Rattle.json5_grammar.specs.Positions.{begins_line_feed, line_of, column_of, 
 use Rattle.json5_grammar.specs.PositionSteps.{position_step, position_from}
 use Rattle.json5_grammar.specs.declared.position.Position.{Position}
 
--- ---- what one character does; a: an LF behind a CR, t: a terminator, r: a CR, f: an LF follows
+-- ---- what one character does; a: an LF after a CR, t: a terminator, r: a CR, f: an LF follows
 
 feed_ends : (b : Bool) (c : ℕ) → (b && (c == 10)) ≡ true → is_terminator c ≡ true
 feed_ends b c h = grind (arith, nat_tests)

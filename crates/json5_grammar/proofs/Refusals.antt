@@ -27,7 +27,7 @@ one_refusal res x c d a b (p, e, i) (q, f, j) =
 pub not_both : {A : Type 0} (res : Read A) (x r : List ℕ) (v : A) (c : Option ErrorCode) (a : Option (List ℕ)) → res ≡ got v r → Refuses res x c a → ⊥
 not_both res x r v c a e (p, f, i) = let same : got v r ≡ bad c p = sym e ∙ f in absurd (cc)
 
--- a refusal behind more text
+-- a refusal after more text
 pub refuses_behind : {A B : Type 0} (t x : List ℕ) (res : Read A) (whole : Read B) (c : Option ErrorCode) (a : Option (List ℕ))
     → ((p : Place) → res ≡ bad c p → whole ≡ bad c p) → Refuses res x c a → Refuses whole (t ++ x) c (behind_text t a)
 refuses_behind t x res whole c a k (p, e, i) = (p, k p e, at_behind t x a p i)

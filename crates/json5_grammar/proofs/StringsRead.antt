@@ -117,7 +117,7 @@ at_escape zero q x code p l k h e = absurd (omega arith)
 at_escape (suc m) q x code p l k (t, h) e =
     ap (items (suc m) q) h ∙ rw (quote_no_backslash q k) (ap (λ z. and_then z (λ v y. put v false (items m q y))) (ap (escape_from true) (sym h) ∙ e))
 
--- behind the quote and whole items
+-- after the quote and whole items
 string_through : {q : ℕ} {s u : List ℕ} {p : Bool} (y : List ℕ) → is_quote q ≡ true → Items q y s u p → (m : ℕ) × (length y < m) × (string (q ∷ s ++ y) ≡ put u p (items m q y))
 unfolding string
 string_through {s = s} y k i = items_through y k i (suc (length (s ++ y))) (omega arith)

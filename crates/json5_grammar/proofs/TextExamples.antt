@@ -18,7 +18,7 @@ escapes : string (codes "\"\\n\\x41\\u0042\\0\\q\\ud83D\\uDe00\"") ≡ got (10 �
 unfolding string items escape_at unicode_at hex
 escapes = refl
 
--- CR LF behind a backslash gives nothing
+-- CR LF after a backslash gives nothing
 line_end : string (34 ∷ 92 ∷ 13 ∷ 10 ∷ 97 ∷ 34 ∷ []) ≡ got (97 ∷ [], false) []
 unfolding string items escape_at
 line_end = refl

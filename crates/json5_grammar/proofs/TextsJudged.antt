@@ -1,35 +1,30 @@
 -- A text that begins as a string or a name does begins with one or has a fault of one.
-use Rattle.std.proofs.Common.{◌≡◌, ℕ, Bool, true, false, ◌||◌, List, ◌∷◌, ◌++◌, ap, ◌∙◌, ◌⊎◌, inl, inr, Option}
+use Rattle.std.proofs.Common.{◌≡◌, ℕ, Bool, true, ◌||◌, List, ◌∷◌, ◌++◌, ap, ◌∙◌, ◌⊎◌, inl, inr}
 use Rattle.std.specs.Prelude.{◌==◌}
 use Rattle.json5_grammar.specs.Characters.{is_identifier_start}
-use Rattle.json5_grammar.specs.Strings.{Str, is_quote}
-use Rattle.json5_grammar.specs.Names.{Ident, goes_on_name}
-use Rattle.json5_grammar.specs.Codes.{ErrorCode, Shown}
-use Rattle.json5_grammar.specs.StringFaults.{StringFault}
-use Rattle.json5_grammar.specs.NameFaults.{NameFault}
+use Rattle.json5_grammar.specs.Strings.{is_quote}
+use Rattle.json5_grammar.specs.Blames.{StringBlame, NameBlame, HasString, HasName, IsBlamed}
 use Rattle.json5_grammar.specs.Reading.{Read, got, bad}
 use Rattle.json5_grammar.specs.ReadTexts.{string, identifier}
 use Rattle.json5_grammar.proofs.StringsSound.{StringSound, string_sound}
 use Rattle.json5_grammar.proofs.NamesSound.{NameSound, name_sound}
 
 abbrev StringJudged : List ℕ → Type 0
-StringJudged x = ((s : List ℕ) × (u : List ℕ) × (p : Bool) × (r : List ℕ) × (x ≡ s ++ r) × Str s u p)
-    ⊎ ((code : Option ErrorCode) × (place : Option (List ℕ)) × (before : List ℕ) × (part : List ℕ) × (shown : Shown) × StringFault x code place before part shown)
+StringJudged x = HasString x ⊎ IsBlamed StringBlame x
 
 by_string : (x : List ℕ) (res : Read (List ℕ × Bool)) → StringSound x res → StringJudged x
 by_string x (got a r) (s, e, k) = inl (s, a.0, a.1, r, e, k)
-by_string x (bad c p) b = inr (c, b.place, b.before, b.part, b.shown, b.fault)
+by_string x (bad c p) b = inr (record { code = c; place = b.place; before = b.before; part = b.part; shown = b.shown }, b.fault)
 
 pub string_judged : (q : ℕ) (y : List ℕ) → is_quote q ≡ true → StringJudged (q ∷ y)
 string_judged q y k = by_string (q ∷ y) (string (q ∷ y)) (string_sound q y k)
 
 abbrev NameJudged : List ℕ → Type 0
-NameJudged x = ((s : List ℕ) × (u : List ℕ) × (p : Bool) × (d : ℕ) × (r : List ℕ) × (x ≡ s ++ d ∷ r) × Ident s u p × (goes_on_name d ≡ false))
-    ⊎ ((code : Option ErrorCode) × (place : Option (List ℕ)) × (before : List ℕ) × (part : List ℕ) × (shown : Shown) × NameFault x code place before part shown)
+NameJudged x = HasName x ⊎ IsBlamed NameBlame x
 
 by_name : (x : List ℕ) (res : Read (List ℕ × Bool)) → NameSound x res → NameJudged x
 by_name x (got a r) (s, e, k, (d, z, f, g)) = inl (s, a.0, a.1, d, z, e ∙ ap (λ y. s ++ y) f, k, g)
-by_name x (bad c p) b = inr (c, b.place, b.before, b.part, b.shown, b.fault)
+by_name x (bad c p) b = inr (record { code = c; place = b.place; before = b.before; part = b.part; shown = b.shown }, b.fault)
 
 pub name_judged : (c : ℕ) (y : List ℕ) → ((c == 92) || is_identifier_start c) ≡ true → NameJudged (c ∷ y)
 name_judged c y k = by_name (c ∷ y) (identifier (c ∷ y)) (name_sound c y k)

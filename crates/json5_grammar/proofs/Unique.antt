@@ -41,7 +41,7 @@ complete_document limit x t d =
     ap (document limit) d.whole
     ∙ rw (skip_blanks (d.text ++ d.after) d.blank, skip_value d.after (val_head d.value), read_complete d.value d.after (stops_last d.text d.last) limit d.shallow, skip_last d.last) refl
 
--- a document is a phrase with blanks behind it
+-- a document is a phrase with blanks after it
 pub document_phrase : (limit : ℕ) (x : List ℕ) (t : Tree) → Doc limit x t → (r : List ℕ) × Reads x t r × LastBlanks r × (depth t ≤ limit)
 document_phrase limit x t d = (d.after, record { front = d.before; phrase = d.text; split = d.whole; blank = d.blank; value = d.value; stops = stops_last d.text d.last }, d.last, d.shallow)
 

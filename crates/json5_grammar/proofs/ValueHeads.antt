@@ -19,7 +19,7 @@ use Rattle.json5_grammar.specs.ReadBlanks.{skip, between}
 use Rattle.json5_grammar.specs.ReadNumbers as numbers
 use Rattle.json5_grammar.specs.ReadTexts.{string}
 use Rattle.json5_grammar.specs.ReadValues.{word_at, items, entries, as_leaf, value_with, too_deep, read}
-use Rattle.json5_grammar.proofs.Basics.{eq_from}
+use Rattle.json5_grammar.proofs.Basics.{eq_from, either_false}
 use Rattle.json5_grammar.proofs.BlanksRead.{printable_no_blank, printable_solid, skip_rest, solid_from, begins_solid}
 use Rattle.json5_grammar.proofs.Classes.{EndsValues, blank_ends_values, slash_ends_values, blank_no_name, slash_no_name, start_no_blank, start_no_slash, start_no_brace, begins_printable, begins_others, number_begins, quote_begins, number_others, quote_others, no_value_others}
 use Rattle.json5_grammar.proofs.NamesRead.{unicode_head}
@@ -38,10 +38,6 @@ pub record ValueHead (s : List ℕ) : Type 0 where
 number_none : numbers.number [] ≡ bad (Some EofParsingNumber) inner
 unfolding numbers.number
 number_none = refl
-
-either_false : (a b : Bool) → (a || b) ≡ false → (a ≡ false) × (b ≡ false)
-either_false true b h = absurd (cc)
-either_false false b h = (refl, h)
 
 -- a number begins with a sign, a digit, a point, `I` or `N`
 pub number_head : {s : List ℕ} {n : Number} → Num s n → (c : ℕ) × (t : List ℕ) × (s ≡ c ∷ t) × ((is_sign c || begins_number c) ≡ true)

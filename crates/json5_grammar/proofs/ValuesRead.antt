@@ -89,7 +89,7 @@ entries_close val (suc n) r l b = rw (skip_blanks (125 ∷ r) b, skip_brace r) r
 close_head : {s : List ℕ} (m : Read Trees) (r : List ℕ) → ValueHead s → close_or m (s ++ r) ≡ m
 close_head m r h = rw h.is (rw (begins_others h.char h.begins).3 refl)
 
--- what is read behind a member
+-- what is read after a member
 abbrev pub behind_member : (List ℕ → Read Trees) → Tree → List ℕ → Read Trees
 behind_member k t y = and_then (skip between y) (λ u z. and_then (after_member k z) (λ ts x. got (more t ts) x))
 
@@ -119,7 +119,7 @@ shorter w s v m r k h = let e = ap length (regroup w s v (44 ∷ m) r) in
 key_or_head : {k : List ℕ} (m : Read Pairs) (r : List ℕ) → KeyHead k → key_or m (k ++ r) ≡ m
 key_or_head m r h = rw h.is (rw (key_begins h.char h.begins).2 refl)
 
--- what is read behind a pair
+-- what is read after a pair
 abbrev pub behind_pair : (List ℕ → Read Pairs) → List ℕ → Bool → Tree → List ℕ → Read Pairs
 behind_pair k u plain t y = and_then (skip between y) (λ w z. and_then (after_pair k z) (λ ps q. got (pair u plain t ps) q))
 
@@ -202,7 +202,7 @@ mutual
       ∙ entry_complete e 44 (m ++ 125 ∷ r) comma_ends_values d (omega arith) k
       ∙ after_pair_comma u plain t qs d k (m ++ 125 ∷ r) r (entries_complete ps r d (omega arith) k (shorter_pair p m (125 ∷ r) k h))
 
-  -- a pair is read, up to the character behind it
+  -- a pair is read, up to the character after it
   pub entry_complete : {p u : List ℕ} {plain : Bool} {t : Tree} → Entry p u plain t → (c : ℕ) (y : List ℕ) → EndsValues c → (d : ℕ) → depth t ≤ d → (n : ℕ)
       → entries (read d) (suc n) (p ++ c ∷ y) ≡ behind_pair (entries (read d) n) u plain t (c ∷ y)
   entry_complete (entry {a = a} {k = k} {b = b} {w = w} {s = s} {v = v} ba kt bb bw vs bv) c y ends d l n =

@@ -4,10 +4,12 @@ use Rattle.std.specs.Prelude.{◌==◌}
 use Rattle.std.proofs.lemmas.List.{append-nil}
 use Rattle.json5_grammar.specs.Codes.{ErrorCode, EofParsingBool, EofParsingNull, ExpectedBool, ExpectedNull, Shown, by_char, by_end}
 use Rattle.json5_grammar.specs.WordFaults.{Word, null_word, true_word, false_word, WordFault, word_differs, word_ends}
+use Rattle.json5_grammar.specs.Blames.{WordBlame, IsBlamed}
+use Rattle.json5_grammar.specs.Parts.{IsPrefix}
 use Rattle.json5_grammar.specs.Reading.{Place, here, inner, Read, got, bad, IsAt}
 use Rattle.json5_grammar.specs.Values.{null_text, true_text, false_text}
 use Rattle.json5_grammar.specs.ReadValues.{word_at}
-use Rattle.json5_grammar.proofs.Basics.{by_test, eq_from, neq_from, not_eq, same_char}
+use Rattle.json5_grammar.proofs.Basics.{by_test, eq_from, neq_from, not_eq, same_char, cons_not_nil}
 use Rattle.json5_grammar.proofs.Refusals.{Refuses, one_refusal, not_both}
 
 -- a word in front is read
@@ -49,9 +51,6 @@ word_is eof wrong (k ∷ ks) (c ∷ r) =
     by_test (WordIs eof wrong (k ∷ ks) (c ∷ r)) (c == k) (word_at eof wrong ks r) (bad (Some wrong) (here (c ∷ r)))
     (λ h. subst (λ z. WordIs eof wrong (k ∷ ks) (z ∷ r) (word_at eof wrong ks r)) (sym (eq_from c k h)) (word_more eof wrong k ks r (word_at eof wrong ks r) (word_is eof wrong ks r)))
     (λ h. inl ([], k, ks, c, r, refl, refl, neq_from c k h, refl, refl))
-
-cons_not_nil : (k : ℕ) (v : List ℕ) → k ∷ v ≢ []
-cons_not_nil k v e = cc
 
 from_is : {eof wrong : ErrorCode} (k : ℕ) (ks r : List ℕ) (res : Read (Unit {0})) → Word (k ∷ ks) wrong eof → WordIs eof wrong ks r res → WordSound (k ∷ ks) (k ∷ r) res
 from_is k ks r (got u y) w e = ap (λ z. k ∷ z) e
@@ -152,11 +151,9 @@ no_word_fault {w = w} {wrong = wrong} {eof = eof} {e = e} {pl = pl} r k f =
     not_both (by_first (w ++ r)) (w ++ r) r tt e pl (by_word k (word_first r k) ∙ word_complete eof wrong w r) (first_refused f)
 
 -- a text that begins with a word's first letter begins with the word, or has a fault of a word
-pub word_judged : (k : ℕ) (ks r : List ℕ) (wrong eof : ErrorCode) → Word (k ∷ ks) wrong eof
-    → ((y : List ℕ) × (k ∷ r ≡ k ∷ ks ++ y)) ⊎ ((code : Option ErrorCode) × (place : Option (List ℕ)) × (part : List ℕ) × (shown : Shown) × WordFault (k ∷ r) code place part shown)
+pub word_judged : (k : ℕ) (ks r : List ℕ) (wrong eof : ErrorCode) → Word (k ∷ ks) wrong eof → IsPrefix (k ∷ ks) (k ∷ r) ⊎ IsBlamed WordBlame (k ∷ r)
 word_judged k ks r wrong eof w = by_answer (word_at eof wrong (k ∷ ks) (k ∷ r)) (word_sound k ks k r w (same_char k))
   where
-    by_answer : (res : Read (Unit {0})) → WordSound (k ∷ ks) (k ∷ r) res
-        → ((y : List ℕ) × (k ∷ r ≡ k ∷ ks ++ y)) ⊎ ((code : Option ErrorCode) × (place : Option (List ℕ)) × (part : List ℕ) × (shown : Shown) × WordFault (k ∷ r) code place part shown)
+    by_answer : (res : Read (Unit {0})) → WordSound (k ∷ ks) (k ∷ r) res → IsPrefix (k ∷ ks) (k ∷ r) ⊎ IsBlamed WordBlame (k ∷ r)
     by_answer (got u y) e = inl (y, e)
-    by_answer (bad code p) b = inr (code, b.place, b.part, b.shown, b.fault)
+    by_answer (bad code p) b = inr (record { code = code; place = b.place; before = []; part = b.part; shown = b.shown }, (refl, b.fault))

@@ -37,10 +37,10 @@ Solid r = NotBegun (λ c. not (is_solid c)) r
 
 -- x begins with a slash that begins no whole comment: the code, the text before its place (None: the end), the part, and what shows it
 pub data CommentFault : List ℕ → Option ErrorCode → Option (List ℕ) → List ℕ → Shown → Type 0 where
-  -- ExpectedComment at a character behind the slash that is neither `/` nor `*`
+  -- ExpectedComment at a character after the slash that is neither `/` nor `*`
   no_comment : (c : ℕ) (r : List ℕ) → ((c == slash_sign) || (c == star_sign)) ≡ false
       → CommentFault (slash_sign ∷ c ∷ r) (Some ExpectedComment) (Some (slash_sign ∷ [])) (slash_sign ∷ c ∷ []) by_char
-  -- EofParsingComment: the text ends behind the slash, or within `/*`
+  -- EofParsingComment: the text ends after the slash, or within `/*`
   slash_ends : CommentFault (slash_sign ∷ []) (Some EofParsingComment) None (slash_sign ∷ []) by_end
   block_ends : {x : List ℕ} → Inside x → CommentFault (slash_sign ∷ star_sign ∷ x) (Some EofParsingComment) None (slash_sign ∷ star_sign ∷ x) by_end
 

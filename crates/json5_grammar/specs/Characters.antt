@@ -43,6 +43,18 @@ digit_zero = 0x30
 abbrev pub colon_sign : ℕ
 colon_sign = 0x3A
 
+abbrev pub capital_e : ℕ
+capital_e = 0x45
+
+abbrev pub capital_i : ℕ
+capital_i = 0x49
+
+abbrev pub capital_n : ℕ
+capital_n = 0x4E
+
+abbrev pub capital_x : ℕ
+capital_x = 0x58
+
 abbrev pub left_bracket : ℕ
 left_bracket = 0x5B
 
@@ -51,6 +63,18 @@ backslash = 0x5C
 
 abbrev pub right_bracket : ℕ
 right_bracket = 0x5D
+
+abbrev pub letter_e : ℕ
+letter_e = 0x65
+
+abbrev pub letter_f : ℕ
+letter_f = 0x66
+
+abbrev pub letter_n : ℕ
+letter_n = 0x6E
+
+abbrev pub letter_t : ℕ
+letter_t = 0x74
 
 abbrev pub letter_u : ℕ
 letter_u = 0x75

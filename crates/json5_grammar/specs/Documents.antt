@@ -1,4 +1,4 @@
--- Documents, and readable beginnings. The nesting limit is a parameter.
+-- Documents, and readable prefixes. The nesting limit is a parameter.
 use Rattle.std.specs.Prelude.{◌≡◌, ℕ, ◌≤◌, List, ◌++◌}
 use Rattle.json5_grammar.specs.Blanks.{Blanks, LastBlanks}
 use Rattle.json5_grammar.specs.Trees.{Tree, depth}

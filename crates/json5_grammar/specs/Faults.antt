@@ -1,6 +1,6 @@
 -- The fault table: the faults of a text, each with its code, its place, the part that is blamed, and what shows it.
 use Rattle.std.specs.Prelude.{◌≡◌, ◌≢◌, ℕ, Bool, true, false, ◌||◌, ◌==◌, List, [], ◌∷◌, ◌++◌, length, Option, Some, None, ◌⊎◌}
-use Rattle.json5_grammar.specs.Characters.{double_quote, single_quote, plus_sign, comma_sign, minus_sign, colon_sign, left_bracket, backslash, right_bracket, left_brace, right_brace, is_identifier_start}
+use Rattle.json5_grammar.specs.Characters.{letter_f, letter_n, letter_t, double_quote, single_quote, plus_sign, comma_sign, minus_sign, colon_sign, left_bracket, backslash, right_bracket, left_brace, right_brace, is_identifier_start}
 use Rattle.json5_grammar.specs.Codes.{ErrorCode, EofParsingArray, EofParsingObject, EofParsingValue, ExpectedColon, ExpectedComma, ExpectedIdentifier, ExpectedValue, TrailingCharacters, TooDeep, Shown, by_char, by_end}
 use Rattle.json5_grammar.specs.Blanks.{is_solid, CommentFault}
 use Rattle.json5_grammar.specs.NumberFaults.{begins_number, NumberFault}
@@ -17,7 +17,7 @@ innermost (b ∷ o) = Some b.before
 
 -- `n t f " ' + - . I N [ {` and digits
 abbrev pub begins_value : ℕ → Bool
-begins_value c = begins_number c || ((c == 110) || ((c == 116) || ((c == 102) || ((c == double_quote) || ((c == single_quote) || ((c == plus_sign) || ((c == minus_sign) || ((c == left_bracket) || (c == left_brace)))))))))
+begins_value c = begins_number c || ((c == letter_n) || ((c == letter_t) || ((c == letter_f) || ((c == double_quote) || ((c == single_quote) || ((c == plus_sign) || ((c == minus_sign) || ((c == left_bracket) || (c == left_brace)))))))))
 
 abbrev pub is_allowed_close : Awaits → ℕ → Bool
 is_allowed_close value c = false
@@ -44,10 +44,10 @@ pub data Fault (limit : ℕ) : List ℕ → Option ErrorCode → Option (List �
   -- EofParsingValue
   value_missing : {f : List ℕ} {o : List Bracket} {a : Awaits} → Front limit f [] o a → takes_value a ≡ true
       → Fault limit f (Some EofParsingValue) (innermost o) f [] by_end
-  -- TooDeep at the bracket behind as many open ones as the limit
+  -- TooDeep at the bracket after as many open ones as the limit
   nested_too_deep : {f r : List ℕ} {o : List Bracket} {a : Awaits} {c : ℕ} → Front limit f (c ∷ r) o a → takes_value a ≡ true → ((c == left_bracket) || (c == left_brace)) ≡ true → length o ≡ limit
       → Fault limit (f ++ c ∷ r) (Some TooDeep) (Some f) f (c ∷ []) by_char
-  -- ExpectedComma at a character behind an element
+  -- ExpectedComma at a character after an element
   no_comma_in_array : {f r g : List ℕ} {o : List Bracket} {c : ℕ} → Front limit f (c ∷ r) (record { kind = of_array; before = g } ∷ o) comma → is_solid c ≡ true → ((c == comma_sign) || (c == right_bracket)) ≡ false
       → Fault limit (f ++ c ∷ r) (Some ExpectedComma) (Some f) f (c ∷ []) by_char
   -- EofParsingArray
@@ -59,21 +59,21 @@ pub data Fault (limit : ℕ) : List ℕ → Option ErrorCode → Option (List �
   -- EofParsingObject
   object_ends : {f g : List ℕ} {o : List Bracket} {a : Awaits} → Front limit f [] (record { kind = of_object; before = g } ∷ o) a → (a ≡ key) ⊎ ((a ≡ colon) ⊎ (a ≡ comma))
       → Fault limit f (Some EofParsingObject) (Some g) f [] by_end
-  -- ExpectedColon at a character behind a key
+  -- ExpectedColon at a character after a key
   no_colon : {f r : List ℕ} {o : List Bracket} {c : ℕ} → Front limit f (c ∷ r) o colon → is_solid c ≡ true → c ≢ colon_sign
       → Fault limit (f ++ c ∷ r) (Some ExpectedColon) (Some f) f (c ∷ []) by_char
-  -- ExpectedComma at a character behind a pair
+  -- ExpectedComma at a character after a pair
   no_comma_in_object : {f r g : List ℕ} {o : List Bracket} {c : ℕ} → Front limit f (c ∷ r) (record { kind = of_object; before = g } ∷ o) comma → is_solid c ≡ true → ((c == comma_sign) || (c == right_brace)) ≡ false
       → Fault limit (f ++ c ∷ r) (Some ExpectedComma) (Some f) f (c ∷ []) by_char
-  -- TrailingCharacters at a character behind the value
+  -- TrailingCharacters at a character after the value
   trailing : {f r : List ℕ} {o : List Bracket} {c : ℕ} → Front limit f (c ∷ r) o end → is_solid c ≡ true
       → Fault limit (f ++ c ∷ r) (Some TrailingCharacters) (Some f) f (c ∷ []) by_char
-  -- where a value is awaited
+  -- where a value is expected
   in_word : {f x p : List ℕ} {o : List Bracket} {a : Awaits} {code : Option ErrorCode} {place : Option (List ℕ)} {shown : Shown} → Front limit f x o a → takes_value a ≡ true → WordFault x code place p shown
       → Fault limit (f ++ x) code (lifted f o place) f p shown
   in_number : {f x p : List ℕ} {o : List Bracket} {a : Awaits} {code : Option ErrorCode} {place : Option (List ℕ)} {shown : Shown} → Front limit f x o a → takes_value a ≡ true → NumberFault x code place p shown
       → Fault limit (f ++ x) code (lifted f o place) f p shown
-  -- where a value or a key is awaited
+  -- where a value or a key is expected
   in_a_string : {f x b p : List ℕ} {o : List Bracket} {a : Awaits} {code : Option ErrorCode} {place : Option (List ℕ)} {shown : Shown} → Front limit f x o a → (takes_value a ≡ true) ⊎ (a ≡ key) → StringFault x code place b p shown
       → Fault limit (f ++ x) code (lifted f o place) (f ++ b) p shown
   in_a_name : {f x b p : List ℕ} {o : List Bracket} {code : Option ErrorCode} {place : Option (List ℕ)} {shown : Shown} → Front limit f x o key → NameFault x code place b p shown

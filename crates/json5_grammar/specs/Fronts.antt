@@ -1,4 +1,4 @@
--- Fronts: beginnings of documents, cut between tokens, with the open brackets and what is awaited.
+-- Fronts: prefixes of documents, cut between tokens, with the open brackets and what is expected.
 use Rattle.std.specs.Prelude.{◌≡◌, ℕ, ◌+◌, ◌≤◌, ◌<◌, Bool, true, false, List, [], ◌∷◌, ◌++◌, length}
 use Rattle.json5_grammar.specs.Characters.{comma_sign, colon_sign, left_bracket, right_bracket, left_brace, right_brace}
 use Rattle.json5_grammar.specs.Blanks.{Gap}
@@ -31,7 +31,7 @@ takes_value colon = false
 takes_value comma = false
 takes_value end = false
 
--- behind a value; behind an opening bracket or a comma
+-- after a value; after an opening bracket or a comma
 abbrev pub behind : List Bracket → Awaits
 behind [] = end
 behind (b ∷ o) = comma
@@ -48,7 +48,7 @@ abbrev pub closing : Kind → ℕ
 closing of_array = right_bracket
 closing of_object = right_brace
 
--- f is a document's beginning and r the rest of the text; the open brackets, the innermost first; what is awaited
+-- f is a document's prefix and r the rest of the text; the open brackets, the innermost first; what is expected
 pub data Front (limit : ℕ) : List ℕ → List ℕ → List Bracket → Awaits → Type 0 where
   start : {f r : List ℕ} → Gap f r → Front limit f r [] value
   after_value : {g s w r : List ℕ} {o : List Bracket} {a : Awaits} {t : Tree} → Front limit g (s ++ (w ++ r)) o a → takes_value a ≡ true → Val s t → Stops s (w ++ r) → length o + depth t ≤ limit → Gap w r → Front limit (g ++ (s ++ w)) r o (behind o)

@@ -15,10 +15,12 @@ pub mod NameFaults
 pub mod Trees
 pub mod Values
 pub mod Members
+pub mod MembersLeft
 pub mod Documents
 pub mod WordFaults
 pub mod Fronts
 pub mod Faults
+pub mod Blames
 pub mod Parts
 pub mod Quoting
 pub mod Reading

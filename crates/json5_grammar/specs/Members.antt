@@ -1,5 +1,5 @@
 -- Arrays and objects from their front: the members one after another, and the closing sign.
--- JSON5 sections 3 and 4 (objects and arrays; a comma may stand behind the last member).
+-- JSON5 sections 3 and 4 (objects and arrays; a comma may stand after the last member).
 use Rattle.std.specs.Prelude.{◌≡◌, ◌⊎◌, ℕ, Bool, true, false, List, [], ◌∷◌, ◌++◌, Option, Some, None}
 use Rattle.json5_grammar.specs.Characters.{comma_sign, colon_sign, left_bracket, right_bracket, left_brace, right_brace}
 use Rattle.json5_grammar.specs.Blanks.{Blanks}
@@ -7,29 +7,29 @@ use Rattle.json5_grammar.specs.Names.{Key}
 use Rattle.json5_grammar.specs.Trees.{Tree, Trees, Pairs, null, boolean, number, text, array, object, no_more, more, no_pair, pair}
 use Rattle.json5_grammar.specs.Values.{Reads}
 
--- x begins with blanks and the sign, and r is left behind it
+-- x begins with blanks and the sign, and r is left after it
 pub record IsSign (sign : ℕ) (x r : List ℕ) : Type 0 where
   pub front : List ℕ
   pub split : x ≡ front ++ sign ∷ r
   pub blank : Blanks front
 
--- x goes on with blanks and the closing sign, where a comma is due also behind one comma, and r is left behind the sign
+-- x goes on with blanks and the closing sign, where a comma is due also after one comma, and r is left after the sign
 abbrev pub IsEnd : ℕ → Bool → List ℕ → List ℕ → Type 0
 IsEnd sign false x r = IsSign sign x r
 IsEnd sign true x r = IsSign sign x r ⊎ ((y : List ℕ) × IsSign comma_sign x y × IsSign sign y r)
 
 -- ---- arrays
 
--- x begins with blanks and the opening bracket, and r is left behind it
+-- x begins with blanks and the opening bracket, and r is left after it
 abbrev pub Opens : List ℕ → List ℕ → Type 0
 Opens x r = IsSign left_bracket x r
 
--- x goes on with a member of the tree t, behind blanks and a comma where one is due, and r is left
+-- x goes on with a member of the tree t, after blanks and a comma where one is due, and r is left
 abbrev pub IsElement : Bool → List ℕ → Tree → List ℕ → Type 0
 IsElement false x t r = Reads x t r
 IsElement true x t r = (y : List ℕ) × IsSign comma_sign x y × Reads y t r
 
--- x goes on with blanks and the closing bracket, where a comma is due also behind one comma, and r is left behind the bracket
+-- x goes on with blanks and the closing bracket, where a comma is due also after one comma, and r is left after the bracket
 abbrev pub IsClose : Bool → List ℕ → List ℕ → Type 0
 IsClose due x r = IsEnd right_bracket due x r
 
@@ -37,12 +37,12 @@ IsClose due x r = IsEnd right_bracket due x r
 abbrev pub IsAtClose : Bool → List ℕ → List ℕ → Type 0
 IsAtClose due x y = (r : List ℕ) × IsClose due x r × (y ≡ right_bracket ∷ r)
 
--- x goes on with these members and the closing bracket, and r is left behind it
+-- x goes on with these members and the closing bracket, and r is left after it
 abbrev pub Tail : Trees → Bool → List ℕ → List ℕ → Type 0
 Tail no_more due x r = IsClose due x r
 Tail (more t ts) due x r = (y : List ℕ) × IsElement due x t y × Tail ts true y r
 
--- from x these members are read, and y is left; a comma is due before them, and then behind them
+-- from x these members are read, and y is left; a comma is due before them, and then after them
 abbrev pub Passed : Trees → Bool → List ℕ → Bool → List ℕ → Type 0
 Passed no_more due x now y = (due ≡ now) × (x ≡ y)
 Passed (more t ts) due x now y = (z : List ℕ) × IsElement due x t z × Passed ts true z now y
@@ -62,11 +62,11 @@ pub record ReadsKey (x u : List ℕ) (plain : Bool) (r : List ℕ) : Type 0 wher
   pub blank : Blanks front
   pub key : Key spelling r u plain
 
--- x begins with blanks and the opening brace, and r is left behind it
+-- x begins with blanks and the opening brace, and r is left after it
 abbrev pub OpensObject : List ℕ → List ℕ → Type 0
 OpensObject x r = IsSign left_brace x r
 
--- x goes on with a key with the text u, behind blanks and a comma where one is due, and r is left
+-- x goes on with a key with the text u, after blanks and a comma where one is due, and r is left
 abbrev pub IsKey : Bool → List ℕ → List ℕ → Bool → List ℕ → Type 0
 IsKey false x u plain r = ReadsKey x u plain r
 IsKey true x u plain r = (y : List ℕ) × IsSign comma_sign x y × ReadsKey y u plain r
@@ -75,7 +75,7 @@ IsKey true x u plain r = (y : List ℕ) × IsSign comma_sign x y × ReadsKey y u
 abbrev pub IsKeyValue : List ℕ → Tree → List ℕ → Type 0
 IsKeyValue x t r = (y : List ℕ) × IsSign colon_sign x y × Reads y t r
 
--- x goes on with blanks and the closing brace, where a comma is due also behind one comma, and r is left behind the brace
+-- x goes on with blanks and the closing brace, where a comma is due also after one comma, and r is left after the brace
 abbrev pub IsBrace : Bool → List ℕ → List ℕ → Type 0
 IsBrace due x r = IsEnd right_brace due x r
 
@@ -83,12 +83,12 @@ IsBrace due x r = IsEnd right_brace due x r
 abbrev pub IsAtBrace : Bool → List ℕ → List ℕ → Type 0
 IsAtBrace due x y = (r : List ℕ) × IsBrace due x r × (y ≡ right_brace ∷ r)
 
--- x goes on with these pairs and the closing brace, and r is left behind it
+-- x goes on with these pairs and the closing brace, and r is left after it
 abbrev pub PairsTail : Pairs → Bool → List ℕ → List ℕ → Type 0
 PairsTail no_pair due x r = IsBrace due x r
 PairsTail (pair u plain t ps) due x r = (y : List ℕ) × (z : List ℕ) × IsKey due x u plain y × IsKeyValue y t z × PairsTail ps true z r
 
--- from x these pairs are read, and y is left; a comma is due before them, and then behind them
+-- from x these pairs are read, and y is left; a comma is due before them, and then after them
 abbrev pub PairsPassed : Pairs → Bool → List ℕ → Bool → List ℕ → Type 0
 PairsPassed no_pair due x now y = (due ≡ now) × (x ≡ y)
 PairsPassed (pair u plain t ps) due x now y = (k : List ℕ) × (z : List ℕ) × IsKey due x u plain k × IsKeyValue k t z × PairsPassed ps true z now y
@@ -105,7 +105,7 @@ abbrev pub snoc : Trees → Tree → Trees
 snoc no_more u = more u no_more
 snoc (more t ts) u = more t (snoc ts u)
 
--- the trees, and others behind them
+-- the trees, and others after them
 abbrev pub joined : Trees → Trees → Trees
 joined no_more us = us
 joined (more t ts) us = more t (joined ts us)
@@ -115,7 +115,7 @@ abbrev pub snoc_pair : Pairs → List ℕ → Bool → Tree → Pairs
 snoc_pair no_pair u plain t = pair u plain t no_pair
 snoc_pair (pair v other s ps) u plain t = pair v other s (snoc_pair ps u plain t)
 
--- the pairs, and others behind them
+-- the pairs, and others after them
 abbrev pub joined_pairs : Pairs → Pairs → Pairs
 joined_pairs no_pair qs = qs
 joined_pairs (pair u plain t ps) qs = pair u plain t (joined_pairs ps qs)

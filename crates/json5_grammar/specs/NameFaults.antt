@@ -16,7 +16,7 @@ pub data NameFault : List ℕ → Option ErrorCode → Option (List ℕ) → Lis
   -- in an escape
   in_escape : {t x part : List ℕ} {code : Option ErrorCode} {place : Option (List ℕ)} {shown : Shown} → Named t → EscapeFault false x code place part shown
       → NameFault (t ++ x) code (behind_text t place) t part shown
-  -- InvalidEscapeSequence at the character behind a backslash that is no `u`
+  -- InvalidEscapeSequence at the character after a backslash that is no `u`
   no_unicode_escape : {t : List ℕ} (c : ℕ) (r : List ℕ) → Named t → c ≢ letter_u
       → NameFault (t ++ backslash ∷ c ∷ r) (Some InvalidEscapeSequence) (Some (t ++ backslash ∷ [])) t (backslash ∷ c ∷ []) by_char
   -- ExpectedIdentifier at the (first) backslash: an escaped character that may not begin a name
@@ -28,6 +28,6 @@ pub data NameFault : List ℕ → Option ErrorCode → Option (List ℕ) → Lis
   -- EofParsingIdentifier: the text ends in a name
   name_ends : {t u : List ℕ} {plain : Bool} → Ident t u plain
       → NameFault t (Some EofParsingIdentifier) None [] t by_end
-  -- EofParsingIdentifier: the text ends behind a backslash in a name
+  -- EofParsingIdentifier: the text ends after a backslash in a name
   backslash_ends : {t : List ℕ} → Named t
       → NameFault (t ++ backslash ∷ []) (Some EofParsingIdentifier) None [] (t ++ backslash ∷ []) by_end

@@ -24,3 +24,15 @@ goes_on_name c = is_identifier_part c || (c == backslash)
 pub data Key : List ℕ → List ℕ → List ℕ → Bool → Type 0 where
   string_key : {k r u : List ℕ} {plain : Bool} → Str k u plain → Key k r u plain
   name_key : {k r u : List ℕ} {c : ℕ} {plain : Bool} → Ident k u plain → goes_on_name c ≡ false → Key k (c ∷ r) u plain
+
+-- a text that is some name
+abbrev pub IsName : List ℕ → Type 0
+IsName s = (u : List ℕ) × (plain : Bool) × Ident s u plain
+
+-- a name, and r begins with a character that doesn't go on it
+pub record EndedName (s u : List ℕ) (plain : Bool) (r : List ℕ) : Type 0 where
+  pub first : ℕ
+  pub rest : List ℕ
+  pub split : r ≡ first ∷ rest
+  pub is_name : Ident s u plain
+  pub ends : goes_on_name first ≡ false

@@ -1,7 +1,7 @@
 -- The faults of a number, from its first character on.
 use Rattle.std.specs.Prelude.{◌≡◌, ◌≢◌, ℕ, ◌^◌, ◌≤◌, ◌<◌, Bool, true, false, ◌||◌, ◌==◌, List, [], ◌∷◌, ◌++◌, ℤ, Option, Some, None}
 use lib.Chars.{codes}
-use Rattle.json5_grammar.specs.Characters.{plus_sign, minus_sign, point_sign, digit_zero, is_digit, is_hex_digit, Each}
+use Rattle.json5_grammar.specs.Characters.{capital_e, capital_i, capital_n, letter_e, plus_sign, minus_sign, point_sign, digit_zero, is_digit, is_hex_digit, Each}
 use Rattle.json5_grammar.specs.Codes.{ErrorCode, EofParsingNumber, ExpectedNumber, LeadingZero, OverflowParsingNumber, Shown, by_char, by_end}
 use Rattle.json5_grammar.specs.Numbers.{Number, Sign, spelled, Literal, hex_start, Num}
 use Rattle.json5_grammar.specs.Stops.{in_run, begins_run}
@@ -9,9 +9,9 @@ use Rattle.json5_grammar.specs.Stops.{in_run, begins_run}
 abbrev pub is_sign : ℕ → Bool
 is_sign c = (c == plus_sign) || (c == minus_sign)
 
--- behind a sign
+-- after a sign
 abbrev pub begins_number : ℕ → Bool
-begins_number c = is_digit c || ((c == point_sign) || ((c == 73) || (c == 78)))
+begins_number c = is_digit c || ((c == point_sign) || ((c == capital_i) || (c == capital_n)))
 
 -- p begins the word, d would follow
 abbrev pub Cut : List ℕ → List ℕ → ℕ → Type 0
@@ -24,7 +24,7 @@ pub data NumberWord : List ℕ → Type 0 where
 -- n is all of a decimal run: a sign, a point or digit, and more; a first `0` begins one only before `. e E`
 pub data Run : List ℕ → Type 0 where
   run : {s n : List ℕ} {m : Bool} {c : ℕ} → Sign s m → begins_run c ≡ true → c ≢ digit_zero → Each in_run n → Run (s ++ c ∷ n)
-  zero_run : {s n : List ℕ} {m : Bool} (c : ℕ) → Sign s m → ((c == point_sign) || ((c == 101) || (c == 69))) ≡ true → Each in_run n → Run (s ++ digit_zero ∷ c ∷ n)
+  zero_run : {s n : List ℕ} {m : Bool} (c : ℕ) → Sign s m → ((c == point_sign) || ((c == letter_e) || (c == capital_e))) ≡ true → Each in_run n → Run (s ++ digit_zero ∷ c ∷ n)
 
 -- the text r ends or begins with a character that fails the test: that character, or nothing
 pub data Behind (p : ℕ → Bool) : List ℕ → List ℕ → Shown → Type 0 where
@@ -40,16 +40,16 @@ pub data NumberFault : List ℕ → Option ErrorCode → Option (List ℕ) → L
   -- EofParsingNumber: the text ends in `Infinity` or `NaN`
   number_word_ends : (w p s : List ℕ) {m : Bool} (d : ℕ) → NumberWord w → Sign s m → Cut w p d → p ≢ []
       → NumberFault (s ++ p) (Some EofParsingNumber) None (s ++ p) by_end
-  -- ExpectedNumber at the character behind a sign that begins no number
+  -- ExpectedNumber at the character after a sign that begins no number
   sign_without_number : (r : List ℕ) {sign c : ℕ} → is_sign sign ≡ true → begins_number c ≡ false
       → NumberFault (sign ∷ c ∷ r) (Some ExpectedNumber) (Some (sign ∷ [])) (sign ∷ c ∷ []) by_char
-  -- EofParsingNumber: the text ends behind a sign
+  -- EofParsingNumber: the text ends after a sign
   sign_ends : {sign : ℕ} → is_sign sign ≡ true
       → NumberFault (sign ∷ []) (Some EofParsingNumber) None (sign ∷ []) by_end
-  -- ExpectedNumber at the character behind `0x` that is no hexadecimal digit
+  -- ExpectedNumber at the character after `0x` that is no hexadecimal digit
   no_hexadecimal_digit : (r s : List ℕ) {m : Bool} (x c : ℕ) → Sign s m → hex_start x ≡ true → is_hex_digit c ≡ false
       → NumberFault (s ++ digit_zero ∷ x ∷ c ∷ r) (Some ExpectedNumber) (Some (s ++ digit_zero ∷ x ∷ [])) (s ++ digit_zero ∷ x ∷ c ∷ []) by_char
-  -- EofParsingNumber: the text ends behind `0x`
+  -- EofParsingNumber: the text ends after `0x`
   hexadecimal_ends : (s : List ℕ) {m : Bool} (x : ℕ) → Sign s m → hex_start x ≡ true
       → NumberFault (s ++ digit_zero ∷ x ∷ []) (Some EofParsingNumber) None (s ++ digit_zero ∷ x ∷ []) by_end
   -- OverflowParsingNumber at the digit that takes a hexadecimal number past 128 bits
@@ -64,7 +64,7 @@ pub data NumberFault : List ℕ → Option ErrorCode → Option (List ℕ) → L
   -- OverflowParsingNumber at the number's start: a literal whose exponent is out of range
   literal_overflows : (r s l i c : List ℕ) {shown : Shown} {m : Bool} {d : Option (List ℕ)} {w : Option ℤ} → Run (s ++ l) → Sign s m → Literal l i d w → ((n : Number) → Num (s ++ l) n → ⊥) → Behind in_run r c shown
       → NumberFault ((s ++ l) ++ r) (Some OverflowParsingNumber) (Some []) ((s ++ l) ++ c) shown
-  -- LeadingZero at the number's start: a digit behind a first `0`
+  -- LeadingZero at the number's start: a digit after a first `0`
   leading_zero : (r s : List ℕ) {m : Bool} (c : ℕ) → Sign s m → is_digit c ≡ true
       → NumberFault (s ++ digit_zero ∷ c ∷ r) (Some LeadingZero) (Some []) (s ++ digit_zero ∷ c ∷ []) by_char
 

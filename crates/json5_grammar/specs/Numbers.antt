@@ -3,7 +3,7 @@
 use Rattle.std.specs.Prelude.{◌≡◌, ℕ, ◌+◌, ◌-◌, ◌*◌, ◌^◌, Bool, true, false, if◌then◌else◌, ◌||◌, ◌==◌, List, [], ◌∷◌, ◌++◌, length, reverse, ℤ, pos, ◌+ℤ◌, ◌-ℤ◌, neg_ℤ, ◌≤ℤ◌, Option, Some, None}
 use Rattle.std.specs.Char.{digit_value}
 use lib.Chars.{codes}
-use Rattle.json5_grammar.specs.Characters.{plus_sign, minus_sign, point_sign, digit_zero, letter_x, is_in, is_digit, is_hex_digit, Each}
+use Rattle.json5_grammar.specs.Characters.{capital_e, capital_x, letter_e, plus_sign, minus_sign, point_sign, digit_zero, letter_x, is_in, is_digit, is_hex_digit, Each}
 
 -- a finite one means its digits times ten to the exponent
 pub data Decimal : Type 0 where
@@ -24,7 +24,7 @@ pub data Sign : List ℕ → Bool → Type 0 where
 abbrev pub signed : Bool → ℕ → ℤ
 signed m n = if m then neg_ℤ (pos n) else pos n
 
--- the number that digits of this base spell behind n
+-- the number that digits of this base spell after n
 abbrev pub spelled : ℕ → ℕ → List ℕ → ℕ
 spelled base n [] = n
 spelled base n (c ∷ s) = spelled base (n * base + digit_value c) s
@@ -34,7 +34,7 @@ pub data Integer : List ℕ → Type 0 where
   lone_zero : Integer (digit_zero ∷ [])
   nonzero : {c : ℕ} {s : List ℕ} → is_in 49 57 c ≡ true → Each is_digit s → Integer (c ∷ s)
 
--- digits before the point, and those behind it (None: no point)
+-- digits before the point, and those after it (None: no point)
 pub data Mantissa : List ℕ → List ℕ → Option (List ℕ) → Type 0 where
   integer : {i : List ℕ} → Integer i → Mantissa i i None
   with_point : {i f : List ℕ} → Integer i → Each is_digit f → Mantissa (i ++ point_sign ∷ f) i (Some f)
@@ -43,9 +43,9 @@ pub data Mantissa : List ℕ → List ℕ → Option (List ℕ) → Type 0 where
 -- the written exponent (None: none)
 pub data Exponent : List ℕ → Option ℤ → Type 0 where
   no_exponent : Exponent [] None
-  exponent : {s : List ℕ} {m : Bool} {c d : ℕ} {ds : List ℕ} → ((c == 101) || (c == 69)) ≡ true → Sign s m → Each is_digit (d ∷ ds) → Exponent (c ∷ s ++ d ∷ ds) (Some (signed m (spelled 10 0 (d ∷ ds))))
+  exponent : {s : List ℕ} {m : Bool} {c d : ℕ} {ds : List ℕ} → ((c == letter_e) || (c == capital_e)) ≡ true → Sign s m → Each is_digit (d ∷ ds) → Exponent (c ∷ s ++ d ∷ ds) (Some (signed m (spelled 10 0 (d ∷ ds))))
 
--- a decimal literal without a sign: its digits before and behind the point, and its exponent
+-- a decimal literal without a sign: its digits before and after the point, and its exponent
 pub data Literal : List ℕ → List ℕ → Option (List ℕ) → Option ℤ → Type 0 where
   literal : {m e i : List ℕ} {f : Option (List ℕ)} {w : Option ℤ} → Mantissa m i f → Exponent e w → Literal (m ++ e) i f w
 
@@ -93,7 +93,7 @@ IsWholeLiteral m i None (Some e) = ⊥
 IsWholeLiteral m i (Some f) w = ⊥
 
 abbrev pub hex_start : ℕ → Bool
-hex_start c = (c == letter_x) || (c == 88)
+hex_start c = (c == letter_x) || (c == capital_x)
 
 pub data Num : List ℕ → Number → Type 0 where
   is_infinite : {s : List ℕ} {m : Bool} → Sign s m → Num (s ++ codes "Infinity") (decimal (infinite m))

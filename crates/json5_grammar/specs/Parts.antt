@@ -1,4 +1,4 @@
--- Parts: what a fault blames, a begun token with at most one character behind it.
+-- Parts: what a fault blames, a begun token with at most one character after it.
 use Rattle.std.specs.Prelude.{◌≡◌, ℕ, Bool, true, List, [], ◌∷◌, ◌++◌}
 use Rattle.json5_grammar.specs.Characters.{star_sign, slash_sign, digit_zero, backslash, is_hex_digit, Each}
 use Rattle.json5_grammar.specs.Codes.{ErrorCode}
@@ -14,7 +14,7 @@ use Rattle.json5_grammar.specs.WordFaults.{Word}
 abbrev pub IsPrefix : List ℕ → List ℕ → Type 0
 IsPrefix p w = (q : List ℕ) × (w ≡ p ++ q)
 
--- x is p, with at most one character behind it
+-- x is p, with at most one character after it
 pub data Nearly : List ℕ → List ℕ → Type 0 where
   just : {p : List ℕ} → Nearly p p
   one_more : {p : List ℕ} (c : ℕ) → Nearly p (p ++ c ∷ [])

@@ -1,4 +1,4 @@
--- Positions: the line and the column behind a beginning of a text, both counted from 0.
+-- Positions: the line and the column after a prefix of a text, both counted from 0.
 -- ECMAScript 5.1 section 7.3: LF, CR, U+2028 and U+2029 end a line, and CR LF is one end.
 use Rattle.std.specs.Prelude.{ℕ, suc, ◌+◌, Bool, false, if◌then◌else◌, ◌&&◌, not, ◌==◌, List, [], ◌∷◌, length}
 use Rattle.std.specs.List.{list_any}
@@ -14,11 +14,11 @@ abbrev pub line_of : List ℕ → ℕ
 line_of [] = 0
 line_of (c ∷ s) = (if is_terminator c && not ((c == carriage_return) && begins_line_feed s) then 1 else 0) + line_of s
 
--- the characters behind the last terminator
+-- the characters after the last terminator
 abbrev pub column_of : List ℕ → ℕ
 column_of [] = 0
 column_of (c ∷ s) = if list_any is_terminator (c ∷ s) then column_of s else suc (length s)
 
--- the position behind this beginning of the text
+-- the position after this prefix of the text
 abbrev pub position_behind : List ℕ → Position
 position_behind s = record { line = line_of s; column = column_of s }

@@ -11,7 +11,7 @@ pub data Mode : Type 0 where
   block : Mode
   star : Mode
 
--- blanks: between them, behind a comment's first slash, within a comment, behind a star in one
+-- blanks: between them, after a comment's first slash, within a comment, after a star in one
 unfoldable pub skip : Mode → List ℕ → Read (Unit {0})
 skip between [] = got tt []
 skip between (c ∷ r) = cond (is_blank c) (skip between r) (cond (c == slash_sign) (skip slash r) (got tt (c ∷ r)))

@@ -2,7 +2,7 @@
 use Rattle.std.specs.Prelude.{ℕ, ◌+◌, ◌*◌, ◌^◌, Bool, true, false, cond, ◌&&◌, ◌||◌, not, ◌==◌, nat_lt, nat_le, List, [], ◌∷◌, ℤ, pos, negsuc, neg_ℤ, Option, Some, None}
 use Rattle.std.specs.Char.{digit_value}
 use lib.Chars.{codes}
-use Rattle.json5_grammar.specs.Characters.{is_digit, is_hex_digit}
+use Rattle.json5_grammar.specs.Characters.{capital_e, capital_i, capital_n, digit_zero, letter_e, minus_sign, plus_sign, point_sign, is_digit, is_hex_digit}
 use Rattle.json5_grammar.specs.Codes.{EofParsingNumber, ExpectedNumber, LeadingZero, OverflowParsingNumber}
 use Rattle.json5_grammar.specs.Numbers.{Number, signed, spelled, without_zeros, is_empty, all_digits, exponent_of, hex_start, infinite, nan, finite, whole, decimal}
 use Rattle.json5_grammar.specs.Stops.{in_run, begins_run}
@@ -21,7 +21,7 @@ unfoldable pub hex_digits : ℕ → List ℕ → Read ℕ
 hex_digits n [] = got n []
 hex_digits n (c ∷ r) = cond (is_hex_digit c) (cond (nat_lt (n * 16 + digit_value c) (2 ^ 128)) (hex_digits (n * 16 + digit_value c) r) (bad (Some OverflowParsingNumber) (here (c ∷ r)))) (got n (c ∷ r))
 
--- q is the text from the number's start on; true behind a minus
+-- q is the text from the number's start on; true after a minus
 abbrev pub hex_judged : List ℕ → Bool → Read ℕ → Read Number
 hex_judged q false (got n r) = got (whole (pos n)) r
 hex_judged q true (got n r) = cond (nat_le n (2 ^ 127)) (got (whole (neg_ℤ (pos n))) r) (bad None (here q))
@@ -42,7 +42,7 @@ unfoldable pub rest_of : (ℕ → Bool) → List ℕ → List ℕ
 rest_of p [] = []
 rest_of p (c ∷ s) = cond (p c) (rest_of p s) (c ∷ s)
 
--- digits before the point, digits behind it, the written exponent
+-- digits before the point, digits after it, the written exponent
 pub record Parts : Type 0 where
   pub before : List ℕ
   pub behind : Option (List ℕ)
@@ -54,16 +54,16 @@ exponent_digits m (d ∷ s) = cond (is_digit d && is_empty (rest_of is_digit s))
 
 abbrev pub exponent_sign : List ℕ → Option (Option ℤ)
 exponent_sign [] = None
-exponent_sign (c ∷ s) = cond (c == 43) (exponent_digits false s) (cond (c == 45) (exponent_digits true s) (exponent_digits false (c ∷ s)))
+exponent_sign (c ∷ s) = cond (c == plus_sign) (exponent_digits false s) (cond (c == minus_sign) (exponent_digits true s) (exponent_digits false (c ∷ s)))
 
 abbrev pub exponent_at : List ℕ → Option (Option ℤ)
 exponent_at [] = Some None
-exponent_at (c ∷ s) = cond ((c == 101) || (c == 69)) (exponent_sign s) None
+exponent_at (c ∷ s) = cond ((c == letter_e) || (c == capital_e)) (exponent_sign s) None
 
 -- of digits
 abbrev pub is_integer : List ℕ → Bool
 is_integer [] = false
-is_integer (c ∷ s) = not (c == 48) || is_empty s
+is_integer (c ∷ s) = not (c == digit_zero) || is_empty s
 
 abbrev pub with_exponent : List ℕ → Option (List ℕ) → Option (Option ℤ) → Option Parts
 with_exponent i f None = None
@@ -77,7 +77,7 @@ at_point i f y = cond (is_integer i || (is_empty i && not (is_empty f))) (with_e
 
 abbrev pub point_or : List ℕ → List ℕ → Option Parts
 point_or i [] = no_point i []
-point_or i (c ∷ y) = cond (c == 46) (at_point i (front_of is_digit y) (rest_of is_digit y)) (no_point i (c ∷ y))
+point_or i (c ∷ y) = cond (c == point_sign) (at_point i (front_of is_digit y) (rest_of is_digit y)) (no_point i (c ∷ y))
 
 unfoldable pub literal_at : List ℕ → Option Parts
 literal_at x = point_or (front_of is_digit x) (rest_of is_digit x)
@@ -115,19 +115,19 @@ at_zero q m [] = got (whole (pos 0)) []
 at_zero q m (c ∷ r) =
     cond (is_digit c) (bad (Some LeadingZero) (here q))
     (cond (hex_start c) (hexadecimal q m r)
-    (cond ((c == 46) || ((c == 101) || (c == 69))) (decimal_run q m (48 ∷ c ∷ r))
+    (cond ((c == point_sign) || ((c == letter_e) || (c == capital_e))) (decimal_run q m (digit_zero ∷ c ∷ r))
     (got (whole (pos 0)) (c ∷ r))))
 
--- behind the sign
+-- after the sign
 unfoldable pub unsigned : List ℕ → Bool → List ℕ → Read Number
 unsigned q m [] = bad (Some EofParsingNumber) inner
 unsigned q m (c ∷ r) =
-    cond (c == 73) (word (decimal (infinite m)) (codes "nfinity") r)
-    (cond (c == 78) (word (decimal (nan m)) (codes "aN") r)
-    (cond (c == 48) (at_zero q m r)
+    cond (c == capital_i) (word (decimal (infinite m)) (codes "nfinity") r)
+    (cond (c == capital_n) (word (decimal (nan m)) (codes "aN") r)
+    (cond (c == digit_zero) (at_zero q m r)
     (cond (begins_run c) (decimal_run q m (c ∷ r))
     (bad (Some ExpectedNumber) (here (c ∷ r))))))
 
 unfoldable pub number : List ℕ → Read Number
 number [] = bad (Some EofParsingNumber) inner
-number (c ∷ r) = cond (c == 43) (unsigned (c ∷ r) false r) (cond (c == 45) (unsigned (c ∷ r) true r) (unsigned (c ∷ r) false (c ∷ r)))
+number (c ∷ r) = cond (c == plus_sign) (unsigned (c ∷ r) false r) (cond (c == minus_sign) (unsigned (c ∷ r) true r) (unsigned (c ∷ r) false (c ∷ r)))

@@ -1,13 +1,13 @@
 -- Reading strings and names as functions on lists.
 use Rattle.std.specs.Prelude.{ℕ, zero, suc, ◌+◌, ◌*◌, Bool, true, false, cond, ◌&&◌, ◌||◌, ◌==◌, List, [], ◌∷◌, ◌++◌, length, Option, Some, None}
 use Rattle.std.specs.Char.{digit_value}
-use Rattle.json5_grammar.specs.Characters.{is_terminator, is_identifier_start, is_identifier_part, is_digit, is_hex_digit}
+use Rattle.json5_grammar.specs.Characters.{backslash, carriage_return, digit_zero, letter_u, letter_x, line_feed, is_terminator, is_identifier_start, is_identifier_part, is_digit, is_hex_digit}
 use Rattle.json5_grammar.specs.Codes.{EofParsingEscapeSequence, EofParsingIdentifier, EofParsingObject, EofParsingString, ExpectedIdentifier, InvalidEscapeSequence, LineTerminatorInString}
 use Rattle.json5_grammar.specs.Strings.{short_escape, is_high, is_low, joined, is_quote}
 use Rattle.json5_grammar.specs.StringFaults.{is_surrogate}
 use Rattle.json5_grammar.specs.Reading.{Read, and_then, here, inner, got, bad}
 
--- k hexadecimal digits behind those of n; b is the rest from the escape's backslash on
+-- k hexadecimal digits after those of n; b is the rest from the escape's backslash on
 unfoldable pub hex : ℕ → ℕ → List ℕ → List ℕ → Read ℕ
 hex zero n b r = got n r
 hex (suc k) n b [] = bad (Some EofParsingEscapeSequence) inner
@@ -18,16 +18,16 @@ paired n b k r = cond (is_high n && is_low k) (got (joined n k) r) (bad None (he
 
 abbrev pub second_u : ℕ → List ℕ → List ℕ → Read ℕ
 second_u n b [] = bad (Some EofParsingEscapeSequence) inner
-second_u n b (c ∷ r) = cond (c == 117) (and_then (hex 4 0 b r) (paired n b)) (bad (Some InvalidEscapeSequence) (here (c ∷ r)))
+second_u n b (c ∷ r) = cond (c == letter_u) (and_then (hex 4 0 b r) (paired n b)) (bad (Some InvalidEscapeSequence) (here (c ∷ r)))
 
 abbrev pub second : ℕ → List ℕ → List ℕ → Read ℕ
 second n b [] = bad (Some EofParsingEscapeSequence) inner
-second n b (c ∷ r) = cond (c == 92) (second_u n b r) (bad (Some InvalidEscapeSequence) (here (c ∷ r)))
+second n b (c ∷ r) = cond (c == backslash) (second_u n b r) (bad (Some InvalidEscapeSequence) (here (c ∷ r)))
 
 abbrev pub first : List ℕ → ℕ → List ℕ → Read ℕ
 first b n r = cond (is_surrogate n) (second n b r) (got n r)
 
--- behind `\u`
+-- after `\u`
 unfoldable pub unicode_at : List ℕ → List ℕ → Read ℕ
 unicode_at b r = and_then (hex 4 0 b r) (first b)
 
@@ -40,20 +40,20 @@ after_nul b (c ∷ r) = cond (is_digit c) (bad (Some InvalidEscapeSequence) (her
 
 abbrev pub after_cr : List ℕ → Read (List ℕ)
 after_cr [] = got [] []
-after_cr (c ∷ r) = cond (c == 10) (got [] r) (got [] (c ∷ r))
+after_cr (c ∷ r) = cond (c == line_feed) (got [] r) (got [] (c ∷ r))
 
 abbrev pub not_short : Option ℕ → List ℕ → ℕ → List ℕ → Read (List ℕ)
 not_short (Some d) b c r = got (d ∷ []) r
 not_short None b c r =
-    cond (c == 48) (after_nul b r)
-    (cond (c == 120) (and_then (hex 2 0 b r) one_char)
-    (cond (c == 117) (and_then (unicode_at b r) one_char)
-    (cond (c == 13) (after_cr r)
+    cond (c == digit_zero) (after_nul b r)
+    (cond (c == letter_x) (and_then (hex 2 0 b r) one_char)
+    (cond (c == letter_u) (and_then (unicode_at b r) one_char)
+    (cond (c == carriage_return) (after_cr r)
     (cond (is_terminator c) (got [] r)
     (cond (is_digit c) (bad (Some InvalidEscapeSequence) (here b))
     (got (c ∷ []) r))))))
 
--- behind a string's backslash
+-- after a string's backslash
 unfoldable pub escape_at : List ℕ → List ℕ → Read (List ℕ)
 escape_at b [] = bad (Some EofParsingEscapeSequence) inner
 escape_at b (c ∷ r) = not_short (short_escape c) b c r
@@ -69,8 +69,8 @@ items zero q x = bad (Some EofParsingString) inner
 items (suc n) q [] = bad (Some EofParsingString) inner
 items (suc n) q (c ∷ r) =
     cond (c == q) (got ([], true) r)
-    (cond (c == 92) (and_then (escape_at (c ∷ r) r) (λ v y. put v false (items n q y)))
-    (cond ((c == 10) || (c == 13)) (bad (Some LineTerminatorInString) (here (c ∷ r)))
+    (cond (c == backslash) (and_then (escape_at (c ∷ r) r) (λ v y. put v false (items n q y)))
+    (cond ((c == line_feed) || (c == carriage_return)) (bad (Some LineTerminatorInString) (here (c ∷ r)))
     (put (c ∷ []) true (items n q r))))
 
 -- a string, its text and whether it is plain
@@ -78,10 +78,10 @@ unfoldable pub string : List ℕ → Read (List ℕ × Bool)
 string [] = bad (Some EofParsingString) inner
 string (q ∷ r) = items (suc (length r)) q r
 
--- behind a name's backslash
+-- after a name's backslash
 unfoldable pub name_escape : List ℕ → List ℕ → Read ℕ
 name_escape b [] = bad (Some EofParsingIdentifier) inner
-name_escape b (c ∷ r) = cond (c == 117) (unicode_at b r) (bad (Some InvalidEscapeSequence) (here (c ∷ r)))
+name_escape b (c ∷ r) = cond (c == letter_u) (unicode_at b r) (bad (Some InvalidEscapeSequence) (here (c ∷ r)))
 
 -- the escape's character fits its place
 abbrev pub fit : (ℕ → Bool) → List ℕ → ℕ → List ℕ → Read ℕ
@@ -96,7 +96,7 @@ unfoldable pub parts : ℕ → List ℕ → Read (List ℕ × Bool)
 parts zero x = bad (Some EofParsingIdentifier) inner
 parts (suc n) [] = bad (Some EofParsingIdentifier) inner
 parts (suc n) (c ∷ r) =
-    cond (c == 92) (escaped_item is_identifier_part (c ∷ r) r (parts n))
+    cond (c == backslash) (escaped_item is_identifier_part (c ∷ r) r (parts n))
     (cond (is_identifier_part c) (put (c ∷ []) true (parts n r))
     (got ([], true) (c ∷ r)))
 
@@ -104,7 +104,7 @@ parts (suc n) (c ∷ r) =
 unfoldable pub identifier : List ℕ → Read (List ℕ × Bool)
 identifier [] = bad (Some EofParsingIdentifier) inner
 identifier (c ∷ r) =
-    cond (c == 92) (escaped_item is_identifier_start (c ∷ r) r (parts (suc (length r))))
+    cond (c == backslash) (escaped_item is_identifier_start (c ∷ r) r (parts (suc (length r))))
     (cond (is_identifier_start c) (put (c ∷ []) true (parts (suc (length r)) r))
     (bad (Some ExpectedIdentifier) (here (c ∷ r))))
 

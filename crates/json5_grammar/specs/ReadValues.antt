@@ -45,7 +45,7 @@ abbrev pub colon_at : List ℕ → Read (Unit {0})
 colon_at [] = bad (Some EofParsingObject) inner
 colon_at (c ∷ r) = cond (c == colon_sign) (got tt r) (bad (Some ExpectedColon) (here (c ∷ r)))
 
--- behind a key: blanks, the colon, blanks, the value
+-- after a key: blanks, the colon, blanks, the value
 abbrev pub value_behind : (List ℕ → Read Tree) → List ℕ → Read Tree
 value_behind val x = and_then (skip between x) (λ u y. and_then (colon_at y) (λ v z. and_then (skip between z) (λ w q. val q)))
 

@@ -13,7 +13,7 @@ pub data InDigits : Bool → List ℕ → Type 0 where
   in_first : {d : List ℕ} {in_string : Bool} → Each is_hex_digit d → length d < 4 → InDigits in_string (backslash ∷ letter_u ∷ d)
   in_second : {h d : List ℕ} {n : ℕ} {in_string : Bool} → Hex4 h n → is_surrogate n ≡ true → Each is_hex_digit d → length d < 4 → InDigits in_string (backslash ∷ letter_u ∷ h ++ backslash ∷ letter_u ∷ d)
 
--- behind a surrogate's escape, up to where `\` or `u` must stand
+-- after a surrogate's escape, up to where `\` or `u` must stand
 pub data AfterSurrogate : List ℕ → ℕ → Type 0 where
   no_backslash : {h : List ℕ} {n : ℕ} → Hex4 h n → is_surrogate n ≡ true → AfterSurrogate (backslash ∷ letter_u ∷ h) backslash
   no_u : {h : List ℕ} {n : ℕ} → Hex4 h n → is_surrogate n ≡ true → AfterSurrogate (backslash ∷ letter_u ∷ h ++ backslash ∷ []) letter_u
@@ -26,7 +26,7 @@ pub data CutEscape : Bool → List ℕ → Type 0 where
 
 -- x begins with a faulty escape: the code (None: custom), the text before the place (None: no place), the part, what shows it
 pub data EscapeFault : Bool → List ℕ → Option ErrorCode → Option (List ℕ) → List ℕ → Shown → Type 0 where
-  -- InvalidEscapeSequence at the backslash: a digit behind `\0`
+  -- InvalidEscapeSequence at the backslash: a digit after `\0`
   digit_behind_nul : {c : ℕ} (r : List ℕ) → is_digit c ≡ true → EscapeFault true (backslash ∷ digit_zero ∷ c ∷ r) (Some InvalidEscapeSequence) (Some []) (backslash ∷ digit_zero ∷ c ∷ []) by_char
   -- InvalidEscapeSequence at the backslash: `\1` to `\9`
   escaped_digit : {c : ℕ} (r : List ℕ) → is_in 49 57 c ≡ true → EscapeFault true (backslash ∷ c ∷ r) (Some InvalidEscapeSequence) (Some []) (backslash ∷ c ∷ []) by_char

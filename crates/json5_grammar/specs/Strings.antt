@@ -61,3 +61,7 @@ pub data Str : List ℕ → List ℕ → Bool → Type 0 where
 -- s holds a backslash
 abbrev pub holds_backslash : List ℕ → Bool
 holds_backslash s = list_any (λ c. c == backslash) s
+
+-- a text that one more quote makes a string
+abbrev pub IsOpenString : List ℕ → Type 0
+IsOpenString s = (q : ℕ) × (u : List ℕ) × (plain : Bool) × Str (s ++ q ∷ []) u plain

@@ -6,67 +6,67 @@ use std::fmt;
 /// What a fault is, where it is no custom one.
 #[derive(Clone, Copy, Debug, PartialEq, Eq)]
 pub enum ErrorCode {
-    /// The text ends behind a value in an array, where a comma or `]` is awaited.
+    /// The text ends after a value in an array, where a comma or `]` is expected.
     EofParsingArray,
-    /// The text ends in `true` or `false`, or where a boolean is awaited.
+    /// The text ends in `true` or `false`, or where a boolean is expected.
     EofParsingBool,
-    /// The text ends behind a `/` that begins a comment, or inside `/* */` (JSON5 section 7).
+    /// The text ends after a `/` that begins a comment, or inside `/* */` (JSON5 section 7).
     EofParsingComment,
     /// The text ends in an escape of a string, or in a name's `\u` escape.
     EofParsingEscapeSequence,
-    /// The text ends in a name, or right behind its backslash.
+    /// The text ends in a name, or right after its backslash.
     EofParsingIdentifier,
-    /// The text ends in `null`, or where it is awaited.
+    /// The text ends in `null`, or where it is expected.
     EofParsingNull,
-    /// The text ends behind a number's sign or `0x`, in `Infinity` or `NaN`, or where a number is awaited.
+    /// The text ends after a number's sign or `0x`, in `Infinity` or `NaN`, or where a number is expected.
     EofParsingNumber,
-    /// The text ends where an object awaits a key, a colon, a comma or `}`.
+    /// The text ends where an object expects a key, a colon, a comma or `}`.
     EofParsingObject,
-    /// The text ends in a string, outside its escapes, or where a string is awaited.
+    /// The text ends in a string, outside its escapes, or where a string is expected.
     EofParsingString,
-    /// The text ends where a value is awaited.
+    /// The text ends where a value is expected.
     EofParsingValue,
-    /// A character that differs from `true` or `false`, or begins neither where a boolean is awaited.
+    /// A character that differs from `true` or `false`, or begins neither where a boolean is expected.
     ExpectedBool,
     /// A character that is no `}` where an object is to be closed.
     ExpectedClosingBrace,
     /// A character that is no `]` where an array is to be closed.
     ExpectedClosingBracket,
-    /// A character that is no `:` behind a key (JSON5 section 3).
+    /// A character that is no `:` after a key (JSON5 section 3).
     ExpectedColon,
-    /// A character behind a member that is neither a comma nor the closing bracket (JSON5 sections 3 and 4).
+    /// A character after a member that is neither a comma nor the closing bracket (JSON5 sections 3 and 4).
     ExpectedComma,
-    /// A character behind a `/` that is neither `/` nor `*` (JSON5 section 7).
+    /// A character after a `/` that is neither `/` nor `*` (JSON5 section 7).
     ExpectedComment,
     /// A character that begins no key, or an escape whose character may not stand there in a name (ECMAScript 5.1 section 7.6).
     ExpectedIdentifier,
     /// A character that differs from `null`.
     ExpectedNull,
-    /// A character that differs from `Infinity` or `NaN`, or one behind a sign or `0x`, or where a number is awaited, that begins none.
+    /// A character that differs from `Infinity` or `NaN`, or one after a sign or `0x`, or where a number is expected, that begins none.
     ExpectedNumber,
-    /// A character that is no `{` where an object is awaited.
+    /// A character that is no `{` where an object is expected.
     ExpectedOpeningBrace,
-    /// A character that is no `[` where an array is awaited.
+    /// A character that is no `[` where an array is expected.
     ExpectedOpeningBracket,
-    /// A character that is no quote where a string is awaited.
+    /// A character that is no quote where a string is expected.
     ExpectedString,
-    /// A character that begins neither a string nor an object where a variant is awaited.
+    /// A character that begins neither a string nor an object where a variant is expected.
     ExpectedStringOrObject,
-    /// A character that begins no value where one is awaited (JSON5 section 2).
+    /// A character that begins no value where one is expected (JSON5 section 2).
     ExpectedValue,
-    /// A text that is no even number of hexadecimal digits where bytes are awaited.
+    /// A text that is no even number of hexadecimal digits where bytes are expected.
     InvalidBytes,
     /// An escape that isn't allowed (JSON5 section 5, ECMAScript 5.1 sections 7.6 and 7.8.4).
     InvalidEscapeSequence,
     /// A value that can't be written as a key.
     InvalidKey,
-    /// A digit behind a number's first `0` (ECMAScript 5.1 section 7.8.3).
+    /// A digit after a number's first `0` (ECMAScript 5.1 section 7.8.3).
     LeadingZero,
     /// An LF or CR in a string without a backslash (JSON5 section 5).
     LineTerminatorInString,
     /// A hexadecimal number past 128 bits, or a decimal whose exponent isn't in 16 bits.
     OverflowParsingNumber,
-    /// A character behind the document's value that is neither blank nor begins a comment.
+    /// A character after the document's value that is neither blank nor begins a comment.
     TrailingCharacters,
     /// An array or object past the nesting limit.
     TooDeep,

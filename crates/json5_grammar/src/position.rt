@@ -26,7 +26,7 @@ impl Position {
         Position::behind(&input[..offset])
     }
 
-    /// The position right behind a text, counted from the text's start.
+    /// The position right after a text, counted from the text's start.
     pub fn behind(text: &str) -> Position
         ensures { result ≡ position_behind (chars text.now) }
     {
@@ -39,7 +39,7 @@ impl Position {
         position
     }
 
-    /// The position behind one more character; `is_after_cr` says that a CR stands right before it.
+    /// The position after one more character; `is_after_cr` says that a CR stands right before it.
     fn step(self, is_after_cr: bool, c: char) -> Position
         requires { self.line + self.column < usize.MAX }
         ensures { result ≡ position_step self is_after_cr c }

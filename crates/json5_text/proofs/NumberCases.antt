@@ -1,7 +1,6 @@
 -- Reading a number by its first characters.
-use Rattle.std.proofs.Common.{◌≡◌, ℕ, Bool, true, false, ◌||◌, List, [], ◌∷◌, refl, ap, sym, ◌∙◌, arith, ◌≢◌, Some, None}
+use Rattle.std.proofs.Common.{◌≡◌, ℕ, Bool, true, false, ◌||◌, List, [], ◌∷◌, refl, ap, sym, ◌∙◌, ◌≢◌, Some, None}
 use Rattle.std.specs.Prelude.{◌==◌, pos}
-use Rattle.std.proofs.lemmas.Bool.Decides.{nat_tests}
 use lib.Chars.{codes}
 use Rattle.json5_grammar.specs.declared.code.ErrorCode.TheVariants.{EofParsingNumber, ExpectedNumber, LeadingZero}
 use Rattle.json5_grammar.specs.Characters.{is_digit}
@@ -9,21 +8,16 @@ use Rattle.json5_grammar.specs.Numbers.{Decimal, whole, decimal, infinite, nan, 
 use Rattle.json5_grammar.specs.Stops.{in_run, begins_run}
 use Rattle.json5_grammar.specs.Reading.{got, bad, here, inner}
 use Rattle.std.specs.Str.{chars}
+use Rattle.json5_grammar.proofs.Basics.{not_eq}
 use Rattle.json5_text.proofs.NumberSteps.{infinity_rest, nan_rest}
 use Rattle.json5_grammar.specs.ReadNumbers.{word, hexadecimal, front_of, rest_of, literal_at, if_literal, decimal_run, at_zero, unsigned, number}
-
-other : (c d : ℕ) → c ≢ d → (c == d) ≡ false
-other c d h = grind (arith, nat_tests)
-
-same : (c d : ℕ) → c ≡ d → (c == d) ≡ true
-same c d h = grind (arith, nat_tests)
 
 -- ---- decimal runs
 
 pub run_refused : (q : List ℕ) (m : Bool) (x f : List ℕ) → f ≡ front_of in_run x → literal_at f ≡ None → decimal_run q m x ≡ bad None (here q)
 run_refused q m x f e h = ap (if_literal q m (rest_of in_run x)) (ap literal_at (sym e) ∙ h)
 
--- ---- behind a first `0`
+-- ---- after a first `0`
 
 pub zero_ends : (q : List ℕ) (m : Bool) (x : List ℕ) → x ≡ [] → at_zero q m x ≡ got (whole (pos 0)) x
 zero_ends q m x e = rw e refl
@@ -66,11 +60,11 @@ unsigned_zero q m x y c e h = rw (e, h) refl
 
 pub unsigned_run : (q : List ℕ) (m : Bool) (x y : List ℕ) (c : ℕ) (b : Bool) → x ≡ c ∷ y → c ≢ 73 → c ≢ 78 → c ≢ 48 → b ≡ begins_run c → b ≡ true → unsigned q m x ≡ decimal_run q m x
 unfolding unsigned
-unsigned_run q m x y c b e i n z f h = let k = sym f ∙ h in let o = other c 73 i in let p = other c 78 n in let r = other c 48 z in rw e (rw (o, p, r, k) refl)
+unsigned_run q m x y c b e i n z f h = let k = sym f ∙ h in let o = not_eq c 73 i in let p = not_eq c 78 n in let r = not_eq c 48 z in rw e (rw (o, p, r, k) refl)
 
 pub unsigned_other : (q : List ℕ) (m : Bool) (x y : List ℕ) (c : ℕ) (b : Bool) → x ≡ c ∷ y → c ≢ 73 → c ≢ 78 → c ≢ 48 → b ≡ begins_run c → b ≡ false → unsigned q m x ≡ bad (Some ExpectedNumber) (here x)
 unfolding unsigned
-unsigned_other q m x y c b e i n z f h = let k = sym f ∙ h in let o = other c 73 i in let p = other c 78 n in let r = other c 48 z in rw e (rw (o, p, r, k) refl)
+unsigned_other q m x y c b e i n z f h = let k = sym f ∙ h in let o = not_eq c 73 i in let p = not_eq c 78 n in let r = not_eq c 48 z in rw e (rw (o, p, r, k) refl)
 
 -- ---- with a sign
 
@@ -88,4 +82,4 @@ number_minus x y c e h = rw (e, h) refl
 
 pub number_bare : (x y : List ℕ) (c : ℕ) → x ≡ c ∷ y → c ≢ 43 → c ≢ 45 → number x ≡ unsigned x false x
 unfolding number
-number_bare x y c e p m = let o = other c 43 p in let r = other c 45 m in rw e (rw (o, r) refl)
+number_bare x y c e p m = let o = not_eq c 43 p in let r = not_eq c 45 m in rw e (rw (o, r) refl)

@@ -96,7 +96,7 @@ pub judged_past : (q : List ℕ) (m : Bool) (r i : List ℕ) (f : Option (List �
 unfolding judged
 judged_past q m r i f w e h a n = let t = not_in_range (exponent_of i f w) (λ k. n (a.1 k)) in rw (h, t) refl
 
--- a literal's number, with the digits behind the point and the lowered exponent that code has
+-- a literal's number, with the digits after the point and the lowered exponent that code has
 pub record Found (l : Literal) (behind : List ℕ) (e : ℤ) : Type 0 where
   pub behind_is : behind ≡ digits_behind (parts_of l).behind
   pub exponent_is : e ≡ limited_exponent (2 ^ 100) l.exponent -ℤ pos (length behind)

@@ -90,7 +90,7 @@ not_point c h = grind (arith, nat_tests)
 pub literal_plain : (x i y t : List ℕ) (c : ℕ) → i ≡ front_of is_digit x → y ≡ rest_of is_digit x → y ≡ c ∷ t → c ≢ 46 → literal_at x ≡ no_point i y
 literal_plain x i y t c e h k n = at_literal x i y e h ∙ plain_other i y t c k (not_point c n)
 
--- the literal with a point: digits before, digits behind, and what follows
+-- the literal with a point: digits before, digits after, and what follows
 pub literal_pointed : (x i y t f z : List ℕ) (c : ℕ) → i ≡ front_of is_digit x → y ≡ rest_of is_digit x → y ≡ c ∷ t → c ≡ 46 → f ≡ front_of is_digit t → z ≡ rest_of is_digit t → literal_at x ≡ at_point i f z
 literal_pointed x i y t f z c e h k n g l = at_literal x i y e h ∙ ap (point_or i) (k ∙ ap (λ d. d ∷ t) n) ∙ rw (g, l) refl
 

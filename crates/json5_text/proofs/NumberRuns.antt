@@ -1,4 +1,4 @@
--- Where a text is cut, behind ASCII characters that pass a test or before such ones at its end.
+-- Where a text is cut, after ASCII characters that pass a test or before such ones at its end.
 use Rattle.std.proofs.Common.{◌≡◌, ℕ, zero, suc, ◌-◌, ◌<◌, ◌≤◌, Bool, true, false, List, [], ◌∷◌, ◌++◌, length, take, drop, refl, ap, sym, ◌∙◌, subst, arith}
 use Rattle.std.specs.Prelude.{◌==◌, reverse, slice_index}
 use Rattle.std.specs.List.{take_while}

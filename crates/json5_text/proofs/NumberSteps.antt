@@ -6,13 +6,13 @@ use Rattle.std.specs.Str.{IsUtf8, chars}
 use Rattle.std.proofs.lemmas.Bool.Decides.{nat_tests}
 use Rattle.std.proofs.lemmas.Int.{ints}
 use Rattle.std.proofs.lemmas.Str.{encodes-chars}
-use Rattle.json5_grammar.specs.Characters.{is_hex_digit}
 use Rattle.json5_grammar.specs.declared.code.ErrorCode.{ErrorCode}
 use Rattle.json5_grammar.specs.declared.code.ErrorCode.TheVariants.{EofParsingNumber, ExpectedNumber, OverflowParsingNumber}
 use Rattle.json5_grammar.specs.Numbers.{Number, signed, whole, InWhole}
 use Rattle.json5_grammar.specs.Reading.{Read, Place, got, bad, here, inner}
 use Rattle.json5_grammar.specs.ReadNumbers.{word, hex_digits, hex_judged, hexadecimal}
 use Rattle.json5_grammar.specs.ReadValues.{word_at}
+use Rattle.json5_grammar.proofs.Basics.{hex_value, no_hex}
 use Rattle.json5_text.specs.declared.refusal.Refusal.{Refusal}
 use Rattle.json5_text.specs.declared.refusal.Refusal.TheVariants as refusal
 use Rattle.json5_text.specs.Refused.{Refuses, WantsForDigits}
@@ -28,12 +28,6 @@ pub failed_here : {A : Type 0} (r : Read A) (e : Option ErrorCode) (s : List ℕ
 failed_here r e s u h = ap outcome h ∙ ap (λ n. failed e (Some n)) (left_is s u)
 
 -- ---- hexadecimal numbers
-
-hex_value : (c : ℕ) → digit_value c < 16 → is_hex_digit c ≡ true
-hex_value c h = grind (arith, nat_tests)
-
-no_hex : (c : ℕ) → 16 ≤ digit_value c → is_hex_digit c ≡ false
-no_hex c h = grind (arith, nat_tests)
 
 pub hex_end : (n : ℕ) (xs : List ℕ) → xs ≡ [] → hex_digits n xs ≡ got n xs
 unfolding hex_digits
@@ -53,7 +47,7 @@ hex_past n c xs ys e h l = let a : nat_lt (n * 16 + digit_value c) (2 ^ 128) ≡
 
 pub ruleset hexadecimal_steps = (hex_end, hex_other, hex_more, hex_past)
 
--- behind `0x`
+-- after `0x`
 
 pub hexadecimal_ends : (q xs : List ℕ) (m : Bool) → xs ≡ [] → hexadecimal q m xs ≡ bad (Some EofParsingNumber) inner
 hexadecimal_ends q xs m e = rw e refl

@@ -21,7 +21,7 @@ digit_low c h = grind (arith, nat_tests)
 value_of_digit : (c : ℕ) → is_digit c ≡ true → digit_value c ≡ c - 48
 value_of_digit c h = grind (arith, nat_tests)
 
--- the digit at i and those behind it
+-- the digit at i and those after it
 at_digit : (s : List ℕ) (i : ℕ) → i < length s → drop i s ≡ slice_index_or s i 0 ∷ drop (i + 1) s
 at_digit s i h = drop-cons s i 0 h ∙ ap (λ k. slice_index_or s i 0 ∷ drop k s) (sym (add-one i))
 

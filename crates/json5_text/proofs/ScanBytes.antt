@@ -1,19 +1,15 @@
 -- A text is cut where its characters are.
-use Rattle.std.proofs.Common.{◌≡◌, ℕ, ◌+◌, ◌-◌, ◌≤◌, Bool, true, false, List, [], ◌∷◌, ◌++◌, length, take, drop, refl, ap, sym, ◌∙◌, subst, arith, append_assoc}
-use Rattle.std.specs.Prelude.{◌&&◌}
+use Rattle.std.proofs.Common.{◌≡◌, ℕ, ◌+◌, ◌-◌, ◌≤◌, true, List, [], ◌∷◌, ◌++◌, length, take, drop, refl, ap, sym, ◌∙◌, subst, arith, append_assoc}
 use Rattle.std.specs.List.{slice_range}
 use Rattle.std.proofs.lemmas.Grind.{common_steps}
 use Rattle.std.specs.Str.{IsUtf8, IsCharBoundary, chars, encode_utf8_all, all_scalars}
 use Rattle.std.proofs.Math.Seq.{take-append_seam, drop-append_seam}
-use Rattle.std.proofs.lemmas.List.{length-append, length-drop, take-append-drop}
+use Rattle.std.proofs.lemmas.List.{length-append, length-drop, length-take, take-append-drop}
 use Rattle.std.proofs.lemmas.Str.{encodes-chars, scalars-chars, chars-encodes, encodes-append, chars-append, IsUtf8-take, IsUtf8-drop, IsCharBoundary-at_seam}
+use Rattle.json5_grammar.proofs.Basics.{both_true}
 use Rattle.json5_text.specs.Outcome.{bytes_in}
+use Rattle.json5_text.specs.Cursor.{IsOffset}
 use Rattle.json5_text.specs.Scan.{InText}
-
-both_true : (a b : Bool) → (a && b) ≡ true → (a ≡ true) × (b ≡ true)
-both_true true true e = (refl, refl)
-both_true true false e = absurd (cc)
-both_true false b e = absurd (cc)
 
 scalar_halves : (x y : List ℕ) → all_scalars (x ++ y) ≡ true → (all_scalars x ≡ true) × (all_scalars y ≡ true)
 scalar_halves [] y s = (refl, s)
@@ -62,9 +58,19 @@ halves_at text i u b = record {
   split = sym (ap chars (take-append-drop i text)) ∙ chars-append (take i text) (drop i text) (IsUtf8-take text i u b);
 }
 
--- and cut again behind p
+pub boundary_offset : (text : List ℕ) (i : ℕ) → IsUtf8 text → IsCharBoundary text i → IsOffset (chars text) i
+boundary_offset text i u b =
+    let inside : i ≤ length text = b.0 in
+    let same = encodes-chars (take i text) (IsUtf8-take text i u b) in
+    (chars (take i text), chars (drop i text), (halves_at text i u b).split, (let taken = length-take i text in let bytes = ap length same in omega arith))
+
+-- and cut again after p
 pub halves_behind : {text x y : List ℕ} (p q : List ℕ) → Halves text x y → y ≡ p ++ q → Halves text (x ++ p) q
 halves_behind {x = x} p q h e = record { is_text = h.is_text; split = h.split ∙ ap (λ z. x ++ z) e ∙ sym (append_assoc x p q) }
+
+-- texts of the same characters have the same bytes
+pub same_text : (a b : List ℕ) → IsUtf8 a → IsUtf8 b → chars a ≡ chars b → a ≡ b
+same_text a b u v e = sym (encodes-chars a u) ∙ ap encode_utf8_all e ∙ encodes-chars b v
 
 -- ---- the scanner's text
 
@@ -102,7 +108,7 @@ pub before_rest : {part : List ℕ} (text x rest : List ℕ) → IsUtf8 text →
 before_rest text x rest u v e f =
     ap chars (f ∙ beginning (length text - length rest) text ∙ ap (λ r. take (length text - length r) text) (sym (encodes-chars rest v))) ∙ take_half (record { is_text = u; split = e })
 
--- the text is cut behind so many bytes
+-- the text is cut after so many bytes
 pub cut_before : {text : List ℕ} {offset end cut : ℕ} (x y : List ℕ) → InText text offset end → chars text ≡ x ++ y → cut ≡ bytes_in x → IsCharBoundary text cut
 cut_before {text = text} {cut = cut} x y k e l =
     let h : Halves text x y = record { is_text = k.is_text; split = e } in

@@ -5,7 +5,7 @@ use Rattle.std.specs.Char.{IsScalar, digit_value}
 use Rattle.std.specs.Str.{IsUtf8, chars}
 use Rattle.std.proofs.lemmas.Str.{encodes-chars, chars-encodes}
 use Rattle.std.proofs.lemmas.Bool.Decides.{nat_tests}
-use Rattle.json5_grammar.specs.Characters.{is_terminator, is_hex_digit, is_digit}
+use Rattle.json5_grammar.specs.Characters.{is_terminator, is_digit}
 use Rattle.json5_grammar.specs.declared.code.ErrorCode.{ErrorCode}
 use Rattle.json5_grammar.specs.declared.code.ErrorCode.TheVariants.{EofParsingEscapeSequence, InvalidEscapeSequence}
 use Rattle.json5_grammar.specs.Reading.{Read, Place, got, bad, here, inner, and_then}
@@ -13,6 +13,7 @@ use Rattle.json5_grammar.specs.Strings.{short_escape, is_high, is_low, joined}
 use Rattle.json5_grammar.specs.StringFaults.{is_surrogate}
 use Rattle.json5_grammar.specs.ReadTexts.{hex, paired, second_u, second, first, unicode_at, after_nul, not_short, escape_at}
 use Rattle.json5_grammar.specs.ReadValues.{word_at}
+use Rattle.json5_grammar.proofs.Basics.{hex_value, no_hex}
 use Rattle.json5_text.specs.declared.refusal.Refusal.{Refusal}
 use Rattle.json5_text.specs.declared.refusal.Refusal.TheVariants as refusal
 use Rattle.json5_text.specs.Outcome.{failed, outcome, left_at}
@@ -44,12 +45,6 @@ pub refused_here : {A : Type 0} (m : Read A) (code : ErrorCode) (bytes : List �
 refused_here m code bytes u e = ap outcome e ∙ ap (λ z. failed (Some code) (Some (length z))) (encodes-chars bytes u)
 
 -- ---- hexadecimal digits
-
-hex_value : (c : ℕ) → digit_value c < 16 → is_hex_digit c ≡ true
-hex_value c h = grind (arith, nat_tests)
-
-no_hex : (c : ℕ) → 16 ≤ digit_value c → is_hex_digit c ≡ false
-no_hex c h = grind (arith, nat_tests)
 
 pub hex_done : (w n : ℕ) (b xs : List ℕ) → w ≡ 0 → hex w n b xs ≡ got n xs
 unfolding hex
@@ -147,7 +142,7 @@ sign_chars = chars-encodes (92 ∷ 117 ∷ []) refl
 pub second_word : (n : ℕ) (b xs : List ℕ) → second n b xs ≡ and_then (word_at EofParsingEscapeSequence InvalidEscapeSequence escape_sign xs) (other_half n b)
 second_word n b xs = second_list n b xs ∙ ap (λ w. and_then (word_at EofParsingEscapeSequence InvalidEscapeSequence w xs) (other_half n b)) (sym sign_chars)
 
--- it stands there, and four digits behind it
+-- it stands there, and four digits after it
 pub second_digits : (n : ℕ) (b xs ys : List ℕ) → word_at EofParsingEscapeSequence InvalidEscapeSequence escape_sign xs ≡ got tt ys → second n b xs ≡ and_then (hex 4 0 b ys) (paired n b)
 second_digits n b xs ys e = second_word n b xs ∙ ap (λ z. and_then z (other_half n b)) e
 
@@ -157,7 +152,7 @@ second_pair n k b xs ys zs e f h = second_digits n b xs ys e ∙ ap (λ z. and_t
 pub second_unpaired : (n k : ℕ) (b xs ys zs : List ℕ) → word_at EofParsingEscapeSequence InvalidEscapeSequence escape_sign xs ≡ got tt ys → hex 4 0 b ys ≡ got k zs → (is_high n && is_low k) ≡ false → second n b xs ≡ bad None (here b)
 second_unpaired n k b xs ys zs e f h = second_digits n b xs ys e ∙ ap (λ z. and_then z (paired n b)) f ∙ rw h refl
 
--- ---- behind the backslash
+-- ---- after the backslash
 
 pub escape_end : (b xs : List ℕ) → xs ≡ [] → escape_at b xs ≡ bad (Some EofParsingEscapeSequence) inner
 unfolding escape_at

@@ -3,9 +3,9 @@ use Rattle.std.proofs.Common.{◌≡◌, ℕ, ◌+◌, ◌<◌, Bool, true, fals
 use Rattle.std.specs.Prelude.{◌==◌, ◌&&◌, not}
 use Rattle.std.specs.Char.{encode_utf8}
 use Rattle.std.specs.Str.{IsUtf8, chars, encode_utf8_all}
-use Rattle.std.proofs.lemmas.List.{length-append, append-nil}
+use Rattle.std.proofs.lemmas.List.{length-append}
 use Rattle.std.proofs.lemmas.Str.{encodes-chars}
-use Rattle.json5_grammar.specs.Characters.{NotBegun, Each, no_char, char, is_identifier_start, is_identifier_part}
+use Rattle.json5_grammar.specs.Characters.{NotBegun, Each, char, is_identifier_start, is_identifier_part}
 use Rattle.json5_grammar.specs.declared.code.ErrorCode.{ErrorCode}
 use Rattle.json5_grammar.specs.declared.code.ErrorCode.TheVariants.{EofParsingIdentifier, ExpectedIdentifier, InvalidEscapeSequence}
 use Rattle.json5_grammar.specs.Reading.{Read, Place, got, bad, here, inner, and_then}
@@ -19,9 +19,9 @@ use Rattle.json5_text.specs.declared.names.Stop.{Stop}
 use Rattle.json5_text.specs.declared.names.Stop.TheVariants as stop
 use Rattle.json5_text.specs.Outcome.{outcome}
 use Rattle.json5_text.specs.Refused.{Refuses}
-use Rattle.json5_text.specs.ScanNames.{fits, is_raw_part, name_at, NoPart, StopsAt, GoesOn, IsFurther, StopsText}
-use Rattle.json5_text.proofs.ScanEscapes.{refuses_as}
-use Rattle.json5_text.proofs.ScanStrings.{put_bad, both_bytes, put_both, put_whole, plain_put}
+use Rattle.json5_text.specs.ScanNames.{fits, is_raw_part, name_at, item, item_then, NoPart, StopsAt, GoesOn, IsFurther, StopsText}
+use Rattle.json5_text.proofs.ScanEscapes.{refuses_as, then_refuses}
+use Rattle.json5_text.proofs.ScanStrings.{put_bad, plain_put}
 
 -- ---- characters that stand for themselves
 
@@ -31,13 +31,6 @@ raw_parts c h = both (c == 92) (is_identifier_part c) h
     both : (a b : Bool) → (not a && b) ≡ true → (a ≡ false) × (b ≡ true)
     both true b h = absurd (cc)
     both false b h = (refl, h)
-
-pub part_more : (c : ℕ) (x y z : List ℕ) → is_raw_part c ≡ true → (raw : List ℕ) × (x ≡ raw ++ y) × Each is_raw_part raw → y ≡ c ∷ z → (raw : List ℕ) × (x ≡ raw ++ z) × Each is_raw_part raw
-part_more c x y z h (raw, e, k) f = (raw ++ c ∷ [], e ∙ ap (λ t. raw ++ t) f ∙ sym (append_assoc raw (c ∷ []) z), each_more raw k)
-  where
-    each_more : (raw : List ℕ) → Each is_raw_part raw → Each is_raw_part (raw ++ c ∷ [])
-    each_more [] k = char h no_char
-    each_more (d ∷ raw) (char i k) = char i (each_more raw k)
 
 pub no_part_from : (c : ℕ) (x r : List ℕ) → x ≡ c ∷ r → NotBegun is_raw_part x → (c ≡ 92 → ⊥) → NoPart x
 no_part_from c x r e s n =
@@ -73,45 +66,58 @@ stopped x k = ap (name_at false) k.split ∙ rest_is (k.first ∷ k.rest) ∙ na
 
 -- ---- an escape
 
-bad_item : (first : Bool) (x y : List ℕ) (c : Option ErrorCode) (p : Place) → x ≡ 92 ∷ y → and_then (name_escape x y) (fit (fits first) x) ≡ bad c p → name_at first x ≡ bad c p
+bad_item : (first : Bool) (x y : List ℕ) (c : Option ErrorCode) (p : Place) → x ≡ 92 ∷ y → item first x y ≡ bad c p → name_at first x ≡ bad c p
 bad_item first x y c p e g = ap (name_at first) e ∙ at_backslash first (ap (λ t. and_then (name_escape t y) (fit (fits first) t)) (sym e) ∙ g)
   where
     at_backslash : (first : Bool) → and_then (name_escape (92 ∷ y) y) (fit (fits first) (92 ∷ y)) ≡ bad c p → name_at first (92 ∷ y) ≡ bad c p
     at_backslash true g = whole_is (92 ∷ y) ∙ start_bad y c p g
     at_backslash false g = rest_is (92 ∷ y) ∙ name_bad y c p g
 
-pub item_bad : (first : Bool) (r : Refusal) (x y : List ℕ) → x ≡ 92 ∷ y → Refuses r (outcome (and_then (name_escape x y) (fit (fits first) x))) → Refuses r (outcome (name_at first x))
-item_bad first r x y e h = refuses_as r (and_then (name_escape x y) (fit (fits first) x)) (name_at first x) (λ c p g. bad_item first x y c p e g) h
+-- a character that is refused refuses the name
+pub item_bad : (first : Bool) (r : Refusal) (x y : List ℕ) → Refuses r (outcome (item first x y)) → Refuses r (outcome (item_then first x y))
+item_bad first r x y h = then_refuses r (item first x y) (item_then first x y) (λ c z. put (c ∷ []) false (name_at false z)) refl h
 
-item_read : (first : Bool) (x y z : List ℕ) (n : ℕ) → x ≡ 92 ∷ y → and_then (name_escape x y) (fit (fits first) x) ≡ got n z → name_at first x ≡ put (n ∷ []) false (name_at false z)
+item_read : (first : Bool) (x y z : List ℕ) (n : ℕ) → x ≡ 92 ∷ y → item first x y ≡ got n z → name_at first x ≡ put (n ∷ []) false (name_at false z)
 item_read first x y z n e g = ap (name_at first) e ∙ at_backslash first (ap (λ t. and_then (name_escape t y) (fit (fits first) t)) (sym e) ∙ g) ∙ ap (put (n ∷ []) false) (sym (rest_is z))
   where
     at_backslash : (first : Bool) → and_then (name_escape (92 ∷ y) y) (fit (fits first) (92 ∷ y)) ≡ got n z → name_at first (92 ∷ y) ≡ put (n ∷ []) false (name_rest z)
     at_backslash true g = whole_is (92 ∷ y) ∙ start_escaped y z n g
     at_backslash false g = rest_is (92 ∷ y) ∙ name_escaped y z n g
 
-pub behind_item : (first : Bool) (r : Refusal) (x y z : List ℕ) (n : ℕ) → x ≡ 92 ∷ y → and_then (name_escape x y) (fit (fits first) x) ≡ got n z → Refuses r (outcome (name_at false z)) → Refuses r (outcome (name_at first x))
-behind_item first r x y z n e g = refuses_as r (name_at false z) (name_at first x) (λ c p h. item_read first x y z n e g ∙ put_bad (n ∷ []) false (name_at false z) c p h)
+-- a name that goes on with an escape
+pub name_item : (first : Bool) (x y : List ℕ) → x ≡ 92 ∷ y → name_at first x ≡ item_then first x y
+name_item first x y e = either (item first x y) refl
+  where
+    either : (res : Read ℕ) → item first x y ≡ res → name_at first x ≡ item_then first x y
+    either (got n z) h = item_read first x y z n e h ∙ sym (ap (λ m. and_then m (λ c z. put (c ∷ []) false (name_at false z))) h)
+    either (bad c p) h = bad_item first x y c p e h ∙ sym (ap (λ m. and_then m (λ c z. put (c ∷ []) false (name_at false z))) h)
 
-item_run : (first : Bool) (x y z raw t : List ℕ) (n : ℕ) → x ≡ 92 ∷ y → and_then (name_escape x y) (fit (fits first) x) ≡ got n z → z ≡ raw ++ t → Each is_raw_part raw → name_at first x ≡ put (n ∷ raw) false (name_at false t)
-item_run first x y z raw t n e g f k =
-    item_read first x y z n e g ∙ ap (λ s. put (n ∷ []) false (name_at false s)) f ∙ ap (put (n ∷ []) false) (run_read raw t k) ∙ put_escape (n ∷ []) raw true (name_at false t)
+-- what stands after the escape
+after_item : (first : Bool) (x y z : List ℕ) (n : ℕ) → item first x y ≡ got n z → item_then first x y ≡ put (n ∷ []) false (name_at false z)
+after_item first x y z n h = ap (λ m. and_then m (λ c z. put (c ∷ []) false (name_at false z))) h
 
-pub goes_on : (first : Bool) (x y z raw t : List ℕ) (n : ℕ) (s : Stop) → x ≡ 92 ∷ y → and_then (name_escape x y) (fit (fits first) x) ≡ got n z → z ≡ raw ++ t → Each is_raw_part raw → StopsAt t s → GoesOn first x (n ∷ raw) s
-goes_on first x y z raw t n (stop.End rest) e g f k a =
-    item_run first x y z raw t n e g f k ∙ ap (put (n ∷ raw) false) (stopped t a.1) ∙ put_end (n ∷ raw) false t ∙ ap (got (n ∷ raw, false)) a.0
-goes_on first x y z raw t n (stop.Escape escape behind) e g f k a = (item_run first x y z raw t n e g f k ∙ ap (λ s. put (n ∷ raw) false (name_at false s)) a.0, a.1)
+pub behind_item : (first : Bool) (r : Refusal) (x y z : List ℕ) (n : ℕ) → item first x y ≡ got n z → Refuses r (outcome (name_at false z)) → Refuses r (outcome (item_then first x y))
+behind_item first r x y z n g = refuses_as r (name_at false z) (item_then first x y) (λ c p h. after_item first x y z n g ∙ put_bad (n ∷ []) false (name_at false z) c p h)
 
-item_shorter : (first : Bool) (x y z : List ℕ) (n : ℕ) → x ≡ 92 ∷ y → and_then (name_escape x y) (fit (fits first) x) ≡ got n z → length z < length x
+item_run : (first : Bool) (x y z raw t : List ℕ) (n : ℕ) → item first x y ≡ got n z → z ≡ raw ++ t → Each is_raw_part raw → item_then first x y ≡ put (n ∷ raw) false (name_at false t)
+item_run first x y z raw t n g f k =
+    after_item first x y z n g ∙ ap (λ s. put (n ∷ []) false (name_at false s)) f ∙ ap (put (n ∷ []) false) (run_read raw t k) ∙ put_escape (n ∷ []) raw true (name_at false t)
+
+pub goes_on : (first : Bool) (x y z raw t : List ℕ) (n : ℕ) (s : Stop) → item first x y ≡ got n z → z ≡ raw ++ t → Each is_raw_part raw → StopsAt t s → GoesOn (item_then first x y) (n ∷ raw) s
+goes_on first x y z raw t n (stop.End rest) g f k a =
+    item_run first x y z raw t n g f k ∙ ap (put (n ∷ raw) false) (stopped t a.1) ∙ put_end (n ∷ raw) false t ∙ ap (got (n ∷ raw, false)) a.0
+goes_on first x y z raw t n (stop.Escape escape behind) g f k a = (item_run first x y z raw t n g f k ∙ ap (λ s. put (n ∷ raw) false (name_at false s)) a.0, a.1)
+
+item_shorter : (first : Bool) (x y z : List ℕ) (n : ℕ) → x ≡ 92 ∷ y → item first x y ≡ got n z → length z < length x
 item_shorter first x y z n e g =
     let k = subst (EscapedSound (fits first) (92 ∷ y)) (ap (λ t. and_then (name_escape t y) (fit (fits first) t)) (sym e) ∙ g) (escaped_sound (fits first) y) in
     let l : length x ≡ length (92 ∷ y) = ap length e in
     let m : length z < length (92 ∷ y) = shorter (92 ∷ y) k.0 z k.1 (unicode_head k.2) in
     omega arith
 
-pub is_further : (first : Bool) (x y z raw t : List ℕ) (n : ℕ) (s : Stop) → x ≡ 92 ∷ y → and_then (name_escape x y) (fit (fits first) x) ≡ got n z → z ≡ raw ++ t → StopsAt t s → StopsText s → IsFurther x s
-is_further first x y z raw t n (stop.End rest) e g f a u = u
-is_further first x y z raw t n (stop.Escape escape behind) e g f a u =
+pub is_further : (first : Bool) (x y z raw t : List ℕ) (n : ℕ) (s : Stop) → item first x y ≡ got n z → z ≡ raw ++ t → StopsAt t s → StopsText s → x ≡ 92 ∷ y → IsFurther x s
+is_further first x y z raw t n (stop.End rest) g f a u e = u
+is_further first x y z raw t n (stop.Escape escape behind) g f a u e =
     let less = item_shorter first x y z n e g in
     let whole : length z ≡ length raw + length t = ap length f ∙ length-append raw t in
     let same : length t ≡ length (chars escape.now) = ap length a.0 in
@@ -140,24 +146,6 @@ item_fits p b xs ys n e h = ap (λ z. and_then z (fit p b)) e ∙ rw h refl
 
 pub item_misfits : (p : ℕ → Bool) (b xs ys : List ℕ) (n : ℕ) → name_escape b xs ≡ got n ys → p n ≡ false → and_then (name_escape b xs) (fit p b) ≡ bad (Some ExpectedIdentifier) (here b)
 item_misfits p b xs ys n e h = ap (λ z. and_then z (fit p b)) e ∙ rw h refl
-
--- ---- more of a name behind what was read
-
-abbrev pub Reached : Read (List ℕ × Bool) → Read (List ℕ × Bool) → List ℕ → List ℕ → Type 0
-Reached whole rest front text = (u : List ℕ) × (plain : Bool) × (whole ≡ put u plain rest) × (text ≡ front ++ encode_utf8_all u)
-
-pub reached_start : (whole : Read (List ℕ × Bool)) (front : List ℕ) → Reached whole whole front front
-reached_start whole front = ([], true, put_none whole, sym (append-nil front))
-
-pub reached_more : (whole rest next : Read (List ℕ × Bool)) (front a b v : List ℕ) → Reached whole rest front a → rest ≡ put v false next → b ≡ a ++ encode_utf8_all v → Reached whole next front b
-reached_more whole rest next front a b v (u, p, e, f) h i = (u ++ v, false, e ∙ ap (put u p) h ∙ put_both u v p next, both_bytes front a b u v f i)
-
-pub reached_end : (whole rest : Read (List ℕ × Bool)) (front a b v r : List ℕ) → Reached whole rest front a → rest ≡ got (v, false) r → b ≡ a ++ encode_utf8_all v
-    → (u : List ℕ) × (whole ≡ got (u, false) r) × (b ≡ front ++ encode_utf8_all u)
-reached_end whole rest front a b v r (u, p, e, f) h i = (u ++ v, e ∙ ap (put u p) h ∙ put_whole u v r p, both_bytes front a b u v f i)
-
-pub reached_refused : (r : Refusal) (whole rest : Read (List ℕ × Bool)) (front a : List ℕ) → Reached whole rest front a → Refuses r (outcome rest) → Refuses r (outcome whole)
-reached_refused r whole rest front a (u, p, e, f) = refuses_as r rest whole (λ c z g. e ∙ put_bad u p rest c z g)
 
 -- ---- a name from its first character on
 
@@ -195,9 +183,9 @@ split_whole c x r raw t y e f g = e ∙ ap (λ z. c ∷ z) (f ∙ ap (λ z. raw 
 -- ---- a name with an escape isn't plain
 
 pub item_not_plain : (first : Bool) (x y u r : List ℕ) → x ≡ 92 ∷ y → name_at first x ≡ got (u, true) r → ⊥
-item_not_plain first x y u r e f = either (and_then (name_escape x y) (fit (fits first) x)) refl
+item_not_plain first x y u r e f = either (item first x y) refl
   where
-    either : (res : Read ℕ) → and_then (name_escape x y) (fit (fits first) x) ≡ res → ⊥
+    either : (res : Read ℕ) → item first x y ≡ res → ⊥
     either (got n z) h =
         let p = (plain_put (n ∷ []) u r false (name_at false z) (sym (item_read first x y z n e h) ∙ f)).0 in
         absurd (cc)

@@ -62,7 +62,7 @@ pub block_none : (xs : List ℕ) → xs ≡ [] → skip Mode.block xs ≡ bad (S
 unfolding skip
 block_none xs e = rw e
 
--- behind the slash
+-- after the slash
 pub slash_none : (xs : List ℕ) → xs ≡ [] → skip slash xs ≡ bad (Some EofParsingComment) inner
 unfolding skip
 slash_none xs e = rw e

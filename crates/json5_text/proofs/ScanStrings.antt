@@ -9,7 +9,7 @@ use Rattle.json5_grammar.specs.Characters.{NotBegun, Each, no_char, char}
 use Rattle.json5_grammar.specs.declared.code.ErrorCode.{ErrorCode}
 use Rattle.json5_grammar.specs.declared.code.ErrorCode.TheVariants.{EofParsingString, LineTerminatorInString, ExpectedString}
 use Rattle.json5_grammar.specs.Strings.{is_raw, is_quote}
-use Rattle.json5_grammar.specs.Reading.{Read, Place, got, bad, here, inner}
+use Rattle.json5_grammar.specs.Reading.{Read, Place, got, bad, here, inner, and_then}
 use Rattle.json5_grammar.specs.ReadTexts.{escape_at, put, string}
 use Rattle.json5_grammar.proofs.EscapesSound.{EscapeSound, escape_sound}
 use Rattle.json5_grammar.proofs.StringsRead.{escape_head, put_none, put_raw, put_escape, put_end}
@@ -19,8 +19,8 @@ use Rattle.json5_text.specs.declared.strings.Stop.{Stop}
 use Rattle.json5_text.specs.declared.strings.Stop.TheVariants as stop
 use Rattle.json5_text.specs.Outcome.{outcome}
 use Rattle.json5_text.specs.Refused.{Refuses}
-use Rattle.json5_text.specs.ScanStrings.{string_at, StopsAt, GoesOn, IsFurther, StopsText}
-use Rattle.json5_text.proofs.ScanEscapes.{refuses_as}
+use Rattle.json5_text.specs.ScanStrings.{string_at, escape_then, StopsAt, GoesOn, IsFurther, StopsText}
+use Rattle.json5_text.proofs.ScanEscapes.{refuses_as, then_refuses}
 
 -- ---- characters that stand for themselves
 
@@ -33,11 +33,11 @@ not_raw q c h i j = grind (arith, nat_tests)
 quote_no_backslash : (q : ℕ) → is_quote q ≡ true → (92 == q) ≡ false
 quote_no_backslash q h = grind (arith, nat_tests)
 
--- one more character
-pub raw_more : (q c : ℕ) (x y z : List ℕ) → is_raw q c ≡ true → (raw : List ℕ) × (x ≡ raw ++ y) × Each (is_raw q) raw → y ≡ c ∷ z → (raw : List ℕ) × (x ≡ raw ++ z) × Each (is_raw q) raw
-raw_more q c x y z h (raw, e, k) f = (raw ++ c ∷ [], e ∙ ap (λ t. raw ++ t) f ∙ sym (append_assoc raw (c ∷ []) z), each_more raw k)
+-- one more character that passes the test
+pub one_more : (p : ℕ → Bool) (c : ℕ) (x y z : List ℕ) → p c ≡ true → (raw : List ℕ) × (x ≡ raw ++ y) × Each p raw → y ≡ c ∷ z → (raw : List ℕ) × (x ≡ raw ++ z) × Each p raw
+one_more p c x y z h (raw, e, k) f = (raw ++ c ∷ [], e ∙ ap (λ t. raw ++ t) f ∙ sym (append_assoc raw (c ∷ []) z), each_more raw k)
   where
-    each_more : (raw : List ℕ) → Each (is_raw q) raw → Each (is_raw q) (raw ++ c ∷ [])
+    each_more : (raw : List ℕ) → Each p raw → Each p (raw ++ c ∷ [])
     each_more [] k = char h no_char
     each_more (d ∷ raw) (char i k) = char i (each_more raw k)
 
@@ -63,29 +63,42 @@ run_line q c raw x y z k e n f no_quote no_slash =
     ap (λ t. string (q ∷ t)) (e ∙ ap (λ t. raw ++ t) f) ∙ run_read q raw (c ∷ z) k
     ∙ ap (put raw true) (string_is q (c ∷ z) ∙ rest_line q c z a b (not_raw q c h a b)) ∙ ap (λ t. bad (Some LineTerminatorInString) (here t)) (sym f)
 
--- ---- an escape and the run behind it
+-- ---- an escape and the run after it
 
-pub escape_refused : (q : ℕ) (r : Refusal) (x y : List ℕ) → is_quote q ≡ true → x ≡ 92 ∷ y → Refuses r (outcome (escape_at x y)) → Refuses r (outcome (string (q ∷ x)))
-escape_refused q r x y k e h =
-    refuses_as r (escape_at x y) (string (q ∷ x)) (λ c p g. ap (λ t. string (q ∷ t)) e ∙ string_is q (92 ∷ y) ∙ rest_bad q y c p (quote_no_backslash q k) (ap (λ t. escape_at t y) (sym e) ∙ g)) h
+pub escape_refused : (q : ℕ) (r : Refusal) (x y : List ℕ) → Refuses r (outcome (escape_at x y)) → Refuses r (outcome (escape_then q x y))
+escape_refused q r x y h = then_refuses r (escape_at x y) (escape_then q x y) (λ v z. put v false (string (q ∷ z))) refl h
+
+-- what stands after the escape
+after_escape : (q : ℕ) (x y v z : List ℕ) → escape_at x y ≡ got v z → escape_then q x y ≡ put v false (string (q ∷ z))
+after_escape q x y v z h = ap (λ m. and_then m (λ v z. put v false (string (q ∷ z)))) h
 
 -- an escape in front
 escape_read : (q : ℕ) (x y v z : List ℕ) → is_quote q ≡ true → x ≡ 92 ∷ y → escape_at x y ≡ got v z → string (q ∷ x) ≡ put v false (string (q ∷ z))
 escape_read q x y v z k e h =
     ap (λ t. string (q ∷ t)) e ∙ string_is q (92 ∷ y) ∙ rest_escape q y v z (quote_no_backslash q k) (ap (λ t. escape_at t y) (sym e) ∙ h) ∙ ap (put v false) (sym (string_is q z))
 
-pub behind_escape : (q : ℕ) (r : Refusal) (x y v z : List ℕ) → is_quote q ≡ true → x ≡ 92 ∷ y → escape_at x y ≡ got v z → Refuses r (outcome (string (q ∷ z))) → Refuses r (outcome (string (q ∷ x)))
-behind_escape q r x y v z k e h = refuses_as r (string (q ∷ z)) (string (q ∷ x)) (λ c p g. escape_read q x y v z k e h ∙ put_bad v false (string (q ∷ z)) c p g)
+-- a string that begins with an escape
+pub string_escape : (q : ℕ) (x y : List ℕ) → is_quote q ≡ true → x ≡ 92 ∷ y → string (q ∷ x) ≡ escape_then q x y
+string_escape q x y k e = either (escape_at x y) refl
+  where
+    either : (res : Read (List ℕ)) → escape_at x y ≡ res → string (q ∷ x) ≡ escape_then q x y
+    either (got v z) h = escape_read q x y v z k e h ∙ sym (ap (λ m. and_then m (λ v z. put v false (string (q ∷ z)))) h)
+    either (bad c p) h =
+        ap (λ t. string (q ∷ t)) e ∙ string_is q (92 ∷ y) ∙ rest_bad q y c p (quote_no_backslash q k) (ap (λ t. escape_at t y) (sym e) ∙ h)
+        ∙ sym (ap (λ m. and_then m (λ v z. put v false (string (q ∷ z)))) h)
 
-escape_run : (q : ℕ) (x y v z raw t : List ℕ) → is_quote q ≡ true → x ≡ 92 ∷ y → escape_at x y ≡ got v z → z ≡ raw ++ t → Each (is_raw q) raw → string (q ∷ x) ≡ put (v ++ raw) false (string (q ∷ t))
-escape_run q x y v z raw t k e h f r =
-    escape_read q x y v z k e h ∙ ap (λ s. put v false (string (q ∷ s))) f ∙ ap (put v false) (run_read q raw t r) ∙ put_escape v raw true (string (q ∷ t))
+pub behind_escape : (q : ℕ) (r : Refusal) (x y v z : List ℕ) → escape_at x y ≡ got v z → Refuses r (outcome (string (q ∷ z))) → Refuses r (outcome (escape_then q x y))
+behind_escape q r x y v z h = refuses_as r (string (q ∷ z)) (escape_then q x y) (λ c p g. after_escape q x y v z h ∙ put_bad v false (string (q ∷ z)) c p g)
 
-pub goes_on : (q : ℕ) (x y v z raw t : List ℕ) (s : Stop) → is_quote q ≡ true → x ≡ 92 ∷ y → escape_at x y ≡ got v z → z ≡ raw ++ t → Each (is_raw q) raw → StopsAt q t s → GoesOn q x (v ++ raw) s
-goes_on q x y v z raw t (stop.Quote rest) k e h f r a =
-    escape_run q x y v z raw t k e h f r ∙ ap (λ s. put (v ++ raw) false (string (q ∷ s))) a
+escape_run : (q : ℕ) (x y v z raw t : List ℕ) → escape_at x y ≡ got v z → z ≡ raw ++ t → Each (is_raw q) raw → escape_then q x y ≡ put (v ++ raw) false (string (q ∷ t))
+escape_run q x y v z raw t h f r =
+    after_escape q x y v z h ∙ ap (λ s. put v false (string (q ∷ s))) f ∙ ap (put v false) (run_read q raw t r) ∙ put_escape v raw true (string (q ∷ t))
+
+pub goes_on : (q : ℕ) (x y v z raw t : List ℕ) (s : Stop) → escape_at x y ≡ got v z → z ≡ raw ++ t → Each (is_raw q) raw → StopsAt q t s → GoesOn q (escape_then q x y) (v ++ raw) s
+goes_on q x y v z raw t (stop.Quote rest) h f r a =
+    escape_run q x y v z raw t h f r ∙ ap (λ s. put (v ++ raw) false (string (q ∷ s))) a
     ∙ ap (put (v ++ raw) false) (string_is q (q ∷ chars rest.now) ∙ rest_quote q q (chars rest.now) (grind arith)) ∙ put_end (v ++ raw) false (chars rest.now)
-goes_on q x y v z raw t (stop.Escape escape behind) k e h f r a = (escape_run q x y v z raw t k e h f r ∙ ap (λ s. put (v ++ raw) false (string (q ∷ s))) a.0, a.1)
+goes_on q x y v z raw t (stop.Escape escape behind) h f r a = (escape_run q x y v z raw t h f r ∙ ap (λ s. put (v ++ raw) false (string (q ∷ s))) a.0, a.1)
 
 escape_shorter : (x y v z : List ℕ) → x ≡ 92 ∷ y → escape_at x y ≡ got v z → length z < length x
 escape_shorter x y v z e h =
@@ -95,9 +108,9 @@ escape_shorter x y v z e h =
     let first : length k.0 ≡ suc (length head.0) = ap length head.1 in
     omega arith
 
-pub is_further : (q : ℕ) (x y v z raw t : List ℕ) (s : Stop) → x ≡ 92 ∷ y → escape_at x y ≡ got v z → z ≡ raw ++ t → StopsAt q t s → StopsText s → IsFurther x s
-is_further q x y v z raw t (stop.Quote rest) e h f a u = u
-is_further q x y v z raw t (stop.Escape escape behind) e h f a u =
+pub is_further : (q : ℕ) (x y v z raw t : List ℕ) (s : Stop) → escape_at x y ≡ got v z → z ≡ raw ++ t → StopsAt q t s → StopsText s → x ≡ 92 ∷ y → IsFurther x s
+is_further q x y v z raw t (stop.Quote rest) h f a u e = u
+is_further q x y v z raw t (stop.Escape escape behind) h f a u e =
     let shorter = escape_shorter x y v z e h in
     let whole : length z ≡ length raw + length t = ap length f ∙ length-append raw t in
     let same : length t ≡ length (chars escape.now) = ap length a.0 in
@@ -108,10 +121,7 @@ pub bytes_put : (a b c r v : List ℕ) → b ≡ a ++ encode_utf8_all v → c �
 bytes_put a b c r v e f u =
     f ∙ ap (λ t. t ++ r) e ∙ append_assoc a (encode_utf8_all v) r ∙ ap (λ t. a ++ t) (ap (λ t. encode_utf8_all v ++ t) (sym (encodes-chars r u)) ∙ sym (encodes-append v (chars r)))
 
--- ---- more of a string behind what was read
-
-abbrev pub Reached : ℕ → List ℕ → List ℕ → List ℕ → List ℕ → Type 0
-Reached q x y front text = (u : List ℕ) × (plain : Bool) × (string (q ∷ x) ≡ put u plain (string (q ∷ y))) × (text ≡ front ++ encode_utf8_all u)
+-- ---- more of a text after what was read
 
 pub both_bytes : (front a b u v : List ℕ) → a ≡ front ++ encode_utf8_all u → b ≡ a ++ encode_utf8_all v → b ≡ front ++ encode_utf8_all (u ++ v)
 both_bytes front a b u v e f = f ∙ ap (λ t. t ++ encode_utf8_all v) e ∙ append_assoc front (encode_utf8_all u) (encode_utf8_all v) ∙ ap (λ t. front ++ t) (sym (encodes-append u v))
@@ -121,24 +131,27 @@ put_both u v true (got a r) = ap (λ t. got (t, false) r) (sym (append_assoc u v
 put_both u v false (got a r) = ap (λ t. got (t, false) r) (sym (append_assoc u v a.0))
 put_both u v p (bad e z) = refl
 
-pub reached_start : (q : ℕ) (x front : List ℕ) → Reached q x x front front
-reached_start q x front = ([], true, put_none (string (q ∷ x)), sym (append-nil front))
-
-pub reached_more : (q : ℕ) (x y z front a b v : List ℕ) → Reached q x y front a → string (q ∷ y) ≡ put v false (string (q ∷ z)) → b ≡ a ++ encode_utf8_all v → Reached q x z front b
-reached_more q x y z front a b v (u, p, e, f) h i = (u ++ v, false, e ∙ ap (put u p) h ∙ put_both u v p (string (q ∷ z)), both_bytes front a b u v f i)
-
 pub put_whole : (u v r : List ℕ) (p : Bool) → put u p (got (v, false) r) ≡ got (u ++ v, false) r
 put_whole u v r true = refl
 put_whole u v r false = refl
 
-pub reached_end : (q : ℕ) (x y front a b v r : List ℕ) → Reached q x y front a → string (q ∷ y) ≡ got (v, false) r → b ≡ a ++ encode_utf8_all v
-    → (u : List ℕ) × (string (q ∷ x) ≡ got (u, false) r) × (b ≡ front ++ encode_utf8_all u)
-reached_end q x y front a b v r (u, p, e, f) h i = (u ++ v, e ∙ ap (put u p) h ∙ put_whole u v r p, both_bytes front a b u v f i)
+abbrev pub Reached : Read (List ℕ × Bool) → Read (List ℕ × Bool) → List ℕ → List ℕ → Type 0
+Reached whole rest front text = (u : List ℕ) × (plain : Bool) × (whole ≡ put u plain rest) × (text ≡ front ++ encode_utf8_all u)
 
-pub reached_refused : (q : ℕ) (r : Refusal) (x y front a : List ℕ) → Reached q x y front a → Refuses r (outcome (string (q ∷ y))) → Refuses r (outcome (string (q ∷ x)))
-reached_refused q r x y front a (u, p, e, f) = refuses_as r (string (q ∷ y)) (string (q ∷ x)) (λ c z g. e ∙ put_bad u p (string (q ∷ y)) c z g)
+pub reached_start : (whole : Read (List ℕ × Bool)) (front : List ℕ) → Reached whole whole front front
+reached_start whole front = ([], true, put_none whole, sym (append-nil front))
 
--- ---- where a string is awaited
+pub reached_more : (whole rest next : Read (List ℕ × Bool)) (front a b v : List ℕ) → Reached whole rest front a → rest ≡ put v false next → b ≡ a ++ encode_utf8_all v → Reached whole next front b
+reached_more whole rest next front a b v (u, p, e, f) h i = (u ++ v, false, e ∙ ap (put u p) h ∙ put_both u v p next, both_bytes front a b u v f i)
+
+pub reached_end : (whole rest : Read (List ℕ × Bool)) (front a b v r : List ℕ) → Reached whole rest front a → rest ≡ got (v, false) r → b ≡ a ++ encode_utf8_all v
+    → (u : List ℕ) × (whole ≡ got (u, false) r) × (b ≡ front ++ encode_utf8_all u)
+reached_end whole rest front a b v r (u, p, e, f) h i = (u ++ v, e ∙ ap (put u p) h ∙ put_whole u v r p, both_bytes front a b u v f i)
+
+pub reached_refused : (r : Refusal) (whole rest : Read (List ℕ × Bool)) (front a : List ℕ) → Reached whole rest front a → Refuses r (outcome rest) → Refuses r (outcome whole)
+reached_refused r whole rest front a (u, p, e, f) = refuses_as r rest whole (λ c z g. e ∙ put_bad u p rest c z g)
+
+-- ---- where a string is expected
 
 pub at_none : (x : List ℕ) → x ≡ [] → string_at x ≡ bad (Some EofParsingString) inner
 unfolding string_at

@@ -4,6 +4,7 @@ use Rattle.std.specs.Str.{encode_utf8_all}
 use Rattle.json5_grammar.specs.declared.code.ErrorCode.{ErrorCode}
 use Rattle.json5_grammar.specs.declared.code.ErrorCode.TheVariants as codes
 use Rattle.json5_grammar.specs.Positions.{position_behind}
+use Rattle.json5_grammar.specs.declared.position.Position.{Position}
 use Rattle.json5_text.specs.declared.error.Error.{Error}
 use Rattle.json5_text.specs.Errors.{code, custom, kind_of, place_of}
 
@@ -20,7 +21,7 @@ abbrev pub Says : Option ErrorCode → Error → Type 0
 Says (Some c) e = kind_of e ≡ code c
 Says None e = (text : List ℕ) × (kind_of e ≡ custom text)
 
--- the fault's place, where the text before the place begins behind what is read
+-- the fault's place, where the text before the place begins after what is read
 abbrev pub IsPlaced : Cursor → Option (List ℕ) → Error → Type 0
 IsPlaced s None e = place_of e ≡ None
 IsPlaced s (Some p) e = (before : List ℕ) → s.input ≡ before ++ s.unread → place_of e ≡ Some (position_behind (before ++ p))
@@ -41,8 +42,12 @@ pub record Took (old : Cursor) (taken : List ℕ) (new : Cursor) : Type 0 where
   pub split : old.unread ≡ taken ++ new.unread
   pub same : new.input ≡ old.input
 
--- after a refusal no more is left than before
-pub record Behind (old new : Cursor) : Type 0 where
-  pub passed : List ℕ
-  pub split : old.unread ≡ passed ++ new.unread
-  pub same : new.input ≡ old.input
+-- ---- places of a text by their offsets in bytes
+
+-- a character begins at the offset, or the text ends there
+abbrev pub IsOffset : List ℕ → ℕ → Type 0
+IsOffset input offset = (before rest : List ℕ) × (input ≡ before ++ rest) × (offset ≡ length (encode_utf8_all before))
+
+-- the position at the offset
+abbrev pub IsPositionOf : List ℕ → ℕ → Position → Type 0
+IsPositionOf input offset position = (before rest : List ℕ) → input ≡ before ++ rest → offset ≡ length (encode_utf8_all before) → position ≡ position_behind before

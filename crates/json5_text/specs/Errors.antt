@@ -37,6 +37,16 @@ abbrev pub or_place : Option Position → Position → Option Position
 or_place None p = Some p
 or_place (Some q) p = Some q
 
+-- the fault says this, at this place
+pub record SaysAt (what : Kind) (there : Option Position) (e : Error) : Type 0 where
+  pub kind : kind_of e ≡ what
+  pub place : place_of e ≡ there
+
+-- the fault has a text of its own, at this place
+pub record IsCustomAt (there : Option Position) (e : Error) : Type 0 where
+  pub kind : (text : List ℕ) × (kind_of e ≡ custom text)
+  pub place : place_of e ≡ there
+
 -- memory was refused, which has no place
 pub record LacksMemory (e : Error) : Type 0 where
   pub kind : kind_of e ≡ code OutOfMemory

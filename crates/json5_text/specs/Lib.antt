@@ -3,6 +3,7 @@ pub mod Outcome
 pub mod Refused
 pub mod Cursor
 pub mod Tokens
+pub mod Takes
 pub mod NumberViews
 pub mod NumberDecimals
 pub mod NumberSteps
@@ -10,9 +11,12 @@ pub mod NumberEquality
 pub mod ScanStrings
 pub mod NumberWholes
 pub mod Scan
+pub mod Answered
 pub mod Escapes
 pub mod Cows
 pub mod Compared
 pub mod NumberParts
 pub mod ValueViews
 pub mod ScanNames
+pub mod ScanNumbers
+pub mod ScanBlanks

@@ -1,10 +1,12 @@
 -- What contracts see of a decimal: its sign, its kind, its digits and its exponent; equality and hashing.
-use Rattle.std.specs.Prelude.{ℕ, Bool, true, false, ◌&&◌, nat_eq, List, [], ◌++◌, ℤ, pos, string_bytes}
+use Rattle.std.specs.Prelude.{◌≡◌, ◌↔◌, ℕ, Bool, true, false, ◌&&◌, nat_eq, List, [], ◌++◌, ℤ, pos, Option, IsSome, IfSome, string_bytes}
 use Rattle.std.specs.Bool.{beq}
 use Rattle.std.specs.Ordering.{int_eq}
 use Rattle.std.specs.Cmp.Lexicographic.{pointwise}
 use Rattle.std.specs.Hash as fed
-use Rattle.json5_grammar.specs.Numbers.{Decimal, infinite, nan, finite}
+use Rattle.json5_grammar.specs.Characters.{is_digit, Each}
+use Rattle.json5_grammar.specs.Numbers.{Decimal, infinite, nan, finite, without_zeros, normal_exponent, InExponents}
+use Rattle.json5_grammar.specs.NumberText.{Normal}
 use Rattle.json5_text.specs.declared.decimal.Size.{Size}
 use Rattle.json5_text.specs.declared.decimal.Size.TheVariants as size
 
@@ -39,6 +41,29 @@ abbrev pub exponent_in : Decimal → ℤ
 exponent_in (infinite m) = pos 0
 exponent_in (nan m) = pos 0
 exponent_in (finite m ds e) = e
+
+-- this is what the decimal shows there; each decimal is normal
+pub record Shows {A : Type 0} (view : Decimal → A) (d : Decimal) (shown : A) : Type 0 where
+  pub value : shown ≡ view d
+  pub normal : Normal d
+
+-- ---- the finite number with these digits times ten to the exponent
+
+-- the exponent is in range once the outer zeros are gone
+abbrev pub IsInRange : List ℕ → ℤ → Type 0
+IsInRange digits exponent = InExponents (normal_exponent digits exponent)
+
+-- the number, if it is in range
+pub record IsFiniteIfInRange (negative : Bool) (digits : List ℕ) (exponent : ℤ) (found : Option Decimal) : Type 0 where
+  pub in_range : IsSome found ↔ IsInRange digits exponent
+  pub value : IfSome found (λ d. d ≡ finite negative (without_zeros digits) (normal_exponent digits exponent))
+
+-- the number, if it is in range and the digits are digits
+pub record IsFiniteOf (negative : Bool) (digits : List ℕ) (exponent : ℤ) (found : Option Decimal) : Type 0 where
+  pub some : IsSome found ↔ (Each is_digit digits × IsInRange digits exponent)
+  pub value : IfSome found (λ d. d ≡ finite negative (without_zeros digits) (normal_exponent digits exponent))
+
+-- ---- equality and hashing
 
 -- the same number; not-a-number equals itself, and signs count
 abbrev pub decimal_eq : Decimal → Decimal → Bool

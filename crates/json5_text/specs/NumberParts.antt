@@ -1,5 +1,5 @@
 -- A decimal literal as code holds it. Private clauses and proofs alone cite it.
-use Rattle.std.specs.Prelude.{ℕ, min, Bool, ℤ, pos, Option, Some, None, IfSome}
+use Rattle.std.specs.Prelude.{◌≡◌, ℕ, min, Bool, ℤ, pos, Option, Some, None, IfSome}
 use Rattle.std.specs.Option.{option_map}
 use Rattle.json5_grammar.specs.Characters.{is_digit, Each}
 use Rattle.json5_grammar.specs.Numbers.{signed, spelled}
@@ -14,9 +14,13 @@ abbrev pub parts_of : Literal → Parts
 parts_of l = record { before = l.before.now; behind = option_map (λ digits. digits.now) l.behind; raised = option_map raised_of l.exponent }
 
 -- the written exponent, or the limit where that is less
+abbrev pub signed_limited : ℕ → Exponent → ℤ
+signed_limited limit e = signed e.negative (min limit (spelled 10 0 e.digits.now))
+
+-- 0 where there is none
 abbrev pub limited_exponent : ℕ → Option Exponent → ℤ
 limited_exponent limit None = pos 0
-limited_exponent limit (Some e) = signed e.negative (min limit (spelled 10 0 e.digits.now))
+limited_exponent limit (Some e) = signed_limited limit e
 
 abbrev pub is_whole_literal : Bool → Literal → Bool
 is_whole_literal negative l = is_whole negative (parts_of l).before (parts_of l).behind (parts_of l).raised
@@ -28,3 +32,13 @@ pub record HasDigits (l : Literal) : Type 0 where
   pub before : Each is_digit l.before.now
   pub behind : IfSome l.behind (λ digits. Each is_digit digits.now)
   pub exponent : IfSome l.exponent HasExponentDigits
+
+-- the literal, and that its parts are digits
+pub record IsLiteral (reading : Option Parts) (l : Literal) : Type 0 where
+  pub read : reading ≡ Some (parts_of l)
+  pub digits : HasDigits l
+
+-- the literal, if reading gives one
+abbrev pub ReadsLiteral : Option Parts → Option Literal → Type 0
+ReadsLiteral reading None = reading ≡ None
+ReadsLiteral reading (Some l) = IsLiteral reading l

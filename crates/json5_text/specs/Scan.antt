@@ -1,6 +1,7 @@
 -- What private clauses of the scanner say.
-use Rattle.std.specs.Prelude.{◌≡◌, ℕ, List, [], ◌∷◌, ◌++◌, length, Option, Some, None, ◌⊎◌, ⊤}
-use Rattle.std.specs.Str.{IsUtf8, IsCharBoundary}
+use Rattle.std.specs.Prelude.{◌≡◌, ℕ, Bool, List, [], ◌∷◌, ◌++◌, length, Option, Some, None, ◌⊎◌, ⊤}
+use Rattle.std.specs.Str.{IsUtf8, IsCharBoundary, chars}
+use Rattle.json5_grammar.specs.Characters.{NotBegun, Each}
 use Rattle.json5_grammar.specs.declared.position.Position.{Position}
 use Rattle.json5_grammar.specs.Positions.{position_behind}
 use Rattle.json5_text.specs.declared.error.Error.{Error}
@@ -8,7 +9,7 @@ use Rattle.json5_text.specs.declared.refusal.Refusal.{Refusal}
 use Rattle.json5_text.specs.declared.refusal.Refusal.TheVariants as refusal
 use Rattle.json5_text.specs.Errors.{code, kind_of, place_of}
 use Rattle.json5_text.specs.Outcome.{bytes_in}
-use Rattle.json5_text.specs.Cursor.{Cursor, Says, IsOutOfMemory}
+use Rattle.json5_text.specs.Cursor.{Cursor, Took, Says, IsOutOfMemory}
 
 -- the offset lies between characters of the text, which has so many bytes
 pub record InText (text : List ℕ) (offset end : ℕ) : Type 0 where
@@ -30,6 +31,10 @@ pub record Leaves (s : Cursor) (left : ℕ) : Type 0 where
   pub rest : List ℕ
   pub split : s.unread ≡ passed ++ rest
   pub counted : left ≡ bytes_in rest
+
+-- what stood before them was taken
+abbrev pub LeavesAt : Cursor → ℕ → Cursor → Type 0
+LeavesAt old left new = (taken rest : List ℕ) → old.unread ≡ taken ++ rest → left ≡ bytes_in rest → Took old taken new × (new.unread ≡ rest)
 
 -- the place with so many bytes left is within what is unread
 abbrev pub InUnread : Cursor → Refusal → Type 0
@@ -55,6 +60,13 @@ MadeOf s (refusal.InvalidNumber left) e = IsOutOfMemory e ⊎ (Says None e × Is
 MadeOf s (refusal.TooLarge left) e = IsOutOfMemory e ⊎ (Says None e × IsThere s left e)
 MadeOf s (refusal.UnpairedSurrogate escape left) e = IsOutOfMemory e ⊎ (Says None e × IsThere s left e)
 MadeOf s refusal.OutOfMemory e = IsOutOfMemory e
+
+-- all in front that passes the test is passed over
+pub record SkipsAll (p : ℕ → Bool) (whole rest : List ℕ) : Type 0 where
+  pub passed : List ℕ
+  pub split : chars whole ≡ passed ++ chars rest
+  pub each : Each p passed
+  pub stops : NotBegun p (chars rest)
 
 -- what may be there, as a list
 abbrev pub in_list : Option ℕ → List ℕ

@@ -1,4 +1,4 @@
--- What is refused where a token is awaited: the token's own faults, and what begins no such token.
+-- What is refused where a token is expected: the token's own faults, and what begins no such token.
 use Rattle.std.specs.Prelude.{◌≡◌, ◌≢◌, ℕ, false, ◌||◌, ◌==◌, List, [], ◌∷◌, ◌++◌, Option, Some, None}
 use Rattle.json5_grammar.specs.declared.code.ErrorCode.{ErrorCode}
 use Rattle.json5_grammar.specs.declared.code.ErrorCode.TheVariants.{EofParsingIdentifier, EofParsingNumber, EofParsingString, ExpectedIdentifier, ExpectedNumber, ExpectedString}
@@ -10,7 +10,7 @@ use Rattle.json5_grammar.specs.Strings.{is_quote}
 use Rattle.json5_grammar.specs.StringFaults.{StringFault}
 use Rattle.json5_grammar.specs.NameFaults.{NameFault}
 
--- blanks with a faulty comment behind them
+-- blanks with a faulty comment after them
 abbrev pub FaultyBlanks : List ℕ → Option ErrorCode → Option (List ℕ) → Type 0
 FaultyBlanks x reason place = (before : List ℕ) × (part : List ℕ) × (shown : Shown) × BlankFault x reason place before part shown
 

@@ -1,23 +1,19 @@
 //! Blanks: white space, line terminators and comments.
 
-ghost use Rattle.std.specs.Prelude.{◌≡◌, ◌≤◌, Some, MatchOption, MatchResult, IfOk, IfErr, length};
-ghost use Rattle.std.specs.Str.{IsUtf8, chars};
-ghost use Rattle.json5_grammar.specs.declared.code.ErrorCode.TheVariants.{EofParsingComment};
-ghost use Rattle.json5_grammar.specs.Reading.{got, bad, inner};
+ghost use Rattle.std.specs.Prelude.{MatchOption, MatchResult};
+ghost use Rattle.std.specs.Str.{chars};
 ghost use Rattle.json5_grammar.specs.ReadBlanks.{Mode, skip, between, slash};
-ghost use Rattle.json5_text.specs.Outcome.{outcome};
-ghost use Rattle.json5_text.specs.Refused.{Refuses};
-ghost use Rattle.json5_text.specs.Scan.{HasCode};
+ghost use Rattle.json5_text.specs.Answered.{Skips, RefusesByCode};
+ghost use Rattle.json5_text.specs.ScanBlanks.{Continues, IsUnclosed};
 
 use crate::char::{is_json5_line_terminator, is_json5_whitespace};
 use crate::front::front;
 use crate::refusal::Refusal;
 use json5_grammar::code::ErrorCode;
-/// Behind `//`: what follows the line's end.
+/// After `//`: what follows the line's end.
 #[tactic(auto, using(crate::proofs::ScanSteps::line_steps))]
 fn skip_line(text: &str) -> &str
-    ensures passed { skip Mode.line (chars text.now) ≡ skip between (chars result.now) }
-    ensures shorter { length result.now ≤ length text.now }
+    ensures { Continues Mode.line text.now result.now }
 {
     let mut rest = text;
     while let Some((c, next)) = front(rest) {
@@ -29,11 +25,10 @@ fn skip_line(text: &str) -> &str
     rest
 }
 
-/// Behind `/*`: what follows the first `*/`.
+/// After `/*`: what follows the first `*/`.
 #[tactic(auto, using(crate::proofs::ScanSteps::block_steps))]
 fn skip_block(text: &str) -> Option<&str>
-    ensures { MatchOption result (skip Mode.block (chars text.now) ≡ bad (Some EofParsingComment) inner)
-        (λ r. (skip Mode.block (chars text.now) ≡ skip between (chars r.now)) × (length r.now ≤ length text.now)) }
+    ensures { MatchOption result (IsUnclosed (chars text.now)) (λ rest. Continues Mode.block text.now rest.now) }
 {
     let mut rest = text;
     while let Some((c, next)) = front(rest) {
@@ -49,11 +44,9 @@ fn skip_block(text: &str) -> Option<&str>
     None
 }
 
-/// Behind a comment's first slash: what follows the comment.
+/// After a comment's first slash: what follows the comment.
 fn skip_comment(text: &str) -> Result<&str, Refusal>
-    ensures passed { MatchResult result (λ r. (skip slash (chars text.now) ≡ skip between (chars r.now)) × (length r.now ≤ length text.now))
-        (λ e. Refuses e (outcome (skip slash (chars text.now)))) }
-    ensures known { IfErr result HasCode }
+    ensures { MatchResult result (λ rest. Continues slash text.now rest.now) (λ e. RefusesByCode e (skip slash (chars text.now))) }
 {
     let missing = Refusal::Code(ErrorCode::EofParsingComment, None);
     let Some((c, next)) = front(text) else {
@@ -74,10 +67,7 @@ fn skip_comment(text: &str) -> Result<&str, Refusal>
 /// What follows blanks (JSON5 sections 7 and 8).
 #[tactic(auto, using(crate::proofs::ScanSteps::line_steps))]
 pub(crate) fn skip_blank(text: &str) -> Result<&str, Refusal>
-    ensures passed { MatchResult result (λ r. skip between (chars text.now) ≡ got tt (chars r.now))
-        (λ e. Refuses e (outcome (skip between (chars text.now)))) }
-    ensures text { IfOk result (λ r. IsUtf8 r.now) }
-    ensures known { IfErr result HasCode }
+    ensures { Skips (skip between (chars text.now)) result }
 {
     let mut rest = text;
     while let Some((c, next)) = front(rest) {

@@ -1,13 +1,15 @@
 //! Numbers of any count of decimal digits, kept as these digits.
 
-ghost use Rattle.std.specs.Prelude.{◌≡◌, ◌≤◌, ◌^◌, string_bytes, ◌++◌, ◌<◌, ◌↔◌, pos, neg_ℤ, ◌≤ℤ◌, reverse, IsSome, IfSome, IfOk, IfErr, OnErr, Some};
+ghost use Rattle.std.specs.Prelude.{◌≡◌, ◌≤◌, ◌-◌, string_bytes, ◌++◌, ◌↔◌, pos, ◌+ℤ◌, reverse, length, IsSome, IfSome, IfOk, MatchResult, Some, FitsSigned};
+ghost use Rattle.std.specs.Int.{w128};
+ghost use Rattle.std.specs.Str.{IsCharBoundary};
 ghost use Rattle.std.specs.Fmt.{WritesOnOk};
 ghost use Rattle.json5_grammar.specs.Characters.{is_digit, Each};
 ghost use Rattle.json5_grammar.specs.Numbers as numbers;
-ghost use Rattle.json5_grammar.specs.NumberText.{zeros, pointed, digits_text, decimal_text, Normal};
+ghost use Rattle.json5_grammar.specs.NumberText.{zeros, pointed, digits_text, decimal_text};
 ghost use Rattle.json5_text.specs.Errors.{LacksMemory};
-ghost use Rattle.json5_text.specs.NumberDecimals.{is_minus, is_infinity, is_not_a_number, digits_in, exponent_in};
-ghost use Rattle.json5_text.specs.NumberSteps.{raised};
+ghost use Rattle.json5_text.specs.NumberDecimals.{is_minus, is_infinity, is_not_a_number, digits_in, exponent_in, Shows, IsInRange, IsFiniteIfInRange, IsFiniteOf};
+ghost use Rattle.json5_text.specs.NumberSteps.{raised, IsSmallExponent};
 
 use crate::error::Result;
 use crate::runs;
@@ -76,8 +78,7 @@ fn without_back_zeros<'a>(before: &'a str, behind: &'a str) -> (&'a str, &'a str
 /// The exponent once the zeros at the end are gone, if it is in range: each of them raises it, and zero has 0.
 fn bare_exponent(exponent: i128, count: usize, bare_count: usize) -> Option<i16>
     requires fewer { bare_count ≤ count }
-    requires low { neg_ℤ (pos (2 ^ 120)) ≤ℤ exponent }
-    requires high { exponent ≤ℤ pos (2 ^ 120) }
+    requires fits { FitsSigned w128 (exponent +ℤ pos (count - bare_count)) }
     ensures in_range { IsSome result ↔ numbers.InExponents (raised exponent count bare_count) }
     ensures value { IfSome result (λ e. e ≡ raised exponent count bare_count) }
 {
@@ -88,7 +89,7 @@ fn bare_exponent(exponent: i128, count: usize, bare_count: usize) -> Option<i16>
     i16::try_from(raised).ok()
 }
 
-/// Both texts, one behind the other.
+/// Both texts, one after the other.
 fn joined(alloc: Global, first: &str, last: &str) -> std::result::Result<String, AllocError>
     ensures { IfOk result (λ text. string_bytes text ≡ first.now ++ last.now) }
 {
@@ -130,11 +131,8 @@ impl Decimal {
     ) -> std::result::Result<Option<Decimal>, AllocError>
         requires before_digits { Each is_digit before.now }
         requires behind_digits { Each is_digit behind.now }
-        requires low { neg_ℤ (pos (2 ^ 120)) ≤ℤ exponent }
-        requires high { exponent ≤ℤ pos (2 ^ 120) }
-        ensures in_range { IfOk result (λ found. IsSome found ↔ numbers.InExponents (numbers.normal_exponent (before.now ++ behind.now) exponent)) }
-        ensures value { IfOk result (λ found. IfSome found (λ d. d ≡ numbers.finite negative (numbers.without_zeros (before.now ++ behind.now)) (numbers.normal_exponent (before.now ++ behind.now) exponent))) }
-        ensures memory { OnErr result (numbers.InExponents (numbers.normal_exponent (before.now ++ behind.now) exponent)) }
+        requires small { IsSmallExponent exponent }
+        ensures { MatchResult result (IsFiniteIfInRange negative (before.now ++ behind.now) exponent) (λ _. IsInRange (before.now ++ behind.now) exponent) }
     {
         let (front, back) = without_front_zeros(before, behind);
         let (first, last) = without_back_zeros(front, back);
@@ -158,9 +156,7 @@ impl Decimal {
         digits: &str,
         exponent: i64,
     ) -> Result<Option<Decimal>>
-        ensures some { IfOk result (λ found. IsSome found ↔ (Each is_digit digits.now × numbers.InExponents (numbers.normal_exponent digits.now exponent))) }
-        ensures value { IfOk result (λ found. IfSome found (λ d. d ≡ numbers.finite negative (numbers.without_zeros digits.now) (numbers.normal_exponent digits.now exponent))) }
-        ensures err { IfErr result LacksMemory }
+        ensures { MatchResult result (IsFiniteOf negative digits.now exponent) LacksMemory }
     {
         let (digits, rest) = runs::split_digits(digits);
         if !rest.is_empty() {
@@ -172,8 +168,7 @@ impl Decimal {
 
     /// Whether it has a minus.
     pub fn is_negative(&self) -> bool
-        ensures value { result ≡ is_minus self.now }
-        ensures normal { Normal self.now }
+        ensures { Shows is_minus self.now result }
     {
         self.negative
     }
@@ -194,8 +189,7 @@ impl Decimal {
 
     /// The digits, without zeros in front and at the end; none for zero, infinity and not-a-number.
     pub fn digits(&self) -> &str
-        ensures value { result.now ≡ digits_in self.now }
-        ensures normal { Normal self.now }
+        ensures { Shows digits_in self.now result.now }
     {
         match &self.size {
             Size::Finite(digits, _) => digits.as_str(),
@@ -205,8 +199,7 @@ impl Decimal {
 
     /// The power of ten that the digits are multiplied with; 0 for zero, infinity and not-a-number.
     pub fn exponent(&self) -> i16
-        ensures value { result ≡ exponent_in self.now }
-        ensures normal { Normal self.now }
+        ensures { Shows exponent_in self.now result }
     {
         match &self.size {
             Size::Finite(_, exponent) => *exponent,
@@ -216,8 +209,7 @@ impl Decimal {
 
     /// The same number. The only error is want of memory.
     pub fn clone(&self, alloc: Global) -> Result<Decimal>
-        ensures ok { IfOk result (λ d. d ≡ self.now) }
-        ensures err { IfErr result LacksMemory }
+        ensures { MatchResult result (λ d. d ≡ self.now) LacksMemory }
     {
         let size = match &self.size {
             Size::Infinite => Size::Infinite,
@@ -317,7 +309,7 @@ fn write_pointed<W: fmt::Write>(
     digits: &str,
     moved: usize,
 ) -> fmt::Result
-    requires { Each is_digit digits.now }
+    requires { IsCharBoundary digits.now (length digits.now - moved) }
     ensures { WritesOnOk W.write_str_gives f.old result (pointed digits.now moved) f.new }
 {
     if moved < digits.len() {

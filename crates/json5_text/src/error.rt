@@ -1,7 +1,7 @@
 //! Faults.
 
-ghost use Rattle.std.specs.Prelude.{◌≡◌, ◌↔◌, ℕ, List, Option, Some, None, IsTrue, IfOk, IfErr, string_bytes};
-ghost use Rattle.json5_text.specs.Errors.{Kind, code, custom, failed_write, kind_of, place_of, known_code, or_place, kind_text, error_text, LacksMemory};
+ghost use Rattle.std.specs.Prelude.{◌≡◌, ◌↔◌, Some, None, IsTrue, MatchResult, string_bytes};
+ghost use Rattle.json5_text.specs.Errors.{Kind, custom, failed_write, kind_of, place_of, known_code, or_place, kind_text, error_text, SaysAt, IsCustomAt, LacksMemory};
 ghost use Rattle.json5_text.specs.Compared.{same_fault, same_fault_equiv};
 ghost use Rattle.std.specs.Cmp.{partial_equiv_from_equiv};
 
@@ -32,8 +32,7 @@ pub struct Error {
 impl Error {
     /// A fault with this code, without a place.
     pub fn new(code: ErrorCode) -> Error
-        ensures kind { kind_of result ≡ Kind.code code }
-        ensures place { place_of result ≡ None }
+        ensures { SaysAt (Kind.code code) None result }
     {
         Error {
             content: Content::Code(code),
@@ -43,16 +42,14 @@ impl Error {
 
     /// A fault with this code at this place.
     pub fn new_at(position: Position, code: ErrorCode) -> Error
-        ensures kind { kind_of result ≡ Kind.code code }
-        ensures place { place_of result ≡ Some position }
+        ensures { SaysAt (Kind.code code) (Some position) result }
     {
         Error::new(code).at(position)
     }
 
     /// A custom fault with this text, without a place. Takes no memory.
     pub fn from_text(text: String) -> Error
-        ensures kind { kind_of result ≡ custom (string_bytes text) }
-        ensures place { place_of result ≡ None }
+        ensures { SaysAt (custom (string_bytes text)) None result }
     {
         Error {
             content: Content::Custom(text),
@@ -63,9 +60,7 @@ impl Error {
     /// A custom fault with what the message prints, without a place. A message whose Display refuses is kept up to there.
     /// Err is `OutOfMemory` without a place.
     pub fn custom<D: fmt::Display + Drop>(alloc: Global, message: D) -> Result<Error>
-        ensures kind { IfOk result (λ e. (text : List ℕ) × (kind_of e ≡ custom text)) }
-        ensures place { IfOk result (λ e. place_of e ≡ None) }
-        ensures err { IfErr result LacksMemory }
+        ensures { MatchResult result (IsCustomAt None) LacksMemory }
     {
         let mut out = Message {
             text: String::new(alloc),
@@ -87,9 +82,7 @@ impl Error {
         position: Position,
         message: D,
     ) -> Result<Error>
-        ensures kind { IfOk result (λ e. (text : List ℕ) × (kind_of e ≡ custom text)) }
-        ensures place { IfOk result (λ e. place_of e ≡ Some position) }
-        ensures err { IfErr result LacksMemory }
+        ensures { MatchResult result (IsCustomAt (Some position)) LacksMemory }
     {
         let error = Error::custom(alloc, message)?;
         Ok(error.at(position))
@@ -97,9 +90,7 @@ impl Error {
 
     /// An equal fault. Err is `OutOfMemory` without a place, and comes only at a custom fault.
     pub fn clone(&self, alloc: Global) -> Result<Error>
-        ensures kind { IfOk result (λ e. kind_of e ≡ kind_of self.now) }
-        ensures place { IfOk result (λ e. place_of e ≡ place_of self.now) }
-        ensures err { IfErr result LacksMemory }
+        ensures { MatchResult result (SaysAt (kind_of self.now) (place_of self.now)) LacksMemory }
     {
         let content = match &self.content {
             Content::Code(code) => Content::Code(*code),
@@ -144,8 +135,7 @@ impl Error {
     /// The fault at this place, where it has none so far; else unchanged.
     #[must_use]
     pub fn with_position(self, position: Position) -> Error
-        ensures kind { kind_of result ≡ kind_of self }
-        ensures place { place_of result ≡ or_place (place_of self) position }
+        ensures { SaysAt (kind_of self) (or_place (place_of self) position) result }
     {
         match self.position {
             Some(_) => self,
@@ -156,8 +146,7 @@ impl Error {
     /// The fault at this place, wherever it was.
     #[must_use]
     pub fn at(self, position: Position) -> Error
-        ensures kind { kind_of result ≡ kind_of self }
-        ensures place { place_of result ≡ Some position }
+        ensures { SaysAt (kind_of self) (Some position) result }
     {
         let Error {
             content,

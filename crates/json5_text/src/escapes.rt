@@ -1,13 +1,12 @@
 //! Escapes in strings and names (JSON5 section 5.1, ECMAScript 5.1 section 7.8.4).
 
-ghost use Rattle.std.specs.Prelude.{◌≡◌, ◌≤◌, ◌<◌, ◌^◌, [], ◌&&◌, true, false, Some, None, length, MatchOption, MatchResult, IfOk};
-ghost use Rattle.std.specs.Str.{IsUtf8, chars};
-ghost use Rattle.json5_grammar.specs.Reading.{and_then, got};
+ghost use Rattle.std.specs.Prelude.{◌≡◌, ◌≤◌, ◌<◌, ◌^◌, [], ◌&&◌, true, false, Some, None, length, MatchOption, IfOk};
+ghost use Rattle.std.specs.Str.{chars};
+ghost use Rattle.json5_grammar.specs.Reading.{and_then};
 ghost use Rattle.json5_grammar.specs.Strings.{short_escape, is_high, is_low, joined};
 ghost use Rattle.json5_grammar.specs.ReadTexts.{hex, second, unicode_at, one_char, after_nul, after_cr, not_short, escape_at};
 ghost use Rattle.json5_text.specs.declared.refusal.Refusal.{Refusal};
-ghost use Rattle.json5_text.specs.Outcome.{outcome};
-ghost use Rattle.json5_text.specs.Refused.{Refuses};
+ghost use Rattle.json5_text.specs.Answered.{Gives, Answers, AnswersAs};
 ghost use Rattle.json5_text.specs.Scan.{in_list};
 
 use crate::front::front;
@@ -23,14 +22,12 @@ fn invalid(escape: &str) -> Refusal
 }
 
 /// The character that a string's escape spells, None where it spells none, and what follows it: `escape` begins with the
-/// backslash, and `text` stands behind it.
+/// backslash, and `text` stands after it.
 pub(crate) fn read_escape<'t>(
     escape: &str,
     text: &'t str,
 ) -> Result<(Option<char>, &'t str), Refusal>
-    ensures read { MatchResult result (λ p. escape_at (chars escape.now) (chars text.now) ≡ got (in_list p.0) (chars p.1.now))
-        (λ e. Refuses e (outcome (escape_at (chars escape.now) (chars text.now)))) }
-    ensures text { IfOk result (λ p. IsUtf8 p.1.now) }
+    ensures { AnswersAs in_list (escape_at (chars escape.now) (chars text.now)) result }
 {
     let Some((c, rest)) = front(text) else {
         return Err(Refusal::Code(ErrorCode::EofParsingEscapeSequence, None));
@@ -41,7 +38,7 @@ pub(crate) fn read_escape<'t>(
     }
 }
 
-/// The character behind a backslash that spells another one.
+/// The character after a backslash that spells another one.
 fn short_escape(c: char) -> Option<char>
     ensures { result ≡ short_escape c }
 {
@@ -56,11 +53,9 @@ fn short_escape(c: char) -> Option<char>
     }
 }
 
-/// An escape whose character `c` behind the backslash is no short one.
+/// An escape whose character `c` after the backslash is no short one.
 fn long_escape<'t>(escape: &str, c: char, text: &'t str) -> Result<(Option<char>, &'t str), Refusal>
-    ensures read { MatchResult result (λ p. not_short None (chars escape.now) c (chars text.now) ≡ got (in_list p.0) (chars p.1.now))
-        (λ e. Refuses e (outcome (not_short None (chars escape.now) c (chars text.now)))) }
-    ensures text { IfOk result (λ p. IsUtf8 p.1.now) }
+    ensures { AnswersAs in_list (not_short None (chars escape.now) c (chars text.now)) result }
 {
     match c {
         '0' => nul_escape(escape, text),
@@ -76,11 +71,9 @@ fn long_escape<'t>(escape: &str, c: char, text: &'t str) -> Result<(Option<char>
     }
 }
 
-/// Behind `\0`: no digit may follow.
+/// After `\0`: no digit may follow.
 fn nul_escape<'t>(escape: &str, text: &'t str) -> Result<(Option<char>, &'t str), Refusal>
-    ensures read { MatchResult result (λ p. after_nul (chars escape.now) (chars text.now) ≡ got (in_list p.0) (chars p.1.now))
-        (λ e. Refuses e (outcome (after_nul (chars escape.now) (chars text.now)))) }
-    ensures text { IfOk result (λ p. IsUtf8 p.1.now) }
+    ensures { AnswersAs in_list (after_nul (chars escape.now) (chars text.now)) result }
 {
     if let Some((c, _)) = front(text) {
         if c.is_ascii_digit() {
@@ -90,20 +83,17 @@ fn nul_escape<'t>(escape: &str, text: &'t str) -> Result<(Option<char>, &'t str)
     Ok((Some('\0'), text))
 }
 
-/// Behind `\x`: two hexadecimal digits.
+/// After `\x`: two hexadecimal digits.
 fn byte_escape<'t>(escape: &str, text: &'t str) -> Result<(Option<char>, &'t str), Refusal>
-    ensures read { MatchResult result (λ p. and_then (hex 2 0 (chars escape.now) (chars text.now)) one_char ≡ got (in_list p.0) (chars p.1.now))
-        (λ e. Refuses e (outcome (and_then (hex 2 0 (chars escape.now) (chars text.now)) one_char))) }
-    ensures text { IfOk result (λ p. IsUtf8 p.1.now) }
+    ensures { AnswersAs in_list (and_then (hex 2 0 (chars escape.now) (chars text.now)) one_char) result }
 {
     let (value, rest) = hexadecimal(2, escape, text)?;
     Ok((Some(char::from(value as u8)), rest))
 }
 
-/// Behind a backslash and CR: an LF belongs to it.
+/// After a backslash and CR: an LF belongs to it.
 fn skip_line_feed(text: &str) -> &str
-    ensures read { after_cr (chars text.now) ≡ got [] (chars result.now) }
-    ensures text { IsUtf8 result.now }
+    ensures { Gives (after_cr (chars text.now)) [] result.now }
 {
     match front(text) {
         Some(('\n', rest)) => rest,
@@ -111,11 +101,9 @@ fn skip_line_feed(text: &str) -> &str
     }
 }
 
-/// Behind `\u`: four hexadecimal digits, and another such escape behind a surrogate.
+/// After `\u`: four hexadecimal digits, and another such escape after a surrogate.
 pub(crate) fn unicode_escape<'t>(escape: &str, text: &'t str) -> Result<(char, &'t str), Refusal>
-    ensures read { MatchResult result (λ p. unicode_at (chars escape.now) (chars text.now) ≡ got p.0 (chars p.1.now))
-        (λ e. Refuses e (outcome (unicode_at (chars escape.now) (chars text.now)))) }
-    ensures text { IfOk result (λ p. IsUtf8 p.1.now) }
+    ensures { Answers (unicode_at (chars escape.now) (chars text.now)) result }
 {
     let (unit, rest) = hexadecimal(4, escape, text)?;
     match char::from_u32(unit) {
@@ -124,12 +112,10 @@ pub(crate) fn unicode_escape<'t>(escape: &str, text: &'t str) -> Result<(char, &
     }
 }
 
-/// Behind the escape of the surrogate `unit`: the escape of the other one of a pair.
+/// After the escape of the surrogate `unit`: the escape of the other one of a pair.
 fn second_escape<'t>(escape: &str, unit: u32, text: &'t str) -> Result<(char, &'t str), Refusal>
     requires { unit < 0x1_0000 }
-    ensures read { MatchResult result (λ p. second unit (chars escape.now) (chars text.now) ≡ got p.0 (chars p.1.now))
-        (λ e. Refuses e (outcome (second unit (chars escape.now) (chars text.now)))) }
-    ensures text { IfOk result (λ p. IsUtf8 p.1.now) }
+    ensures { Answers (second unit (chars escape.now) (chars text.now)) result }
 {
     let ends = ErrorCode::EofParsingEscapeSequence;
     let digits = skip_word("\\u", text, ends, ErrorCode::InvalidEscapeSequence)?;
@@ -153,9 +139,7 @@ fn pair(high: u32, low: u32) -> Option<char>
 /// The value of so many hexadecimal digits, and what follows them.
 fn hexadecimal<'t>(count: u32, escape: &str, text: &'t str) -> Result<(u32, &'t str), Refusal>
     requires { count ≤ 4 }
-    ensures read { MatchResult result (λ p. hex count 0 (chars escape.now) (chars text.now) ≡ got p.0 (chars p.1.now))
-        (λ e. Refuses e (outcome (hex count 0 (chars escape.now) (chars text.now)))) }
-    ensures text { IfOk result (λ p. IsUtf8 p.1.now) }
+    ensures read { Answers (hex count 0 (chars escape.now) (chars text.now)) result }
     ensures bounded { IfOk result (λ p. p.0 < 16 ^ count) }
 {
     let mut value = 0;

@@ -17,7 +17,7 @@ pub trait Input: Drop {
 pub trait Borrows<'de>: Input {
     /// The text.
     fn as_borrowed(&self) -> &'de str
-        ensures { result.now ≡ Self.text self.now };
+        ensures { Self.text self.now ≡ result.now };
 }
 
 impl<'de> Input for &'de str {

@@ -1,16 +1,12 @@
 //! Identifiers (JSON5 section 3, ECMAScript 5.1 section 7.6).
 
-ghost use Rattle.std.specs.Prelude.{◌≡◌, List, ℕ, Bool, true, false, ◌∷◌, ◌++◌, MatchResult, IfOk, IfErr, string_bytes};
-ghost use Rattle.std.specs.Str.{IsUtf8, chars, encode_utf8_all};
-ghost use Rattle.json5_grammar.specs.Characters.{NotBegun, Each};
-ghost use Rattle.json5_grammar.specs.Reading.{and_then, got};
-ghost use Rattle.json5_grammar.specs.ReadTexts.{name_escape, fit, identifier};
-ghost use Rattle.json5_text.specs.declared.refusal.Refusal.{Refusal};
-ghost use Rattle.json5_text.specs.Outcome.{outcome};
-ghost use Rattle.json5_text.specs.Refused.{Refuses};
-ghost use Rattle.json5_text.specs.Scan.{HasCode};
-ghost use Rattle.json5_text.specs.ScanStrings.{IsText};
-ghost use Rattle.json5_text.specs.ScanNames.{fits, is_raw_part, name_at, StopsAt, GoesOn, IsFurther, StopsText};
+ghost use Rattle.std.specs.Prelude.{◌≡◌, ◌∷◌, string_bytes};
+ghost use Rattle.std.specs.Str.{chars};
+ghost use Rattle.json5_grammar.specs.Characters.{backslash};
+ghost use Rattle.json5_grammar.specs.ReadTexts.{name_escape, identifier};
+ghost use Rattle.json5_text.specs.Answered.{Answers, AnswersCow, AnswersMore};
+ghost use Rattle.json5_text.specs.Scan.{SkipsAll};
+ghost use Rattle.json5_text.specs.ScanNames.{fits, is_raw_part, name_at, item, AnswersRun, PutsEscape};
 
 use crate::char::{is_json5_identifier, is_json5_identifier_start};
 use crate::cow_str::CowStr;
@@ -25,16 +21,13 @@ use std::alloc::Global;
 enum Stop<'t> {
     /// Before this, which goes on no name.
     End(&'t str),
-    /// At the backslash of an escape: the text from the backslash on, and the text behind it.
+    /// At the backslash of an escape: the text from the backslash on, and the text after it.
     Escape(&'t str, &'t str),
 }
 
 /// The name in front, and what follows it. It is borrowed where the name holds no backslash.
 pub(crate) fn read_name<'t>(alloc: Global, text: &'t str) -> Result<(CowStr<'t>, &'t str), Refusal>
-    ensures read { MatchResult result (λ p. (u : List ℕ) × (plain : Bool) × (identifier (chars text.now) ≡ got (u, plain) (chars p.1.now)) × IsText p.0 u plain)
-        (λ e. Refuses e (outcome (identifier (chars text.now)))) }
-    ensures text { IfOk result (λ p. IsUtf8 p.1.now) }
-    ensures memory { IfErr result (λ e. e ≡ Refusal.OutOfMemory → (u r : List ℕ) → identifier (chars text.now) ≡ got (u, true) r → ⊥) }
+    ensures { AnswersCow (identifier (chars text.now)) result }
 {
     let Some((c, rest)) = front(text) else {
         return Err(Refusal::Code(ErrorCode::EofParsingIdentifier, None));
@@ -69,10 +62,8 @@ fn read_escaped<'t>(
     escape: &'t str,
     behind: &'t str,
 ) -> Result<(String, &'t str), Refusal>
-    requires { chars escape.now ≡ 92 ∷ chars behind.now }
-    ensures read { MatchResult result (λ p. (u : List ℕ) × (name_at is_first (chars escape.now) ≡ got (u, false) (chars p.1.now)) × (string_bytes p.0 ≡ raw.now ++ encode_utf8_all u))
-        (λ e. Refuses e (outcome (name_at is_first (chars escape.now)))) }
-    ensures text { IfOk result (λ p. IsUtf8 p.1.now) }
+    requires { chars escape.now ≡ backslash ∷ chars behind.now }
+    ensures { AnswersMore raw.now (name_at is_first (chars escape.now)) result }
 {
     let mut name = String::from_str(alloc, raw)?;
     let mut is_first = is_first;
@@ -90,17 +81,14 @@ fn read_escaped<'t>(
     }
 }
 
-/// Puts what an escape spells and the run behind it to the name, and says where that run ends.
+/// Puts what an escape spells and the run after it to the name, and says where that run ends.
 fn put_escape<'t>(
     name: &mut String,
     is_first: bool,
     escape: &str,
     behind: &'t str,
 ) -> Result<Stop<'t>, Refusal>
-    requires { chars escape.now ≡ 92 ∷ chars behind.now }
-    ensures read { MatchResult result (λ stop. (u : List ℕ) × GoesOn is_first (chars escape.now) u stop × (string_bytes name.new ≡ string_bytes name.old ++ encode_utf8_all u))
-        (λ e. Refuses e (outcome (name_at is_first (chars escape.now)))) }
-    ensures further { IfOk result (IsFurther (chars escape.now)) }
+    ensures { PutsEscape is_first (chars escape.now) (chars behind.now) (string_bytes name.old) (string_bytes name.new) result }
 {
     let (c, rest) = read_item(is_first, escape, behind)?;
     let (parts, stop) = read_parts(rest)?;
@@ -111,9 +99,7 @@ fn put_escape<'t>(
 
 /// The character that an escape spells, which may stand there in a name, and what follows the escape.
 fn read_item<'t>(is_first: bool, escape: &str, behind: &'t str) -> Result<(char, &'t str), Refusal>
-    ensures read { MatchResult result (λ p. and_then (name_escape (chars escape.now) (chars behind.now)) (fit (fits is_first) (chars escape.now)) ≡ got p.0 (chars p.1.now))
-        (λ e. Refuses e (outcome (and_then (name_escape (chars escape.now) (chars behind.now)) (fit (fits is_first) (chars escape.now))))) }
-    ensures text { IfOk result (λ p. IsUtf8 p.1.now) }
+    ensures { Answers (item is_first (chars escape.now) (chars behind.now)) result }
 {
     let (c, rest) = read_escape(escape, behind)?;
     if !fits(is_first, c) {
@@ -134,9 +120,7 @@ fn fits(is_first: bool, c: char) -> bool
 
 /// The character that a name's escape spells, and what follows the escape.
 fn read_escape<'t>(escape: &str, behind: &'t str) -> Result<(char, &'t str), Refusal>
-    ensures read { MatchResult result (λ p. name_escape (chars escape.now) (chars behind.now) ≡ got p.0 (chars p.1.now))
-        (λ e. Refuses e (outcome (name_escape (chars escape.now) (chars behind.now)))) }
-    ensures text { IfOk result (λ p. IsUtf8 p.1.now) }
+    ensures { Answers (name_escape (chars escape.now) (chars behind.now)) result }
 {
     let Some((c, digits)) = front(behind) else {
         return Err(Refusal::Code(ErrorCode::EofParsingIdentifier, None));
@@ -149,10 +133,7 @@ fn read_escape<'t>(escape: &str, behind: &'t str) -> Result<(char, &'t str), Ref
 
 /// The characters in front that go on a name and stand for themselves, and where they end.
 fn read_parts(text: &str) -> Result<(&str, Stop<'_>), Refusal>
-    ensures read { MatchResult result (λ p. (rest : List ℕ) × (chars text.now ≡ chars p.0.now ++ rest) × Each is_raw_part (chars p.0.now) × StopsAt rest p.1)
-        (λ e. Refuses e (outcome (name_at false (chars text.now)))) }
-    ensures text { IfOk result (λ p. IsUtf8 p.0.now × StopsText p.1) }
-    ensures known { IfErr result HasCode }
+    ensures { AnswersRun text.now result }
 {
     let rest = skip_parts(text);
     let Some((c, next)) = front(rest) else {
@@ -168,9 +149,7 @@ fn read_parts(text: &str) -> Result<(&str, Stop<'_>), Refusal>
 
 /// What follows the characters in front that go on a name and stand for themselves.
 fn skip_parts(text: &str) -> &str
-    ensures read { (raw : List ℕ) × (chars text.now ≡ raw ++ chars result.now) × Each is_raw_part raw }
-    ensures stops { NotBegun is_raw_part (chars result.now) }
-    ensures text { IsUtf8 result.now }
+    ensures { SkipsAll is_raw_part text.now result.now }
 {
     let mut rest = text;
     while let Some((c, next)) = front(rest) {

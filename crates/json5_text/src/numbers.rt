@@ -3,16 +3,17 @@
 ghost use Rattle.std.specs.Prelude.{◌≡◌, ◌==◌, ◌||◌, ◌&&◌, not, ◌∷◌, ◌^◌, ◌+◌, ◌*◌, ◌≤◌, ◌<◌, min, MatchOption, MatchResult, IfOk, IfErr, IfSome, IsSome, Some, None, ℕ, List, true, pos, neg_ℤ, ◌-ℤ◌, ◌≤ℤ◌, ◌↔◌};
 ghost use Rattle.std.specs.Option.{option_map};
 ghost use Rattle.std.specs.Str.{IsUtf8, chars};
-ghost use Rattle.json5_grammar.specs.Characters.{is_digit, Each};
+ghost use Rattle.json5_grammar.specs.Characters.{point_sign, digit_zero, capital_e, letter_e, is_digit, Each};
 ghost use Rattle.json5_grammar.specs.Numbers as numbers;
 ghost use Rattle.json5_grammar.specs.Stops as stops;
 ghost use Rattle.json5_grammar.specs.Reading.{got, bad, here};
 ghost use Rattle.json5_grammar.specs.ReadNumbers as model;
 ghost use Rattle.json5_grammar.specs.NumberSteps.{checked};
-ghost use Rattle.json5_text.specs.Outcome.{outcome};
-ghost use Rattle.json5_text.specs.Refused.{Refuses, WantsForDigits};
+ghost use Rattle.json5_text.specs.Answered.{AnswersNumber, Judges};
 ghost use Rattle.json5_text.specs.NumberViews.{number_of};
-ghost use Rattle.json5_text.specs.NumberParts.{raised_of, parts_of, limited_exponent, is_whole_literal, HasExponentDigits, HasDigits};
+ghost use Rattle.json5_text.specs.NumberParts.{raised_of, parts_of, signed_limited, limited_exponent, is_whole_literal, HasExponentDigits, HasDigits, ReadsLiteral};
+ghost use Rattle.json5_text.specs.NumberSteps.{IsSmallExponent};
+ghost use Rattle.json5_text.specs.ScanNumbers.{GivesHex, Overflows};
 
 use crate::decimal::Decimal;
 use crate::front::front;
@@ -36,11 +37,7 @@ fn one_more(value: u128, digit: u32) -> Option<u128>
 /// The value of the hexadecimal digits in front and what follows them, or what begins with the digit that takes it past `u128`.
 #[tactic(auto, using(crate::proofs::NumberSteps::hexadecimal_steps))]
 fn hexadecimal_digits(text: &str) -> Result<(u128, &str), &str>
-    ensures read { MatchResult result
-        (λ p. model.hex_digits 0 (chars text.now) ≡ got p.0 (chars p.1.now))
-        (λ r. model.hex_digits 0 (chars text.now) ≡ bad (Some ErrorCode.OverflowParsingNumber) (here (chars r.now))) }
-    ensures bound { IfOk result (λ p. p.0 < 2 ^ 128) }
-    ensures text { MatchResult result (λ p. IsUtf8 p.1.now) (λ r. IsUtf8 r.now) }
+    ensures { MatchResult result (λ p. GivesHex (chars text.now) p.0 p.1.now) (λ rest. Overflows (chars text.now) rest.now) }
 {
     let mut value: u128 = 0;
     let mut rest = text;
@@ -57,12 +54,9 @@ fn hexadecimal_digits(text: &str) -> Result<(u128, &str), &str>
     Ok((value, rest))
 }
 
-/// What stands behind `0x`; `start` is the text from the number's start.
+/// What stands after `0x`; `start` is the text from the number's start.
 fn hexadecimal<'t>(start: &str, negative: bool, text: &'t str) -> Result<(Whole, &'t str), Refusal>
-    ensures read { IfOk result (λ p. model.hexadecimal (chars start.now) negative (chars text.now) ≡ got (numbers.whole p.0) (chars p.1.now)) }
-    ensures refused { IfErr result (λ e. Refuses e (outcome (model.hexadecimal (chars start.now) negative (chars text.now)))) }
-    ensures memory { IfErr result (λ e. WantsForDigits e (model.hexadecimal (chars start.now) negative (chars text.now))) }
-    ensures text { IfOk result (λ p. IsUtf8 p.1.now) }
+    ensures { AnswersNumber numbers.whole (model.hexadecimal (chars start.now) negative (chars text.now)) result }
 {
     let Some((first, _)) = front(text) else {
         return Err(Refusal::Code(ErrorCode::EofParsingNumber, None));
@@ -91,7 +85,7 @@ struct Exponent<'t> {
     digits: &'t str,
 }
 
-/// A decimal literal without its sign: the digits before the point, those behind it, and the exponent.
+/// A decimal literal without its sign: the digits before the point, those after it, and the exponent.
 #[derive(Clone, Copy)]
 struct Literal<'t> {
     before: &'t str,
@@ -101,15 +95,14 @@ struct Literal<'t> {
 
 /// `e` or `E`.
 fn begins_exponent(c: char) -> bool
-    ensures { result ≡ ((c == 101) || (c == 69)) }
+    ensures { result ≡ ((c == letter_e) || (c == capital_e)) }
 {
     c == 'e' || c == 'E'
 }
 
 /// The digits of an exponent, which are all of the text.
 fn read_exponent_digits(negative: bool, text: &str) -> Option<Exponent>
-    ensures read { MatchOption result (model.exponent_digits negative (chars text.now) ≡ None)
-        (λ e. model.exponent_digits negative (chars text.now) ≡ Some (Some (raised_of e))) }
+    ensures read { model.exponent_digits negative (chars text.now) ≡ option_map (λ e. Some (raised_of e)) result }
     ensures digits { IfSome result HasExponentDigits }
 {
     let (digits, rest) = split_digits(text);
@@ -124,8 +117,7 @@ fn read_exponent_digits(negative: bool, text: &str) -> Option<Exponent>
 
 /// The exponent that is all of the text, if any: none where the text is empty. The text may also be neither.
 fn read_exponent(text: &str) -> Option<Option<Exponent>>
-    ensures read { MatchOption result (model.exponent_at (chars text.now) ≡ None)
-        (λ e. model.exponent_at (chars text.now) ≡ Some (option_map raised_of e)) }
+    ensures read { model.exponent_at (chars text.now) ≡ option_map (option_map raised_of) result }
     ensures digits { IfSome result (λ e. IfSome e HasExponentDigits) }
 {
     let Some((mark, rest)) = front(text) else {
@@ -155,9 +147,7 @@ fn is_integer(digits: &str) -> bool
 /// The literal of these digits and of an exponent that is all of the rest.
 fn read_without_point<'t>(before: &'t str, rest: &'t str) -> Option<Literal<'t>>
     requires { Each is_digit before.now }
-    ensures read { MatchOption result (model.no_point before.now (chars rest.now) ≡ None)
-        (λ l. model.no_point before.now (chars rest.now) ≡ Some (parts_of l)) }
-    ensures digits { IfSome result HasDigits }
+    ensures { ReadsLiteral (model.no_point before.now (chars rest.now)) result }
 {
     if !is_integer(before) {
         return None;
@@ -170,7 +160,7 @@ fn read_without_point<'t>(before: &'t str, rest: &'t str) -> Option<Literal<'t>>
     })
 }
 
-/// An integer before the point, or digits behind it alone.
+/// An integer before the point, or digits after it alone.
 fn has_digits(before: &str, behind: &str) -> bool
     ensures { result ≡ (model.is_integer before.now || (numbers.is_empty before.now && not (numbers.is_empty behind.now))) }
 {
@@ -179,9 +169,7 @@ fn has_digits(before: &str, behind: &str) -> bool
 
 /// The literal that is all of the run.
 fn read_literal(run: &str) -> Option<Literal>
-    ensures read { MatchOption result (model.literal_at (chars run.now) ≡ None)
-        (λ l. model.literal_at (chars run.now) ≡ Some (parts_of l)) }
-    ensures digits { IfSome result HasDigits }
+    ensures { ReadsLiteral (model.literal_at (chars run.now)) result }
 {
     let (before, rest) = split_digits(run);
     let Some((point, tail)) = front(rest) else {
@@ -212,33 +200,21 @@ fn ten_times(value: u128, digit: u8) -> Option<u128>
     value.checked_mul(10)?.checked_add(u128::from(digit))
 }
 
-/// The value of the digits, if it is within `u128`.
-fn decimal_value(digits: &str) -> Option<u128>
-    requires { Each is_digit digits.now }
-    ensures { result ≡ checked (2 ^ 128) 10 0 digits.now }
+/// The value of the text, which is digits, if it is within `u128`.
+fn decimal_value(text: &str) -> Option<u128>
+    requires { Each is_digit text.now }
+    ensures { result ≡ checked (2 ^ 128) 10 0 text.now }
 {
     let mut value: u128 = 0;
-    for byte in digits.as_bytes() {
+    for byte in text.as_bytes() {
         value = ten_times(value, byte - b'0')?;
     }
     Some(value)
 }
 
-/// The value of the digits, or `EXPONENT_LIMIT` where that is less.
-fn limited_value(digits: &str) -> u128
-    requires { Each is_digit digits.now }
-    ensures { result ≡ min EXPONENT_LIMIT (numbers.spelled 10 0 digits.now) }
-{
-    let mut value: u128 = 0;
-    for byte in digits.as_bytes() {
-        value = (value * 10 + u128::from(byte - b'0')).min(EXPONENT_LIMIT);
-    }
-    value
-}
-
-/// The digits behind the point, if any.
+/// The digits after the point, if any.
 fn digits_behind<'t>(literal: &Literal<'t>) -> &'t str
-    requires { HasDigits literal.now }
+    requires { IfSome literal.now.behind (λ digits. Each is_digit digits.now) }
     ensures value { result.now ≡ numbers.digits_behind (parts_of literal.now).behind }
     ensures digits { Each is_digit result.now }
 {
@@ -248,33 +224,43 @@ fn digits_behind<'t>(literal: &Literal<'t>) -> &'t str
     }
 }
 
-/// The exponent as it is written, or `EXPONENT_LIMIT` where that is less, behind its sign; 0 where there is none.
-fn written_exponent(literal: &Literal) -> i128
-    requires { HasDigits literal.now }
-    ensures value { result ≡ limited_exponent EXPONENT_LIMIT literal.now.exponent }
-    ensures low { neg_ℤ (pos EXPONENT_LIMIT) ≤ℤ result }
-    ensures high { result ≤ℤ pos EXPONENT_LIMIT }
+/// The value of an exponent's digits, or `EXPONENT_LIMIT` where that is less.
+fn limited_value(exponent: &str) -> u128
+    requires { Each is_digit exponent.now }
+    ensures { result ≡ min EXPONENT_LIMIT (numbers.spelled 10 0 exponent.now) }
 {
-    let Some(exponent) = literal.exponent else {
-        return 0;
-    };
+    let mut value: u128 = 0;
+    for byte in exponent.as_bytes() {
+        value = (value * 10 + u128::from(byte - b'0')).min(EXPONENT_LIMIT);
+    }
+    value
+}
+
+/// The exponent as it is written, or `EXPONENT_LIMIT` after its sign where that is less.
+fn written_exponent(exponent: &Exponent) -> i128
+    requires { HasExponentDigits exponent.now }
+    ensures { result ≡ signed_limited EXPONENT_LIMIT exponent.now }
+{
     let value = limited_value(exponent.digits) as i128;
     if exponent.negative { -value } else { value }
 }
 
-/// The written exponent, lowered by the count of digits behind the point.
+/// The written exponent, 0 where there is none, lowered by the count of digits after the point.
 fn lowered_exponent(literal: &Literal, places: usize) -> i128
-    requires { HasDigits literal.now }
+    requires { IfSome literal.now.exponent HasExponentDigits }
     ensures value { result ≡ limited_exponent EXPONENT_LIMIT literal.now.exponent -ℤ pos places }
-    ensures low { neg_ℤ (pos (2 ^ 120)) ≤ℤ result }
-    ensures high { result ≤ℤ pos (2 ^ 120) }
+    ensures small { IsSmallExponent result }
 {
-    written_exponent(literal) - places as i128
+    let written = match &literal.exponent {
+        Some(exponent) => written_exponent(exponent),
+        None => 0,
+    };
+    written - places as i128
 }
 
 /// The whole number that a literal without point and exponent means, if it is in range.
 fn whole_number(negative: bool, literal: &Literal) -> Option<Whole>
-    requires { HasDigits literal.now }
+    requires { Each is_digit literal.now.before.now }
     ensures whole { IsSome result ↔ (is_whole_literal negative literal.now ≡ true) }
     ensures value { IfSome result (λ z. z ≡ numbers.signed negative (numbers.spelled 10 0 literal.now.before.now)) }
 {
@@ -293,9 +279,7 @@ fn whole_number(negative: bool, literal: &Literal) -> Option<Whole>
 /// The number that a literal means; `start` is the text from the number's start.
 fn judge(alloc: Global, start: &str, negative: bool, literal: &Literal) -> Result<Number, Refusal>
     requires { HasDigits literal.now }
-    ensures read { IfOk result (λ n. (rest : List ℕ) → model.if_literal (chars start.now) negative rest (Some (parts_of literal.now)) ≡ got (number_of n) rest) }
-    ensures refused { IfErr result (λ e. (rest : List ℕ) → Refuses e (outcome (model.if_literal (chars start.now) negative rest (Some (parts_of literal.now))))) }
-    ensures memory { IfErr result (λ e. (rest : List ℕ) → WantsForDigits e (model.if_literal (chars start.now) negative rest (Some (parts_of literal.now)))) }
+    ensures { (rest : List ℕ) → Judges (model.if_literal (chars start.now) negative rest (Some (parts_of literal.now))) rest result }
 {
     if let Some(whole) = whole_number(negative, literal) {
         return Ok(Number::Whole(whole));
@@ -318,10 +302,7 @@ fn decimal_run<'t>(
     negative: bool,
     text: &'t str,
 ) -> Result<(Number, &'t str), Refusal>
-    ensures read { IfOk result (λ p. model.decimal_run (chars start.now) negative (chars text.now) ≡ got (number_of p.0) (chars p.1.now)) }
-    ensures refused { IfErr result (λ e. Refuses e (outcome (model.decimal_run (chars start.now) negative (chars text.now)))) }
-    ensures memory { IfErr result (λ e. WantsForDigits e (model.decimal_run (chars start.now) negative (chars text.now))) }
-    ensures text { IfOk result (λ p. IsUtf8 p.1.now) }
+    ensures { AnswersNumber number_of (model.decimal_run (chars start.now) negative (chars text.now)) result }
 {
     let (run, rest) = split_run(text);
     let Some(literal) = read_literal(run) else {
@@ -340,9 +321,9 @@ fn begins_hexadecimal(c: char) -> bool
     c == 'x' || c == 'X'
 }
 
-/// What goes on with a decimal literal behind a first `0`.
+/// What goes on with a decimal literal after a first `0`.
 fn continues_zero(c: char) -> bool
-    ensures { result ≡ ((c == 46) || ((c == 101) || (c == 69))) }
+    ensures { result ≡ ((c == point_sign) || ((c == letter_e) || (c == capital_e))) }
 {
     c == '.' || c == 'e' || c == 'E'
 }
@@ -361,12 +342,9 @@ fn after_zero<'t>(
     text: &'t str,
     rest: &'t str,
 ) -> Result<(Number, &'t str), Refusal>
-    requires zero { chars text.now ≡ 48 ∷ chars rest.now }
+    requires zero { chars text.now ≡ digit_zero ∷ chars rest.now }
     requires text { IsUtf8 rest.now }
-    ensures read { IfOk result (λ p. model.at_zero (chars start.now) negative (chars rest.now) ≡ got (number_of p.0) (chars p.1.now)) }
-    ensures refused { IfErr result (λ e. Refuses e (outcome (model.at_zero (chars start.now) negative (chars rest.now)))) }
-    ensures memory { IfErr result (λ e. WantsForDigits e (model.at_zero (chars start.now) negative (chars rest.now))) }
-    ensures text { IfOk result (λ p. IsUtf8 p.1.now) }
+    ensures { AnswersNumber number_of (model.at_zero (chars start.now) negative (chars rest.now)) result }
 {
     let Some((c, behind)) = front(rest) else {
         return Ok((Number::Whole(Whole::from_u128(0)), rest));
@@ -388,10 +366,7 @@ fn after_zero<'t>(
 
 /// The number that is a word, and what follows the word's other letters.
 fn word<'t>(number: Decimal, letters: &str, text: &'t str) -> Result<(Number, &'t str), Refusal>
-    ensures read { IfOk result (λ p. model.word (numbers.decimal number) (chars letters.now) (chars text.now) ≡ got (number_of p.0) (chars p.1.now)) }
-    ensures refused { IfErr result (λ e. Refuses e (outcome (model.word (numbers.decimal number) (chars letters.now) (chars text.now)))) }
-    ensures memory { IfErr result (λ e. WantsForDigits e (model.word (numbers.decimal number) (chars letters.now) (chars text.now))) }
-    ensures text { IfOk result (λ p. IsUtf8 p.1.now) }
+    ensures { AnswersNumber number_of (model.word (numbers.decimal number) (chars letters.now) (chars text.now)) result }
 {
     match skip_word(
         letters,
@@ -418,10 +393,7 @@ fn unsigned<'t>(
     negative: bool,
     text: &'t str,
 ) -> Result<(Number, &'t str), Refusal>
-    ensures read { IfOk result (λ p. model.unsigned (chars start.now) negative (chars text.now) ≡ got (number_of p.0) (chars p.1.now)) }
-    ensures refused { IfErr result (λ e. Refuses e (outcome (model.unsigned (chars start.now) negative (chars text.now)))) }
-    ensures memory { IfErr result (λ e. WantsForDigits e (model.unsigned (chars start.now) negative (chars text.now))) }
-    ensures text { IfOk result (λ p. IsUtf8 p.1.now) }
+    ensures { AnswersNumber number_of (model.unsigned (chars start.now) negative (chars text.now)) result }
 {
     let Some((first, rest)) = front(text) else {
         return Err(Refusal::Code(ErrorCode::EofParsingNumber, None));
@@ -443,10 +415,7 @@ fn unsigned<'t>(
 
 /// The number in front, and what follows it. Whole numbers, infinity and not-a-number take no memory.
 pub(crate) fn number(alloc: Global, text: &str) -> Result<(Number, &str), Refusal>
-    ensures read { IfOk result (λ p. model.number (chars text.now) ≡ got (number_of p.0) (chars p.1.now)) }
-    ensures refused { IfErr result (λ e. Refuses e (outcome (model.number (chars text.now)))) }
-    ensures memory { IfErr result (λ e. WantsForDigits e (model.number (chars text.now))) }
-    ensures text { IfOk result (λ p. IsUtf8 p.1.now) }
+    ensures { AnswersNumber number_of (model.number (chars text.now)) result }
 {
     let Some((sign, rest)) = front(text) else {
         return Err(Refusal::Code(ErrorCode::EofParsingNumber, None));

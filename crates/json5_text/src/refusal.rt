@@ -12,7 +12,7 @@ pub(crate) enum Refusal {
     Code(ErrorCode, Option<usize>),
     /// A decimal run that is no literal.
     InvalidNumber(usize),
-    /// A hexadecimal number behind a minus past -2^127.
+    /// A hexadecimal number after a minus past -2^127.
     TooLarge(usize),
     /// A surrogate's escape that is no part of a pair, and its value.
     UnpairedSurrogate(u16, usize),

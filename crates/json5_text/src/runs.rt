@@ -1,4 +1,4 @@
-//! Cutting a text behind the ASCII characters in front that pass a test, and before those at its end.
+//! Cutting a text after the ASCII characters in front that pass a test, and before those at its end.
 
 ghost use Rattle.std.specs.Prelude.{◌≡◌, ◌==◌, ◌≤◌, length, reverse};
 ghost use Rattle.std.specs.Str.{IsUtf8, chars};
@@ -35,13 +35,13 @@ fn digits_len(bytes: &[u8]) -> usize
 }
 
 fn front_zeros_len(bytes: &[u8]) -> usize
-    ensures { result ≡ length (take_while (λ byte. byte == 48) bytes.now) }
+    ensures { result ≡ length (take_while (λ byte. byte == characters.digit_zero) bytes.now) }
 {
     bytes.iter().take_while(|byte| **byte == b'0').count()
 }
 
 fn back_zeros_len(bytes: &[u8]) -> usize
-    ensures { result ≡ length (take_while (λ byte. byte == 48) (reverse bytes.now)) }
+    ensures { result ≡ length (take_while (λ byte. byte == characters.digit_zero) (reverse bytes.now)) }
 {
     bytes.iter().rev().take_while(|byte| **byte == b'0').count()
 }

@@ -1,21 +1,13 @@
 //! The scanner: the tokens of a text, one after another.
 
-ghost use Rattle.std.specs.Prelude.{◌≡◌, ℕ, Bool, List, [], ◌∷◌, ◌++◌, true, false, ◌==◌, ◌⊎◌, length, drop, Some, None, string_bytes, slice_get, IsTrue, OnOk, OnErr, IfOk, IfErr, IsOk};
+ghost use Rattle.std.specs.Prelude.{◌≡◌, ℕ, List, [], ◌∷◌, ◌++◌, true, false, ◌==◌, ◌⊎◌, length, drop, Some, slice_get, IsTrue};
 ghost use Rattle.std.specs.Str.{all_scalars, chars, encode_utf8_all};
 ghost use Rattle.json5_grammar.specs.Characters.{NotBegun};
-ghost use Rattle.json5_grammar.specs.Blanks.{Gap, Solid};
-ghost use Rattle.json5_grammar.specs.Strings.{Str};
-ghost use Rattle.json5_grammar.specs.Names.{Ident, goes_on_name};
-ghost use Rattle.json5_grammar.specs.Numbers as numbers;
-ghost use Rattle.json5_grammar.specs.Numbers.{Num};
-ghost use Rattle.json5_grammar.specs.Stops.{lengthens};
-ghost use Rattle.json5_text.specs.NumberViews.{number_of, keeps_digits};
-ghost use Rattle.json5_text.specs.Cows.{cow_bytes, is_borrowed};
 ghost use Rattle.json5_grammar.specs.Positions.{position_behind};
-ghost use Rattle.json5_text.specs.Errors.{code};
-ghost use Rattle.json5_text.specs.Cursor.{Cursor, offset_of, Refused, Took, Behind, Says, IsOutOfMemory};
-ghost use Rattle.json5_text.specs.Tokens.{FaultyBlanks, FaultyName, FaultyNumber, FaultyString, FaultyWord};
-ghost use Rattle.json5_text.specs.Scan.{InText, Leaves, InUnread, IsWhere, IsThere, MadeOf};
+ghost use Rattle.json5_text.specs.Cursor.{Cursor, offset_of, Took, IsOutOfMemory, IsOffset, IsPositionOf};
+ghost use Rattle.json5_text.specs.Errors.{IsCustomAt};
+ghost use Rattle.json5_text.specs.Scan.{InText, Leaves, LeavesAt, InUnread, IsWhere, MadeOf};
+ghost use Rattle.json5_text.specs.Takes.{PassesBlanks, TakesWord, TakesNumber, TakesOwned, TakesString, TakesName};
 
 use crate::blanks::skip_blank;
 use crate::cow_str::CowStr;
@@ -86,7 +78,7 @@ impl<I: Input> Scanner<I> {
     pub fn peek(&self) -> Option<char>
         ensures { result ≡ slice_get self.now.unread 0 }
     {
-        let (c, _) = front(self.rest())?;
+        let (c, _) = front(self.rest(self.input.as_text()))?;
         Some(c)
     }
 
@@ -95,7 +87,7 @@ impl<I: Input> Scanner<I> {
         ensures taken { IsTrue result → Took self.old (c ∷ []) self.new }
         ensures kept { (result ≡ false) → (self.new ≡ self.old) × NotBegun (λ d. d == c) self.old.unread }
     {
-        let Some((next, rest)) = front(self.rest()) else {
+        let Some((next, rest)) = front(self.rest(self.input.as_text())) else {
             return false;
         };
         if next != c {
@@ -107,13 +99,11 @@ impl<I: Input> Scanner<I> {
     }
 
     /// Passes over blanks: white space, line terminators and comments (JSON5 sections 7 and 8). `ExpectedComment` stands at a
-    /// character behind a slash that begins no comment, and `EofParsingComment` has no place.
+    /// character after a slash that begins no comment, and `EofParsingComment` has no place.
     pub fn skip_blank(&mut self) -> Result<()>
-        ensures passed { OnOk result ((w : List ℕ) × Took self.old w self.new × Gap w self.new.unread × Solid self.new.unread) }
-        ensures refused { IfErr result (λ e. Refused FaultyBlanks self.old e) }
-        ensures behind { OnErr result (Behind self.old self.new) }
+        ensures { PassesBlanks self.old self.new result }
     {
-        let left = match skip_blank(self.rest()) {
+        let left = match skip_blank(self.rest(self.input.as_text())) {
             Ok(rest) => rest.len(),
             Err(refusal) => return Err(self.fault(refusal)),
         };
@@ -124,11 +114,9 @@ impl<I: Input> Scanner<I> {
     /// Takes the word: `differs` stands at the first character that is another one than the word's, and `ends`, where the text
     /// ends in the word, has no place.
     pub fn word(&mut self, word: &str, ends: ErrorCode, differs: ErrorCode) -> Result<()>
-        ensures taken { OnOk result (Took self.old (chars word.now) self.new) }
-        ensures refused { IfErr result (λ e. Refused (FaultyWord (chars word.now) ends differs) self.old e) }
-        ensures behind { OnErr result (Behind self.old self.new) }
+        ensures { TakesWord (chars word.now) ends differs self.old self.new result }
     {
-        let left = match skip_word(word, self.rest(), ends, differs) {
+        let left = match skip_word(word, self.rest(self.input.as_text()), ends, differs) {
             Ok(rest) => rest.len(),
             Err(refusal) => return Err(self.fault(refusal)),
         };
@@ -142,12 +130,9 @@ impl<I: Input> Scanner<I> {
     /// -2^127, are custom faults. Memory is wanted for a finite decimal's digits and for a custom fault: a whole number, infinity
     /// and not-a-number take none.
     pub fn number(&mut self) -> Result<Number>
-        ensures taken { IfOk result (λ n. (s : List ℕ) × Took self.old s self.new × Num s (number_of n) × NotBegun (lengthens s) self.new.unread) }
-        ensures refused { IfErr result (λ e. IsOutOfMemory e ⊎ Refused FaultyNumber self.old e) }
-        ensures behind { OnErr result (Behind self.old self.new) }
-        ensures memory { (s r : List ℕ) (n : numbers.Number) → self.old.unread ≡ s ++ r → Num s n → NotBegun (lengthens s) r → keeps_digits n ≡ false → IsOk result }
+        ensures { TakesNumber self.old self.new result }
     {
-        let (number, left) = match number(self.alloc, self.rest()) {
+        let (number, left) = match number(self.alloc, self.rest(self.input.as_text())) {
             Ok((number, rest)) => (number, rest.len()),
             Err(refusal) => return Err(self.fault(refusal)),
         };
@@ -157,11 +142,9 @@ impl<I: Input> Scanner<I> {
 
     /// Takes a string and gives its text in memory of its own (JSON5 section 5). The faults are those of `string`.
     pub fn string_owned(&mut self) -> Result<String>
-        ensures taken { IfOk result (λ t. (s u : List ℕ) × (plain : Bool) × Took self.old s self.new × Str s u plain × (string_bytes t ≡ encode_utf8_all u)) }
-        ensures refused { IfErr result (λ e. IsOutOfMemory e ⊎ Refused FaultyString self.old e) }
-        ensures behind { OnErr result (Behind self.old self.new) }
+        ensures { TakesOwned self.old self.new result }
     {
-        let (text, left) = match read_owned(self.alloc, self.rest()) {
+        let (text, left) = match read_owned(self.alloc, self.rest(self.input.as_text())) {
             Ok((text, rest)) => (text, rest.len()),
             Err(refusal) => return Err(self.fault(refusal)),
         };
@@ -169,17 +152,40 @@ impl<I: Input> Scanner<I> {
         Ok(text)
     }
 
-    /// What is unread.
-    fn rest(&self) -> &str
+    /// The position of an offset in bytes, as `offset` gave it here or earlier.
+    pub fn position_of(&self, offset: usize) -> Position
+        requires { IsOffset self.now.input offset }
+        ensures { IsPositionOf self.now.input offset result }
+    {
+        let _end = self.end;
+        Position::from_offset(offset, self.input.as_text())
+    }
+
+    /// The position of an offset in bytes; the end's, where no character begins there.
+    pub fn position_at(&self, offset: usize) -> Position
+        ensures inside { IsPositionOf self.now.input offset result }
+        ensures past { (IsOffset self.now.input offset → ⊥) → result ≡ position_behind self.now.input }
+    {
+        let _end = self.end;
+        let text = self.input.as_text();
+        match text.split_at_checked(offset) {
+            Some((before, _)) => Position::behind(before),
+            None => Position::behind(text),
+        }
+    }
+
+    /// What is unread of the text.
+    fn rest<'t>(&self, text: &'t str) -> &'t str
+        requires { chars text.now ≡ self.now.input }
         ensures { chars result.now ≡ self.now.unread }
     {
-        &self.input.as_text()[self.offset..]
+        &text[self.offset..]
     }
 
     /// Leaves so many bytes unread.
     fn leave(&mut self, left: usize)
         requires { Leaves self.old left }
-        ensures { (taken rest : List ℕ) → self.old.unread ≡ taken ++ rest → left ≡ length (encode_utf8_all rest) → Took self.old taken self.new × (self.new.unread ≡ rest) }
+        ensures { LeavesAt self.old left self.new }
     {
         self.offset = self.end - left;
     }
@@ -200,23 +206,28 @@ impl<I: Input> Scanner<I> {
         match refusal {
             Refusal::Code(code, None) => Error::new(code),
             Refusal::Code(code, Some(left)) => Error::new_at(self.position(left), code),
-            Refusal::InvalidNumber(left) => self.custom(left, "invalid number"),
+            Refusal::InvalidNumber(left) => self.custom(self.position(left), "invalid number"),
             Refusal::TooLarge(left) => {
-                self.custom(left, "number too large to fit in target type")
+                self.custom(
+                    self.position(left),
+                    "number too large to fit in target type",
+                )
             }
             Refusal::UnpairedSurrogate(escape, left) => {
-                self.custom(left, format_args!("unpaired surrogate found: {escape:x}"))
+                self.custom(
+                    self.position(left),
+                    format_args!("unpaired surrogate found: {escape:x}"),
+                )
             }
             Refusal::OutOfMemory => Error::new(ErrorCode::OutOfMemory),
         }
     }
 
-    /// The custom fault with this message where so many bytes are left; `OutOfMemory` where there is none for the message.
-    fn custom<D: Display + Drop>(&self, left: usize, message: D) -> Error
-        requires { Leaves self.now left }
-        ensures { IsOutOfMemory result ⊎ (Says None result × IsThere self.now left result) }
+    /// The custom fault with this message at this place; `OutOfMemory` where there is no memory for the message.
+    fn custom<D: Display + Drop>(&self, position: Position, message: D) -> Error
+        ensures { IsOutOfMemory result ⊎ IsCustomAt (Some position) result }
     {
-        match Error::custom_at(self.alloc, self.position(left), message) {
+        match Error::custom_at(self.alloc, position, message) {
             Ok(error) => error,
             Err(error) => error,
         }
@@ -230,12 +241,9 @@ impl<'de, I: Borrows<'de>> Scanner<I> {
     /// `\u` is faulty where it must stand. `EofParsingString` and `EofParsingEscapeSequence` have no place. Memory is
     /// wanted where an escape is used, and for a custom fault.
     pub fn string(&mut self) -> Result<CowStr<'de>>
-        ensures taken { IfOk result (λ t. (s u : List ℕ) × (plain : Bool) × Took self.old s self.new × Str s u plain × (is_borrowed t ≡ plain) × (cow_bytes t ≡ encode_utf8_all u)) }
-        ensures refused { IfErr result (λ e. IsOutOfMemory e ⊎ Refused FaultyString self.old e) }
-        ensures behind { OnErr result (Behind self.old self.new) }
-        ensures plain { (s u r : List ℕ) → self.old.unread ≡ s ++ r → Str s u true → IsOk result }
+        ensures { TakesString self.old self.new result }
     {
-        let (text, left) = match read_string(self.alloc, self.borrowed_rest()) {
+        let (text, left) = match read_string(self.alloc, self.rest(self.input.as_borrowed())) {
             Ok((text, rest)) => (text, rest.len()),
             Err(refusal) => return Err(self.fault(refusal)),
         };
@@ -245,53 +253,17 @@ impl<'de, I: Borrows<'de>> Scanner<I> {
 
     /// Takes an identifier and gives its text, borrowed where it holds no backslash (JSON5 section 3, ECMAScript 5.1 section
     /// 7.6). A character that may not begin one is `ExpectedIdentifier` at it, and an escape of a character that may not stand
-    /// there is the same at the escape's backslash; faulty escapes are those of `string`. What stands behind the identifier must
+    /// there is the same at the escape's backslash; faulty escapes are those of `string`. What stands after the identifier must
     /// be there: `EofParsingIdentifier`, like `EofParsingEscapeSequence`, has no place. Memory is wanted where an escape is used,
     /// and for a custom fault.
     pub fn identifier(&mut self) -> Result<CowStr<'de>>
-        ensures taken { IfOk result (λ t. (s u : List ℕ) × (plain : Bool) × Took self.old s self.new × Ident s u plain × (is_borrowed t ≡ plain) × (cow_bytes t ≡ encode_utf8_all u)) }
-        ensures stops { OnOk result ((c : ℕ) × (r : List ℕ) × (self.new.unread ≡ c ∷ r) × (goes_on_name c ≡ false)) }
-        ensures refused { IfErr result (λ e. IsOutOfMemory e ⊎ Refused FaultyName self.old e) }
-        ensures behind { OnErr result (Behind self.old self.new) }
-        ensures plain { (s u r : List ℕ) (c : ℕ) → self.old.unread ≡ s ++ c ∷ r → Ident s u true → goes_on_name c ≡ false → IsOk result }
+        ensures { TakesName self.old self.new result }
     {
-        let (text, left) = match read_name(self.alloc, self.borrowed_rest()) {
+        let (text, left) = match read_name(self.alloc, self.rest(self.input.as_borrowed())) {
             Ok((text, rest)) => (text, rest.len()),
             Err(refusal) => return Err(self.fault(refusal)),
         };
         self.leave(left);
         Ok(text)
-    }
-
-    /// What is unread.
-    fn borrowed_rest(&self) -> &'de str
-        ensures { chars result.now ≡ self.now.unread }
-    {
-        &self.input.as_borrowed()[self.offset..]
-    }
-}
-
-impl<I: Input> Scanner<I> {
-    /// The position of an offset in bytes, as `offset` gave it here or earlier.
-    pub fn position_of(&self, offset: usize) -> Position
-        requires { (before rest : List ℕ) × (self.now.input ≡ before ++ rest) × (offset ≡ length (encode_utf8_all before)) }
-        ensures { (before rest : List ℕ) → self.now.input ≡ before ++ rest → offset ≡ length (encode_utf8_all before) → result ≡ position_behind before }
-    {
-        let _end = self.end;
-        Position::from_offset(offset, self.input.as_text())
-    }
-}
-
-impl<I: Input> Scanner<I> {
-    /// The position of an offset in bytes; the end's, where no character begins there.
-    pub fn position_at(&self, offset: usize) -> Position
-        ensures { (before rest : List ℕ) → self.now.input ≡ before ++ rest → offset ≡ length (encode_utf8_all before) → result ≡ position_behind before }
-    {
-        let _end = self.end;
-        let text = self.input.as_text();
-        match text.split_at_checked(offset) {
-            Some((before, _)) => Position::behind(before),
-            None => Position::behind(text),
-        }
     }
 }

@@ -1,16 +1,13 @@
 //! Strings (JSON5 section 5, ECMAScript 5.1 section 7.8.4).
 
-ghost use Rattle.std.specs.Prelude.{◌≡◌, List, ℕ, Bool, true, false, ◌∷◌, ◌++◌, MatchResult, IfOk, IfErr, OnOk, string_bytes};
-ghost use Rattle.std.specs.Str.{IsUtf8, chars, encode_utf8_all};
-ghost use Rattle.json5_grammar.specs.Characters.{NotBegun, Each};
-ghost use Rattle.json5_grammar.specs.Reading.{got};
+ghost use Rattle.std.specs.Prelude.{◌≡◌, true, ◌∷◌, ◌++◌, OnOk, string_bytes};
+ghost use Rattle.std.specs.Str.{chars, encode_utf8_all};
+ghost use Rattle.json5_grammar.specs.Characters.{backslash};
 ghost use Rattle.json5_grammar.specs.Strings.{is_raw, is_quote};
 ghost use Rattle.json5_grammar.specs.ReadTexts.{string};
-ghost use Rattle.json5_text.specs.declared.refusal.Refusal.{Refusal};
-ghost use Rattle.json5_text.specs.Outcome.{outcome};
-ghost use Rattle.json5_text.specs.Refused.{Refuses};
-ghost use Rattle.json5_text.specs.Scan.{HasCode, in_list};
-ghost use Rattle.json5_text.specs.ScanStrings.{string_at, IsText, StopsAt, GoesOn, IsFurther, StopsText};
+ghost use Rattle.json5_text.specs.Answered.{AnswersCow, AnswersOwned, AnswersMore};
+ghost use Rattle.json5_text.specs.Scan.{SkipsAll, in_list};
+ghost use Rattle.json5_text.specs.ScanStrings.{string_at, AnswersRun, PutsEscape};
 
 use crate::cow_str::CowStr;
 use crate::escapes::read_escape;
@@ -24,7 +21,7 @@ use std::alloc::{AllocError, Global};
 enum Stop<'t> {
     /// At the closing quote, which this follows.
     Quote(&'t str),
-    /// At the backslash of an escape: the text from the backslash on, and the text behind it.
+    /// At the backslash of an escape: the text from the backslash on, and the text after it.
     Escape(&'t str, &'t str),
 }
 
@@ -33,10 +30,7 @@ pub(crate) fn read_string<'t>(
     alloc: Global,
     text: &'t str,
 ) -> Result<(CowStr<'t>, &'t str), Refusal>
-    ensures read { MatchResult result (λ p. (u : List ℕ) × (plain : Bool) × (string_at (chars text.now) ≡ got (u, plain) (chars p.1.now)) × IsText p.0 u plain)
-        (λ e. Refuses e (outcome (string_at (chars text.now)))) }
-    ensures text { IfOk result (λ p. IsUtf8 p.1.now) }
-    ensures memory { IfErr result (λ e. e ≡ Refusal.OutOfMemory → (u r : List ℕ) → string_at (chars text.now) ≡ got (u, true) r → ⊥) }
+    ensures { AnswersCow (string_at (chars text.now)) result }
 {
     let Some((quote, body)) = front(text) else {
         return Err(Refusal::Code(ErrorCode::EofParsingString, None));
@@ -56,9 +50,7 @@ pub(crate) fn read_string<'t>(
 
 /// The text of the string in front in a `String` of its own, and what follows the string.
 pub(crate) fn read_owned(alloc: Global, text: &str) -> Result<(String, &str), Refusal>
-    ensures read { MatchResult result (λ p. (u : List ℕ) × (plain : Bool) × (string_at (chars text.now) ≡ got (u, plain) (chars p.1.now)) × (string_bytes p.0 ≡ encode_utf8_all u))
-        (λ e. Refuses e (outcome (string_at (chars text.now)))) }
-    ensures text { IfOk result (λ p. IsUtf8 p.1.now) }
+    ensures { AnswersOwned (string_at (chars text.now)) result }
 {
     let (text, rest) = read_string(alloc, text)?;
     match text {
@@ -82,10 +74,8 @@ fn read_escaped<'t>(
     behind: &'t str,
 ) -> Result<(String, &'t str), Refusal>
     requires quote { is_quote quote ≡ true }
-    requires escape { chars escape.now ≡ 92 ∷ chars behind.now }
-    ensures read { MatchResult result (λ p. (u : List ℕ) × (string (quote ∷ chars escape.now) ≡ got (u, false) (chars p.1.now)) × (string_bytes p.0 ≡ raw.now ++ encode_utf8_all u))
-        (λ e. Refuses e (outcome (string (quote ∷ chars escape.now)))) }
-    ensures text { IfOk result (λ p. IsUtf8 p.1.now) }
+    requires escape { chars escape.now ≡ backslash ∷ chars behind.now }
+    ensures { AnswersMore raw.now (string (quote ∷ chars escape.now)) result }
 {
     let mut text = String::from_str(alloc, raw)?;
     let mut escape = escape;
@@ -101,18 +91,14 @@ fn read_escaped<'t>(
     }
 }
 
-/// Puts what an escape spells and the run behind it to the text, and says where that run ends.
+/// Puts what an escape spells and the run after it to the text, and says where that run ends.
 fn put_escape<'t>(
     text: &mut String,
     quote: char,
     escape: &str,
     behind: &'t str,
 ) -> Result<Stop<'t>, Refusal>
-    requires quote { is_quote quote ≡ true }
-    requires escape { chars escape.now ≡ 92 ∷ chars behind.now }
-    ensures read { MatchResult result (λ stop. (u : List ℕ) × GoesOn quote (chars escape.now) u stop × (string_bytes text.new ≡ string_bytes text.old ++ encode_utf8_all u))
-        (λ e. Refuses e (outcome (string (quote ∷ chars escape.now)))) }
-    ensures further { IfOk result (IsFurther (chars escape.now)) }
+    ensures { PutsEscape quote (chars escape.now) (chars behind.now) (string_bytes text.old) (string_bytes text.new) result }
 {
     let (spelled, run) = read_escape(escape, behind)?;
     push_spelled(text, spelled)?;
@@ -132,10 +118,7 @@ fn push_spelled(text: &mut String, spelled: Option<char>) -> Result<(), AllocErr
 
 /// The characters in front that stand for themselves between these quotes, and where they end.
 fn read_run(quote: char, text: &str) -> Result<(&str, Stop<'_>), Refusal>
-    ensures read { MatchResult result (λ p. (rest : List ℕ) × (chars text.now ≡ chars p.0.now ++ rest) × Each (is_raw quote) (chars p.0.now) × StopsAt quote rest p.1)
-        (λ e. Refuses e (outcome (string (quote ∷ chars text.now)))) }
-    ensures text { IfOk result (λ p. IsUtf8 p.0.now × StopsText p.1) }
-    ensures known { IfErr result HasCode }
+    ensures { AnswersRun quote text.now result }
 {
     let rest = skip_raw(quote, text);
     let Some((c, next)) = front(rest) else {
@@ -153,9 +136,7 @@ fn read_run(quote: char, text: &str) -> Result<(&str, Stop<'_>), Refusal>
 
 /// What follows the characters in front that stand for themselves between these quotes.
 fn skip_raw(quote: char, text: &str) -> &str
-    ensures read { (raw : List ℕ) × (chars text.now ≡ raw ++ chars result.now) × Each (is_raw quote) raw }
-    ensures stops { NotBegun (is_raw quote) (chars result.now) }
-    ensures text { IsUtf8 result.now }
+    ensures { SkipsAll (is_raw quote) text.now result.now }
 {
     let mut rest = text;
     while let Some((c, next)) = front(rest) {

@@ -3,6 +3,7 @@
 ghost use Rattle.std.specs.Prelude.{◌≡◌, ◌^◌, ◌≤◌, ◌↔◌, ℤ, pos, ◌≤ℤ◌, ◌<ℤ◌, IsSome, IfSome, Some};
 ghost use Rattle.std.specs.Fmt.{signed_decimal};
 ghost use Rattle.json5_grammar.specs.Numbers.{signed, InWhole};
+ghost use Rattle.json5_text.specs.NumberWholes.{Converts};
 
 use std::fmt;
 use std::marker::Model;
@@ -49,7 +50,7 @@ impl Whole {
         }
     }
 
-    /// The number with this distance from zero, behind a minus or not; none where it is below `i128::MIN`.
+    /// The number with this distance from zero, after a minus or not; none where it is below `i128::MIN`.
     pub(crate) fn from_parts(negative: bool, magnitude: u128) -> Option<Whole>
         ensures in_range { IsSome result ↔ InWhole (signed negative magnitude) }
         ensures value { IfSome result (λ w. w ≡ signed negative magnitude) }
@@ -68,9 +69,7 @@ impl Whole {
 
     /// The number, where it isn't below zero.
     pub fn as_u128(self) -> Option<u128>
-        ensures in_range { IsSome result ↔ (pos 0 ≤ℤ self) }
-        ensures value { IfSome result (λ number. pos number ≡ self) }
-        ensures whole { InWhole self }
+        ensures { Converts pos (λ z. pos 0 ≤ℤ z) self result }
     {
         if self.negative {
             None
@@ -81,9 +80,7 @@ impl Whole {
 
     /// The number, where it isn't above `i128::MAX`.
     pub fn as_i128(self) -> Option<i128>
-        ensures in_range { IsSome result ↔ (self <ℤ pos (2 ^ 127)) }
-        ensures value { IfSome result (λ number. number ≡ self) }
-        ensures whole { InWhole self }
+        ensures { Converts (λ number. number) (λ z. z <ℤ pos (2 ^ 127)) self result }
     {
         if self.negative {
             let above = (self.magnitude - 1) as i128;
@@ -99,7 +96,7 @@ impl Whole {
 impl fmt::Display for Whole {
     ghost output = { λ z. Some (signed_decimal z) };
 
-    /// The number's decimal digits, behind a minus where it is below zero.
+    /// The number's decimal digits, after a minus where it is below zero.
     fn fmt<W: fmt::Write>(&self, f: &mut fmt::Formatter<W>) -> fmt::Result {
         match self.as_i128() {
             Some(number) => number.fmt(f),

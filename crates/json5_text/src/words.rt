@@ -1,12 +1,8 @@
 //! Words.
 
-ghost use Rattle.std.specs.Prelude.{◌≡◌, MatchResult, IfOk, IfErr};
-ghost use Rattle.std.specs.Str.{IsUtf8, chars};
-ghost use Rattle.json5_grammar.specs.Reading.{got};
+ghost use Rattle.std.specs.Str.{chars};
 ghost use Rattle.json5_grammar.specs.ReadValues.{word_at};
-ghost use Rattle.json5_text.specs.Outcome.{outcome};
-ghost use Rattle.json5_text.specs.Refused.{Refuses};
-ghost use Rattle.json5_text.specs.Scan.{HasCode};
+ghost use Rattle.json5_text.specs.Answered.{Skips};
 
 use crate::front::front;
 use crate::refusal::Refusal;
@@ -21,10 +17,7 @@ pub(crate) fn skip_word<'t>(
     ends: ErrorCode,
     differs: ErrorCode,
 ) -> Result<&'t str, Refusal>
-    ensures passed { MatchResult result (λ r. word_at ends differs (chars word.now) (chars text.now) ≡ got tt (chars r.now))
-        (λ e. Refuses e (outcome (word_at ends differs (chars word.now) (chars text.now)))) }
-    ensures text { IfOk result (λ r. IsUtf8 r.now) }
-    ensures known { IfErr result HasCode }
+    ensures { Skips (word_at ends differs (chars word.now) (chars text.now)) result }
 {
     let mut wanted = word;
     let mut rest = text;

@@ -1,8 +1,10 @@
 //! The laws of blanks, words, values and documents.
-ghost use Rattle.std.specs.Prelude.{◌≡◌, ◌⊎◌, ℕ, ◌≤◌, Bool, true, not, if◌then◌else◌, List, [], ◌∷◌, ◌++◌, Option};
-ghost use Rattle.json5_grammar.specs.Codes.{ErrorCode, Shown};
-ghost use Rattle.json5_grammar.specs.Blanks.{Blanks, LastBlanks, Gap, Solid, is_solid, BlankFault};
-ghost use Rattle.json5_grammar.specs.WordFaults.{Word, WordFault};
+ghost use Rattle.std.specs.Prelude.{◌≡◌, ◌⊎◌, ℕ, ◌≤◌, Bool, true, not, if◌then◌else◌, List, [], ◌∷◌, ◌++◌};
+ghost use Rattle.json5_grammar.specs.Codes.{ErrorCode};
+ghost use Rattle.json5_grammar.specs.Blanks.{Blanks, LastBlanks, Gap, Solid, is_solid};
+ghost use Rattle.json5_grammar.specs.WordFaults.{Word};
+ghost use Rattle.json5_grammar.specs.Parts.{IsPrefix};
+ghost use Rattle.json5_grammar.specs.Blames.{Blame, BlankBlame, WordBlame, HasGap, IsBlamed, BlamesOnce};
 ghost use Rattle.json5_grammar.specs.Numbers.{Number};
 ghost use Rattle.json5_grammar.specs.NumberText.{IsNumber, number_text};
 ghost use Rattle.json5_grammar.specs.Quoting.{quoted_text};
@@ -26,7 +28,7 @@ pub fn one_phrase()
     ensures { (x r q : List ℕ) (t u : Tree) → Reads x t r → Reads x u q → (t ≡ u) × (r ≡ q) }
 {}
 
-/// A document is a phrase with blanks behind it, nested within the limit.
+/// A document is a phrase with blanks after it, nested within the limit.
 pub fn phrases()
     ensures of_document { (limit : ℕ) (x : List ℕ) (t : Tree) → Doc limit x t → (r : List ℕ) × Reads x t r × LastBlanks r × (depth t ≤ limit) }
     ensures to_document { (limit : ℕ) (x r : List ℕ) (t : Tree) → Reads x t r → LastBlanks r → depth t ≤ limit → Doc limit x t }
@@ -41,22 +43,16 @@ pub fn one_gap()
 
 /// Each text begins with blanks up to such a rest, or has a faulty comment, of one code and place.
 pub fn blanks()
-    ensures judged { (x : List ℕ)
-        → ((w : List ℕ) × (r : List ℕ) × (x ≡ w ++ r) × Gap w r × Solid r)
-        ⊎ ((code : Option ErrorCode) × (place : Option (List ℕ)) × (before : List ℕ) × (part : List ℕ) × (shown : Shown) × BlankFault x code place before part shown) }
-    ensures same { (x b c p q : List ℕ) (e f : Option ErrorCode) (here there : Option (List ℕ)) (h i : Shown)
-        → BlankFault x e here b p h → BlankFault x f there c q i → (e ≡ f) × (here ≡ there) }
-    ensures refused { (w r b p : List ℕ) (e : Option ErrorCode) (place : Option (List ℕ)) (h : Shown) → Gap w r → Solid r → BlankFault (w ++ r) e place b p h → ⊥ }
+    ensures judged { (x : List ℕ) → HasGap x ⊎ IsBlamed BlankBlame x }
+    ensures same { BlamesOnce BlankBlame }
+    ensures refused { (w r : List ℕ) (b : Blame) → Gap w r → Solid r → BlankBlame (w ++ r) b → ⊥ }
 {}
 
 /// A text that begins with a word's first letter begins with the word, or has a fault of it, of one code and place.
 pub fn words()
-    ensures judged { (k : ℕ) (ks r : List ℕ) (wrong eof : ErrorCode) → Word (k ∷ ks) wrong eof
-        → ((y : List ℕ) × (k ∷ r ≡ k ∷ ks ++ y))
-        ⊎ ((code : Option ErrorCode) × (place : Option (List ℕ)) × (part : List ℕ) × (shown : Shown) × WordFault (k ∷ r) code place part shown) }
-    ensures same { (x p q : List ℕ) (e f : Option ErrorCode) (here there : Option (List ℕ)) (h i : Shown)
-        → WordFault x e here p h → WordFault x f there q i → (e ≡ f) × (here ≡ there) }
-    ensures refused { (w r p : List ℕ) (wrong eof : ErrorCode) (e : Option ErrorCode) (place : Option (List ℕ)) (h : Shown) → Word w wrong eof → WordFault (w ++ r) e place p h → ⊥ }
+    ensures judged { (k : ℕ) (ks r : List ℕ) (wrong eof : ErrorCode) → Word (k ∷ ks) wrong eof → IsPrefix (k ∷ ks) (k ∷ r) ⊎ IsBlamed WordBlame (k ∷ r) }
+    ensures same { BlamesOnce WordBlame }
+    ensures refused { (w r : List ℕ) (wrong eof : ErrorCode) (b : Blame) → Word w wrong eof → WordBlame (w ++ r) b → ⊥ }
 {}
 
 /// What is written for a scalar is its value.

@@ -1,13 +1,14 @@
 //! The laws of arrays and objects that are read member by member.
-ghost use Rattle.std.specs.Prelude.{◌≡◌, ◌⊎◌, ◌==◌, ℕ, ◌<◌, max, Bool, true, false, List, ◌++◌, length, Option};
-ghost use Rattle.json5_grammar.specs.Characters.{comma_sign, right_bracket, NotBegun};
-ghost use Rattle.json5_grammar.specs.Codes.{ErrorCode, Shown};
-ghost use Rattle.json5_grammar.specs.Blanks.{Gap, Solid, BlankFault};
-ghost use Rattle.json5_grammar.specs.Trees.{Tree, Trees, Pairs, array, object, no_more, more, pair, depth, depths, pair_depths};
+ghost use Rattle.std.specs.Prelude.{◌≡◌, ℕ, ◌<◌, max, Bool, true, false, List, ◌++◌, length};
+ghost use Rattle.json5_grammar.specs.Characters.{comma_sign, right_bracket};
+ghost use Rattle.json5_grammar.specs.Blanks.{Gap, Solid};
+ghost use Rattle.json5_grammar.specs.Blames.{Blame, BlankBlame};
+ghost use Rattle.json5_grammar.specs.Trees.{Tree, Trees, Pairs, array, object, depth, depths, pair_depths};
 ghost use Rattle.json5_grammar.specs.Values.{Reads};
 ghost use Rattle.json5_grammar.specs.Members.{Opens, IsElement, IsClose, IsAtClose, Tail, Passed, GoesNowhere, snoc, joined, OpensObject, IsKey, IsKeyValue, IsBrace, PairsTail, PairsPassed, NoPairGoes, snoc_pair, joined_pairs};
+ghost use Rattle.json5_grammar.specs.MembersLeft.{NotAt, NoValue, RestOf, ClosesOrGoesOn, OneMorePair, RestOfPairs, ValueAndRest};
 
-/// An array is what is opened and has its members and the closing bracket behind.
+/// An array is what is opened and has its members and the closing bracket after it.
 pub fn array_from_front()
     ensures apart { (x r : List ℕ) (ts : Trees) → Reads x (array ts) r → (y : List ℕ) × Opens x y × Tail ts false y r }
     ensures together { (x y r : List ℕ) (ts : Trees) → Opens x y → Tail ts false y r → Reads x (array ts) r }
@@ -42,11 +43,10 @@ pub fn passed_members()
     ensures close { (ts : Trees) (due now : Bool) (x y r : List ℕ) → Passed ts due x now y → IsClose now y r → Tail ts due x r }
 {}
 
-/// What a whole array has behind members that were passed.
+/// What a whole array has after members that were passed.
 pub fn rest_of_array()
-    ensures rest { (us ts : Trees) (due now : Bool) (x y r : List ℕ) → Passed us due x now y → Tail ts due x r → (vs : Trees) × (ts ≡ joined us vs) × Tail vs now y r }
-    ensures goes { (ts : Trees) (due : Bool) (x r : List ℕ) → Tail ts due x r
-        → ((ts ≡ no_more) × IsClose due x r) ⊎ ((t : Tree) × (us : Trees) × (y : List ℕ) × (ts ≡ more t us) × IsElement due x t y × Tail us true y r) }
+    ensures rest { (us ts : Trees) (due now : Bool) (x y r : List ℕ) → Passed us due x now y → Tail ts due x r → RestOf us ts now y r }
+    ensures goes { (ts : Trees) (due : Bool) (x r : List ℕ) → Tail ts due x r → ClosesOrGoesOn ts due x r }
     ensures nowhere { (x y z r : List ℕ) (us ts : Trees) (due : Bool) → Opens x y → Passed us false y due z → GoesNowhere due z → Reads x (array ts) r → ⊥ }
 {}
 
@@ -61,12 +61,12 @@ pub fn depths_of_members()
 /// Nothing of an array goes on at a faulty comment, and where a comma is due neither at the end nor at a character that is
 /// neither a comma nor the closing bracket.
 pub fn nothing_goes_on()
-    ensures comment { (due : Bool) (x b p : List ℕ) (code : Option ErrorCode) (place : Option (List ℕ)) (shown : Shown) → BlankFault x code place b p shown → GoesNowhere due x }
-    ensures due { (x w y : List ℕ) → x ≡ w ++ y → Gap w y → Solid y → NotBegun (λ c. c == comma_sign) y → NotBegun (λ c. c == right_bracket) y → GoesNowhere true x }
-    ensures first { (x w y : List ℕ) → x ≡ w ++ y → Gap w y → Solid y → ((t : Tree) (r : List ℕ) → Reads y t r → ⊥) → NotBegun (λ c. c == right_bracket) y → GoesNowhere false x }
+    ensures comment { (due : Bool) (x : List ℕ) (b : Blame) → BlankBlame x b → GoesNowhere due x }
+    ensures due { (x w y : List ℕ) → x ≡ w ++ y → Gap w y → Solid y → NotAt comma_sign y → NotAt right_bracket y → GoesNowhere true x }
+    ensures first { (x w y : List ℕ) → x ≡ w ++ y → Gap w y → Solid y → NoValue y → NotAt right_bracket y → GoesNowhere false x }
 {}
 
-/// An object is what is opened and has its pairs and the closing brace behind.
+/// An object is what is opened and has its pairs and the closing brace after it.
 pub fn object_from_front()
     ensures apart { (x r : List ℕ) (ps : Pairs) → Reads x (object ps) r → (y : List ℕ) × OpensObject x y × PairsTail ps false y r }
     ensures together { (x y r : List ℕ) (ps : Pairs) → OpensObject x y → PairsTail ps false y r → Reads x (object ps) r }
@@ -84,11 +84,10 @@ pub fn one_way_on_in_object()
 
 /// Pairs that were passed go on with one more, or with the rest of the object.
 pub fn passed_pairs()
-    ensures next { (ps : Pairs) (due now : Bool) (x y k z u : List ℕ) (p : Bool) (t : Tree) → PairsPassed ps due x now y → IsKey now y u p k → IsKeyValue k t z → PairsPassed (snoc_pair ps u p t) due x true z }
+    ensures next { (due now : Bool) (x y : List ℕ) (ps : Pairs) → PairsPassed ps due x now y → OneMorePair ps due x now y }
     ensures tail { (ps qs : Pairs) (due now : Bool) (x y r : List ℕ) → PairsPassed ps due x now y → PairsTail qs now y r → PairsTail (joined_pairs ps qs) due x r }
     ensures close { (ps : Pairs) (due now : Bool) (x y r : List ℕ) → PairsPassed ps due x now y → IsBrace now y r → PairsTail ps due x r }
-    ensures rest { (qs ps : Pairs) (due now : Bool) (x y r : List ℕ) → PairsPassed qs due x now y → PairsTail ps due x r → (ws : Pairs) × (ps ≡ joined_pairs qs ws) × PairsTail ws now y r }
-    ensures value { (ps : Pairs) (due : Bool) (x y r u : List ℕ) (plain : Bool) → IsKey due x u plain y → PairsTail ps due x r
-        → (t : Tree) × (qs : Pairs) × (z : List ℕ) × (ps ≡ pair u plain t qs) × IsKeyValue y t z × PairsTail qs true z r }
+    ensures rest { (qs ps : Pairs) (due now : Bool) (x y r : List ℕ) → PairsPassed qs due x now y → PairsTail ps due x r → RestOfPairs qs ps now y r }
+    ensures value { (ps : Pairs) (due : Bool) (x y r u : List ℕ) (plain : Bool) → IsKey due x u plain y → PairsTail ps due x r → ValueAndRest ps u plain y r }
     ensures nowhere { (ps : Pairs) (due : Bool) (x r : List ℕ) → NoPairGoes due x → PairsTail ps due x r → ⊥ }
 {}

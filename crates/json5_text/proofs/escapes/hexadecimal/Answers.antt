@@ -40,4 +40,4 @@ loop-wanted-preserved c =
 pub returns-clause-read : goal.returns-clause-read
 returns-clause-read c =
     let z : c.loop-wanted.wanted ≡ 0 = omega arith in
-    sym c.loop-wanted.invariant.read ∙ hex_done c.loop-wanted.wanted c.loop-wanted.value _ _ z
+    record { read = sym c.loop-wanted.invariant.read ∙ hex_done c.loop-wanted.wanted c.loop-wanted.value _ _ z; text = c.loop-wanted.invariant.text }

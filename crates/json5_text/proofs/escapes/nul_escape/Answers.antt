@@ -5,7 +5,7 @@ use Rattle.json5_grammar.specs.declared.code.ErrorCode.TheVariants.{InvalidEscap
 use Rattle.json5_text.proofs.ScanEscapes.{refused_here, nul_digit}
 use Rattle.json5_text.proofs.escapes.nul_escape.Goals as goal
 
-pub returns-then-is_ascii_digit-clause-read : goal.returns-then-is_ascii_digit-clause-read
-returns-then-is_ascii_digit-clause-read c =
+pub returns-then-is_ascii_digit : goal.returns-then-is_ascii_digit
+returns-then-is_ascii_digit c =
     let d : is_digit c.in-Some.c ≡ true = grind (arith, nat_tests) in
     rw c.invalid.ensures (refused_here _ InvalidEscapeSequence c.args.escape.now c.utf8.escape (nul_digit c.in-Some.c _ _ _ c.in-Some.ensures.chars d))

@@ -6,11 +6,11 @@ use Rattle.json5_text.proofs.ScanEscapes.{refused_here}
 use Rattle.json5_text.proofs.ScanNames.{escape_none, escape_other, escape_unicode}
 use Rattle.json5_text.proofs.names.read_escape.Goals as goal
 
-pub returns-in_default-clause-read : goal.returns-in_default-clause-read
-returns-in_default-clause-read c = ap outcome (escape_none _ _ c.in_default.ensures.chars)
+pub returns-in_default : goal.returns-in_default
+returns-in_default c = ap outcome (escape_none _ _ c.in_default.ensures.chars)
 
-pub returns-then-c-ne117-clause-read : goal.returns-then-c-ne117-clause-read
-returns-then-c-ne117-clause-read c = refused_here _ InvalidEscapeSequence c.args.behind.now c.utf8.behind (escape_other c.in-Some.c _ _ _ c.in-Some.ensures.chars c.if-c-ne117.true)
+pub returns-then-c-ne117 : goal.returns-then-c-ne117
+returns-then-c-ne117 c = refused_here _ InvalidEscapeSequence c.args.behind.now c.utf8.behind (escape_other c.in-Some.c _ _ _ c.in-Some.ensures.chars c.if-c-ne117.true)
 
-pub returns-clause-read : goal.returns-clause-read
-returns-clause-read c = rw (escape_unicode c.in-Some.c (chars c.args.escape.now) (chars c.args.behind.now) (chars c.in-Some.digits.now) c.in-Some.ensures.chars c.if-c-ne117.false) c.unicode_escape.ensures.read
+pub returns : goal.returns
+returns c = rw (escape_unicode c.in-Some.c (chars c.args.escape.now) (chars c.args.behind.now) (chars c.in-Some.digits.now) c.in-Some.ensures.chars c.if-c-ne117.false) c.unicode_escape.ensures

@@ -5,6 +5,6 @@ use Rattle.json5_text.proofs.ScanEscapes.{refused_here}
 use Rattle.json5_text.proofs.ScanNames.{item_misfits}
 use Rattle.json5_text.proofs.names.read_item.Goals as goal
 
-pub returns-then-not-fits-clause-read : goal.returns-then-not-fits-clause-read
-returns-then-not-fits-clause-read c =
+pub returns-then-not-fits : goal.returns-then-not-fits
+returns-then-not-fits c =
     refused_here _ ExpectedIdentifier c.args.escape.now c.utf8.escape (item_misfits (fits c.args.is_first) _ _ _ c.in_ok-c.c c.in_ok-c.ensures.read (sym c.if-not-fits.ensures))

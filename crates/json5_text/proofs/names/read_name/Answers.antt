@@ -14,105 +14,106 @@ use Rattle.json5_text.proofs.ScanStrings.{both_parts}
 use Rattle.json5_text.proofs.ScanNames.{whole_is, name_none, name_other, first_refused, plain_name, escaped_name, escaped_refused, split_whole, item_not_plain, escape_not_plain}
 use Rattle.json5_text.proofs.names.read_name.Goals as goal
 
-pub returns-in_default-clause-read : goal.returns-in_default-clause-read
-returns-in_default-clause-read c = ap outcome (name_none _ c.in_default.ensures.chars)
+pub returns-in_default : goal.returns-in_default
+returns-in_default c = record { refused = ap outcome (name_none _ c.in_default.ensures.chars); memory = λ e. absurd (cc) }
 
-pub returns-in_err-name-clause-read : goal.returns-in_err-name-clause-read
-returns-in_err-name-clause-read c =
+pub returns-in_err-name : goal.returns-in_err-name
+returns-in_err-name c =
     let p = err_from_is_err_and c.from_residual.result c.from_residual.ensures.1 in
-    rw (p.1, p.2, ← whole_is (chars c.args.text.now)) c.in_err-name.ensures.read
+    rw (p.1, p.2)
+    (record {
+      refused = rw (← whole_is (chars c.args.text.now)) c.in_err-name.ensures;
+      memory = λ e u r read. item_not_plain true (chars c.args.text.now) (chars c.in-Some.rest.now) u r (c.in-Some.ensures.chars ∙ ap (λ z. z ∷ chars c.in-Some.rest.now) c.if-c-eq92.true) (whole_is (chars c.args.text.now) ∙ read);
+    })
 
-pub returns-then-c-eq92-clause-read : goal.returns-then-c-eq92-clause-read
-returns-then-c-eq92-clause-read c =
-    let read = c.in_ok-name.ensures.read in
-    (read.0, false, sym (whole_is (chars c.args.text.now)) ∙ read.1, (refl, read.2))
+pub returns-then-c-eq92 : goal.returns-then-c-eq92
+returns-then-c-eq92 c =
+    let more = c.in_ok-name.ensures in
+    record { spelled = more.spelled; plain = false; read = sym (whole_is (chars c.args.text.now)) ∙ more.read; is_text = record { borrowed = refl; bytes = more.whole }; text = more.text }
 
-pub returns-then-not-is_json5_identifier_start-clause-read : goal.returns-then-not-is_json5_identifier_start-clause-read
-returns-then-not-is_json5_identifier_start-clause-read c =
-    refused_here _ ExpectedIdentifier c.args.text.now c.utf8.text (name_other c.in-Some.c _ _ c.in-Some.ensures.chars c.if-c-eq92.false (sym c.if-not-is_json5_identifier_start.ensures))
+pub returns-then-not-is_json5_identifier_start : goal.returns-then-not-is_json5_identifier_start
+returns-then-not-is_json5_identifier_start c = record {
+  refused = refused_here _ ExpectedIdentifier c.args.text.now c.utf8.text (name_other c.in-Some.c _ _ c.in-Some.ensures.chars c.if-c-eq92.false (sym c.if-not-is_json5_identifier_start.ensures));
+  memory = λ e. absurd (cc);
+}
 
-pub returns-in_err-stop-clause-read : goal.returns-in_err-stop-clause-read
-returns-in_err-stop-clause-read c =
+pub returns-in_err-stop : goal.returns-in_err-stop
+returns-in_err-stop c =
     let p = err_from_is_err_and c.from_residual-in_err-stop.result c.from_residual-in_err-stop.ensures.1 in
-    rw (p.1, p.2) (first_refused c.in-Some.c c.in_err-stop.field-0.0 _ _ c.in-Some.ensures.chars c.if-c-eq92.false (sym c.if-not-is_json5_identifier_start.ensures) c.in_err-stop.ensures.read)
+    rw (p.1, p.2)
+    (record {
+      refused = first_refused c.in-Some.c c.in_err-stop.field-0.0 _ _ c.in-Some.ensures.chars c.if-c-eq92.false (sym c.if-not-is_json5_identifier_start.ensures) c.in_err-stop.ensures.refused;
+      memory = λ e u r read. no_memory c.in_err-stop.field-0.0 c.in_err-stop.ensures.known e;
+    })
 
 pub overflow_sub-text : goal.overflow_sub-text
 overflow_sub-text c =
-    let k = c.in_ok-stop.ensures.read in
-    let stops = subst (StopsAt k.0) c.in-End.is k.3 in
-    let u = subst StopsText c.in-End.is c.in_ok-stop.ensures.text.1 in
-    rw (left_counted c.in-End.end.now u) (left_fits {x = c.in-Some.c ∷ chars c.in_ok-stop.field-0-0.now} (record { is_text = c.utf8.text; split = split_whole c.in-Some.c _ _ _ _ _ c.in-Some.ensures.chars k.1 stops.0 }))
+    let run = c.in_ok-stop.ensures in
+    let stops = subst (StopsAt run.rest) c.in-End.is run.stops in
+    let u = subst StopsText c.in-End.is run.stop_text in
+    rw (left_counted c.in-End.end.now u) (left_fits {x = c.in-Some.c ∷ chars c.in_ok-stop.field-0-0.now} (record { is_text = c.utf8.text; split = split_whole c.in-Some.c _ _ _ _ _ c.in-Some.ensures.chars run.split stops.0 }))
 
 pub range-name-requires-clause-end_boundary : goal.range-name-requires-clause-end_boundary
 range-name-requires-clause-end_boundary c =
-    let k = c.in_ok-stop.ensures.read in
-    let stops = subst (StopsAt k.0) c.in-End.is k.3 in
-    let u = subst StopsText c.in-End.is c.in_ok-stop.ensures.text.1 in
-    subst (λ n. IsCharBoundary c.args.text.now (length c.args.text.now - n)) (sym (left_counted c.in-End.end.now u)) (cut_half {x = c.in-Some.c ∷ chars c.in_ok-stop.field-0-0.now} (record { is_text = c.utf8.text; split = split_whole c.in-Some.c _ _ _ _ _ c.in-Some.ensures.chars k.1 stops.0 }))
+    let run = c.in_ok-stop.ensures in
+    let stops = subst (StopsAt run.rest) c.in-End.is run.stops in
+    let u = subst StopsText c.in-End.is run.stop_text in
+    subst (λ n. IsCharBoundary c.args.text.now (length c.args.text.now - n)) (sym (left_counted c.in-End.end.now u)) (cut_half {x = c.in-Some.c ∷ chars c.in_ok-stop.field-0-0.now} (record { is_text = c.utf8.text; split = split_whole c.in-Some.c _ _ _ _ _ c.in-Some.ensures.chars run.split stops.0 }))
 
-pub returns-in-End-clause-read : goal.returns-in-End-clause-read
-returns-in-End-clause-read c =
-    let k = c.in_ok-stop.ensures.read in
-    let stops = subst (StopsAt k.0) c.in-End.is k.3 in
-    let u = subst StopsText c.in-End.is c.in_ok-stop.ensures.text.1 in
-    let name = before_rest c.args.text.now (c.in-Some.c ∷ chars c.in_ok-stop.field-0-0.now) c.in-End.end.now c.utf8.text u (split_whole c.in-Some.c _ _ _ _ _ c.in-Some.ensures.chars k.1 stops.0) c.range-name.ensures.value in (
-      c.in-Some.c ∷ chars c.in_ok-stop.field-0-0.now,
-      true,
-      plain_name c.in-Some.c _ _ (chars c.in_ok-stop.field-0-0.now) k.0 c.in-Some.ensures.chars c.if-c-eq92.false (sym c.if-not-is_json5_identifier_start.ensures) k.1 k.2 stops.1 ∙ ap (got (c.in-Some.c ∷ chars c.in_ok-stop.field-0-0.now, true)) stops.0,
-      (refl, sym (encodes-chars c.range-name.result.now c.range-name.utf8) ∙ ap encode_utf8_all name),
-    )
+pub returns-in-End : goal.returns-in-End
+returns-in-End c =
+    let run = c.in_ok-stop.ensures in
+    let stops = subst (StopsAt run.rest) c.in-End.is run.stops in
+    let u = subst StopsText c.in-End.is run.stop_text in
+    let name = before_rest c.args.text.now (c.in-Some.c ∷ chars c.in_ok-stop.field-0-0.now) c.in-End.end.now c.utf8.text u (split_whole c.in-Some.c _ _ _ _ _ c.in-Some.ensures.chars run.split stops.0) c.range-name.ensures.value in
+    record {
+      spelled = c.in-Some.c ∷ chars c.in_ok-stop.field-0-0.now;
+      plain = true;
+      read = plain_name c.in-Some.c _ _ (chars c.in_ok-stop.field-0-0.now) run.rest c.in-Some.ensures.chars c.if-c-eq92.false (sym c.if-not-is_json5_identifier_start.ensures) run.split run.raw stops.1
+          ∙ ap (got (c.in-Some.c ∷ chars c.in_ok-stop.field-0-0.now, true)) stops.0;
+      is_text = record { borrowed = refl; bytes = sym (encodes-chars c.range-name.result.now c.range-name.utf8) ∙ ap encode_utf8_all name };
+      text = u;
+    }
 
 pub overflow_sub-text-in-Escape : goal.overflow_sub-text-in-Escape
 overflow_sub-text-in-Escape c =
-    let k = c.in_ok-stop.ensures.read in
-    let stops = subst (StopsAt k.0) c.in-Escape.is k.3 in
-    let u = subst StopsText c.in-Escape.is c.in_ok-stop.ensures.text.1 in
-    rw (left_counted c.in-Escape.escape.now u.0) (left_fits {x = c.in-Some.c ∷ chars c.in_ok-stop.field-0-0.now} (record { is_text = c.utf8.text; split = split_whole c.in-Some.c _ _ _ _ _ c.in-Some.ensures.chars k.1 stops.0 }))
+    let run = c.in_ok-stop.ensures in
+    let stops = subst (StopsAt run.rest) c.in-Escape.is run.stops in
+    let u = subst StopsText c.in-Escape.is run.stop_text in
+    rw (left_counted c.in-Escape.escape.now u.0) (left_fits {x = c.in-Some.c ∷ chars c.in_ok-stop.field-0-0.now} (record { is_text = c.utf8.text; split = split_whole c.in-Some.c _ _ _ _ _ c.in-Some.ensures.chars run.split stops.0 }))
 
 pub range-raw-requires-clause-end_boundary : goal.range-raw-requires-clause-end_boundary
 range-raw-requires-clause-end_boundary c =
-    let k = c.in_ok-stop.ensures.read in
-    let stops = subst (StopsAt k.0) c.in-Escape.is k.3 in
-    let u = subst StopsText c.in-Escape.is c.in_ok-stop.ensures.text.1 in
-    subst (λ n. IsCharBoundary c.args.text.now (length c.args.text.now - n)) (sym (left_counted c.in-Escape.escape.now u.0)) (cut_half {x = c.in-Some.c ∷ chars c.in_ok-stop.field-0-0.now} (record { is_text = c.utf8.text; split = split_whole c.in-Some.c _ _ _ _ _ c.in-Some.ensures.chars k.1 stops.0 }))
+    let run = c.in_ok-stop.ensures in
+    let stops = subst (StopsAt run.rest) c.in-Escape.is run.stops in
+    let u = subst StopsText c.in-Escape.is run.stop_text in
+    subst (λ n. IsCharBoundary c.args.text.now (length c.args.text.now - n)) (sym (left_counted c.in-Escape.escape.now u.0)) (cut_half {x = c.in-Some.c ∷ chars c.in_ok-stop.field-0-0.now} (record { is_text = c.utf8.text; split = split_whole c.in-Some.c _ _ _ _ _ c.in-Some.ensures.chars run.split stops.0 }))
 
-pub returns-in_err-name-in-Escape-clause-read : goal.returns-in_err-name-in-Escape-clause-read
-returns-in_err-name-in-Escape-clause-read c =
+pub returns-in_err-name-in-Escape : goal.returns-in_err-name-in-Escape
+returns-in_err-name-in-Escape c =
     let p = err_from_is_err_and c.from_residual-in_err-name-in-Escape.result c.from_residual-in_err-name-in-Escape.ensures.1 in
-    let k = c.in_ok-stop.ensures.read in
-    let stops = subst (StopsAt k.0) c.in-Escape.is k.3 in
+    let run = c.in_ok-stop.ensures in
+    let stops = subst (StopsAt run.rest) c.in-Escape.is run.stops in
     rw (p.1, p.2)
-    (escaped_refused c.in-Some.c c.in_err-name-in-Escape.field-0.0 _ _ (chars c.in_ok-stop.field-0-0.now) _ c.in-Some.ensures.chars c.if-c-eq92.false (sym c.if-not-is_json5_identifier_start.ensures) (k.1 ∙ ap (λ z. chars c.in_ok-stop.field-0-0.now ++ z) stops.0) k.2 c.in_err-name-in-Escape.ensures.read)
+    (record {
+      refused = escaped_refused c.in-Some.c c.in_err-name-in-Escape.field-0.0 _ _ (chars c.in_ok-stop.field-0-0.now) _ c.in-Some.ensures.chars c.if-c-eq92.false (sym c.if-not-is_json5_identifier_start.ensures)
+          (run.split ∙ ap (λ z. chars c.in_ok-stop.field-0-0.now ++ z) stops.0) run.raw c.in_err-name-in-Escape.ensures;
+      memory = λ e u r read. escape_not_plain c.in-Some.c (chars c.args.text.now) (chars c.in-Some.rest.now) (chars c.in_ok-stop.field-0-0.now) run.rest (chars c.in-Escape.behind.now) u r c.in-Some.ensures.chars c.if-c-eq92.false
+          (sym c.if-not-is_json5_identifier_start.ensures) run.split run.raw (stops.0 ∙ stops.1) read;
+    })
 
-pub returns-in_ok-name-in-Escape-clause-read : goal.returns-in_ok-name-in-Escape-clause-read
-returns-in_ok-name-in-Escape-clause-read c =
-    let k = c.in_ok-stop.ensures.read in
-    let stops = subst (StopsAt k.0) c.in-Escape.is k.3 in
-    let u = subst StopsText c.in-Escape.is c.in_ok-stop.ensures.text.1 in
-    let read = c.in_ok-name-in-Escape.ensures.read in
-    let raw = before_rest c.args.text.now (c.in-Some.c ∷ chars c.in_ok-stop.field-0-0.now) c.in-Escape.escape.now c.utf8.text u.0 (split_whole c.in-Some.c _ _ _ _ _ c.in-Some.ensures.chars k.1 stops.0) c.range-raw.ensures.value in (
-      (c.in-Some.c ∷ chars c.in_ok-stop.field-0-0.now) ++ read.0,
-      false,
-      escaped_name c.in-Some.c _ _ (chars c.in_ok-stop.field-0-0.now) _ read.0 _ c.in-Some.ensures.chars c.if-c-eq92.false (sym c.if-not-is_json5_identifier_start.ensures) (k.1 ∙ ap (λ z. chars c.in_ok-stop.field-0-0.now ++ z) stops.0) k.2 read.1,
-      (refl, read.2 ∙ both_parts c.range-raw.result.now read.0 c.range-raw.utf8 ∙ ap (λ z. encode_utf8_all (z ++ read.0)) raw),
-    )
-
-pub returns-in_err-name-clause-memory : goal.returns-in_err-name-clause-memory
-returns-in_err-name-clause-memory c =
-    let p = err_from_is_err_and c.from_residual.result c.from_residual.ensures.1 in
-    rw (p.1, p.2)
-    (λ e u r read. item_not_plain true (chars c.args.text.now) (chars c.in-Some.rest.now) u r (c.in-Some.ensures.chars ∙ ap (λ z. z ∷ chars c.in-Some.rest.now) c.if-c-eq92.true) (whole_is (chars c.args.text.now) ∙ read))
-
-pub returns-in_err-stop-clause-memory : goal.returns-in_err-stop-clause-memory
-returns-in_err-stop-clause-memory c =
-    let p = err_from_is_err_and c.from_residual-in_err-stop.result c.from_residual-in_err-stop.ensures.1 in
-    rw (p.1, p.2) (λ e u r read. no_memory c.in_err-stop.field-0.0 c.in_err-stop.ensures.known e)
-
-pub returns-in_err-name-in-Escape-clause-memory : goal.returns-in_err-name-in-Escape-clause-memory
-returns-in_err-name-in-Escape-clause-memory c =
-    let p = err_from_is_err_and c.from_residual-in_err-name-in-Escape.result c.from_residual-in_err-name-in-Escape.ensures.1 in
-    let k = c.in_ok-stop.ensures.read in
-    let stops = subst (StopsAt k.0) c.in-Escape.is k.3 in
-    rw (p.1, p.2)
-    (λ e u r read. escape_not_plain c.in-Some.c (chars c.args.text.now) (chars c.in-Some.rest.now) (chars c.in_ok-stop.field-0-0.now) k.0 (chars c.in-Escape.behind.now) u r c.in-Some.ensures.chars c.if-c-eq92.false (sym c.if-not-is_json5_identifier_start.ensures) k.1 k.2
-    (stops.0 ∙ stops.1) read)
+pub returns-in_ok-name-in-Escape : goal.returns-in_ok-name-in-Escape
+returns-in_ok-name-in-Escape c =
+    let run = c.in_ok-stop.ensures in
+    let stops = subst (StopsAt run.rest) c.in-Escape.is run.stops in
+    let u = subst StopsText c.in-Escape.is run.stop_text in
+    let more = c.in_ok-name-in-Escape.ensures in
+    let raw = before_rest c.args.text.now (c.in-Some.c ∷ chars c.in_ok-stop.field-0-0.now) c.in-Escape.escape.now c.utf8.text u.0 (split_whole c.in-Some.c _ _ _ _ _ c.in-Some.ensures.chars run.split stops.0) c.range-raw.ensures.value in
+    record {
+      spelled = (c.in-Some.c ∷ chars c.in_ok-stop.field-0-0.now) ++ more.spelled;
+      plain = false;
+      read = escaped_name c.in-Some.c _ _ (chars c.in_ok-stop.field-0-0.now) _ more.spelled _ c.in-Some.ensures.chars c.if-c-eq92.false (sym c.if-not-is_json5_identifier_start.ensures)
+          (run.split ∙ ap (λ z. chars c.in_ok-stop.field-0-0.now ++ z) stops.0) run.raw more.read;
+      is_text = record { borrowed = refl; bytes = more.whole ∙ both_parts c.range-raw.result.now more.spelled c.range-raw.utf8 ∙ ap (λ z. encode_utf8_all (z ++ more.spelled)) raw };
+      text = more.text;
+    }

@@ -6,29 +6,40 @@ use Rattle.json5_text.proofs.ScanTokens.{left_counted}
 use Rattle.json5_text.proofs.ScanNames.{parts_end, no_part_from}
 use Rattle.json5_text.proofs.names.read_parts.Goals as goal
 
-pub returns-in_default-clause-read : goal.returns-in_default-clause-read
-returns-in_default-clause-read c =
-    let k = c.skip_parts-rest.ensures.read in
-    ap outcome (parts_end k.0 _ _ k.2 k.1 c.in_default.ensures.chars)
+pub returns-in_default : goal.returns-in_default
+returns-in_default c =
+    let run = c.skip_parts-rest.ensures in
+    record { refused = ap outcome (parts_end run.passed _ _ run.each run.split c.in_default.ensures.chars); known = tt }
 
 pub overflow_sub-text : goal.overflow_sub-text
-overflow_sub-text c =
-    let k = c.skip_parts-rest.ensures.read in
-    rw (left_counted c.skip_parts-rest.result.now c.skip_parts-rest.ensures.text) (left_fits (record { is_text = c.utf8.text; split = k.1 }))
+overflow_sub-text c = rw (left_counted c.skip_parts-rest.result.now c.skip_parts-rest.utf8) (left_fits (record { is_text = c.utf8.text; split = c.skip_parts-rest.ensures.split }))
 
 pub range-parts-requires-clause-end_boundary : goal.range-parts-requires-clause-end_boundary
 range-parts-requires-clause-end_boundary c =
-    let k = c.skip_parts-rest.ensures.read in
-    subst (λ n. IsCharBoundary c.args.text.now (length c.args.text.now - n)) (sym (left_counted c.skip_parts-rest.result.now c.skip_parts-rest.ensures.text)) (cut_half (record { is_text = c.utf8.text; split = k.1 }))
+    subst (λ n. IsCharBoundary c.args.text.now (length c.args.text.now - n)) (sym (left_counted c.skip_parts-rest.result.now c.skip_parts-rest.utf8)) (cut_half (record { is_text = c.utf8.text; split = c.skip_parts-rest.ensures.split }))
 
-pub returns-then-c-eq92-clause-read : goal.returns-then-c-eq92-clause-read
-returns-then-c-eq92-clause-read c =
-    let k = c.skip_parts-rest.ensures.read in
-    let raw = before_rest c.args.text.now k.0 c.skip_parts-rest.result.now c.utf8.text c.skip_parts-rest.ensures.text k.1 c.range-parts.ensures.value in
-    (chars c.skip_parts-rest.result.now, rw raw k.1, rw raw k.2, (refl, c.in-Some.ensures.chars ∙ ap (λ z. z ∷ chars c.in-Some.next.now) c.if-c-eq92.true))
+pub returns-then-c-eq92 : goal.returns-then-c-eq92
+returns-then-c-eq92 c =
+    let run = c.skip_parts-rest.ensures in
+    let raw = before_rest c.args.text.now run.passed c.skip_parts-rest.result.now c.utf8.text c.skip_parts-rest.utf8 run.split c.range-parts.ensures.value in
+    record {
+      rest = chars c.skip_parts-rest.result.now;
+      split = rw raw run.split;
+      raw = rw raw run.each;
+      stops = (refl, c.in-Some.ensures.chars ∙ ap (λ z. z ∷ chars c.in-Some.next.now) c.if-c-eq92.true);
+      text = c.range-parts.utf8;
+      stop_text = (c.skip_parts-rest.utf8, c.in-Some.ensures.text);
+    }
 
-pub returns-else-c-eq92-clause-read : goal.returns-else-c-eq92-clause-read
-returns-else-c-eq92-clause-read c =
-    let k = c.skip_parts-rest.ensures.read in
-    let raw = before_rest c.args.text.now k.0 c.skip_parts-rest.result.now c.utf8.text c.skip_parts-rest.ensures.text k.1 c.range-parts.ensures.value in
-    (chars c.skip_parts-rest.result.now, rw raw k.1, rw raw k.2, (refl, no_part_from c.in-Some.c _ _ c.in-Some.ensures.chars c.skip_parts-rest.ensures.stops c.if-c-eq92.false))
+pub returns-else-c-eq92 : goal.returns-else-c-eq92
+returns-else-c-eq92 c =
+    let run = c.skip_parts-rest.ensures in
+    let raw = before_rest c.args.text.now run.passed c.skip_parts-rest.result.now c.utf8.text c.skip_parts-rest.utf8 run.split c.range-parts.ensures.value in
+    record {
+      rest = chars c.skip_parts-rest.result.now;
+      split = rw raw run.split;
+      raw = rw raw run.each;
+      stops = (refl, no_part_from c.in-Some.c _ _ c.in-Some.ensures.chars run.stops c.if-c-eq92.false);
+      text = c.range-parts.utf8;
+      stop_text = c.skip_parts-rest.utf8;
+    }

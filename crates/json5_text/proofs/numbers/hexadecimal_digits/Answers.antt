@@ -3,12 +3,12 @@ use Rattle.std.specs.Char.{digit_value}
 use Rattle.json5_text.proofs.NumberSteps.{hex_other, hex_past}
 use Rattle.json5_text.proofs.numbers.hexadecimal_digits.Goals as goal
 
-pub returns-in_default-to_digit-clause-read : goal.returns-in_default-to_digit-clause-read
-returns-in_default-to_digit-clause-read c =
+pub returns-in_default-to_digit : goal.returns-in_default-to_digit
+returns-in_default-to_digit c =
     let h : 16 ≤ digit_value c.in-Some.c = grind (arith, c.in_default-to_digit.ensures.value) in
-    sym c.loop-c.invariant.same ∙ hex_other c.loop-c.value c.in-Some.c _ _ c.in-Some.ensures.chars h
+    record { read = sym c.loop-c.invariant.same ∙ hex_other c.loop-c.value c.in-Some.c _ _ c.in-Some.ensures.chars h; bound = c.loop-c.invariant.bound; text = c.loop-c.invariant.text }
 
-pub returns-in_default-one_more-clause-read : goal.returns-in_default-one_more-clause-read
-returns-in_default-one_more-clause-read c =
+pub returns-in_default-one_more : goal.returns-in_default-one_more
+returns-in_default-one_more c =
     let h = c.in-Some-to_digit.ensures.value in
-    sym c.loop-c.invariant.same ∙ hex_past c.loop-c.value c.in-Some.c _ _ c.in-Some.ensures.chars (grind (arith, h)) (grind (arith, h, c.in_default-one_more.ensures))
+    record { read = sym c.loop-c.invariant.same ∙ hex_past c.loop-c.value c.in-Some.c _ _ c.in-Some.ensures.chars (grind (arith, h)) (grind (arith, h, c.in_default-one_more.ensures)); text = c.loop-c.invariant.text }

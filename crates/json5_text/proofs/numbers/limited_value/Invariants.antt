@@ -7,5 +7,5 @@ abbrev pub invariant-loop-byte : goal.invariant-loop-byte
 invariant-loop-byte l = record {
   digits : Each is_digit (drop l.byte-index l.byte-items);
   bound : l.value ≤ 2 ^ 100;
-  same : capped (2 ^ 100) l.value (drop l.byte-index l.byte-items) ≡ capped (2 ^ 100) 0 l.fn.digits;
+  same : capped (2 ^ 100) l.value (drop l.byte-index l.byte-items) ≡ capped (2 ^ 100) 0 l.fn.exponent;
 }

@@ -5,29 +5,31 @@ use Rattle.json5_text.proofs.NumberSteps.{failed_here}
 use Rattle.json5_text.proofs.NumberCases.{unsigned_ends, unsigned_infinity, unsigned_nan, unsigned_zero, unsigned_run, unsigned_other}
 use Rattle.json5_text.proofs.numbers.unsigned.Goals as goal
 
-pub returns-in_default-clause-refused : goal.returns-in_default-clause-refused
-returns-in_default-clause-refused c = ap outcome (unsigned_ends (chars c.args.start.now) c.args.negative (chars c.args.text.now) c.in_default.ensures.chars)
+pub returns-in_default : goal.returns-in_default
+returns-in_default c = record { refused = ap outcome (unsigned_ends (chars c.args.start.now) c.args.negative (chars c.args.text.now) c.in_default.ensures.chars); memory = tt }
 
 pub returns-then-first-eq73 : goal.returns-then-first-eq73
 returns-then-first-eq73 c =
     let e = unsigned_infinity (chars c.args.start.now) c.args.negative (chars c.args.text.now) _ c.in-Some.first c.infinity.result c.in-Some.ensures.chars c.if-first-eq73.true c.infinity.ensures in
-    record { read = rw e c.word.ensures.read; refused = rw e c.word.ensures.refused; memory = rw e c.word.ensures.memory; text = c.word.ensures.text }
+    rw e c.word.ensures
 
 pub returns-then-first-eq78 : goal.returns-then-first-eq78
 returns-then-first-eq78 c =
     let e = unsigned_nan (chars c.args.start.now) c.args.negative (chars c.args.text.now) _ c.in-Some.first c.nan.result c.in-Some.ensures.chars c.if-first-eq78.true c.nan.ensures in
-    record { read = rw e c.word-then-first-eq78.ensures.read; refused = rw e c.word-then-first-eq78.ensures.refused; memory = rw e c.word-then-first-eq78.ensures.memory; text = c.word-then-first-eq78.ensures.text }
+    rw e c.word-then-first-eq78.ensures
 
 pub returns-then-first-eq48 : goal.returns-then-first-eq48
 returns-then-first-eq48 c =
     let e = unsigned_zero (chars c.args.start.now) c.args.negative (chars c.args.text.now) _ c.in-Some.first c.in-Some.ensures.chars c.if-first-eq48.true in
-    record { read = rw e c.after_zero.ensures.read; refused = rw e c.after_zero.ensures.refused; memory = rw e c.after_zero.ensures.memory; text = c.after_zero.ensures.text }
+    rw e c.after_zero.ensures
 
 pub returns-then-begins_run : goal.returns-then-begins_run
 returns-then-begins_run c =
     let e = unsigned_run (chars c.args.start.now) c.args.negative (chars c.args.text.now) _ c.in-Some.first _ c.in-Some.ensures.chars c.if-first-eq73.false c.if-first-eq78.false c.if-first-eq48.false c.begins_run.ensures c.if-begins_run.true in
-    record { read = rw e c.decimal_run.ensures.read; refused = rw e c.decimal_run.ensures.refused; memory = rw e c.decimal_run.ensures.memory; text = c.decimal_run.ensures.text }
+    rw e c.decimal_run.ensures
 
-pub returns-clause-refused : goal.returns-clause-refused
-returns-clause-refused c =
-    failed_here _ _ c.args.text.now c.utf8.text (unsigned_other (chars c.args.start.now) c.args.negative (chars c.args.text.now) _ c.in-Some.first _ c.in-Some.ensures.chars c.if-first-eq73.false c.if-first-eq78.false c.if-first-eq48.false c.begins_run.ensures c.if-begins_run.false)
+pub returns : goal.returns
+returns c = record {
+  refused = failed_here _ _ c.args.text.now c.utf8.text (unsigned_other (chars c.args.start.now) c.args.negative (chars c.args.text.now) _ c.in-Some.first _ c.in-Some.ensures.chars c.if-first-eq73.false c.if-first-eq78.false c.if-first-eq48.false c.begins_run.ensures c.if-begins_run.false);
+  memory = tt;
+}

@@ -5,7 +5,7 @@ pub returns-clause-judged : goal.returns-clause-judged
 returns-clause-judged c = blanks_judged
 
 pub returns-clause-same : goal.returns-clause-same
-returns-clause-same c = λ x b d p q e f here there h i g k. one_blank_fault g k
+returns-clause-same c = λ x b d. one_blank_fault
 
 pub returns-clause-refused : goal.returns-clause-refused
-returns-clause-refused c = λ w r b p e place h g s f. no_blank_fault g s f
+returns-clause-refused c = λ w r b g s f. no_blank_fault g s f

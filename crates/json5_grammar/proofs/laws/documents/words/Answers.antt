@@ -5,7 +5,7 @@ pub returns-clause-judged : goal.returns-clause-judged
 returns-clause-judged c = word_judged
 
 pub returns-clause-same : goal.returns-clause-same
-returns-clause-same c = λ x p q e f here there h i g k. one_word_fault g k
+returns-clause-same c = λ x b d f g. one_word_fault f.1 g.1
 
 pub returns-clause-refused : goal.returns-clause-refused
-returns-clause-refused c = λ w r p wrong eof e place h k f. no_word_fault r k f
+returns-clause-refused c = λ w r wrong eof b k f. no_word_fault r k f.1

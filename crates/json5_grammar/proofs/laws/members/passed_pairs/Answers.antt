@@ -2,7 +2,7 @@ use Rattle.json5_grammar.proofs.MembersPairs.{pairs_more, pairs_tail, pairs_clos
 use Rattle.json5_grammar.proofs.laws.members.passed_pairs.Goals as goal
 
 pub returns-clause-next : goal.returns-clause-next
-returns-clause-next c = pairs_more
+returns-clause-next c = λ due now x y ps passed k z u p t. pairs_more ps due now x y k z u p t passed
 
 pub returns-clause-tail : goal.returns-clause-tail
 returns-clause-tail c = pairs_tail

@@ -2,7 +2,7 @@ use Rattle.json5_grammar.proofs.TextPartOf.{string_part, name_part}
 use Rattle.json5_grammar.proofs.laws.texts.blamed_parts.Goals as goal
 
 pub returns-clause-strings : goal.returns-clause-strings
-returns-clause-strings c = λ x b p e pl h f. string_part f
+returns-clause-strings c = λ x b f. string_part f
 
 pub returns-clause-names : goal.returns-clause-names
-returns-clause-names c = λ x b p e pl h f. name_part f
+returns-clause-names c = λ x b f. name_part f

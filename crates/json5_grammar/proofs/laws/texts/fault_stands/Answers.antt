@@ -1,8 +1,13 @@
+use Rattle.std.proofs.Common.{◌++◌, sym, subst}
+use Rattle.json5_grammar.specs.StringFaults.{StringFault}
+use Rattle.json5_grammar.specs.NameFaults.{NameFault}
 use Rattle.json5_grammar.proofs.TextFollows.{string_follows, name_follows}
 use Rattle.json5_grammar.proofs.laws.texts.fault_stands.Goals as goal
 
 pub returns-clause-strings : goal.returns-clause-strings
-returns-clause-strings c = λ x b p z e pl f. string_follows z f
+returns-clause-strings c = λ x z b k.
+    subst (StringFault ((b.before ++ b.part) ++ z) b.code b.place b.before b.part) (sym k.shown) (string_follows z (subst (StringFault x b.code b.place b.before b.part) k.shown k.fault))
 
 pub returns-clause-names : goal.returns-clause-names
-returns-clause-names c = λ x b p z e pl f. name_follows z f
+returns-clause-names c = λ x z b k.
+    subst (NameFault ((b.before ++ b.part) ++ z) b.code b.place b.before b.part) (sym k.shown) (name_follows z (subst (NameFault x b.code b.place b.before b.part) k.shown k.fault))

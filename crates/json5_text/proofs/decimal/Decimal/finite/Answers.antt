@@ -6,10 +6,10 @@ use Rattle.json5_text.proofs.NumberRuns.{something_follows, nothing_follows}
 use Rattle.json5_text.proofs.NumberZeros.{widened}
 use Rattle.json5_text.proofs.decimal.Decimal.finite.Goals as goal
 
-pub returns-then-not-is_empty-clause-some : goal.returns-then-not-is_empty-clause-some
-returns-then-not-is_empty-clause-some c =
+pub returns-then-not-is_empty : goal.returns-then-not-is_empty
+returns-then-not-is_empty c =
     let k = rw c.split_digits.ensures.rest_bytes at c.is_empty.ensures in
-    (λ h. absurd (cc), λ p. absurd (something_follows is_digit c.args.digits.now c.is_empty.result k c.if-not-is_empty.true p.0))
+    record { some = (λ h. absurd (cc), λ p. absurd (something_follows is_digit c.args.digits.now c.is_empty.result k c.if-not-is_empty.true p.0)); value = tt }
 
 pub normal-requires-clause-before_digits : goal.normal-requires-clause-before_digits
 normal-requires-clause-before_digits c = rw c.split_digits.ensures.front_bytes (front_each is_digit c.args.digits.now)
@@ -17,19 +17,14 @@ normal-requires-clause-before_digits c = rw c.split_digits.ensures.front_bytes (
 pub normal-requires-clause-behind_digits : goal.normal-requires-clause-behind_digits
 normal-requires-clause-behind_digits c = no_char
 
-pub returns-clause-some : goal.returns-clause-some
-returns-clause-some c =
+pub returns : goal.returns
+returns c =
     let k = rw c.split_digits.ensures.rest_bytes at c.is_empty.ensures in
     let all = nothing_follows is_digit c.args.digits.now c.is_empty.result k c.if-not-is_empty.false in
     let e = widened c.args.exponent c.from.result c.ranges.exponent c.from.ensures in
     let d = append-nil c.split_digits.result.0.now ∙ c.split_digits.ensures.front_bytes ∙ all in
     let y = rw (d, e) at c.in_ok-found.ensures.in_range in
-    (λ h. (subst (Each is_digit) all (front_each is_digit c.args.digits.now), y.0 h), λ p. y.1 p.1)
-
-pub returns-clause-value : goal.returns-clause-value
-returns-clause-value c =
-    let k = rw c.split_digits.ensures.rest_bytes at c.is_empty.ensures in
-    let all = nothing_follows is_digit c.args.digits.now c.is_empty.result k c.if-not-is_empty.false in
-    let e = widened c.args.exponent c.from.result c.ranges.exponent c.from.ensures in
-    let d = append-nil c.split_digits.result.0.now ∙ c.split_digits.ensures.front_bytes ∙ all in
-    rw (d, e) at c.in_ok-found.ensures.value
+    record {
+      some = (λ h. (subst (Each is_digit) all (front_each is_digit c.args.digits.now), y.0 h), λ p. y.1 p.1);
+      value = rw (d, e) at c.in_ok-found.ensures.value;
+    }

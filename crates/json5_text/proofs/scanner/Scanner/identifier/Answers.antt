@@ -1,4 +1,4 @@
-use Rattle.std.proofs.Common.{◌∙◌}
+use Rattle.std.proofs.Common.{refl, ◌∙◌}
 use Rattle.std.specs.Str.{chars}
 use Rattle.json5_grammar.specs.ReadTexts.{identifier}
 use Rattle.json5_text.specs.Tokens.{FaultyName}
@@ -7,32 +7,32 @@ use Rattle.json5_text.proofs.ScanTokens.{left_counted, leaves_rest, name_taken, 
 use Rattle.json5_text.proofs.scanner.Scanner.identifier.Goals as goal
 
 pub fault-requires : goal.fault-requires
-fault-requires g c = refusal_in FaultyName c.args.self.now c.in-Err.refusal (identifier (chars c.borrowed_rest.result.now)) (name_faulty _ _ c.borrowed_rest.ensures) c.in-Err.ensures.read
+fault-requires g c = refusal_in FaultyName c.args.self.now c.in-Err.refusal (identifier (chars c.rest.result.now)) (name_faulty _ _ c.rest.ensures) c.in-Err.ensures.refused
 
-pub returns-in-Err-clause-refused : goal.returns-in-Err-clause-refused
-returns-in-Err-clause-refused g c =
-    refused FaultyName c.args.self.now c.fault.result c.in-Err.refusal (identifier (chars c.borrowed_rest.result.now)) (name_faulty _ _ c.borrowed_rest.ensures) c.in-Err.ensures.read c.fault.ensures
+pub returns-in-Err : goal.returns-in-Err
+returns-in-Err g c = record {
+  taken = tt;
+  stops = tt;
+  refused = refused FaultyName c.args.self.now c.fault.result c.in-Err.refusal (identifier (chars c.rest.result.now)) (name_faulty _ _ c.rest.ensures) c.in-Err.ensures.refused c.fault.ensures;
+  kept = refl;
+  plain = λ s u r d split is_name stops. absurd (plain_name_memory (chars c.rest.result.now) c.args.self.now.unread s u r d c.in-Err.refusal c.rest.ensures c.in-Err.ensures.refused c.in-Err.ensures.memory split is_name stops);
+}
 
 pub leave-requires : goal.leave-requires
 leave-requires g c =
-    let read = c.in-Ok.ensures.read in
-    let k = name_taken (chars c.borrowed_rest.result.now) c.args.self.now.unread read.0 (chars c.in-Ok.rest.now) read.1 c.borrowed_rest.ensures read.2 in
-    leaves_rest k.name c.in-Ok.rest.now k.split c.in-Ok.ensures.text
+    let given = c.in-Ok.ensures in
+    let k = name_taken (chars c.rest.result.now) c.args.self.now.unread given.spelled (chars c.in-Ok.rest.now) given.plain c.rest.ensures given.read in
+    leaves_rest k.name c.in-Ok.rest.now k.split given.text
 
-pub returns-clause-taken : goal.returns-clause-taken
-returns-clause-taken g c =
-    let read = c.in-Ok.ensures.read in
-    let k = name_taken (chars c.borrowed_rest.result.now) c.args.self.now.unread read.0 (chars c.in-Ok.rest.now) read.1 c.borrowed_rest.ensures read.2 in
-    let l = c.leave.ensures k.name (chars c.in-Ok.rest.now) k.split (left_counted c.in-Ok.rest.now c.in-Ok.ensures.text) in
-    (k.name, read.0, read.1, l.0, k.is_name, read.3.0, read.3.1)
-
-pub returns-clause-stops : goal.returns-clause-stops
-returns-clause-stops g c =
-    let read = c.in-Ok.ensures.read in
-    let k = name_taken (chars c.borrowed_rest.result.now) c.args.self.now.unread read.0 (chars c.in-Ok.rest.now) read.1 c.borrowed_rest.ensures read.2 in
-    let l = c.leave.ensures k.name (chars c.in-Ok.rest.now) k.split (left_counted c.in-Ok.rest.now c.in-Ok.ensures.text) in
-    (k.stops.0, k.stops.1, l.1 ∙ k.stops.2, k.stops.3)
-
-pub returns-in-Err-clause-plain : goal.returns-in-Err-clause-plain
-returns-in-Err-clause-plain g c =
-    λ s u r d split is_name stops. absurd (plain_name_memory (chars c.borrowed_rest.result.now) c.args.self.now.unread s u r d c.in-Err.refusal c.borrowed_rest.ensures c.in-Err.ensures.read c.in-Err.ensures.memory split is_name stops)
+pub returns : goal.returns
+returns g c =
+    let given = c.in-Ok.ensures in
+    let k = name_taken (chars c.rest.result.now) c.args.self.now.unread given.spelled (chars c.in-Ok.rest.now) given.plain c.rest.ensures given.read in
+    let l = c.leave.ensures k.name (chars c.in-Ok.rest.now) k.split (left_counted c.in-Ok.rest.now given.text) in
+    record {
+      taken = (k.name, given.spelled, given.plain, l.0, k.is_name, given.is_text.borrowed, given.is_text.bytes);
+      stops = (k.stops.0, k.stops.1, l.1 ∙ k.stops.2, k.stops.3);
+      refused = tt;
+      kept = tt;
+      plain = λ s u r d split is_name stops. refl;
+    }

@@ -1,4 +1,4 @@
-use Rattle.std.proofs.Common.{sym, subst}
+use Rattle.std.proofs.Common.{refl, sym, subst}
 use Rattle.std.specs.Str.{chars}
 use Rattle.json5_grammar.specs.Characters.{NotBegun}
 use Rattle.json5_grammar.specs.Stops.{lengthens}
@@ -13,21 +13,21 @@ use Rattle.json5_text.proofs.scanner.Scanner.number.Goals as goal
 pub fault-requires : goal.fault-requires
 fault-requires g c = refusal_in FaultyNumber c.args.self.now c.in-Err.refusal (number (chars c.rest.result.now)) (number_faulty _ _ c.rest.ensures) c.in-Err.ensures.refused
 
-pub returns-in-Err-clause-refused : goal.returns-in-Err-clause-refused
-returns-in-Err-clause-refused g c =
-    refused FaultyNumber c.args.self.now c.fault.result c.in-Err.refusal (number (chars c.rest.result.now)) (number_faulty _ _ c.rest.ensures) c.in-Err.ensures.refused c.fault.ensures
+pub returns-in-Err : goal.returns-in-Err
+returns-in-Err g c = record {
+  taken = tt;
+  refused = refused FaultyNumber c.args.self.now c.fault.result c.in-Err.refusal (number (chars c.rest.result.now)) (number_faulty _ _ c.rest.ensures) c.in-Err.ensures.refused c.fault.ensures;
+  kept = refl;
+  memory = λ s r n split num stops free. absurd (number_memory (chars c.rest.result.now) c.args.self.now.unread s r n c.in-Err.refusal c.rest.ensures c.in-Err.ensures.refused c.in-Err.ensures.memory split num stops free);
+}
 
 pub leave-requires : goal.leave-requires
 leave-requires g c =
     let k = number_taken (chars c.rest.result.now) c.args.self.now.unread (chars c.in-Ok.rest.now) (number_of c.in-Ok.number) c.rest.ensures c.in-Ok.ensures.read in
     leaves_rest k.literal c.in-Ok.rest.now k.split c.in-Ok.ensures.text
 
-pub returns-clause-taken : goal.returns-clause-taken
-returns-clause-taken g c =
+pub returns : goal.returns
+returns g c =
     let k = number_taken (chars c.rest.result.now) c.args.self.now.unread (chars c.in-Ok.rest.now) (number_of c.in-Ok.number) c.rest.ensures c.in-Ok.ensures.read in
     let l = c.leave.ensures k.literal (chars c.in-Ok.rest.now) k.split (left_counted c.in-Ok.rest.now c.in-Ok.ensures.text) in
-    (k.literal, l.0, k.is_number, subst (NotBegun (lengthens k.literal)) (sym l.1) k.stops)
-
-pub returns-in-Err-clause-memory : goal.returns-in-Err-clause-memory
-returns-in-Err-clause-memory g c =
-    λ s r n split num stops free. absurd (number_memory (chars c.rest.result.now) c.args.self.now.unread s r n c.in-Err.refusal c.rest.ensures c.in-Err.ensures.refused c.in-Err.ensures.memory split num stops free)
+    record { taken = (k.literal, l.0, k.is_number, subst (NotBegun (lengthens k.literal)) (sym l.1) k.stops); refused = tt; kept = tt; memory = λ s r n split num stops free. refl }

@@ -1,4 +1,4 @@
-use Rattle.std.proofs.Common.{sym, subst}
+use Rattle.std.proofs.Common.{refl, sym, subst}
 use Rattle.std.specs.Str.{chars}
 use Rattle.json5_grammar.specs.Blanks.{Gap, Solid}
 use Rattle.json5_grammar.specs.ReadBlanks.{skip, between}
@@ -8,19 +8,22 @@ use Rattle.json5_text.proofs.ScanTokens.{left_counted, leaves_rest, blanks_passe
 use Rattle.json5_text.proofs.scanner.Scanner.skip_blank.Goals as goal
 
 pub fault-requires : goal.fault-requires
-fault-requires g c = refusal_in FaultyBlanks c.args.self.now c.in-Err.refusal (skip between (chars c.rest.result.now)) (blanks_faulty _ _ c.rest.ensures) c.in-Err.ensures.passed
+fault-requires g c = refusal_in FaultyBlanks c.args.self.now c.in-Err.refusal (skip between (chars c.rest.result.now)) (blanks_faulty _ _ c.rest.ensures) c.in-Err.ensures.refused
 
-pub returns-in-Err-clause-refused : goal.returns-in-Err-clause-refused
-returns-in-Err-clause-refused g c =
-    coded FaultyBlanks c.args.self.now c.fault.result c.in-Err.refusal (skip between (chars c.rest.result.now)) (blanks_faulty _ _ c.rest.ensures) c.in-Err.ensures.passed c.in-Err.ensures.known c.fault.ensures
+pub returns-in-Err : goal.returns-in-Err
+returns-in-Err g c = record {
+  passed = tt;
+  refused = coded FaultyBlanks c.args.self.now c.fault.result c.in-Err.refusal (skip between (chars c.rest.result.now)) (blanks_faulty _ _ c.rest.ensures) c.in-Err.ensures.refused c.in-Err.ensures.known c.fault.ensures;
+  kept = refl;
+}
 
 pub leave-requires : goal.leave-requires
 leave-requires g c =
-    let k = blanks_passed _ _ _ c.rest.ensures c.in-Ok.ensures.passed in
+    let k = blanks_passed _ _ _ c.rest.ensures c.in-Ok.ensures.read in
     leaves_rest k.gap c.in-Ok.rest.now k.split c.in-Ok.ensures.text
 
-pub returns-clause-passed : goal.returns-clause-passed
-returns-clause-passed g c =
-    let k = blanks_passed _ _ _ c.rest.ensures c.in-Ok.ensures.passed in
+pub returns : goal.returns
+returns g c =
+    let k = blanks_passed _ _ _ c.rest.ensures c.in-Ok.ensures.read in
     let l = c.leave.ensures k.gap (chars c.in-Ok.rest.now) k.split (left_counted c.in-Ok.rest.now c.in-Ok.ensures.text) in
-    (k.gap, l.0, subst (Gap k.gap) (sym l.1) k.blank, subst Solid (sym l.1) k.solid)
+    record { passed = (k.gap, l.0, subst (Gap k.gap) (sym l.1) k.blank, subst Solid (sym l.1) k.solid); refused = tt; kept = tt }

@@ -1,3 +1,4 @@
+use Rattle.std.proofs.Common.{refl}
 use Rattle.std.specs.Str.{chars}
 use Rattle.json5_text.specs.ScanStrings.{string_at}
 use Rattle.json5_text.specs.Tokens.{FaultyString}
@@ -6,21 +7,28 @@ use Rattle.json5_text.proofs.ScanTokens.{left_counted, leaves_rest, string_taken
 use Rattle.json5_text.proofs.scanner.Scanner.string_owned.Goals as goal
 
 pub fault-requires : goal.fault-requires
-fault-requires g c = refusal_in FaultyString c.args.self.now c.in-Err.refusal (string_at (chars c.rest.result.now)) (string_faulty _ _ c.rest.ensures) c.in-Err.ensures.read
+fault-requires g c = refusal_in FaultyString c.args.self.now c.in-Err.refusal (string_at (chars c.rest.result.now)) (string_faulty _ _ c.rest.ensures) c.in-Err.ensures
 
-pub returns-in-Err-clause-refused : goal.returns-in-Err-clause-refused
-returns-in-Err-clause-refused g c =
-    refused FaultyString c.args.self.now c.fault.result c.in-Err.refusal (string_at (chars c.rest.result.now)) (string_faulty _ _ c.rest.ensures) c.in-Err.ensures.read c.fault.ensures
+pub returns-in-Err : goal.returns-in-Err
+returns-in-Err g c = record {
+  taken = tt;
+  refused = refused FaultyString c.args.self.now c.fault.result c.in-Err.refusal (string_at (chars c.rest.result.now)) (string_faulty _ _ c.rest.ensures) c.in-Err.ensures c.fault.ensures;
+  kept = refl;
+}
 
 pub leave-requires : goal.leave-requires
 leave-requires g c =
-    let read = c.in-Ok.ensures.read in
-    let k = string_taken (chars c.rest.result.now) c.args.self.now.unread read.0 (chars c.in-Ok.rest.now) read.1 c.rest.ensures read.2 in
-    leaves_rest k.string c.in-Ok.rest.now k.split c.in-Ok.ensures.text
+    let given = c.in-Ok.ensures in
+    let k = string_taken (chars c.rest.result.now) c.args.self.now.unread given.spelled (chars c.in-Ok.rest.now) given.plain c.rest.ensures given.read in
+    leaves_rest k.string c.in-Ok.rest.now k.split given.text
 
-pub returns-clause-taken : goal.returns-clause-taken
-returns-clause-taken g c =
-    let read = c.in-Ok.ensures.read in
-    let k = string_taken (chars c.rest.result.now) c.args.self.now.unread read.0 (chars c.in-Ok.rest.now) read.1 c.rest.ensures read.2 in
-    let l = c.leave.ensures k.string (chars c.in-Ok.rest.now) k.split (left_counted c.in-Ok.rest.now c.in-Ok.ensures.text) in
-    (k.string, read.0, read.1, l.0, k.is_string, read.3)
+pub returns : goal.returns
+returns g c =
+    let given = c.in-Ok.ensures in
+    let k = string_taken (chars c.rest.result.now) c.args.self.now.unread given.spelled (chars c.in-Ok.rest.now) given.plain c.rest.ensures given.read in
+    let l = c.leave.ensures k.string (chars c.in-Ok.rest.now) k.split (left_counted c.in-Ok.rest.now given.text) in
+    record {
+      taken = (k.string, given.spelled, given.plain, l.0, k.is_string, given.is_text);
+      refused = tt;
+      kept = tt;
+    }

@@ -1,0 +1,107 @@
+-- What functions below the scanner answer: what reading on lists gives, or a refusal with its fault. Private clauses and proofs alone cite it.
+use Rattle.std.specs.Prelude.{◌≡◌, ℕ, Bool, true, false, List, ◌++◌, Result, Ok, Err, String, string_bytes}
+use denote.Ref.{Bor}
+use Rattle.std.specs.Str.{IsUtf8, chars, encode_utf8_all}
+use Rattle.json5_grammar.specs.Numbers.{Number}
+use Rattle.json5_grammar.specs.Reading.{Read, got}
+use Rattle.json5_text.specs.declared.cow_str.CowStr.{CowStr}
+use Rattle.json5_text.specs.declared.number.Number.{Number as Found}
+use Rattle.json5_text.specs.declared.refusal.Refusal.{Refusal}
+use Rattle.json5_text.specs.declared.refusal.Refusal.TheVariants as refusal
+use Rattle.json5_text.specs.Cows.{cow_bytes, is_borrowed}
+use Rattle.json5_text.specs.NumberViews.{number_of}
+use Rattle.json5_text.specs.Outcome.{outcome}
+use Rattle.json5_text.specs.Refused.{Refuses, WantsForDigits}
+use Rattle.json5_text.specs.Scan.{HasCode}
+
+-- reading gives this value and leaves this rest
+pub record Gives {V : Type 0} (reading : Read V) (value : V) (rest : List ℕ) : Type 0 where
+  pub read : reading ≡ got value (chars rest)
+  pub text : IsUtf8 rest
+
+-- ---- values
+
+-- the value in front, seen by the view, and what follows it; or the fault
+abbrev pub AnswersAs : {A V : Type 0} → (A → V) → Read V → Result (A × Bor (List ℕ)) Refusal → Type 0
+AnswersAs view reading (Ok p) = Gives reading (view p.0) p.1.now
+AnswersAs view reading (Err e) = Refuses e (outcome reading)
+
+abbrev pub Answers : {A : Type 0} → Read A → Result (A × Bor (List ℕ)) Refusal → Type 0
+Answers reading result = AnswersAs (λ value. value) reading result
+
+-- ---- what is passed over
+
+-- the fault, which has a code
+pub record RefusesByCode {V : Type 0} (e : Refusal) (reading : Read V) : Type 0 where
+  pub refused : Refuses e (outcome reading)
+  pub known : HasCode e
+
+-- what follows it; or the fault
+abbrev pub Skips : Read (Unit {0}) → Result (Bor (List ℕ)) Refusal → Type 0
+Skips reading (Ok rest) = Gives reading tt rest.now
+Skips reading (Err e) = RefusesByCode e reading
+
+-- ---- numbers
+
+-- the fault; memory is wanted for digits alone
+pub record RefusesNumber (e : Refusal) (reading : Read Number) : Type 0 where
+  pub refused : Refuses e (outcome reading)
+  pub memory : WantsForDigits e reading
+
+-- the number in front, seen by the view, and what follows it; or the fault
+abbrev pub AnswersNumber : {A : Type 0} → (A → Number) → Read Number → Result (A × Bor (List ℕ)) Refusal → Type 0
+AnswersNumber view reading (Ok p) = Gives reading (view p.0) p.1.now
+AnswersNumber view reading (Err e) = RefusesNumber e reading
+
+-- reading gives this number and leaves the rest; or the fault
+abbrev pub Judges : Read Number → List ℕ → Result Found Refusal → Type 0
+Judges reading rest (Ok number) = reading ≡ got (number_of number) rest
+Judges reading rest (Err e) = RefusesNumber e reading
+
+-- ---- texts
+
+-- reading gives a text that this value is, and leaves this rest
+pub record GivesText {T : Type 0} (IsText : T → List ℕ → Bool → Type 0) (reading : Read (List ℕ × Bool)) (value : T) (rest : List ℕ) : Type 0 where
+  pub spelled : List ℕ
+  pub plain : Bool
+  pub read : reading ≡ got (spelled, plain) (chars rest)
+  pub is_text : IsText value spelled plain
+  pub text : IsUtf8 rest
+
+-- the text, borrowed where it is plain
+pub record IsCow (value : CowStr) (spelled : List ℕ) (plain : Bool) : Type 0 where
+  pub borrowed : is_borrowed value ≡ plain
+  pub bytes : cow_bytes value ≡ encode_utf8_all spelled
+
+abbrev pub IsOwned : {A : Type 0} → String A → List ℕ → Bool → Type 0
+IsOwned value spelled plain = string_bytes value ≡ encode_utf8_all spelled
+
+-- no plain text is refused for want of memory
+abbrev pub SparesPlain : Refusal → Read (List ℕ × Bool) → Type 0
+SparesPlain e reading = e ≡ refusal.OutOfMemory → (spelled rest : List ℕ) → reading ≡ got (spelled, true) rest → ⊥
+
+pub record RefusesText (e : Refusal) (reading : Read (List ℕ × Bool)) : Type 0 where
+  pub refused : Refuses e (outcome reading)
+  pub memory : SparesPlain e reading
+
+-- the text in front, borrowed where it is plain, and what follows it; or the fault
+abbrev pub AnswersCow : Read (List ℕ × Bool) → Result (CowStr × Bor (List ℕ)) Refusal → Type 0
+AnswersCow reading (Ok p) = GivesText IsCow reading p.0 p.1.now
+AnswersCow reading (Err e) = RefusesText e reading
+
+-- the same in memory of its own
+abbrev pub AnswersOwned : {A : Type 0} → Read (List ℕ × Bool) → Result (String A × Bor (List ℕ)) Refusal → Type 0
+AnswersOwned reading (Ok p) = GivesText IsOwned reading p.0 p.1.now
+AnswersOwned reading (Err e) = Refuses e (outcome reading)
+
+-- reading gives a text with an escape, whose bytes follow those in front, and leaves this rest
+pub record GivesMore (front : List ℕ) (reading : Read (List ℕ × Bool)) (bytes rest : List ℕ) : Type 0 where
+  pub spelled : List ℕ
+  pub read : reading ≡ got (spelled, false) (chars rest)
+  pub whole : bytes ≡ front ++ encode_utf8_all spelled
+  pub text : IsUtf8 rest
+
+-- the rest of a text from an escape on, with the bytes in front, and what follows it; or the fault
+abbrev pub AnswersMore : {A : Type 0} → List ℕ → Read (List ℕ × Bool) → Result (String A × Bor (List ℕ)) Refusal → Type 0
+AnswersMore front reading (Ok p) = GivesMore front reading (string_bytes p.0) p.1.now
+AnswersMore front reading (Err e) = Refuses e (outcome reading)

@@ -1,0 +1,15 @@
+-- What private clauses say of comments.
+use Rattle.std.specs.Prelude.{◌≡◌, ◌≤◌, List, ℕ, length, Some}
+use Rattle.std.specs.Str.{chars}
+use Rattle.json5_grammar.specs.declared.code.ErrorCode.TheVariants.{EofParsingComment}
+use Rattle.json5_grammar.specs.Reading.{bad, inner}
+use Rattle.json5_grammar.specs.ReadBlanks.{Mode, skip, between}
+
+-- the comment ends in the text, before the rest
+pub record Continues (mode : Mode) (text rest : List ℕ) : Type 0 where
+  pub passed : skip mode (chars text) ≡ skip between (chars rest)
+  pub shorter : length rest ≤ length text
+
+-- the text ends in a comment between `/*` and `*/`
+abbrev pub IsUnclosed : List ℕ → Type 0
+IsUnclosed text = skip Mode.block text ≡ bad (Some EofParsingComment) inner

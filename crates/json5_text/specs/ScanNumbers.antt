@@ -1,0 +1,17 @@
+-- What private clauses say of hexadecimal digits.
+use Rattle.std.specs.Prelude.{◌≡◌, ◌<◌, ◌^◌, ℕ, List, Some}
+use Rattle.std.specs.Str.{IsUtf8, chars}
+use Rattle.json5_grammar.specs.declared.code.ErrorCode.TheVariants.{OverflowParsingNumber}
+use Rattle.json5_grammar.specs.Reading.{got, bad, here}
+use Rattle.json5_grammar.specs.ReadNumbers.{hex_digits}
+
+-- the digits of x have this value, within 128 bits, and the rest follows them
+pub record GivesHex (x : List ℕ) (value : ℕ) (rest : List ℕ) : Type 0 where
+  pub read : hex_digits 0 x ≡ got value (chars rest)
+  pub bound : value < 2 ^ 128
+  pub text : IsUtf8 rest
+
+-- the digit with which the rest begins takes the value past 128 bits
+pub record Overflows (x rest : List ℕ) : Type 0 where
+  pub read : hex_digits 0 x ≡ bad (Some OverflowParsingNumber) (here (chars rest))
+  pub text : IsUtf8 rest

@@ -1,0 +1,58 @@
+-- What each call of the scanner promises: a token in front is taken whole, or refused with one of its faults, and then nothing is taken.
+use Rattle.std.specs.Prelude.{◌≡◌, ℕ, Bool, true, false, List, ◌∷◌, ◌++◌, ◌⊎◌, Result, String, string_bytes, IfOk, IfErr, OnOk, OnErr, IsOk}
+use Rattle.std.specs.Str.{encode_utf8_all}
+use Rattle.json5_grammar.specs.declared.code.ErrorCode.{ErrorCode}
+use Rattle.json5_grammar.specs.Characters.{NotBegun}
+use Rattle.json5_grammar.specs.Blanks.{Gap, Solid}
+use Rattle.json5_grammar.specs.Names.{Ident, goes_on_name}
+use Rattle.json5_grammar.specs.Numbers as numbers
+use Rattle.json5_grammar.specs.Numbers.{Num}
+use Rattle.json5_grammar.specs.Stops.{lengthens}
+use Rattle.json5_grammar.specs.Strings.{Str}
+use Rattle.json5_text.specs.declared.cow_str.CowStr.{CowStr}
+use Rattle.json5_text.specs.declared.error.Error.{Error}
+use Rattle.json5_text.specs.declared.number.Number.{Number}
+use Rattle.json5_text.specs.Cows.{cow_bytes, is_borrowed}
+use Rattle.json5_text.specs.Cursor.{Cursor, Refused, Took, IsOutOfMemory}
+use Rattle.json5_text.specs.NumberViews.{number_of, keeps_digits}
+use Rattle.json5_text.specs.Tokens.{FaultyBlanks, FaultyWord, FaultyNumber, FaultyString, FaultyName}
+
+-- blanks are passed over, up to what is none
+pub record PassesBlanks (old new : Cursor) (result : Result (Unit {0}) Error) : Type 0 where
+  pub passed : OnOk result ((w : List ℕ) × Took old w new × Gap w new.unread × Solid new.unread)
+  pub refused : IfErr result (λ e. Refused FaultyBlanks old e)
+  pub kept : OnErr result (new ≡ old)
+
+-- the word is taken
+pub record TakesWord (w : List ℕ) (ends differs : ErrorCode) (old new : Cursor) (result : Result (Unit {0}) Error) : Type 0 where
+  pub taken : OnOk result (Took old w new)
+  pub refused : IfErr result (λ e. Refused (FaultyWord w ends differs) old e)
+  pub kept : OnErr result (new ≡ old)
+
+-- a number is taken; memory is wanted for digits that are kept, and at a refusal
+pub record TakesNumber (old new : Cursor) (result : Result Number Error) : Type 0 where
+  pub taken : IfOk result (λ n. (s : List ℕ) × Took old s new × Num s (number_of n) × NotBegun (lengthens s) new.unread)
+  pub refused : IfErr result (λ e. IsOutOfMemory e ⊎ Refused FaultyNumber old e)
+  pub kept : OnErr result (new ≡ old)
+  pub memory : (s r : List ℕ) (n : numbers.Number) → old.unread ≡ s ++ r → Num s n → NotBegun (lengthens s) r → keeps_digits n ≡ false → IsOk result
+
+-- a string is taken, its text in memory of its own
+pub record TakesOwned {A : Type 0} (old new : Cursor) (result : Result (String A) Error) : Type 0 where
+  pub taken : IfOk result (λ t. (s u : List ℕ) × (plain : Bool) × Took old s new × Str s u plain × (string_bytes t ≡ encode_utf8_all u))
+  pub refused : IfErr result (λ e. IsOutOfMemory e ⊎ Refused FaultyString old e)
+  pub kept : OnErr result (new ≡ old)
+
+-- a string is taken, its text borrowed where it is plain; memory is wanted where it isn't, and at a refusal
+pub record TakesString (old new : Cursor) (result : Result CowStr Error) : Type 0 where
+  pub taken : IfOk result (λ t. (s u : List ℕ) × (plain : Bool) × Took old s new × Str s u plain × (is_borrowed t ≡ plain) × (cow_bytes t ≡ encode_utf8_all u))
+  pub refused : IfErr result (λ e. IsOutOfMemory e ⊎ Refused FaultyString old e)
+  pub kept : OnErr result (new ≡ old)
+  pub plain : (s u r : List ℕ) → old.unread ≡ s ++ r → Str s u true → IsOk result
+
+-- a name is taken as far as it goes, its text borrowed where it is plain; memory is wanted where it isn't, and at a refusal
+pub record TakesName (old new : Cursor) (result : Result CowStr Error) : Type 0 where
+  pub taken : IfOk result (λ t. (s u : List ℕ) × (plain : Bool) × Took old s new × Ident s u plain × (is_borrowed t ≡ plain) × (cow_bytes t ≡ encode_utf8_all u))
+  pub stops : OnOk result ((c : ℕ) × (r : List ℕ) × (new.unread ≡ c ∷ r) × (goes_on_name c ≡ false))
+  pub refused : IfErr result (λ e. IsOutOfMemory e ⊎ Refused FaultyName old e)
+  pub kept : OnErr result (new ≡ old)
+  pub plain : (s u r : List ℕ) (c : ℕ) → old.unread ≡ s ++ c ∷ r → Ident s u true → goes_on_name c ≡ false → IsOk result
