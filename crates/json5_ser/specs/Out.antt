@@ -5,6 +5,7 @@ use Rattle.json5_grammar.specs.Characters.{line_feed, comma_sign, colon_sign, le
 use Rattle.json5_grammar.specs.Numbers.{Number}
 use Rattle.json5_grammar.specs.NumberText.{number_text}
 use Rattle.json5_grammar.specs.Quoting.{quoted_text, key_text}
+use Rattle.json5_grammar.specs.Documents.{max_depth}
 use Rattle.json5_grammar.specs.Values.{null_text, true_text, false_text}
 use Rattle.json5_ser.specs.Writable.{is_writable}
 use Rattle.json5_ser.specs.WrittenTrees as written
@@ -95,3 +96,7 @@ abbrev mutual
   pub fields_out : ℕ → Fields → ℕ → Bool → Out
   fields_out limit no_field d started = closing d started right_brace
   fields_out limit (field k t fs) d started = key_part d k then (value_part (out limit t (d + 1)) then fields_out limit fs d true)
+
+-- the text of a whole tree
+abbrev pub text_of : Written → Out
+text_of t = out max_depth t 0

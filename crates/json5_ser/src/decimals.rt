@@ -1,13 +1,13 @@
 //! Decimals in plain notation.
 
-ghost use Rattle.std.specs.Prelude.{◌≡◌, ◌<◌, false, replicate, slice_index, IsTrue};
+ghost use Rattle.std.specs.Prelude.{◌≡◌, ◌<◌, replicate, slice_index, IsTrue};
 ghost use Rattle.std.specs.Fmt.{sign_text};
 ghost use Rattle.json5_grammar.specs.Characters.{is_digit, Each};
 ghost use Rattle.json5_grammar.specs.Numbers as numbers;
 ghost use Rattle.json5_grammar.specs.NumberText.{digits_text, pointed};
 ghost use Rattle.json5_ser.specs.WrittenTrees.{number};
-ghost use Rattle.json5_ser.specs.Out.{out, piece};
-ghost use Rattle.json5_ser.specs.Writes.{Writes};
+ghost use Rattle.json5_ser.specs.Out.{piece};
+ghost use Rattle.json5_ser.specs.Writes.{Writes, WritesTree};
 ghost use Rattle.json5_ser.specs.Pieces.{is_ascii_text, IsRun};
 
 use crate::Serializer;
@@ -36,8 +36,7 @@ impl<W: Write + Drop> Serializer<W> {
 
     /// Writes one character `count` times, in pieces as long as `run`, which consists of it.
     fn put_run(&mut self, run: &str, count: usize) -> Result<()>
-        requires run { IsRun run.now }
-        requires ready { self.old.failed ≡ false }
+        requires { IsRun run.now }
         ensures { Writes (piece (replicate count (slice_index run.now 0))) self.old result self.new }
     {
         let mut left = count;
@@ -51,7 +50,6 @@ impl<W: Write + Drop> Serializer<W> {
     /// The digits with a point before the last `places` of them, and zeros where there are no more.
     fn put_pointed(&mut self, digits: &str, places: usize) -> Result<()>
         requires digits { Each is_digit digits.now }
-        requires ready { self.old.failed ≡ false }
         ensures { Writes (piece (pointed digits.now places)) self.old result self.new }
     {
         if places < digits.len() {
@@ -68,7 +66,6 @@ impl<W: Write + Drop> Serializer<W> {
     /// The digits times ten to the exponent.
     fn put_finite(&mut self, digits: &str, exponent: i16) -> Result<()>
         requires digits { Each is_digit digits.now }
-        requires ready { self.old.failed ≡ false }
         ensures { Writes (piece (digits_text digits.now exponent)) self.old result self.new }
     {
         if digits.is_empty() {
@@ -86,7 +83,7 @@ impl<W: Write + Drop> Serializer<W> {
     /// Writes the number in plain notation, always with a point; else `Infinity` or `NaN`. A minus
     /// stands before what is negative, zero too.
     pub fn serialize_decimal(&mut self, value: &Decimal) -> Result<()>
-        ensures { Writes (out 128 (number (numbers.decimal value.now)) self.old.depth) self.old result self.new }
+        ensures { WritesTree (number (numbers.decimal value.now)) self.old result self.new }
     {
         self.put_ascii(sign(value.is_negative()))?;
         if value.is_infinite() {

@@ -6,9 +6,11 @@ ghost use Rattle.json5_grammar.specs.Numbers.{whole};
 ghost use Rattle.json5_grammar.specs.Strings.{is_quote};
 ghost use Rattle.json5_grammar.specs.Quoting.{escaped_all};
 ghost use Rattle.json5_ser.specs.WrittenTrees.{null, boolean, number, text};
-ghost use Rattle.json5_ser.specs.Out.{out, piece};
-ghost use Rattle.json5_ser.specs.Writes.{Seen, Writes};
+ghost use Rattle.json5_grammar.specs.Documents.{max_depth};
+ghost use Rattle.json5_ser.specs.Out.{piece};
+ghost use Rattle.json5_ser.specs.Writes.{Seen, Writes, WritesTree};
 
+use crate::Serialize;
 use crate::output::write_whole;
 use crate::quoting::{quote_for, quote_text, split_at_escape};
 use itoa::{Buffer, Integer};
@@ -30,7 +32,7 @@ impl<W: Write + Drop> Model for Serializer<W> {
 
     ghost view = { λ s. record { known = W.contents s.writer; depth = s.depth; failed = s.failed } };
 
-    ghost invariant = { λ s. s.depth ≤ 128 };
+    ghost invariant = { λ s. s.depth ≤ max_depth };
 }
 
 impl<W: Write + Drop> Serializer<W> {
@@ -86,7 +88,7 @@ impl<W: Write + Drop> Serializer<W> {
     /// Writes `null`.
     #[tactic(auto, using(crate::proofs::PiecesWritten::chars_null))]
     pub fn serialize_unit(&mut self) -> Result<()>
-        ensures { Writes (out 128 null self.old.depth) self.old result self.new }
+        ensures { WritesTree null self.old result self.new }
     {
         self.put("null")
     }
@@ -94,7 +96,7 @@ impl<W: Write + Drop> Serializer<W> {
     /// Writes `true` or `false`.
     #[tactic(auto, using(crate::proofs::PiecesWritten::chars_true, crate::proofs::PiecesWritten::chars_false))]
     pub fn serialize_bool(&mut self, value: bool) -> Result<()>
-        ensures { Writes (out 128 (boolean value) self.old.depth) self.old result self.new }
+        ensures { WritesTree (boolean value) self.old result self.new }
     {
         if value {
             self.put("true")
@@ -105,70 +107,70 @@ impl<W: Write + Drop> Serializer<W> {
 
     /// Writes the decimal digits.
     pub fn serialize_u8(&mut self, value: u8) -> Result<()>
-        ensures { Writes (out 128 (number (whole (pos value))) self.old.depth) self.old result self.new }
+        ensures { WritesTree (⟦<u8 as Serialize>⟧.tree value) self.old result self.new }
     {
-        self.put_integer(value)
+        self.serialize_u128(u128::from(value))
     }
 
     /// Writes the decimal digits.
     pub fn serialize_u16(&mut self, value: u16) -> Result<()>
-        ensures { Writes (out 128 (number (whole (pos value))) self.old.depth) self.old result self.new }
+        ensures { WritesTree (⟦<u16 as Serialize>⟧.tree value) self.old result self.new }
     {
-        self.put_integer(value)
+        self.serialize_u128(u128::from(value))
     }
 
     /// Writes the decimal digits.
     pub fn serialize_u32(&mut self, value: u32) -> Result<()>
-        ensures { Writes (out 128 (number (whole (pos value))) self.old.depth) self.old result self.new }
+        ensures { WritesTree (⟦<u32 as Serialize>⟧.tree value) self.old result self.new }
     {
-        self.put_integer(value)
+        self.serialize_u128(u128::from(value))
     }
 
     /// Writes the decimal digits.
     pub fn serialize_u64(&mut self, value: u64) -> Result<()>
-        ensures { Writes (out 128 (number (whole (pos value))) self.old.depth) self.old result self.new }
+        ensures { WritesTree (⟦<u64 as Serialize>⟧.tree value) self.old result self.new }
     {
-        self.put_integer(value)
+        self.serialize_u128(u128::from(value))
     }
 
     /// Writes the decimal digits.
     pub fn serialize_u128(&mut self, value: u128) -> Result<()>
-        ensures { Writes (out 128 (number (whole (pos value))) self.old.depth) self.old result self.new }
+        ensures { WritesTree (⟦<u128 as Serialize>⟧.tree value) self.old result self.new }
     {
         self.put_integer(value)
     }
 
     /// Writes the decimal digits, behind a minus where the number is negative.
     pub fn serialize_i8(&mut self, value: i8) -> Result<()>
-        ensures { Writes (out 128 (number (whole value)) self.old.depth) self.old result self.new }
+        ensures { WritesTree (⟦<i8 as Serialize>⟧.tree value) self.old result self.new }
     {
-        self.put_integer(value)
+        self.serialize_i128(i128::from(value))
     }
 
     /// Writes the decimal digits, behind a minus where the number is negative.
     pub fn serialize_i16(&mut self, value: i16) -> Result<()>
-        ensures { Writes (out 128 (number (whole value)) self.old.depth) self.old result self.new }
+        ensures { WritesTree (⟦<i16 as Serialize>⟧.tree value) self.old result self.new }
     {
-        self.put_integer(value)
+        self.serialize_i128(i128::from(value))
     }
 
     /// Writes the decimal digits, behind a minus where the number is negative.
     pub fn serialize_i32(&mut self, value: i32) -> Result<()>
-        ensures { Writes (out 128 (number (whole value)) self.old.depth) self.old result self.new }
+        ensures { WritesTree (⟦<i32 as Serialize>⟧.tree value) self.old result self.new }
     {
-        self.put_integer(value)
+        self.serialize_i128(i128::from(value))
     }
 
     /// Writes the decimal digits, behind a minus where the number is negative.
     pub fn serialize_i64(&mut self, value: i64) -> Result<()>
-        ensures { Writes (out 128 (number (whole value)) self.old.depth) self.old result self.new }
+        ensures { WritesTree (⟦<i64 as Serialize>⟧.tree value) self.old result self.new }
     {
-        self.put_integer(value)
+        self.serialize_i128(i128::from(value))
     }
 
     /// Writes the decimal digits, behind a minus where the number is negative.
     pub fn serialize_i128(&mut self, value: i128) -> Result<()>
-        ensures { Writes (out 128 (number (whole value)) self.old.depth) self.old result self.new }
+        ensures { WritesTree (⟦<i128 as Serialize>⟧.tree value) self.old result self.new }
     {
         self.put_integer(value)
     }
@@ -177,7 +179,6 @@ impl<W: Write + Drop> Serializer<W> {
     /// What stands between two escapes is written in one piece.
     fn put_escaped(&mut self, quote: char, text: &str) -> Result<()>
         requires quote { is_quote quote ≡ true }
-        requires ready { self.old.failed ≡ false }
         ensures { Writes (piece (escaped_all quote (chars text.now))) self.old result self.new }
     {
         let mut rest = text;
@@ -191,7 +192,7 @@ impl<W: Write + Drop> Serializer<W> {
 
     /// Writes a text between quotes: between `'` where it holds `"` and no `'`, else between `"`.
     pub fn serialize_str(&mut self, value: &str) -> Result<()>
-        ensures { Writes (out 128 (text (chars value.now)) self.old.depth) self.old result self.new }
+        ensures { WritesTree (text (chars value.now)) self.old result self.new }
     {
         let quote = quote_for(value);
         let mark = quote_text(quote);
@@ -202,7 +203,7 @@ impl<W: Write + Drop> Serializer<W> {
 
     /// Writes the text of one character.
     pub fn serialize_char(&mut self, value: char) -> Result<()>
-        ensures { Writes (out 128 (text (value ∷ [])) self.old.depth) self.old result self.new }
+        ensures { WritesTree (text (value ∷ [])) self.old result self.new }
     {
         let mut buffer = [0u8; 4];
         self.serialize_str(value.encode_utf8(&mut buffer))

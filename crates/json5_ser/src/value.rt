@@ -1,10 +1,8 @@
 //! Values of any kind, written.
 
-ghost use Rattle.json5_grammar.specs.Numbers.{whole};
-ghost use Rattle.json5_ser.specs.WrittenTrees.{number};
+ghost use Rattle.json5_ser.specs.WrittenTrees.{integer};
 ghost use Rattle.json5_ser.specs.ValueTrees.{value_tree};
-ghost use Rattle.json5_ser.specs.Out.{out};
-ghost use Rattle.json5_ser.specs.Writes.{Writes};
+ghost use Rattle.json5_ser.specs.Writes.{WritesTree};
 
 use crate::{Serialize, Serializer};
 use json5_text::error::Result;
@@ -21,7 +19,7 @@ impl Serialize for Value {
 }
 
 fn write_value<W: Write + Drop>(value: &Value, ser: &mut Serializer<W>) -> Result<()>
-    ensures { Writes (out 128 (value_tree value.now) ser.old.depth) ser.old result ser.new }
+    ensures { WritesTree (value_tree value.now) ser.old result ser.new }
 {
     match value {
         Value::Null => ser.serialize_unit(),
@@ -33,7 +31,7 @@ fn write_value<W: Write + Drop>(value: &Value, ser: &mut Serializer<W>) -> Resul
 }
 
 fn write_whole<W: Write + Drop>(value: Whole, ser: &mut Serializer<W>) -> Result<()>
-    ensures { Writes (out 128 (number (whole value)) ser.old.depth) ser.old result ser.new }
+    ensures { WritesTree (integer value) ser.old result ser.new }
 {
     if let Some(positive) = value.as_u128() {
         return ser.serialize_u128(positive);
