@@ -5,6 +5,7 @@ ghost use Rattle.std.specs.Fmt.{sign_text};
 ghost use Rattle.json5_grammar.specs.Characters.{is_digit, Each};
 ghost use Rattle.json5_grammar.specs.Numbers as numbers;
 ghost use Rattle.json5_grammar.specs.NumberText.{digits_text, pointed};
+ghost use Rattle.json5_text.specs.NumberDecimals.{digits_in, exponent_in};
 ghost use Rattle.json5_ser.specs.WrittenTrees.{number};
 ghost use Rattle.json5_ser.specs.Out.{piece};
 ghost use Rattle.json5_ser.specs.Writes.{Writes, WritesTree};
@@ -49,14 +50,14 @@ impl<W: Write + Drop> Serializer<W> {
 
     /// The digits with a point before the last `places` of them, and zeros where there are no more.
     fn put_pointed(&mut self, digits: &str, places: usize) -> Result<()>
-        requires digits { Each is_digit digits.now }
+        requires { Each is_digit digits.now }
         ensures { Writes (piece (pointed digits.now places)) self.old result self.new }
     {
         if places < digits.len() {
-            let (before, behind) = digits.split_at(digits.len() - places);
+            let (before, after) = digits.split_at(digits.len() - places);
             self.put_ascii(before)?;
             self.put_ascii(".")?;
-            return self.put_ascii(behind);
+            return self.put_ascii(after);
         }
         self.put_ascii("0.")?;
         self.put_run(ZEROS, places - digits.len())?;
@@ -64,10 +65,10 @@ impl<W: Write + Drop> Serializer<W> {
     }
 
     /// The digits times ten to the exponent.
-    fn put_finite(&mut self, digits: &str, exponent: i16) -> Result<()>
-        requires digits { Each is_digit digits.now }
-        ensures { Writes (piece (digits_text digits.now exponent)) self.old result self.new }
+    fn put_finite(&mut self, value: &Decimal) -> Result<()>
+        ensures { Writes (piece (digits_text (digits_in value.now) (exponent_in value.now))) self.old result self.new }
     {
+        let (digits, exponent) = (value.digits(), value.exponent());
         if digits.is_empty() {
             return self.put_ascii("0.0");
         }
@@ -92,6 +93,6 @@ impl<W: Write + Drop> Serializer<W> {
         if value.is_nan() {
             return self.put_ascii("NaN");
         }
-        self.put_finite(value.digits(), value.exponent())
+        self.put_finite(value)
     }
 }

@@ -1,18 +1,17 @@
 //! Writing values to a writer.
 
-ghost use Rattle.std.specs.Prelude.{◌≡◌, ◌≤◌, [], ◌∷◌, true, false, pos};
+ghost use Rattle.std.specs.Prelude.{◌≡◌, ◌≤◌, [], ◌∷◌, false};
 ghost use Rattle.std.specs.Str.{chars};
-ghost use Rattle.json5_grammar.specs.Numbers.{whole};
-ghost use Rattle.json5_grammar.specs.Strings.{is_quote};
+ghost use Rattle.json5_ser.specs.Quotes.{delimiter};
 ghost use Rattle.json5_grammar.specs.Quoting.{escaped_all};
-ghost use Rattle.json5_ser.specs.WrittenTrees.{null, boolean, number, text};
+ghost use Rattle.json5_ser.specs.WrittenTrees.{null, boolean, text};
 ghost use Rattle.json5_grammar.specs.Documents.{max_depth};
 ghost use Rattle.json5_ser.specs.Out.{piece};
 ghost use Rattle.json5_ser.specs.Writes.{Seen, Writes, WritesTree};
 
 use crate::Serialize;
 use crate::output::write_whole;
-use crate::quoting::{quote_for, quote_text, split_at_escape};
+use crate::quoting::{Quote, split_at_escape};
 use itoa::{Buffer, Integer};
 use json5_text::ErrorCode;
 use json5_text::error::{Error, Result};
@@ -177,9 +176,8 @@ impl<W: Write + Drop> Serializer<W> {
 
     /// The text with the characters escaped that don't stand for themselves between these quotes.
     /// What stands between two escapes is written in one piece.
-    fn put_escaped(&mut self, quote: char, text: &str) -> Result<()>
-        requires quote { is_quote quote ≡ true }
-        ensures { Writes (piece (escaped_all quote (chars text.now))) self.old result self.new }
+    fn put_escaped(&mut self, quote: Quote, text: &str) -> Result<()>
+        ensures { Writes (piece (escaped_all (delimiter quote) (chars text.now))) self.old result self.new }
     {
         let mut rest = text;
         while let Some((raw, escaped, after)) = split_at_escape(quote, rest) {
@@ -194,8 +192,8 @@ impl<W: Write + Drop> Serializer<W> {
     pub fn serialize_str(&mut self, value: &str) -> Result<()>
         ensures { WritesTree (text (chars value.now)) self.old result self.new }
     {
-        let quote = quote_for(value);
-        let mark = quote_text(quote);
+        let quote = Quote::around(value);
+        let mark = quote.text();
         self.put(mark)?;
         self.put_escaped(quote, value)?;
         self.put(mark)

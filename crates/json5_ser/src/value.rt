@@ -14,19 +14,13 @@ impl Serialize for Value {
     ghost tree = { value_tree };
 
     fn serialize<W: Write + Drop>(&self, ser: &mut Serializer<W>) -> Result<()> {
-        write_value(self, ser)
-    }
-}
-
-fn write_value<W: Write + Drop>(value: &Value, ser: &mut Serializer<W>) -> Result<()>
-    ensures { WritesTree (value_tree value.now) ser.old result ser.new }
-{
-    match value {
-        Value::Null => ser.serialize_unit(),
-        Value::Bool(truth) => ser.serialize_bool(*truth),
-        Value::Whole(number) => write_whole(*number, ser),
-        Value::Decimal(number) => ser.serialize_decimal(number),
-        Value::String(text) => ser.serialize_str(text.as_str()),
+        match self {
+            Value::Null => ser.serialize_unit(),
+            Value::Bool(truth) => ser.serialize_bool(*truth),
+            Value::Whole(number) => write_whole(*number, ser),
+            Value::Decimal(number) => ser.serialize_decimal(number),
+            Value::String(text) => ser.serialize_str(text.as_str()),
+        }
     }
 }
 

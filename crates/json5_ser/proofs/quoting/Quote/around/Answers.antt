@@ -1,8 +1,8 @@
 use Rattle.std.proofs.Common.{arith}
 use Rattle.std.specs.Str.{chars}
 use Rattle.json5_ser.proofs.QuotesFound.{absent, present, single_quotes, double_quotes, both_quotes}
-use Rattle.json5_ser.proofs.quoting.quote_for.Goals.{else-contains-via-then-contains+else-not-contains, else-contains-via-else-contains}
-use Rattle.json5_ser.proofs.quoting.quote_for.Goals as goal
+use Rattle.json5_ser.proofs.quoting.Quote.around.Goals.{else-contains-via-then-contains+else-not-contains, else-contains-via-else-contains}
+use Rattle.json5_ser.proofs.quoting.Quote.around.Goals as goal
 
 pub returns-then-not-contains : goal.returns-then-not-contains
 returns-then-not-contains c =
