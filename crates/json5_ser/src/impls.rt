@@ -120,7 +120,7 @@ impl Serialize for &str {
     ghost tree = { λ s. text (chars s.now) };
 
     fn serialize<W: Write + Drop>(&self, ser: &mut Serializer<W>) -> Result<()> {
-        ser.serialize_str(self)
+        ser.serialize_str(*self)
     }
 }
 
@@ -128,7 +128,7 @@ impl Serialize for String {
     ghost tree = { λ s. text (chars (string_bytes s)) };
 
     fn serialize<W: Write + Drop>(&self, ser: &mut Serializer<W>) -> Result<()> {
-        ser.serialize_str(self.as_str())
+        ser.serialize_str(self)
     }
 }
 
