@@ -11,9 +11,9 @@ use Rattle.json5_grammar.specs.NumberText.{zeros, pointed, digits_text, decimal_
 use Rattle.json5_text.specs.NumberDecimals.{is_minus, is_infinity, is_not_a_number, digits_in, exponent_in}
 use Rattle.json5_ser.specs.Out.{piece, ◌then◌}
 
-pub pointed_within : (ds before behind : List ℕ) (j : ℕ) → j < length ds → before ≡ take (length ds - j) ds → behind ≡ drop (length ds - j) ds
-    → piece (pointed ds j) ≡ piece before then (piece (46 ∷ []) then piece behind)
-pointed_within ds before behind j l e f =
+pub pointed_within : (ds before after : List ℕ) (j : ℕ) → j < length ds → before ≡ take (length ds - j) ds → after ≡ drop (length ds - j) ds
+    → piece (pointed ds j) ≡ piece before then (piece (46 ∷ []) then piece after)
+pointed_within ds before after j l e f =
     let t : nat_lt j (length ds) ≡ true = grind arith in
     ap (λ b. piece (cond b (take (length ds - j) ds ++ 46 ∷ drop (length ds - j) ds) (48 ∷ 46 ∷ (zeros (j - length ds) ++ ds)))) t
     ∙ (ap (λ x. piece (x ++ 46 ∷ drop (length ds - j) ds)) (sym e) ∙ ap (λ x. piece (before ++ 46 ∷ x)) (sym f))

@@ -60,16 +60,16 @@ RefusesBy-before a b o n by_none p = p
 pub Refuses-before : (a b : Out) (o n : Seen) (e : Error) → Refuses a o e n → Refuses (a then b) o e n
 Refuses-before a b o n e p = record { leaves = RefusesBy-before a b o n (refusal_of (kind_of e)) p.leaves; no_place = p.no_place }
 
-Stopped-behind : (s : Stop) (a b : Out) (o m n : Seen) → Wrote a o m → Stopped s b m n → Stopped s (a then b) o n
-Stopped-behind s a b o m n p q =
+Stopped-after : (s : Stop) (a b : Out) (o m n : Seen) → Wrote a o m → Stopped s b m n → Stopped s (a then b) o n
+Stopped-after s a b o m n p q =
     subst (λ x. Stopped s x o n) (sym (after_whole a b p.stop))
     (record { was = p.was; stop = q.stop; bytes = encoded-append _ _ _ a.text b.text p.bytes q.bytes; failed = q.failed })
 
--- a refusal behind a part that was written
-RefusesBy-behind : (a b : Out) (o m n : Seen) (r : Refusal) → Wrote a o m → RefusesBy b m r n → RefusesBy (a then b) o r n
-RefusesBy-behind a b o m n by_depth p q = Stopped-behind too_deep a b o m n p q
-RefusesBy-behind a b o m n by_key p q = Stopped-behind invalid_key a b o m n p q
-RefusesBy-behind a b o m n by_writer p q =
+-- a refusal after a part that was written
+RefusesBy-after : (a b : Out) (o m n : Seen) (r : Refusal) → Wrote a o m → RefusesBy b m r n → RefusesBy (a then b) o r n
+RefusesBy-after a b o m n by_depth p q = Stopped-after too_deep a b o m n p q
+RefusesBy-after a b o m n by_key p q = Stopped-after invalid_key a b o m n p q
+RefusesBy-after a b o m n by_writer p q =
     subst (λ x. Broke x o n) (sym (after_whole a b p.stop))
     (record {
       was = p.was;
@@ -79,11 +79,11 @@ RefusesBy-behind a b o m n by_writer p q =
       bytes = Appends-trans _ _ _ _ _ p.bytes q.bytes;
       failed = q.failed;
     })
-RefusesBy-behind a b o m n by_refusal p q = let x : true ≡ false = sym q.was ∙ p.failed in cc
-RefusesBy-behind a b o m n by_none p q = q
+RefusesBy-after a b o m n by_refusal p q = let x : true ≡ false = sym q.was ∙ p.failed in cc
+RefusesBy-after a b o m n by_none p q = q
 
-pub Refuses-behind : (a b : Out) (o m n : Seen) (e : Error) → Wrote a o m → Refuses b m e n → Refuses (a then b) o e n
-Refuses-behind a b o m n e p q = record { leaves = RefusesBy-behind a b o m n (refusal_of (kind_of e)) p q.leaves; no_place = q.no_place }
+pub Refuses-after : (a b : Out) (o m n : Seen) (e : Error) → Wrote a o m → Refuses b m e n → Refuses (a then b) o e n
+Refuses-after a b o m n e p q = record { leaves = RefusesBy-after a b o m n (refusal_of (kind_of e)) p q.leaves; no_place = q.no_place }
 
 -- the same of an equal text
 pub Writes-as : {A : Type 0} (all w : Out) (o n : Seen) (r : Result A Error) → all ≡ w → Writes w o r n → Writes all o r n
@@ -94,7 +94,7 @@ pub Writes-handed : {A : Type 0} (w : Out) (o n : Seen) (e : Error) (r : Result 
 Writes-handed w o n e (Ok x) q p = absurd q
 Writes-handed w o n e (Err y) q p = subst (λ x. Refuses w o x n) (sym q) p
 
--- what a `?` hands on behind a first part
+-- what a `?` hands on of a first part
 pub Writes-exit : {A : Type 0} (a b : Out) (o n : Seen) (e : Error) (r : Result A Error) → IsErrAnd r (λ y. y ≡ e) → Refuses a o e n → Writes (a then b) o r n
 Writes-exit a b o n e r q p = Writes-handed (a then b) o n e r q (Refuses-before a b o n e p)
 
@@ -109,12 +109,12 @@ Reaches-none all o = record { wrote = λ n p. p; refused = λ n e p. p }
 
 pub Reaches-next : (all a rest : Out) (o m n : Seen) → Reaches all o m (a then rest) → Wrote a m n → Reaches all o n rest
 Reaches-next all a rest o m n h p =
-    record { wrote = λ k q. h.wrote k (Wrote-then a rest m n k p q); refused = λ k e q. h.refused k e (Refuses-behind a rest m n k e p q) }
+    record { wrote = λ k q. h.wrote k (Wrote-then a rest m n k p q); refused = λ k e q. h.refused k e (Refuses-after a rest m n k e p q) }
 
 pub Reaches-first : (a rest : Out) (o m : Seen) → Wrote a o m → Reaches (a then rest) o m rest
 Reaches-first a rest o m p = Reaches-next (a then rest) a rest o o m (Reaches-none (a then rest) o) p
 
--- what a `?` hands on behind what was written
+-- what a `?` hands on after what was written
 pub Reaches-exit : {A : Type 0} (all a rest : Out) (o m n : Seen) (e : Error) (r : Result A Error) → Reaches all o m (a then rest) → IsErrAnd r (λ y. y ≡ e) → Refuses a m e n → Writes all o r n
 Reaches-exit all a rest o m n e r h q p = Writes-handed all o n e r q (h.refused n e (Refuses-before a rest m n e p))
 

@@ -31,7 +31,7 @@ pub record Stopped (s : Stop) (o : Out) (old new : Seen) : Type 0 where
   pub bytes : Appends old.known new.known (encode_utf8_all o.text)
   pub failed : new.failed ≡ true
 
--- the writer failed, and got a beginning of the text
+-- the writer failed, and got a prefix of the text
 pub record Broke (o : Out) (old new : Seen) : Type 0 where
   pub was : old.failed ≡ false
   pub front : List ℕ

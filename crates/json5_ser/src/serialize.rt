@@ -15,7 +15,7 @@ pub trait Serialize {
     ///
     /// It refuses with `InvalidKey` or `TooDeep` where the text stops, and then the writer holds
     /// exactly the text before that key or bracket; with a failed write where the writer failed,
-    /// which then holds a beginning of the text; with `Failed` after an earlier refusal.
+    /// which then holds a prefix of the text; with `Failed` after an earlier refusal.
     fn serialize<W: Write + Drop>(&self, ser: &mut Serializer<W>) -> Result<()>
         ensures { WritesTree (tree self.now) ser.old result ser.new };
 }

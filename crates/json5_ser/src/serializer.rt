@@ -139,35 +139,35 @@ impl<W: Write + Drop> Serializer<W> {
         self.put_integer(value)
     }
 
-    /// Writes the decimal digits, behind a minus where the number is negative.
+    /// Writes the decimal digits, after a minus where the number is negative.
     pub fn serialize_i8(&mut self, value: i8) -> Result<()>
         ensures { WritesTree (⟦<i8 as Serialize>⟧.tree value) self.old result self.new }
     {
         self.serialize_i128(i128::from(value))
     }
 
-    /// Writes the decimal digits, behind a minus where the number is negative.
+    /// Writes the decimal digits, after a minus where the number is negative.
     pub fn serialize_i16(&mut self, value: i16) -> Result<()>
         ensures { WritesTree (⟦<i16 as Serialize>⟧.tree value) self.old result self.new }
     {
         self.serialize_i128(i128::from(value))
     }
 
-    /// Writes the decimal digits, behind a minus where the number is negative.
+    /// Writes the decimal digits, after a minus where the number is negative.
     pub fn serialize_i32(&mut self, value: i32) -> Result<()>
         ensures { WritesTree (⟦<i32 as Serialize>⟧.tree value) self.old result self.new }
     {
         self.serialize_i128(i128::from(value))
     }
 
-    /// Writes the decimal digits, behind a minus where the number is negative.
+    /// Writes the decimal digits, after a minus where the number is negative.
     pub fn serialize_i64(&mut self, value: i64) -> Result<()>
         ensures { WritesTree (⟦<i64 as Serialize>⟧.tree value) self.old result self.new }
     {
         self.serialize_i128(i128::from(value))
     }
 
-    /// Writes the decimal digits, behind a minus where the number is negative.
+    /// Writes the decimal digits, after a minus where the number is negative.
     pub fn serialize_i128(&mut self, value: i128) -> Result<()>
         ensures { WritesTree (⟦<i128 as Serialize>⟧.tree value) self.old result self.new }
     {

@@ -32,7 +32,7 @@ impl<W: Write> Write for Lent<'_, W> {
     }
 }
 
-/// Writes the text of a value. After a refusal the writer holds a beginning of the text: exactly
+/// Writes the text of a value. After a refusal the writer holds a prefix of the text: exactly
 /// the text before the key or the bracket at `InvalidKey` or `TooDeep`. `flush` isn't called.
 pub fn to_writer<T: Serialize, W: Write>(w: &mut W, value: &T) -> Result<()>
     ensures { WritesTree (T.tree value.now) (fresh (W.contents w.old)) result (ended (W.contents w.new) result) }
