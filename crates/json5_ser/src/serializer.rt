@@ -1,13 +1,13 @@
 //! Writing values to a writer.
 
-ghost use Rattle.std.specs.Prelude.{◌≡◌, ◌≤◌, [], ◌∷◌, false};
+ghost use Rattle.std.specs.Prelude.{◌≡◌, ◌≤◌, [], ◌∷◌};
 ghost use Rattle.std.specs.Str.{chars};
 ghost use Rattle.json5_ser.specs.Quotes.{delimiter};
 ghost use Rattle.json5_grammar.specs.Quoting.{escaped_all};
 ghost use Rattle.json5_ser.specs.WrittenTrees.{null, boolean, text};
 ghost use Rattle.json5_grammar.specs.Documents.{max_depth};
 ghost use Rattle.json5_ser.specs.Out.{piece};
-ghost use Rattle.json5_ser.specs.Writes.{Seen, Writes, WritesTree};
+ghost use Rattle.json5_ser.specs.Writes.{Seen, Writes, WritesTree, fresh};
 
 use crate::Serialize;
 use crate::output::write_whole;
@@ -37,7 +37,7 @@ impl<W: Write + Drop> Model for Serializer<W> {
 impl<W: Write + Drop> Serializer<W> {
     /// Nothing is written yet.
     pub fn new(writer: W) -> Self
-        ensures { result ≡ record { known = W.contents writer; depth = 0; failed = false } }
+        ensures { result ≡ fresh (W.contents writer) }
     {
         Serializer {
             writer,
@@ -59,7 +59,6 @@ impl<W: Write + Drop> Serializer<W> {
     }
 
     /// Writes a piece, unless a call was refused before.
-    #[tactic(auto, using(crate::proofs::Joins::refused_so))]
     pub(crate) fn put(&mut self, text: &str) -> Result<()>
         ensures { Writes (piece (chars text.now)) self.old result self.new }
     {
@@ -75,7 +74,6 @@ impl<W: Write + Drop> Serializer<W> {
         }
     }
 
-    #[tactic(auto, using(crate::proofs::PiecesWritten::chars_number))]
     fn put_integer<I: Integer>(&mut self, value: I) -> Result<()>
         ensures { Writes (piece (I.text value)) self.old result self.new }
     {
@@ -85,7 +83,6 @@ impl<W: Write + Drop> Serializer<W> {
     }
 
     /// Writes `null`.
-    #[tactic(auto, using(crate::proofs::PiecesWritten::chars_null))]
     pub fn serialize_unit(&mut self) -> Result<()>
         ensures { WritesTree null self.old result self.new }
     {
@@ -93,7 +90,6 @@ impl<W: Write + Drop> Serializer<W> {
     }
 
     /// Writes `true` or `false`.
-    #[tactic(auto, using(crate::proofs::PiecesWritten::chars_true, crate::proofs::PiecesWritten::chars_false))]
     pub fn serialize_bool(&mut self, value: bool) -> Result<()>
         ensures { WritesTree (boolean value) self.old result self.new }
     {

@@ -1,4 +1,4 @@
-use Rattle.std.proofs.Common.{◌<◌, ◌∙◌, length, arith}
+use Rattle.std.proofs.Common.{rules, ◌<◌, ◌∙◌, length, arith}
 use Rattle.std.proofs.lemmas.Int.{to_z-of_z}
 use mir.Syntax.{w16}
 use mir.Val.{SFits}
@@ -33,3 +33,6 @@ returns g c =
     let power = to_z-of_z w16 c.exponent-exponent.result fits in
     let parts = whole_parts c.args.value.now _ _ _ c.digits-digits.ensures.value (power ∙ c.exponent-exponent.ensures.value) some (not_below _ c.if-exponent-lt0.false) (c.from-places.ensures ∙ c.unsigned_abs.ensures.value) in
     Writes-as _ _ _ _ _ parts (Reaches-last _ _ _ _ _ _ (Reaches-next _ _ _ _ _ _ (Reaches-first _ _ _ _ c.in_ok-put_ascii.ensures) c.in_ok-put_run.ensures) c.put_ascii-3.ensures)
+
+pub returns-then-is_empty : goal.returns-then-is_empty
+returns-then-is_empty g c = search rules
