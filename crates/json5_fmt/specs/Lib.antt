@@ -1,3 +1,4 @@
+pub mod Answers
 pub mod Formats
 pub mod Pieces
 pub mod Reports

@@ -16,7 +16,7 @@ line text = text ++ line_feed ∷ []
 abbrev pub WritesFormatted : Option (List ℕ) → Option (List ℕ) → List ℕ → Type 0
 WritesFormatted old new bytes = IsUtf8 bytes × ((output : List ℕ) × Formats bytes output × Appends old new (line output))
 
--- a beginning of that was written
+-- a prefix of that was written
 abbrev pub BeginsFormatted : Option (List ℕ) → Option (List ℕ) → List ℕ → Type 0
 BeginsFormatted old new bytes = IsUtf8 bytes × ((output : List ℕ) × Formats bytes output × AppendsFront old new (line output))
 

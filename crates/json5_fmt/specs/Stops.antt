@@ -1,7 +1,9 @@
 -- How a fault of the text ends the program.
+use Rattle.std.specs.Prelude.{⊤}
 use Rattle.json5_grammar.specs.declared.code.ErrorCode.TheVariants as codes
 use Rattle.json5_text.specs.declared.error.Error.{Error}
 use Rattle.json5_text.specs.Errors.{Kind, code, custom, failed_write, kind_of}
+use Rattle.json5_text.specs.Cursor.{IsOutOfMemory}
 use Rattle.json5_fmt.specs.declared.stop.Stop.{Stop}
 use Rattle.json5_fmt.specs.declared.stop.Stop.TheVariants as stop
 
@@ -14,3 +16,11 @@ stop_of_kind failed_write e = stop.Text e
 -- want of memory is no fault of the text
 abbrev pub stop_at : Error → Stop
 stop_at e = stop_of_kind (kind_of e) e
+
+-- want of memory is named as such, and no text is refused for it
+abbrev pub NamesMemory : Stop → Type 0
+NamesMemory stop.NotUtf8 = ⊤
+NamesMemory (stop.Text e) = ¬ (IsOutOfMemory e)
+NamesMemory stop.NoMemory = ⊤
+NamesMemory stop.Read = ⊤
+NamesMemory stop.Write = ⊤

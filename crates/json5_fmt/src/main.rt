@@ -4,6 +4,7 @@
 //! error, and the status is 1 where the text is refused, 2 for anything else.
 #![tactic(auto)]
 
+mod answer;
 mod output;
 mod reports;
 mod run;
@@ -11,16 +12,12 @@ mod stop;
 #[cfg(test)]
 mod tests;
 
-use reports::{report, usage};
-use run::run;
-use std::alloc::Global;
+use answer::answer;
 use std::env;
-use std::io::{BufWriter, Write};
 use std::process::ExitCode;
 use std::rt::Runtime;
-use stop::Stop;
 
-/// Whether words stand behind the program's name; also where they can't be had.
+/// Whether words stand after the program's name; also where they can't be had.
 fn has_words<R: Runtime>(rt: &R) -> bool {
     match env::args(rt) {
         Ok(words) => words.count() > 1,
@@ -28,21 +25,14 @@ fn has_words<R: Runtime>(rt: &R) -> bool {
     }
 }
 
-/// From standard input to standard output.
-fn filter(alloc: Global, rt: &HostRuntime) -> Result<(), Stop> {
-    let Ok(mut output) = BufWriter::new(alloc, rt.stdout()) else {
-        return Err(Stop::NoMemory);
-    };
-    run(alloc, &mut rt.stdin(), &mut output)?;
-    output.flush().map_err(|_| Stop::Write)
-}
-
 fn main(rt: HostRuntime) -> ExitCode {
-    if has_words(&rt) {
-        return ExitCode::from(usage(&mut rt.stderr()));
-    }
-    match filter(rt.alloc(), &rt) {
-        Ok(()) => ExitCode::SUCCESS,
-        Err(stop) => ExitCode::from(report("stdin", &stop, &mut rt.stderr())),
-    }
+    let (alloc, words) = (rt.alloc(), has_words(&rt));
+    let status = answer(
+        alloc,
+        words,
+        &mut rt.stdin(),
+        &mut rt.stdout(),
+        &mut rt.stderr(),
+    );
+    ExitCode::from(status)
 }

@@ -6,7 +6,7 @@ ghost use Rattle.json5_fmt.specs.Pieces.{joined};
 use json5_ser::output::write_whole;
 use std::io::{self, Write};
 
-/// Writes the texts, one behind the other.
+/// Writes the texts, one after the other.
 pub fn write_texts<W: Write>(writer: &mut W, texts: &[&str]) -> io::Result<()>
     ensures { Pushes (W.contents writer.old) (W.contents writer.new) (joined texts.now) result }
 {

@@ -2,6 +2,7 @@
 
 ghost use Rattle.std.specs.Prelude.{◌≡◌, IfOk, IfErr, IfSome, OnOk, string_bytes};
 ghost use Rattle.json5_fmt.specs.Runs.{ReadStop, RunStop, WritesFormatted};
+ghost use Rattle.json5_fmt.specs.Stops.{NamesMemory};
 
 use crate::output::write_texts;
 use crate::stop::Stop;
@@ -10,11 +11,12 @@ use std::io::{ErrorKind, Read, Write};
 
 /// Reads all of `r`, and writes the text of its value and one LF to `w`, which isn't flushed.
 ///
-/// `NotUtf8` and `Text` say that what was read is no text or no document; then, and at `NoMemory` and `Read`, nothing
-/// was written. At `Write` the writer failed, and a beginning of the output was written.
+/// `NotUtf8` and `Text` say that what was read is no text or no document; a text that is refused for want of memory is
+/// `NoMemory`. At these and at `Read` nothing was written. At `Write` the writer failed, and a prefix of the output was written.
 pub fn run<R: Read, W: Write>(alloc: Global, r: &mut R, w: &mut W) -> Result<(), Stop>
     ensures written { OnOk result (IfSome (R.remaining r.old) (WritesFormatted (W.contents w.old) (W.contents w.new))) }
     ensures stopped { IfErr result (RunStop (R.remaining r.old) (W.contents w.old) (W.contents w.new)) }
+    ensures memory { IfErr result NamesMemory }
 {
     let text = read_text(alloc, r)?;
     let output = match json5::format(alloc, text.as_str()) {

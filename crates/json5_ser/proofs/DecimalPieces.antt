@@ -11,9 +11,9 @@ use Rattle.json5_grammar.specs.NumberText.{zeros, pointed, digits_text, decimal_
 use Rattle.json5_text.specs.NumberDecimals.{is_minus, is_infinity, is_not_a_number, digits_in, exponent_in}
 use Rattle.json5_ser.specs.Out.{piece, ◌then◌}
 
-pub pointed_within : (ds before behind : List ℕ) (j : ℕ) → j < length ds → before ≡ take (length ds - j) ds → behind ≡ drop (length ds - j) ds
-    → piece (pointed ds j) ≡ piece before then (piece (46 ∷ []) then piece behind)
-pointed_within ds before behind j l e f =
+pub pointed_within : (ds before after : List ℕ) (j : ℕ) → j < length ds → before ≡ take (length ds - j) ds → after ≡ drop (length ds - j) ds
+    → piece (pointed ds j) ≡ piece before then (piece (46 ∷ []) then piece after)
+pointed_within ds before after j l e f =
     let t : nat_lt j (length ds) ≡ true = grind arith in
     ap (λ b. piece (cond b (take (length ds - j) ds ++ 46 ∷ drop (length ds - j) ds) (48 ∷ 46 ∷ (zeros (j - length ds) ++ ds)))) t
     ∙ (ap (λ x. piece (x ++ 46 ∷ drop (length ds - j) ds)) (sym e) ∙ ap (λ x. piece (before ++ 46 ∷ x)) (sym f))
@@ -27,6 +27,11 @@ pub finite_whole : (ds : List ℕ) (e : ℤ) (n : ℕ) → 0 < length ds → pos
 finite_whole [] e n l p h = absurd (omega (arith, l))
 finite_whole (d ∷ ds) (pos k) n l p h = ap piece (append_assoc (d ∷ ds) (zeros k) (codes ".0")) ∙ ap (λ m. piece (d ∷ (ds ++ (zeros m ++ codes ".0")))) (sym h)
 finite_whole (d ∷ ds) (negsuc k) n l p h = absurd (omega (arith, ints, p))
+
+-- the same of a decimal's own digits and exponent
+pub whole_parts : (d : Decimal) (ds : List ℕ) (e : ℤ) (n : ℕ) → ds ≡ digits_in d → e ≡ exponent_in d → 0 < length ds → pos 0 ≤ℤ e → n ≡ unsigned_abs e
+    → piece (digits_text (digits_in d) (exponent_in d)) ≡ piece ds then (piece (zeros n) then piece (codes ".0"))
+whole_parts d ds e n h k l p m = ap (λ x. piece (digits_text x (exponent_in d))) (sym h) ∙ (ap (λ x. piece (digits_text ds x)) (sym k) ∙ finite_whole ds e n l p m)
 
 pub finite_pointed : (ds : List ℕ) (e : ℤ) (n : ℕ) → 0 < length ds → e <ℤ pos 0 → n ≡ unsigned_abs e → piece (digits_text ds e) ≡ piece (pointed ds n)
 finite_pointed [] e n l p h = absurd (omega (arith, l))
@@ -66,9 +71,9 @@ not_below e h = grind (arith, ints)
 pub decimal_parts : (d : Decimal) (mark rest : List ℕ) → mark ≡ sign_text (is_minus d) → rest ≡ decimal_rest d → piece (decimal_text d) ≡ piece mark then piece rest
 decimal_parts d mark rest e f = decimal_sign d ∙ (ap (λ m. piece m then piece (decimal_rest d)) (sym e) ∙ ap (λ r. piece mark then piece r) (sym f))
 
-pub finite_parts : (d : Decimal) (mark ds : List ℕ) (e : ℤ) → is_infinity d ≡ false → is_not_a_number d ≡ false → mark ≡ sign_text (is_minus d) → ds ≡ digits_in d → e ≡ exponent_in d
-    → piece (decimal_text d) ≡ piece mark then piece (digits_text ds e)
-finite_parts d mark ds e h k m f x = decimal_parts d mark (digits_text ds e) m (ap (λ l. digits_text l e) f ∙ (ap (digits_text (digits_in d)) x ∙ sym (finite_rest d h k)))
+pub finite_parts : (d : Decimal) (mark : List ℕ) → is_infinity d ≡ false → is_not_a_number d ≡ false → mark ≡ sign_text (is_minus d)
+    → piece (decimal_text d) ≡ piece mark then piece (digits_text (digits_in d) (exponent_in d))
+finite_parts d mark h k m = decimal_parts d mark _ m (sym (finite_rest d h k))
 
 pub digits_each : (d : Decimal) → Normal d → Each is_digit (digits_in d)
 digits_each (infinite m) n = no_char

@@ -6,12 +6,19 @@ use Rattle.std.proofs.lemmas.Str.{chars-nil, chars-encodes, chars-append, chars_
 use Rattle.json5_grammar.specs.Quoting.{escaped, escaped_all}
 use Rattle.json5_grammar.specs.Strings.{is_quote}
 use Rattle.json5_text.specs.Escapes.{escape_of}
+use Rattle.json5_ser.specs.declared.quoting.Quote.{Quote}
+use Rattle.json5_ser.specs.declared.quoting.Quote.TheVariants as quote
+use Rattle.json5_ser.specs.Quotes.{delimiter}
 use Rattle.json5_ser.specs.Escaping.{StartsWithScalar, SplitsAtEscape, StandsBefore}
 use Rattle.json5_ser.proofs.Joins.{scalars-append}
 
 escaped-append : (q : ℕ) (s t : List ℕ) → escaped_all q (s ++ t) ≡ escaped_all q s ++ escaped_all q t
 escaped-append q [] t = refl
 escaped-append q (c ∷ s) t = ap (λ l. escaped q c ++ l) (escaped-append q s t) ∙ sym (append_assoc (escaped q c) (escaped_all q s) (escaped_all q t))
+
+pub is_delimiter : (q : Quote) → is_quote (delimiter q) ≡ true
+is_delimiter quote.Single = refl
+is_delimiter quote.Double = refl
 
 pub escape_is : (q c : ℕ) → is_quote q ≡ true → escape_of q c ≡ escaped q c
 escape_is q c e = ap (λ b. if b then escaped q c else escaped 92 c) e

@@ -4,10 +4,10 @@ use Rattle.std.specs.Result.{IsErrAnd}
 use Rattle.std.specs.Str.{encode_utf8_all, all_scalars}
 use Rattle.std.proofs.lemmas.Str.{encodes-append}
 use Rattle.std.specs.Io.KnownBytes.{Appends}
-use Rattle.std.proofs.KnownBytes.{Appends-nil, Appends-trans}
+use Rattle.std.proofs.KnownBytes.{Appends-trans}
 use Rattle.json5_text.specs.declared.error.Error.{Error}
 use Rattle.json5_text.specs.Errors.{Kind, kind_of, place_of}
-use Rattle.json5_ser.specs.Out.{Out, Stop, whole, invalid_key, too_deep, no_number, piece, after, ◌then◌}
+use Rattle.json5_ser.specs.Out.{Out, Stop, whole, invalid_key, too_deep, no_number, after, ◌then◌}
 use Rattle.json5_ser.specs.Writes.{Seen, Wrote, Stopped, Broke, Refusal, by_key, by_depth, by_writer, by_refusal, by_none, refusal_of, RefusesBy, Refuses, Writes}
 
 pub after_whole : (a b : Out) → a.stop ≡ whole → a then b ≡ record { text = a.text ++ b.text; stop = b.stop }
@@ -18,21 +18,6 @@ after_too_deep a b e = ap (λ s. after a.text s b) e
 
 pub after_invalid_key : (a b : Out) → a.stop ≡ invalid_key → a then b ≡ record { text = a.text; stop = invalid_key }
 after_invalid_key a b e = ap (λ s. after a.text s b) e
-
-after_after_2 : (s : List ℕ) (t : List ℕ) (e : Stop) (c : Out) → after (s ++ t) e c ≡ record { text = s ++ (after t e c).text; stop = (after t e c).stop }
-after_after_2 s t whole c = ap (λ l. record { text = l; stop = c.stop }) (append_assoc s t c.text)
-after_after_2 s t invalid_key c = refl
-after_after_2 s t too_deep c = refl
-after_after_2 s t no_number c = refl
-
-after_after : (s : List ℕ) (e : Stop) (b c : Out) → after (after s e b).text (after s e b).stop c ≡ after s e (b then c)
-after_after s whole b c = after_after_2 s b.text b.stop c
-after_after s invalid_key b c = refl
-after_after s too_deep b c = refl
-after_after s no_number b c = refl
-
-pub then_assoc : (a b c : Out) → (a then b) then c ≡ a then (b then c)
-then_assoc a b c = after_after a.text a.stop b c
 
 both_true : (a b c : Bool) → (a && b) ≡ true → (b ≡ true → c ≡ true) → (a && c) ≡ true
 both_true true b c e f = f e
@@ -75,16 +60,16 @@ RefusesBy-before a b o n by_none p = p
 pub Refuses-before : (a b : Out) (o n : Seen) (e : Error) → Refuses a o e n → Refuses (a then b) o e n
 Refuses-before a b o n e p = record { leaves = RefusesBy-before a b o n (refusal_of (kind_of e)) p.leaves; no_place = p.no_place }
 
-Stopped-behind : (s : Stop) (a b : Out) (o m n : Seen) → Wrote a o m → Stopped s b m n → Stopped s (a then b) o n
-Stopped-behind s a b o m n p q =
+Stopped-after : (s : Stop) (a b : Out) (o m n : Seen) → Wrote a o m → Stopped s b m n → Stopped s (a then b) o n
+Stopped-after s a b o m n p q =
     subst (λ x. Stopped s x o n) (sym (after_whole a b p.stop))
     (record { was = p.was; stop = q.stop; bytes = encoded-append _ _ _ a.text b.text p.bytes q.bytes; failed = q.failed })
 
--- a refusal behind a part that was written
-RefusesBy-behind : (a b : Out) (o m n : Seen) (r : Refusal) → Wrote a o m → RefusesBy b m r n → RefusesBy (a then b) o r n
-RefusesBy-behind a b o m n by_depth p q = Stopped-behind too_deep a b o m n p q
-RefusesBy-behind a b o m n by_key p q = Stopped-behind invalid_key a b o m n p q
-RefusesBy-behind a b o m n by_writer p q =
+-- a refusal after a part that was written
+RefusesBy-after : (a b : Out) (o m n : Seen) (r : Refusal) → Wrote a o m → RefusesBy b m r n → RefusesBy (a then b) o r n
+RefusesBy-after a b o m n by_depth p q = Stopped-after too_deep a b o m n p q
+RefusesBy-after a b o m n by_key p q = Stopped-after invalid_key a b o m n p q
+RefusesBy-after a b o m n by_writer p q =
     subst (λ x. Broke x o n) (sym (after_whole a b p.stop))
     (record {
       was = p.was;
@@ -94,15 +79,11 @@ RefusesBy-behind a b o m n by_writer p q =
       bytes = Appends-trans _ _ _ _ _ p.bytes q.bytes;
       failed = q.failed;
     })
-RefusesBy-behind a b o m n by_refusal p q = let x : true ≡ false = sym q.was ∙ p.failed in cc
-RefusesBy-behind a b o m n by_none p q = q
+RefusesBy-after a b o m n by_refusal p q = let x : true ≡ false = sym q.was ∙ p.failed in cc
+RefusesBy-after a b o m n by_none p q = q
 
-pub Refuses-behind : (a b : Out) (o m n : Seen) (e : Error) → Wrote a o m → Refuses b m e n → Refuses (a then b) o e n
-Refuses-behind a b o m n e p q = record { leaves = RefusesBy-behind a b o m n (refusal_of (kind_of e)) p q.leaves; no_place = q.no_place }
-
-pub Writes-then : {A : Type 0} (a b : Out) (o m n : Seen) (r : Result A Error) → Wrote a o m → Writes b m r n → Writes (a then b) o r n
-Writes-then a b o m n (Ok x) p q = Wrote-then a b o m n p q
-Writes-then a b o m n (Err e) p q = Refuses-behind a b o m n e p q
+pub Refuses-after : (a b : Out) (o m n : Seen) (e : Error) → Wrote a o m → Refuses b m e n → Refuses (a then b) o e n
+Refuses-after a b o m n e p q = record { leaves = RefusesBy-after a b o m n (refusal_of (kind_of e)) p q.leaves; no_place = q.no_place }
 
 -- the same of an equal text
 pub Writes-as : {A : Type 0} (all w : Out) (o n : Seen) (r : Result A Error) → all ≡ w → Writes w o r n → Writes all o r n
@@ -113,50 +94,34 @@ pub Writes-handed : {A : Type 0} (w : Out) (o n : Seen) (e : Error) (r : Result 
 Writes-handed w o n e (Ok x) q p = absurd q
 Writes-handed w o n e (Err y) q p = subst (λ x. Refuses w o x n) (sym q) p
 
--- what a `?` hands on behind a first part
+-- what a `?` hands on of a first part
 pub Writes-exit : {A : Type 0} (a b : Out) (o n : Seen) (e : Error) (r : Result A Error) → IsErrAnd r (λ y. y ≡ e) → Refuses a o e n → Writes (a then b) o r n
 Writes-exit a b o n e r q p = Writes-handed (a then b) o n e r q (Refuses-before a b o n e p)
 
--- part of the text was written, and the rest is left
+-- writing the rest completes the whole
 pub record Reaches (all : Out) (o m : Seen) (rest : Out) : Type 0 where
-  pub done : Out
-  pub wrote : Wrote done o m
-  pub joins : all ≡ done then rest
-
-nothing_wrote : (o : Seen) → o.failed ≡ false → Wrote (piece []) o o
-nothing_wrote o h = record { was = h; stop = refl; chars = refl; bytes = Appends-nil o.known; depth = refl; failed = h }
+  pub wrote : (n : Seen) → Wrote rest m n → Wrote all o n
+  pub refused : (n : Seen) (e : Error) → Refuses rest m e n → Refuses all o e n
 
 -- nothing is written yet
-pub Reaches-none : (all : Out) (o : Seen) → o.failed ≡ false → Reaches all o o all
-Reaches-none all o h = record { done = piece []; wrote = nothing_wrote o h; joins = refl }
-
-pub Reaches-first : (a rest : Out) (o m : Seen) → Wrote a o m → Reaches (a then rest) o m rest
-Reaches-first a rest o m p = record { done = a; wrote = p; joins = refl }
+pub Reaches-none : (all : Out) (o : Seen) → Reaches all o o all
+Reaches-none all o = record { wrote = λ n p. p; refused = λ n e p. p }
 
 pub Reaches-next : (all a rest : Out) (o m n : Seen) → Reaches all o m (a then rest) → Wrote a m n → Reaches all o n rest
-Reaches-next all a rest o m n h p = record { done = h.done then a; wrote = Wrote-then h.done a o m n h.wrote p; joins = h.joins ∙ sym (then_assoc h.done a rest) }
+Reaches-next all a rest o m n h p =
+    record { wrote = λ k q. h.wrote k (Wrote-then a rest m n k p q); refused = λ k e q. h.refused k e (Refuses-after a rest m n k e p q) }
 
-pub Reaches-refused : (all a rest : Out) (o m n : Seen) (e : Error) → Reaches all o m (a then rest) → Refuses a m e n → Refuses all o e n
-Reaches-refused all a rest o m n e h p = subst (λ x. Refuses x o e n) (sym h.joins) (Refuses-behind h.done (a then rest) o m n e h.wrote (Refuses-before a rest m n e p))
+pub Reaches-first : (a rest : Out) (o m : Seen) → Wrote a o m → Reaches (a then rest) o m rest
+Reaches-first a rest o m p = Reaches-next (a then rest) a rest o o m (Reaches-none (a then rest) o) p
 
--- what a `?` hands on behind what was written
+-- what a `?` hands on after what was written
 pub Reaches-exit : {A : Type 0} (all a rest : Out) (o m n : Seen) (e : Error) (r : Result A Error) → Reaches all o m (a then rest) → IsErrAnd r (λ y. y ≡ e) → Refuses a m e n → Writes all o r n
-Reaches-exit all a rest o m n e r h q p = Writes-handed all o n e r q (Reaches-refused all a rest o m n e h p)
+Reaches-exit all a rest o m n e r h q p = Writes-handed all o n e r q (h.refused n e (Refuses-before a rest m n e p))
 
 -- the last part
 pub Reaches-last : {A : Type 0} (all a : Out) (o m n : Seen) (r : Result A Error) → Reaches all o m a → Writes a m r n → Writes all o r n
-Reaches-last all a o m n r h p = subst (λ x. Writes x o r n) (sym h.joins) (Writes-then h.done a o m n r h.wrote p)
-
--- a refusal leaves a failed serializer
-RefusesBy-fails : (w : Out) (o n : Seen) (r : Refusal) → RefusesBy w o r n → n.failed ≡ true
-RefusesBy-fails w o n by_depth p = p.failed
-RefusesBy-fails w o n by_key p = p.failed
-RefusesBy-fails w o n by_writer p = p.failed
-RefusesBy-fails w o n by_refusal p = p.failed
-RefusesBy-fails w o n by_none p = absurd p
-
-pub Refuses-fails : (w : Out) (o n : Seen) (e : Error) → Refuses w o e n → n.failed ≡ true
-Refuses-fails w o n e p = RefusesBy-fails w o n (refusal_of (kind_of e)) p.leaves
+Reaches-last all a o m n (Ok x) h p = h.wrote n p
+Reaches-last all a o m n (Err e) h p = h.refused n e p
 
 -- a refusal with this kind
 pub refused_so : (w : Out) (o n : Seen) (e : Error) (k : Kind) → kind_of e ≡ k → place_of e ≡ Option.None → RefusesBy w o (refusal_of k) n → Refuses w o e n

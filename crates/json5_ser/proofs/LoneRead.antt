@@ -1,5 +1,5 @@
 -- What is written of a scalar is in the grammar.
-use Rattle.std.proofs.Common.{◌≡◌, ◌≤◌, ℕ, [], true, false, sym, ap, ◌∙◌, subst, append-nil, arith}
+use Rattle.std.proofs.Common.{◌≡◌, ◌≤◌, ℕ, [], List, true, false, refl, sym, ap, ◌∙◌, subst, arith}
 use Rattle.json5_grammar.specs.Trees.{depth}
 use Rattle.json5_grammar.specs.Values.{Val, is_null, is_true, is_false}
 use Rattle.json5_grammar.specs.Documents.{Doc}
@@ -8,7 +8,7 @@ use Rattle.json5_grammar.proofs.Unique.{one_front}
 use Rattle.json5_ser.specs.WrittenTrees.{Written, null, boolean, number, text, array, object}
 use Rattle.json5_ser.specs.Out.{out, whole}
 use Rattle.json5_ser.specs.Marks.{marks, unmarked}
-use Rattle.json5_ser.specs.Lone.{IsLone}
+use Rattle.json5_ser.specs.Lone.{IsLone, IsLoneText}
 use Rattle.json5_ser.proofs.Writables.{number_piece, number_whole}
 use Rattle.json5_ser.proofs.Unmarked.{tree_again}
 
@@ -32,7 +32,17 @@ lone_depth limit (object fs) h = absurd h
 pub lone_document : (limit d : ℕ) (t : Written) → IsLone t → (out limit t d).stop ≡ whole → Doc limit (out limit t d).text (marks t)
 lone_document limit d t h w = alone limit (out limit t d).text (marks t) (lone_read limit d t h w) (lone_depth limit t h)
 
-pub lone_once : (limit other d e : ℕ) (t u : Written) → IsLone t → IsLone u → (out limit t d).stop ≡ whole → (out other u e).stop ≡ whole → (out limit t d).text ≡ (out other u e).text → t ≡ u
-lone_once limit other d e t u h k v w same =
-    let f = one_front _ _ [] [] _ _ (lone_read limit d t h v) (lone_read other e u k w) tt tt (append-nil _ ∙ same ∙ sym (append-nil _)) in
-    sym (tree_again limit t d v) ∙ (ap unmarked f.1 ∙ tree_again other u e w)
+-- a text that is written of a scalar stops at its end
+ends : (limit d : ℕ) (t : Written) (s : List ℕ) → IsLoneText limit d t s → (out limit t d).stop ≡ whole
+ends limit d t s h = ap (λ o. o.stop) h.text
+
+pub text_read : (limit d : ℕ) (t : Written) (s : List ℕ) → IsLoneText limit d t s → Val s (marks t)
+text_read limit d t s h = subst (λ o. Val o.text (marks t)) h.text (lone_read limit d t h.lone (ends limit d t s h))
+
+pub text_document : (limit d : ℕ) (t : Written) (s : List ℕ) → IsLoneText limit d t s → Doc limit s (marks t)
+text_document limit d t s h = subst (λ o. Doc limit o.text (marks t)) h.text (lone_document limit d t h.lone (ends limit d t s h))
+
+pub text_once : (limit other d e : ℕ) (t u : Written) (s : List ℕ) → IsLoneText limit d t s → IsLoneText other e u s → t ≡ u
+text_once limit other d e t u s h k =
+    let f = one_front s s [] [] _ _ (text_read limit d t s h) (text_read other e u s k) tt tt refl in
+    sym (tree_again limit t d (ends limit d t s h)) ∙ (ap unmarked f.1 ∙ tree_again other u e (ends other e u s k))

@@ -10,6 +10,10 @@ pub record StartsWithScalar (t : List ℕ) (c : ℕ) (rest : List ℕ) : Type 0 
   pub scalar : IsScalar c
   pub utf8 : IsUtf8 rest
 
+-- each character stands for itself
+abbrev pub NeedsNoEscape : ℕ → List ℕ → Type 0
+NeedsNoEscape q t = escaped_all q (chars t) ≡ chars t
+
 -- the escaped text is raw, an escape, and what follows, escaped
 pub record SplitsAtEscape (q : ℕ) (t raw escape after : List ℕ) : Type 0 where
   pub text : escaped_all q (chars t) ≡ chars raw ++ (chars escape ++ escaped_all q (chars after))

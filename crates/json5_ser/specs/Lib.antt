@@ -6,6 +6,7 @@ pub mod Writes
 pub mod Pieces
 pub mod Named
 pub mod Texts
+pub mod Quotes
 pub mod Escaping
 pub mod ValueTrees
 pub mod Lone

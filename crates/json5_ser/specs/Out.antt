@@ -1,10 +1,11 @@
 -- The written text of a tree, and where it stops.
--- Each member of a collection stands on a line of its own, two spaces a level, with a comma behind it.
+-- Each member of a collection stands on a line of its own, two spaces a level, and a comma follows it.
 use Rattle.std.specs.Prelude.{ℕ, ◌+◌, ◌*◌, List, [], ◌∷◌, ◌++◌, Bool, true, false, replicate, nat_lt, cond}
 use Rattle.json5_grammar.specs.Characters.{line_feed, comma_sign, colon_sign, left_bracket, right_bracket, left_brace, right_brace}
 use Rattle.json5_grammar.specs.Numbers.{Number}
 use Rattle.json5_grammar.specs.NumberText.{number_text}
 use Rattle.json5_grammar.specs.Quoting.{quoted_text, key_text}
+use Rattle.json5_grammar.specs.Documents.{max_depth}
 use Rattle.json5_grammar.specs.Values.{null_text, true_text, false_text}
 use Rattle.json5_ser.specs.Writable.{is_writable}
 use Rattle.json5_ser.specs.WrittenTrees as written
@@ -70,7 +71,7 @@ closing d false bracket = piece (bracket ∷ [])
 abbrev pub element_out : ℕ → Out → Out
 element_out d o = piece (line (d + 1)) then (o then piece (comma_sign ∷ []))
 
--- a key of an object within d others, and what stands behind it
+-- a key of an object within d others, and what follows it
 abbrev pub key_part : ℕ → Key → Out
 key_part d k = piece (line (d + 1)) then key_out k
 
@@ -87,7 +88,7 @@ abbrev mutual
   out limit (written.array ts) d = opening limit d left_bracket then elements_out limit ts d false
   out limit (written.object fs) d = opening limit d left_brace then fields_out limit fs d false
 
-  -- what stands behind the bracket that opens a list; the test says that something stands in it already
+  -- what follows the bracket that opens a list; the test says that something stands in it already
   pub elements_out : ℕ → Elements → ℕ → Bool → Out
   elements_out limit no_element d started = closing d started right_bracket
   elements_out limit (element t ts) d started = element_out d (out limit t (d + 1)) then elements_out limit ts d true
@@ -95,3 +96,7 @@ abbrev mutual
   pub fields_out : ℕ → Fields → ℕ → Bool → Out
   fields_out limit no_field d started = closing d started right_brace
   fields_out limit (field k t fs) d started = key_part d k then (value_part (out limit t (d + 1)) then fields_out limit fs d true)
+
+-- the text of a whole tree
+abbrev pub text_of : Written → Out
+text_of t = out max_depth t 0

@@ -5,7 +5,9 @@ use Rattle.std.specs.Io.KnownBytes.{Appends, Keeps}
 use Rattle.json5_grammar.specs.declared.code.ErrorCode.TheVariants as codes
 use Rattle.json5_text.specs.declared.error.Error.{Error}
 use Rattle.json5_text.specs.Errors.{Kind, code, custom, failed_write, kind_of, place_of}
-use Rattle.json5_ser.specs.Out.{Out, Stop, whole, invalid_key, too_deep}
+use Rattle.json5_grammar.specs.Documents.{max_depth}
+use Rattle.json5_ser.specs.WrittenTrees.{Written}
+use Rattle.json5_ser.specs.Out.{Out, Stop, whole, invalid_key, too_deep, out}
 
 -- the bytes that the writer holds, where they are known; how many brackets are open; whether a call was refused
 pub record Seen : Type 0 where
@@ -29,7 +31,7 @@ pub record Stopped (s : Stop) (o : Out) (old new : Seen) : Type 0 where
   pub bytes : Appends old.known new.known (encode_utf8_all o.text)
   pub failed : new.failed ≡ true
 
--- the writer failed, and got a beginning of the text
+-- the writer failed, and got a prefix of the text
 pub record Broke (o : Out) (old new : Seen) : Type 0 where
   pub was : old.failed ≡ false
   pub front : List ℕ
@@ -77,6 +79,10 @@ pub record Refuses (o : Out) (old : Seen) (e : Error) (new : Seen) : Type 0 wher
 abbrev pub Writes : {A : Type 0} → Out → Seen → Result A Error → Seen → Type 0
 Writes o old (Ok x) new = Wrote o old new
 Writes o old (Err e) new = Refuses o old e new
+
+-- what a call did that writes this tree within the brackets that are open
+abbrev pub WritesTree : {A : Type 0} → Written → Seen → Result A Error → Seen → Type 0
+WritesTree t old result new = Writes (out max_depth t old.depth) old result new
 
 -- nothing is written yet
 abbrev pub fresh : Option (List ℕ) → Seen

@@ -1,13 +1,14 @@
 //! Decimals in plain notation.
 
-ghost use Rattle.std.specs.Prelude.{◌≡◌, ◌<◌, false, replicate, slice_index, IsTrue};
+ghost use Rattle.std.specs.Prelude.{◌≡◌, ◌<◌, replicate, slice_index, IsTrue};
 ghost use Rattle.std.specs.Fmt.{sign_text};
 ghost use Rattle.json5_grammar.specs.Characters.{is_digit, Each};
 ghost use Rattle.json5_grammar.specs.Numbers as numbers;
 ghost use Rattle.json5_grammar.specs.NumberText.{digits_text, pointed};
+ghost use Rattle.json5_text.specs.NumberDecimals.{digits_in, exponent_in};
 ghost use Rattle.json5_ser.specs.WrittenTrees.{number};
-ghost use Rattle.json5_ser.specs.Out.{out, piece};
-ghost use Rattle.json5_ser.specs.Writes.{Writes};
+ghost use Rattle.json5_ser.specs.Out.{piece};
+ghost use Rattle.json5_ser.specs.Writes.{Writes, WritesTree};
 ghost use Rattle.json5_ser.specs.Pieces.{is_ascii_text, IsRun};
 
 use crate::Serializer;
@@ -36,8 +37,7 @@ impl<W: Write + Drop> Serializer<W> {
 
     /// Writes one character `count` times, in pieces as long as `run`, which consists of it.
     fn put_run(&mut self, run: &str, count: usize) -> Result<()>
-        requires run { IsRun run.now }
-        requires ready { self.old.failed ≡ false }
+        requires { IsRun run.now }
         ensures { Writes (piece (replicate count (slice_index run.now 0))) self.old result self.new }
     {
         let mut left = count;
@@ -50,15 +50,14 @@ impl<W: Write + Drop> Serializer<W> {
 
     /// The digits with a point before the last `places` of them, and zeros where there are no more.
     fn put_pointed(&mut self, digits: &str, places: usize) -> Result<()>
-        requires digits { Each is_digit digits.now }
-        requires ready { self.old.failed ≡ false }
+        requires { Each is_digit digits.now }
         ensures { Writes (piece (pointed digits.now places)) self.old result self.new }
     {
         if places < digits.len() {
-            let (before, behind) = digits.split_at(digits.len() - places);
+            let (before, after) = digits.split_at(digits.len() - places);
             self.put_ascii(before)?;
             self.put_ascii(".")?;
-            return self.put_ascii(behind);
+            return self.put_ascii(after);
         }
         self.put_ascii("0.")?;
         self.put_run(ZEROS, places - digits.len())?;
@@ -66,11 +65,10 @@ impl<W: Write + Drop> Serializer<W> {
     }
 
     /// The digits times ten to the exponent.
-    fn put_finite(&mut self, digits: &str, exponent: i16) -> Result<()>
-        requires digits { Each is_digit digits.now }
-        requires ready { self.old.failed ≡ false }
-        ensures { Writes (piece (digits_text digits.now exponent)) self.old result self.new }
+    fn put_finite(&mut self, value: &Decimal) -> Result<()>
+        ensures { Writes (piece (digits_text (digits_in value.now) (exponent_in value.now))) self.old result self.new }
     {
+        let (digits, exponent) = (value.digits(), value.exponent());
         if digits.is_empty() {
             return self.put_ascii("0.0");
         }
@@ -86,7 +84,7 @@ impl<W: Write + Drop> Serializer<W> {
     /// Writes the number in plain notation, always with a point; else `Infinity` or `NaN`. A minus
     /// stands before what is negative, zero too.
     pub fn serialize_decimal(&mut self, value: &Decimal) -> Result<()>
-        ensures { Writes (out 128 (number (numbers.decimal value.now)) self.old.depth) self.old result self.new }
+        ensures { WritesTree (number (numbers.decimal value.now)) self.old result self.new }
     {
         self.put_ascii(sign(value.is_negative()))?;
         if value.is_infinite() {
@@ -95,6 +93,6 @@ impl<W: Write + Drop> Serializer<W> {
         if value.is_nan() {
             return self.put_ascii("NaN");
         }
-        self.put_finite(value.digits(), value.exponent())
+        self.put_finite(value)
     }
 }

@@ -1,10 +1,10 @@
 //! The values that can be written.
 
-ghost use Rattle.std.specs.Prelude.{pos, [], ◌∷◌, string_bytes};
+ghost use Rattle.std.specs.Prelude.{[], ◌∷◌, string_bytes};
 ghost use Rattle.std.specs.Str.{chars};
 ghost use Rattle.json5_text.specs.Cows.{cow_bytes};
-ghost use Rattle.json5_grammar.specs.Numbers.{whole, decimal};
-ghost use Rattle.json5_ser.specs.WrittenTrees.{null, boolean, number, text};
+ghost use Rattle.json5_grammar.specs.Numbers.{decimal};
+ghost use Rattle.json5_ser.specs.WrittenTrees.{null, boolean, number, natural, integer, text};
 
 use crate::{Serialize, Serializer};
 use json5_text::cow_str::CowStr;
@@ -29,7 +29,7 @@ impl Serialize for bool {
 }
 
 impl Serialize for u8 {
-    ghost tree = { λ n. number (whole (pos n)) };
+    ghost tree = { natural };
 
     fn serialize<W: Write + Drop>(&self, ser: &mut Serializer<W>) -> Result<()> {
         ser.serialize_u8(*self)
@@ -37,7 +37,7 @@ impl Serialize for u8 {
 }
 
 impl Serialize for u16 {
-    ghost tree = { λ n. number (whole (pos n)) };
+    ghost tree = { natural };
 
     fn serialize<W: Write + Drop>(&self, ser: &mut Serializer<W>) -> Result<()> {
         ser.serialize_u16(*self)
@@ -45,7 +45,7 @@ impl Serialize for u16 {
 }
 
 impl Serialize for u32 {
-    ghost tree = { λ n. number (whole (pos n)) };
+    ghost tree = { natural };
 
     fn serialize<W: Write + Drop>(&self, ser: &mut Serializer<W>) -> Result<()> {
         ser.serialize_u32(*self)
@@ -53,7 +53,7 @@ impl Serialize for u32 {
 }
 
 impl Serialize for u64 {
-    ghost tree = { λ n. number (whole (pos n)) };
+    ghost tree = { natural };
 
     fn serialize<W: Write + Drop>(&self, ser: &mut Serializer<W>) -> Result<()> {
         ser.serialize_u64(*self)
@@ -61,7 +61,7 @@ impl Serialize for u64 {
 }
 
 impl Serialize for u128 {
-    ghost tree = { λ n. number (whole (pos n)) };
+    ghost tree = { natural };
 
     fn serialize<W: Write + Drop>(&self, ser: &mut Serializer<W>) -> Result<()> {
         ser.serialize_u128(*self)
@@ -69,7 +69,7 @@ impl Serialize for u128 {
 }
 
 impl Serialize for i8 {
-    ghost tree = { λ n. number (whole n) };
+    ghost tree = { integer };
 
     fn serialize<W: Write + Drop>(&self, ser: &mut Serializer<W>) -> Result<()> {
         ser.serialize_i8(*self)
@@ -77,7 +77,7 @@ impl Serialize for i8 {
 }
 
 impl Serialize for i16 {
-    ghost tree = { λ n. number (whole n) };
+    ghost tree = { integer };
 
     fn serialize<W: Write + Drop>(&self, ser: &mut Serializer<W>) -> Result<()> {
         ser.serialize_i16(*self)
@@ -85,7 +85,7 @@ impl Serialize for i16 {
 }
 
 impl Serialize for i32 {
-    ghost tree = { λ n. number (whole n) };
+    ghost tree = { integer };
 
     fn serialize<W: Write + Drop>(&self, ser: &mut Serializer<W>) -> Result<()> {
         ser.serialize_i32(*self)
@@ -93,7 +93,7 @@ impl Serialize for i32 {
 }
 
 impl Serialize for i64 {
-    ghost tree = { λ n. number (whole n) };
+    ghost tree = { integer };
 
     fn serialize<W: Write + Drop>(&self, ser: &mut Serializer<W>) -> Result<()> {
         ser.serialize_i64(*self)
@@ -101,7 +101,7 @@ impl Serialize for i64 {
 }
 
 impl Serialize for i128 {
-    ghost tree = { λ n. number (whole n) };
+    ghost tree = { integer };
 
     fn serialize<W: Write + Drop>(&self, ser: &mut Serializer<W>) -> Result<()> {
         ser.serialize_i128(*self)
@@ -120,7 +120,7 @@ impl Serialize for &str {
     ghost tree = { λ s. text (chars s.now) };
 
     fn serialize<W: Write + Drop>(&self, ser: &mut Serializer<W>) -> Result<()> {
-        ser.serialize_str(self)
+        ser.serialize_str(*self)
     }
 }
 
@@ -128,7 +128,7 @@ impl Serialize for String {
     ghost tree = { λ s. text (chars (string_bytes s)) };
 
     fn serialize<W: Write + Drop>(&self, ser: &mut Serializer<W>) -> Result<()> {
-        ser.serialize_str(self.as_str())
+        ser.serialize_str(self)
     }
 }
 

@@ -5,7 +5,7 @@ ghost use Rattle.json5_ser.specs.Pieces.{Pushes};
 use std::io::{self, ErrorKind, Write};
 
 /// Calls `write` until all bytes are taken. An error, `Interrupted` too, and a call that takes nothing, which is answered with
-/// `WriteZero`, end it, and no call follows: then a beginning of the bytes was written.
+/// `WriteZero`, end it, and no call follows: then a prefix of the bytes was written.
 pub fn write_whole<W: Write>(writer: &mut W, bytes: &[u8]) -> io::Result<()>
     ensures { Pushes (W.contents writer.old) (W.contents writer.new) bytes.now result }
 {

@@ -1,31 +1,52 @@
 //! How texts are put between quotes.
 
-ghost use Rattle.std.specs.Prelude.{◌≡◌, [], ◌∷◌, MatchOption, true};
+ghost use Rattle.std.specs.Prelude.{◌≡◌, [], ◌∷◌, MatchOption};
 ghost use Rattle.std.specs.Str.{chars};
-ghost use Rattle.json5_grammar.specs.Quoting.{escaped_all, quote_for};
-ghost use Rattle.json5_grammar.specs.Strings.{is_quote};
-ghost use Rattle.json5_ser.specs.Escaping.{StartsWithScalar, SplitsAtEscape};
+ghost use Rattle.json5_grammar.specs.Quoting.{quote_for};
+ghost use Rattle.json5_ser.specs.Quotes.{delimiter};
+ghost use Rattle.json5_ser.specs.Escaping.{NeedsNoEscape, SplitsAtEscape, StartsWithScalar};
 
 use json5_text::char::escape;
 
-/// `'` where the text holds `"` and no `'`, else `"`.
-pub(crate) fn quote_for(text: &str) -> char
-    ensures { result ≡ quote_for (chars text.now) }
-{
-    if text.contains('"') && !text.contains('\'') {
-        '\''
-    } else {
-        '"'
-    }
+/// What a text stands between.
+#[derive(Clone, Copy)]
+pub(crate) enum Quote {
+    Single,
+    Double,
 }
 
-/// The quote as a text.
-#[tactic(auto, using(crate::proofs::PiecesWritten::chars_double_quote, crate::proofs::PiecesWritten::chars_single_quote))]
-pub(crate) fn quote_text(quote: char) -> &'static str
-    requires { is_quote quote ≡ true }
-    ensures { chars result.now ≡ quote ∷ [] }
-{
-    if quote == '\'' { "'" } else { "\"" }
+impl Quote {
+    /// The single quote where the text holds `"` and no `'`, else the double quote.
+    pub(crate) fn around(text: &str) -> Quote
+        ensures { delimiter result ≡ quote_for (chars text.now) }
+    {
+        if text.contains('"') && !text.contains('\'') {
+            Quote::Single
+        } else {
+            Quote::Double
+        }
+    }
+
+    /// The quote as a character.
+    fn delimiter(self) -> char
+        ensures { result ≡ delimiter self }
+    {
+        match self {
+            Quote::Single => '\'',
+            Quote::Double => '"',
+        }
+    }
+
+    /// The quote as a text.
+    #[tactic(auto, using(crate::proofs::PiecesWritten::chars_double_quote, crate::proofs::PiecesWritten::chars_single_quote))]
+    pub(crate) fn text(self) -> &'static str
+        ensures { chars result.now ≡ delimiter self ∷ [] }
+    {
+        match self {
+            Quote::Single => "'",
+            Quote::Double => "\"",
+        }
+    }
 }
 
 /// The first character, and what follows it.
@@ -37,15 +58,14 @@ fn front(text: &str) -> Option<(char, &str)>
     Some((c, rest.as_str()))
 }
 
-/// The front of the text that is written as it stands, the escape of the character behind it, and
+/// The front of the text that is written as it stands, the escape of the character that follows, and
 /// what follows that character; None where the whole text is written as it stands.
-pub(crate) fn split_at_escape(quote: char, text: &str) -> Option<(&str, &'static str, &str)>
-    requires { is_quote quote ≡ true }
-    ensures { MatchOption result (escaped_all quote (chars text.now) ≡ chars text.now) (λ p. SplitsAtEscape quote text.now p.0.now p.1.now p.2.now) }
+pub(crate) fn split_at_escape(quote: Quote, text: &str) -> Option<(&str, &'static str, &str)>
+    ensures { MatchOption result (NeedsNoEscape (delimiter quote) text.now) (λ p. SplitsAtEscape (delimiter quote) text.now p.0.now p.1.now p.2.now) }
 {
     let mut rest = text;
     while let Some((c, after)) = front(rest) {
-        if let Some(escaped) = escape(quote, c) {
+        if let Some(escaped) = escape(quote.delimiter(), c) {
             let (raw, _) = text.split_at(text.len() - rest.len());
             return Some((raw, escaped, after));
         }

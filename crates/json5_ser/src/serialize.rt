@@ -1,8 +1,7 @@
 //! What can be written.
 
 ghost use Rattle.json5_ser.specs.WrittenTrees.{Written};
-ghost use Rattle.json5_ser.specs.Out.{out};
-ghost use Rattle.json5_ser.specs.Writes.{Writes};
+ghost use Rattle.json5_ser.specs.Writes.{WritesTree};
 
 use crate::Serializer;
 use json5_text::error::Result;
@@ -16,7 +15,7 @@ pub trait Serialize {
     ///
     /// It refuses with `InvalidKey` or `TooDeep` where the text stops, and then the writer holds
     /// exactly the text before that key or bracket; with a failed write where the writer failed,
-    /// which then holds a beginning of the text; with `Failed` after an earlier refusal.
+    /// which then holds a prefix of the text; with `Failed` after an earlier refusal.
     fn serialize<W: Write + Drop>(&self, ser: &mut Serializer<W>) -> Result<()>
-        ensures { Writes (out 128 (tree self.now) ser.old.depth) ser.old result ser.new };
+        ensures { WritesTree (tree self.now) ser.old result ser.new };
 }

@@ -1,16 +1,17 @@
 //! Writing values to a writer.
 
-ghost use Rattle.std.specs.Prelude.{◌≡◌, ◌≤◌, [], ◌∷◌, true, false, pos};
+ghost use Rattle.std.specs.Prelude.{◌≡◌, ◌≤◌, [], ◌∷◌};
 ghost use Rattle.std.specs.Str.{chars};
-ghost use Rattle.json5_grammar.specs.Numbers.{whole};
-ghost use Rattle.json5_grammar.specs.Strings.{is_quote};
+ghost use Rattle.json5_ser.specs.Quotes.{delimiter};
 ghost use Rattle.json5_grammar.specs.Quoting.{escaped_all};
-ghost use Rattle.json5_ser.specs.WrittenTrees.{null, boolean, number, text};
-ghost use Rattle.json5_ser.specs.Out.{out, piece};
-ghost use Rattle.json5_ser.specs.Writes.{Seen, Writes};
+ghost use Rattle.json5_ser.specs.WrittenTrees.{null, boolean, text};
+ghost use Rattle.json5_grammar.specs.Documents.{max_depth};
+ghost use Rattle.json5_ser.specs.Out.{piece};
+ghost use Rattle.json5_ser.specs.Writes.{Seen, Writes, WritesTree, fresh};
 
+use crate::Serialize;
 use crate::output::write_whole;
-use crate::quoting::{quote_for, quote_text, split_at_escape};
+use crate::quoting::{Quote, split_at_escape};
 use itoa::{Buffer, Integer};
 use json5_text::ErrorCode;
 use json5_text::error::{Error, Result};
@@ -30,13 +31,13 @@ impl<W: Write + Drop> Model for Serializer<W> {
 
     ghost view = { λ s. record { known = W.contents s.writer; depth = s.depth; failed = s.failed } };
 
-    ghost invariant = { λ s. s.depth ≤ 128 };
+    ghost invariant = { λ s. s.depth ≤ max_depth };
 }
 
 impl<W: Write + Drop> Serializer<W> {
     /// Nothing is written yet.
     pub fn new(writer: W) -> Self
-        ensures { result ≡ record { known = W.contents writer; depth = 0; failed = false } }
+        ensures { result ≡ fresh (W.contents writer) }
     {
         Serializer {
             writer,
@@ -58,7 +59,6 @@ impl<W: Write + Drop> Serializer<W> {
     }
 
     /// Writes a piece, unless a call was refused before.
-    #[tactic(auto, using(crate::proofs::Joins::refused_so))]
     pub(crate) fn put(&mut self, text: &str) -> Result<()>
         ensures { Writes (piece (chars text.now)) self.old result self.new }
     {
@@ -74,7 +74,6 @@ impl<W: Write + Drop> Serializer<W> {
         }
     }
 
-    #[tactic(auto, using(crate::proofs::PiecesWritten::chars_number))]
     fn put_integer<I: Integer>(&mut self, value: I) -> Result<()>
         ensures { Writes (piece (I.text value)) self.old result self.new }
     {
@@ -84,17 +83,15 @@ impl<W: Write + Drop> Serializer<W> {
     }
 
     /// Writes `null`.
-    #[tactic(auto, using(crate::proofs::PiecesWritten::chars_null))]
     pub fn serialize_unit(&mut self) -> Result<()>
-        ensures { Writes (out 128 null self.old.depth) self.old result self.new }
+        ensures { WritesTree null self.old result self.new }
     {
         self.put("null")
     }
 
     /// Writes `true` or `false`.
-    #[tactic(auto, using(crate::proofs::PiecesWritten::chars_true, crate::proofs::PiecesWritten::chars_false))]
     pub fn serialize_bool(&mut self, value: bool) -> Result<()>
-        ensures { Writes (out 128 (boolean value) self.old.depth) self.old result self.new }
+        ensures { WritesTree (boolean value) self.old result self.new }
     {
         if value {
             self.put("true")
@@ -105,80 +102,78 @@ impl<W: Write + Drop> Serializer<W> {
 
     /// Writes the decimal digits.
     pub fn serialize_u8(&mut self, value: u8) -> Result<()>
-        ensures { Writes (out 128 (number (whole (pos value))) self.old.depth) self.old result self.new }
+        ensures { WritesTree (⟦<u8 as Serialize>⟧.tree value) self.old result self.new }
     {
-        self.put_integer(value)
+        self.serialize_u128(u128::from(value))
     }
 
     /// Writes the decimal digits.
     pub fn serialize_u16(&mut self, value: u16) -> Result<()>
-        ensures { Writes (out 128 (number (whole (pos value))) self.old.depth) self.old result self.new }
+        ensures { WritesTree (⟦<u16 as Serialize>⟧.tree value) self.old result self.new }
     {
-        self.put_integer(value)
+        self.serialize_u128(u128::from(value))
     }
 
     /// Writes the decimal digits.
     pub fn serialize_u32(&mut self, value: u32) -> Result<()>
-        ensures { Writes (out 128 (number (whole (pos value))) self.old.depth) self.old result self.new }
+        ensures { WritesTree (⟦<u32 as Serialize>⟧.tree value) self.old result self.new }
     {
-        self.put_integer(value)
+        self.serialize_u128(u128::from(value))
     }
 
     /// Writes the decimal digits.
     pub fn serialize_u64(&mut self, value: u64) -> Result<()>
-        ensures { Writes (out 128 (number (whole (pos value))) self.old.depth) self.old result self.new }
+        ensures { WritesTree (⟦<u64 as Serialize>⟧.tree value) self.old result self.new }
     {
-        self.put_integer(value)
+        self.serialize_u128(u128::from(value))
     }
 
     /// Writes the decimal digits.
     pub fn serialize_u128(&mut self, value: u128) -> Result<()>
-        ensures { Writes (out 128 (number (whole (pos value))) self.old.depth) self.old result self.new }
+        ensures { WritesTree (⟦<u128 as Serialize>⟧.tree value) self.old result self.new }
     {
         self.put_integer(value)
     }
 
-    /// Writes the decimal digits, behind a minus where the number is negative.
+    /// Writes the decimal digits, after a minus where the number is negative.
     pub fn serialize_i8(&mut self, value: i8) -> Result<()>
-        ensures { Writes (out 128 (number (whole value)) self.old.depth) self.old result self.new }
+        ensures { WritesTree (⟦<i8 as Serialize>⟧.tree value) self.old result self.new }
     {
-        self.put_integer(value)
+        self.serialize_i128(i128::from(value))
     }
 
-    /// Writes the decimal digits, behind a minus where the number is negative.
+    /// Writes the decimal digits, after a minus where the number is negative.
     pub fn serialize_i16(&mut self, value: i16) -> Result<()>
-        ensures { Writes (out 128 (number (whole value)) self.old.depth) self.old result self.new }
+        ensures { WritesTree (⟦<i16 as Serialize>⟧.tree value) self.old result self.new }
     {
-        self.put_integer(value)
+        self.serialize_i128(i128::from(value))
     }
 
-    /// Writes the decimal digits, behind a minus where the number is negative.
+    /// Writes the decimal digits, after a minus where the number is negative.
     pub fn serialize_i32(&mut self, value: i32) -> Result<()>
-        ensures { Writes (out 128 (number (whole value)) self.old.depth) self.old result self.new }
+        ensures { WritesTree (⟦<i32 as Serialize>⟧.tree value) self.old result self.new }
     {
-        self.put_integer(value)
+        self.serialize_i128(i128::from(value))
     }
 
-    /// Writes the decimal digits, behind a minus where the number is negative.
+    /// Writes the decimal digits, after a minus where the number is negative.
     pub fn serialize_i64(&mut self, value: i64) -> Result<()>
-        ensures { Writes (out 128 (number (whole value)) self.old.depth) self.old result self.new }
+        ensures { WritesTree (⟦<i64 as Serialize>⟧.tree value) self.old result self.new }
     {
-        self.put_integer(value)
+        self.serialize_i128(i128::from(value))
     }
 
-    /// Writes the decimal digits, behind a minus where the number is negative.
+    /// Writes the decimal digits, after a minus where the number is negative.
     pub fn serialize_i128(&mut self, value: i128) -> Result<()>
-        ensures { Writes (out 128 (number (whole value)) self.old.depth) self.old result self.new }
+        ensures { WritesTree (⟦<i128 as Serialize>⟧.tree value) self.old result self.new }
     {
         self.put_integer(value)
     }
 
     /// The text with the characters escaped that don't stand for themselves between these quotes.
     /// What stands between two escapes is written in one piece.
-    fn put_escaped(&mut self, quote: char, text: &str) -> Result<()>
-        requires quote { is_quote quote ≡ true }
-        requires ready { self.old.failed ≡ false }
-        ensures { Writes (piece (escaped_all quote (chars text.now))) self.old result self.new }
+    fn put_escaped(&mut self, quote: Quote, text: &str) -> Result<()>
+        ensures { Writes (piece (escaped_all (delimiter quote) (chars text.now))) self.old result self.new }
     {
         let mut rest = text;
         while let Some((raw, escaped, after)) = split_at_escape(quote, rest) {
@@ -191,10 +186,10 @@ impl<W: Write + Drop> Serializer<W> {
 
     /// Writes a text between quotes: between `'` where it holds `"` and no `'`, else between `"`.
     pub fn serialize_str(&mut self, value: &str) -> Result<()>
-        ensures { Writes (out 128 (text (chars value.now)) self.old.depth) self.old result self.new }
+        ensures { WritesTree (text (chars value.now)) self.old result self.new }
     {
-        let quote = quote_for(value);
-        let mark = quote_text(quote);
+        let quote = Quote::around(value);
+        let mark = quote.text();
         self.put(mark)?;
         self.put_escaped(quote, value)?;
         self.put(mark)
@@ -202,7 +197,7 @@ impl<W: Write + Drop> Serializer<W> {
 
     /// Writes the text of one character.
     pub fn serialize_char(&mut self, value: char) -> Result<()>
-        ensures { Writes (out 128 (text (value ∷ [])) self.old.depth) self.old result self.new }
+        ensures { WritesTree (text (value ∷ [])) self.old result self.new }
     {
         let mut buffer = [0u8; 4];
         self.serialize_str(value.encode_utf8(&mut buffer))

@@ -1,8 +1,8 @@
 //! Whole texts.
 
 ghost use Rattle.std.specs.Prelude.{string_bytes, IfOk, IfErr};
-ghost use Rattle.json5_ser.specs.Out.{out};
-ghost use Rattle.json5_ser.specs.Writes.{Writes, fresh, ended};
+ghost use Rattle.json5_ser.specs.Out.{text_of};
+ghost use Rattle.json5_ser.specs.Writes.{WritesTree, fresh, ended};
 ghost use Rattle.json5_ser.specs.Texts.{IsText, RefusesText};
 ghost use Rattle.json5_ser.specs.Named.{named};
 
@@ -32,10 +32,10 @@ impl<W: Write> Write for Lent<'_, W> {
     }
 }
 
-/// Writes the text of a value. After a refusal the writer holds a beginning of the text: exactly
+/// Writes the text of a value. After a refusal the writer holds a prefix of the text: exactly
 /// the text before the key or the bracket at `InvalidKey` or `TooDeep`. `flush` isn't called.
 pub fn to_writer<T: Serialize, W: Write>(w: &mut W, value: &T) -> Result<()>
-    ensures { Writes (out 128 (T.tree value.now) 0) (fresh (W.contents w.old)) result (ended (W.contents w.new) result) }
+    ensures { WritesTree (T.tree value.now) (fresh (W.contents w.old)) result (ended (W.contents w.new) result) }
 {
     let mut ser = Serializer::new(Lent { writer: w });
     let result = value.serialize(&mut ser);
@@ -47,8 +47,8 @@ pub fn to_writer<T: Serialize, W: Write>(w: &mut W, value: &T) -> Result<()>
 /// The text of a value. It refuses with `InvalidKey` or `TooDeep` where the text stops, and with
 /// `OutOfMemory` where a growth was refused.
 pub fn to_string<T: Serialize>(alloc: Global, value: &T) -> Result<String>
-    ensures whole { IfOk result (λ s. IsText (out 128 (T.tree value.now) 0) (string_bytes s)) }
-    ensures refused { IfErr result (λ e. RefusesText (out 128 (T.tree value.now) 0) e) }
+    ensures whole { IfOk result (λ s. IsText (text_of (T.tree value.now)) (string_bytes s)) }
+    ensures refused { IfErr result (RefusesText (text_of (T.tree value.now))) }
 {
     let mut ser = Serializer::new(Vec::new(alloc));
     let written = value.serialize(&mut ser);

@@ -1,10 +1,8 @@
 //! Values of any kind, written.
 
-ghost use Rattle.json5_grammar.specs.Numbers.{whole};
-ghost use Rattle.json5_ser.specs.WrittenTrees.{number};
+ghost use Rattle.json5_ser.specs.WrittenTrees.{integer};
 ghost use Rattle.json5_ser.specs.ValueTrees.{value_tree};
-ghost use Rattle.json5_ser.specs.Out.{out};
-ghost use Rattle.json5_ser.specs.Writes.{Writes};
+ghost use Rattle.json5_ser.specs.Writes.{WritesTree};
 
 use crate::{Serialize, Serializer};
 use json5_text::error::Result;
@@ -16,24 +14,18 @@ impl Serialize for Value {
     ghost tree = { value_tree };
 
     fn serialize<W: Write + Drop>(&self, ser: &mut Serializer<W>) -> Result<()> {
-        write_value(self, ser)
-    }
-}
-
-fn write_value<W: Write + Drop>(value: &Value, ser: &mut Serializer<W>) -> Result<()>
-    ensures { Writes (out 128 (value_tree value.now) ser.old.depth) ser.old result ser.new }
-{
-    match value {
-        Value::Null => ser.serialize_unit(),
-        Value::Bool(truth) => ser.serialize_bool(*truth),
-        Value::Whole(number) => write_whole(*number, ser),
-        Value::Decimal(number) => ser.serialize_decimal(number),
-        Value::String(text) => ser.serialize_str(text.as_str()),
+        match self {
+            Value::Null => ser.serialize_unit(),
+            Value::Bool(truth) => ser.serialize_bool(*truth),
+            Value::Whole(number) => write_whole(*number, ser),
+            Value::Decimal(number) => ser.serialize_decimal(number),
+            Value::String(text) => ser.serialize_str(text.as_str()),
+        }
     }
 }
 
 fn write_whole<W: Write + Drop>(value: Whole, ser: &mut Serializer<W>) -> Result<()>
-    ensures { Writes (out 128 (number (whole value)) ser.old.depth) ser.old result ser.new }
+    ensures { WritesTree (integer value) ser.old result ser.new }
 {
     if let Some(positive) = value.as_u128() {
         return ser.serialize_u128(positive);

@@ -1,5 +1,5 @@
-use Rattle.json5_ser.proofs.LoneRead.{lone_once}
+use Rattle.json5_ser.proofs.LoneRead.{text_once}
 use Rattle.json5_ser.proofs.laws.one_scalar.Goals as goal
 
 pub returns : goal.returns
-returns c = lone_once
+returns c = text_once

@@ -1,4 +1,4 @@
-use Rattle.std.proofs.Common.{◌≡◌, ℕ, ◌-◌, List, ◌++◌, length, take, drop, sym, ap, ◌∙◌, append_assoc, take-append-drop}
+use Rattle.std.proofs.Common.{rules, ◌≡◌, ℕ, ◌-◌, List, ◌++◌, length, take, drop, sym, ap, ◌∙◌, append_assoc, take-append-drop}
 use Rattle.std.proofs.lemmas.List.{take_rest}
 use Rattle.std.proofs.KnownBytes.{Appends-trans}
 use Rattle.json5_ser.proofs.output.write_whole.Goals as goal
@@ -13,3 +13,6 @@ loop-rest-preserved g c =
     let rest = c.loop-rest.rest.now in
     let n = c.in-Ok.n in
     (i.0 ++ take n rest, moves_front _ i.0 rest n i.1, Appends-trans _ _ _ _ _ i.2 c.in-Ok.ensures.bytes)
+
+pub returns-in-Ok-eq0 : goal.returns-in-Ok-eq0
+returns-in-Ok-eq0 g c = search rules

@@ -15,7 +15,7 @@ unescaped : (all : Out) (q : ℕ) (o m : Seen) (t : List ℕ) → escaped_all q 
 unescaped all q o m t e h = subst (λ x. Reaches all o m (piece x)) e h
 
 pub loop-raw-init : goal.loop-raw-init
-loop-raw-init g c = record { reaches = Reaches-none _ _ c.requires.ready; utf8 = c.utf8.text }
+loop-raw-init g c = record { reaches = Reaches-none _ _; utf8 = c.utf8.text }
 
 pub returns-in_err-put : goal.returns-in_err-put
 returns-in_err-put g c =

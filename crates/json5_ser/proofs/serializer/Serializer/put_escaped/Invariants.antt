@@ -1,13 +1,14 @@
 use Rattle.std.proofs.Common.{length}
 use Rattle.std.specs.Str.{IsUtf8, chars}
 use Rattle.json5_grammar.specs.Quoting.{escaped_all}
+use Rattle.json5_ser.specs.Quotes.{delimiter}
 use Rattle.json5_ser.specs.Out.{piece}
 use Rattle.json5_ser.proofs.Joins.{Reaches}
 use Rattle.json5_ser.proofs.serializer.Serializer.put_escaped.Given as goal
 
 abbrev pub invariant-loop-raw : goal.invariant-loop-raw
 invariant-loop-raw g l = record {
-  reaches : Reaches (piece (escaped_all l.fn.quote (chars l.fn.text))) l.fn.self l.self (piece (escaped_all l.fn.quote (chars l.rest)));
+  reaches : Reaches (piece (escaped_all (delimiter l.fn.quote) (chars l.fn.text))) l.fn.self l.self (piece (escaped_all (delimiter l.fn.quote) (chars l.rest)));
   utf8 : IsUtf8 l.rest;
 }
 

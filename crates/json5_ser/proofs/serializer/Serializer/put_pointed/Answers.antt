@@ -6,10 +6,10 @@ use Rattle.json5_ser.proofs.DecimalPieces.{pointed_within, pointed_beyond}
 use Rattle.json5_ser.proofs.serializer.Serializer.put_pointed.Goals as goal
 
 pub split_at-requires : goal.split_at-requires
-split_at-requires g c = IsCharBoundary-from_ascii _ _ (IsAscii-text c.args.digits.now (ascii_digits c.requires.digits)) (omega arith)
+split_at-requires g c = IsCharBoundary-from_ascii _ _ (IsAscii-text c.args.digits.now (ascii_digits c.requires)) (omega arith)
 
 pub put_ascii-requires : goal.put_ascii-requires
-put_ascii-requires g c = rw c.split_at.ensures.front (ascii_front c.args.digits.now (length c.args.digits.now - c.args.places) (ascii_digits c.requires.digits))
+put_ascii-requires g c = rw c.split_at.ensures.front (ascii_front c.args.digits.now (length c.args.digits.now - c.args.places) (ascii_digits c.requires))
 
 pub returns-in_err-put_ascii : goal.returns-in_err-put_ascii
 returns-in_err-put_ascii g c =
@@ -22,7 +22,7 @@ returns-in_err-put_ascii-2 g c =
     Writes-as _ _ _ _ _ parts (Reaches-exit _ _ _ _ _ _ _ _ (Reaches-first _ _ _ _ c.in_ok-put_ascii.ensures) c.from_residual-in_err-put_ascii-2.ensures.1 c.in_err-put_ascii-2.ensures)
 
 pub put_ascii-requires-then-places-digits-2 : goal.put_ascii-requires-then-places-digits-2
-put_ascii-requires-then-places-digits-2 g c = rw c.split_at.ensures.back (ascii_back c.args.digits.now (length c.args.digits.now - c.args.places) (ascii_digits c.requires.digits))
+put_ascii-requires-then-places-digits-2 g c = rw c.split_at.ensures.back (ascii_back c.args.digits.now (length c.args.digits.now - c.args.places) (ascii_digits c.requires))
 
 pub returns-then-places-digits : goal.returns-then-places-digits
 returns-then-places-digits g c =
@@ -40,7 +40,7 @@ returns-in_err-put_run g c =
     Writes-as _ _ _ _ _ parts (Reaches-exit _ _ _ _ _ _ _ _ (Reaches-first _ _ _ _ c.in_ok-put_ascii-3.ensures) c.from_residual-in_err-put_run.ensures.1 c.in_err-put_run.ensures)
 
 pub put_ascii-requires-3 : goal.put_ascii-requires-3
-put_ascii-requires-3 g c = ascii_digits c.requires.digits
+put_ascii-requires-3 g c = ascii_digits c.requires
 
 pub returns : goal.returns
 returns g c =

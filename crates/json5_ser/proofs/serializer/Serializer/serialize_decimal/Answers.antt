@@ -1,8 +1,5 @@
 use Rattle.std.proofs.Common.{refl, sym, ap, ◌∙◌}
 use Rattle.std.specs.Fmt.{sign_text}
-use mir.Syntax.{w16}
-use mir.Val.{SFits}
-use Rattle.std.proofs.lemmas.Int.{to_z-of_z}
 use Rattle.json5_ser.proofs.Joins.{Writes-as, Writes-exit, Reaches-first, Reaches-last}
 use Rattle.json5_grammar.specs.Numbers.{decimal}
 use Rattle.json5_ser.proofs.Writables.{Writes-number}
@@ -29,6 +26,5 @@ returns-then-is_nan g c =
 pub returns : goal.returns
 returns g c =
     let mark = c.sign.ensures.text ∙ ap sign_text c.is_negative.ensures.value in
-    let fits : SFits w16 c.exponent.result = record { sfits = c.exponent.type_inv } in
-    let parts = finite_parts c.args.value.now _ _ _ (sym c.if-is_infinite.ensures) (sym c.if-is_nan.ensures) mark c.digits.ensures.value (to_z-of_z w16 _ fits ∙ c.exponent.ensures.value) in
+    let parts = finite_parts c.args.value.now _ (sym c.if-is_infinite.ensures) (sym c.if-is_nan.ensures) mark in
     Writes-number (decimal c.args.value.now) _ _ _ c.is_negative.ensures.normal (Writes-as _ _ _ _ _ parts (Reaches-last _ _ _ _ _ _ (Reaches-first _ _ _ _ c.in_ok-put_ascii.ensures) c.put_finite.ensures))

@@ -1,0 +1,6 @@
+use Rattle.std.proofs.Common.{rules}
+use Rattle.json5_ser.proofs.PiecesWritten.{chars_null}
+use Rattle.json5_ser.proofs.serializer.Serializer.serialize_unit.Goals as goal
+
+pub returns : goal.returns
+returns g c = search (rules, chars_null)
