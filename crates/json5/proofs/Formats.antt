@@ -1,5 +1,5 @@
 -- What the formatter gives is a document of the same tree.
-use Rattle.std.proofs.Common.{◌≡◌, ℕ, Bool, true, false, List, Some, refl, sym, ap, ◌∙◌, subst}
+use Rattle.std.proofs.Common.{◌≡◌, ℕ, Bool, true, false, List, Some, refl, inl, sym, ap, ◌∙◌, subst}
 use Rattle.std.specs.Prelude.{cond, Result, Ok, Err, IfOk, IfErr, MatchResult}
 use Rattle.json5_grammar.specs.declared.code.ErrorCode.TheVariants as codes_of
 use Rattle.json5_grammar.specs.NumberText.{number_text}
@@ -22,7 +22,7 @@ use Rattle.json5_ser.specs.Texts.{IsText, RefusesText, StopsAs}
 use Rattle.json5_ser.specs.ValueTrees.{datum_tree}
 use Rattle.json5_ser.proofs.LoneRead.{lone_document}
 use Rattle.json5_ser.proofs.Unmarked.{tree_again}
-use Rattle.json5.specs.Formatted.{IsScalar, IsFormatted}
+use Rattle.json5.specs.Formatted.{IsScalar, IsFormatted, IsRefused}
 
 -- a scalar's value is written as its tree without marks
 pub same_tree : (t : Tree) (d : Datum) → datum_of t ≡ Some d → datum_tree d ≡ unmarked t
@@ -81,3 +81,12 @@ pub completed : {S : Type 0} (bytes : S → List ℕ) (x : List ℕ) (t u : Tree
     → MatchResult r (λ s. IsText (out 128 (unmarked u) 0) (bytes s)) IsOutOfMemory
 completed bytes x t u d (Ok s) a b is w k = subst (λ z. IsText (out 128 z 0) (bytes s)) (same_tree t d is ∙ ap unmarked (one_tree 128 128 x t u a b)) w
 completed bytes x t u d (Err e) a b is w k = only_memory d e k
+
+-- want of memory is a cause of its own
+pub memory_refused : (x : List ℕ) (e : Error) → IsOutOfMemory e → IsRefused x e
+memory_refused x e m = record {
+  cause = inl m;
+  after_value = λ t r c reads shallow converts. inl m;
+  unprompted = λ k. let same : code codes_of.OutOfMemory ≡ code codes_of.Failed = sym m ∙ k in absurd (cc);
+  document = λ t document scalar. m;
+}

@@ -1,10 +1,14 @@
 -- What the formatter gives.
-use Rattle.std.specs.Prelude.{◌≡◌, ℕ, List, ⊤}
+use Rattle.std.specs.Prelude.{◌≡◌, ◌⊎◌, ℕ, List, ⊤}
 use Rattle.std.specs.Str.{chars}
 use Rattle.json5_grammar.specs.Trees.{Tree, array, object}
 use Rattle.json5_grammar.specs.Documents.{Doc}
 use Rattle.json5_text.specs.declared.error.Error.{Error}
 use Rattle.json5_text.specs.Cursor.{IsOutOfMemory}
+use Rattle.json5_de.specs.Convert.{datum_of}
+use Rattle.json5_de.specs.Law.{IsUnprompted}
+use Rattle.json5_de.specs.Rows.{RefusedAs, any_row}
+use Rattle.json5_de.specs.Texts.{RefusesReading, BlamesRest}
 use Rattle.json5_ser.specs.Out.{out}
 use Rattle.json5_ser.specs.Marks.{unmarked}
 use Rattle.json5_ser.specs.Texts.{IsText}
@@ -24,6 +28,9 @@ pub record IsFormatted (x bytes : List ℕ) : Type 0 where
   pub reads_back : Doc 128 (chars bytes) again
   pub same : unmarked again ≡ unmarked tree
 
--- a refusal that isn't want of memory comes only where the text is no document of a scalar
-abbrev pub IsRefused : List ℕ → Error → Type 0
-IsRefused x e = (t : Tree) → Doc 128 x t → IsScalar t → IsOutOfMemory e
+-- x is refused: as a value of any kind that is read, or for want of memory, which is the only cause where x is a document of a scalar
+pub record IsRefused (x : List ℕ) (e : Error) : Type 0 where
+  pub cause : IsOutOfMemory e ⊎ RefusesReading datum_of (RefusedAs any_row) x e
+  pub after_value : BlamesRest datum_of x e
+  pub unprompted : IsUnprompted e
+  pub document : (t : Tree) → Doc 128 x t → IsScalar t → IsOutOfMemory e

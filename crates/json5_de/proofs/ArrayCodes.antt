@@ -1,106 +1,110 @@
 -- The codes of what is refused round an array's members.
-use Rattle.std.proofs.Common.{◌≡◌, ℕ, Bool, true, false, not, List, [], ◌∷◌, refl, sym, ◌∙◌, subst, ◌⊎◌, inl, inr, Option, Some, None}
+use Rattle.std.proofs.Common.{◌≡◌, ℕ, Bool, true, false, not, List, [], ◌∷◌, refl, ap, arith, sym, subst, ◌⊎◌, inl, inr, Option, Some, None}
 use Rattle.std.specs.Prelude.{◌==◌, ◌||◌, ◌&&◌}
+use Rattle.std.proofs.Math.Bool.{or-true}
 use Rattle.std.proofs.lemmas.List.{append-nil}
 use Rattle.json5_grammar.specs.declared.code.ErrorCode.{ErrorCode}
 use Rattle.json5_grammar.specs.declared.code.ErrorCode.TheVariants as codes
-use Rattle.json5_grammar.specs.declared.position.Position.{Position}
 use Rattle.json5_grammar.specs.Blanks.{Gap, is_solid}
-use Rattle.json5_grammar.specs.Members.{IsSign, IsClose}
+use Rattle.json5_grammar.specs.Members.{IsSign, IsEnd, IsClose}
 use Rattle.json5_grammar.proofs.BlanksRead.{begins_solid}
-use Rattle.json5_grammar.proofs.MembersRead.{comma_solid, bracket_solid, opening_solid}
+use Rattle.json5_grammar.proofs.MembersRead.{comma_solid, bracket_solid}
 use Rattle.json5_grammar.proofs.MembersNowhere.{no_sign}
 use Rattle.json5_text.specs.declared.error.Error.{Error}
-use Rattle.json5_text.specs.Errors.{kind_of, place_of}
 use Rattle.json5_de.specs.State.{State}
-use Rattle.json5_de.specs.Access.{within, Closed, NotOpened, no_bracket, array_missing, too_deep, other_sign, bracket_missing, NotClosed, not_here, behind_comma, AtFull, is_opening, is_comma_or_closing, begins_close}
+use Rattle.json5_de.specs.declared.brackets.Brackets.{Brackets}
+use Rattle.json5_de.specs.Brackets.{AreSigns}
+use Rattle.json5_de.specs.Access.{Closed, NotOpened, no_bracket, text_ends, too_deep, other_sign, bracket_missing, NotClosed, not_here, behind_comma, AtFull, is_opening, is_comma_or_closing, begins_close}
 use Rattle.json5_de.specs.Seq.{GoesOn, NoNext, no_comma, list_ends, in_blanks_behind}
 use Rattle.json5_de.specs.Faults.{AtEnd, AtOther, IsBehind, RefusedBy}
 use Rattle.json5_de.proofs.Awaited.{Awaited, other_fault}
 use Rattle.json5_de.proofs.Options.{first_same}
 use Rattle.json5_de.proofs.Arrays.{no_bool}
 
+same_sign : (c : ℕ) → (c == c) ≡ true
+same_sign c = grind arith
+
 -- ---- what is awaited
 
 -- behind an element
-pub awaits_more : Awaited {C = Unit {0}} NoNext (λ t. None) is_comma_or_closing codes.EofParsingArray codes.ExpectedComma
-awaits_more = record {
+pub awaits_more : (due : Bool) → Awaited {C = Unit {0}} (NoNext due) (λ t. None) is_comma_or_closing codes.EofParsingArray codes.ExpectedComma
+awaits_more due = record {
   at_end = λ reason place f. at_none [] reason place refl f;
   at_other = λ c r reason place h f. at_some (c ∷ r) c r reason place refl h f;
   no_fault = λ s r t v reason place e k stops f. absurd (cc);
   first = λ s t v e k. absurd (cc);
 }
   where
-    at_none : (x : List ℕ) (reason : Option ErrorCode) (place : Option (List ℕ)) → x ≡ [] → NoNext x reason place → (reason ≡ Some codes.EofParsingArray) × (place ≡ None)
-    at_none x reason place e (no_comma c r m n) = absurd (cc)
-    at_none x reason place e list_ends = (refl, refl)
-    at_none x reason place e (in_blanks_behind f) = absurd (cc)
+    at_none : (x : List ℕ) (reason : Option ErrorCode) (place : Option (List ℕ)) → x ≡ [] → NoNext due x reason place → (reason ≡ Some codes.EofParsingArray) × (place ≡ None)
+    at_none x reason place e (no_comma c r d m n) = absurd (cc)
+    at_none x reason place e (list_ends d) = (refl, refl)
+    at_none x reason place e (in_blanks_behind d f) = absurd (cc)
 
-    at_some : (x : List ℕ) (c : ℕ) (r : List ℕ) (reason : Option ErrorCode) (place : Option (List ℕ)) → x ≡ c ∷ r → is_comma_or_closing c ≡ false → NoNext x reason place → (reason ≡ Some codes.ExpectedComma) × (place ≡ Some [])
-    at_some x c r reason place e h (no_comma d q m n) = (refl, refl)
-    at_some x c r reason place e h list_ends = absurd (cc)
-    at_some x c r reason place e h (in_blanks_behind {x = y} f) = absurd (no_bool {b = true} refl (subst (λ d. is_comma_or_closing d ≡ false) (sym (first_same 0x2C c y r e)) h))
+    at_some : (x : List ℕ) (c : ℕ) (r : List ℕ) (reason : Option ErrorCode) (place : Option (List ℕ)) → x ≡ c ∷ r → is_comma_or_closing c ≡ false → NoNext due x reason place → (reason ≡ Some codes.ExpectedComma) × (place ≡ Some [])
+    at_some x c r reason place e h (no_comma d q k m n) = (refl, refl)
+    at_some x c r reason place e h (list_ends k) = absurd (cc)
+    at_some x c r reason place e h (in_blanks_behind {x = y} k f) = absurd (no_bool {b = true} refl (subst (λ d. is_comma_or_closing d ≡ false) (sym (first_same 0x2C c y r e)) h))
 
--- where an array is
-pub awaits_opening : (level : ℕ) → Awaited {C = Unit {0}} (NotOpened level) (λ t. None) is_opening codes.EofParsingArray codes.ExpectedOpeningBracket
-awaits_opening level = record {
+-- where an opening bracket is
+pub awaits_opening : (b : Brackets) (level : ℕ) → Awaited {C = Unit {0}} (NotOpened b level) (λ t. None) (is_opening b) b.ends b.not_opened
+awaits_opening b level = record {
   at_end = λ reason place f. at_none [] reason place refl f;
   at_other = λ c r reason place h f. at_some (c ∷ r) c r reason place refl h f;
   no_fault = λ s r t v reason place e k stops f. absurd (cc);
   first = λ s t v e k. absurd (cc);
 }
   where
-    at_none : (x : List ℕ) (reason : Option ErrorCode) (place : Option (List ℕ)) → x ≡ [] → NotOpened level x reason place → (reason ≡ Some codes.EofParsingArray) × (place ≡ None)
+    at_none : (x : List ℕ) (reason : Option ErrorCode) (place : Option (List ℕ)) → x ≡ [] → NotOpened b level x reason place → (reason ≡ Some b.ends) × (place ≡ None)
     at_none x reason place e (no_bracket c r n) = absurd (cc)
-    at_none x reason place e array_missing = (refl, refl)
+    at_none x reason place e text_ends = (refl, refl)
     at_none x reason place e (too_deep r full) = absurd (cc)
 
-    at_some : (x : List ℕ) (c : ℕ) (r : List ℕ) (reason : Option ErrorCode) (place : Option (List ℕ)) → x ≡ c ∷ r → is_opening c ≡ false → NotOpened level x reason place → (reason ≡ Some codes.ExpectedOpeningBracket) × (place ≡ Some [])
+    at_some : (x : List ℕ) (c : ℕ) (r : List ℕ) (reason : Option ErrorCode) (place : Option (List ℕ)) → x ≡ c ∷ r → is_opening b c ≡ false → NotOpened b level x reason place → (reason ≡ Some b.not_opened) × (place ≡ Some [])
     at_some x c r reason place e h (no_bracket d q n) = (refl, refl)
-    at_some x c r reason place e h array_missing = absurd (cc)
-    at_some x c r reason place e h (too_deep q full) = absurd (no_bool {b = true} refl (subst (λ d. is_opening d ≡ false) (sym (first_same 0x5B c q r e)) h))
+    at_some x c r reason place e h text_ends = absurd (cc)
+    at_some x c r reason place e h (too_deep q full) = absurd (no_bool (same_sign b.opening) (subst (λ d. is_opening b d ≡ false) (sym (first_same b.opening c q r e)) h))
 
 -- one more bracket than may be open
-awaits_room : (level : ℕ) → Awaited {C = Unit {0}} (NotOpened level) (λ t. None) (λ c. not (is_opening c)) codes.EofParsingArray codes.TooDeep
-awaits_room level = record {
+awaits_room : (b : Brackets) (level : ℕ) → Awaited {C = Unit {0}} (NotOpened b level) (λ t. None) (λ c. not (is_opening b c)) b.ends codes.TooDeep
+awaits_room b level = record {
   at_end = λ reason place f. at_none [] reason place refl f;
   at_other = λ c r reason place h f. at_some (c ∷ r) c r reason place refl h f;
   no_fault = λ s r t v reason place e k stops f. absurd (cc);
   first = λ s t v e k. absurd (cc);
 }
   where
-    at_none : (x : List ℕ) (reason : Option ErrorCode) (place : Option (List ℕ)) → x ≡ [] → NotOpened level x reason place → (reason ≡ Some codes.EofParsingArray) × (place ≡ None)
+    at_none : (x : List ℕ) (reason : Option ErrorCode) (place : Option (List ℕ)) → x ≡ [] → NotOpened b level x reason place → (reason ≡ Some b.ends) × (place ≡ None)
     at_none x reason place e (no_bracket c r n) = absurd (cc)
-    at_none x reason place e array_missing = (refl, refl)
+    at_none x reason place e text_ends = (refl, refl)
     at_none x reason place e (too_deep r full) = absurd (cc)
 
-    at_some : (x : List ℕ) (c : ℕ) (r : List ℕ) (reason : Option ErrorCode) (place : Option (List ℕ)) → x ≡ c ∷ r → not (is_opening c) ≡ false → NotOpened level x reason place → (reason ≡ Some codes.TooDeep) × (place ≡ Some [])
-    at_some x c r reason place e h (no_bracket d q n) = absurd (no_bool {b = true} refl (subst (λ b. not b ≡ false) (subst (λ k. is_opening k ≡ false) (first_same d c q r e) n) h))
-    at_some x c r reason place e h array_missing = absurd (cc)
+    at_some : (x : List ℕ) (c : ℕ) (r : List ℕ) (reason : Option ErrorCode) (place : Option (List ℕ)) → x ≡ c ∷ r → not (is_opening b c) ≡ false → NotOpened b level x reason place → (reason ≡ Some codes.TooDeep) × (place ≡ Some [])
+    at_some x c r reason place e h (no_bracket d q n) = absurd (no_bool {b = true} refl (subst (λ t. not t ≡ false) (subst (λ k. is_opening b k ≡ false) (first_same d c q r e) n) h))
+    at_some x c r reason place e h text_ends = absurd (cc)
     at_some x c r reason place e h (too_deep q full) = (refl, refl)
 
--- where an array ends
-pub awaits_closing : (due : Bool) → Awaited {C = Unit {0}} (NotClosed due) (λ t. None) (begins_close due) codes.EofParsingArray codes.ExpectedClosingBracket
-awaits_closing due = record {
+-- where a closing bracket is
+pub awaits_closing : (b : Brackets) (due : Bool) → Awaited {C = Unit {0}} (NotClosed b due) (λ t. None) (begins_close b due) b.ends b.not_closed
+awaits_closing b due = record {
   at_end = λ reason place f. at_none [] reason place refl f;
   at_other = λ c r reason place h f. at_some (c ∷ r) c r reason place refl h f;
   no_fault = λ s r t v reason place e k stops f. absurd (cc);
   first = λ s t v e k. absurd (cc);
 }
   where
-    at_none : (x : List ℕ) (reason : Option ErrorCode) (place : Option (List ℕ)) → x ≡ [] → NotClosed due x reason place → (reason ≡ Some codes.EofParsingArray) × (place ≡ None)
+    at_none : (x : List ℕ) (reason : Option ErrorCode) (place : Option (List ℕ)) → x ≡ [] → NotClosed b due x reason place → (reason ≡ Some b.ends) × (place ≡ None)
     at_none x reason place e (not_here (other_sign c r n m)) = absurd (cc)
     at_none x reason place e (not_here bracket_missing) = (refl, refl)
     at_none x reason place e (behind_comma d f) = absurd (cc)
 
-    at_comma : (b : Bool) → b ≡ true → begins_close b 0x2C ≡ true
-    at_comma true d = refl
+    at_comma : (d : Bool) → d ≡ true → begins_close b d 0x2C ≡ true
+    at_comma true d = or-true (0x2C == b.closing)
     at_comma false d = absurd (cc)
 
-    at_some : (x : List ℕ) (c : ℕ) (r : List ℕ) (reason : Option ErrorCode) (place : Option (List ℕ)) → x ≡ c ∷ r → begins_close due c ≡ false → NotClosed due x reason place → (reason ≡ Some codes.ExpectedClosingBracket) × (place ≡ Some [])
+    at_some : (x : List ℕ) (c : ℕ) (r : List ℕ) (reason : Option ErrorCode) (place : Option (List ℕ)) → x ≡ c ∷ r → begins_close b due c ≡ false → NotClosed b due x reason place → (reason ≡ Some b.not_closed) × (place ≡ Some [])
     at_some x c r reason place e h (not_here (other_sign d q n m)) = (refl, refl)
     at_some x c r reason place e h (not_here bracket_missing) = absurd (cc)
-    at_some x c r reason place e h (behind_comma {x = y} d f) = absurd (no_bool (at_comma due d) (subst (λ k. begins_close due k ≡ false) (sym (first_same 0x2C c y r e)) h))
+    at_some x c r reason place e h (behind_comma {x = y} d f) = absurd (no_bool (at_comma due d) (subst (λ k. begins_close b due k ≡ false) (sym (first_same 0x2C c y r e)) h))
 
 -- ---- where nothing goes on
 
@@ -110,7 +114,7 @@ end_no_sign sign s r h (live, l) k = no_sign sign s.unread s.unread [] r h (sym 
 pub other_no_sign : {begins : ℕ → Bool} (sign : ℕ) (s : State) (w r : List ℕ) → is_solid sign ≡ true → (o : AtOther begins s w) → (o.char == sign) ≡ false → IsSign sign s.unread r → ⊥
 other_no_sign sign s w r h o n k = no_sign sign s.unread w (o.char ∷ o.more) r h o.split (Gap.blanks o.blank) (begins_solid o.char o.more o.solid) n k
 
-either_false : (a b : Bool) → (a || b) ≡ false → (a ≡ false) × (b ≡ false)
+pub either_false : (a b : Bool) → (a || b) ≡ false → (a ≡ false) × (b ≡ false)
 either_false true b h = absurd (cc)
 either_false false b h = (refl, h)
 
@@ -138,45 +142,24 @@ other_goes_nowhere due more old new w d o k =
       | inr z ↦ other_no_sign 0x5D old w z.0 bracket_solid o neither.1 z.1
     ]
 
-pub end_not_closed : (due : Bool) (old new : State) → AtEnd old → Closed due old new → ⊥
-end_not_closed due old new at k = by due k.close
+pub end_not_closed : (b : Brackets) → AreSigns b → (due : Bool) (old new : State) → AtEnd old → Closed b due old new → ⊥
+end_not_closed b k due old new at c = by due c.close
   where
-    by : (b : Bool) → IsClose b old.unread new.unread → ⊥
-    by false c = end_no_sign 0x5D old new.unread bracket_solid at c
-    by true (inl c) = end_no_sign 0x5D old new.unread bracket_solid at c
+    by : (d : Bool) → IsEnd b.closing d old.unread new.unread → ⊥
+    by false c = end_no_sign b.closing old new.unread k.closing at c
+    by true (inl c) = end_no_sign b.closing old new.unread k.closing at c
     by true (inr (y, comma, c)) = end_no_sign 0x2C old y comma_solid at comma
 
-pub other_not_closed : (due : Bool) (old new : State) (w : List ℕ) → AtOther (begins_close due) old w → Closed due old new → ⊥
-other_not_closed due old new w o k = by due refl k.close
+pub other_not_closed : (b : Brackets) → AreSigns b → (due : Bool) (old new : State) (w : List ℕ) → AtOther (begins_close b due) old w → Closed b due old new → ⊥
+other_not_closed b k due old new w o c = by due (either_false (o.char == b.closing) (due && (o.char == 0x2C)) o.other) c.close
   where
-    by : (b : Bool) → due ≡ b → IsClose b old.unread new.unread → ⊥
-    by b e c =
-        let neither = either_false (o.char == 0x5D) (b && (o.char == 0x2C)) (subst (λ d. begins_close d o.char ≡ false) e o.other) in
-        by_sign b neither c
-      where
-        by_sign : (b : Bool) → ((o.char == 0x5D) ≡ false) × ((b && (o.char == 0x2C)) ≡ false) → IsClose b old.unread new.unread → ⊥
-        by_sign false n c = other_no_sign 0x5D old w new.unread bracket_solid o n.0 c
-        by_sign true n (inl c) = other_no_sign 0x5D old w new.unread bracket_solid o n.0 c
-        by_sign true n (inr (y, comma, c)) = other_no_sign 0x2C old w y comma_solid o n.1 comma
+    by : (d : Bool) → ((o.char == b.closing) ≡ false) × ((d && (o.char == 0x2C)) ≡ false) → IsEnd b.closing d old.unread new.unread → ⊥
+    by false n c = other_no_sign b.closing old w new.unread k.closing o n.0 c
+    by true n (inl c) = other_no_sign b.closing old w new.unread k.closing o n.0 c
+    by true n (inr (y, comma, c)) = other_no_sign 0x2C old w y comma_solid o n.1 comma
 
 -- ---- what is said of one bracket too many
 
-pub full_fault : (old : State) (e : Error) (w : List ℕ) → AtFull old w → RefusedBy (NotOpened old.level) old e → IsBehind codes.TooDeep old w e
-full_fault old e w at k =
-    other_fault (awaits_room old.level) old e w (record { live = at.live; blank = at.blank; char = 0x5B; more = at.more; split = at.split; solid = opening_solid; other = refl }) k
-
--- ---- a reader that an access lends
-
-pub end_within : (s t : State) (failed : Bool) → t ≡ within s false → AtEnd (within s failed) → AtEnd t
-end_within s t failed e (live, l) = subst AtEnd (sym e) (refl, l)
-
-pub other_within : {begins : ℕ → Bool} (s t : State) (failed : Bool) (w : List ℕ) → t ≡ within s false → AtOther begins (within s failed) w → AtOther begins t w
-other_within {begins = begins} s t failed w e o =
-    subst (λ u. AtOther begins u w) (sym e) (record { live = refl; blank = o.blank; char = o.char; more = o.more; split = o.split; solid = o.solid; other = o.other })
-
-pub behind_within : (c : ErrorCode) (s t : State) (failed : Bool) (w : List ℕ) (e : Error) → t ≡ within s false → IsBehind c t w e → IsBehind c (within s failed) w e
-behind_within c s t failed w e is k = subst (λ u. IsBehind c u w e) is k
-
--- a fault that has a place keeps it
-pub behind_placed : (c : ErrorCode) (s : State) (w : List ℕ) (d e : Error) → kind_of e ≡ kind_of d → ((p : Position) → place_of d ≡ Some p → place_of e ≡ Some p) → IsBehind c s w d → IsBehind c s w e
-behind_placed c s w d e kind kept (says, placed) = (kind ∙ says, λ before split. kept _ (placed before split))
+pub full_fault : (b : Brackets) → AreSigns b → (old : State) (e : Error) (w : List ℕ) → AtFull b old w → RefusedBy (NotOpened b old.level) old e → IsBehind codes.TooDeep old w e
+full_fault b k old e w at f =
+    other_fault (awaits_room b old.level) old e w (record { live = at.live; blank = at.blank; char = b.opening; more = at.more; split = at.split; solid = k.opening; other = ap not (same_sign b.opening) }) f

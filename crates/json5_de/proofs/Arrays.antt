@@ -8,7 +8,7 @@ use Rattle.json5_grammar.specs.Blanks.{Gap, is_solid}
 use Rattle.json5_grammar.specs.Trees.{Tree}
 use Rattle.json5_grammar.specs.Values.{Reads}
 use Rattle.json5_grammar.specs.Documents.{max_depth}
-use Rattle.json5_grammar.specs.Members.{IsSign, Opens, IsElement, IsClose, GoesNowhere}
+use Rattle.json5_grammar.specs.Members.{IsSign, IsEnd, IsElement, IsClose, GoesNowhere}
 use Rattle.json5_grammar.proofs.MembersRead.{comma_solid, bracket_solid, opening_solid, sign_here, sign_found, reads_found}
 use Rattle.json5_grammar.proofs.MembersPassed.{behind_comma, no_comma_end}
 use Rattle.json5_grammar.proofs.MembersNowhere.{reads_here, no_sign, no_sign_in_blanks, nowhere_blanks, nowhere_other, nowhere_comma}
@@ -22,7 +22,9 @@ use Rattle.std.proofs.lemmas.List.{append-nil}
 use Rattle.json5_de.specs.State.{State, cursor_of, OnlyRead}
 use Rattle.json5_de.specs.Law.{TookValue}
 use Rattle.json5_de.specs.Steps.{PassedGap, TookText}
-use Rattle.json5_de.specs.Access.{TookElement, Unawaited, at_end, at_char, NotOpened, no_bracket, array_missing, too_deep, NoBracket, other_sign, bracket_missing, NotClosed, not_here, behind_comma as comma_before}
+use Rattle.json5_de.specs.declared.brackets.Brackets.{Brackets}
+use Rattle.json5_de.specs.Brackets.{AreSigns, square}
+use Rattle.json5_de.specs.Access.{TookElement, Unawaited, at_end, at_char, NotOpened, no_bracket, text_ends, too_deep, NoBracket, other_sign, bracket_missing, NotClosed, not_here, behind_comma as comma_before}
 use Rattle.json5_de.specs.Seq.{IsBehindGap, Begun, AtElement, GoesOn, NoNext, no_comma, list_ends}
 use Rattle.json5_de.specs.Faults.{Behind, in_blanks, behind_gap, RefusedBy}
 use Rattle.json5_de.proofs.Taken.{refused_token}
@@ -42,18 +44,18 @@ behind_gap_of old mid p = record { gap = p.gap; split = p.split; is_gap = p.is_g
 
 -- ---- what is refused
 
-pub no_next : (x : List ℕ) (reason : Option ErrorCode) (place : Option (List ℕ)) → NotBegun (λ c. c == 0x2C) x → NotBegun (λ c. c == 0x5D) x → Unawaited codes.EofParsingArray codes.ExpectedComma x reason place → NoNext x reason place
-no_next x reason place m n at_end = list_ends
-no_next x reason place m n (at_char c r) = no_comma c r m n
+pub no_next : (due : Bool) (x : List ℕ) (reason : Option ErrorCode) (place : Option (List ℕ)) → due ≡ true → NotBegun (λ c. c == 0x2C) x → NotBegun (λ c. c == 0x5D) x → Unawaited codes.EofParsingArray codes.ExpectedComma x reason place → NoNext due x reason place
+no_next due x reason place d m n at_end = list_ends d
+no_next due x reason place d m n (at_char c r) = no_comma c r d m n
 
-pub not_opened_here : (level : ℕ) (x : List ℕ) (reason : Option ErrorCode) (place : Option (List ℕ)) → NotBegun (λ c. c == 0x5B) x → Unawaited codes.EofParsingArray codes.ExpectedOpeningBracket x reason place → NotOpened level x reason place
-not_opened_here level x reason place n at_end = array_missing
-not_opened_here level x reason place n (at_char c r) = no_bracket c r n
+pub not_opened_here : (b : Brackets) (level : ℕ) (x : List ℕ) (reason : Option ErrorCode) (place : Option (List ℕ)) → NotBegun (λ c. c == b.opening) x → Unawaited b.ends b.not_opened x reason place → NotOpened b level x reason place
+not_opened_here b level x reason place n at_end = text_ends
+not_opened_here b level x reason place n (at_char c r) = no_bracket c r n
 
-pub no_bracket_here : (comma : Bool) (x : List ℕ) (reason : Option ErrorCode) (place : Option (List ℕ)) → (comma ≡ true → NotBegun (λ c. c == 0x2C) x) → NotBegun (λ c. c == 0x5D) x
-    → Unawaited codes.EofParsingArray codes.ExpectedClosingBracket x reason place → NoBracket comma x reason place
-no_bracket_here comma x reason place m n at_end = bracket_missing
-no_bracket_here comma x reason place m n (at_char c r) = other_sign c r n m
+pub no_bracket_here : (b : Brackets) (comma : Bool) (x : List ℕ) (reason : Option ErrorCode) (place : Option (List ℕ)) → (comma ≡ true → NotBegun (λ c. c == 0x2C) x) → NotBegun (λ c. c == b.closing) x
+    → Unawaited b.ends b.not_closed x reason place → NoBracket b comma x reason place
+no_bracket_here b comma x reason place m n at_end = bracket_missing
+no_bracket_here b comma x reason place m n (at_char c r) = other_sign c r n m
 
 -- ---- what goes on
 
@@ -115,11 +117,11 @@ pub element_found : (due : Bool) (x y r : List ℕ) (t : Tree) → Begun due x y
 element_found false x y r t g p = reads_found x g.gap y r t g.split g.is_gap g.solid p
 element_found true x y r t (z, comma, g) (k, other, p) = reads_found z g.gap y r t g.split g.is_gap g.solid (behind_comma (λ q. Reads q t r) x z k comma other p)
 
--- the array isn't closed there
-pub no_close_found : (due : Bool) (x y r : List ℕ) → Begun due x y → NotBegun (λ c. c == 0x5D) y → IsClose due x r → ⊥
-no_close_found false x y r g n c = no_sign_next 0x5D x y r bracket_solid g n c
-no_close_found true x y r (z, comma, g) n (inl c) = no_comma_end 0x5D x z r bracket_solid refl comma c
-no_close_found true x y r (z, comma, g) n (inr (k, other, c)) = no_sign_next 0x5D z y r bracket_solid g n (behind_comma (λ q. IsSign 0x5D q r) x z k comma other c)
+-- no bracket closes there
+pub no_close_found : (b : Brackets) → AreSigns b → (due : Bool) (x y r : List ℕ) → Begun due x y → NotBegun (λ c. c == b.closing) y → IsEnd b.closing due x r → ⊥
+no_close_found b k false x y r g n c = no_sign_next b.closing x y r k.closing g n c
+no_close_found b k true x y r (z, comma, g) n (inl c) = no_comma_end b.closing x z r k.closing k.no_comma comma c
+no_close_found b k true x y r (z, comma, g) n (inr (w, other, c)) = no_sign_next b.closing z y r k.closing g n (behind_comma (λ q. IsSign b.closing q r) x z w comma other c)
 
 pub took_element : (due : Bool) (s mid last : State) (t : Tree) → AtElement due s mid → TookValue mid t last → TookElement due s t last
 took_element due s mid last t at took = record {
@@ -129,35 +131,54 @@ took_element due s mid last t at took = record {
   rest = only_read s mid last at.rest took.rest;
 }
 
--- ---- closing
+-- an array's brackets
+pub square_signs : AreSigns square
+square_signs = record {
+  opening = opening_solid;
+  closing = bracket_solid;
+  no_comma = refl;
+  other_ends = λ e. absurd (cc);
+  other_not_opened = λ e. absurd (cc);
+  other_not_closed = λ e. absurd (cc);
+}
 
 pub no_bool : {b : Bool} → b ≡ true → b ≡ false → ⊥
 no_bool h k = let e : true ≡ false = sym h ∙ k in absurd (cc)
 
 -- one open bracket too many
-pub too_deep_here : (level : ℕ) (s next : State) (e : Error) (p : Position) → level ≡ max_depth → TookText s (0x5B ∷ []) next → kind_of e ≡ code codes.TooDeep → place_of e ≡ Some p
-    → ((before : List ℕ) → s.input ≡ before ++ s.unread → p ≡ position_behind before) → Refused (NotOpened level) (cursor_of s) e
-too_deep_here level s next e p full took kind place there = record {
+pub too_deep_here : (b : Brackets) (level : ℕ) (s next : State) (e : Error) (p : Position) → level ≡ max_depth → TookText s (b.opening ∷ []) next → kind_of e ≡ code codes.TooDeep → place_of e ≡ Some p
+    → ((before : List ℕ) → s.input ≡ before ++ s.unread → p ≡ position_behind before) → Refused (NotOpened b level) (cursor_of s) e
+too_deep_here b level s next e p full took kind place there = record {
   reason = Some codes.TooDeep;
   place = Some [];
-  fault = subst (λ x. NotOpened level x (Some codes.TooDeep) (Some [])) (sym took.split) (too_deep next.unread full);
+  fault = subst (λ x. NotOpened b level x (Some codes.TooDeep) (Some [])) (sym took.split) (too_deep next.unread full);
   says = kind;
   placed = λ before split. place ∙ ap (λ q. Some q) (there before split) ∙ ap (λ q. Some (position_behind q)) (sym (append-nil before));
 }
 
 -- ---- no closing
 
-pub no_close_next : (due : Bool) (s mid : State) (r : List ℕ) → PassedGap s mid → (due ≡ true → NotBegun (λ c. c == 0x2C) mid.unread) → NotBegun (λ c. c == 0x5D) mid.unread → IsClose due s.unread r → ⊥
-no_close_next false s mid r p m n c = no_sign_next 0x5D s.unread mid.unread r bracket_solid (behind_gap_of s mid p) n c
-no_close_next true s mid r p m n (inl c) = no_sign_next 0x5D s.unread mid.unread r bracket_solid (behind_gap_of s mid p) n c
-no_close_next true s mid r p m n (inr (y, comma, c)) = no_sign_next 0x2C s.unread mid.unread y comma_solid (behind_gap_of s mid p) (m refl) comma
+pub no_close_next : (b : Brackets) → AreSigns b → (due : Bool) (s mid : State) (r : List ℕ) → PassedGap s mid → (due ≡ true → NotBegun (λ c. c == 0x2C) mid.unread) → NotBegun (λ c. c == b.closing) mid.unread → IsEnd b.closing due s.unread r → ⊥
+no_close_next b k false s mid r p m n c = no_sign_next b.closing s.unread mid.unread r k.closing (behind_gap_of s mid p) n c
+no_close_next b k true s mid r p m n (inl c) = no_sign_next b.closing s.unread mid.unread r k.closing (behind_gap_of s mid p) n c
+no_close_next b k true s mid r p m n (inr (y, comma, c)) = no_sign_next 0x2C s.unread mid.unread y comma_solid (behind_gap_of s mid p) (m refl) comma
 
-pub comma_first : (x y : List ℕ) → x ≡ 0x2C ∷ y → NotBegun (λ c. c == 0x5D) x
-comma_first x y e = subst (NotBegun (λ c. c == 0x5D)) (sym e) refl
+-- a comment in front is at fault
+pub no_close_faulty : (b : Brackets) → AreSigns b → (due : Bool) (s : State) (e : Error) (r : List ℕ) → Refused FaultyBlanks (cursor_of s) e → IsEnd b.closing due s.unread r → ⊥
+no_close_faulty b k false s e r f c = let (w, p, shown, fault) = f.fault in no_sign_in_blanks b.closing s.unread w p r f.reason f.place shown k.closing fault c
+no_close_faulty b k true s e r f (inl c) = let (w, p, shown, fault) = f.fault in no_sign_in_blanks b.closing s.unread w p r f.reason f.place shown k.closing fault c
+no_close_faulty b k true s e r f (inr (y, comma, c)) = let (w, p, shown, fault) = f.fault in no_sign_in_blanks 0x2C s.unread w p y f.reason f.place shown comma_solid fault comma
 
-pub no_close_behind : (due : Bool) (s mid next far : State) (r : List ℕ) → due ≡ true → PassedGap s mid → TookText mid (0x2C ∷ []) next → PassedGap next far → NotBegun (λ c. c == 0x5D) far.unread → IsClose due s.unread r → ⊥
-no_close_behind due s mid next far r d p took q n c =
-    no_close_found true s.unread far.unread r (next.unread, sign_next 0x2C s.unread mid.unread next.unread (behind_gap_of s mid p) took.split, behind_gap_of next far q) n (subst (λ b. IsClose b s.unread r) d c)
+-- behind the comma
+pub no_close_behind : (b : Brackets) → AreSigns b → (due : Bool) (s mid next : State) (r : List ℕ) → due ≡ true → PassedGap s mid → TookText mid (0x2C ∷ []) next → (IsSign b.closing next.unread r → ⊥) → IsEnd b.closing due s.unread r → ⊥
+no_close_behind b k due s mid next r d p took n c = by (subst (λ t. IsEnd b.closing t s.unread r) d c)
+  where
+    comma : IsSign 0x2C s.unread next.unread
+    comma = sign_next 0x2C s.unread mid.unread next.unread (behind_gap_of s mid p) took.split
+
+    by : IsEnd b.closing true s.unread r → ⊥
+    by (inl q) = no_comma_end b.closing s.unread next.unread r k.closing k.no_comma comma q
+    by (inr (y, other, q)) = n (behind_comma (λ z. IsSign b.closing z r) s.unread next.unread y comma other q)
 
 pub ok_unless : {V E : Type 0} {P : E → Type 0} (result : Result V E) → IfErr result P → ((e : E) → P e → ⊥) → IsOk result
 ok_unless (Ok v) k h = refl
@@ -166,36 +187,39 @@ ok_unless (Err e) k h = absurd (h e k)
 -- ---- what is refused in place of a closing bracket
 
 -- where no comma stands, or none may
-pub refused_bracket : (due : Bool) (s mid at : State) (e : Error) → PassedGap s mid → at ≡ mid → (due ≡ true → NotBegun (λ c. c == 0x2C) mid.unread)
-    → Refused (Unawaited codes.EofParsingArray codes.ExpectedClosingBracket) (cursor_of at) e × NotBegun (λ c. c == 0x5D) at.unread → RefusedBy (NotClosed due) s e
-refused_bracket due s mid at e p same m (f, n) =
-    refused_token s mid e p (refused_as at mid e same (λ reason place k. not_here (no_bracket_here due mid.unread reason place m (subst (NotBegun (λ c. c == 0x5D)) (unread_of same) n) k)) f)
+pub refused_bracket : (b : Brackets) (due : Bool) (s mid at : State) (e : Error) → PassedGap s mid → at ≡ mid → (due ≡ true → NotBegun (λ c. c == 0x2C) mid.unread)
+    → Refused (Unawaited b.ends b.not_closed) (cursor_of at) e × NotBegun (λ c. c == b.closing) at.unread → RefusedBy (NotClosed b due) s e
+refused_bracket b due s mid at e p same m (f, n) =
+    refused_token s mid e p (refused_as at mid e same (λ reason place k. not_here (no_bracket_here b due mid.unread reason place m (subst (NotBegun (λ c. c == b.closing)) (unread_of same) n) k)) f)
 
 -- behind the comma
-pub refused_bracket_behind : (due : Bool) (s mid next far : State) (e : Error) → due ≡ true → PassedGap s mid → TookText mid (0x2C ∷ []) next → PassedGap next far
-    → Refused (Unawaited codes.EofParsingArray codes.ExpectedClosingBracket) (cursor_of far) e × NotBegun (λ c. c == 0x5D) far.unread → RefusedBy (NotClosed due) s e
-refused_bracket_behind due s mid next far e d p took q (f, n) =
-    let there : Refused (Behind (NoBracket false)) (cursor_of next) e =
-    refused_token next far e q (refused_as far far e refl (λ reason place k. no_bracket_here false far.unread reason place (λ is. absurd (no_bool is refl)) n k) f) q.live in
+pub refused_bracket_behind : (b : Brackets) (due : Bool) (s mid next far : State) (e : Error) → due ≡ true → PassedGap s mid → TookText mid (0x2C ∷ []) next → PassedGap next far
+    → Refused (Unawaited b.ends b.not_closed) (cursor_of far) e × NotBegun (λ c. c == b.closing) far.unread → RefusedBy (NotClosed b due) s e
+refused_bracket_behind b due s mid next far e d p took q (f, n) =
+    let there : Refused (Behind (NoBracket b false)) (cursor_of next) e =
+    refused_token next far e q (refused_as far far e refl (λ reason place k. no_bracket_here b false far.unread reason place (λ is. absurd (no_bool is refl)) n k) f) q.live in
     refused_token s mid e p (refused_behind mid next e (0x2C ∷ []) took (λ reason place k. comma_before d k) there)
 
 -- a faulty comment behind the comma
-pub refused_blanks_behind : (due : Bool) (s mid next : State) (e : Error) → due ≡ true → PassedGap s mid → TookText mid (0x2C ∷ []) next → (next.failed ≡ false → Refused FaultyBlanks (cursor_of next) e) → RefusedBy (NotClosed due) s e
-refused_blanks_behind due s mid next e d p took f =
+pub refused_blanks_behind : (b : Brackets) (due : Bool) (s mid next : State) (e : Error) → due ≡ true → PassedGap s mid → TookText mid (0x2C ∷ []) next → (next.failed ≡ false → Refused FaultyBlanks (cursor_of next) e) → RefusedBy (NotClosed b due) s e
+refused_blanks_behind b due s mid next e d p took f =
     refused_token s mid e p (refused_behind mid next e (0x2C ∷ []) took (λ reason place k. comma_before d (in_blanks k)) (f (failed_of took.rest ∙ failed_of p.rest ∙ p.live)))
 
 -- ---- no opening
 
-opens_begun : (level : ℕ) (x r : List ℕ) (reason : Option ErrorCode) (place : Option (List ℕ)) → x ≡ 0x5B ∷ r → level < max_depth → NotOpened level x reason place → ⊥
-opens_begun level x r reason place e room (no_bracket c q n) = let same : c ≡ 0x5B = cc in no_bool (ap (λ d. d == 0x5B) same) n
-opens_begun level x r reason place e room array_missing = absurd (cc)
-opens_begun level x r reason place e room (too_deep q full) = omega (arith, room, full)
+opens_begun : (b : Brackets) (level : ℕ) (x r : List ℕ) (reason : Option ErrorCode) (place : Option (List ℕ)) → x ≡ b.opening ∷ r → level < max_depth → NotOpened b level x reason place → ⊥
+opens_begun b level x r reason place e room (no_bracket c q n) = let same : c ≡ b.opening = cc in no_bool (ap (λ d. d == b.opening) same ∙ same_sign b.opening) n
+  where
+    same_sign : (c : ℕ) → (c == c) ≡ true
+    same_sign c = grind arith
+opens_begun b level x r reason place e room text_ends = absurd (cc)
+opens_begun b level x r reason place e room (too_deep q full) = omega (arith, room, full)
 
--- an array that is there is opened, within the limit
-pub no_opening_refusal : (level : ℕ) (x r : List ℕ) (reason : Option ErrorCode) (place : Option (List ℕ)) → Opens x r → level < max_depth → Behind (NotOpened level) x reason place → ⊥
-no_opening_refusal level x r reason place o room (in_blanks (b, p, shown, f)) = no_sign_in_blanks 0x5B x b p r reason place shown opening_solid f o
-no_opening_refusal level x r reason place o room (behind_gap {w = w} {x = y} {place = q} g s f) =
-    opens_begun level y r reason q (sign_found 0x5B (w ++ y) w y r opening_solid refl g s o) room f
+-- what is there is opened, within the limit
+pub no_opening_refusal : (b : Brackets) → AreSigns b → (level : ℕ) (x r : List ℕ) (reason : Option ErrorCode) (place : Option (List ℕ)) → IsSign b.opening x r → level < max_depth → Behind (NotOpened b level) x reason place → ⊥
+no_opening_refusal b k level x r reason place o room (in_blanks (w, p, shown, f)) = no_sign_in_blanks b.opening x w p r reason place shown k.opening f o
+no_opening_refusal b k level x r reason place o room (behind_gap {w = w} {x = y} {place = q} g s f) =
+    opens_begun b level y r reason q (sign_found b.opening (w ++ y) w y r k.opening refl g s o) room f
 
-pub opening_refused : (s : State) (e : Error) (r : List ℕ) → RefusedBy (NotOpened s.level) s e → s.failed ≡ false → Opens s.unread r → s.level < max_depth → ⊥
-opening_refused s e r f live o room = let k = f live in no_opening_refusal s.level s.unread r k.reason k.place o room k.fault
+pub opening_refused : (b : Brackets) → AreSigns b → (s : State) (e : Error) (r : List ℕ) → RefusedBy (NotOpened b s.level) s e → s.failed ≡ false → IsSign b.opening s.unread r → s.level < max_depth → ⊥
+opening_refused b k s e r f live o room = let f = f live in no_opening_refusal b k s.level s.unread r f.reason f.place o room f.fault

@@ -14,7 +14,7 @@ use Rattle.json5_text.specs.declared.error.Error.{Error}
 use Rattle.json5_text.specs.Cursor.{Says, IsPlaced}
 use Rattle.json5_text.specs.Tokens.{FaultyBlanks}
 use Rattle.json5_de.specs.State.{State, cursor_of}
-use Rattle.json5_de.specs.Law.{Gives, Completes, CompletesWithoutMemory, IsOkOrMemory}
+use Rattle.json5_de.specs.Law.{Gives, Completes, IsOkOrMemory}
 use Rattle.json5_de.specs.Faults.{Behind, in_blanks, behind_gap, RefusedBy, RefusedByOrMemory, IsUnplaced, IsBehind, AtEnd, AtOther, EndsWith, EndsWithOrMemory, DiffersWith, DiffersWithOrMemory}
 
 -- a kind of value: what is refused where one is awaited, its trees, what begins one, and the codes at the end and at another character
@@ -112,11 +112,6 @@ pub differs_from : {V C : Type 0} {F : List ℕ → Option ErrorCode → Option 
     → (content : V → C) (old new : State) (result : Result V Error) → IfOk result (λ v. Gives content convert old new v) → IfErr result (RefusedBy F old) → DiffersWith begins differs old result
 differs_from a content old new (Ok v) (t, took, is) k w o = other_no_value a old.unread w o.more new.unread o.char t (content v) o.blank o.solid o.other o.split is took.reads
 differs_from a content old new (Err e) g k w o = other_fault a old e w o k
-
-pub completes_from : {V C : Type 0} {F : List ℕ → Option ErrorCode → Option (List ℕ) → Type 0} {convert : Tree → Option C} {begins : ℕ → Bool} {ends differs : ErrorCode} → Awaited F convert begins ends differs
-    → (old : State) (result : Result V Error) → IfErr result (RefusedBy F old) → CompletesWithoutMemory convert old result
-completes_from a old (Ok v) k t r c live reads shallow is = refl
-completes_from a old (Err e) k t r c live reads shallow is = absurd (wrongly_refused a old e t r c live reads is k)
 
 -- ---- the same, want of memory aside
 

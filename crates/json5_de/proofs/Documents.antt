@@ -1,19 +1,21 @@
 -- A whole text is a document.
-use Rattle.std.proofs.Common.{◌≡◌, ℕ, ◌+◌, ◌≤◌, false, List, ap, sym, ◌∙◌, subst, arith}
+use Rattle.std.proofs.Common.{◌≡◌, ℕ, ◌+◌, ◌≤◌, false, List, ap, sym, ◌∙◌, subst, arith, ◌⊎◌, inl, inr, Option, Some}
+use Rattle.std.specs.Prelude.{Err}
+use Rattle.json5_text.specs.declared.error.Error.{Error}
+use Rattle.json5_text.specs.Cursor.{Cursor, Refused, IsOutOfMemory}
 use Rattle.json5_grammar.specs.Blanks.{LastBlanks}
 use Rattle.json5_grammar.specs.Trees.{Tree, depth}
 use Rattle.json5_grammar.specs.Values.{Reads}
 use Rattle.json5_grammar.specs.Documents.{Doc, max_depth}
 use Rattle.json5_grammar.proofs.Unique.{document_phrase, phrase_document, one_phrase}
 use Rattle.json5_de.specs.State.{State}
-use Rattle.json5_de.specs.Law.{TookValue}
-use Rattle.json5_de.specs.Faults.{AtEnd}
-
-abbrev pub start : List ℕ → State
-start x = record { input = x; unread = x; level = 0; failed = false }
+use Rattle.json5_de.specs.Law.{TookValue, Completes}
+use Rattle.json5_de.specs.Faults.{Behind, AtEnd, RefusedBy, Trailing}
+use Rattle.json5_de.specs.Texts.{at_start}
+use Rattle.json5_de.proofs.Taken.{input_of}
 
 -- what was read up to the end is a document
-pub read_document : (s mid : State) (x : List ℕ) (t : Tree) → s ≡ start x → TookValue s t mid → AtEnd mid → Doc max_depth x t
+pub read_document : (s mid : State) (x : List ℕ) (t : Tree) → s ≡ at_start x → TookValue s t mid → AtEnd mid → Doc max_depth x t
 read_document s mid x t e took (live, last) =
     phrase_document max_depth x mid.unread t (subst (λ z. Reads z t mid.unread) (ap (λ (s : State). s.unread) e) took.reads) last
     (let level = ap (λ (s : State). s.level) e in let shallow = took.shallow in omega (arith, level, shallow))
@@ -26,7 +28,7 @@ pub record Readable (s : State) (t : Tree) : Type 0 where
   pub last : LastBlanks rest
   pub shallow : s.level + depth t ≤ max_depth
 
-pub readable : (s : State) (x : List ℕ) (t : Tree) → s ≡ start x → Doc max_depth x t → Readable s t
+pub readable : (s : State) (x : List ℕ) (t : Tree) → s ≡ at_start x → Doc max_depth x t → Readable s t
 readable s x t e doc =
     let (r, reads, last, shallow) = document_phrase max_depth x t doc in
     record {
@@ -41,8 +43,33 @@ failed_of : {s t : State} → s ≡ t → s.failed ≡ t.failed
 failed_of e = ap (λ (s : State). s.failed) e
 
 -- what was read of a document is its tree, and nothing but blanks follows
-pub the_document : (s mid : State) (x : List ℕ) (t u : Tree) → s ≡ start x → Doc max_depth x t → TookValue s u mid → (t ≡ u) × AtEnd mid
+pub the_document : (s mid : State) (x : List ℕ) (t u : Tree) → s ≡ at_start x → Doc max_depth x t → TookValue s u mid → (t ≡ u) × AtEnd mid
 the_document s mid x t u e doc took =
     let k = readable s x t e doc in
     let one = one_phrase s.unread k.rest mid.unread t u k.reads took.reads in
     (one.0, (failed_of took.rest ∙ k.live, subst LastBlanks one.1 k.last))
+
+-- ---- what is refused
+
+abbrev cursor_at : List ℕ → List ℕ → Cursor
+cursor_at x r = record { input = x; unread = r }
+
+pub live_behind : (s mid : State) (x : List ℕ) (u : Tree) → s ≡ at_start x → TookValue s u mid → mid.failed ≡ false
+live_behind s mid x u e took = failed_of took.rest ∙ failed_of e
+
+-- a value that converts isn't refused, want of memory aside
+pub blames_value : (V : Type 0) {C : Type 0} {convert : Tree → Option C} (s : State) (x : List ℕ) (t : Tree) (r : List ℕ) (c : C) (e : Error) → s ≡ at_start x → Reads x t r → depth t ≤ max_depth → convert t ≡ Some c → Completes {V = V} convert s (Err e)
+    → IsOutOfMemory e ⊎ Refused (Behind Trailing) (record { input = x; unread = r }) e
+blames_value V s x t r c e is reads shallow converts complete =
+    inl (complete t r c (failed_of is) (subst (λ z. Reads z t r) (sym (ap (λ (s : State). s.unread) is)) reads) (let level = ap (λ (s : State). s.level) is in omega (arith, level, shallow)) converts)
+
+-- what stands after it is
+pub blames_rest : (s mid : State) (x : List ℕ) (t u : Tree) (r : List ℕ) (e : Error) → s ≡ at_start x → Reads x t r → TookValue s u mid → RefusedBy Trailing mid e
+    → IsOutOfMemory e ⊎ Refused (Behind Trailing) (record { input = x; unread = r }) e
+blames_rest s mid x t u r e is reads took f =
+    let (same_tree, rest) = one_phrase x r mid.unread t u reads (subst (λ z. Reads z u mid.unread) (ap (λ (s : State). s.unread) is) took.reads) in
+    let input = input_of took.rest ∙ ap (λ (s : State). s.input) is in
+    inr (subst (λ k. Refused (Behind Trailing) k e) (cursor input (sym rest)) (f (live_behind s mid x u is took)))
+  where
+    cursor : {a b c d : List ℕ} → a ≡ b → c ≡ d → cursor_at a c ≡ cursor_at b d
+    cursor {b = b} {c = c} i u = ap (λ z. cursor_at z c) i ∙ ap (λ z. cursor_at b z) u

@@ -18,3 +18,7 @@ pub mod WholeDecimals
 pub mod ScalarsAwaited
 pub mod WithoutMemory
 pub mod ArrayCodes
+pub mod OtherCodes
+pub mod Rows
+pub mod OpenClose
+pub mod Next

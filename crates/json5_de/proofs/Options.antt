@@ -1,10 +1,13 @@
 -- The steps of reading an option.
-use Rattle.std.proofs.Common.{◌≡◌, ℕ, Bool, false, List, [], ◌∷◌, ◌++◌, refl, ap, sym, ◌∙◌, subst, Option, Some, None, arith}
-use Rattle.std.specs.Prelude.{◌==◌}
+use Rattle.std.proofs.Common.{◌≡◌, ℕ, ◌+◌, ◌≤◌, Bool, true, false, List, [], ◌∷◌, ◌++◌, refl, ap, sym, ◌∙◌, subst, inl, inr, Option, Some, None, arith}
+use Rattle.std.specs.Prelude.{◌==◌, Result, Ok, Err}
+use Rattle.std.proofs.lemmas.Bool.{false≢true}
+use Rattle.json5_grammar.specs.declared.code.ErrorCode.TheVariants as codes
+use Rattle.json5_grammar.specs.Documents.{max_depth}
 use Rattle.json5_grammar.specs.declared.code.ErrorCode.{ErrorCode}
 use Rattle.json5_grammar.specs.Blanks.{Blanks, Gap, Solid, BlankFault}
 use Rattle.json5_grammar.specs.Strings.{quoted}
-use Rattle.json5_grammar.specs.Trees.{Tree, null, boolean, number, text, array, object}
+use Rattle.json5_grammar.specs.Trees.{Tree, null, boolean, number, text, array, object, depth}
 use Rattle.json5_grammar.specs.Values.{Val, Reads, is_null, is_true, is_false, is_number, is_text, is_empty_array, is_array, is_empty_object, is_object}
 use Rattle.json5_grammar.proofs.BlanksRead.{begins_solid}
 use Rattle.json5_grammar.proofs.BlanksSound.{no_blank_fault, gap_before, gap_last}
@@ -13,17 +16,22 @@ use Rattle.json5_grammar.proofs.ValueHeads.{val_head, number_head}
 use Rattle.json5_grammar.proofs.MembersRead.{phrase_found, reads_found}
 use Rattle.json5_grammar.proofs.MembersNowhere.{reads_here, no_reads_in_blanks}
 use Rattle.json5_text.specs.declared.error.Error.{Error}
+use Rattle.json5_text.specs.Errors.{code, kind_of, place_of}
 use Rattle.json5_text.specs.Cursor.{Refused}
 use Rattle.json5_text.specs.Tokens.{FaultyBlanks}
-use Rattle.json5_de.specs.State.{State, cursor_of}
-use Rattle.json5_de.specs.Law.{TookValue}
+use Rattle.json5_de.specs.State.{State, SameText, GivesUp, cursor_of}
+use Rattle.json5_de.specs.Law.{TookValue, Gives, Completes, CompletesFree, Unprompted, ReadsValue}
+use Rattle.json5_de.specs.Options.{PlacedAt, NoOption, option_missing, faulty_null, RefusesOption, option_free}
 use Rattle.json5_de.specs.Convert.{unit_of}
 use Rattle.json5_de.specs.ConvertLists.{option_of, if_some}
-use Rattle.json5_de.specs.Faults.{AtEnd, AtOther}
+use Rattle.json5_de.specs.Faults.{AtEnd, AtOther, RefusedBy, IsUnplaced, FaultyNull}
 use Rattle.json5_de.specs.Steps.{PassedGap}
 use Rattle.json5_de.specs.Access.{Unawaited, at_end, at_char}
 use Rattle.json5_de.proofs.Awaited.{Awaited}
 use Rattle.json5_de.proofs.Arrays.{only_read, level_of, no_bool}
+use Rattle.json5_de.proofs.Taken.{refused_token}
+use Rattle.json5_de.proofs.OtherCodes.{option_lacks}
+use Rattle.json5_de.proofs.Rows.{refused_other}
 
 pub first_same : (c d : ℕ) (x y : List ℕ) → c ∷ x ≡ d ∷ y → c ≡ d
 first_same c d x y e = cc
@@ -152,3 +160,92 @@ took_behind s mid new t p took = record {
   shallow = let level = level_of p.rest in let deep = took.shallow in omega (arith, level, deep);
   rest = only_read s mid new p.rest took.rest;
 }
+
+-- ---- no T begins
+
+pub other_sign : (c d : ℕ) → (c ≡ d → ⊥) → (c == d) ≡ false
+other_sign c d n = grind arith
+
+pub missing_there : (old mid : State) (e : Error) → PassedGap old mid → mid.unread ≡ [] → kind_of e ≡ code codes.EofParsingValue → place_of e ≡ None → RefusedBy NoOption old e
+missing_there old mid e p none kind place = refused_token old mid e p (record {
+  reason = Some codes.EofParsingValue;
+  place = None;
+  fault = subst (λ x. NoOption x (Some codes.EofParsingValue) None) (sym none) option_missing;
+  says = kind;
+  placed = place;
+})
+
+pub null_there : (old mid : State) (e : Error) (m : List ℕ) → PassedGap old mid → mid.unread ≡ 110 ∷ m → Refused FaultyNull (cursor_of mid) e → RefusedBy NoOption old e
+null_there old mid e m p n f = refused_token old mid e p (record {
+  reason = f.reason;
+  place = f.place;
+  fault = subst (λ x. NoOption x f.reason f.place) (sym n) (faulty_null (subst (λ x. FaultyNull x f.reason f.place) n f.fault));
+  says = f.says;
+  placed = f.placed;
+})
+
+-- ---- the law of an option
+
+pub option_is_free : (free : Tree → Bool) (t : Tree) → (t ≡ null → ⊥) → option_free free t ≡ true → free t ≡ true
+option_is_free free null n e = absurd (n refl)
+option_is_free free (boolean b) n e = e
+option_is_free free (number k) n e = e
+option_is_free free (text u plain) n e = e
+option_is_free free (array ts) n e = e
+option_is_free free (object ps) n e = e
+
+module _ {V C : Type 0} (content : V → C) (convert : Tree → Option C) (free : Tree → Bool) (refuses : State → Error → State → Type 0) where
+  abbrev ReadsOption : State → State → Result (Option V) Error → Type 0
+  ReadsOption old new result = ReadsValue (if_some content) (option_of convert) (option_free free) (RefusesOption refuses) old new result
+
+  pub reads_option : (old new : State) (o : Option V) → Gives (if_some content) (option_of convert) old new o → ReadsOption old new (Ok o)
+  reads_option old new o (t, took, is) = record {
+    sound = (t, took, is);
+    complete = λ t r c live reads shallow converts. tt;
+    no_memory = λ t r c live reads shallow converts f. refl;
+    refused = tt;
+    unprompted = tt;
+    failed = tt;
+    before = λ h. absurd (no_bool h took.live);
+  }
+
+  -- no T begins
+  pub refuses_option : (old new : State) (e : Error) → RefusedBy NoOption old e → GivesUp old new → (old.failed ≡ true → IsUnplaced codes.Failed e × (new ≡ old))
+      → ((t : Tree) (r : List ℕ) → old.failed ≡ false → Reads old.unread t r → ⊥) → ReadsOption old new (Err e)
+  refuses_option old new e f failed before nothing = record {
+    sound = tt;
+    complete = λ t r c live reads shallow converts. absurd (nothing t r live reads);
+    no_memory = λ t r c live reads shallow converts free. absurd (nothing t r live reads);
+    refused = λ live. inl (f live, failed.same_text);
+    unprompted = refused_other option_lacks old e f;
+    failed = failed.failed;
+    before = before;
+  }
+
+  -- T refuses
+  pub refuses_some : (old start after new : State) (own e : Error) (c : ℕ) (m : List ℕ) → PassedGap old start → start.unread ≡ c ∷ m → (c == 110) ≡ false → refuses start own after → Completes {V = V} convert start (Err own)
+      → CompletesFree {V = V} free convert start (Err own) → Unprompted {V = V} start (Err own) → new ≡ record after { failed = true }
+      → PlacedAt (λ before. SameText start after × (start.input ≡ before ++ start.unread)) own e → ReadsOption old new (Err e)
+  refuses_some old start after new own e c m p next no_null cause complete no_memory other left placed = record {
+    sound = tt;
+    complete = λ t r v live reads shallow converts. let (k, is) = option_parts convert t v (is_no_null t r reads) converts in placed.kind ∙ complete t r k (at_start live) (there t r reads) (deep t shallow) is;
+    no_memory = λ t r v live reads shallow converts is_free.
+        let (k, is) = option_parts convert t v (is_no_null t r reads) converts in
+        absurd (false≢true (no_memory t r k (at_start live) (there t r reads) (deep t shallow) is (option_is_free free t (is_no_null t r reads) is_free)));
+    refused = λ live. inr (record { start = start; passed = p; char = c; more = m; begins = next; no_null = no_null; own = own; after = after; cause = cause; left = left; placed = placed });
+    unprompted = λ live k. other (at_start live) (sym placed.kind ∙ k);
+    failed = ap (λ (s : State). s.failed) left;
+    before = λ h. absurd (no_bool h p.live);
+  }
+    where
+      there : (t : Tree) (r : List ℕ) → Reads old.unread t r → Reads start.unread t r
+      there t r reads = value_next old start t r p reads
+
+      is_no_null : (t : Tree) (r : List ℕ) → Reads old.unread t r → t ≡ null → ⊥
+      is_no_null t r reads = null_not_next start.unread t c m r next p.solid (λ is. no_bool (ap (λ k. k == 110) is) no_null) (there t r reads)
+
+      at_start : old.failed ≡ false → start.failed ≡ false
+      at_start live = ap (λ (s : State). s.failed) p.rest ∙ live
+
+      deep : (t : Tree) → old.level + depth t ≤ max_depth → start.level + depth t ≤ max_depth
+      deep t shallow = let level = level_of p.rest in omega (arith, level, shallow)

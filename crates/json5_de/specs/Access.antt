@@ -1,5 +1,5 @@
 -- What contracts see of an access to an array.
-use Rattle.std.specs.Prelude.{◌≡◌, ◌≢◌, ◌⊎◌, ℕ, ◌+◌, ◌-◌, ◌<◌, ◌≤◌, Bool, true, false, List, [], ◌∷◌, ◌++◌, length, Option, Some, None, Result, Ok, Err, IsErrAnd, ◌==◌, ◌||◌, ◌&&◌}
+use Rattle.std.specs.Prelude.{◌≡◌, ◌≢◌, ◌⊎◌, ℕ, ◌+◌, ◌-◌, ◌<◌, ◌≤◌, Bool, true, false, List, [], ◌∷◌, ◌++◌, length, Option, Some, None, Result, Ok, Err, IfOk, IfErr, OnOk, OnErr, IsOk, IsOkAnd, IsErrAnd, ◌==◌, ◌||◌, ◌&&◌}
 use Rattle.std.specs.Str.{encode_utf8_all}
 use Rattle.json5_grammar.specs.declared.code.ErrorCode.{ErrorCode}
 use Rattle.json5_grammar.specs.declared.code.ErrorCode.TheVariants as codes
@@ -8,32 +8,45 @@ use Rattle.json5_grammar.specs.Blanks.{Blanks}
 use Rattle.json5_grammar.specs.Positions.{position_behind}
 use Rattle.json5_grammar.specs.Trees.{Tree, Trees, array, more, no_more, depth, depths}
 use Rattle.json5_grammar.specs.Documents.{max_depth}
-use Rattle.json5_grammar.specs.Members.{Opens, IsElement, IsClose, IsAtClose, Passed, Tail, snoc}
+use Rattle.json5_grammar.specs.Values.{Reads}
+use Rattle.json5_grammar.specs.Members.{IsSign, IsEnd, Opens, IsElement, IsClose, IsAtClose, Passed, Tail, snoc}
 use Rattle.json5_text.specs.declared.error.Error.{Error}
-use Rattle.json5_text.specs.Errors.{code, kind_of, place_of}
+use Rattle.json5_text.specs.Errors.{place_of}
 use Rattle.json5_de.specs.State.{State, OnlyRead}
 use Rattle.json5_text.specs.Cursor.{IsOutOfMemory}
-use Rattle.json5_de.specs.Law.{IsOkOrMemory}
-use Rattle.json5_de.specs.Faults.{Behind, AtEnd, IsBehind}
+use Rattle.json5_de.specs.Law.{IsOkOrMemory, TookValue, Unprompted}
+use Rattle.json5_de.specs.Options.{PlacedAt}
+use Rattle.json5_de.specs.Faults.{Behind, IsBehind, IsUnplaced, RefusedBy, EndsWith, DiffersWith}
+use Rattle.json5_de.specs.declared.brackets.Brackets.{Brackets}
+use Rattle.json5_de.specs.Brackets.{square}
 
--- what an access sees of the reader that is lent to it, which stands as failed meanwhile
-abbrev pub within : State → Bool → State
-within s failed = record s { failed = failed }
+-- what contracts see of an access: the reader that is lent to it, the count of bytes before the opening bracket,
+-- and whether a comma is due
+pub record Seen : Type 0 where
+  pub reader : State
+  pub start : ℕ
+  pub due : Bool
 
--- ---- an array
+-- a reader seen so, wherever the bracket stands
+abbrev pub bare : State → Bool → Seen
+bare reader due = record { reader = reader; start = 0; due = due }
+
+-- ---- brackets
 
 -- blanks and an opening bracket were taken, and one more bracket is open
-pub record Opened (old new : State) : Type 0 where
+pub record Opened (b : Brackets) (old new : State) : Type 0 where
   pub live : old.failed ≡ false
   pub room : old.level < max_depth
-  pub bracket : Opens old.unread new.unread
+  pub bracket : IsSign b.opening old.unread new.unread
   pub rest : new ≡ record old { unread = new.unread; level = old.level + 1 }
 
 -- the closing bracket was taken, behind a comma where one may stand, and one bracket less is open
-pub record Closed (due : Bool) (old new : State) : Type 0 where
+pub record Closed (b : Brackets) (due : Bool) (old new : State) : Type 0 where
   pub live : old.failed ≡ false
-  pub close : IsClose due old.unread new.unread
+  pub close : IsEnd b.closing due old.unread new.unread
   pub rest : new ≡ record old { unread = new.unread; level = old.level - 1 }
+
+-- ---- an array
 
 -- an element of the tree t was read, behind the comma that was due
 pub record TookElement (due : Bool) (old : State) (t : Tree) (new : State) : Type 0 where
@@ -49,48 +62,52 @@ pub record AtClose (due : Bool) (old new : State) : Type 0 where
   pub rest : OnlyRead old new
 
 -- an element was read and stands for v, or the closing bracket is next
-abbrev pub GivesElement : {V C : Type 0} → (V → C) → (Tree → Option C) → Bool → State → State → Option V → Type 0
-GivesElement content convert due old new (Some v) = (t : Tree) × TookElement due old t new × (convert t ≡ Some (content v))
-GivesElement content convert due old new None = AtClose due old new
+abbrev pub GivesElement : {V C : Type 0} → (V → C) → (Tree → Option C) → Seen → Seen → Option V → Type 0
+GivesElement content convert old new (Some v) = (t : Tree) × TookElement old.due old.reader t new.reader × (new.due ≡ true) × (convert t ≡ Some (content v))
+GivesElement content convert old new None = AtClose old.due old.reader new.reader × (new.due ≡ old.due)
 
 -- an element that can be read is read, want of memory aside
-abbrev pub CompletesElement : {V C : Type 0} → (Tree → Option C) → Bool → State → Result V Error → Type 0
-CompletesElement {C = C} convert due old result =
-    (t : Tree) (r : List ℕ) (c : C) → old.failed ≡ false → IsElement due old.unread t r → old.level + depth t ≤ max_depth → convert t ≡ Some c → IsOkOrMemory result
+abbrev pub CompletesElement : {V C : Type 0} → (Tree → Option C) → Seen → Result V Error → Type 0
+CompletesElement {C = C} convert old result =
+    (t : Tree) (r : List ℕ) (c : C) → old.reader.failed ≡ false → IsElement old.due old.reader.unread t r → old.reader.level + depth t ≤ max_depth → convert t ≡ Some c → IsOkOrMemory result
+
+-- nothing is refused where the array ends
+abbrev pub CompletesClose : {V : Type 0} → Seen → Result V Error → Type 0
+CompletesClose old result = (r : List ℕ) → old.reader.failed ≡ false → IsClose old.due old.reader.unread r → IsOk result
 
 -- ---- an array as a whole: what was read of it, and what is left
 
 -- an array begins at `from`, these elements of it were read, and perhaps what stands before the closing bracket, the last comma included
-pub record ElementsRead (from : State) (ts : Trees) (due : Bool) (now : State) : Type 0 where
+pub record ElementsRead (from : State) (ts : Trees) (now : Seen) : Type 0 where
   pub live : from.failed ≡ false
   pub shallow : from.level + depth (array ts) ≤ max_depth
   pub inside : List ℕ
   pub bracket : Opens from.unread inside
   pub behind : List ℕ
-  pub passed : Passed ts false inside due behind
-  pub here : (now.unread ≡ behind) ⊎ IsAtClose due behind now.unread
-  pub rest : now ≡ record from { unread = now.unread; level = from.level + 1 }
+  pub passed : Passed ts false inside now.due behind
+  pub here : (now.reader.unread ≡ behind) ⊎ IsAtClose now.due behind now.reader.unread
+  pub rest : now.reader ≡ record from { unread = now.reader.unread; level = from.level + 1 }
 
 -- these elements are left, behind a comma where one is due, and then the closing bracket, with r behind it; none is too deep
-pub record ElementsLeft (ts : Trees) (r : List ℕ) (due : Bool) (now : State) : Type 0 where
-  pub live : now.failed ≡ false
-  pub shallow : now.level + depths ts ≤ max_depth
-  pub tail : Tail ts due now.unread r
+pub record ElementsLeft (ts : Trees) (r : List ℕ) (now : Seen) : Type 0 where
+  pub live : now.reader.failed ≡ false
+  pub shallow : now.reader.level + depths ts ≤ max_depth
+  pub tail : Tail ts now.due now.reader.unread r
 
 -- one element more was read, which stands for v; or none, and what was read is the same (that the bracket is next says `GivesElement`)
-abbrev pub ReadsMore : {V C : Type 0} → (V → C) → (Tree → Option C) → Bool → State → Bool → State → Option V → Type 0
-ReadsMore content convert due old now new (Some v) = (t : Tree) × (convert t ≡ Some (content v)) × ((from : State) (ts : Trees) → ElementsRead from ts due old → ElementsRead from (snoc ts t) now new)
-ReadsMore content convert due old now new None = (from : State) (ts : Trees) → ElementsRead from ts due old → ElementsRead from ts now new
+abbrev pub ReadsMore : {V C : Type 0} → (V → C) → (Tree → Option C) → Seen → Seen → Option V → Type 0
+ReadsMore content convert old new (Some v) = (t : Tree) × (convert t ≡ Some (content v)) × ((from : State) (ts : Trees) → ElementsRead from ts old → ElementsRead from (snoc ts t) new)
+ReadsMore content convert old new None = (from : State) (ts : Trees) → ElementsRead from ts old → ElementsRead from ts new
 
 -- where elements are left and the first converts, it was read, want of memory aside, and the others are left; where none is left, none was given.
 -- Nothing is said of the refusal of one that doesn't convert.
-abbrev pub LeavesFewer : {V C : Type 0} → (V → C) → (Tree → Option C) → Trees → List ℕ → Bool → State → Result (Option V) Error → Type 0
-LeavesFewer content convert no_more r now new (Ok None) = ElementsLeft no_more r now new
-LeavesFewer content convert no_more r now new (Ok (Some v)) = ⊥
-LeavesFewer content convert no_more r now new (Err e) = ⊥
-LeavesFewer content convert (more t ts) r now new (Ok (Some v)) = (convert t ≡ Some (content v)) × ElementsLeft ts r now new
-LeavesFewer content convert (more t ts) r now new (Ok None) = ⊥
-LeavesFewer {C = C} content convert (more t ts) r now new (Err e) = (c : C) → convert t ≡ Some c → IsOutOfMemory e
+abbrev pub LeavesFewer : {V C : Type 0} → (V → C) → (Tree → Option C) → Trees → List ℕ → Seen → Result (Option V) Error → Type 0
+LeavesFewer content convert no_more r new (Ok None) = ElementsLeft no_more r new
+LeavesFewer content convert no_more r new (Ok (Some v)) = ⊥
+LeavesFewer content convert no_more r new (Err e) = ⊥
+LeavesFewer content convert (more t ts) r new (Ok (Some v)) = (convert t ≡ Some (content v)) × ElementsLeft ts r new
+LeavesFewer content convert (more t ts) r new (Ok None) = ⊥
+LeavesFewer {C = C} content convert (more t ts) r new (Err e) = (c : C) → convert t ≡ Some c → IsOutOfMemory e
 
 -- ---- places
 
@@ -100,41 +117,41 @@ pub record StartsBehind (input : List ℕ) (offset : ℕ) (before : List ℕ) : 
   pub split : input ≡ before ++ rest
   pub counted : offset ≡ length (encode_utf8_all before)
 
--- the fault's place is where the offset stands
-abbrev pub IsAtOffset : List ℕ → ℕ → Error → Type 0
-IsAtOffset input offset e = (before : List ℕ) → StartsBehind input offset before → place_of e ≡ Some (position_behind before)
+-- the same fault, at the opening bracket where it had no place
+abbrev pub PlacedAtBracket : Seen → Error → Error → Type 0
+PlacedAtBracket s own e = PlacedAt (StartsBehind s.reader.input s.start) own e
+
+-- the fault's place is the opening bracket
+abbrev pub IsAtBracket : Seen → Error → Type 0
+IsAtBracket s e = (before : List ℕ) → StartsBehind s.reader.input s.start before → place_of e ≡ Some (position_behind before)
 
 abbrev pub HasPlace : Error → Type 0
 HasPlace e = place_of e ≢ None
 
--- the code at the end, placed where the offset stands
-abbrev pub EndsAtOffset : {V : Type 0} → ErrorCode → ℕ → State → Result V Error → Type 0
-EndsAtOffset ends offset old result = AtEnd old → IsErrAnd result (λ e. (kind_of e ≡ code ends) × IsAtOffset old.input offset e)
-
 -- behind the blanks w stands an opening bracket, where no more may be open
-pub record AtFull (old : State) (w : List ℕ) : Type 0 where
+pub record AtFull (b : Brackets) (old : State) (w : List ℕ) : Type 0 where
   pub live : old.failed ≡ false
   pub full : old.level ≡ max_depth
   pub blank : Blanks w
   pub more : List ℕ
-  pub split : old.unread ≡ w ++ 0x5B ∷ more
+  pub split : old.unread ≡ w ++ b.opening ∷ more
 
 -- TooDeep at that bracket
-abbrev pub TooDeepAt : {V : Type 0} → State → Result V Error → Type 0
-TooDeepAt old result = (w : List ℕ) → AtFull old w → IsErrAnd result (IsBehind codes.TooDeep old w)
+abbrev pub TooDeepAt : {V : Type 0} → Brackets → State → Result V Error → Type 0
+TooDeepAt b old result = (w : List ℕ) → AtFull b old w → IsErrAnd result (IsBehind codes.TooDeep old w)
 
--- ---- what begins the rest of an array
+-- ---- what begins the rest
 
-abbrev pub is_opening : ℕ → Bool
-is_opening c = c == 0x5B
+abbrev pub is_opening : Brackets → ℕ → Bool
+is_opening b c = c == b.opening
 
 -- behind an element
 abbrev pub is_comma_or_closing : ℕ → Bool
 is_comma_or_closing c = (c == 0x2C) || (c == 0x5D)
 
 -- the closing bracket, and before it the comma that may stand there
-abbrev pub begins_close : Bool → ℕ → Bool
-begins_close due c = (c == 0x5D) || (due && (c == 0x2C))
+abbrev pub begins_close : Brackets → Bool → ℕ → Bool
+begins_close b due c = (c == b.closing) || (due && (c == 0x2C))
 
 -- ---- what is refused
 
@@ -143,19 +160,56 @@ pub data Unawaited (ends differs : ErrorCode) : List ℕ → Option ErrorCode �
   at_end : Unawaited ends differs [] (Some ends) None
   at_char : (c : ℕ) (r : List ℕ) → Unawaited ends differs (c ∷ r) (Some differs) (Some [])
 
--- where an array is awaited, and so many brackets are open: no bracket, or one too many
-pub data NotOpened (level : ℕ) : List ℕ → Option ErrorCode → Option (List ℕ) → Type 0 where
-  no_bracket : (c : ℕ) (r : List ℕ) → (c == 0x5B) ≡ false → NotOpened level (c ∷ r) (Some codes.ExpectedOpeningBracket) (Some [])
-  array_missing : NotOpened level [] (Some codes.EofParsingArray) None
-  too_deep : (r : List ℕ) → level ≡ max_depth → NotOpened level (0x5B ∷ r) (Some codes.TooDeep) (Some [])
+-- where an opening bracket is awaited, and so many are open: none, or one too many
+pub data NotOpened (b : Brackets) (level : ℕ) : List ℕ → Option ErrorCode → Option (List ℕ) → Type 0 where
+  no_bracket : (c : ℕ) (r : List ℕ) → (c == b.opening) ≡ false → NotOpened b level (c ∷ r) (Some b.not_opened) (Some [])
+  text_ends : NotOpened b level [] (Some b.ends) None
+  too_deep : (r : List ℕ) → level ≡ max_depth → NotOpened b level (b.opening ∷ r) (Some codes.TooDeep) (Some [])
 
 -- where the closing bracket is awaited
-pub data NoBracket (comma : Bool) : List ℕ → Option ErrorCode → Option (List ℕ) → Type 0 where
-  other_sign : (c : ℕ) (r : List ℕ) → (c == 0x5D) ≡ false → (comma ≡ true → (c == 0x2C) ≡ false) → NoBracket comma (c ∷ r) (Some codes.ExpectedClosingBracket) (Some [])
-  bracket_missing : NoBracket comma [] (Some codes.EofParsingArray) None
+pub data NoBracket (b : Brackets) (comma : Bool) : List ℕ → Option ErrorCode → Option (List ℕ) → Type 0 where
+  other_sign : (c : ℕ) (r : List ℕ) → (c == b.closing) ≡ false → (comma ≡ true → (c == 0x2C) ≡ false) → NoBracket b comma (c ∷ r) (Some b.not_closed) (Some [])
+  bracket_missing : NoBracket b comma [] (Some b.ends) None
 
 -- where the closing bracket is awaited, and a comma before it where one is due
-pub data NotClosed (due : Bool) : List ℕ → Option ErrorCode → Option (List ℕ) → Type 0 where
-  not_here : {x : List ℕ} {reason : Option ErrorCode} {place : Option (List ℕ)} → NoBracket due x reason place → NotClosed due x reason place
-  behind_comma : {x : List ℕ} {reason : Option ErrorCode} {place : Option (List ℕ)} → due ≡ true → Behind (NoBracket false) x reason place
-      → NotClosed due (0x2C ∷ x) reason (behind_text (0x2C ∷ []) place)
+pub data NotClosed (b : Brackets) (due : Bool) : List ℕ → Option ErrorCode → Option (List ℕ) → Type 0 where
+  not_here : {x : List ℕ} {reason : Option ErrorCode} {place : Option (List ℕ)} → NoBracket b due x reason place → NotClosed b due x reason place
+  behind_comma : {x : List ℕ} {reason : Option ErrorCode} {place : Option (List ℕ)} → due ≡ true → Behind (NoBracket b false) x reason place
+      → NotClosed b due (0x2C ∷ x) reason (behind_text (0x2C ∷ []) place)
+
+-- ---- what the calls of an access mean
+
+-- where a bracket that opens is awaited
+pub record OpensAs {A : Type 0} (b : Brackets) (seen : A → Seen) (old : State) (result : Result A Error) : Type 0 where
+  pub opened : IfOk result (λ a. Opened b old (seen a).reader × ((seen a).due ≡ false))
+  pub start : IfOk result (λ a. (before : List ℕ) → old.input ≡ before ++ b.opening ∷ (seen a).reader.unread → (seen a).start ≡ length (encode_utf8_all before))
+  pub complete : (r : List ℕ) → old.failed ≡ false → IsSign b.opening old.unread r → old.level < max_depth → IsOk result
+  pub refused : IfErr result (RefusedBy (NotOpened b old.level) old)
+  pub ends : EndsWith b.ends old result
+  pub differs : DiffersWith (is_opening b) b.not_opened old result
+  pub too_deep : TooDeepAt b old result
+  pub unprompted : Unprompted old result
+  pub before : old.failed ≡ true → IsErrAnd result (IsUnplaced codes.Failed)
+
+-- where the closing bracket is awaited
+pub record ClosesAs (b : Brackets) (due : Bool) (old new : State) (result : Result (Unit {0}) Error) : Type 0 where
+  pub closed : OnOk result (Closed b due old new)
+  pub complete : (r : List ℕ) → old.failed ≡ false → IsEnd b.closing due old.unread r → IsOk result
+  pub refused : IfErr result (RefusedBy (NotClosed b due) old)
+  pub ends : EndsWith b.ends old result
+  pub differs : DiffersWith (begins_close b due) b.not_closed old result
+  pub unprompted : Unprompted old result
+  pub before : old.failed ≡ true → IsErrAnd result (IsUnplaced codes.Failed)
+
+-- an array is opened: nothing was read of it, and where one can be read its elements are left
+pub record OpensArray {A : Type 0} (seen : A → Seen) (old : State) (result : Result A Error) : Type 0 where
+  pub bracket : OpensAs square seen old result
+  pub read : IfOk result (λ a. ElementsRead old no_more (seen a))
+  pub left : (ts : Trees) (r : List ℕ) → old.failed ≡ false → Reads old.unread (array ts) r → old.level + depth (array ts) ≤ max_depth → IsOkAnd result (λ a. ElementsLeft ts r (seen a))
+
+-- an array is closed: the elements that were read are all of it
+pub record ClosesArray (old : Seen) (new : State) (result : Result (Unit {0}) Error) : Type 0 where
+  pub bracket : ClosesAs square old.due old.reader new result
+  pub failed : OnErr result (new.failed ≡ true)
+  pub read : OnOk result ((from : State) (ts : Trees) → ElementsRead from ts old → TookValue from (array ts) new)
+  pub left : (r : List ℕ) → ElementsLeft no_more r old → IsOk result

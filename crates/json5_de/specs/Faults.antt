@@ -13,8 +13,12 @@ use Rattle.json5_text.specs.Cursor.{IsPlaced, Refused, IsOutOfMemory}
 use Rattle.json5_text.specs.Tokens.{FaultyBlanks, FaultyWord, FaultyNumber, FaultyString}
 use Rattle.json5_de.specs.State.{State, cursor_of}
 
+-- which faults a text has: the code, None for a text of its own, and the text before its place, None for no place
+abbrev pub FaultRelation : Type 1
+FaultRelation = List ℕ → Option ErrorCode → Option (List ℕ) → Type 0
+
 -- a comment in front is at fault, or behind the gap stands what isn't awaited
-pub data Behind (IsFault : List ℕ → Option ErrorCode → Option (List ℕ) → Type 0) : List ℕ → Option ErrorCode → Option (List ℕ) → Type 0 where
+pub data Behind (IsFault : FaultRelation) : List ℕ → Option ErrorCode → Option (List ℕ) → Type 0 where
   in_blanks : {x : List ℕ} {reason : Option ErrorCode} {place : Option (List ℕ)} → FaultyBlanks x reason place → Behind IsFault x reason place
   behind_gap : {w x : List ℕ} {reason : Option ErrorCode} {place : Option (List ℕ)} → Gap w x → Solid x → IsFault x reason place → Behind IsFault (w ++ x) reason (behind_text w place)
 
@@ -29,14 +33,14 @@ pub data NotText {C : Type 0} (convert : List ℕ → Bool → Option C) : List 
   other_text : {s u : List ℕ} {plain : Bool} (r : List ℕ) → Str s u plain → convert u plain ≡ None → NotText convert (s ++ r) None (Some [])
 
 -- a reader that hasn't failed refuses with a fault that the relation gives what is behind the blanks, at its place
-abbrev pub RefusedBy : (List ℕ → Option ErrorCode → Option (List ℕ) → Type 0) → State → Error → Type 0
+abbrev pub RefusedBy : FaultRelation → State → Error → Type 0
 RefusedBy IsFault old e = old.failed ≡ false → Refused (Behind IsFault) (cursor_of old) e
 
 -- the same, or memory was wanting
-abbrev pub RefusedByOrMemory : (List ℕ → Option ErrorCode → Option (List ℕ) → Type 0) → State → Error → Type 0
+abbrev pub RefusedByOrMemory : FaultRelation → State → Error → Type 0
 RefusedByOrMemory IsFault old e = IsOutOfMemory e ⊎ RefusedBy IsFault old e
 
-abbrev pub FaultyNull : List ℕ → Option ErrorCode → Option (List ℕ) → Type 0
+abbrev pub FaultyNull : FaultRelation
 FaultyNull = FaultyWord null_text codes.EofParsingNull codes.ExpectedNull
 
 abbrev pub begins_with : ℕ → List ℕ → Bool
@@ -44,7 +48,7 @@ begins_with c [] = false
 begins_with c (d ∷ s) = d == c
 
 -- behind an `f` the word is `false`, else `true`
-abbrev pub FaultyBool : List ℕ → Option ErrorCode → Option (List ℕ) → Type 0
+abbrev pub FaultyBool : FaultRelation
 FaultyBool x = FaultyWord (if begins_with 0x66 x then false_text else true_text) codes.EofParsingBool codes.ExpectedBool x
 
 -- a character where the end is awaited: TrailingCharacters at it

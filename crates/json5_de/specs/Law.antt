@@ -1,5 +1,5 @@
 -- The law of a type that is read.
-use Rattle.std.specs.Prelude.{◌≡◌, ℕ, ◌+◌, ◌≤◌, false, true, List, Option, Some, None, Result, Ok, Err, IsOk, IsErrAnd}
+use Rattle.std.specs.Prelude.{◌≡◌, ◌≢◌, ℕ, ◌+◌, ◌≤◌, Bool, false, true, List, Option, Some, None, Result, Ok, Err, IsOk, IfOk, IfErr, OnErr, IsErrAnd}
 use Rattle.json5_grammar.specs.declared.code.ErrorCode.TheVariants as codes
 use Rattle.json5_grammar.specs.Trees.{Tree, depth}
 use Rattle.json5_grammar.specs.Values.{Reads}
@@ -29,11 +29,34 @@ abbrev pub Completes : {V C : Type 0} → (Tree → Option C) → State → Resu
 Completes {C = C} convert old result =
     (t : Tree) (r : List ℕ) (c : C) → old.failed ≡ false → Reads old.unread t r → old.level + depth t ≤ max_depth → convert t ≡ Some c → IsOkOrMemory result
 
--- what can be read is read, and takes no memory
-abbrev pub CompletesWithoutMemory : {V C : Type 0} → (Tree → Option C) → State → Result V Error → Type 0
-CompletesWithoutMemory {C = C} convert old result =
-    (t : Tree) (r : List ℕ) (c : C) → old.failed ≡ false → Reads old.unread t r → old.level + depth t ≤ max_depth → convert t ≡ Some c → IsOk result
+-- a tree that is free and can be read is read without memory
+abbrev pub CompletesFree : {V C : Type 0} → (Tree → Bool) → (Tree → Option C) → State → Result V Error → Type 0
+CompletesFree {C = C} free convert old result =
+    (t : Tree) (r : List ℕ) (c : C) → old.failed ≡ false → Reads old.unread t r → old.level + depth t ≤ max_depth → convert t ≡ Some c → free t ≡ true → IsOk result
 
 -- a reader that has failed answers `Failed` without a place, and stays as it is
 abbrev pub StaysFailed : {V : Type 0} → State → State → Result V Error → Type 0
 StaysFailed old new result = old.failed ≡ true → IsErrAnd result (λ e. (kind_of e ≡ code codes.Failed) × (place_of e ≡ None)) × (new ≡ old)
+
+-- the fault isn't that of a reader that had failed
+abbrev pub IsUnprompted : Error → Type 0
+IsUnprompted e = kind_of e ≢ code codes.Failed
+
+-- a reader that hasn't failed doesn't say that it has
+abbrev pub Unprompted : {V : Type 0} → State → Result V Error → Type 0
+Unprompted old result = IfErr result (λ e. old.failed ≡ false → IsUnprompted e)
+
+-- one value is read from the front: the law of a type, and after a refusal the reader has failed for good
+pub record ReadsValue {V C : Type 0} (content : V → C) (convert : Tree → Option C) (free : Tree → Bool) (refuses : State → Error → State → Type 0) (old new : State) (result : Result V Error) : Type 0 where
+  pub sound : IfOk result (λ v. Gives content convert old new v)
+  pub complete : Completes convert old result
+  pub no_memory : CompletesFree free convert old result
+  pub refused : IfErr result (λ e. refuses old e new)
+  pub unprompted : Unprompted old result
+  pub failed : OnErr result (new.failed ≡ true)
+  pub before : StaysFailed old new result
+
+-- after a refusal the reader has failed for good, and one that had failed before says so
+pub record LeavesFailed (old : State) (e : Error) (new : State) : Type 0 where
+  pub failed : new.failed ≡ true
+  pub before : old.failed ≡ true → (kind_of e ≡ code codes.Failed) × (place_of e ≡ None)

@@ -3,8 +3,12 @@ pub mod Law
 pub mod Faults
 pub mod Scalars
 pub mod Convert
+pub mod ConvertLists
 pub mod Steps
+pub mod Rows
+pub mod Options
+pub mod Brackets
 pub mod Access
 pub mod Seq
-pub mod ConvertLists
-pub mod Integers
+pub mod Lending
+pub mod Texts

@@ -1,5 +1,5 @@
 -- What contracts see of a reader.
-use Rattle.std.specs.Prelude.{◌≡◌, ℕ, List, Bool}
+use Rattle.std.specs.Prelude.{◌≡◌, ℕ, List, Bool, true}
 use Rattle.json5_text.specs.Cursor.{Cursor}
 
 -- the whole text, what is unread of it, the count of open brackets, and whether a call refused or what was lent was given up
@@ -15,3 +15,12 @@ cursor_of s = record { input = s.input; unread = s.unread }
 -- nothing changed but what is unread
 abbrev pub OnlyRead : State → State → Type 0
 OnlyRead old new = new ≡ record old { unread = new.unread }
+
+-- the reader still reads the same text
+abbrev pub SameText : State → State → Type 0
+SameText old new = new.input ≡ old.input
+
+-- it has failed, and still reads the same text
+pub record GivesUp (old new : State) : Type 0 where
+  pub failed : new.failed ≡ true
+  pub same_text : SameText old new

@@ -1,13 +1,23 @@
--- The steps of a typed read. Private clauses and proofs alone cite them.
-use Rattle.std.specs.Prelude.{◌≡◌, ◌≤◌, ℕ, false, List, ◌++◌, length, Some, None, ◌⊎◌}
-use Rattle.std.specs.Str.{encode_utf8_all}
+-- The steps of a typed read.
+use Rattle.std.specs.Prelude.{◌≡◌, ◌≤◌, ℕ, ℤ, Bool, false, List, ◌++◌, length, Some, None, ◌⊎◌, String, string_bytes}
+use Rattle.std.specs.Str.{chars, encode_utf8_all}
+use Rattle.json5_grammar.specs.Characters.{NotBegun}
+use Rattle.json5_grammar.specs.Stops.{lengthens}
+use Rattle.json5_grammar.specs.Strings.{Str}
+use Rattle.json5_text.specs.declared.cow_str.CowStr.{CowStr}
+use Rattle.json5_text.specs.declared.number.Number as token
+use Rattle.json5_text.specs.Cows.{cow_bytes, is_borrowed}
+use Rattle.json5_text.specs.NumberViews.{number_of}
 use Rattle.json5_grammar.specs.Positions.{position_behind}
 use Rattle.json5_text.specs.declared.error.Error.{Error}
 use Rattle.json5_text.specs.Errors.{place_of}
-use Rattle.json5_text.specs.Cursor.{Says, IsOutOfMemory}
+use Rattle.json5_text.specs.Cursor.{Says, Refused, IsOutOfMemory}
 use Rattle.json5_grammar.specs.Blanks.{Gap, Solid}
 use Rattle.json5_grammar.specs.Documents.{max_depth}
-use Rattle.json5_de.specs.State.{State, OnlyRead}
+use Rattle.json5_grammar.specs.Numbers.{Num, whole}
+use Rattle.json5_grammar.specs.Values.{Stops}
+use Rattle.json5_de.specs.State.{State, OnlyRead, cursor_of}
+use Rattle.json5_de.specs.Faults.{FaultRelation}
 
 -- a reader that hasn't failed passed over a gap
 pub record PassedGap (old new : State) : Type 0 where
@@ -24,6 +34,26 @@ pub record TookText (old : State) (taken : List ℕ) (new : State) : Type 0 wher
   pub split : old.unread ≡ taken ++ new.unread
   pub rest : OnlyRead old new
 
+-- a number was taken as far as it goes
+abbrev pub TookNumber : State → State → token.Number → Type 0
+TookNumber old new n = (s : List ℕ) × TookText old s new × Num s (number_of n) × NotBegun (lengthens s) new.unread
+
+-- a string was taken, which stands for this text
+abbrev pub TookOwned : {A : Type 0} → State → State → String A → Type 0
+TookOwned old new t = (s u : List ℕ) × (plain : Bool) × TookText old s new × Str s u plain × (string_bytes t ≡ encode_utf8_all u)
+
+-- the same, borrowed where it is plain
+abbrev pub TookCow : State → State → CowStr → Type 0
+TookCow old new t = (s u : List ℕ) × (plain : Bool) × TookText old s new × Str s u plain × (is_borrowed t ≡ plain) × (cow_bytes t ≡ encode_utf8_all u)
+
+-- the same, by the characters of its text
+abbrev pub TookCharacters : {A : Type 0} → State → State → String A → Type 0
+TookCharacters old new t = (s : List ℕ) × (plain : Bool) × TookText old s new × Str s (chars (string_bytes t)) plain
+
+-- the token in front is refused with one of its faults, or memory was wanting
+abbrev pub RefusesToken : FaultRelation → State → Error → Type 0
+RefusesToken IsFault old e = IsOutOfMemory e ⊎ Refused IsFault (cursor_of old) e
+
 -- so many bytes stand before a place of the text
 abbrev pub IsOffset : List ℕ → ℕ → Type 0
 IsOffset input offset = (before : List ℕ) × (rest : List ℕ) × (input ≡ before ++ rest) × (offset ≡ length (encode_utf8_all before))
@@ -32,3 +62,14 @@ IsOffset input offset = (before : List ℕ) × (rest : List ℕ) × (input ≡ b
 abbrev pub IsMismatch : List ℕ → ℕ → Error → Type 0
 IsMismatch input offset e =
     IsOutOfMemory e ⊎ (Says None e × ((before rest : List ℕ) → input ≡ before ++ rest → offset ≡ length (encode_utf8_all before) → place_of e ≡ Some (position_behind before)))
+
+-- a whole number was taken behind a gap, and so many bytes stand before it
+pub record WholeAt (old new : State) (start : ℕ) (z : ℤ) : Type 0 where
+  pub between : State
+  pub phrase : List ℕ
+  pub passed : PassedGap old between
+  pub took : TookText between phrase new
+  pub is_number : Num phrase (whole z)
+  pub stops : Stops phrase new.unread
+  pub counted : (before : List ℕ) → between.input ≡ before ++ between.unread → start ≡ length (encode_utf8_all before)
+  pub offset : IsOffset new.input start

@@ -1,20 +1,15 @@
 //! Reading of values of any kind.
 
-ghost use Rattle.std.specs.Prelude.{◌≡◌, ◌⊎◌, ℕ, List, Bool, string_bytes, Some, IfOk, IfErr, OnErr, true};
-ghost use Rattle.std.specs.Str.{chars};
-ghost use Rattle.json5_grammar.specs.declared.code.ErrorCode.TheVariants as codes;
+ghost use Rattle.std.specs.Prelude.{◌≡◌, Bool, IfOk, IfErr, OnErr};
 ghost use Rattle.json5_grammar.specs.Strings.{Str};
-ghost use Rattle.json5_text.specs.Cursor.{Refused, IsOutOfMemory};
 ghost use Rattle.json5_text.specs.Tokens.{FaultyString};
 ghost use Rattle.json5_text.specs.ValueViews.{value_of};
 ghost use Rattle.json5_text.specs.ValueViews as datum;
 ghost use Rattle.json5_text.specs.NumberViews.{number_of};
-ghost use Rattle.json5_de.specs.State.{cursor_of};
-ghost use Rattle.json5_de.specs.Law.{Gives, Completes, StaysFailed};
-ghost use Rattle.json5_de.specs.Steps.{TookText};
-ghost use Rattle.json5_de.specs.Faults.{RefusedByOrMemory, EndsWithOrMemory, DiffersWithOrMemory};
-ghost use Rattle.json5_de.specs.Convert.{datum_of};
-ghost use Rattle.json5_de.specs.Scalars.{kind_at, FaultyScalar, begins_scalar};
+ghost use Rattle.json5_de.specs.State.{GivesUp};
+ghost use Rattle.json5_de.specs.Rows.{ReadsAs, any_row};
+ghost use Rattle.json5_de.specs.Steps.{TookCharacters, RefusesToken};
+ghost use Rattle.json5_de.specs.Scalars.{kind_at};
 
 use crate::de::Deserializer;
 use json5_text::ErrorCode;
@@ -51,19 +46,17 @@ fn kind_at(c: char) -> Kind
 impl<I: Input> Deserializer<I> {
     /// Takes the string in front; its characters are those of the text.
     fn characters(&mut self) -> Result<String>
-        ensures taken { IfOk result (λ t. (s : List ℕ) × (plain : Bool) × TookText self.old s self.new × Str s (chars (string_bytes t)) plain) }
-        ensures refused { IfErr result (λ e. IsOutOfMemory e ⊎ Refused FaultyString (cursor_of self.old) e) }
-        ensures failed { OnErr result (self.new.failed ≡ true) }
+        ensures taken { IfOk result (TookCharacters self.old self.new) }
+        ensures refused { IfErr result (RefusesToken FaultyString self.old) }
+        ensures failed { OnErr result (GivesUp self.old self.new) }
     {
         let _offset = self.offset();
         self.owned_text()
     }
 
-    fn read_any(&mut self) -> Result<Value>
-        ensures sound { IfOk result (λ v. Gives value_of datum_of self.old self.new v) }
-        ensures refused { IfErr result (RefusedByOrMemory FaultyScalar self.old) }
-        ensures failed { OnErr result (self.new.failed ≡ true) }
-        ensures before { StaysFailed self.old self.new result }
+    /// Reads a value of any kind. Until they come, an array or an object is refused with `ExpectedValue` at its bracket.
+    pub fn deserialize_any(&mut self) -> Result<Value>
+        ensures { ReadsAs any_row value_of self.old self.new result }
     {
         self.begin()?;
         let Some(c) = self.peek() else {
@@ -95,19 +88,6 @@ impl<I: Input> Deserializer<I> {
                 self.refuse(error)
             }
         }
-    }
-
-    /// Reads a value of any kind. Until they come, an array or an object is refused with `ExpectedValue` at its bracket.
-    pub fn deserialize_any(&mut self) -> Result<Value>
-        ensures sound { IfOk result (λ v. Gives value_of datum_of self.old self.new v) }
-        ensures complete { Completes datum_of self.old result }
-        ensures refused { IfErr result (RefusedByOrMemory FaultyScalar self.old) }
-        ensures ends { EndsWithOrMemory codes.EofParsingValue self.old result }
-        ensures differs { DiffersWithOrMemory begins_scalar codes.ExpectedValue self.old result }
-        ensures failed { OnErr result (self.new.failed ≡ true) }
-        ensures before { StaysFailed self.old self.new result }
-    {
-        self.read_any()
     }
 }
 

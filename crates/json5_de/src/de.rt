@@ -1,26 +1,25 @@
 //! The reader, and the law of a type that is read.
 
-ghost use Rattle.std.specs.Prelude.{◌≡◌, ◌≤◌, Bool, string_bytes, ◌⊎◌, ◌++◌, ℕ, List, [], length, Some, None, IfOk, IfErr, OnOk, OnErr, IsOk, IsErrAnd, true, false, slice_get};
+ghost use Rattle.std.specs.Prelude.{◌≡◌, ◌≤◌, Bool, ◌++◌, ℕ, List, [], length, Some, None, IfOk, IfErr, OnOk, OnErr, IsOk, IsErrAnd, true, false, slice_get};
 ghost use Rattle.std.specs.Prelude.{◌<◌, ◌+◌, ◌-◌, ◌==◌, ◌∷◌};
 ghost use Rattle.json5_grammar.specs.Positions.{position_behind};
 ghost use Rattle.std.specs.Str.{chars};
 ghost use Rattle.json5_text.specs.Errors.{Kind, code, kind_of, place_of};
-ghost use Rattle.json5_text.specs.Cursor.{Refused, IsPlaced, IsOutOfMemory};
+ghost use Rattle.json5_text.specs.Cursor.{Refused, IsPlaced};
 ghost use Rattle.json5_text.specs.Tokens.{FaultyBlanks, FaultyWord, FaultyNumber, FaultyString};
 ghost use Rattle.json5_grammar.specs.Documents.{max_depth};
 ghost use Rattle.json5_grammar.specs.declared.code.ErrorCode.TheVariants as codes;
-ghost use Rattle.json5_de.specs.State.{State, cursor_of};
+ghost use Rattle.json5_de.specs.State.{State, GivesUp, cursor_of};
 ghost use Rattle.json5_de.specs.Faults.{RefusedBy, AtEnd, Trailing};
-ghost use Rattle.json5_de.specs.Law.{Gives, Completes, StaysFailed};
+ghost use Rattle.json5_de.specs.Law.{Gives, Completes, CompletesFree, StaysFailed, Unprompted};
 ghost use Rattle.std.specs.Str.{all_scalars, encode_utf8_all};
 ghost use Rattle.json5_grammar.specs.Characters.{NotBegun};
 ghost use Rattle.json5_grammar.specs.Numbers as numbers;
 ghost use Rattle.json5_grammar.specs.Numbers.{Num};
 ghost use Rattle.json5_grammar.specs.Stops.{lengthens};
 ghost use Rattle.json5_grammar.specs.Strings.{Str};
-ghost use Rattle.json5_text.specs.Cows.{cow_bytes, is_borrowed};
-ghost use Rattle.json5_text.specs.NumberViews.{number_of, keeps_digits};
-ghost use Rattle.json5_de.specs.Steps.{PassedGap, TookText, IsOffset, IsMismatch};
+ghost use Rattle.json5_text.specs.NumberViews.{keeps_digits};
+ghost use Rattle.json5_de.specs.Steps.{PassedGap, TookText, TookNumber, TookOwned, TookCow, RefusesToken, IsOffset, IsMismatch};
 
 use crate::mismatch::Mismatch;
 use json5_text::cow_str::CowStr;
@@ -37,19 +36,32 @@ use std::marker::Model;
 /// Its law is the contract of `deserialize`: one value is read from the front, blanks and comments before it
 /// included, and exactly what follows it is left unread.
 pub trait Deserialize<I: Input>: Sized + Drop {
-    ghost use Rattle.std.specs.Prelude.{Option};
+    ghost use Rattle.std.specs.Prelude.{Bool, false, Option, ⊤};
     ghost use Rattle.json5_grammar.specs.Trees.{Tree};
+    ghost use Rattle.json5_text.specs.declared.error.Error.{Error};
+    ghost use Rattle.json5_de.specs.State.{State};
 
+    // What of a value counts.
     ghost Content: { Type 0 };
 
     ghost content: { Self → Content };
 
+    // What a tree converts to, where it does.
     ghost convert: { Tree → Option Content };
+
+    // Which trees that convert are read without memory.
+    ghost free: { Tree → Bool } = { λ _. false };
+
+    // What is known of a refusal, beside what the law says.
+    ghost refuses: { State → Error → State → Type 0 } = { λ _ _ _. ⊤ };
 
     /// Reads one value from the front.
     fn deserialize(de: &mut Deserializer<I>) -> Result<Self>
         ensures sound { IfOk result (λ v. Gives content convert de.old de.new v) }
-        ensures complete { Completes convert de.old result };
+        ensures complete { Completes convert de.old result }
+        ensures no_memory { CompletesFree free convert de.old result }
+        ensures refused { IfErr result (λ e. refuses de.old e de.new) }
+        ensures unprompted { Unprompted de.old result };
 }
 
 /// Reads values from the front of a text.
@@ -122,8 +134,9 @@ impl<I: Input> Deserializer<I> {
     pub(crate) fn begin(&mut self) -> Result<()>
         ensures passed { OnOk result (PassedGap self.old self.new) }
         ensures refused { IfErr result (λ e. self.old.failed ≡ false → Refused FaultyBlanks (cursor_of self.old) e) }
-        ensures failed { OnErr result (self.new.failed ≡ true) }
+        ensures failed { OnErr result (GivesUp self.old self.new) }
         ensures before { StaysFailed self.old self.new result }
+        ensures unprompted { Unprompted self.old result }
     {
         self.live()?;
         match self.scanner.skip_blank() {
@@ -136,7 +149,7 @@ impl<I: Input> Deserializer<I> {
     pub(crate) fn word(&mut self, word: &str, ends: ErrorCode, differs: ErrorCode) -> Result<()>
         ensures taken { OnOk result (TookText self.old (chars word.now) self.new) }
         ensures refused { IfErr result (λ e. Refused (FaultyWord (chars word.now) ends differs) (cursor_of self.old) e) }
-        ensures failed { OnErr result (self.new.failed ≡ true) }
+        ensures failed { OnErr result (GivesUp self.old self.new) }
     {
         match self.scanner.word(word, ends, differs) {
             Ok(()) => Ok(()),
@@ -146,9 +159,9 @@ impl<I: Input> Deserializer<I> {
 
     /// Takes the number in front.
     pub(crate) fn number(&mut self) -> Result<Number>
-        ensures taken { IfOk result (λ n. (s : List ℕ) × TookText self.old s self.new × Num s (number_of n) × NotBegun (lengthens s) self.new.unread) }
-        ensures refused { IfErr result (λ e. IsOutOfMemory e ⊎ Refused FaultyNumber (cursor_of self.old) e) }
-        ensures failed { OnErr result (self.new.failed ≡ true) }
+        ensures taken { IfOk result (TookNumber self.old self.new) }
+        ensures refused { IfErr result (RefusesToken FaultyNumber self.old) }
+        ensures failed { OnErr result (GivesUp self.old self.new) }
         ensures memory { (s r : List ℕ) (n : numbers.Number) → self.old.unread ≡ s ++ r → Num s n → NotBegun (lengthens s) r → keeps_digits n ≡ false → IsOk result }
     {
         match self.scanner.number() {
@@ -159,9 +172,9 @@ impl<I: Input> Deserializer<I> {
 
     /// Takes the string in front, its text in memory of its own.
     pub(crate) fn owned_text(&mut self) -> Result<String>
-        ensures taken { IfOk result (λ t. (s u : List ℕ) × (plain : Bool) × TookText self.old s self.new × Str s u plain × (string_bytes t ≡ encode_utf8_all u)) }
-        ensures refused { IfErr result (λ e. IsOutOfMemory e ⊎ Refused FaultyString (cursor_of self.old) e) }
-        ensures failed { OnErr result (self.new.failed ≡ true) }
+        ensures taken { IfOk result (TookOwned self.old self.new) }
+        ensures refused { IfErr result (RefusesToken FaultyString self.old) }
+        ensures failed { OnErr result (GivesUp self.old self.new) }
     {
         match self.scanner.string_owned() {
             Ok(text) => Ok(text),
@@ -184,7 +197,7 @@ impl<I: Input> Deserializer<I> {
         ensures sound { OnOk result (AtEnd self.old × (self.new ≡ record self.old { unread = [] })) }
         ensures complete { AtEnd self.old → IsOk result }
         ensures refused { IfErr result (RefusedBy Trailing self.old) }
-        ensures failed { OnErr result (self.new.failed ≡ true) }
+        ensures failed { OnErr result (GivesUp self.old self.new) }
         ensures before { StaysFailed self.old self.new result }
     {
         self.begin()?;
@@ -208,7 +221,7 @@ impl<I: Input> Deserializer<I> {
     pub(crate) fn mismatch<T>(&mut self, offset: usize, mismatch: &Mismatch<'_>) -> Result<T>
         requires { IsOffset self.old.input offset }
         ensures refused { IsErrAnd result (IsMismatch self.old.input offset) }
-        ensures failed { self.new.failed ≡ true }
+        ensures failed { GivesUp self.old self.new }
     {
         let position = self.scanner.position_of(offset);
         match Error::custom_at(self.scanner.allocator(), position, mismatch) {
@@ -221,9 +234,9 @@ impl<I: Input> Deserializer<I> {
 impl<'de, I: Borrows<'de>> Deserializer<I> {
     /// Takes the string in front, its text borrowed where it holds no backslash.
     pub(crate) fn text(&mut self) -> Result<CowStr<'de>>
-        ensures taken { IfOk result (λ t. (s u : List ℕ) × (plain : Bool) × TookText self.old s self.new × Str s u plain × (is_borrowed t ≡ plain) × (cow_bytes t ≡ encode_utf8_all u)) }
-        ensures refused { IfErr result (λ e. IsOutOfMemory e ⊎ Refused FaultyString (cursor_of self.old) e) }
-        ensures failed { OnErr result (self.new.failed ≡ true) }
+        ensures taken { IfOk result (TookCow self.old self.new) }
+        ensures refused { IfErr result (RefusesToken FaultyString self.old) }
+        ensures failed { OnErr result (GivesUp self.old self.new) }
         ensures plain { (s u r : List ℕ) → self.old.unread ≡ s ++ r → Str s u true → IsOk result }
     {
         match self.scanner.string() {

@@ -2,6 +2,7 @@
 #![tactic(auto)]
 
 mod any;
+mod brackets;
 mod de;
 mod decimals;
 mod integers;
@@ -16,5 +17,6 @@ mod tuples;
 mod types;
 
 pub use de::{Deserialize, Deserializer};
+pub use scalars::value_codes;
 pub use seq::SeqAccess;
 pub use text::from_str;

@@ -9,12 +9,15 @@ use json5_text::input::Input;
 impl<I: Input, T: Deserialize<I>> Deserialize<I> for Vec<T> {
     ghost use Rattle.std.specs.Prelude.{List, map};
     ghost use Rattle.json5_grammar.specs.Members.{array_of, contents};
+    ghost use Rattle.json5_de.specs.Law.{LeavesFailed};
 
     ghost Content = { List T.Content };
 
     ghost content = { λ v. map T.content v.items };
 
     ghost convert = { array_of (contents T.convert) };
+
+    ghost refuses = { LeavesFailed };
 
     fn deserialize(de: &mut Deserializer<I>) -> Result<Vec<T>> {
         let mut items = Vec::new(de.allocator());
@@ -32,6 +35,7 @@ impl<I: Input, T: Deserialize<I>> Deserialize<I> for Vec<T> {
 impl<I: Input, T: Deserialize<I>, const N: usize> Deserialize<I> for [T; N] {
     ghost use Rattle.std.specs.Prelude.{List, map};
     ghost use Rattle.json5_grammar.specs.Members.{array_of};
+    ghost use Rattle.json5_de.specs.Law.{LeavesFailed};
     ghost use Rattle.json5_de.specs.ConvertLists.{exactly};
 
     ghost Content = { List T.Content };
@@ -39,6 +43,8 @@ impl<I: Input, T: Deserialize<I>, const N: usize> Deserialize<I> for [T; N] {
     ghost content = { λ v. map T.content v };
 
     ghost convert = { array_of (exactly N T.convert) };
+
+    ghost refuses = { LeavesFailed };
 
     fn deserialize(de: &mut Deserializer<I>) -> Result<[T; N]> {
         let alloc = de.allocator();

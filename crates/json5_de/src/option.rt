@@ -1,12 +1,11 @@
 //! Reading of options, and of structs that hold one value or none.
 
-ghost use Rattle.std.specs.Prelude.{◌≡◌, ◌==◌, ℕ, List, Some, None, IfOk, IfErr, OnErr, true};
 ghost use Rattle.json5_grammar.specs.declared.code.ErrorCode.TheVariants as codes;
-ghost use Rattle.json5_de.specs.Law.{Gives, Completes, CompletesWithoutMemory, StaysFailed};
-ghost use Rattle.json5_de.specs.Convert.{unit_of};
+ghost use Rattle.json5_de.specs.Law.{ReadsValue};
+ghost use Rattle.json5_de.specs.Rows.{ReadsAs, null_row};
 ghost use Rattle.json5_de.specs.ConvertLists.{option_of, if_some};
-ghost use Rattle.json5_de.specs.Faults.{RefusedBy, FaultyNull, EndsWith, DiffersWith, AtOther};
-ghost use Rattle.json5_de.specs.Access.{HasPlace};
+ghost use Rattle.json5_de.specs.Options.{option_free, RefusesOption, RefusesLive};
+ghost use Rattle.json5_de.specs.Faults.{EndsWith};
 
 use crate::de::{Deserialize, Deserializer};
 use json5_text::ErrorCode;
@@ -17,12 +16,8 @@ impl<I: Input> Deserializer<I> {
     /// Reads `null` as None, wherever an `n` is next, and anything else as Some of a T. A fault of T without a place gets the
     /// value's start; `EofParsingValue` at the end has no place.
     pub fn deserialize_option<T: Deserialize<I>>(&mut self) -> Result<Option<T>>
-        ensures sound { IfOk result (λ v. Gives (if_some T.content) (option_of T.convert) self.old self.new v) }
-        ensures complete { Completes (option_of T.convert) self.old result }
+        ensures reads { ReadsValue (if_some T.content) (option_of T.convert) (option_free T.free) (RefusesOption T.refuses) self.old self.new result }
         ensures ends { EndsWith codes.EofParsingValue self.old result }
-        ensures placed { (w : List ℕ) → AtOther (λ c. c == 0x6E) self.old w → IfErr result HasPlace }
-        ensures failed { OnErr result (self.new.failed ≡ true) }
-        ensures before { StaysFailed self.old self.new result }
     {
         self.begin()?;
         let Some(next) = self.peek() else {
@@ -48,10 +43,7 @@ impl<I: Input> Deserializer<I> {
         &mut self,
         _name: &'static str,
     ) -> Result<T>
-        ensures sound { IfOk result (λ v. Gives T.content T.convert self.old self.new v) }
-        ensures complete { Completes T.convert self.old result }
-        ensures failed { OnErr result (self.new.failed ≡ true) }
-        ensures before { StaysFailed self.old self.new result }
+        ensures { ReadsValue T.content T.convert T.free (RefusesLive T.refuses) self.old self.new result }
     {
         self.live()?;
         match T::deserialize(self) {
@@ -62,13 +54,7 @@ impl<I: Input> Deserializer<I> {
 
     /// Reads `null` as a struct without fields. The name changes nothing. Takes no memory.
     pub fn deserialize_unit_struct(&mut self, _name: &'static str) -> Result<()>
-        ensures sound { IfOk result (λ v. Gives (λ _. tt) unit_of self.old self.new v) }
-        ensures complete { CompletesWithoutMemory unit_of self.old result }
-        ensures refused { IfErr result (RefusedBy FaultyNull self.old) }
-        ensures ends { EndsWith codes.EofParsingNull self.old result }
-        ensures differs { DiffersWith (λ c. c == 0x6E) codes.ExpectedNull self.old result }
-        ensures failed { OnErr result (self.new.failed ≡ true) }
-        ensures before { StaysFailed self.old self.new result }
+        ensures { ReadsAs null_row (λ _. tt) self.old self.new result }
     {
         self.deserialize_unit()
     }
@@ -78,6 +64,7 @@ impl<I: Input> Deserializer<I> {
 impl<I: Input, T: Deserialize<I>> Deserialize<I> for Option<T> {
     ghost use Rattle.std.specs.Prelude.{Option};
     ghost use Rattle.json5_de.specs.ConvertLists.{option_of, if_some};
+    ghost use Rattle.json5_de.specs.Options.{option_free, RefusesOption};
 
     ghost Content = { Option T.Content };
 
@@ -85,7 +72,13 @@ impl<I: Input, T: Deserialize<I>> Deserialize<I> for Option<T> {
 
     ghost convert = { option_of T.convert };
 
-    fn deserialize(de: &mut Deserializer<I>) -> Result<Option<T>> {
+    ghost free = { option_free T.free };
+
+    ghost refuses = { RefusesOption T.refuses };
+
+    fn deserialize(de: &mut Deserializer<I>) -> Result<Option<T>>
+        ensures { ReadsValue (if_some T.content) (option_of T.convert) (option_free T.free) (RefusesOption T.refuses) de.old de.new result }
+    {
         de.deserialize_option()
     }
 }

@@ -1,38 +1,35 @@
 //! Reading of null, booleans and numbers.
 
-ghost use Rattle.std.specs.Prelude.{◌≡◌, ◌==◌, ◌||◌, ◌^◌, IfOk, IfErr, OnErr, true, false};
-ghost use Rattle.json5_grammar.specs.declared.code.ErrorCode.TheVariants as codes;
-ghost use Rattle.json5_grammar.specs.NumberFaults.{is_sign, begins_number};
-ghost use Rattle.json5_de.specs.Law.{Gives, Completes, CompletesWithoutMemory, StaysFailed};
-ghost use Rattle.json5_de.specs.Faults.{RefusedBy, RefusedByOrMemory, FaultyNull, FaultyBool, NotNumber, EndsWith, EndsWithOrMemory, DiffersWith, DiffersWithOrMemory};
-ghost use Rattle.json5_de.specs.Convert.{unit_of, bool_of, decimal_of, every_decimal, as_number, as_whole, natural_below, integer_below, unsigned_below, signed_below};
+ghost use Rattle.std.specs.Prelude.{ℕ, ◌≤◌, ◌+◌, ◌^◌, ◌≤ℤ◌, ◌-ℤ◌, pos, neg_ℤ, nat_abs, Some, IfOk};
+ghost use Rattle.json5_de.specs.Rows.{ReadsAs, TellsApart, null_row, bool_row, whole_row, natural_row, integer_row, decimal_row, string_row, char_row, cow_row, any_row, text_bytes};
+ghost use Rattle.json5_text.specs.Cows.{cow_bytes, is_borrowed};
+ghost use Rattle.json5_text.specs.ValueViews.{value_of};
+ghost use Rattle.json5_de.specs.Steps.{WholeAt};
 
 use crate::de::Deserializer;
 use crate::decimals::same_decimal;
-use crate::integers::Integer;
+use crate::integers::{signed, unsigned};
 use crate::mismatch::Mismatch;
 use json5_text::ErrorCode;
 use json5_text::decimal::Decimal;
 use json5_text::error::Result;
 use json5_text::input::Input;
 use json5_text::number::Number;
+use json5_text::whole::Whole;
 
 impl<I: Input> Deserializer<I> {
-    fn read_unit(&mut self) -> Result<()>
-        ensures sound { IfOk result (λ v. Gives (λ _. tt) unit_of self.old self.new v) }
-        ensures refused { IfErr result (RefusedBy FaultyNull self.old) }
-        ensures failed { OnErr result (self.new.failed ≡ true) }
-        ensures before { StaysFailed self.old self.new result }
+    /// Reads `null`. Takes no memory.
+    pub fn deserialize_unit(&mut self) -> Result<()>
+        ensures { ReadsAs null_row (λ _. tt) self.old self.new result }
     {
         self.begin()?;
-        self.word("null", ErrorCode::EofParsingNull, ErrorCode::ExpectedNull)
+        self.word("null", ErrorCode::EofParsingNull, ErrorCode::ExpectedNull)?;
+        Ok(())
     }
 
-    fn read_bool(&mut self) -> Result<bool>
-        ensures sound { IfOk result (λ v. Gives (λ b. b) bool_of self.old self.new v) }
-        ensures refused { IfErr result (RefusedBy FaultyBool self.old) }
-        ensures failed { OnErr result (self.new.failed ≡ true) }
-        ensures before { StaysFailed self.old self.new result }
+    /// Reads `true` or `false`. Takes no memory.
+    pub fn deserialize_bool(&mut self) -> Result<bool>
+        ensures { ReadsAs bool_row (λ b. b) self.old self.new result }
     {
         self.begin()?;
         if self.peek() == Some('f') {
@@ -43,55 +40,9 @@ impl<I: Input> Deserializer<I> {
         Ok(true)
     }
 
-    /// Reads `null`. Takes no memory.
-    pub fn deserialize_unit(&mut self) -> Result<()>
-        ensures sound { IfOk result (λ v. Gives (λ _. tt) unit_of self.old self.new v) }
-        ensures complete { CompletesWithoutMemory unit_of self.old result }
-        ensures refused { IfErr result (RefusedBy FaultyNull self.old) }
-        ensures ends { EndsWith codes.EofParsingNull self.old result }
-        ensures differs { DiffersWith (λ c. c == 0x6E) codes.ExpectedNull self.old result }
-        ensures failed { OnErr result (self.new.failed ≡ true) }
-        ensures before { StaysFailed self.old self.new result }
-    {
-        self.read_unit()
-    }
-
-    /// Reads `true` or `false`. Takes no memory.
-    pub fn deserialize_bool(&mut self) -> Result<bool>
-        ensures sound { IfOk result (λ v. Gives (λ b. b) bool_of self.old self.new v) }
-        ensures complete { CompletesWithoutMemory bool_of self.old result }
-        ensures refused { IfErr result (RefusedBy FaultyBool self.old) }
-        ensures ends { EndsWith codes.EofParsingBool self.old result }
-        ensures differs { DiffersWith (λ c. (c == 0x74) || (c == 0x66)) codes.ExpectedBool self.old result }
-        ensures failed { OnErr result (self.new.failed ≡ true) }
-        ensures before { StaysFailed self.old self.new result }
-    {
-        self.read_bool()
-    }
-
-    fn read_integer<T: Integer>(&mut self) -> Result<T>
-        ensures sound { IfOk result (λ v. Gives T.value (as_number (as_whole T.within)) self.old self.new v) }
-        ensures complete { CompletesWithoutMemory (as_number (as_whole T.within)) self.old result }
-        ensures refused { IfErr result (RefusedByOrMemory (NotNumber (as_whole T.within)) self.old) }
-        ensures failed { OnErr result (self.new.failed ≡ true) }
-        ensures before { StaysFailed self.old self.new result }
-    {
-        self.begin()?;
-        let start = self.offset();
-        let Number::Whole(whole) = self.number()? else {
-            return self.mismatch(start, &Mismatch::NotWhole(T::name()));
-        };
-        let Some(integer) = T::from_whole(whole) else {
-            return self.mismatch(start, &Mismatch::OutOfRange(whole, T::name()));
-        };
-        Ok(integer)
-    }
-
-    fn read_decimal(&mut self) -> Result<Decimal>
-        ensures sound { IfOk result (λ v. Gives (λ d. d) decimal_of self.old self.new v) }
-        ensures refused { IfErr result (RefusedByOrMemory (NotNumber every_decimal) self.old) }
-        ensures failed { OnErr result (self.new.failed ≡ true) }
-        ensures before { StaysFailed self.old self.new result }
+    /// Reads a number as a decimal; a whole number gives that of the same number, zero without a sign.
+    pub fn deserialize_decimal(&mut self) -> Result<Decimal>
+        ensures { ReadsAs decimal_row (λ d. d) self.old self.new result }
     {
         self.begin()?;
         let whole = match self.number()? {
@@ -104,161 +55,151 @@ impl<I: Input> Deserializer<I> {
         }
     }
 
-    /// Reads a number as a decimal; a whole number gives that of the same number, zero without a sign.
-    pub fn deserialize_decimal(&mut self) -> Result<Decimal>
-        ensures sound { IfOk result (λ v. Gives (λ d. d) decimal_of self.old self.new v) }
-        ensures complete { Completes decimal_of self.old result }
-        ensures refused { IfErr result (RefusedByOrMemory (NotNumber every_decimal) self.old) }
-        ensures ends { EndsWithOrMemory codes.EofParsingNumber self.old result }
-        ensures differs { DiffersWithOrMemory (λ c. is_sign c || begins_number c) codes.ExpectedNumber self.old result }
-        ensures failed { OnErr result (self.new.failed ≡ true) }
-        ensures before { StaysFailed self.old self.new result }
+    /// Reads a whole number, and gives the count of bytes before it too.
+    fn whole(&mut self, name: &str) -> Result<(usize, Whole)>
+        ensures reads { ReadsAs (whole_row (λ z. Some z)) (λ read. read.1) self.old self.new result }
+        ensures place { IfOk result (λ read. WholeAt self.old self.new read.0 read.1) }
     {
-        self.read_decimal()
+        self.begin()?;
+        let start = self.offset();
+        let Number::Whole(whole) = self.number()? else {
+            return self.mismatch(start, &Mismatch::NotWhole(name));
+        };
+        Ok((start, whole))
     }
 
-    /// Reads a whole number of the type, which takes no memory.
-    fn integer<T: Integer>(&mut self) -> Result<T>
-        ensures sound { IfOk result (λ v. Gives T.value (as_number (as_whole T.within)) self.old self.new v) }
-        ensures complete { CompletesWithoutMemory (as_number (as_whole T.within)) self.old result }
-        ensures refused { IfErr result (RefusedByOrMemory (NotNumber (as_whole T.within)) self.old) }
-        ensures ends { EndsWithOrMemory codes.EofParsingNumber self.old result }
-        ensures differs { DiffersWithOrMemory (λ c. is_sign c || begins_number c) codes.ExpectedNumber self.old result }
-        ensures failed { OnErr result (self.new.failed ≡ true) }
-        ensures before { StaysFailed self.old self.new result }
+    /// Reads a whole number from 0 to `max`.
+    fn natural(&mut self, max: u128, name: &str) -> Result<u128>
+        ensures reads { ReadsAs (natural_row (max + 1)) (λ n. n) self.old self.new result }
+        ensures fits { IfOk result (λ n. n ≤ max) }
     {
-        self.read_integer()
+        let (start, whole) = self.whole(name)?;
+        let Some(natural) = unsigned(whole, max) else {
+            return self.mismatch(start, &Mismatch::OutOfRange(whole, name));
+        };
+        Ok(natural)
+    }
+
+    /// Reads a whole number from `-max - 1` to `max`.
+    fn signed_integer(&mut self, max: i128, name: &str) -> Result<i128>
+        requires { pos 0 ≤ℤ max }
+        ensures reads { ReadsAs (integer_row (nat_abs max + 1)) (λ n. n) self.old self.new result }
+        ensures low { IfOk result (λ n. (neg_ℤ max -ℤ pos 1) ≤ℤ n) }
+        ensures high { IfOk result (λ n. n ≤ℤ max) }
+    {
+        let (start, whole) = self.whole(name)?;
+        let Some(integer) = signed(whole, max) else {
+            return self.mismatch(start, &Mismatch::OutOfRange(whole, name));
+        };
+        Ok(integer)
     }
 }
 
 impl<I: Input> Deserializer<I> {
     /// Reads a whole number as `u8`, which takes no memory; another one is a custom fault at its start.
     pub fn deserialize_u8(&mut self) -> Result<u8>
-        ensures sound { IfOk result (λ v. Gives (λ n. n) (unsigned_below (2 ^ 8)) self.old self.new v) }
-        ensures complete { CompletesWithoutMemory (unsigned_below (2 ^ 8)) self.old result }
-        ensures refused { IfErr result (RefusedByOrMemory (NotNumber (as_whole (natural_below (2 ^ 8)))) self.old) }
-        ensures ends { EndsWithOrMemory codes.EofParsingNumber self.old result }
-        ensures differs { DiffersWithOrMemory (λ c. is_sign c || begins_number c) codes.ExpectedNumber self.old result }
-        ensures failed { OnErr result (self.new.failed ≡ true) }
-        ensures before { StaysFailed self.old self.new result }
+        ensures { ReadsAs (natural_row (2 ^ 8)) (λ n. n) self.old self.new result }
     {
-        self.integer::<u8>()
+        match self.natural(0xff, "u8") {
+            Ok(natural) => Ok(natural as u8),
+            Err(e) => Err(e),
+        }
     }
 
     /// Reads a whole number as `u16`, which takes no memory; another one is a custom fault at its start.
     pub fn deserialize_u16(&mut self) -> Result<u16>
-        ensures sound { IfOk result (λ v. Gives (λ n. n) (unsigned_below (2 ^ 16)) self.old self.new v) }
-        ensures complete { CompletesWithoutMemory (unsigned_below (2 ^ 16)) self.old result }
-        ensures refused { IfErr result (RefusedByOrMemory (NotNumber (as_whole (natural_below (2 ^ 16)))) self.old) }
-        ensures ends { EndsWithOrMemory codes.EofParsingNumber self.old result }
-        ensures differs { DiffersWithOrMemory (λ c. is_sign c || begins_number c) codes.ExpectedNumber self.old result }
-        ensures failed { OnErr result (self.new.failed ≡ true) }
-        ensures before { StaysFailed self.old self.new result }
+        ensures { ReadsAs (natural_row (2 ^ 16)) (λ n. n) self.old self.new result }
     {
-        self.integer::<u16>()
+        match self.natural(0xffff, "u16") {
+            Ok(natural) => Ok(natural as u16),
+            Err(e) => Err(e),
+        }
     }
 
     /// Reads a whole number as `u32`, which takes no memory; another one is a custom fault at its start.
     pub fn deserialize_u32(&mut self) -> Result<u32>
-        ensures sound { IfOk result (λ v. Gives (λ n. n) (unsigned_below (2 ^ 32)) self.old self.new v) }
-        ensures complete { CompletesWithoutMemory (unsigned_below (2 ^ 32)) self.old result }
-        ensures refused { IfErr result (RefusedByOrMemory (NotNumber (as_whole (natural_below (2 ^ 32)))) self.old) }
-        ensures ends { EndsWithOrMemory codes.EofParsingNumber self.old result }
-        ensures differs { DiffersWithOrMemory (λ c. is_sign c || begins_number c) codes.ExpectedNumber self.old result }
-        ensures failed { OnErr result (self.new.failed ≡ true) }
-        ensures before { StaysFailed self.old self.new result }
+        ensures { ReadsAs (natural_row (2 ^ 32)) (λ n. n) self.old self.new result }
     {
-        self.integer::<u32>()
+        match self.natural(0xffffffff, "u32") {
+            Ok(natural) => Ok(natural as u32),
+            Err(e) => Err(e),
+        }
     }
 
     /// Reads a whole number as `u64`, which takes no memory; another one is a custom fault at its start.
     pub fn deserialize_u64(&mut self) -> Result<u64>
-        ensures sound { IfOk result (λ v. Gives (λ n. n) (unsigned_below (2 ^ 64)) self.old self.new v) }
-        ensures complete { CompletesWithoutMemory (unsigned_below (2 ^ 64)) self.old result }
-        ensures refused { IfErr result (RefusedByOrMemory (NotNumber (as_whole (natural_below (2 ^ 64)))) self.old) }
-        ensures ends { EndsWithOrMemory codes.EofParsingNumber self.old result }
-        ensures differs { DiffersWithOrMemory (λ c. is_sign c || begins_number c) codes.ExpectedNumber self.old result }
-        ensures failed { OnErr result (self.new.failed ≡ true) }
-        ensures before { StaysFailed self.old self.new result }
+        ensures { ReadsAs (natural_row (2 ^ 64)) (λ n. n) self.old self.new result }
     {
-        self.integer::<u64>()
+        match self.natural(0xffffffffffffffff, "u64") {
+            Ok(natural) => Ok(natural as u64),
+            Err(e) => Err(e),
+        }
     }
 
     /// Reads a whole number as `u128`, which takes no memory; another one is a custom fault at its start.
     pub fn deserialize_u128(&mut self) -> Result<u128>
-        ensures sound { IfOk result (λ v. Gives (λ n. n) (unsigned_below (2 ^ 128)) self.old self.new v) }
-        ensures complete { CompletesWithoutMemory (unsigned_below (2 ^ 128)) self.old result }
-        ensures refused { IfErr result (RefusedByOrMemory (NotNumber (as_whole (natural_below (2 ^ 128)))) self.old) }
-        ensures ends { EndsWithOrMemory codes.EofParsingNumber self.old result }
-        ensures differs { DiffersWithOrMemory (λ c. is_sign c || begins_number c) codes.ExpectedNumber self.old result }
-        ensures failed { OnErr result (self.new.failed ≡ true) }
-        ensures before { StaysFailed self.old self.new result }
+        ensures { ReadsAs (natural_row (2 ^ 128)) (λ n. n) self.old self.new result }
     {
-        self.integer::<u128>()
+        self.natural(u128::MAX, "u128")
     }
 
     /// Reads a whole number as `i8`, which takes no memory; another one is a custom fault at its start.
     pub fn deserialize_i8(&mut self) -> Result<i8>
-        ensures sound { IfOk result (λ v. Gives (λ n. n) (signed_below (2 ^ 7)) self.old self.new v) }
-        ensures complete { CompletesWithoutMemory (signed_below (2 ^ 7)) self.old result }
-        ensures refused { IfErr result (RefusedByOrMemory (NotNumber (as_whole (integer_below (2 ^ 7)))) self.old) }
-        ensures ends { EndsWithOrMemory codes.EofParsingNumber self.old result }
-        ensures differs { DiffersWithOrMemory (λ c. is_sign c || begins_number c) codes.ExpectedNumber self.old result }
-        ensures failed { OnErr result (self.new.failed ≡ true) }
-        ensures before { StaysFailed self.old self.new result }
+        ensures { ReadsAs (integer_row (2 ^ 7)) (λ n. n) self.old self.new result }
     {
-        self.integer::<i8>()
+        match self.signed_integer(0x7f, "i8") {
+            Ok(integer) => Ok(integer as i8),
+            Err(e) => Err(e),
+        }
     }
 
     /// Reads a whole number as `i16`, which takes no memory; another one is a custom fault at its start.
     pub fn deserialize_i16(&mut self) -> Result<i16>
-        ensures sound { IfOk result (λ v. Gives (λ n. n) (signed_below (2 ^ 15)) self.old self.new v) }
-        ensures complete { CompletesWithoutMemory (signed_below (2 ^ 15)) self.old result }
-        ensures refused { IfErr result (RefusedByOrMemory (NotNumber (as_whole (integer_below (2 ^ 15)))) self.old) }
-        ensures ends { EndsWithOrMemory codes.EofParsingNumber self.old result }
-        ensures differs { DiffersWithOrMemory (λ c. is_sign c || begins_number c) codes.ExpectedNumber self.old result }
-        ensures failed { OnErr result (self.new.failed ≡ true) }
-        ensures before { StaysFailed self.old self.new result }
+        ensures { ReadsAs (integer_row (2 ^ 15)) (λ n. n) self.old self.new result }
     {
-        self.integer::<i16>()
+        match self.signed_integer(0x7fff, "i16") {
+            Ok(integer) => Ok(integer as i16),
+            Err(e) => Err(e),
+        }
     }
 
     /// Reads a whole number as `i32`, which takes no memory; another one is a custom fault at its start.
     pub fn deserialize_i32(&mut self) -> Result<i32>
-        ensures sound { IfOk result (λ v. Gives (λ n. n) (signed_below (2 ^ 31)) self.old self.new v) }
-        ensures complete { CompletesWithoutMemory (signed_below (2 ^ 31)) self.old result }
-        ensures refused { IfErr result (RefusedByOrMemory (NotNumber (as_whole (integer_below (2 ^ 31)))) self.old) }
-        ensures ends { EndsWithOrMemory codes.EofParsingNumber self.old result }
-        ensures differs { DiffersWithOrMemory (λ c. is_sign c || begins_number c) codes.ExpectedNumber self.old result }
-        ensures failed { OnErr result (self.new.failed ≡ true) }
-        ensures before { StaysFailed self.old self.new result }
+        ensures { ReadsAs (integer_row (2 ^ 31)) (λ n. n) self.old self.new result }
     {
-        self.integer::<i32>()
+        match self.signed_integer(0x7fffffff, "i32") {
+            Ok(integer) => Ok(integer as i32),
+            Err(e) => Err(e),
+        }
     }
 
     /// Reads a whole number as `i64`, which takes no memory; another one is a custom fault at its start.
     pub fn deserialize_i64(&mut self) -> Result<i64>
-        ensures sound { IfOk result (λ v. Gives (λ n. n) (signed_below (2 ^ 63)) self.old self.new v) }
-        ensures complete { CompletesWithoutMemory (signed_below (2 ^ 63)) self.old result }
-        ensures refused { IfErr result (RefusedByOrMemory (NotNumber (as_whole (integer_below (2 ^ 63)))) self.old) }
-        ensures ends { EndsWithOrMemory codes.EofParsingNumber self.old result }
-        ensures differs { DiffersWithOrMemory (λ c. is_sign c || begins_number c) codes.ExpectedNumber self.old result }
-        ensures failed { OnErr result (self.new.failed ≡ true) }
-        ensures before { StaysFailed self.old self.new result }
+        ensures { ReadsAs (integer_row (2 ^ 63)) (λ n. n) self.old self.new result }
     {
-        self.integer::<i64>()
+        match self.signed_integer(0x7fffffffffffffff, "i64") {
+            Ok(integer) => Ok(integer as i64),
+            Err(e) => Err(e),
+        }
     }
 
     /// Reads a whole number as `i128`, which takes no memory; another one is a custom fault at its start.
     pub fn deserialize_i128(&mut self) -> Result<i128>
-        ensures sound { IfOk result (λ v. Gives (λ n. n) (signed_below (2 ^ 127)) self.old self.new v) }
-        ensures complete { CompletesWithoutMemory (signed_below (2 ^ 127)) self.old result }
-        ensures refused { IfErr result (RefusedByOrMemory (NotNumber (as_whole (integer_below (2 ^ 127)))) self.old) }
-        ensures ends { EndsWithOrMemory codes.EofParsingNumber self.old result }
-        ensures differs { DiffersWithOrMemory (λ c. is_sign c || begins_number c) codes.ExpectedNumber self.old result }
-        ensures failed { OnErr result (self.new.failed ≡ true) }
-        ensures before { StaysFailed self.old self.new result }
+        ensures { ReadsAs (integer_row (2 ^ 127)) (λ n. n) self.old self.new result }
     {
-        self.integer::<i128>()
+        self.signed_integer(i128::MAX, "i128")
     }
 }
+
+/// The codes at the end of the text and at another character, as they follow from the law of a read, for each kind of value.
+pub fn value_codes()
+    ensures null { TellsApart null_row (λ n. n) }
+    ensures boolean { TellsApart bool_row (λ b. b) }
+    ensures natural { (bound : ℕ) → TellsApart (natural_row bound) (λ n. n) }
+    ensures integer { (bound : ℕ) → TellsApart (integer_row bound) (λ n. n) }
+    ensures decimal { TellsApart decimal_row (λ d. d) }
+    ensures string { TellsApart string_row text_bytes }
+    ensures character { TellsApart char_row (λ c. c) }
+    ensures cow { TellsApart cow_row (λ t. (cow_bytes t, is_borrowed t)) }
+    ensures any { TellsApart any_row value_of }
+{}

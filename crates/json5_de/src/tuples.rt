@@ -1,5 +1,7 @@
 //! Lists of a fixed length.
 
+ghost use Rattle.json5_de.specs.Law.{IsUnprompted};
+
 use crate::de::{Deserialize, Deserializer};
 use crate::seq::SeqAccess;
 use json5_text::error::{Error, Result};
@@ -13,7 +15,9 @@ pub(crate) fn too_short<I: Input>(
     length: usize,
     expected: &str,
     size: usize,
-) -> Error {
+) -> Error
+    ensures { IsUnprompted result }
+{
     let message = format_args!("invalid length {length}, expected {expected} {size}");
     match Error::custom(alloc, message) {
         Ok(error) => seq.place(error),
@@ -24,6 +28,7 @@ pub(crate) fn too_short<I: Input>(
 /// An array of one element.
 impl<I: Input, A: Deserialize<I>> Deserialize<I> for (A,) {
     ghost use Rattle.json5_grammar.specs.Members.{array_of};
+    ghost use Rattle.json5_de.specs.Law.{LeavesFailed};
     ghost use Rattle.json5_de.specs.ConvertLists.{last_of};
 
     ghost Content = { A.Content };
@@ -31,6 +36,8 @@ impl<I: Input, A: Deserialize<I>> Deserialize<I> for (A,) {
     ghost content = { λ v. A.content v.0 };
 
     ghost convert = { array_of (last_of A.convert) };
+
+    ghost refuses = { LeavesFailed };
 
     fn deserialize(de: &mut Deserializer<I>) -> Result<(A,)> {
         let alloc = de.allocator();
@@ -46,6 +53,7 @@ impl<I: Input, A: Deserialize<I>> Deserialize<I> for (A,) {
 /// An array of two elements.
 impl<I: Input, A: Deserialize<I>, B: Deserialize<I>> Deserialize<I> for (A, B) {
     ghost use Rattle.json5_grammar.specs.Members.{array_of};
+    ghost use Rattle.json5_de.specs.Law.{LeavesFailed};
     ghost use Rattle.json5_de.specs.ConvertLists.{first_of, last_of};
 
     ghost Content = { A.Content × B.Content };
@@ -53,6 +61,8 @@ impl<I: Input, A: Deserialize<I>, B: Deserialize<I>> Deserialize<I> for (A, B) {
     ghost content = { λ v. (A.content v.0, B.content v.1) };
 
     ghost convert = { array_of (first_of A.convert (last_of B.convert)) };
+
+    ghost refuses = { LeavesFailed };
 
     fn deserialize(de: &mut Deserializer<I>) -> Result<(A, B)> {
         let alloc = de.allocator();
@@ -72,6 +82,7 @@ impl<I: Input, A: Deserialize<I>, B: Deserialize<I>> Deserialize<I> for (A, B) {
 impl<I: Input, A: Deserialize<I>, B: Deserialize<I>, C: Deserialize<I>> Deserialize<I>
     for (A, B, C) {
     ghost use Rattle.json5_grammar.specs.Members.{array_of};
+    ghost use Rattle.json5_de.specs.Law.{LeavesFailed};
     ghost use Rattle.json5_de.specs.ConvertLists.{first_of, last_of};
 
     ghost Content = { A.Content × (B.Content × C.Content) };
@@ -79,6 +90,8 @@ impl<I: Input, A: Deserialize<I>, B: Deserialize<I>, C: Deserialize<I>> Deserial
     ghost content = { λ v. (A.content v.0, (B.content v.1, C.content v.2)) };
 
     ghost convert = { array_of (first_of A.convert (first_of B.convert (last_of C.convert))) };
+
+    ghost refuses = { LeavesFailed };
 
     fn deserialize(de: &mut Deserializer<I>) -> Result<(A, B, C)> {
         let alloc = de.allocator();
@@ -106,6 +119,7 @@ impl<
     D: Deserialize<I>,
 > Deserialize<I> for (A, B, C, D) {
     ghost use Rattle.json5_grammar.specs.Members.{array_of};
+    ghost use Rattle.json5_de.specs.Law.{LeavesFailed};
     ghost use Rattle.json5_de.specs.ConvertLists.{first_of, last_of};
 
     ghost Content = { A.Content × (B.Content × (C.Content × D.Content)) };
@@ -113,6 +127,8 @@ impl<
     ghost content = { λ v. (A.content v.0, (B.content v.1, (C.content v.2, D.content v.3))) };
 
     ghost convert = { array_of (first_of A.convert (first_of B.convert (first_of C.convert (last_of D.convert)))) };
+
+    ghost refuses = { LeavesFailed };
 
     fn deserialize(de: &mut Deserializer<I>) -> Result<(A, B, C, D)> {
         let alloc = de.allocator();

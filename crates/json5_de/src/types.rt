@@ -1,5 +1,10 @@
 //! The types that can be read.
 
+ghost use Rattle.std.specs.Prelude.{◌^◌, string_bytes};
+ghost use Rattle.json5_text.specs.Cows.{cow_bytes, is_borrowed};
+ghost use Rattle.json5_text.specs.ValueViews.{value_of};
+ghost use Rattle.json5_de.specs.Rows.{ReadsAs, null_row, bool_row, natural_row, integer_row, decimal_row, string_row, char_row, plain_row, cow_row, any_row};
+
 use crate::de::{Deserialize, Deserializer};
 use json5_text::cow_str::CowStr;
 use json5_text::decimal::Decimal;
@@ -9,6 +14,7 @@ use json5_text::value::Value;
 
 impl<I: Input> Deserialize<I> for () {
     ghost use Rattle.json5_de.specs.Convert.{unit_of};
+    ghost use Rattle.json5_de.specs.Rows.{null_row, every_tree, RefusedAs};
 
     ghost Content = { Unit {0} };
 
@@ -16,7 +22,13 @@ impl<I: Input> Deserialize<I> for () {
 
     ghost convert = { unit_of };
 
-    fn deserialize(de: &mut Deserializer<I>) -> Result<()> {
+    ghost free = { every_tree };
+
+    ghost refuses = { RefusedAs null_row };
+
+    fn deserialize(de: &mut Deserializer<I>) -> Result<()>
+        ensures { ReadsAs null_row (λ _. tt) de.old de.new result }
+    {
         de.deserialize_unit()
     }
 }
@@ -24,6 +36,7 @@ impl<I: Input> Deserialize<I> for () {
 impl<I: Input> Deserialize<I> for bool {
     ghost use Rattle.std.specs.Prelude.{Bool};
     ghost use Rattle.json5_de.specs.Convert.{bool_of};
+    ghost use Rattle.json5_de.specs.Rows.{bool_row, every_tree, RefusedAs};
 
     ghost Content = { Bool };
 
@@ -31,7 +44,13 @@ impl<I: Input> Deserialize<I> for bool {
 
     ghost convert = { bool_of };
 
-    fn deserialize(de: &mut Deserializer<I>) -> Result<bool> {
+    ghost free = { every_tree };
+
+    ghost refuses = { RefusedAs bool_row };
+
+    fn deserialize(de: &mut Deserializer<I>) -> Result<bool>
+        ensures { ReadsAs bool_row (λ b. b) de.old de.new result }
+    {
         de.deserialize_bool()
     }
 }
@@ -39,6 +58,7 @@ impl<I: Input> Deserialize<I> for bool {
 impl<I: Input> Deserialize<I> for u8 {
     ghost use Rattle.std.specs.Prelude.{ℕ, ◌^◌};
     ghost use Rattle.json5_de.specs.Convert.{unsigned_below};
+    ghost use Rattle.json5_de.specs.Rows.{natural_row, every_tree, RefusedAs};
 
     ghost Content = { ℕ };
 
@@ -46,7 +66,13 @@ impl<I: Input> Deserialize<I> for u8 {
 
     ghost convert = { unsigned_below (2 ^ 8) };
 
-    fn deserialize(de: &mut Deserializer<I>) -> Result<u8> {
+    ghost free = { every_tree };
+
+    ghost refuses = { RefusedAs (natural_row (2 ^ 8)) };
+
+    fn deserialize(de: &mut Deserializer<I>) -> Result<u8>
+        ensures { ReadsAs (natural_row (2 ^ 8)) (λ n. n) de.old de.new result }
+    {
         de.deserialize_u8()
     }
 }
@@ -54,6 +80,7 @@ impl<I: Input> Deserialize<I> for u8 {
 impl<I: Input> Deserialize<I> for u16 {
     ghost use Rattle.std.specs.Prelude.{ℕ, ◌^◌};
     ghost use Rattle.json5_de.specs.Convert.{unsigned_below};
+    ghost use Rattle.json5_de.specs.Rows.{natural_row, every_tree, RefusedAs};
 
     ghost Content = { ℕ };
 
@@ -61,7 +88,13 @@ impl<I: Input> Deserialize<I> for u16 {
 
     ghost convert = { unsigned_below (2 ^ 16) };
 
-    fn deserialize(de: &mut Deserializer<I>) -> Result<u16> {
+    ghost free = { every_tree };
+
+    ghost refuses = { RefusedAs (natural_row (2 ^ 16)) };
+
+    fn deserialize(de: &mut Deserializer<I>) -> Result<u16>
+        ensures { ReadsAs (natural_row (2 ^ 16)) (λ n. n) de.old de.new result }
+    {
         de.deserialize_u16()
     }
 }
@@ -69,6 +102,7 @@ impl<I: Input> Deserialize<I> for u16 {
 impl<I: Input> Deserialize<I> for u32 {
     ghost use Rattle.std.specs.Prelude.{ℕ, ◌^◌};
     ghost use Rattle.json5_de.specs.Convert.{unsigned_below};
+    ghost use Rattle.json5_de.specs.Rows.{natural_row, every_tree, RefusedAs};
 
     ghost Content = { ℕ };
 
@@ -76,7 +110,13 @@ impl<I: Input> Deserialize<I> for u32 {
 
     ghost convert = { unsigned_below (2 ^ 32) };
 
-    fn deserialize(de: &mut Deserializer<I>) -> Result<u32> {
+    ghost free = { every_tree };
+
+    ghost refuses = { RefusedAs (natural_row (2 ^ 32)) };
+
+    fn deserialize(de: &mut Deserializer<I>) -> Result<u32>
+        ensures { ReadsAs (natural_row (2 ^ 32)) (λ n. n) de.old de.new result }
+    {
         de.deserialize_u32()
     }
 }
@@ -84,6 +124,7 @@ impl<I: Input> Deserialize<I> for u32 {
 impl<I: Input> Deserialize<I> for u64 {
     ghost use Rattle.std.specs.Prelude.{ℕ, ◌^◌};
     ghost use Rattle.json5_de.specs.Convert.{unsigned_below};
+    ghost use Rattle.json5_de.specs.Rows.{natural_row, every_tree, RefusedAs};
 
     ghost Content = { ℕ };
 
@@ -91,7 +132,13 @@ impl<I: Input> Deserialize<I> for u64 {
 
     ghost convert = { unsigned_below (2 ^ 64) };
 
-    fn deserialize(de: &mut Deserializer<I>) -> Result<u64> {
+    ghost free = { every_tree };
+
+    ghost refuses = { RefusedAs (natural_row (2 ^ 64)) };
+
+    fn deserialize(de: &mut Deserializer<I>) -> Result<u64>
+        ensures { ReadsAs (natural_row (2 ^ 64)) (λ n. n) de.old de.new result }
+    {
         de.deserialize_u64()
     }
 }
@@ -99,6 +146,7 @@ impl<I: Input> Deserialize<I> for u64 {
 impl<I: Input> Deserialize<I> for u128 {
     ghost use Rattle.std.specs.Prelude.{ℕ, ◌^◌};
     ghost use Rattle.json5_de.specs.Convert.{unsigned_below};
+    ghost use Rattle.json5_de.specs.Rows.{natural_row, every_tree, RefusedAs};
 
     ghost Content = { ℕ };
 
@@ -106,7 +154,13 @@ impl<I: Input> Deserialize<I> for u128 {
 
     ghost convert = { unsigned_below (2 ^ 128) };
 
-    fn deserialize(de: &mut Deserializer<I>) -> Result<u128> {
+    ghost free = { every_tree };
+
+    ghost refuses = { RefusedAs (natural_row (2 ^ 128)) };
+
+    fn deserialize(de: &mut Deserializer<I>) -> Result<u128>
+        ensures { ReadsAs (natural_row (2 ^ 128)) (λ n. n) de.old de.new result }
+    {
         de.deserialize_u128()
     }
 }
@@ -114,6 +168,7 @@ impl<I: Input> Deserialize<I> for u128 {
 impl<I: Input> Deserialize<I> for i8 {
     ghost use Rattle.std.specs.Prelude.{ℤ, ◌^◌};
     ghost use Rattle.json5_de.specs.Convert.{signed_below};
+    ghost use Rattle.json5_de.specs.Rows.{integer_row, every_tree, RefusedAs};
 
     ghost Content = { ℤ };
 
@@ -121,7 +176,13 @@ impl<I: Input> Deserialize<I> for i8 {
 
     ghost convert = { signed_below (2 ^ 7) };
 
-    fn deserialize(de: &mut Deserializer<I>) -> Result<i8> {
+    ghost free = { every_tree };
+
+    ghost refuses = { RefusedAs (integer_row (2 ^ 7)) };
+
+    fn deserialize(de: &mut Deserializer<I>) -> Result<i8>
+        ensures { ReadsAs (integer_row (2 ^ 7)) (λ n. n) de.old de.new result }
+    {
         de.deserialize_i8()
     }
 }
@@ -129,6 +190,7 @@ impl<I: Input> Deserialize<I> for i8 {
 impl<I: Input> Deserialize<I> for i16 {
     ghost use Rattle.std.specs.Prelude.{ℤ, ◌^◌};
     ghost use Rattle.json5_de.specs.Convert.{signed_below};
+    ghost use Rattle.json5_de.specs.Rows.{integer_row, every_tree, RefusedAs};
 
     ghost Content = { ℤ };
 
@@ -136,7 +198,13 @@ impl<I: Input> Deserialize<I> for i16 {
 
     ghost convert = { signed_below (2 ^ 15) };
 
-    fn deserialize(de: &mut Deserializer<I>) -> Result<i16> {
+    ghost free = { every_tree };
+
+    ghost refuses = { RefusedAs (integer_row (2 ^ 15)) };
+
+    fn deserialize(de: &mut Deserializer<I>) -> Result<i16>
+        ensures { ReadsAs (integer_row (2 ^ 15)) (λ n. n) de.old de.new result }
+    {
         de.deserialize_i16()
     }
 }
@@ -144,6 +212,7 @@ impl<I: Input> Deserialize<I> for i16 {
 impl<I: Input> Deserialize<I> for i32 {
     ghost use Rattle.std.specs.Prelude.{ℤ, ◌^◌};
     ghost use Rattle.json5_de.specs.Convert.{signed_below};
+    ghost use Rattle.json5_de.specs.Rows.{integer_row, every_tree, RefusedAs};
 
     ghost Content = { ℤ };
 
@@ -151,7 +220,13 @@ impl<I: Input> Deserialize<I> for i32 {
 
     ghost convert = { signed_below (2 ^ 31) };
 
-    fn deserialize(de: &mut Deserializer<I>) -> Result<i32> {
+    ghost free = { every_tree };
+
+    ghost refuses = { RefusedAs (integer_row (2 ^ 31)) };
+
+    fn deserialize(de: &mut Deserializer<I>) -> Result<i32>
+        ensures { ReadsAs (integer_row (2 ^ 31)) (λ n. n) de.old de.new result }
+    {
         de.deserialize_i32()
     }
 }
@@ -159,6 +234,7 @@ impl<I: Input> Deserialize<I> for i32 {
 impl<I: Input> Deserialize<I> for i64 {
     ghost use Rattle.std.specs.Prelude.{ℤ, ◌^◌};
     ghost use Rattle.json5_de.specs.Convert.{signed_below};
+    ghost use Rattle.json5_de.specs.Rows.{integer_row, every_tree, RefusedAs};
 
     ghost Content = { ℤ };
 
@@ -166,7 +242,13 @@ impl<I: Input> Deserialize<I> for i64 {
 
     ghost convert = { signed_below (2 ^ 63) };
 
-    fn deserialize(de: &mut Deserializer<I>) -> Result<i64> {
+    ghost free = { every_tree };
+
+    ghost refuses = { RefusedAs (integer_row (2 ^ 63)) };
+
+    fn deserialize(de: &mut Deserializer<I>) -> Result<i64>
+        ensures { ReadsAs (integer_row (2 ^ 63)) (λ n. n) de.old de.new result }
+    {
         de.deserialize_i64()
     }
 }
@@ -174,6 +256,7 @@ impl<I: Input> Deserialize<I> for i64 {
 impl<I: Input> Deserialize<I> for i128 {
     ghost use Rattle.std.specs.Prelude.{ℤ, ◌^◌};
     ghost use Rattle.json5_de.specs.Convert.{signed_below};
+    ghost use Rattle.json5_de.specs.Rows.{integer_row, every_tree, RefusedAs};
 
     ghost Content = { ℤ };
 
@@ -181,7 +264,13 @@ impl<I: Input> Deserialize<I> for i128 {
 
     ghost convert = { signed_below (2 ^ 127) };
 
-    fn deserialize(de: &mut Deserializer<I>) -> Result<i128> {
+    ghost free = { every_tree };
+
+    ghost refuses = { RefusedAs (integer_row (2 ^ 127)) };
+
+    fn deserialize(de: &mut Deserializer<I>) -> Result<i128>
+        ensures { ReadsAs (integer_row (2 ^ 127)) (λ n. n) de.old de.new result }
+    {
         de.deserialize_i128()
     }
 }
@@ -189,6 +278,7 @@ impl<I: Input> Deserialize<I> for i128 {
 impl<I: Input> Deserialize<I> for Decimal {
     ghost use Rattle.json5_grammar.specs.Numbers as numbers;
     ghost use Rattle.json5_de.specs.Convert.{decimal_of};
+    ghost use Rattle.json5_de.specs.Rows.{decimal_row, RefusedAs};
 
     ghost Content = { numbers.Decimal };
 
@@ -196,7 +286,11 @@ impl<I: Input> Deserialize<I> for Decimal {
 
     ghost convert = { decimal_of };
 
-    fn deserialize(de: &mut Deserializer<I>) -> Result<Decimal> {
+    ghost refuses = { RefusedAs decimal_row };
+
+    fn deserialize(de: &mut Deserializer<I>) -> Result<Decimal>
+        ensures { ReadsAs decimal_row (λ d. d) de.old de.new result }
+    {
         de.deserialize_decimal()
     }
 }
@@ -204,6 +298,7 @@ impl<I: Input> Deserialize<I> for Decimal {
 impl<I: Input> Deserialize<I> for char {
     ghost use Rattle.std.specs.Prelude.{ℕ};
     ghost use Rattle.json5_de.specs.Convert.{char_of};
+    ghost use Rattle.json5_de.specs.Rows.{char_row, RefusedAs};
 
     ghost Content = { ℕ };
 
@@ -211,7 +306,11 @@ impl<I: Input> Deserialize<I> for char {
 
     ghost convert = { char_of };
 
-    fn deserialize(de: &mut Deserializer<I>) -> Result<char> {
+    ghost refuses = { RefusedAs char_row };
+
+    fn deserialize(de: &mut Deserializer<I>) -> Result<char>
+        ensures { ReadsAs char_row (λ c. c) de.old de.new result }
+    {
         de.deserialize_char()
     }
 }
@@ -219,6 +318,7 @@ impl<I: Input> Deserialize<I> for char {
 impl<I: Input> Deserialize<I> for String {
     ghost use Rattle.std.specs.Prelude.{ℕ, List, string_bytes};
     ghost use Rattle.json5_de.specs.Convert.{text_of};
+    ghost use Rattle.json5_de.specs.Rows.{string_row, RefusedAs};
 
     ghost Content = { List ℕ };
 
@@ -226,7 +326,11 @@ impl<I: Input> Deserialize<I> for String {
 
     ghost convert = { text_of };
 
-    fn deserialize(de: &mut Deserializer<I>) -> Result<String> {
+    ghost refuses = { RefusedAs string_row };
+
+    fn deserialize(de: &mut Deserializer<I>) -> Result<String>
+        ensures { ReadsAs string_row string_bytes de.old de.new result }
+    {
         de.deserialize_string()
     }
 }
@@ -234,6 +338,7 @@ impl<I: Input> Deserialize<I> for String {
 impl<'de, I: Borrows<'de>> Deserialize<I> for &'de str {
     ghost use Rattle.std.specs.Prelude.{ℕ, List};
     ghost use Rattle.json5_de.specs.Convert.{plain_of};
+    ghost use Rattle.json5_de.specs.Rows.{plain_row, every_tree, RefusedAs};
 
     ghost Content = { List ℕ };
 
@@ -241,7 +346,13 @@ impl<'de, I: Borrows<'de>> Deserialize<I> for &'de str {
 
     ghost convert = { plain_of };
 
-    fn deserialize(de: &mut Deserializer<I>) -> Result<&'de str> {
+    ghost free = { every_tree };
+
+    ghost refuses = { RefusedAs plain_row };
+
+    fn deserialize(de: &mut Deserializer<I>) -> Result<&'de str>
+        ensures { ReadsAs plain_row (λ t. t.now) de.old de.new result }
+    {
         de.deserialize_str()
     }
 }
@@ -250,6 +361,7 @@ impl<'de, I: Borrows<'de>> Deserialize<I> for CowStr<'de> {
     ghost use Rattle.std.specs.Prelude.{ℕ, List, Bool};
     ghost use Rattle.json5_text.specs.Cows.{cow_bytes, is_borrowed};
     ghost use Rattle.json5_de.specs.Convert.{cow_of};
+    ghost use Rattle.json5_de.specs.Rows.{cow_row, plain_text, RefusedAs};
 
     ghost Content = { List ℕ × Bool };
 
@@ -257,7 +369,13 @@ impl<'de, I: Borrows<'de>> Deserialize<I> for CowStr<'de> {
 
     ghost convert = { cow_of };
 
-    fn deserialize(de: &mut Deserializer<I>) -> Result<CowStr<'de>> {
+    ghost free = { plain_text };
+
+    ghost refuses = { RefusedAs cow_row };
+
+    fn deserialize(de: &mut Deserializer<I>) -> Result<CowStr<'de>>
+        ensures { ReadsAs cow_row (λ t. (cow_bytes t, is_borrowed t)) de.old de.new result }
+    {
         de.deserialize_identifier()
     }
 }
@@ -265,6 +383,7 @@ impl<'de, I: Borrows<'de>> Deserialize<I> for CowStr<'de> {
 impl<I: Input> Deserialize<I> for Value {
     ghost use Rattle.json5_text.specs.ValueViews.{Datum, value_of};
     ghost use Rattle.json5_de.specs.Convert.{datum_of};
+    ghost use Rattle.json5_de.specs.Rows.{any_row, RefusedAs};
 
     ghost Content = { Datum };
 
@@ -272,7 +391,11 @@ impl<I: Input> Deserialize<I> for Value {
 
     ghost convert = { datum_of };
 
-    fn deserialize(de: &mut Deserializer<I>) -> Result<Value> {
+    ghost refuses = { RefusedAs any_row };
+
+    fn deserialize(de: &mut Deserializer<I>) -> Result<Value>
+        ensures { ReadsAs any_row value_of de.old de.new result }
+    {
         de.deserialize_any()
     }
 }

@@ -1,2 +1,3 @@
 pub mod PiecesJoined
 pub mod LinesJoined
+pub mod Refusals

@@ -2,8 +2,11 @@
 #![tactic(auto)]
 
 ghost use Rattle.std.specs.Prelude.{◌≡◌, true};
+ghost use Rattle.json5_grammar.specs.declared.code.ErrorCode.TheVariants as codes;
+ghost use Rattle.json5_de.specs.Law.{IsUnprompted};
+ghost use Rattle.json5_de.specs.Faults.{EndsWithOrMemory};
 
-use json5_de::{Deserialize, Deserializer, SeqAccess};
+use json5_de::{Deserialize, Deserializer, SeqAccess, value_codes};
 use json5_text::error::{Error, Result};
 use json5_text::input::Input;
 use std::alloc::Global;
@@ -18,7 +21,9 @@ pub struct Bounds<T> {
 }
 
 /// The fault of a list that ended too early, at its bracket.
-fn missing<I: Input>(seq: &SeqAccess<'_, I>, alloc: Global, field: &str) -> Error {
+fn missing<I: Input>(seq: &SeqAccess<'_, I>, alloc: Global, field: &str) -> Error
+    ensures { IsUnprompted result }
+{
     match Error::custom(alloc, format_args!("missing field `{field}`")) {
         Ok(error) => seq.place(error),
         Err(error) => seq.place(error),
@@ -104,4 +109,12 @@ pub fn gives_up<I: Input>(de: &mut Deserializer<I>) -> Result<()>
     let mut seq = de.deserialize_seq()?;
     let _first = seq.next_element::<bool>()?;
     Ok(())
+}
+
+/// Reads the number of a port; at the end of the text that is `EofParsingNumber`.
+pub fn port_number<I: Input>(de: &mut Deserializer<I>) -> Result<u16>
+    ensures ends { EndsWithOrMemory codes.EofParsingNumber de.old result }
+{
+    value_codes();
+    de.deserialize_u16()
 }

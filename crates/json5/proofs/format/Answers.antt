@@ -1,8 +1,8 @@
-use Rattle.std.proofs.Common.{string_bytes}
+use Rattle.std.proofs.Common.{string_bytes, inr}
 use Rattle.std.specs.Str.{chars}
-use Rattle.std.proofs.lemmas.Result.{err_from_is_err_and, IfOk-weaker}
+use Rattle.std.proofs.lemmas.Result.{err_from_is_err_and, IfOk-weaker, IfErr-weaker}
 use Rattle.json5_text.specs.ValueViews.{value_of}
-use Rattle.json5.proofs.Formats.{scalar_datum, formatted, completed}
+use Rattle.json5.proofs.Formats.{scalar_datum, formatted, completed, only_memory, memory_refused}
 use Rattle.json5.proofs.format.Goals as goal
 
 pub returns-in_err-value-clause-complete : goal.returns-in_err-value-clause-complete
@@ -14,7 +14,15 @@ returns-in_err-value-clause-complete c = λ t document scalar.
 pub returns-in_err-value-clause-refused : goal.returns-in_err-value-clause-refused
 returns-in_err-value-clause-refused c =
     let (y, is, from) = err_from_is_err_and c.from_residual.result c.from_residual.ensures.1 in
-    rw (is, from) (λ t document scalar. let (d, converts) = scalar_datum t scalar in c.in_err-value.ensures.complete t d document converts)
+    rw (is, from) (record {
+      cause = inr c.in_err-value.ensures.refused;
+      after_value = c.in_err-value.ensures.after_value;
+      unprompted = c.in_err-value.ensures.unprompted;
+      document = λ t document scalar. let (d, converts) = scalar_datum t scalar in c.in_err-value.ensures.complete t d document converts;
+    })
+
+pub returns-clause-refused : goal.returns-clause-refused
+returns-clause-refused c = IfErr-weaker c.to_string.result _ _ (λ e k. memory_refused (chars c.args.text.now) e (only_memory (value_of c.in_ok-value.value) e k)) c.to_string.ensures.refused
 
 pub returns-clause-formatted : goal.returns-clause-formatted
 returns-clause-formatted c =

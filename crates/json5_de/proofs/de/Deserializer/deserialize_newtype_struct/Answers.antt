@@ -1,4 +1,41 @@
+use Rattle.std.proofs.Common.{ap, refl}
+use Rattle.std.proofs.lemmas.Result.{err_from_is_err_and}
+use Rattle.json5_de.specs.State.{State}
+use Rattle.json5_de.proofs.Arrays.{no_bool}
 use Rattle.json5_de.proofs.de.Deserializer.deserialize_newtype_struct.Goals as goal
 
-pub returns-in-Err-clause-complete : goal.returns-in-Err-clause-complete
-returns-in-Err-clause-complete g c t r v live reads shallow converts = rw c.refuse.ensures.result (c.in-Err.ensures.complete t r v live reads shallow converts)
+pub returns-in-Err : goal.returns-in-Err
+returns-in-Err g c = rw c.refuse.ensures.result (record {
+  sound = tt;
+  complete = c.in-Err.ensures.complete;
+  no_memory = c.in-Err.ensures.no_memory;
+  refused = λ live. (c.deserialize.new.de, c.in-Err.ensures.refused, c.refuse.ensures.state);
+  unprompted = c.in-Err.ensures.unprompted;
+  failed = ap (λ (s : State). s.failed) c.refuse.ensures.state;
+  before = λ h. absurd (no_bool h c.in_ok-live.ensures.live.0);
+})
+
+pub returns-in-Ok : goal.returns-in-Ok
+returns-in-Ok g c = record {
+  sound = c.in-Ok.ensures.sound;
+  complete = c.in-Ok.ensures.complete;
+  no_memory = c.in-Ok.ensures.no_memory;
+  refused = tt;
+  unprompted = tt;
+  failed = tt;
+  before = λ h. absurd (no_bool h c.in_ok-live.ensures.live.0);
+}
+
+pub returns-in_err-live : goal.returns-in_err-live
+returns-in_err-live g c =
+    let (y, is, from) = err_from_is_err_and c.from_residual.result c.from_residual.ensures.1 in
+    let had = c.in_err-live.ensures.failed in
+    rw (is, from) (record {
+      sound = tt;
+      complete = λ t r v live reads shallow converts. absurd (no_bool had.0 live);
+      no_memory = λ t r v live reads shallow converts free. absurd (no_bool had.0 live);
+      refused = λ live. absurd (no_bool had.0 live);
+      unprompted = λ live. absurd (no_bool had.0 live);
+      failed = had.0;
+      before = λ h. ((had.1, had.2), refl);
+    })

@@ -1,5 +1,4 @@
-use Rattle.std.proofs.Common.{◌∙◌, sym, ap, subst, false, refl, arith, ◌∷◌}
-use Rattle.std.specs.Prelude.{◌==◌}
+use Rattle.std.proofs.Common.{◌∙◌, sym, ap, subst, false, refl, ◌∷◌}
 use Rattle.std.proofs.lemmas.Result.{err_from_is_err_and}
 use Rattle.json5_grammar.specs.declared.code.ErrorCode.TheVariants as codes
 use Rattle.json5_grammar.specs.Trees.{null}
@@ -12,12 +11,18 @@ use Rattle.json5_de.proofs.Awaited.{end_fault, wrongly_refused}
 use Rattle.json5_de.proofs.Awaits.{awaits_null}
 use Rattle.json5_de.proofs.Taken.{took_leaf, refused_blanks, refused_token, null_stops, chars_null}
 use Rattle.json5_de.proofs.Places.{none_next, some_next}
-use Rattle.json5_de.proofs.Arrays.{failed_of, level_of, no_bool}
-use Rattle.json5_de.proofs.Options.{first_same, not_nil, awaits_nothing, blanks_no_value, blanks_no_other, end_next, other_next, value_next, value_no_end, null_next, null_not_next, option_some, option_parts, null_unit, took_behind}
+use Rattle.json5_de.proofs.Arrays.{no_bool}
+use Rattle.json5_de.proofs.Rows.{given_up, gives_up}
+use Rattle.json5_de.proofs.Options.{awaits_nothing, blanks_no_value, end_next, value_no_end, null_next, null_not_next, option_some, null_unit, took_behind, reads_option, refuses_option, refuses_some, missing_there, null_there, other_sign}
 use Rattle.json5_de.proofs.de.Deserializer.deserialize_option.Goals as goal
 
-pub returns-in_err-begin-clause-complete : goal.returns-in_err-begin-clause-complete
-returns-in_err-begin-clause-complete g c t r v live reads shallow converts = absurd (blanks_no_value c.args.self.now c.in_err-begin.field-0.0 t r (c.in_err-begin.ensures.refused live) reads)
+pub returns-in_err-begin-clause-reads : goal.returns-in_err-begin-clause-reads
+returns-in_err-begin-clause-reads g c =
+    let (y, is, from) = err_from_is_err_and c.from_residual.result c.from_residual.ensures.1 in
+    let e = c.in_err-begin.field-0.0 in
+    rw (is, from) (refuses_option g.T.Deserialize.content g.T.Deserialize.convert g.T.Deserialize.free g.T.Deserialize.refuses c.args.self.now c.begin.new.self e
+    (refused_blanks c.args.self.now e c.in_err-begin.ensures.refused) c.in_err-begin.ensures.failed c.in_err-begin.ensures.before
+    (λ t r live reads. blanks_no_value c.args.self.now e t r (c.in_err-begin.ensures.refused live) reads))
 
 pub returns-in_err-begin-clause-ends : goal.returns-in_err-begin-clause-ends
 returns-in_err-begin-clause-ends g c = λ at.
@@ -25,40 +30,35 @@ returns-in_err-begin-clause-ends g c = λ at.
     rw (is, from) (end_fault (awaits_nothing {ends = codes.EofParsingValue} {differs = codes.ExpectedValue} (λ k. false)) c.args.self.now c.in_err-begin.field-0.0 at
     (refused_blanks c.args.self.now c.in_err-begin.field-0.0 c.in_err-begin.ensures.refused))
 
-pub returns-in_err-begin-clause-placed : goal.returns-in_err-begin-clause-placed
-returns-in_err-begin-clause-placed g c = λ w o. absurd (blanks_no_other c.args.self.now c.in_err-begin.field-0.0 w (c.in_err-begin.ensures.refused o.live) o)
+pub returns-in_default-clause-reads : goal.returns-in_default-clause-reads
+returns-in_default-clause-reads g c =
+    let passed = c.in_ok-begin.ensures.passed in
+    let none = none_next c.begin.new.self.unread (sym c.in_default.ensures) in
+    rw c.refuse.ensures.result (refuses_option g.T.Deserialize.content g.T.Deserialize.convert g.T.Deserialize.free g.T.Deserialize.refuses c.args.self.now c.refuse.new.self c.new.result
+    (missing_there c.args.self.now c.begin.new.self c.new.result passed none c.new.ensures.kind c.new.ensures.place) (given_up c.args.self.now c.begin.new.self c.refuse.new.self passed (gives_up c.begin.new.self c.refuse.new.self c.refuse.ensures.state)) (λ h. absurd (no_bool h passed.live))
+    (λ t r live reads. value_no_end c.args.self.now c.begin.new.self t r passed none reads))
 
-pub returns-in_default-clause-complete : goal.returns-in_default-clause-complete
-returns-in_default-clause-complete g c t r v live reads shallow converts =
-    absurd (value_no_end c.args.self.now c.begin.new.self t r c.in_ok-begin.ensures.passed (none_next c.begin.new.self.unread (sym c.in_default.ensures)) reads)
-
-pub returns-in_default-clause-placed : goal.returns-in_default-clause-placed
-returns-in_default-clause-placed g c = λ w o.
-    absurd (not_nil o.char o.more c.begin.new.self.unread (other_next c.args.self.now c.begin.new.self w o c.in_ok-begin.ensures.passed) (none_next c.begin.new.self.unread (sym c.in_default.ensures)))
-
-pub returns-in_err-word-clause-complete : goal.returns-in_err-word-clause-complete
-returns-in_err-word-clause-complete g c t r v live reads shallow converts =
+pub returns-in_err-word-clause-reads : goal.returns-in_err-word-clause-reads
+returns-in_err-word-clause-reads g c =
+    let (y, is, from) = err_from_is_err_and c.from_residual-in_err-word.result c.from_residual-in_err-word.ensures.1 in
+    let e = c.in_err-word.field-0.0 in
     let passed = c.in_ok-begin.ensures.passed in
     let (m, next) = some_next c.begin.new.self.unread c.in-Some.next (sym c.peek.ensures ∙ c.in-Some.is) in
-    let null_there = null_next c.args.self.now c.begin.new.self t m r passed (next ∙ ap (λ k. k ∷ m) c.if-next-eq110.true) reads in
-    absurd (wrongly_refused awaits_null c.args.self.now c.in_err-word.field-0.0 t r tt live reads (null_unit t null_there)
-    (refused_token c.args.self.now c.begin.new.self c.in_err-word.field-0.0 passed
-    (subst (λ s. Refused (FaultyWord s codes.EofParsingNull codes.ExpectedNull) (cursor_of c.begin.new.self) c.in_err-word.field-0.0) chars_null c.in_err-word.ensures.refused)))
+    let n = next ∙ ap (λ k. k ∷ m) c.if-next-eq110.true in
+    let faulty = subst (λ s. Refused (FaultyWord s codes.EofParsingNull codes.ExpectedNull) (cursor_of c.begin.new.self) e) chars_null c.in_err-word.ensures.refused in
+    rw (is, from) (refuses_option g.T.Deserialize.content g.T.Deserialize.convert g.T.Deserialize.free g.T.Deserialize.refuses c.args.self.now c.word.new.self e
+    (null_there c.args.self.now c.begin.new.self e m passed n faulty) (given_up c.args.self.now c.begin.new.self c.word.new.self passed c.in_err-word.ensures.failed) (λ h. absurd (no_bool h passed.live))
+    (λ t r live reads. wrongly_refused awaits_null c.args.self.now e t r tt live reads (null_unit t (null_next c.args.self.now c.begin.new.self t m r passed n reads)) (refused_token c.args.self.now c.begin.new.self e passed faulty)))
 
 pub returns-in_err-word-clause-ends : goal.returns-in_err-word-clause-ends
 returns-in_err-word-clause-ends g c = λ at.
     let (m, next) = some_next c.begin.new.self.unread c.in-Some.next (sym c.peek.ensures ∙ c.in-Some.is) in
     absurd (end_next c.args.self.now c.begin.new.self c.in-Some.next m at c.in_ok-begin.ensures.passed next)
 
-pub returns-in_err-word-clause-placed : goal.returns-in_err-word-clause-placed
-returns-in_err-word-clause-placed g c = λ w o.
-    let (m, next) = some_next c.begin.new.self.unread c.in-Some.next (sym c.peek.ensures ∙ c.in-Some.is) in
-    let same = first_same o.char c.in-Some.next o.more m (sym (other_next c.args.self.now c.begin.new.self w o c.in_ok-begin.ensures.passed) ∙ next) in
-    absurd (no_bool (ap (λ k. k == 110) (same ∙ c.if-next-eq110.true)) o.other)
-
-pub returns-then-next-eq110-clause-sound : goal.returns-then-next-eq110-clause-sound
-returns-then-next-eq110-clause-sound g c =
+pub returns-then-next-eq110-clause-reads : goal.returns-then-next-eq110-clause-reads
+returns-then-next-eq110-clause-reads g c =
     let taken = subst (λ s. TookText c.begin.new.self s c.word.new.self) chars_null c.in_ok-word.ensures.taken in
+    reads_option g.T.Deserialize.content g.T.Deserialize.convert g.T.Deserialize.free g.T.Deserialize.refuses c.args.self.now c.word.new.self _
     (null, took_leaf c.args.self.now c.begin.new.self c.word.new.self null_text null refl c.in_ok-begin.ensures.passed taken is_null (null_stops c.word.new.self.unread), refl)
 
 pub returns-then-next-eq110-clause-ends : goal.returns-then-next-eq110-clause-ends
@@ -66,11 +66,12 @@ returns-then-next-eq110-clause-ends g c = λ at.
     let (m, next) = some_next c.begin.new.self.unread c.in-Some.next (sym c.peek.ensures ∙ c.in-Some.is) in
     absurd (end_next c.args.self.now c.begin.new.self c.in-Some.next m at c.in_ok-begin.ensures.passed next)
 
-pub returns-in-Ok-clause-sound : goal.returns-in-Ok-clause-sound
-returns-in-Ok-clause-sound g c =
+pub returns-in-Ok-clause-reads : goal.returns-in-Ok-clause-reads
+returns-in-Ok-clause-reads g c =
     let passed = c.in_ok-begin.ensures.passed in
     let (t, took, is) = c.in-Ok.ensures.sound in
-    let (m, next) = some_next c.begin.new.self.unread c.in-Some.next (sym c.peek.ensures ∙ c.in-Some.is) in (
+    let (m, next) = some_next c.begin.new.self.unread c.in-Some.next (sym c.peek.ensures ∙ c.in-Some.is) in
+    reads_option g.T.Deserialize.content g.T.Deserialize.convert g.T.Deserialize.free g.T.Deserialize.refuses c.args.self.now c.deserialize.new.de _ (
       t,
       took_behind c.args.self.now c.begin.new.self c.deserialize.new.de t passed took,
       option_some g.T.Deserialize.convert t (g.T.Deserialize.content c.in-Ok.value) (null_not_next c.begin.new.self.unread t c.in-Some.next m c.deserialize.new.de.unread next passed.solid c.if-next-eq110.false took.reads) is,
@@ -81,14 +82,19 @@ returns-in-Ok-clause-ends g c = λ at.
     let (m, next) = some_next c.begin.new.self.unread c.in-Some.next (sym c.peek.ensures ∙ c.in-Some.is) in
     absurd (end_next c.args.self.now c.begin.new.self c.in-Some.next m at c.in_ok-begin.ensures.passed next)
 
-pub returns-in-Err-clause-complete : goal.returns-in-Err-clause-complete
-returns-in-Err-clause-complete g c t r v live reads shallow converts =
-    let passed = c.in_ok-begin.ensures.passed in
-    let (m, next) = some_next c.begin.new.self.unread c.in-Some.next (sym c.peek.ensures ∙ c.in-Some.is) in
-    let there = value_next c.args.self.now c.begin.new.self t r passed reads in
-    let (k, is) = option_parts g.T.Deserialize.convert t v (null_not_next c.begin.new.self.unread t c.in-Some.next m r next passed.solid c.if-next-eq110.false there) converts in
-    let level = level_of passed.rest in
-    rw c.refuse-in-Err.ensures.result (c.with_position-error.ensures.kind ∙ c.in-Err.ensures.complete t r k (failed_of passed.rest ∙ live) there (omega (arith, level, shallow)) is)
+pub returns-in-Err-clause-reads : goal.returns-in-Err-clause-reads
+returns-in-Err-clause-reads g c =
+    let start = c.begin.new.self in
+    let after = c.deserialize.new.de in
+    let (m, next) = some_next start.unread c.in-Some.next (sym c.peek.ensures ∙ c.in-Some.is) in
+    rw c.refuse-in-Err.ensures.result (refuses_some g.T.Deserialize.content g.T.Deserialize.convert g.T.Deserialize.free g.T.Deserialize.refuses c.args.self.now start after c.refuse-in-Err.new.self c.in-Err.e c.with_position-error.result c.in-Some.next m
+    c.in_ok-begin.ensures.passed next (other_sign c.in-Some.next 110 c.if-next-eq110.false) c.in-Err.ensures.refused c.in-Err.ensures.complete c.in-Err.ensures.no_memory c.in-Err.ensures.unprompted c.refuse-in-Err.ensures.state
+    (record {
+      kind = c.with_position-error.ensures.kind;
+      there = c.position_at.result;
+      place = c.with_position-error.ensures.place;
+      is_there = λ before (same, split). c.position_at.ensures before start.unread (same ∙ split) (c.offset-start.ensures.counted before split);
+    }))
 
 pub returns-in-Err-clause-ends : goal.returns-in-Err-clause-ends
 returns-in-Err-clause-ends g c = λ at.

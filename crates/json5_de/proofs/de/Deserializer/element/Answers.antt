@@ -1,8 +1,9 @@
 use Rattle.std.proofs.Common.{◌∙◌, arith}
 use Rattle.std.proofs.lemmas.Result.{err_from_is_err_and}
-use Rattle.json5_de.proofs.Arrays.{element_found, no_close_found, took_element, level_of, failed_of}
-use Rattle.json5_de.proofs.Awaited.{end_fault, other_fault}
-use Rattle.json5_de.proofs.ArrayCodes.{awaits_more, end_goes_nowhere, other_goes_nowhere}
+use Rattle.std.proofs.Math.Bool.{or-true}
+use Rattle.json5_de.specs.Brackets.{square}
+use Rattle.json5_de.specs.Seq.{not_reached, in_element}
+use Rattle.json5_de.proofs.Arrays.{square_signs, element_found, no_close_found, took_element, level_of, failed_of}
 use Rattle.json5_de.proofs.de.Deserializer.element.Goals as goal
 
 pub returns-in_err-deserialize-clause-complete : goal.returns-in_err-deserialize-clause-complete
@@ -15,41 +16,27 @@ returns-in_err-deserialize-clause-complete g c t r v live element shallow conver
 pub returns-in_err-deserialize-clause-closing : goal.returns-in_err-deserialize-clause-closing
 returns-in_err-deserialize-clause-closing g c r live close =
     let at = rw c.if-branch.true at c.in_ok-goes_on.ensures.sound in
-    absurd (no_close_found c.args.due c.args.self.now.unread c.goes_on.new.self.unread r at.begun at.inside close)
+    absurd (no_close_found square square_signs c.args.due c.args.self.now.unread c.goes_on.new.self.unread r at.begun at.inside close)
 
 pub returns-in_ok-deserialize-clause-sound : goal.returns-in_ok-deserialize-clause-sound
 returns-in_ok-deserialize-clause-sound g c =
     let at = rw c.if-branch.true at c.in_ok-goes_on.ensures.sound in
     let (t, took, is) = c.in_ok-deserialize.ensures.sound in
-    (t, took_element c.args.due c.args.self.now c.goes_on.new.self c.deserialize.new.de t at took, is)
+    (t, took_element c.args.due c.args.self.now c.goes_on.new.self c.deserialize.new.de t at took, or-true c.args.due, is)
 
-pub returns-in_err-goes_on-clause-ends : goal.returns-in_err-goes_on-clause-ends
-returns-in_err-goes_on-clause-ends g c = λ d at.
+pub returns-in_err-goes_on-clause-cause : goal.returns-in_err-goes_on-clause-cause
+returns-in_err-goes_on-clause-cause g c =
     let (y, is, from) = err_from_is_err_and c.from_residual.result c.from_residual.ensures.1 in
-    rw (is, from) (end_fault awaits_more c.args.self.now c.in_err-goes_on.field-0.0 at c.in_err-goes_on.ensures.refused)
+    rw (is, from) (not_reached c.in_err-goes_on.ensures.refused.0 c.in_err-goes_on.ensures.refused.1)
 
-pub returns-in_err-goes_on-clause-differs : goal.returns-in_err-goes_on-clause-differs
-returns-in_err-goes_on-clause-differs g c = λ d w o.
-    let (y, is, from) = err_from_is_err_and c.from_residual.result c.from_residual.ensures.1 in
-    rw (is, from) (other_fault awaits_more c.args.self.now c.in_err-goes_on.field-0.0 w o c.in_err-goes_on.ensures.refused)
+pub returns-in_err-deserialize-clause-cause : goal.returns-in_err-deserialize-clause-cause
+returns-in_err-deserialize-clause-cause g c =
+    let at = rw c.if-branch.true at c.in_ok-goes_on.ensures.sound in
+    let (y, is, from) = err_from_is_err_and c.from_residual-in_err-deserialize.result c.from_residual-in_err-deserialize.ensures.1 in
+    rw (is, from) (in_element c.goes_on.new.self at c.in_err-deserialize.ensures.refused)
 
-pub returns-in_err-deserialize-clause-ends : goal.returns-in_err-deserialize-clause-ends
-returns-in_err-deserialize-clause-ends g c = λ d at. absurd (end_goes_nowhere c.args.due c.in_ok-goes_on.field-0 c.args.self.now c.goes_on.new.self d at c.in_ok-goes_on.ensures.sound)
-
-pub returns-in_err-deserialize-clause-stays : goal.returns-in_err-deserialize-clause-stays
-returns-in_err-deserialize-clause-stays g c = λ d at. absurd (end_goes_nowhere c.args.due c.in_ok-goes_on.field-0 c.args.self.now c.goes_on.new.self d at c.in_ok-goes_on.ensures.sound)
-
-pub returns-in_err-deserialize-clause-differs : goal.returns-in_err-deserialize-clause-differs
-returns-in_err-deserialize-clause-differs g c = λ d w o. absurd (other_goes_nowhere c.args.due c.in_ok-goes_on.field-0 c.args.self.now c.goes_on.new.self w d o c.in_ok-goes_on.ensures.sound)
-
-pub returns-in_ok-deserialize-clause-ends : goal.returns-in_ok-deserialize-clause-ends
-returns-in_ok-deserialize-clause-ends g c = λ d at. absurd (end_goes_nowhere c.args.due c.in_ok-goes_on.field-0 c.args.self.now c.goes_on.new.self d at c.in_ok-goes_on.ensures.sound)
-
-pub returns-in_ok-deserialize-clause-differs : goal.returns-in_ok-deserialize-clause-differs
-returns-in_ok-deserialize-clause-differs g c = λ d w o. absurd (other_goes_nowhere c.args.due c.in_ok-goes_on.field-0 c.args.self.now c.goes_on.new.self w d o c.in_ok-goes_on.ensures.sound)
-
-pub returns-else-branch-clause-ends : goal.returns-else-branch-clause-ends
-returns-else-branch-clause-ends g c = λ d at. absurd (end_goes_nowhere c.args.due c.in_ok-goes_on.field-0 c.args.self.now c.goes_on.new.self d at c.in_ok-goes_on.ensures.sound)
-
-pub returns-else-branch-clause-differs : goal.returns-else-branch-clause-differs
-returns-else-branch-clause-differs g c = λ d w o. absurd (other_goes_nowhere c.args.due c.in_ok-goes_on.field-0 c.args.self.now c.goes_on.new.self w d o c.in_ok-goes_on.ensures.sound)
+pub returns-in_err-deserialize-clause-unprompted : goal.returns-in_err-deserialize-clause-unprompted
+returns-in_err-deserialize-clause-unprompted g c =
+    let at = rw c.if-branch.true at c.in_ok-goes_on.ensures.sound in
+    let (y, is, from) = err_from_is_err_and c.from_residual-in_err-deserialize.result c.from_residual-in_err-deserialize.ensures.1 in
+    rw (is, from) (λ live. c.in_err-deserialize.ensures.unprompted (failed_of at.rest ∙ live))

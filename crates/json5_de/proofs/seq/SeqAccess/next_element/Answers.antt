@@ -1,58 +1,57 @@
-use Rattle.std.proofs.Common.{rules, refl, sym, true, Some, None, Ok}
+use Rattle.std.proofs.Common.{refl, sym, ◌∙◌, true, Some, None, Ok, Err}
 use Rattle.std.proofs.Math.Bool.{or-true, or-false}
-use Rattle.json5_grammar.specs.declared.code.ErrorCode.TheVariants as codes
 use Rattle.json5_grammar.proofs.MembersPassed.{element_shorter}
-use Rattle.json5_de.specs.Access.{within, AtClose, GivesElement}
+use Rattle.json5_de.specs.Access.{Seen}
+use Rattle.json5_de.specs.Lending.{seen}
 use Rattle.json5_de.proofs.Elements.{reads_more, leaves_fewer}
-use Rattle.json5_de.proofs.ArrayCodes.{other_within, behind_within, behind_placed}
+use Rattle.json5_de.proofs.Next.{lent_on, gives_seen, gives_next, at_same_text, refuses_next}
 use Rattle.json5_de.proofs.seq.SeqAccess.next_element.Goals as goal
 
-pub returns-in-Ok-Some-clause-differs : goal.returns-in-Ok-Some-clause-differs
-returns-in-Ok-Some-clause-differs g c d w o =
-    c.in-Ok-Some.ensures.differs d w (other_within c.args.self.now.de.now c.set_failed-2.new.self c.args.self.now.failed w c.set_failed-2.ensures o)
-
-pub returns-in-Ok-None-clause-differs : goal.returns-in-Ok-None-clause-differs
-returns-in-Ok-None-clause-differs g c d w o =
-    c.in-Ok-None.ensures.differs d w (other_within c.args.self.now.de.now c.set_failed-2.new.self c.args.self.now.failed w c.set_failed-2.ensures o)
-
-pub returns-in-Err-clause-differs : goal.returns-in-Err-clause-differs
-returns-in-Err-clause-differs g c d w o =
-    let old = c.args.self.now.de.now in
-    let lent = other_within old c.set_failed-2.new.self c.args.self.now.failed w c.set_failed-2.ensures o in
-    let is = behind_within codes.ExpectedComma old c.set_failed-2.new.self c.args.self.now.failed w c.in-Err.e c.set_failed-2.ensures (c.in-Err.ensures.differs d w lent) in
-    behind_placed codes.ExpectedComma (within old c.args.self.now.failed) w c.in-Err.e c.place-in-Err.result c.place-in-Err.ensures.kind c.place-in-Err.ensures.kept is
-
-pub returns-in-Ok-Some-clause-read : goal.returns-in-Ok-Some-clause-read
-returns-in-Ok-Some-clause-read g c =
-    let old = within c.args.self.now.de.now c.args.self.now.failed in
-    let new = within c.set_failed-3.new.self c.args.self.now.failed in
-    let sound : GivesElement g.T.Deserialize.content g.T.Deserialize.convert c.args.self.now.due old new (Some c.in-Ok-Some.item) = search rules in
-    reads_more g.T.Deserialize.content g.T.Deserialize.convert c.args.self.now.due true old new (Some c.in-Ok-Some.item) sound (sym (or-true c.args.self.now.due))
-
-pub returns-in-Ok-Some-clause-left : goal.returns-in-Ok-Some-clause-left
-returns-in-Ok-Some-clause-left g c =
-    let old = within c.args.self.now.de.now c.args.self.now.failed in
-    let new = within c.set_failed-3.new.self c.args.self.now.failed in
-    let sound : GivesElement g.T.Deserialize.content g.T.Deserialize.convert c.args.self.now.due old new (Some c.in-Ok-Some.item) = search rules in
-    leaves_fewer g.T.Deserialize.content g.T.Deserialize.convert c.args.self.now.due true old new (Ok (Some c.in-Ok-Some.item)) sound (sym (or-true c.args.self.now.due)) (λ t r v live element shallow is. tt) (λ r live close. refl)
-
-pub returns-in-Ok-None-clause-read : goal.returns-in-Ok-None-clause-read
-returns-in-Ok-None-clause-read g c =
-    let old = within c.args.self.now.de.now c.args.self.now.failed in
-    let new = within c.set_failed-3.new.self c.args.self.now.failed in
-    let at : AtClose c.args.self.now.due old new = search rules in
-    reads_more g.T.Deserialize.content g.T.Deserialize.convert c.args.self.now.due c.args.self.now.due old new None at (sym (or-false c.args.self.now.due))
-
-pub returns-in-Ok-None-clause-left : goal.returns-in-Ok-None-clause-left
-returns-in-Ok-None-clause-left g c =
-    let old = within c.args.self.now.de.now c.args.self.now.failed in
-    let new = within c.set_failed-3.new.self c.args.self.now.failed in
-    let at : AtClose c.args.self.now.due old new = search rules in
-    leaves_fewer g.T.Deserialize.content g.T.Deserialize.convert c.args.self.now.due c.args.self.now.due old new (Ok None) at (sym (or-false c.args.self.now.due)) (λ t r v live element shallow is. tt) (λ r live close. refl)
+pub returns-in-Ok-Some-clause-sound : goal.returns-in-Ok-Some-clause-sound
+returns-in-Ok-Some-clause-sound g c =
+    let new : Seen = record { reader = record c.set_failed-2.new.self { failed = c.args.self.now.failed }; start = c.args.self.now.start; due = true } in
+    gives_seen g.T.Deserialize.content g.T.Deserialize.convert (seen c.args.self.now) new c.set_failed.new.self c.element-next.new.self (Some c.in-Ok-Some.item) c.set_failed.ensures (lent_on c.set_failed-2.new.self c.element-next.new.self c.set_failed-2.ensures) (sym (or-true c.args.self.now.due)) (rw c.in-Ok-Some.field-0-is at c.in-Ok-Some.ensures.sound)
 
 pub returns-in-Ok-Some-clause-shorter : goal.returns-in-Ok-Some-clause-shorter
 returns-in-Ok-Some-clause-shorter g c =
-    let old = within c.args.self.now.de.now c.args.self.now.failed in
-    let new = within c.set_failed-3.new.self c.args.self.now.failed in
-    let sound : GivesElement g.T.Deserialize.content g.T.Deserialize.convert c.args.self.now.due old new (Some c.in-Ok-Some.item) = search rules in
-    element_shorter c.args.self.now.due old.unread new.unread sound.0 sound.1.element
+    let (t, took, due, is) = returns-in-Ok-Some-clause-sound g c in
+    element_shorter c.args.self.now.due c.args.self.now.de.now.unread _ t took.element
+
+pub returns-in-Ok-Some-clause-refused : goal.returns-in-Ok-Some-clause-refused
+returns-in-Ok-Some-clause-refused g c = gives_next g.T.Deserialize.content g.T.Deserialize.convert _ (seen c.args.self.now) _ (Some c.in-Ok-Some.item) (returns-in-Ok-Some-clause-sound g c)
+
+pub returns-in-Ok-Some-clause-read : goal.returns-in-Ok-Some-clause-read
+returns-in-Ok-Some-clause-read g c = reads_more g.T.Deserialize.content g.T.Deserialize.convert (seen c.args.self.now) _ (Some c.in-Ok-Some.item) (returns-in-Ok-Some-clause-sound g c)
+
+pub returns-in-Ok-Some-clause-left : goal.returns-in-Ok-Some-clause-left
+returns-in-Ok-Some-clause-left g c =
+    leaves_fewer g.T.Deserialize.content g.T.Deserialize.convert (seen c.args.self.now) _ (Ok (Some c.in-Ok-Some.item)) (returns-in-Ok-Some-clause-sound g c) (λ u r v live element shallow same. tt) (λ r live close. refl)
+
+pub returns-in-Ok-None-clause-sound : goal.returns-in-Ok-None-clause-sound
+returns-in-Ok-None-clause-sound g c =
+    let new : Seen = record { reader = record c.set_failed-2.new.self { failed = c.args.self.now.failed }; start = c.args.self.now.start; due = c.args.self.now.due } in
+    gives_seen g.T.Deserialize.content g.T.Deserialize.convert (seen c.args.self.now) new c.set_failed.new.self c.element-next.new.self None c.set_failed.ensures (lent_on c.set_failed-2.new.self c.element-next.new.self c.set_failed-2.ensures) (sym (or-false c.args.self.now.due)) (rw c.in-Ok-None.field-0-is at c.in-Ok-None.ensures.sound)
+
+pub returns-in-Ok-None-clause-refused : goal.returns-in-Ok-None-clause-refused
+returns-in-Ok-None-clause-refused g c = gives_next g.T.Deserialize.content g.T.Deserialize.convert _ (seen c.args.self.now) _ None (returns-in-Ok-None-clause-sound g c)
+
+pub returns-in-Ok-None-clause-read : goal.returns-in-Ok-None-clause-read
+returns-in-Ok-None-clause-read g c = reads_more g.T.Deserialize.content g.T.Deserialize.convert (seen c.args.self.now) _ None (returns-in-Ok-None-clause-sound g c)
+
+pub returns-in-Ok-None-clause-left : goal.returns-in-Ok-None-clause-left
+returns-in-Ok-None-clause-left g c =
+    leaves_fewer g.T.Deserialize.content g.T.Deserialize.convert (seen c.args.self.now) _ (Ok None) (returns-in-Ok-None-clause-sound g c) (λ u r v live element shallow same. tt) (λ r live close. refl)
+
+pub returns-in-Err-clause-refused : goal.returns-in-Err-clause-refused
+returns-in-Err-clause-refused g c =
+    let place = c.place.ensures in
+    refuses_next g.T.Deserialize.refuses (seen c.args.self.now) _ c.element-next.new.self c.in-Err.e c.place.result
+    (rw c.set_failed.ensures at c.in-Err.ensures.cause) (rw c.set_failed.ensures at c.in-Err.ensures.unprompted) (rw c.set_failed.ensures at c.in-Err.ensures.before)
+    (record { kind = place.kind; there = place.there; place = place.place; is_there = λ before (same, b). place.is_there before (at_same_text (seen c.args.self.now).reader c.element-next.new.self c.set_failed-2.new.self same c.set_failed-2.ensures b) }) refl
+
+pub returns-in-Err-clause-complete : goal.returns-in-Err-clause-complete
+returns-in-Err-clause-complete g c t r v live element shallow converts = c.place.ensures.kind ∙ rw c.set_failed.ensures at c.in-Err.ensures.complete t r v live element shallow converts
+
+pub returns-in-Err-clause-left : goal.returns-in-Err-clause-left
+returns-in-Err-clause-left g c =
+    leaves_fewer g.T.Deserialize.content g.T.Deserialize.convert (seen c.args.self.now) _ (Err c.place.result) tt (returns-in-Err-clause-complete g c) (λ r live close. rw c.set_failed.ensures at c.in-Err.ensures.closing r live close)

@@ -1,0 +1,118 @@
+-- What the calls that open and close a bracket mean, from what they took or refused.
+use Rattle.std.proofs.Common.{◌≡◌, ◌<◌, ◌+◌, ℕ, ◌++◌, ◌∷◌, [], Bool, true, false, List, length, refl, subst, ap, sym, ◌∙◌, inr, arith, ◌-◌, Result, Ok, Err}
+use Rattle.std.specs.Prelude.{OnOk, IsOk}
+use Rattle.std.specs.Str.{encode_utf8_all}
+use Rattle.json5_grammar.specs.declared.code.ErrorCode.TheVariants as codes
+use Rattle.json5_grammar.specs.Members.{IsEnd}
+use Rattle.json5_text.specs.declared.error.Error.{Error}
+use Rattle.json5_de.specs.State.{State}
+use Rattle.json5_de.specs.Faults.{RefusedBy, IsUnplaced}
+use Rattle.json5_de.specs.declared.brackets.Brackets.{Brackets}
+use Rattle.json5_de.specs.Brackets.{AreSigns}
+use Rattle.json5_de.specs.Access.{Seen, Opened, Closed, NotOpened, NotClosed, OpensAs, ClosesAs}
+use Rattle.json5_de.proofs.Awaited.{end_fault, other_fault}
+use Rattle.json5_grammar.specs.Documents.{max_depth}
+use Rattle.json5_de.specs.Steps.{PassedGap, TookText}
+use Rattle.json5_de.proofs.Taken.{input_of}
+use Rattle.json5_de.proofs.OtherCodes.{opening_lacks, closing_lacks}
+use Rattle.json5_de.proofs.Rows.{refused_other}
+use Rattle.json5_de.proofs.Arrays.{no_bool, opening_refused, only_read, level_of, unread_of, sign_next, behind_gap_of}
+use Rattle.json5_de.proofs.ArrayCodes.{awaits_opening, awaits_closing, full_fault, end_no_sign, other_no_sign, end_not_closed, other_not_closed}
+
+pub opens : {A : Type 0} (b : Brackets) → AreSigns b → (seen : A → Seen) (old : State) (a : A) → Opened b old (seen a).reader → (seen a).due ≡ false
+    → ((before : List ℕ) → old.input ≡ before ++ b.opening ∷ (seen a).reader.unread → (seen a).start ≡ length (encode_utf8_all before)) → OpensAs b seen old (Ok a)
+opens b k seen old a o due start = record {
+  opened = (o, due);
+  start = start;
+  complete = λ r live sign room. refl;
+  refused = tt;
+  ends = λ at. absurd (end_no_sign b.opening old (seen a).reader.unread k.opening at o.bracket);
+  differs = λ w at. absurd (other_no_sign b.opening old w (seen a).reader.unread k.opening at at.other o.bracket);
+  too_deep = λ w at. let room = o.room in let full = at.full in absurd (omega (arith, room, full));
+  unprompted = tt;
+  before = λ h. absurd (no_bool h o.live);
+}
+
+pub refuses_opening : {A : Type 0} (b : Brackets) → AreSigns b → (seen : A → Seen) (old : State) (e : Error) → RefusedBy (NotOpened b old.level) old e → (old.failed ≡ true → IsUnplaced codes.Failed e) → OpensAs b seen old (Err e)
+refuses_opening b k seen old e f before = record {
+  opened = tt;
+  start = tt;
+  complete = λ r live sign room. absurd (opening_refused b k old e r f live sign room);
+  refused = f;
+  ends = λ at. end_fault (awaits_opening b old.level) old e at f;
+  differs = λ w o. other_fault (awaits_opening b old.level) old e w o f;
+  too_deep = λ w at. full_fault b k old e w at f;
+  unprompted = refused_other (opening_lacks b k old.level) old e f;
+  before = before;
+}
+
+-- a call that answers as another did
+pub opens_too : {A B : Type 0} (b : Brackets) (seen : A → Seen) (seen_too : B → Seen) (old : State) (e : Error) → OpensAs b seen old (Err e) → OpensAs b seen_too old (Err e)
+opens_too b seen seen_too old e o = record { opened = tt; start = tt; complete = o.complete; refused = o.refused; ends = o.ends; differs = o.differs; too_deep = o.too_deep; unprompted = o.unprompted; before = o.before }
+
+pub closes : (b : Brackets) → AreSigns b → (due : Bool) (old new : State) → Closed b due old new → ClosesAs b due old new (Ok tt)
+closes b k due old new c = record {
+  closed = c;
+  complete = λ r live end. refl;
+  refused = tt;
+  ends = λ at. absurd (end_not_closed b k due old new at c);
+  differs = λ w o. absurd (other_not_closed b k due old new w o c);
+  unprompted = tt;
+  before = λ h. absurd (no_bool h c.live);
+}
+
+pub refuses_closing : (b : Brackets) → AreSigns b → (due : Bool) (old new : State) (e : Error) → RefusedBy (NotClosed b due) old e → ((r : List ℕ) → old.failed ≡ false → IsEnd b.closing due old.unread r → IsOk {T = Unit {0}} {E = Error} (Err e)) → (old.failed ≡ true → IsUnplaced codes.Failed e) → ClosesAs b due old new (Err e)
+refuses_closing b k due old new e f complete before = record {
+  closed = tt;
+  complete = complete;
+  refused = f;
+  ends = λ at. end_fault (awaits_closing b due) old e at f;
+  differs = λ w o. other_fault (awaits_closing b due) old e w o f;
+  unprompted = refused_other (closing_lacks b k due) old e f;
+  before = before;
+}
+
+pub opens_same : {A B : Type 0} (b : Brackets) (see : A → Seen) (seen : B → Seen) (old : State) (a : A) (d : B) → see a ≡ seen d → OpensAs b see old (Ok a) → OpensAs b seen old (Ok d)
+opens_same b see seen old a d same o = record {
+  opened = subst (λ s. Opened b old s.reader × (s.due ≡ false)) same o.opened;
+  start = subst (λ (s : Seen). (before : List ℕ) → old.input ≡ before ++ b.opening ∷ s.reader.unread → s.start ≡ length (encode_utf8_all before)) same o.start;
+  complete = λ r live sign room. refl;
+  refused = tt;
+  ends = o.ends;
+  differs = o.differs;
+  too_deep = o.too_deep;
+  unprompted = tt;
+  before = o.before;
+}
+
+-- a bracket that was taken and counted
+pub opened_here : (b : Brackets) (old mid next last : State) → PassedGap old mid → TookText mid (b.opening ∷ []) next → (next.level < max_depth) × (last ≡ record next { level = next.level + 1 }) → Opened b old last
+opened_here b old mid next last p took (room, entered) =
+    let read = only_read old mid next p.rest took.rest in
+    let level = level_of read in
+    let counted = entered ∙ ap (λ (m : State). record m { level = m.level + 1 }) read in
+    record {
+      live = p.live;
+      room = omega (arith, level, room);
+      bracket = sign_next b.opening old.unread mid.unread last.unread (behind_gap_of old mid p) (took.split ∙ ap (λ z. b.opening ∷ z) (sym (unread_of entered)));
+      rest = counted ∙ ap (λ x. record old { unread = x; level = old.level + 1 }) (sym (unread_of entered));
+    }
+
+pub starts_here : (b : Brackets) (old mid next last : State) (start : ℕ) → PassedGap old mid → TookText mid (b.opening ∷ []) next → last ≡ record next { level = next.level + 1 }
+    → ((before : List ℕ) → mid.input ≡ before ++ mid.unread → start ≡ length (encode_utf8_all before)) → (before : List ℕ) → old.input ≡ before ++ b.opening ∷ last.unread → start ≡ length (encode_utf8_all before)
+starts_here b old mid next last start p took entered counted before split =
+    counted before (input_of p.rest ∙ split ∙ ap (λ z. before ++ z) (sym (took.split ∙ ap (λ z. b.opening ∷ z) (sym (unread_of entered)))))
+
+-- a bracket that was taken behind the comma
+pub closed_behind : {V : Type 0} (b : Brackets) (due : Bool) (old mid next far last : State) (result : Result V Error) → due ≡ true → PassedGap old mid → TookText mid (0x2C ∷ []) next → PassedGap next far
+    → OnOk result ((far.unread ≡ b.closing ∷ last.unread) × (last ≡ record far { unread = last.unread; level = far.level - 1 })) → OnOk result (Closed b due old last)
+closed_behind b due old mid next far last (Err e) d p took q k = tt
+closed_behind b due old mid next far last (Ok v) d p took q (split, left) =
+    let comma = sign_next 0x2C old.unread mid.unread next.unread (behind_gap_of old mid p) took.split in
+    let bracket = sign_next b.closing next.unread far.unread last.unread (behind_gap_of next far q) split in
+    let read = only_read old mid far p.rest (only_read mid next far took.rest q.rest) in
+    record {
+      live = p.live;
+      close = subst (λ t. IsEnd b.closing t old.unread last.unread) (sym d) (inr (next.unread, comma, bracket));
+      rest = left ∙ ap (λ (m : State). record m { unread = last.unread; level = m.level - 1 }) read;
+    }

@@ -1,0 +1,129 @@
+-- No fault of a text is that a reader had failed.
+use Rattle.std.proofs.Common.{◌≢◌, ℕ, Bool, false, List, ◌∷◌, Option, Some}
+use Rattle.json5_grammar.specs.declared.code.ErrorCode.{ErrorCode}
+use Rattle.json5_grammar.specs.declared.code.ErrorCode.TheVariants as codes
+use Rattle.json5_grammar.specs.Blanks.{BlankFault, CommentFault, in_comment, no_comment, slash_ends, block_ends}
+use Rattle.json5_grammar.specs.Codes.{Shown}
+use Rattle.json5_grammar.specs.NumberFaults.{NumberFault, number_word_differs, number_word_ends, sign_without_number, sign_ends, no_hexadecimal_digit, hexadecimal_ends, hexadecimal_overflows, negative_too_large, not_a_literal, literal_overflows, leading_zero}
+use Rattle.json5_grammar.specs.Numbers.{Number}
+use Rattle.json5_grammar.specs.StringFaults.{StringFault, EscapeFault, raw_terminator, string_ends, in_escape, digit_behind_nul, escaped_digit, no_escape_digit, no_second_escape, unpaired, escape_ends}
+use Rattle.json5_text.specs.Tokens.{FaultyString, no_quote, string_missing, FaultyWord, word_differs, word_ends, FaultyNumber, faulty, no_number, number_missing}
+use Rattle.json5_de.specs.Faults.{Behind, in_blanks, behind_gap, NotNumber, faulty_number, other_number, NotText, faulty_text, other_text, Trailing, trailing}
+use Rattle.json5_de.specs.Scalars.{FaultyScalar, scalar_missing, no_scalar, in_null, in_true, in_false, in_text, in_number}
+use Rattle.json5_de.specs.declared.brackets.Brackets.{Brackets}
+use Rattle.json5_de.specs.Brackets.{AreSigns}
+use Rattle.json5_de.specs.Access.{NotClosed, NoBracket, other_sign, bracket_missing, not_here, behind_comma, NotOpened, no_bracket, text_ends, too_deep}
+use Rattle.json5_de.specs.Seq.{NoNext, no_comma, list_ends, in_blanks_behind}
+use Rattle.json5_de.specs.Options.{NoOption, option_missing, faulty_null}
+use Rattle.json5_grammar.specs.Values.{null_text, true_text, false_text}
+
+-- no fault of the relation has this code
+abbrev pub Lacks : (List ℕ → Option ErrorCode → Option (List ℕ) → Type 0) → Type 0
+Lacks F = (x : List ℕ) (reason : Option ErrorCode) (place : Option (List ℕ)) → F x reason place → reason ≢ Some codes.Failed
+
+in_comment_other : {x part : List ℕ} {reason : Option ErrorCode} {place : Option (List ℕ)} {shown : Shown} → CommentFault x reason place part shown → reason ≢ Some codes.Failed
+in_comment_other (no_comment c r h) e = absurd (cc)
+in_comment_other slash_ends e = absurd (cc)
+in_comment_other (block_ends i) e = absurd (cc)
+
+pub in_blanks_other : {x before part : List ℕ} {reason : Option ErrorCode} {place : Option (List ℕ)} {shown : Shown} → BlankFault x reason place before part shown → reason ≢ Some codes.Failed
+in_blanks_other (in_comment b f) = in_comment_other f
+
+pub behind_lacks : {F : List ℕ → Option ErrorCode → Option (List ℕ) → Type 0} → Lacks F → Lacks (Behind F)
+behind_lacks l x reason place (in_blanks (before, part, shown, fault)) = in_blanks_other fault
+behind_lacks l x reason place (behind_gap {x = y} {place = p} g s f) = l y reason p f
+
+pub word_lacks : (w : List ℕ) (ends differs : ErrorCode) → ends ≢ codes.Failed → differs ≢ codes.Failed → Lacks (FaultyWord w ends differs)
+word_lacks w ends differs a b x reason place (word_differs p q r c d e h) k = b cc
+word_lacks w ends differs a b x reason place (word_ends p q d e) k = a cc
+
+in_number_other : {x part : List ℕ} {reason : Option ErrorCode} {place : Option (List ℕ)} {shown : Shown} → NumberFault x reason place part shown → reason ≢ Some codes.Failed
+in_number_other (number_word_differs r w p s d c h i j k l) e = absurd (cc)
+in_number_other (number_word_ends w p s d h i j k) e = absurd (cc)
+in_number_other (sign_without_number r h i) e = absurd (cc)
+in_number_other (sign_ends h) e = absurd (cc)
+in_number_other (no_hexadecimal_digit r s x c h i j) e = absurd (cc)
+in_number_other (hexadecimal_ends s x h i) e = absurd (cc)
+in_number_other (hexadecimal_overflows r s h x c i j k l m n) e = absurd (cc)
+in_number_other (negative_too_large r h c x i j k l m) e = absurd (cc)
+in_number_other (not_a_literal r n c h i j) e = absurd (cc)
+in_number_other (literal_overflows r s l i c h j k m n) e = absurd (cc)
+in_number_other (leading_zero r s c h i) e = absurd (cc)
+
+faulty_number_lacks : Lacks FaultyNumber
+faulty_number_lacks x reason place (faulty f) = in_number_other f
+faulty_number_lacks x reason place (no_number c r h) = λ e. absurd (cc)
+faulty_number_lacks x reason place number_missing = λ e. absurd (cc)
+
+pub number_lacks : {C : Type 0} (f : Number → Option C) → Lacks (NotNumber f)
+number_lacks f x reason place (faulty_number k) = faulty_number_lacks x reason place k
+number_lacks f x reason place (other_number r k stops none) = λ e. absurd (cc)
+
+-- ---- texts
+
+in_escape_other : {in_string : Bool} {x part : List ℕ} {reason : Option ErrorCode} {place : Option (List ℕ)} {shown : Shown} → EscapeFault in_string x reason place part shown → reason ≢ Some codes.Failed
+in_escape_other (digit_behind_nul r h) e = absurd (cc)
+in_escape_other (escaped_digit r h) e = absurd (cc)
+in_escape_other (no_escape_digit c r i h) e = absurd (cc)
+in_escape_other (no_second_escape c r a h) e = absurd (cc)
+in_escape_other (unpaired r h l s p) e = absurd (cc)
+in_escape_other (escape_ends h) e = absurd (cc)
+
+in_string_other : {x before part : List ℕ} {reason : Option ErrorCode} {place : Option (List ℕ)} {shown : Shown} → StringFault x reason place before part shown → reason ≢ Some codes.Failed
+in_string_other (raw_terminator r q i h) e = absurd (cc)
+in_string_other (string_ends q i) e = absurd (cc)
+in_string_other (in_escape q i f) e = in_escape_other f e
+
+faulty_string_lacks : Lacks FaultyString
+faulty_string_lacks x reason place (faulty f) = in_string_other f
+faulty_string_lacks x reason place (no_quote c r h) = λ e. absurd (cc)
+faulty_string_lacks x reason place string_missing = λ e. absurd (cc)
+
+pub text_lacks : {C : Type 0} (f : List ℕ → Bool → Option C) → Lacks (NotText f)
+text_lacks f x reason place (faulty_text k) = faulty_string_lacks x reason place k
+text_lacks f x reason place (other_text r str none) = λ e. absurd (cc)
+
+-- ---- values of any kind
+
+pub scalar_lacks : Lacks FaultyScalar
+scalar_lacks x reason place scalar_missing = λ e. absurd (cc)
+scalar_lacks x reason place (no_scalar c r h) = λ e. absurd (cc)
+scalar_lacks x reason place (in_null h f) = word_lacks null_text codes.EofParsingNull codes.ExpectedNull (λ e. absurd (cc)) (λ e. absurd (cc)) x reason place f
+scalar_lacks x reason place (in_true h f) = word_lacks true_text codes.EofParsingBool codes.ExpectedBool (λ e. absurd (cc)) (λ e. absurd (cc)) x reason place f
+scalar_lacks x reason place (in_false h f) = word_lacks false_text codes.EofParsingBool codes.ExpectedBool (λ e. absurd (cc)) (λ e. absurd (cc)) x reason place f
+scalar_lacks x reason place (in_text h f) = faulty_string_lacks x reason place f
+scalar_lacks x reason place (in_number h f) = faulty_number_lacks x reason place f
+
+-- ---- brackets
+
+some_other : (c : ErrorCode) → c ≢ codes.Failed → Some c ≢ Some codes.Failed
+some_other c h e = h (cc)
+
+bracket_lacks : (b : Brackets) → AreSigns b → (comma : Bool) → Lacks (NoBracket b comma)
+bracket_lacks b k comma x reason place (other_sign c r h l) = some_other b.not_closed k.other_not_closed
+bracket_lacks b k comma x reason place bracket_missing = some_other b.ends k.other_ends
+
+pub closing_lacks : (b : Brackets) → AreSigns b → (due : Bool) → Lacks (NotClosed b due)
+closing_lacks b k due x reason place (not_here f) = bracket_lacks b k due x reason place f
+closing_lacks b k due x reason place (behind_comma {x = y} {place = p} h f) = behind_lacks (bracket_lacks b k false) y reason p f
+
+pub opening_lacks : (b : Brackets) → AreSigns b → (level : ℕ) → Lacks (NotOpened b level)
+opening_lacks b k level x reason place (no_bracket c r h) = some_other b.not_opened k.other_not_opened
+opening_lacks b k level x reason place text_ends = some_other b.ends k.other_ends
+opening_lacks b k level x reason place (too_deep r full) = λ e. absurd (cc)
+
+-- ---- where the next element is expected
+
+pub next_lacks : (due : Bool) → Lacks (NoNext due)
+next_lacks due x reason place (no_comma c r d h k) = λ e. absurd (cc)
+next_lacks due x reason place (list_ends d) = λ e. absurd (cc)
+next_lacks due x reason place (in_blanks_behind d (before, part, shown, fault)) = in_blanks_other fault
+
+-- ---- where an option or the end is expected
+
+pub option_lacks : Lacks NoOption
+option_lacks x reason place option_missing = λ e. absurd (cc)
+option_lacks x reason place (faulty_null {r = r} f) = word_lacks null_text codes.EofParsingNull codes.ExpectedNull (λ e. absurd (cc)) (λ e. absurd (cc)) (0x6E ∷ r) reason place f
+
+pub trailing_lacks : Lacks Trailing
+trailing_lacks x reason place (trailing c r) = λ e. absurd (cc)

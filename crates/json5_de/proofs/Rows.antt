@@ -1,0 +1,287 @@
+-- What follows, for every kind of value, from what it gives and what it refuses.
+use Rattle.std.proofs.Common.{◌≡◌, ◌≢◌, ℕ, ℤ, Bool, false, List, refl, ap, sym, ◌∙◌, subst, ◌⊎◌, ◌++◌, inl, inr, Option, Some, None}
+use Rattle.std.specs.Prelude.{true, Result, Ok, Err, IsOk, IfOk, IfErr, OnErr, IsErrAnd, if◌then◌else◌}
+use Rattle.json5_grammar.specs.declared.code.ErrorCode.{ErrorCode}
+use Rattle.json5_grammar.specs.declared.code.ErrorCode.TheVariants as codes
+use Rattle.json5_text.specs.declared.error.Error.{Error}
+use Rattle.json5_text.specs.Errors.{code, custom, kind_of}
+use Rattle.json5_text.specs.Cursor.{Cursor, Says, IsOutOfMemory}
+use Rattle.json5_grammar.specs.Values.{null_text, true_text, false_text, Stops, is_number}
+use Rattle.json5_de.specs.State.{State, GivesUp}
+use Rattle.json5_text.specs.Cursor.{Refused}
+use Rattle.json5_text.specs.Tokens.{FaultyBlanks, FaultyNumber, FaultyString}
+use Rattle.json5_grammar.specs.Strings.{Str}
+use Rattle.json5_de.specs.State.{cursor_of}
+use Rattle.json5_de.specs.Steps.{PassedGap, TookText, IsMismatch, WholeAt}
+use Rattle.json5_de.specs.Law.{Gives, CompletesFree, StaysFailed, Unprompted}
+use Rattle.json5_grammar.specs.Numbers.{Number, whole, decimal, Num}
+use Rattle.json5_grammar.specs.Trees.{Tree, null, boolean, number, text, array, object}
+use Rattle.json5_de.specs.Convert.{as_whole, as_number, every_decimal, as_text, if_plain}
+use Rattle.json5_de.specs.Faults.{FaultRelation, Behind, in_blanks, behind_gap, RefusedBy, RefusedByOrMemory, NotNumber, faulty_number, other_number, faulty_text, begins_with}
+use Rattle.json5_de.specs.Rows.{Row, RefusedWith, ReadsAs, EndsWhere, DiffersWhere, TellsApart, every_tree, plain_text, null_row, bool_row, whole_row, decimal_row, text_row, plain_row, any_row}
+use Rattle.json5_de.proofs.Awaited.{Awaited, wrongly_refused, completes_or_memory, ends_from, ends_or_memory, differs_from, differs_or_memory}
+use Rattle.json5_de.proofs.Awaits.{awaits_null, awaits_bool}
+use Rattle.json5_de.proofs.AwaitsNumbers.{awaits_number}
+use Rattle.json5_de.proofs.AwaitsTexts.{awaits_text}
+use Rattle.json5_de.proofs.ScalarsAwaited.{awaits_scalar}
+use Rattle.json5_de.proofs.Taken.{input_of, refused_blanks, refused_token, took_leaf, refused_or_memory}
+use Rattle.json5_de.proofs.Mismatches.{StartsAt, refused_number, refused_text}
+use Rattle.json5_de.proofs.WithoutMemory.{whole_there, no_other_number, plain_there, no_other_text}
+use Rattle.json5_grammar.specs.Characters.{NotBegun}
+use Rattle.json5_grammar.specs.Stops.{lengthens}
+use Rattle.json5_text.specs.NumberViews.{keeps_digits}
+use Rattle.std.proofs.lemmas.Bool.{false≢true}
+use Rattle.json5_de.proofs.OtherCodes.{Lacks, in_blanks_other, behind_lacks, word_lacks, number_lacks, text_lacks, scalar_lacks}
+
+-- a kind of value is told apart from all others, and none of its faults is that the reader had failed
+pub record IsLawful {C : Type 0} (row : Row C) : Type 0 where
+  pub awaited : Awaited row.IsFault row.convert row.begins row.ends row.differs
+  pub lacks : Lacks row.IsFault
+
+other_says : (reason : Option ErrorCode) (e : Error) → reason ≢ Some codes.Failed → Says reason e → kind_of e ≢ code codes.Failed
+other_says (Some c) e h s k = h (let same : code c ≡ code codes.Failed = sym s ∙ k in cc)
+other_says None e h (own, s) k = let same : custom own ≡ code codes.Failed = sym s ∙ k in absurd (cc)
+
+pub refused_other : {F : List ℕ → Option ErrorCode → Option (List ℕ) → Type 0} → Lacks F → (old : State) (e : Error) → RefusedBy F old e → old.failed ≡ false → kind_of e ≢ code codes.Failed
+refused_other l old e k live = let f = k live in other_says f.reason e (behind_lacks l _ f.reason f.place f.fault) f.says
+
+memory_other : (e : Error) → IsOutOfMemory e → kind_of e ≢ code codes.Failed
+memory_other e m k = let same : code codes.OutOfMemory ≡ code codes.Failed = sym m ∙ k in absurd (cc)
+
+pub unprompted_from : {V : Type 0} {F : List ℕ → Option ErrorCode → Option (List ℕ) → Type 0} → Lacks F → (m : Bool) (old : State) (result : Result V Error) → IfErr result (RefusedWith m F old) → Unprompted old result
+unprompted_from l m old (Ok v) k = tt
+unprompted_from l false old (Err e) k = refused_other l old e k
+unprompted_from l true old (Err e) (inl m) = λ live. memory_other e m
+unprompted_from l true old (Err e) (inr k) = refused_other l old e k
+
+true_false_state : {A : Type 0} (s : State) → s.failed ≡ true → s.failed ≡ false → A
+true_false_state s h k = let e : true ≡ false = sym h ∙ k in absurd (cc)
+
+-- what a comment at fault says is something else too
+pub blanks_other : {s : Cursor} (e : Error) → Refused FaultyBlanks s e → kind_of e ≢ code codes.Failed
+blanks_other e f = let (before, part, shown, fault) = f.fault in other_says f.reason e (in_blanks_other fault) f.says
+
+-- ---- the law of a read, from its steps
+
+or_memory_as : (m : Bool) {F : List ℕ → Option ErrorCode → Option (List ℕ) → Type 0} (old : State) (e : Error) → RefusedWith m F old e → RefusedByOrMemory F old e
+or_memory_as false old e k = inr k
+or_memory_as true old e k = k
+
+-- what gave up behind the gap gave up
+pub given_up : (old mid new : State) → PassedGap old mid → GivesUp mid new → GivesUp old new
+given_up old mid new p g = record { failed = g.failed; same_text = g.same_text ∙ input_of p.rest }
+
+pub given_up_behind : (old mid new last : State) (s : List ℕ) → PassedGap old mid → TookText mid s new → GivesUp new last → GivesUp old last
+given_up_behind old mid new last s p k g = given_up old mid last p (record { failed = g.failed; same_text = g.same_text ∙ input_of k.rest })
+
+pub gives_up : (old new : State) → new ≡ record old { failed = true } → GivesUp old new
+gives_up old new e = record { failed = ap (λ (s : State). s.failed) e; same_text = ap (λ (s : State). s.input) e }
+
+-- a value was read
+pub reads_ok : {V C : Type 0} (row : Row C) (content : V → C) (old new : State) (v : V) → Gives content row.convert old new v → ReadsAs row content old new (Ok v)
+reads_ok row content old new v (t, took, is) = record {
+  sound = (t, took, is);
+  complete = λ t r c live reads shallow is. tt;
+  no_memory = λ t r c live reads shallow is free. refl;
+  refused = tt;
+  unprompted = tt;
+  failed = tt;
+  before = λ f. true_false_state old f took.live;
+}
+
+-- the token in front was refused
+pub reads_err : {V C : Type 0} {row : Row C} → IsLawful row → (content : V → C) (old new : State) (e : Error) → CompletesFree {V = V} row.free row.convert old (Err e) → RefusedWith row.may_lack_memory row.IsFault old e → GivesUp old new
+    → StaysFailed {V = V} old new (Err e) → ReadsAs row content old new (Err e)
+reads_err {V = V} {row = row} l content old new e free k failed before = record {
+  sound = tt;
+  complete = completes_or_memory {V = V} l.awaited old (Err e) (or_memory_as row.may_lack_memory old e k);
+  no_memory = free;
+  refused = (k, failed.same_text);
+  unprompted = unprompted_from {V = V} l.lacks row.may_lack_memory old (Err e) k;
+  failed = failed.failed;
+  before = before;
+}
+
+passed_on : (m : Bool) {F : List ℕ → Option ErrorCode → Option (List ℕ) → Type 0} (old : State) (e : Error) → RefusedBy F old e → RefusedWith m F old e
+passed_on false old e k = k
+passed_on true old e k = inr k
+
+-- a fault of the relation
+pub refuses : {V C : Type 0} {row : Row C} → IsLawful row → (content : V → C) (old new : State) (e : Error) → RefusedBy row.IsFault old e → GivesUp old new → StaysFailed {V = V} old new (Err e) → ReadsAs row content old new (Err e)
+refuses {row = row} l content old new e k =
+    reads_err l content old new e (λ t r c live reads shallow is free. absurd (wrongly_refused l.awaited old e t r c live reads is k)) (passed_on row.may_lack_memory old e k)
+
+-- a comment before it is at fault, or the reader had failed
+pub not_begun : {V C : Type 0} {row : Row C} → IsLawful row → (content : V → C) (old new : State) (e : Error) → (old.failed ≡ false → Refused FaultyBlanks (cursor_of old) e) → GivesUp old new → StaysFailed {V = Unit {0}} old new (Err e)
+    → ReadsAs row content old new (Err e)
+not_begun l content old new e k failed before = refuses l content old new e (refused_blanks old e k) failed before
+
+-- behind the blanks, a fault of the relation
+pub refuses_behind : {V C : Type 0} {row : Row C} → IsLawful row → (content : V → C) (old mid new : State) (e : Error) → PassedGap old mid → Refused row.IsFault (cursor_of mid) e → GivesUp mid new → ReadsAs row content old new (Err e)
+refuses_behind l content old mid new e p k failed = refuses l content old new e (refused_token old mid e p k) (given_up old mid new p failed) (λ f. true_false_state old f p.live)
+
+-- the same, or memory was wanting, where no tree is free
+pub refuses_value : {V C : Type 0} {row : Row C} → IsLawful row → row.may_lack_memory ≡ true → ((t : Tree) → row.free t ≡ false) → (content : V → C) (old mid new : State) (e : Error) → PassedGap old mid → RefusedByOrMemory row.IsFault old e → GivesUp mid new
+    → ReadsAs row content old new (Err e)
+refuses_value {V = V} {row = row} l m none content old mid new e p k failed = reads_err l content old new e
+    (λ t r c live reads shallow is free. absurd (let both : false ≡ true = sym (none t) ∙ free in cc))
+    (subst (λ z. RefusedWith z row.IsFault old e) (sym m) k)
+    (given_up old mid new p failed)
+    (λ h. true_false_state old h p.live)
+
+-- ---- the kinds
+
+pub lawful_null : IsLawful null_row
+lawful_null = record { awaited = awaits_null; lacks = word_lacks null_text codes.EofParsingNull codes.ExpectedNull (λ e. absurd (cc)) (λ e. absurd (cc)) }
+
+pub lawful_bool : IsLawful bool_row
+lawful_bool = record { awaited = awaits_bool; lacks = λ x. word_lacks (if begins_with 0x66 x then false_text else true_text) codes.EofParsingBool codes.ExpectedBool (λ e. absurd (cc)) (λ e. absurd (cc)) x }
+
+pub lawful_whole : {C : Type 0} (f : ℤ → Option C) → IsLawful (whole_row f)
+lawful_whole f = record { awaited = awaits_number (as_whole f); lacks = number_lacks (as_whole f) }
+
+pub lawful_decimal : IsLawful decimal_row
+lawful_decimal = record { awaited = awaits_number every_decimal; lacks = number_lacks every_decimal }
+
+-- ---- whole numbers
+
+-- the number in front was refused, which a whole one isn't
+pub number_refused : {V C : Type 0} (f : ℤ → Option C) (content : V → C) (old mid new : State) (e : Error) → PassedGap old mid → IsOutOfMemory e ⊎ Refused FaultyNumber (cursor_of mid) e → GivesUp mid new
+    → ((s r : List ℕ) (n : Number) → mid.unread ≡ s ++ r → Num s n → NotBegun (lengthens s) r → keeps_digits n ≡ false → false ≡ true)
+    → ReadsAs (whole_row f) content old new (Err e)
+number_refused f content old mid new e p k failed memory =
+    reads_err (lawful_whole f) content old new e
+    (λ t r v live reads shallow converts free. let w = whole_there f old mid t r v p reads converts in absurd (false≢true (memory w.literal r w.number w.split w.is_number w.stops w.free)))
+    (refused_or_memory old mid e (λ x reason place g. faulty_number g) p k)
+    (given_up old mid new p failed)
+    (λ h. true_false_state old h p.live)
+
+pub not_whole : {V C : Type 0} (f : ℤ → Option C) (content : V → C) (old mid new last : State) (result : Result V Error) (start : ℕ) (s : List ℕ) (n : Number) → PassedGap old mid → TookText mid s new → Num s n → Stops s new.unread → as_whole f n ≡ None
+    → StartsAt mid start → IsErrAnd result (IsMismatch new.input start) → GivesUp new last → ReadsAs (whole_row f) content old last result
+not_whole f content old mid new last (Ok v) start s n p k num stops none at is failed = absurd is
+not_whole f content old mid new last (Err e) start s n p k num stops none at is failed =
+    reads_err (lawful_whole f) content old last e
+    (λ t r v live reads shallow converts free. absurd (no_other_number (as_whole f) old mid new s n t r v p k num stops none reads converts))
+    (refused_number {V = Unit {0}} (as_whole f) old mid new (Err e) start s n p k num stops none at is)
+    (given_up_behind old mid new last s p k failed)
+    (λ h. true_false_state old h p.live)
+
+-- what is no whole number is none in a range
+pub narrower : {V W C : Type 0} (f : ℤ → Option C) (wide : V → ℤ) (content : W → C) (old new : State) (e : Error) → ReadsAs (whole_row (λ z. Some z)) wide old new (Err e) → ReadsAs (whole_row f) content old new (Err e)
+narrower {C = C} f wide content old new e k =
+    reads_err (lawful_whole f) content old new e
+    (λ t r v live reads shallow converts free. let (z, is) = some_whole t v converts in k.no_memory t r z live reads shallow is refl)
+    (narrowed k.refused.0)
+    (record { failed = k.failed; same_text = k.refused.1 })
+    k.before
+  where
+    some_number : (n : Number) (v : C) → as_whole f n ≡ Some v → (z : ℤ) × (as_whole (λ x. Some x) n ≡ Some z)
+    some_number (whole z) v e = (z, refl)
+    some_number (decimal d) v e = absurd (cc)
+
+    some_whole : (t : Tree) (v : C) → as_number (as_whole f) t ≡ Some v → (z : ℤ) × (as_number (as_whole (λ x. Some x)) t ≡ Some z)
+    some_whole (number n) v e = some_number n v e
+    some_whole null v e = absurd (cc)
+    some_whole (boolean b) v e = absurd (cc)
+    some_whole (text u plain) v e = absurd (cc)
+    some_whole (array ts) v e = absurd (cc)
+    some_whole (object ps) v e = absurd (cc)
+
+    none_number : (n : Number) → as_whole (λ x. Some x) n ≡ None → as_whole f n ≡ None
+    none_number (whole z) e = absurd (cc)
+    none_number (decimal d) e = refl
+
+    wider : (x : List ℕ) (reason : Option ErrorCode) (place : Option (List ℕ)) → NotNumber (as_whole (λ x. Some x)) x reason place → NotNumber (as_whole f) x reason place
+    wider x reason place (faulty_number k) = faulty_number k
+    wider x reason place (other_number {n = n} r num stops none) = other_number r num stops (none_number n none)
+
+    behind : (x : List ℕ) (reason : Option ErrorCode) (place : Option (List ℕ)) → Behind (NotNumber (as_whole (λ x. Some x))) x reason place → Behind (NotNumber (as_whole f)) x reason place
+    behind x reason place (in_blanks f) = in_blanks f
+    behind x reason place (behind_gap {x = y} {reason = c} {place = p} g s f) = behind_gap g s (wider y c p f)
+
+    narrowed : RefusedByOrMemory (NotNumber (as_whole (λ x. Some x))) old e → RefusedByOrMemory (NotNumber (as_whole f)) old e
+    narrowed (inl m) = inl m
+    narrowed (inr k) = inr (λ live. let f = k live in record { reason = f.reason; place = f.place; fault = behind _ f.reason f.place f.fault; says = f.says; placed = f.placed })
+
+-- the number is in the range
+pub in_range : {V C : Type 0} (f : ℤ → Option C) (content : V → C) (old new : State) (start : ℕ) (z : ℤ) (v : V) → WholeAt old new start z → f z ≡ Some (content v) → ReadsAs (whole_row f) content old new (Ok v)
+in_range f content old new start z v w is =
+    reads_ok (whole_row f) content old new v (number (whole z), took_leaf old w.between new w.phrase (number (whole z)) refl w.passed w.took (is_number w.is_number) w.stops, is)
+
+-- it isn't
+pub out_of_range : {V C : Type 0} (f : ℤ → Option C) (content : V → C) (old new last : State) (result : Result V Error) (start : ℕ) (z : ℤ) → WholeAt old new start z → f z ≡ None → IsErrAnd result (IsMismatch new.input start) → GivesUp new last
+    → ReadsAs (whole_row f) content old last result
+out_of_range f content old new last result start z w none is failed = not_whole f content old w.between new last result start w.phrase (whole z) w.passed w.took w.is_number w.stops none w.counted is failed
+
+-- ---- texts
+
+pub lawful_text : {C : Type 0} (f : List ℕ → Bool → Option C) (free : Tree → Bool) → IsLawful (text_row f free)
+lawful_text f free = record { awaited = awaits_text f; lacks = text_lacks f }
+
+-- the string in front was taken or refused
+pub reads_text : {V C : Type 0} (f : List ℕ → Bool → Option C) (free : Tree → Bool) (content : V → C) (old mid new : State) (result : Result V Error) → PassedGap old mid → IfOk result (Gives content (as_text f) old new)
+    → IfErr result (λ e. IsOutOfMemory e ⊎ Refused FaultyString (cursor_of mid) e) → OnErr result (GivesUp mid new) → CompletesFree free (as_text f) old result → ReadsAs (text_row f free) content old new result
+reads_text f free content old mid new (Ok v) p gives k failed complete = reads_ok (text_row f free) content old new v gives
+reads_text f free content old mid new (Err e) p gives k failed complete =
+    reads_err (lawful_text f free) content old new e complete (refused_or_memory old mid e (λ x reason place g. faulty_text g) p k) (given_up old mid new p failed) (λ h. true_false_state old h p.live)
+
+-- it isn't of the type
+pub not_text : {V C : Type 0} (f : List ℕ → Bool → Option C) (free : Tree → Bool) (content : V → C) (old mid new last : State) (result : Result V Error) (start : ℕ) (s u : List ℕ) (plain : Bool) → PassedGap old mid → TookText mid s new → Str s u plain
+    → f u plain ≡ None → StartsAt mid start → IsErrAnd result (IsMismatch new.input start) → GivesUp new last → ReadsAs (text_row f free) content old last result
+not_text f free content old mid new last (Ok v) start s u plain p k str none at is failed = absurd is
+not_text f free content old mid new last (Err e) start s u plain p k str none at is failed =
+    reads_err (lawful_text f free) content old last e
+    (λ t r v live reads shallow converts free. absurd (no_other_text f old mid new s u plain t r v p k str none reads converts))
+    (refused_text {V = Unit {0}} f old mid new (Err e) start s u plain p k str none at is)
+    (given_up_behind old mid new last s p k failed)
+    (λ h. true_false_state old h p.live)
+
+plain_converts : (t : Tree) → plain_text t ≡ true → (v : List ℕ) × (as_text if_plain t ≡ Some v)
+plain_converts null e = absurd (cc)
+plain_converts (boolean b) e = absurd (cc)
+plain_converts (number n) e = absurd (cc)
+plain_converts (text u true) e = (_, refl)
+plain_converts (text u false) e = absurd (cc)
+plain_converts (array ts) e = absurd (cc)
+plain_converts (object ps) e = absurd (cc)
+
+-- a plain text takes no memory
+pub plain_completes : {V C : Type 0} (convert : Tree → Option C) (old mid : State) (result : Result V Error) → PassedGap old mid → ((s u r : List ℕ) → mid.unread ≡ s ++ r → Str s u true → IsOk result) → CompletesFree plain_text convert old result
+plain_completes convert old mid result p ok t r c live reads shallow is free =
+    let (v, converts) = plain_converts t free in
+    let k = plain_there old mid t r v p reads converts in
+    ok k.string k.text r k.split k.is_string
+
+pub plain_refused : {V : Type 0} (content : V → List ℕ) (old mid new : State) (e : Error) → PassedGap old mid → IsOutOfMemory e ⊎ Refused FaultyString (cursor_of mid) e → GivesUp mid new → ((s u r : List ℕ) → mid.unread ≡ s ++ r → Str s u true → false ≡ true)
+    → ReadsAs plain_row content old new (Err e)
+plain_refused content old mid new e p k failed ok =
+    reads_text if_plain every_tree content old mid new (Err e) p tt k failed
+    (λ t r v live reads shallow is free. let k = plain_there old mid t r v p reads is in absurd (false≢true (ok k.string k.text r k.split k.is_string)))
+
+-- ---- values of any kind
+
+pub lawful_any : IsLawful any_row
+lawful_any = record { awaited = awaits_scalar; lacks = scalar_lacks }
+
+-- ---- the codes
+
+-- the same answers, with the faults alone
+abbrev Answers : {V C : Type 0} → (m : Bool) → FaultRelation → (Tree → Option C) → (V → C) → State → State → Result V Error → Type 0
+Answers m F convert content old new result = IfOk result (λ v. Gives content convert old new v) × IfErr result (RefusedWith m F old)
+
+answers : {V C : Type 0} (row : Row C) (content : V → C) (old new : State) (result : Result V Error) → ReadsAs row content old new result → Answers row.may_lack_memory row.IsFault row.convert content old new result
+answers row content old new (Ok v) k = (k.sound, tt)
+answers row content old new (Err e) k = (tt, k.refused.0)
+
+ends_as : {V C : Type 0} {row : Row C} → IsLawful row → (m : Bool) → row.may_lack_memory ≡ m → (content : V → C) (old new : State) (result : Result V Error) → Answers m row.IsFault row.convert content old new result → EndsWhere m row.ends old result
+ends_as l false e content old new result k = ends_from l.awaited content old new result k.0 k.1
+ends_as l true e content old new result k = ends_or_memory l.awaited content old new result k.0 k.1
+
+differs_as : {V C : Type 0} {row : Row C} → IsLawful row → (m : Bool) → row.may_lack_memory ≡ m → (content : V → C) (old new : State) (result : Result V Error) → Answers m row.IsFault row.convert content old new result → DiffersWhere m row.begins row.differs old result
+differs_as l false e content old new result k = differs_from l.awaited content old new result k.0 k.1
+differs_as l true e content old new result k = differs_or_memory l.awaited content old new result k.0 k.1
+
+pub tells_apart : {V C : Type 0} {row : Row C} → IsLawful row → (content : V → C) → TellsApart row content
+tells_apart {row = row} l content old new result k =
+    let a = answers row content old new result k in
+    (ends_as l row.may_lack_memory refl content old new result a, differs_as l row.may_lack_memory refl content old new result a)

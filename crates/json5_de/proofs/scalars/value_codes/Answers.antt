@@ -1,0 +1,33 @@
+use Rattle.json5_text.specs.Cows.{cow_bytes, is_borrowed}
+use Rattle.json5_text.specs.ValueViews.{value_of}
+use Rattle.json5_de.specs.Convert.{natural_below, integer_below, every_text, one_character, every_cow}
+use Rattle.json5_de.specs.Rows.{no_tree, plain_text, text_bytes}
+use Rattle.json5_de.proofs.Rows.{tells_apart, lawful_null, lawful_bool, lawful_whole, lawful_decimal, lawful_text, lawful_any}
+use Rattle.json5_de.proofs.scalars.value_codes.Goals as goal
+
+pub returns-clause-null : goal.returns-clause-null
+returns-clause-null c = tells_apart lawful_null (λ n. n)
+
+pub returns-clause-boolean : goal.returns-clause-boolean
+returns-clause-boolean c = tells_apart lawful_bool (λ b. b)
+
+pub returns-clause-natural : goal.returns-clause-natural
+returns-clause-natural c bound = tells_apart (lawful_whole (natural_below bound)) (λ n. n)
+
+pub returns-clause-integer : goal.returns-clause-integer
+returns-clause-integer c bound = tells_apart (lawful_whole (integer_below bound)) (λ n. n)
+
+pub returns-clause-decimal : goal.returns-clause-decimal
+returns-clause-decimal c = tells_apart lawful_decimal (λ d. d)
+
+pub returns-clause-string : goal.returns-clause-string
+returns-clause-string c = tells_apart (lawful_text every_text no_tree) text_bytes
+
+pub returns-clause-character : goal.returns-clause-character
+returns-clause-character c = tells_apart (lawful_text one_character no_tree) (λ c. c)
+
+pub returns-clause-cow : goal.returns-clause-cow
+returns-clause-cow c = tells_apart (lawful_text every_cow plain_text) (λ t. (cow_bytes t, is_borrowed t))
+
+pub returns-clause-any : goal.returns-clause-any
+returns-clause-any c = tells_apart lawful_any value_of

@@ -1,0 +1,9 @@
+use Rattle.json5_de.proofs.seq.SeqAccess.place.Goals as goal
+
+pub returns : goal.returns
+returns g c = record {
+  kind = c.with_position.ensures.kind;
+  there = c.position_at.result;
+  place = c.with_position.ensures.place;
+  is_there = λ before b. c.position_at.ensures before b.rest b.split b.counted;
+}

@@ -1,0 +1,56 @@
+-- What is refused where an option is expected.
+use Rattle.std.specs.Prelude.{◌≡◌, ◌⊎◌, ◌==◌, ℕ, Bool, true, false, List, [], ◌∷◌, ◌++◌, Option, Some, None}
+use Rattle.json5_grammar.specs.declared.code.ErrorCode.{ErrorCode}
+use Rattle.json5_grammar.specs.declared.code.ErrorCode.TheVariants as codes
+use Rattle.json5_grammar.specs.declared.position.Position.{Position}
+use Rattle.json5_grammar.specs.Positions.{position_behind}
+use Rattle.json5_grammar.specs.Trees.{Tree, null, boolean, number, text, array, object}
+use Rattle.json5_text.specs.declared.error.Error.{Error}
+use Rattle.json5_text.specs.Errors.{kind_of, place_of, or_place}
+use Rattle.json5_text.specs.Cursor.{Refused}
+use Rattle.json5_de.specs.State.{State, cursor_of, SameText}
+use Rattle.json5_de.specs.Steps.{PassedGap}
+use Rattle.json5_de.specs.Faults.{Behind, FaultyNull}
+
+-- null is read without memory, and what T reads so
+abbrev pub option_free : (Tree → Bool) → Tree → Bool
+option_free free null = true
+option_free free (boolean b) = free (boolean b)
+option_free free (number n) = free (number n)
+option_free free (text u plain) = free (text u plain)
+option_free free (array ts) = free (array ts)
+option_free free (object ps) = free (object ps)
+
+-- the same fault, which gets this place where it had none: a place of the text before which one of these texts stands
+pub record PlacedAt (IsBefore : List ℕ → Type 0) (own e : Error) : Type 0 where
+  pub kind : kind_of e ≡ kind_of own
+  pub there : Position
+  pub place : place_of e ≡ or_place (place_of own) there
+  pub is_there : (before : List ℕ) → IsBefore before → there ≡ position_behind before
+
+-- no T begins: EofParsingValue at the end, and the faults of null at an `n`
+pub data NoOption : List ℕ → Option ErrorCode → Option (List ℕ) → Type 0 where
+  option_missing : NoOption [] (Some codes.EofParsingValue) None
+  faulty_null : {r : List ℕ} {reason : Option ErrorCode} {place : Option (List ℕ)} → FaultyNull (0x6E ∷ r) reason place → NoOption (0x6E ∷ r) reason place
+
+-- T refused after the blanks, with a fault that gets the value's start where it had no place
+pub record RefusedInside (refuses : State → Error → State → Type 0) (old : State) (e : Error) (new : State) : Type 0 where
+  pub start : State
+  pub passed : PassedGap old start
+  pub char : ℕ
+  pub more : List ℕ
+  pub begins : start.unread ≡ char ∷ more
+  pub no_null : (char == 0x6E) ≡ false
+  pub own : Error
+  pub after : State
+  pub cause : refuses start own after
+  pub left : new ≡ record after { failed = true }
+  pub placed : PlacedAt (λ before. SameText start after × (start.input ≡ before ++ start.unread)) own e
+
+-- why an option is refused
+abbrev pub RefusesOption : (State → Error → State → Type 0) → State → Error → State → Type 0
+RefusesOption refuses old e new = old.failed ≡ false → (Refused (Behind NoOption) (cursor_of old) e × SameText old new) ⊎ RefusedInside refuses old e new
+
+-- a reader that hasn't failed refuses as T does, and has failed
+abbrev pub RefusesLive : (State → Error → State → Type 0) → State → Error → State → Type 0
+RefusesLive refuses old e new = old.failed ≡ false → (after : State) × refuses old e after × (new ≡ record after { failed = true })

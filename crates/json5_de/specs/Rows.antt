@@ -1,0 +1,125 @@
+-- The kinds of values that one token makes, and the law of a method that reads one.
+use Rattle.std.specs.Prelude.{Bool, true, false, ℕ, ◌==◌, ◌||◌, List, ℤ, Option, Result}
+use Rattle.std.specs.String.{string_bytes}
+use Rattle.std.specs.declared.string.String.{String}
+use Rattle.std.specs.declared.alloc.Global.{Global}
+use Rattle.json5_grammar.specs.declared.code.ErrorCode.{ErrorCode}
+use Rattle.json5_grammar.specs.declared.code.ErrorCode.TheVariants as codes
+use Rattle.json5_grammar.specs.NumberFaults.{is_sign, begins_number}
+use Rattle.json5_grammar.specs.Numbers.{Decimal}
+use Rattle.json5_grammar.specs.Strings.{is_quote}
+use Rattle.json5_grammar.specs.Trees.{Tree, text}
+use Rattle.json5_text.specs.declared.error.Error.{Error}
+use Rattle.json5_text.specs.ValueViews.{Datum}
+use Rattle.json5_de.specs.State.{State, SameText}
+use Rattle.json5_de.specs.Law.{ReadsValue}
+use Rattle.json5_de.specs.Convert.{unit_of, bool_of, as_number, as_whole, natural_below, integer_below, every_decimal, as_text, every_text, if_plain, every_cow, one_character, datum_of}
+use Rattle.json5_de.specs.Faults.{FaultRelation, RefusedBy, RefusedByOrMemory, FaultyNull, FaultyBool, NotNumber, NotText, EndsWith, EndsWithOrMemory, DiffersWith, DiffersWithOrMemory}
+use Rattle.json5_de.specs.Scalars.{FaultyScalar, begins_scalar}
+
+-- a kind of value: the faults where one is expected, what each tree gives, which trees are read without memory,
+-- what begins one, the codes at the end and at another character, and whether a refusal may be for want of memory
+pub record Row (C : Type 0) : Type 1 where
+  pub IsFault : FaultRelation
+  pub convert : Tree → Option C
+  pub free : Tree → Bool
+  pub begins : ℕ → Bool
+  pub ends : ErrorCode
+  pub differs : ErrorCode
+  pub may_lack_memory : Bool
+
+abbrev pub RefusedWith : Bool → FaultRelation → State → Error → Type 0
+RefusedWith false IsFault old e = RefusedBy IsFault old e
+RefusedWith true IsFault old e = RefusedByOrMemory IsFault old e
+
+-- refused with a fault of the kind, over the same text
+abbrev pub RefusedAs : {C : Type 0} → Row C → State → Error → State → Type 0
+RefusedAs row old e new = RefusedWith row.may_lack_memory row.IsFault old e × SameText old new
+
+-- one value of the kind is read from the front
+abbrev pub ReadsAs : {V C : Type 0} → Row C → (V → C) → State → State → Result V Error → Type 0
+ReadsAs row content old new result = ReadsValue content row.convert row.free (RefusedAs row) old new result
+
+abbrev pub EndsWhere : {V : Type 0} → Bool → ErrorCode → State → Result V Error → Type 0
+EndsWhere false ends old result = EndsWith ends old result
+EndsWhere true ends old result = EndsWithOrMemory ends old result
+
+abbrev pub DiffersWhere : {V : Type 0} → Bool → (ℕ → Bool) → ErrorCode → State → Result V Error → Type 0
+DiffersWhere false begins differs old result = DiffersWith begins differs old result
+DiffersWhere true begins differs old result = DiffersWithOrMemory begins differs old result
+
+-- the code at the end
+abbrev pub EndsAs : {V C : Type 0} → Row C → State → Result V Error → Type 0
+EndsAs row old result = EndsWhere row.may_lack_memory row.ends old result
+
+-- the code at a character that begins nothing of the kind
+abbrev pub DiffersAs : {V C : Type 0} → Row C → State → Result V Error → Type 0
+DiffersAs row old result = DiffersWhere row.may_lack_memory row.begins row.differs old result
+
+-- all trees, or none, whose contents need no memory
+abbrev pub every_tree : Tree → Bool
+every_tree t = true
+
+abbrev pub no_tree : Tree → Bool
+no_tree t = false
+
+-- a text without a backslash
+abbrev pub plain_text : Tree → Bool
+plain_text (text u plain) = plain
+plain_text _ = false
+
+-- ---- the kinds
+
+abbrev pub null_row : Row (Unit {0})
+null_row = record { IsFault = FaultyNull; convert = unit_of; free = every_tree; begins = λ c. c == 0x6E; ends = codes.EofParsingNull; differs = codes.ExpectedNull; may_lack_memory = false }
+
+abbrev pub bool_row : Row Bool
+bool_row = record { IsFault = FaultyBool; convert = bool_of; free = every_tree; begins = λ c. (c == 0x74) || (c == 0x66); ends = codes.EofParsingBool; differs = codes.ExpectedBool; may_lack_memory = false }
+
+-- a whole number that converts
+abbrev pub whole_row : {C : Type 0} → (ℤ → Option C) → Row C
+whole_row f = record { IsFault = NotNumber (as_whole f); convert = as_number (as_whole f); free = every_tree; begins = λ c. is_sign c || begins_number c; ends = codes.EofParsingNumber; differs = codes.ExpectedNumber; may_lack_memory = true }
+
+-- from 0 to below the bound
+abbrev pub natural_row : ℕ → Row ℕ
+natural_row bound = whole_row (natural_below bound)
+
+-- from the bound's negative to below the bound
+abbrev pub integer_row : ℕ → Row ℤ
+integer_row bound = whole_row (integer_below bound)
+
+abbrev pub decimal_row : Row Decimal
+decimal_row = record { IsFault = NotNumber every_decimal; convert = as_number every_decimal; free = no_tree; begins = λ c. is_sign c || begins_number c; ends = codes.EofParsingNumber; differs = codes.ExpectedNumber; may_lack_memory = true }
+
+-- a text that converts
+abbrev pub text_row : {C : Type 0} → (List ℕ → Bool → Option C) → (Tree → Bool) → Row C
+text_row f free = record { IsFault = NotText f; convert = as_text f; free = free; begins = is_quote; ends = codes.EofParsingString; differs = codes.ExpectedString; may_lack_memory = true }
+
+abbrev pub string_row : Row (List ℕ)
+string_row = text_row every_text no_tree
+
+-- one character
+abbrev pub char_row : Row ℕ
+char_row = text_row one_character no_tree
+
+-- a text without a backslash
+abbrev pub plain_row : Row (List ℕ)
+plain_row = text_row if_plain every_tree
+
+-- a text, and whether it is plain, which then takes no memory
+abbrev pub cow_row : Row (List ℕ × Bool)
+cow_row = text_row every_cow plain_text
+
+-- a value of any kind that is no collection
+abbrev pub any_row : Row Datum
+any_row = record { IsFault = FaultyScalar; convert = datum_of; free = no_tree; begins = begins_scalar; ends = codes.EofParsingValue; differs = codes.ExpectedValue; may_lack_memory = true }
+
+-- ---- the codes, which follow from the law of a read
+
+-- whoever reads such a value gets the code at the end, and that at a character that begins nothing of the kind
+abbrev pub TellsApart : {V C : Type 0} → Row C → (V → C) → Type 0
+TellsApart {V = V} row content = (old new : State) (result : Result V Error) → ReadsAs row content old new result → EndsAs row old result × DiffersAs row old result
+
+-- the bytes of a `String`
+abbrev pub text_bytes : String Global → List ℕ
+text_bytes s = string_bytes s

@@ -1,0 +1,24 @@
+-- Why a whole text is refused.
+use Rattle.std.specs.Prelude.{◌≡◌, ◌⊎◌, ℕ, ◌≤◌, false, List, Option, Some}
+use Rattle.json5_grammar.specs.Documents.{max_depth}
+use Rattle.json5_grammar.specs.Trees.{Tree, depth}
+use Rattle.json5_grammar.specs.Values.{Reads}
+use Rattle.json5_text.specs.declared.error.Error.{Error}
+use Rattle.json5_text.specs.Cursor.{Refused, IsOutOfMemory}
+use Rattle.json5_de.specs.State.{State}
+use Rattle.json5_de.specs.Law.{TookValue}
+use Rattle.json5_de.specs.Faults.{Behind, RefusedBy, Trailing}
+
+-- a reader at the start of the text
+abbrev pub at_start : List ℕ → State
+at_start x = record { input = x; unread = x; level = 0; failed = false }
+
+-- the value is refused, or what stands after one that converts
+pub data RefusesReading {C : Type 0} (convert : Tree → Option C) (refuses : State → Error → State → Type 0) (x : List ℕ) (e : Error) : Type 0 where
+  in_value : (new : State) → refuses (at_start x) e new → RefusesReading convert refuses x e
+  after_value : (t : Tree) (c : C) (new : State) → TookValue (at_start x) t new → convert t ≡ Some c → RefusedBy Trailing new e → RefusesReading convert refuses x e
+
+-- where a value that converts stands in front, the fault is that of what stands after it, want of memory aside
+abbrev pub BlamesRest : {C : Type 0} → (Tree → Option C) → List ℕ → Error → Type 0
+BlamesRest {C = C} convert x e = (t : Tree) (r : List ℕ) (c : C) → Reads x t r → depth t ≤ max_depth → convert t ≡ Some c
+    → IsOutOfMemory e ⊎ Refused (Behind Trailing) (record { input = x; unread = r }) e
