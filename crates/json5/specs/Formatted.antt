@@ -19,11 +19,15 @@ IsScalar (array ts) = ⊥
 IsScalar (object ps) = ⊥
 IsScalar _ = ⊤
 
+-- the bytes are the written text of the tree without its marks
+abbrev pub WritesTree : Tree → List ℕ → Type 0
+WritesTree t bytes = IsText (out 128 (unmarked t) 0) bytes
+
 -- x is a document, the bytes are the written text of its tree without marks, and they are again a document of that tree
 pub record IsFormatted (x bytes : List ℕ) : Type 0 where
   pub tree : Tree
   pub document : Doc 128 x tree
-  pub written : IsText (out 128 (unmarked tree) 0) bytes
+  pub written : WritesTree tree bytes
   pub again : Tree
   pub reads_back : Doc 128 (chars bytes) again
   pub same : unmarked again ≡ unmarked tree

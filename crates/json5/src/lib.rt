@@ -12,9 +12,7 @@ ghost use Rattle.json5_grammar.specs.Trees.{Tree};
 ghost use Rattle.json5_grammar.specs.Documents.{Doc};
 ghost use Rattle.json5_text.specs.Cursor.{IsOutOfMemory};
 ghost use Rattle.json5_ser.specs.Out.{out};
-ghost use Rattle.json5_ser.specs.Marks.{unmarked};
-ghost use Rattle.json5_ser.specs.Texts.{IsText};
-ghost use Rattle.json5.specs.Formatted.{IsScalar, IsFormatted, IsRefused};
+ghost use Rattle.json5.specs.Formatted.{IsScalar, WritesTree, IsFormatted, IsRefused};
 
 pub use json5_de as de;
 pub use json5_de::{Deserialize, Deserializer, SeqAccess, from_str};
@@ -37,7 +35,7 @@ use std::alloc::Global;
 /// array or an object is refused with `ExpectedValue` at its bracket. A fault is that of reading a `Value`.
 pub fn format(alloc: Global, text: &str) -> Result<String>
     ensures formatted { IfOk result (λ s. IsFormatted (chars text.now) (string_bytes s)) }
-    ensures complete { (t : Tree) → Doc 128 (chars text.now) t → IsScalar t → MatchResult result (λ s. IsText (out 128 (unmarked t) 0) (string_bytes s)) IsOutOfMemory }
+    ensures complete { (t : Tree) → Doc 128 (chars text.now) t → IsScalar t → MatchResult result (λ s. WritesTree t (string_bytes s)) IsOutOfMemory }
     ensures refused { IfErr result (IsRefused (chars text.now)) }
 {
     let value = from_str::<Value>(alloc, text)?;

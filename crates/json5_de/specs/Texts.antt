@@ -1,6 +1,6 @@
--- Why a whole text is refused.
-use Rattle.std.specs.Prelude.{◌≡◌, ◌⊎◌, ℕ, ◌≤◌, false, List, Option, Some}
-use Rattle.json5_grammar.specs.Documents.{max_depth}
+-- How a whole text is read, and why it is refused.
+use Rattle.std.specs.Prelude.{◌≡◌, ◌⊎◌, ℕ, ◌≤◌, false, List, Option, Some, Result, MatchResult}
+use Rattle.json5_grammar.specs.Documents.{Doc, max_depth}
 use Rattle.json5_grammar.specs.Trees.{Tree, depth}
 use Rattle.json5_grammar.specs.Values.{Reads}
 use Rattle.json5_text.specs.declared.error.Error.{Error}
@@ -12,6 +12,10 @@ use Rattle.json5_de.specs.Faults.{Behind, RefusedBy, Trailing}
 -- a reader at the start of the text
 abbrev pub at_start : List ℕ → State
 at_start x = record { input = x; unread = x; level = 0; failed = false }
+
+-- a document whose tree converts is read as what it converts to, unless memory runs out
+abbrev pub ReadsDocument : {V C : Type 0} → (V → C) → (Tree → Option C) → List ℕ → Result V Error → Type 0
+ReadsDocument {C = C} content convert x result = (t : Tree) (c : C) → Doc max_depth x t → convert t ≡ Some c → MatchResult result (λ v. content v ≡ c) IsOutOfMemory
 
 -- the value is refused, or what stands after one that converts
 pub data RefusesReading {C : Type 0} (convert : Tree → Option C) (refuses : State → Error → State → Type 0) (x : List ℕ) (e : Error) : Type 0 where

@@ -1,12 +1,11 @@
 //! Reading a whole text.
 
-ghost use Rattle.std.specs.Prelude.{◌≡◌, Some, true, IfOk, IfErr, IsOk, MatchResult};
+ghost use Rattle.std.specs.Prelude.{◌≡◌, Some, true, IfOk, IfErr, IsOk};
 ghost use Rattle.std.specs.Str.{chars};
 ghost use Rattle.json5_grammar.specs.Documents.{Doc, max_depth};
 ghost use Rattle.json5_grammar.specs.Trees.{Tree};
-ghost use Rattle.json5_text.specs.Cursor.{IsOutOfMemory};
 ghost use Rattle.json5_de.specs.Law.{IsUnprompted};
-ghost use Rattle.json5_de.specs.Texts.{RefusesReading, BlamesRest};
+ghost use Rattle.json5_de.specs.Texts.{ReadsDocument, RefusesReading, BlamesRest};
 
 use crate::de::{Deserialize, Deserializer};
 use json5_text::error::Result;
@@ -22,7 +21,7 @@ use std::alloc::Global;
 /// ```
 pub fn from_str<'de, T: Deserialize<&'de str>>(alloc: Global, input: &'de str) -> Result<T>
     ensures sound { IfOk result (λ v. (t : Tree) × Doc max_depth (chars input.now) t × (T.convert t ≡ Some (T.content v))) }
-    ensures complete { (t : Tree) (c : T.Content) → Doc max_depth (chars input.now) t → T.convert t ≡ Some c → MatchResult result (λ v. T.content v ≡ c) IsOutOfMemory }
+    ensures complete { ReadsDocument T.content T.convert (chars input.now) result }
     ensures no_memory { (t : Tree) (c : T.Content) → Doc max_depth (chars input.now) t → T.convert t ≡ Some c → T.free t ≡ true → IsOk result }
     ensures refused { IfErr result (RefusesReading T.convert T.refuses (chars input.now)) }
     ensures after_value { IfErr result (BlamesRest T.convert (chars input.now)) }
