@@ -56,8 +56,3 @@ pub record ReadsValue {V C : Type 0} (content : V → C) (convert : Tree → Opt
   pub same_text : SameText old new
   pub failed : OnErr result (new.failed ≡ true)
   pub before : StaysFailed old new result
-
--- after a refusal the reader has failed for good, and one that had failed before says so
-pub record LeavesFailed (old : State) (e : Error) (new : State) : Type 0 where
-  pub failed : new.failed ≡ true
-  pub before : old.failed ≡ true → (kind_of e ≡ code codes.Failed) × (place_of e ≡ None)
