@@ -38,6 +38,10 @@ CompletesFree {C = C} free convert old result =
 abbrev pub StaysFailed : {V : Type 0} → State → State → Result V Error → Type 0
 StaysFailed old new result = old.failed ≡ true → IsErrAnd result (λ e. (kind_of e ≡ code codes.Failed) × (place_of e ≡ None)) × (new ≡ old)
 
+-- two values that may be given for one text have the same content, and leave the same
+abbrev pub OneAnswer : {V C : Type 0} → (V → C) → (Tree → Option C) → Type 0
+OneAnswer {V = V} content convert = (old new last : State) (v w : V) → Gives content convert old new v → Gives content convert old last w → (content v ≡ content w) × (new ≡ last)
+
 -- the fault isn't that of a reader that had failed
 abbrev pub IsUnprompted : Error → Type 0
 IsUnprompted e = kind_of e ≢ code codes.Failed
