@@ -81,8 +81,8 @@ impl<W: Write + Drop> Serializer<W> {
         self.put_ascii(".0")
     }
 
-    /// Writes the number in plain notation, always with a point; else `Infinity` or `NaN`. A minus
-    /// stands before what is negative, zero too.
+    /// Writes the number in plain notation, always with a point; else `Infinity` or `NaN` (JSON5 section 6). A minus
+    /// stands before what is negative, zero too: `1.5`, `1000.0`, `-0.0`.
     pub fn serialize_decimal(&mut self, value: &Decimal) -> Result<()>
         ensures { WritesTree (number (numbers.decimal value.now)) self.old result self.new }
     {

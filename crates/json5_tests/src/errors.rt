@@ -108,7 +108,7 @@ fn positions_are_printed_from_one(rt: HostRuntime) -> Result<(), Fail> {
     Ok(())
 }
 
-/// A message that refuses after its beginning.
+/// A message that writes its first half and then refuses.
 #[derive(Drop)]
 struct Broken;
 
