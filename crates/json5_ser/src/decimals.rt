@@ -48,7 +48,7 @@ impl<W: Write + Drop> Serializer<W> {
         self.put_ascii(&run[..left])
     }
 
-    /// The digits with a point before the last `places` of them, and zeros where there are no more.
+    /// Writes the digits with a point before the last `places` of them, and zeros where there are fewer.
     fn put_pointed(&mut self, digits: &str, places: usize) -> Result<()>
         requires { Each is_digit digits.now }
         ensures { Writes (piece (pointed digits.now places)) self.old result self.new }
@@ -64,7 +64,7 @@ impl<W: Write + Drop> Serializer<W> {
         self.put_ascii(digits)
     }
 
-    /// The digits times ten to the exponent.
+    /// Writes a finite number without its sign: the digits times ten to the exponent.
     fn put_finite(&mut self, value: &Decimal) -> Result<()>
         ensures { Writes (piece (digits_text (digits_in value.now) (exponent_in value.now))) self.old result self.new }
     {

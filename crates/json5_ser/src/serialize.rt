@@ -20,6 +20,8 @@ pub trait Serialize {
     ///
     /// ```text
     /// impl Serialize for Port {
+    ///     ghost use Rattle.json5_ser.specs.WrittenTrees.{natural};
+    ///
     ///     ghost tree = { λ p. natural p.number };
     ///
     ///     fn serialize<W: Write + Drop>(&self, ser: &mut Serializer<W>) -> Result<()> {

@@ -172,7 +172,7 @@ impl<W: Write + Drop> Serializer<W> {
         self.put_integer(value)
     }
 
-    /// The text with the characters escaped that don't stand for themselves between these quotes.
+    /// Writes the text, the characters escaped that don't stand for themselves between these quotes.
     /// What stands between two escapes is written in one piece.
     fn put_escaped(&mut self, quote: Quote, text: &str) -> Result<()>
         ensures { Writes (piece (escaped_all (delimiter quote) (chars text.now))) self.old result self.new }
