@@ -22,3 +22,5 @@ pub mod OtherCodes
 pub mod Rows
 pub mod OpenClose
 pub mod Next
+pub mod Required
+pub mod ListFaults

@@ -10,5 +10,6 @@ pub mod Options
 pub mod Brackets
 pub mod Access
 pub mod Seq
+pub mod Lists
 pub mod Lending
 pub mod Texts

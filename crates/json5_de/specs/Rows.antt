@@ -1,6 +1,7 @@
 -- The kinds of values that one token makes, and the law of a method that reads one.
 use Rattle.std.specs.Prelude.{Bool, true, false, ℕ, ◌==◌, ◌||◌, List, ℤ, Option, Result}
 use Rattle.std.specs.String.{string_bytes}
+use Rattle.std.specs.Borrow.{Bor}
 use Rattle.std.specs.declared.string.String.{String}
 use Rattle.std.specs.declared.alloc.Global.{Global}
 use Rattle.json5_grammar.specs.declared.code.ErrorCode.{ErrorCode}
@@ -11,7 +12,7 @@ use Rattle.json5_grammar.specs.Strings.{is_quote}
 use Rattle.json5_grammar.specs.Trees.{Tree, text}
 use Rattle.json5_text.specs.declared.error.Error.{Error}
 use Rattle.json5_text.specs.ValueViews.{Datum}
-use Rattle.json5_de.specs.State.{State, SameText}
+use Rattle.json5_de.specs.State.{State}
 use Rattle.json5_de.specs.Law.{ReadsValue}
 use Rattle.json5_de.specs.Convert.{unit_of, bool_of, as_number, as_whole, natural_below, integer_below, every_decimal, as_text, every_text, if_plain, every_cow, one_character, datum_of}
 use Rattle.json5_de.specs.Faults.{FaultRelation, RefusedBy, RefusedByOrMemory, FaultyNull, FaultyBool, NotNumber, NotText, EndsWith, EndsWithOrMemory, DiffersWith, DiffersWithOrMemory}
@@ -32,9 +33,9 @@ abbrev pub RefusedWith : Bool → FaultRelation → State → Error → Type 0
 RefusedWith false IsFault old e = RefusedBy IsFault old e
 RefusedWith true IsFault old e = RefusedByOrMemory IsFault old e
 
--- refused with a fault of the kind, over the same text
+-- refused with a fault of the kind
 abbrev pub RefusedAs : {C : Type 0} → Row C → State → Error → State → Type 0
-RefusedAs row old e new = RefusedWith row.may_lack_memory row.IsFault old e × SameText old new
+RefusedAs row old e new = RefusedWith row.may_lack_memory row.IsFault old e
 
 -- one value of the kind is read from the front
 abbrev pub ReadsAs : {V C : Type 0} → Row C → (V → C) → State → State → Result V Error → Type 0
@@ -123,3 +124,7 @@ TellsApart {V = V} row content = (old new : State) (result : Result V Error) →
 -- the bytes of a `String`
 abbrev pub text_bytes : String Global → List ℕ
 text_bytes s = string_bytes s
+
+-- the bytes of a `&str`
+abbrev pub slice_bytes : Bor (List ℕ) → List ℕ
+slice_bytes s = s.now

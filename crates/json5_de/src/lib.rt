@@ -6,6 +6,7 @@ mod brackets;
 mod de;
 mod decimals;
 mod integers;
+mod laws;
 mod lists;
 mod mismatch;
 mod option;
@@ -17,6 +18,6 @@ mod tuples;
 mod types;
 
 pub use de::{Deserialize, Deserializer};
-pub use scalars::value_codes;
+pub use laws::{one_answer, value_codes};
 pub use seq::SeqAccess;
 pub use text::from_str;

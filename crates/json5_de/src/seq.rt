@@ -7,11 +7,12 @@ ghost use Rattle.json5_grammar.specs.Characters.{NotBegun};
 ghost use Rattle.json5_grammar.specs.Trees.{Trees};
 ghost use Rattle.json5_grammar.specs.Members.{IsEnd, GoesNowhere};
 ghost use Rattle.json5_text.specs.Cursor.{Refused};
-ghost use Rattle.json5_de.specs.State.{SameText, cursor_of};
+ghost use Rattle.json5_de.specs.State.{SameText, GivesUp, cursor_of};
 ghost use Rattle.json5_de.specs.Faults.{RefusedBy, IsUnplaced};
 ghost use Rattle.json5_de.specs.Brackets.{AreSigns};
 ghost use Rattle.json5_de.specs.Law.{Unprompted};
 ghost use Rattle.json5_de.specs.Access.{bare, Closed, OpensAs, OpensArray, ClosesArray, GivesElement, CompletesElement, CompletesClose, PlacedAtBracket, Unawaited, NotClosed, ElementsLeft, ReadsMore, LeavesFewer};
+ghost use Rattle.json5_de.specs.Lists.{IsTooShort, LeavesOthers, RefusesRequired};
 ghost use Rattle.json5_de.specs.Seq.{TookClosing, RefusesClosing, GoesOn, NoNext, RefusesElement, RefusesNext};
 
 use crate::brackets::Brackets;
@@ -19,6 +20,7 @@ use crate::de::{Deserialize, Deserializer};
 use json5_text::ErrorCode;
 use json5_text::error::{Error, Result};
 use json5_text::input::Input;
+use std::alloc::Global;
 
 /// The elements of an array, one after another. The reader that lends itself stands as failed until `end`, and for good where
 /// the access is dropped or leaked before.
@@ -66,7 +68,7 @@ impl<I: Input> Deserializer<I> {
     fn open(&mut self, brackets: Brackets) -> Result<usize>
         requires { AreSigns brackets }
         ensures opens { OpensAs brackets (λ start. record { reader = self.new; start = start; due = false }) self.old result }
-        ensures failed { OnErr result (self.new.failed ≡ true) }
+        ensures failed { OnErr result (GivesUp self.old self.new) }
     {
         self.begin()?;
         let start = self.offset();
@@ -91,7 +93,8 @@ impl<I: Input> Deserializer<I> {
     /// Goes to the next element of an array and says true, or to the closing bracket and says false.
     fn goes_on(&mut self, due: bool) -> Result<bool>
         ensures sound { IfOk result (λ more. GoesOn due self.old self.new more) }
-        ensures refused { IfErr result (λ e. RefusedBy (NoNext due) self.old e × SameText self.old self.new) }
+        ensures refused { IfErr result (RefusedBy (NoNext due) self.old) }
+        ensures same_text { SameText self.old self.new }
         ensures nowhere { OnErr result (self.old.failed ≡ false → GoesNowhere due self.old.unread) }
         ensures unprompted { Unprompted self.old result }
         ensures before { self.old.failed ≡ true → IsErrAnd result (IsUnplaced codes.Failed) }
@@ -116,6 +119,7 @@ impl<I: Input> Deserializer<I> {
         ensures complete { CompletesElement T.convert (bare self.old due) result }
         ensures closing { CompletesClose (bare self.old due) result }
         ensures cause { IfErr result (λ e. RefusesElement T.refuses due self.old e self.new) }
+        ensures same_text { SameText self.old self.new }
         ensures unprompted { Unprompted self.old result }
         ensures before { self.old.failed ≡ true → IsErrAnd result (IsUnplaced codes.Failed) }
     {
@@ -130,6 +134,7 @@ impl<I: Input> Deserializer<I> {
     fn bracket(&mut self, brackets: Brackets) -> Result<()>
         ensures taken { OnOk result (TookClosing brackets self.old self.new) }
         ensures refused { IfErr result (RefusesClosing brackets self.old) }
+        ensures same_text { SameText self.old self.new }
     {
         if !self.eat(brackets.closing) {
             return Err(self.unawaited(brackets.ends, brackets.not_closed));
@@ -143,6 +148,7 @@ impl<I: Input> Deserializer<I> {
         requires { AreSigns brackets }
         ensures closed { OnOk result (Closed brackets due self.old self.new) }
         ensures refused { IfErr result (RefusedBy (NotClosed brackets due) self.old) }
+        ensures same_text { SameText self.old self.new }
         ensures complete { (r : List ℕ) → self.old.failed ≡ false → IsEnd brackets.closing due self.old.unread r → IsOk result }
         ensures before { self.old.failed ≡ true → IsErrAnd result (IsUnplaced codes.Failed) }
     {
@@ -213,6 +219,7 @@ impl<'a, I: Input> SeqAccess<'a, I> {
         ensures complete { CompletesElement T.convert (seen self.old) result }
         ensures closing { CompletesClose (seen self.old) result }
         ensures start { (seen self.new).start ≡ (seen self.old).start }
+        ensures same_text { SameText (seen self.old).reader (seen self.new).reader }
         ensures shorter { IfOk result (λ o. IfSome o (λ v. length (seen self.new).reader.unread < length (seen self.old).reader.unread)) }
         ensures refused { RefusesNext T.refuses (seen self.old) (seen self.new) result }
         ensures read { IfOk result (ReadsMore T.content T.convert (seen self.old) (seen self.new)) }
@@ -231,6 +238,41 @@ impl<'a, I: Input> SeqAccess<'a, I> {
                 self.failed = true;
                 Err(self.place(e))
             }
+        }
+    }
+
+    /// The element at this place of a list of so many. Where the list ends before it, that is refused with a text of its own at
+    /// the opening bracket.
+    pub(crate) fn required<T: Deserialize<I>>(
+        &mut self,
+        alloc: Global,
+        place: usize,
+        expected: &str,
+        size: usize,
+    ) -> Result<T>
+        ensures same_reference { HoldsTheSame self.old self.new }
+        ensures blocks { BlocksReader self.new }
+        ensures start { (seen self.new).start ≡ (seen self.old).start }
+        ensures same_text { SameText (seen self.old).reader (seen self.new).reader }
+        ensures read { IfOk result (λ v. ReadsMore T.content T.convert (seen self.old) (seen self.new) (Some v)) }
+        ensures left { LeavesOthers T.content T.convert (seen self.old) (seen self.new) result }
+        ensures refused { IfErr result (λ e. (seen self.old).reader.failed ≡ false → RefusesRequired T.refuses (seen self.old) e) }
+        ensures unprompted { Unprompted (seen self.old).reader result }
+    {
+        match self.next_element::<T>()? {
+            Some(item) => Ok(item),
+            None => Err(self.too_short(alloc, place, expected, size)),
+        }
+    }
+
+    /// The fault of a list that ended too early, at its bracket.
+    fn too_short(&self, alloc: Global, length: usize, expected: &str, size: usize) -> Error
+        ensures { IsTooShort (seen self.now) result }
+    {
+        let message = format_args!("invalid length {length}, expected {expected} {size}");
+        match Error::custom(alloc, message) {
+            Ok(error) => self.place(error),
+            Err(error) => self.place(error),
         }
     }
 
