@@ -32,11 +32,12 @@ pub use json5_text::value::Value;
 pub use json5_text::whole::Whole;
 use std::alloc::Global;
 
-/// A document written again, without its comments, each number and each text in its one spelling. No line feed stands at the end.
+/// A document written again, without its comments, each number and each text in its one spelling. No line feed stands at
+/// the end.
 ///
 /// It is Ok exactly when the text is a document, unless memory runs out. Today that is said of documents that are one scalar: an
-/// array or an object is refused with `ExpectedValue` at its bracket. A fault is that of reading a `Value`, its place counted from
-/// 0 in the text.
+/// array or an object is refused with `ExpectedValue` at its bracket. A fault is that of reading a `Value`, its place counted
+/// from 0 in the text.
 ///
 /// ```text
 /// json5::format(alloc, " +0x1F90 // in hexadecimal")?    // 8080

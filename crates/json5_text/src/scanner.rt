@@ -133,8 +133,8 @@ impl<I: Input> Scanner<I> {
     /// not-a-number take no memory.
     ///
     /// The fault is
-    /// - `ExpectedNumber` at a character that begins no number, after a sign too, or that differs from `Infinity` or `NaN`, or is no
-    ///   hexadecimal digit after `0x`;
+    /// - `ExpectedNumber` at a character that begins no number, after a sign too, or that differs from `Infinity` or `NaN`, or is
+    ///   no hexadecimal digit after `0x`;
     /// - `EofParsingNumber` without a place where the text ends there;
     /// - `LeadingZero` at the start where a digit follows a first `0`;
     /// - `OverflowParsingNumber` at the hexadecimal digit that takes the number past 128 bits, or at the start where a decimal's
@@ -249,14 +249,14 @@ impl<I: Input> Scanner<I> {
 }
 
 impl<'de, I: Borrows<'de>> Scanner<I> {
-    /// Takes a string and gives its text, borrowed where the string holds no backslash, which then takes no memory (JSON5 section
-    /// 5, ECMAScript 5.1 section 7.8.4).
+    /// Takes a string and gives its text, borrowed where the string holds no backslash, which then takes no memory (JSON5
+    /// section 5, ECMAScript 5.1 section 7.8.4).
     ///
     /// The fault is
     /// - `ExpectedString` at a character that is no quote;
     /// - `LineTerminatorInString` at an LF or CR without a backslash;
-    /// - `InvalidEscapeSequence` at the backslash of a faulty escape, of two the first one's; or, where a second `\u` must follow that
-    ///   of a surrogate, at the character that stands in place of its `\` or `u`;
+    /// - `InvalidEscapeSequence` at the backslash of a faulty escape, of two the first one's; or, where a second `\u` must follow
+    ///   that of a surrogate, at the character that stands in place of its `\` or `u`;
     /// - a custom fault at the first backslash of two `\u` escapes that are no pair of surrogates;
     /// - `EofParsingString` or, in an escape, `EofParsingEscapeSequence`, without a place, where the text ends.
     pub fn string(&mut self) -> Result<CowStr<'de>>
@@ -274,9 +274,10 @@ impl<'de, I: Borrows<'de>> Scanner<I> {
     /// memory (JSON5 section 3, ECMAScript 5.1 section 7.6). A character must follow it: an identifier ends no text.
     ///
     /// The fault is
-    /// - `ExpectedIdentifier` at a character that may not begin one, or at the backslash of an escape whose character may not stand
-    ///   there;
-    /// - `InvalidEscapeSequence` at the character after a backslash that is no `u`, and the faults of `\u` escapes as in `string`;
+    /// - `ExpectedIdentifier` at a character that may not begin one, or at the backslash of an escape whose character may not
+    ///   stand there;
+    /// - `InvalidEscapeSequence` at the character after a backslash that is no `u`, and the faults of `\u` escapes as in
+    ///   `string`;
     /// - `EofParsingIdentifier` or, in a `\u` escape, `EofParsingEscapeSequence`, without a place, where the text ends.
     pub fn identifier(&mut self) -> Result<CowStr<'de>>
         ensures { TakesName self.old self.new result }
