@@ -44,7 +44,7 @@ fn write_report<E: Write>(name: &str, stop: &Stop, e: &mut E) -> io::Result<()>
     }
 }
 
-/// Writes what the error prints, without memory.
+/// Writes what the fault prints, without memory.
 fn write_fault<E: Write>(name: &str, error: &Error, e: &mut E) -> io::Result<()>
     ensures { Pushes (E.contents e.old) (E.contents e.new) (fault_line name.now error.now) result }
 {

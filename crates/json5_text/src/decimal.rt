@@ -150,7 +150,7 @@ impl Decimal {
 
     /// The finite number with these digits times ten to the exponent. None where `digits` holds anything but
     /// ASCII digits, or where the exponent is outside -32768 to 32767 once the outer zeros are gone: each zero
-    /// that goes at the end raises it by one, and zero has the exponent 0. The only error is `OutOfMemory`.
+    /// that goes at the end raises it by one, and zero has the exponent 0. The only fault is `OutOfMemory`.
     ///
     /// ```text
     /// Decimal::finite(alloc, false, "0150", -2)    // 1.5: the digits 15, the exponent -1
@@ -212,7 +212,7 @@ impl Decimal {
         }
     }
 
-    /// The same number. The only error is `OutOfMemory`.
+    /// The same number. The only fault is `OutOfMemory`.
     pub fn clone(&self, alloc: Global) -> Result<Decimal>
         ensures { MatchResult result (λ d. d ≡ self.now) LacksMemory }
     {
