@@ -8,6 +8,8 @@ mod errors;
 #[cfg(test)]
 mod readers;
 #[cfg(test)]
+mod readme;
+#[cfg(test)]
 mod values;
 #[cfg(test)]
 mod writers;
