@@ -22,3 +22,4 @@ pub mod OtherCodes
 pub mod Rows
 pub mod OpenClose
 pub mod Next
+pub mod Own

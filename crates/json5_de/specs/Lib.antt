@@ -12,3 +12,4 @@ pub mod Access
 pub mod Seq
 pub mod Lending
 pub mod Texts
+pub mod Own

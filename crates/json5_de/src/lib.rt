@@ -9,6 +9,7 @@ mod integers;
 mod lists;
 mod mismatch;
 mod option;
+mod reading;
 mod scalars;
 mod seq;
 mod text;
@@ -17,6 +18,7 @@ mod tuples;
 mod types;
 
 pub use de::{Deserialize, Deserializer};
+pub use reading::read;
 pub use scalars::value_codes;
 pub use seq::SeqAccess;
 pub use text::from_str;
