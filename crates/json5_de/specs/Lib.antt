@@ -13,3 +13,4 @@ pub mod Seq
 pub mod Lending
 pub mod Texts
 pub mod Own
+pub mod Spans
