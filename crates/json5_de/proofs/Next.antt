@@ -10,8 +10,7 @@ use Rattle.json5_text.specs.declared.error.Error.{Error}
 use Rattle.json5_text.specs.Errors.{code, kind_of, place_of, or_place}
 use Rattle.json5_de.specs.State.{State, OnlyRead, SameText}
 use Rattle.json5_de.specs.Faults.{AtEnd, AtOther, IsUnplaced, IsBehind}
-use Rattle.json5_de.specs.Access.{Seen, bare, Opened, TookElement, AtClose, GivesElement, StartsBehind, IsAtBracket, is_comma_or_closing}
-use Rattle.json5_de.specs.Options.{PlacedAt}
+use Rattle.json5_de.specs.Access.{Seen, bare, Opened, TookElement, AtClose, GivesElement, StartsBehind, PlacedAtBracket, IsAtBracket, is_comma_or_closing}
 use Rattle.json5_de.specs.Brackets.{square}
 use Rattle.json5_de.specs.Seq.{RefusesElement, not_reached, in_element, RefusesNext}
 use Rattle.json5_de.proofs.Awaited.{end_fault, other_fault}
@@ -88,7 +87,7 @@ place_kept : (own e : Error) (p q : Position) → place_of e ≡ or_place (place
 place_kept own e p q is k = is ∙ ap (λ o. or_place o p) k
 
 pub refuses_next : {V : Type 0} (refuses : State → Error → State → Type 0) (old new : Seen) (after : State) (own e : Error) → RefusesElement refuses old.due old.reader own after → (old.reader.failed ≡ false → kind_of own ≢ code codes.Failed)
-    → (old.reader.failed ≡ true → IsUnplaced codes.Failed own) → PlacedAt (λ before. SameText old.reader after × StartsBehind old.reader.input old.start before) own e → new.reader.failed ≡ true → RefusesNext {V = V} refuses old new (Err e)
+    → (old.reader.failed ≡ true → IsUnplaced codes.Failed own) → PlacedAtBracket old own e → new.reader.failed ≡ true → RefusesNext {V = V} refuses old new (Err e)
 refuses_next refuses old new after own e cause other before p failed = record {
   cause = λ live. record { own = own; after = after; cause = cause; placed = p };
   placed = λ none. or_some (place_of own) p.there (sym p.place ∙ none);
@@ -100,11 +99,11 @@ refuses_next refuses old new after own e cause other before p failed = record {
 }
   where
     at_end : RefusesElement refuses old.due old.reader own after → old.due ≡ true → AtEnd old.reader → (kind_of e ≡ code codes.EofParsingArray) × IsAtBracket old e
-    at_end (not_reached f same) d at = let (says, none) = end_fault (awaits_more old.due) old.reader own at f in (p.kind ∙ says, λ b s. p.place ∙ ap (λ o. or_place o p.there) none ∙ ap Some (p.is_there b (same, s)))
+    at_end (not_reached f) d at = let (says, none) = end_fault (awaits_more old.due) old.reader own at f in (p.kind ∙ says, λ b s. p.place ∙ ap (λ o. or_place o p.there) none ∙ ap Some (p.is_there b s))
     at_end (in_element start there k) d at = absurd (end_goes_nowhere old.due true old.reader start d at there)
 
     at_other : RefusesElement refuses old.due old.reader own after → old.due ≡ true → (w : List ℕ) → AtOther is_comma_or_closing old.reader w → IsBehind codes.ExpectedComma old.reader w e
-    at_other (not_reached f same) d w o = let (says, placed) = other_fault (awaits_more old.due) old.reader own w o f in (p.kind ∙ says, λ b split. place_kept own e p.there _ p.place (placed b split))
+    at_other (not_reached f) d w o = let (says, placed) = other_fault (awaits_more old.due) old.reader own w o f in (p.kind ∙ says, λ b split. place_kept own e p.there _ p.place (placed b split))
     at_other (in_element start there k) d w o = absurd (other_goes_nowhere old.due true old.reader start w d o there)
 
 -- the bracket stands where it stood, since the text is the same

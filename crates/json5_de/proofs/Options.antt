@@ -29,7 +29,7 @@ use Rattle.json5_de.specs.Steps.{PassedGap}
 use Rattle.json5_de.specs.Access.{Unawaited, at_end, at_char}
 use Rattle.json5_de.proofs.Awaited.{Awaited}
 use Rattle.json5_de.proofs.Arrays.{only_read, level_of, no_bool}
-use Rattle.json5_de.proofs.Taken.{refused_token}
+use Rattle.json5_de.proofs.Taken.{input_of, refused_token}
 use Rattle.json5_de.proofs.OtherCodes.{option_lacks}
 use Rattle.json5_de.proofs.Rows.{refused_other}
 
@@ -205,6 +205,7 @@ module _ {V C : Type 0} (content : V → C) (convert : Tree → Option C) (free 
     no_memory = λ t r c live reads shallow converts f. refl;
     refused = tt;
     unprompted = tt;
+    same_text = input_of took.rest;
     failed = tt;
     before = λ h. absurd (no_bool h took.live);
   }
@@ -216,17 +217,18 @@ module _ {V C : Type 0} (content : V → C) (convert : Tree → Option C) (free 
     sound = tt;
     complete = λ t r c live reads shallow converts. absurd (nothing t r live reads);
     no_memory = λ t r c live reads shallow converts free. absurd (nothing t r live reads);
-    refused = λ live. inl (f live, failed.same_text);
+    refused = λ live. inl (f live);
     unprompted = refused_other option_lacks old e f;
+    same_text = failed.same_text;
     failed = failed.failed;
     before = before;
   }
 
   -- T refuses
   pub refuses_some : (old start after new : State) (own e : Error) (c : ℕ) (m : List ℕ) → PassedGap old start → start.unread ≡ c ∷ m → (c == 110) ≡ false → refuses start own after → Completes {V = V} convert start (Err own)
-      → CompletesFree {V = V} free convert start (Err own) → Unprompted {V = V} start (Err own) → new ≡ record after { failed = true }
-      → PlacedAt (λ before. SameText start after × (start.input ≡ before ++ start.unread)) own e → ReadsOption old new (Err e)
-  refuses_some old start after new own e c m p next no_null cause complete no_memory other left placed = record {
+      → CompletesFree {V = V} free convert start (Err own) → Unprompted {V = V} start (Err own) → SameText start after → new ≡ record after { failed = true }
+      → PlacedAt (λ before. start.input ≡ before ++ start.unread) own e → ReadsOption old new (Err e)
+  refuses_some old start after new own e c m p next no_null cause complete no_memory other same left placed = record {
     sound = tt;
     complete = λ t r v live reads shallow converts. let (k, is) = option_parts convert t v (is_no_null t r reads) converts in placed.kind ∙ complete t r k (at_start live) (there t r reads) (deep t shallow) is;
     no_memory = λ t r v live reads shallow converts is_free.
@@ -234,6 +236,7 @@ module _ {V C : Type 0} (content : V → C) (convert : Tree → Option C) (free 
         absurd (false≢true (no_memory t r k (at_start live) (there t r reads) (deep t shallow) is (option_is_free free t (is_no_null t r reads) is_free)));
     refused = λ live. inr (record { start = start; passed = p; char = c; more = m; begins = next; no_null = no_null; own = own; after = after; cause = cause; left = left; placed = placed });
     unprompted = λ live k. other (at_start live) (sym placed.kind ∙ k);
+    same_text = input_of left ∙ same ∙ input_of p.rest;
     failed = ap (λ (s : State). s.failed) left;
     before = λ h. absurd (no_bool h p.live);
   }

@@ -85,6 +85,7 @@ reads_ok row content old new v (t, took, is) = record {
   no_memory = λ t r c live reads shallow is free. refl;
   refused = tt;
   unprompted = tt;
+  same_text = input_of took.rest;
   failed = tt;
   before = λ f. true_false_state old f took.live;
 }
@@ -96,8 +97,9 @@ reads_err {V = V} {row = row} l content old new e free k failed before = record 
   sound = tt;
   complete = completes_or_memory {V = V} l.awaited old (Err e) (or_memory_as row.may_lack_memory old e k);
   no_memory = free;
-  refused = (k, failed.same_text);
+  refused = k;
   unprompted = unprompted_from {V = V} l.lacks row.may_lack_memory old (Err e) k;
+  same_text = failed.same_text;
   failed = failed.failed;
   before = before;
 }
@@ -171,8 +173,8 @@ pub narrower : {V W C : Type 0} (f : ℤ → Option C) (wide : V → ℤ) (conte
 narrower {C = C} f wide content old new e k =
     reads_err (lawful_whole f) content old new e
     (λ t r v live reads shallow converts free. let (z, is) = some_whole t v converts in k.no_memory t r z live reads shallow is refl)
-    (narrowed k.refused.0)
-    (record { failed = k.failed; same_text = k.refused.1 })
+    (narrowed k.refused)
+    (record { failed = k.failed; same_text = k.same_text })
     k.before
   where
     some_number : (n : Number) (v : C) → as_whole f n ≡ Some v → (z : ℤ) × (as_whole (λ x. Some x) n ≡ Some z)
@@ -271,7 +273,7 @@ Answers m F convert content old new result = IfOk result (λ v. Gives content co
 
 answers : {V C : Type 0} (row : Row C) (content : V → C) (old new : State) (result : Result V Error) → ReadsAs row content old new result → Answers row.may_lack_memory row.IsFault row.convert content old new result
 answers row content old new (Ok v) k = (k.sound, tt)
-answers row content old new (Err e) k = (tt, k.refused.0)
+answers row content old new (Err e) k = (tt, k.refused)
 
 ends_as : {V C : Type 0} {row : Row C} → IsLawful row → (m : Bool) → row.may_lack_memory ≡ m → (content : V → C) (old new : State) (result : Result V Error) → Answers m row.IsFault row.convert content old new result → EndsWhere m row.ends old result
 ends_as l false e content old new result k = ends_from l.awaited content old new result k.0 k.1

@@ -12,7 +12,7 @@ use Rattle.json5_grammar.specs.Values.{Reads}
 use Rattle.json5_grammar.specs.Members.{IsSign, IsEnd, Opens, IsElement, IsClose, IsAtClose, Passed, Tail, snoc}
 use Rattle.json5_text.specs.declared.error.Error.{Error}
 use Rattle.json5_text.specs.Errors.{place_of}
-use Rattle.json5_de.specs.State.{State, OnlyRead}
+use Rattle.json5_de.specs.State.{State, OnlyRead, SameText}
 use Rattle.json5_text.specs.Cursor.{IsOutOfMemory}
 use Rattle.json5_de.specs.Law.{IsOkOrMemory, TookValue, Unprompted}
 use Rattle.json5_de.specs.Options.{PlacedAt}
@@ -204,12 +204,14 @@ pub record ClosesAs (b : Brackets) (due : Bool) (old new : State) (result : Resu
 -- an array is opened: nothing was read of it, and where one can be read its elements are left
 pub record OpensArray {A : Type 0} (seen : A → Seen) (old : State) (result : Result A Error) : Type 0 where
   pub bracket : OpensAs square seen old result
+  pub same_text : IfOk result (λ a. SameText old (seen a).reader)
   pub read : IfOk result (λ a. ElementsRead old no_more (seen a))
   pub left : (ts : Trees) (r : List ℕ) → old.failed ≡ false → Reads old.unread (array ts) r → old.level + depth (array ts) ≤ max_depth → IsOkAnd result (λ a. ElementsLeft ts r (seen a))
 
 -- an array is closed: the elements that were read are all of it
 pub record ClosesArray (old : Seen) (new : State) (result : Result (Unit {0}) Error) : Type 0 where
   pub bracket : ClosesAs square old.due old.reader new result
+  pub same_text : SameText old.reader new
   pub failed : OnErr result (new.failed ≡ true)
   pub read : OnOk result ((from : State) (ts : Trees) → ElementsRead from ts old → TookValue from (array ts) new)
   pub left : (r : List ℕ) → ElementsLeft no_more r old → IsOk result

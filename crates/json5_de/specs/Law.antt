@@ -7,7 +7,7 @@ use Rattle.json5_grammar.specs.Documents.{max_depth}
 use Rattle.json5_text.specs.declared.error.Error.{Error}
 use Rattle.json5_text.specs.Errors.{code, kind_of, place_of}
 use Rattle.json5_text.specs.Cursor.{IsOutOfMemory}
-use Rattle.json5_de.specs.State.{State, OnlyRead}
+use Rattle.json5_de.specs.State.{State, OnlyRead, SameText}
 
 -- one value of the tree t was read, blanks before it included, and nothing else happened
 pub record TookValue (old : State) (t : Tree) (new : State) : Type 0 where
@@ -53,6 +53,7 @@ pub record ReadsValue {V C : Type 0} (content : V → C) (convert : Tree → Opt
   pub no_memory : CompletesFree free convert old result
   pub refused : IfErr result (λ e. refuses old e new)
   pub unprompted : Unprompted old result
+  pub same_text : SameText old new
   pub failed : OnErr result (new.failed ≡ true)
   pub before : StaysFailed old new result
 

@@ -2,7 +2,7 @@
 use Rattle.std.specs.Prelude.{◌≡◌, true, Result}
 use Rattle.std.specs.Borrow.{Fml, RattleType, MutBor, RestsIfErr}
 use Rattle.json5_text.specs.declared.input.Input as input
-use Rattle.json5_de.specs.State.{State}
+use Rattle.json5_de.specs.State.{State, GivesUp}
 use Rattle.json5_de.specs.Access.{Seen}
 use Rattle.json5_de.specs.declared.seq.SeqAccess.{SeqAccess}
 use Rattle.json5_de.specs.contracts.de.Deserializer.{the_row}
@@ -24,6 +24,6 @@ module _ {I : Type 0} where
   BlocksReader s = s.de.now.failed ≡ true
 
 module _ (I : RattleType) (g : input.Ghosts I.Denot) where
-  -- the reader ends as the access leaves it, and after a refusal as failed
+  -- the reader ends as the access leaves it, and after a refusal it has given up
   abbrev pub lends_reader : {E : Type 0} → MutBor State → Result (SeqAccess I.Denot) E → Fml
-  lends_reader reader result = RestsIfErr (the_row I g) reader (λ s. s.de.ghost_name) result (λ n. n.failed ≡ true)
+  lends_reader reader result = RestsIfErr (the_row I g) reader (λ s. s.de.ghost_name) result (λ n. GivesUp reader.now n)

@@ -8,7 +8,7 @@ use Rattle.json5_grammar.specs.Trees.{Tree, null, boolean, number, text, array, 
 use Rattle.json5_text.specs.declared.error.Error.{Error}
 use Rattle.json5_text.specs.Errors.{kind_of, place_of, or_place}
 use Rattle.json5_text.specs.Cursor.{Refused}
-use Rattle.json5_de.specs.State.{State, cursor_of, SameText}
+use Rattle.json5_de.specs.State.{State, cursor_of}
 use Rattle.json5_de.specs.Steps.{PassedGap}
 use Rattle.json5_de.specs.Faults.{Behind, FaultyNull}
 
@@ -45,11 +45,11 @@ pub record RefusedInside (refuses : State → Error → State → Type 0) (old :
   pub after : State
   pub cause : refuses start own after
   pub left : new ≡ record after { failed = true }
-  pub placed : PlacedAt (λ before. SameText start after × (start.input ≡ before ++ start.unread)) own e
+  pub placed : PlacedAt (λ before. start.input ≡ before ++ start.unread) own e
 
 -- why an option is refused
 abbrev pub RefusesOption : (State → Error → State → Type 0) → State → Error → State → Type 0
-RefusesOption refuses old e new = old.failed ≡ false → (Refused (Behind NoOption) (cursor_of old) e × SameText old new) ⊎ RefusedInside refuses old e new
+RefusesOption refuses old e new = old.failed ≡ false → Refused (Behind NoOption) (cursor_of old) e ⊎ RefusedInside refuses old e new
 
 -- a reader that hasn't failed refuses as T does, and has failed
 abbrev pub RefusesLive : (State → Error → State → Type 0) → State → Error → State → Type 0

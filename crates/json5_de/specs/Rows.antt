@@ -11,7 +11,7 @@ use Rattle.json5_grammar.specs.Strings.{is_quote}
 use Rattle.json5_grammar.specs.Trees.{Tree, text}
 use Rattle.json5_text.specs.declared.error.Error.{Error}
 use Rattle.json5_text.specs.ValueViews.{Datum}
-use Rattle.json5_de.specs.State.{State, SameText}
+use Rattle.json5_de.specs.State.{State}
 use Rattle.json5_de.specs.Law.{ReadsValue}
 use Rattle.json5_de.specs.Convert.{unit_of, bool_of, as_number, as_whole, natural_below, integer_below, every_decimal, as_text, every_text, if_plain, every_cow, one_character, datum_of}
 use Rattle.json5_de.specs.Faults.{FaultRelation, RefusedBy, RefusedByOrMemory, FaultyNull, FaultyBool, NotNumber, NotText, EndsWith, EndsWithOrMemory, DiffersWith, DiffersWithOrMemory}
@@ -32,9 +32,9 @@ abbrev pub RefusedWith : Bool → FaultRelation → State → Error → Type 0
 RefusedWith false IsFault old e = RefusedBy IsFault old e
 RefusedWith true IsFault old e = RefusedByOrMemory IsFault old e
 
--- refused with a fault of the kind, over the same text
+-- refused with a fault of the kind
 abbrev pub RefusedAs : {C : Type 0} → Row C → State → Error → State → Type 0
-RefusedAs row old e new = RefusedWith row.may_lack_memory row.IsFault old e × SameText old new
+RefusedAs row old e new = RefusedWith row.may_lack_memory row.IsFault old e
 
 -- one value of the kind is read from the front
 abbrev pub ReadsAs : {V C : Type 0} → Row C → (V → C) → State → State → Result V Error → Type 0

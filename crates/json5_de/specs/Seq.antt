@@ -10,12 +10,11 @@ use Rattle.json5_text.specs.Cursor.{Refused}
 use Rattle.json5_text.specs.Tokens.{FaultyBlanks}
 use Rattle.json5_text.specs.declared.error.Error.{Error}
 use Rattle.json5_text.specs.Errors.{code, kind_of}
-use Rattle.json5_de.specs.State.{State, OnlyRead, SameText, cursor_of}
+use Rattle.json5_de.specs.State.{State, OnlyRead, cursor_of}
 use Rattle.json5_de.specs.declared.brackets.Brackets.{Brackets}
 use Rattle.json5_de.specs.Law.{Unprompted}
 use Rattle.json5_de.specs.Faults.{RefusedBy, AtEnd, DiffersWith}
-use Rattle.json5_de.specs.Options.{PlacedAt}
-use Rattle.json5_de.specs.Access.{Seen, AtClose, Unawaited, HasPlace, StartsBehind, IsAtBracket, is_comma_or_closing}
+use Rattle.json5_de.specs.Access.{Seen, AtClose, Unawaited, HasPlace, PlacedAtBracket, IsAtBracket, is_comma_or_closing}
 
 -- y is what stands behind the gap in front of x
 pub record IsBehindGap (x y : List ℕ) : Type 0 where
@@ -56,7 +55,7 @@ pub data NoNext (due : Bool) : List ℕ → Option ErrorCode → Option (List �
 
 -- the fault of a call for an element: none was reached, or the element's own
 pub data RefusesElement (refuses : State → Error → State → Type 0) (due : Bool) (old : State) (e : Error) (after : State) : Type 0 where
-  not_reached : RefusedBy (NoNext due) old e → SameText old after → RefusesElement refuses due old e after
+  not_reached : RefusedBy (NoNext due) old e → RefusesElement refuses due old e after
   in_element : (start : State) → AtElement due old start → refuses start e after → RefusesElement refuses due old e after
 
 -- the element's fault, at the opening bracket where it had no place
@@ -64,7 +63,7 @@ pub record RefusedAtBracket (refuses : State → Error → State → Type 0) (ol
   pub own : Error
   pub after : State
   pub cause : RefusesElement refuses old.due old.reader own after
-  pub placed : PlacedAt (λ before. SameText old.reader after × StartsBehind old.reader.input old.start before) own e
+  pub placed : PlacedAtBracket old own e
 
 -- how a call for an element refuses: a fault without a place gets the opening bracket's
 pub record RefusesNext {V : Type 0} (refuses : State → Error → State → Type 0) (old new : Seen) (result : Result V Error) : Type 0 where

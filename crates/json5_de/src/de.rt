@@ -9,7 +9,7 @@ ghost use Rattle.json5_text.specs.Cursor.{Refused, IsPlaced};
 ghost use Rattle.json5_text.specs.Tokens.{FaultyBlanks, FaultyWord, FaultyNumber, FaultyString};
 ghost use Rattle.json5_grammar.specs.Documents.{max_depth};
 ghost use Rattle.json5_grammar.specs.declared.code.ErrorCode.TheVariants as codes;
-ghost use Rattle.json5_de.specs.State.{State, GivesUp, cursor_of};
+ghost use Rattle.json5_de.specs.State.{State, SameText, GivesUp, cursor_of};
 ghost use Rattle.json5_de.specs.Faults.{RefusedBy, AtEnd, Trailing};
 ghost use Rattle.json5_de.specs.Law.{Gives, Completes, CompletesFree, StaysFailed, Unprompted};
 ghost use Rattle.std.specs.Str.{all_scalars, encode_utf8_all};
@@ -61,7 +61,8 @@ pub trait Deserialize<I: Input>: Sized + Drop {
         ensures complete { Completes convert de.old result }
         ensures no_memory { CompletesFree free convert de.old result }
         ensures refused { IfErr result (λ e. refuses de.old e de.new) }
-        ensures unprompted { Unprompted de.old result };
+        ensures unprompted { Unprompted de.old result }
+        ensures same_text { SameText de.old de.new };
 }
 
 /// Reads values from the front of a text.

@@ -7,7 +7,7 @@ ghost use Rattle.json5_grammar.specs.Characters.{NotBegun};
 ghost use Rattle.json5_grammar.specs.Trees.{Trees};
 ghost use Rattle.json5_grammar.specs.Members.{IsEnd, GoesNowhere};
 ghost use Rattle.json5_text.specs.Cursor.{Refused};
-ghost use Rattle.json5_de.specs.State.{SameText, cursor_of};
+ghost use Rattle.json5_de.specs.State.{SameText, GivesUp, cursor_of};
 ghost use Rattle.json5_de.specs.Faults.{RefusedBy, IsUnplaced};
 ghost use Rattle.json5_de.specs.Brackets.{AreSigns};
 ghost use Rattle.json5_de.specs.Law.{Unprompted};
@@ -66,7 +66,7 @@ impl<I: Input> Deserializer<I> {
     fn open(&mut self, brackets: Brackets) -> Result<usize>
         requires { AreSigns brackets }
         ensures opens { OpensAs brackets (λ start. record { reader = self.new; start = start; due = false }) self.old result }
-        ensures failed { OnErr result (self.new.failed ≡ true) }
+        ensures failed { OnErr result (GivesUp self.old self.new) }
     {
         self.begin()?;
         let start = self.offset();
@@ -91,7 +91,8 @@ impl<I: Input> Deserializer<I> {
     /// Goes to the next element of an array and says true, or to the closing bracket and says false.
     fn goes_on(&mut self, due: bool) -> Result<bool>
         ensures sound { IfOk result (λ more. GoesOn due self.old self.new more) }
-        ensures refused { IfErr result (λ e. RefusedBy (NoNext due) self.old e × SameText self.old self.new) }
+        ensures refused { IfErr result (RefusedBy (NoNext due) self.old) }
+        ensures same_text { SameText self.old self.new }
         ensures nowhere { OnErr result (self.old.failed ≡ false → GoesNowhere due self.old.unread) }
         ensures unprompted { Unprompted self.old result }
         ensures before { self.old.failed ≡ true → IsErrAnd result (IsUnplaced codes.Failed) }
@@ -116,6 +117,7 @@ impl<I: Input> Deserializer<I> {
         ensures complete { CompletesElement T.convert (bare self.old due) result }
         ensures closing { CompletesClose (bare self.old due) result }
         ensures cause { IfErr result (λ e. RefusesElement T.refuses due self.old e self.new) }
+        ensures same_text { SameText self.old self.new }
         ensures unprompted { Unprompted self.old result }
         ensures before { self.old.failed ≡ true → IsErrAnd result (IsUnplaced codes.Failed) }
     {
@@ -130,6 +132,7 @@ impl<I: Input> Deserializer<I> {
     fn bracket(&mut self, brackets: Brackets) -> Result<()>
         ensures taken { OnOk result (TookClosing brackets self.old self.new) }
         ensures refused { IfErr result (RefusesClosing brackets self.old) }
+        ensures same_text { SameText self.old self.new }
     {
         if !self.eat(brackets.closing) {
             return Err(self.unawaited(brackets.ends, brackets.not_closed));
@@ -143,6 +146,7 @@ impl<I: Input> Deserializer<I> {
         requires { AreSigns brackets }
         ensures closed { OnOk result (Closed brackets due self.old self.new) }
         ensures refused { IfErr result (RefusedBy (NotClosed brackets due) self.old) }
+        ensures same_text { SameText self.old self.new }
         ensures complete { (r : List ℕ) → self.old.failed ≡ false → IsEnd brackets.closing due self.old.unread r → IsOk result }
         ensures before { self.old.failed ≡ true → IsErrAnd result (IsUnplaced codes.Failed) }
     {
@@ -213,6 +217,7 @@ impl<'a, I: Input> SeqAccess<'a, I> {
         ensures complete { CompletesElement T.convert (seen self.old) result }
         ensures closing { CompletesClose (seen self.old) result }
         ensures start { (seen self.new).start ≡ (seen self.old).start }
+        ensures same_text { SameText (seen self.old).reader (seen self.new).reader }
         ensures shorter { IfOk result (λ o. IfSome o (λ v. length (seen self.new).reader.unread < length (seen self.old).reader.unread)) }
         ensures refused { RefusesNext T.refuses (seen self.old) (seen self.new) result }
         ensures read { IfOk result (ReadsMore T.content T.convert (seen self.old) (seen self.new)) }

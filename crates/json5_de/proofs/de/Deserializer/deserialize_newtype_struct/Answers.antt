@@ -1,7 +1,8 @@
-use Rattle.std.proofs.Common.{ap, refl}
+use Rattle.std.proofs.Common.{ap, refl, ◌∙◌}
 use Rattle.std.proofs.lemmas.Result.{err_from_is_err_and}
 use Rattle.json5_de.specs.State.{State}
 use Rattle.json5_de.proofs.Arrays.{no_bool}
+use Rattle.json5_de.proofs.Taken.{input_of}
 use Rattle.json5_de.proofs.de.Deserializer.deserialize_newtype_struct.Goals as goal
 
 pub returns-in-Err : goal.returns-in-Err
@@ -11,6 +12,7 @@ returns-in-Err g c = rw c.refuse.ensures.result (record {
   no_memory = c.in-Err.ensures.no_memory;
   refused = λ live. (c.deserialize.new.de, c.in-Err.ensures.refused, c.refuse.ensures.state);
   unprompted = c.in-Err.ensures.unprompted;
+  same_text = input_of c.refuse.ensures.state ∙ c.in-Err.ensures.same_text;
   failed = ap (λ (s : State). s.failed) c.refuse.ensures.state;
   before = λ h. absurd (no_bool h c.in_ok-live.ensures.live.0);
 })
@@ -22,6 +24,7 @@ returns-in-Ok g c = record {
   no_memory = c.in-Ok.ensures.no_memory;
   refused = tt;
   unprompted = tt;
+  same_text = c.in-Ok.ensures.same_text;
   failed = tt;
   before = λ h. absurd (no_bool h c.in_ok-live.ensures.live.0);
 }
@@ -36,6 +39,7 @@ returns-in_err-live g c =
       no_memory = λ t r v live reads shallow converts free. absurd (no_bool had.0 live);
       refused = λ live. absurd (no_bool had.0 live);
       unprompted = λ live. absurd (no_bool had.0 live);
+      same_text = refl;
       failed = had.0;
       before = λ h. ((had.1, had.2), refl);
     })

@@ -88,12 +88,12 @@ returns-in-Err-clause-reads g c =
     let after = c.deserialize.new.de in
     let (m, next) = some_next start.unread c.in-Some.next (sym c.peek.ensures ∙ c.in-Some.is) in
     rw c.refuse-in-Err.ensures.result (refuses_some g.T.Deserialize.content g.T.Deserialize.convert g.T.Deserialize.free g.T.Deserialize.refuses c.args.self.now start after c.refuse-in-Err.new.self c.in-Err.e c.with_position-error.result c.in-Some.next m
-    c.in_ok-begin.ensures.passed next (other_sign c.in-Some.next 110 c.if-next-eq110.false) c.in-Err.ensures.refused c.in-Err.ensures.complete c.in-Err.ensures.no_memory c.in-Err.ensures.unprompted c.refuse-in-Err.ensures.state
+    c.in_ok-begin.ensures.passed next (other_sign c.in-Some.next 110 c.if-next-eq110.false) c.in-Err.ensures.refused c.in-Err.ensures.complete c.in-Err.ensures.no_memory c.in-Err.ensures.unprompted c.in-Err.ensures.same_text c.refuse-in-Err.ensures.state
     (record {
       kind = c.with_position-error.ensures.kind;
       there = c.position_at.result;
       place = c.with_position-error.ensures.place;
-      is_there = λ before (same, split). c.position_at.ensures before start.unread (same ∙ split) (c.offset-start.ensures.counted before split);
+      is_there = λ before split. c.position_at.ensures before start.unread (c.in-Err.ensures.same_text ∙ split) (c.offset-start.ensures.counted before split);
     }))
 
 pub returns-in-Err-clause-ends : goal.returns-in-Err-clause-ends

@@ -27,7 +27,7 @@ returns-in_ok-deserialize-clause-sound g c =
 pub returns-in_err-goes_on-clause-cause : goal.returns-in_err-goes_on-clause-cause
 returns-in_err-goes_on-clause-cause g c =
     let (y, is, from) = err_from_is_err_and c.from_residual.result c.from_residual.ensures.1 in
-    rw (is, from) (not_reached c.in_err-goes_on.ensures.refused.0 c.in_err-goes_on.ensures.refused.1)
+    rw (is, from) (not_reached c.in_err-goes_on.ensures.refused)
 
 pub returns-in_err-deserialize-clause-cause : goal.returns-in_err-deserialize-clause-cause
 returns-in_err-deserialize-clause-cause g c =

@@ -1,17 +1,17 @@
 use Rattle.std.proofs.Common.{◌∙◌, refl, [], ◌∷◌}
 use Rattle.std.proofs.lemmas.Result.{err_from_is_err_and}
 use Rattle.json5_de.specs.Seq.{in_blanks_behind}
-use Rattle.json5_de.proofs.Taken.{input_of, refused_blanks, refused_token}
+use Rattle.json5_de.proofs.Taken.{refused_blanks, refused_token}
 use Rattle.json5_de.proofs.Places.{refused_as, refused_behind}
 use Rattle.json5_de.proofs.OtherCodes.{next_lacks}
-use Rattle.json5_de.proofs.Rows.{refused_other, gives_up}
+use Rattle.json5_de.proofs.Rows.{refused_other}
 use Rattle.json5_de.proofs.Arrays.{failed_of, behind_gap_of, no_next, nowhere_next, nowhere_faulty, nowhere_behind, goes_behind}
 use Rattle.json5_de.proofs.de.Deserializer.goes_on.Goals as goal
 
 pub returns-in_err-begin-clause-refused : goal.returns-in_err-begin-clause-refused
 returns-in_err-begin-clause-refused g c =
     let (y, is, from) = err_from_is_err_and c.from_residual.result c.from_residual.ensures.1 in
-    rw (is, from) (refused_blanks c.args.self.now c.in_err-begin.field-0.0 c.in_err-begin.ensures.refused, c.in_err-begin.ensures.failed.same_text)
+    rw (is, from) (refused_blanks c.args.self.now c.in_err-begin.field-0.0 c.in_err-begin.ensures.refused)
 
 pub returns-in_err-begin-clause-nowhere : goal.returns-in_err-begin-clause-nowhere
 returns-in_err-begin-clause-nowhere g c =
@@ -21,11 +21,8 @@ returns-in_err-begin-clause-nowhere g c =
 pub returns-then-not-eat-clause-refused : goal.returns-then-not-eat-clause-refused
 returns-then-not-eat-clause-refused g c =
     let kept = c.if-not-eat.ensures.kept refl in
-    let passed = c.in_ok-begin.ensures.passed in (
-      refused_token c.args.self.now c.begin.new.self c.unawaited.result passed
-          (refused_as c.eat.new.self c.begin.new.self c.unawaited.result kept.0 (λ reason place f. no_next c.args.due c.begin.new.self.unread reason place c.if-not-due.false kept.1 (c.if-at_bracket.ensures.other refl) f) c.unawaited.ensures.fault),
-      (gives_up c.eat.new.self c.unawaited.new.self c.unawaited.ensures.state).same_text ∙ input_of kept.0 ∙ input_of passed.rest,
-    )
+    refused_token c.args.self.now c.begin.new.self c.unawaited.result c.in_ok-begin.ensures.passed
+    (refused_as c.eat.new.self c.begin.new.self c.unawaited.result kept.0 (λ reason place f. no_next c.args.due c.begin.new.self.unread reason place c.if-not-due.false kept.1 (c.if-at_bracket.ensures.other refl) f) c.unawaited.ensures.fault)
 
 pub returns-then-not-eat-clause-nowhere : goal.returns-then-not-eat-clause-nowhere
 returns-then-not-eat-clause-nowhere g c = λ live.
@@ -37,12 +34,9 @@ returns-in_err-begin-2-clause-refused g c =
     let (y, is, from) = err_from_is_err_and c.from_residual-in_err-begin-2.result c.from_residual-in_err-begin-2.ensures.1 in
     let passed = c.in_ok-begin.ensures.passed in
     let took = c.if-not-eat.ensures.taken refl in
-    rw (is, from) (
-      refused_token c.args.self.now c.begin.new.self c.in_err-begin-2.field-0.0 passed
-          (refused_behind c.begin.new.self c.eat.new.self c.in_err-begin-2.field-0.0 (0x2C ∷ []) took (λ reason place f. in_blanks_behind c.if-not-due.false f)
-          (c.in_err-begin-2.ensures.refused (failed_of took.rest ∙ failed_of passed.rest ∙ passed.live))),
-      c.in_err-begin-2.ensures.failed.same_text ∙ input_of took.rest ∙ input_of passed.rest,
-    )
+    rw (is, from) (refused_token c.args.self.now c.begin.new.self c.in_err-begin-2.field-0.0 passed
+    (refused_behind c.begin.new.self c.eat.new.self c.in_err-begin-2.field-0.0 (0x2C ∷ []) took (λ reason place f. in_blanks_behind c.if-not-due.false f)
+    (c.in_err-begin-2.ensures.refused (failed_of took.rest ∙ failed_of passed.rest ∙ passed.live))))
 
 pub returns-in_err-begin-2-clause-nowhere : goal.returns-in_err-begin-2-clause-nowhere
 returns-in_err-begin-2-clause-nowhere g c =
@@ -58,7 +52,7 @@ returns-clause-sound g c =
     c.in_ok-begin-2.ensures.passed c.at_bracket-2.ensures.found c.at_bracket-2.ensures.other
 
 pub returns-then-not-eat-clause-unprompted : goal.returns-then-not-eat-clause-unprompted
-returns-then-not-eat-clause-unprompted g c = refused_other (next_lacks c.args.due) c.args.self.now c.unawaited.result (returns-then-not-eat-clause-refused g c).0
+returns-then-not-eat-clause-unprompted g c = refused_other (next_lacks c.args.due) c.args.self.now c.unawaited.result (returns-then-not-eat-clause-refused g c)
 
 pub returns-in_err-begin-2-clause-unprompted : goal.returns-in_err-begin-2-clause-unprompted
 returns-in_err-begin-2-clause-unprompted g c =

@@ -1,7 +1,8 @@
-use Rattle.std.proofs.Common.{subst, sym}
+use Rattle.std.proofs.Common.{subst, sym, ◌∙◌}
 use Rattle.json5_de.specs.Brackets.{AreSigns, square}
 use Rattle.json5_de.specs.Lending.{seen}
 use Rattle.json5_de.proofs.Arrays.{square_signs, failed_of}
+use Rattle.json5_de.proofs.Taken.{input_of}
 use Rattle.json5_de.proofs.OpenClose.{refuses_closing}
 use Rattle.json5_de.proofs.Elements.{closes_array, refuses_end}
 use Rattle.json5_de.proofs.seq.SeqAccess.end.Goals as goal
@@ -18,5 +19,5 @@ returns g c = elim c.match-close.branch [
       let complete = rw (c.square.ensures, c.set_failed.ensures) at w.in-Err.ensures.complete in
       let before = rw c.set_failed.ensures at w.in-Err.ensures.before in
       let last = w.set_failed-in-Err.new.self in
-      rw (w.result-is, w.de-is) (refuses_end (seen c.args.self) last w.in-Err.e (failed_of w.set_failed-in-Err.ensures) (refuses_closing square square_signs c.args.self.due (seen c.args.self).reader last w.in-Err.e refused complete before))
+      rw (w.result-is, w.de-is) (refuses_end (seen c.args.self) last w.in-Err.e (record { failed = failed_of w.set_failed-in-Err.ensures; same_text = input_of w.set_failed-in-Err.ensures ∙ (rw c.set_failed.ensures at w.in-Err.ensures.same_text) }) (refuses_closing square square_signs c.args.self.due (seen c.args.self).reader last w.in-Err.e refused complete before))
 ]
