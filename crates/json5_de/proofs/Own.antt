@@ -19,3 +19,7 @@ reads_content content convert old new (Ok v) (u, took, is) complete t r c live r
     let (same, rest) = one_phrase old.unread r new.unread t u reads took.reads in
     cc (same, is, converts)
 reads_content content convert old new (Err e) sound complete t r c live reads shallow converts = complete t r c live reads shallow converts
+
+pub completes : {V C : Type 0} (content : V → C) (convert : Tree → Option C) (old : State) (result : Result V Error) → ReadsContent content convert old result → Completes convert old result
+completes content convert old (Ok v) reads t r c live k shallow is = tt
+completes content convert old (Err e) reads t r c live k shallow is = reads t r c live k shallow is

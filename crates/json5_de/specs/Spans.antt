@@ -4,7 +4,7 @@ use Rattle.std.specs.Str.{encode_utf8_all}
 use Rattle.json5_text.specs.declared.error.Error.{Error}
 use Rattle.json5_text.specs.Cursor.{Refused}
 use Rattle.json5_text.specs.Tokens.{FaultyBlanks}
-use Rattle.json5_de.specs.State.{State, SameText, cursor_of}
+use Rattle.json5_de.specs.State.{State, cursor_of}
 use Rattle.json5_de.specs.Steps.{PassedGap}
 
 -- so many bytes stand before what is unread
@@ -20,4 +20,4 @@ pub record SpansValue (old : State) (start end : ℕ) (new : State) : Type 0 whe
 
 -- a comment before the value is at fault, or T refuses after the blanks
 abbrev pub RefusesSpanned : (State → Error → State → Type 0) → State → Error → State → Type 0
-RefusesSpanned refuses old e new = old.failed ≡ false → (Refused FaultyBlanks (cursor_of old) e × SameText old new) ⊎ ((at : State) × PassedGap old at × refuses at e new)
+RefusesSpanned refuses old e new = old.failed ≡ false → Refused FaultyBlanks (cursor_of old) e ⊎ ((at : State) × PassedGap old at × refuses at e new)

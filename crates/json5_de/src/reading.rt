@@ -3,6 +3,7 @@
 ghost use Rattle.std.specs.Prelude.{IfOk, IfErr};
 ghost use Rattle.json5_de.specs.Law.{Gives, CompletesFree, Unprompted};
 ghost use Rattle.json5_de.specs.Own.{ReadsContent};
+ghost use Rattle.json5_de.specs.State.{SameText};
 
 use crate::de::{Deserialize, Deserializer};
 use json5_text::error::Result;
@@ -16,6 +17,7 @@ pub fn read<I: Input, T: Deserialize<I>>(de: &mut Deserializer<I>) -> Result<T>
     ensures no_memory { CompletesFree T.free T.convert de.old result }
     ensures refused { IfErr result (λ e. T.refuses de.old e de.new) }
     ensures unprompted { Unprompted de.old result }
+    ensures same_text { SameText de.old de.new }
 {
     T::deserialize(de)
 }

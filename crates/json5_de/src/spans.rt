@@ -3,6 +3,7 @@
 ghost use Rattle.std.specs.Prelude.{IfOk, IfErr};
 ghost use Rattle.json5_de.specs.Law.{Gives, CompletesFree, Unprompted};
 ghost use Rattle.json5_de.specs.Own.{ReadsContent};
+ghost use Rattle.json5_de.specs.State.{SameText};
 ghost use Rattle.json5_de.specs.Spans.{SpansValue, RefusesSpanned};
 
 use crate::de::{Deserialize, Deserializer};
@@ -42,6 +43,7 @@ impl<I: Input, T: Deserialize<I>> Deserialize<I> for Spanned<T> {
         ensures no_memory { CompletesFree T.free T.convert de.old result }
         ensures refused { IfErr result (λ e. RefusesSpanned T.refuses de.old e de.new) }
         ensures unprompted { Unprompted de.old result }
+        ensures same_text { SameText de.old de.new }
         ensures spans { IfOk result (λ s. SpansValue de.old s.start s.end de.new) }
     {
         de.begin()?;
