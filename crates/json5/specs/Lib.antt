@@ -1,1 +1,19 @@
+-- What a type of a user's own cites in its contracts and its proofs.
+pub use Rattle.json5_grammar.specs.Trees
+pub use Rattle.json5_grammar.specs.Values
+pub use Rattle.json5_grammar.specs.Members
+pub use Rattle.json5_grammar.specs.Documents
+pub use Rattle.json5_text.specs.Errors
+pub use Rattle.json5_text.specs.Cursor
+pub use Rattle.json5_de.specs.State
+pub use Rattle.json5_de.specs.Law
+pub use Rattle.json5_de.specs.Faults
+pub use Rattle.json5_de.specs.Convert
+pub use Rattle.json5_de.specs.ConvertLists
+pub use Rattle.json5_de.specs.Own
+pub use Rattle.json5_de.specs.Spans
+pub use Rattle.json5_de.specs.Access
+pub use Rattle.json5_de.specs.Lending
+pub use Rattle.json5_text.specs.declared.error.Error
+pub use Rattle.json5_grammar.specs.declared.code.ErrorCode
 pub mod Formatted
