@@ -26,6 +26,8 @@ pub use Rattle.json5_de.specs.Faults
 pub use Rattle.json5_de.specs.Rows
 pub use Rattle.json5_de.specs.Options
 pub use Rattle.json5_de.specs.Access
+pub use Rattle.json5_de.specs.Seq
+pub use Rattle.json5_de.specs.Lists
 pub use Rattle.json5_de.specs.Lending
 pub use Rattle.json5_de.specs.Texts
 -- Writing.

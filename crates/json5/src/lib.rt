@@ -17,7 +17,7 @@ ghost use Rattle.json5_ser.specs.Out.{out};
 ghost use Rattle.json5.specs.Formatted.{IsScalar, WritesTree, IsFormatted, IsRefused};
 
 pub use json5_de as de;
-pub use json5_de::{Deserialize, Deserializer, SeqAccess, Spanned, from_str, read, value_codes};
+pub use json5_de::{Deserialize, Deserializer, SeqAccess, Spanned, from_str, read};
 pub use json5_grammar::code::ErrorCode;
 pub use json5_grammar::position::Position;
 pub use json5_ser::{Serialize, Serializer, to_string, to_writer};

@@ -9,7 +9,7 @@ use Rattle.json5_grammar.specs.Values.{Reads}
 use Rattle.json5_grammar.specs.Documents.{Doc, max_depth}
 use Rattle.json5_grammar.proofs.Unique.{document_phrase, phrase_document, one_phrase}
 use Rattle.json5_de.specs.State.{State}
-use Rattle.json5_de.specs.Law.{TookValue, Completes}
+use Rattle.json5_de.specs.Law.{TookValue, Gives, Completes}
 use Rattle.json5_de.specs.Faults.{Behind, AtEnd, RefusedBy, Trailing}
 use Rattle.json5_de.specs.Texts.{at_start}
 use Rattle.json5_de.proofs.Taken.{input_of}
@@ -73,3 +73,16 @@ blames_rest s mid x t u r e is reads took f =
   where
     cursor : {a b c d : List ℕ} → a ≡ b → c ≡ d → cursor_at a c ≡ cursor_at b d
     cursor {b = b} {c = c} i u = ap (λ z. cursor_at z c) i ∙ ap (λ z. cursor_at b z) u
+
+-- ---- one answer
+
+some_same : {C : Type 0} (a b : C) → Some a ≡ Some b → a ≡ b
+some_same a b e = cc
+
+-- two values that may be given for one text have the same content, and leave the same
+pub same_answer : {V C : Type 0} (content : V → C) (convert : Tree → Option C) (old new last : State) (v w : V) → Gives content convert old new v → Gives content convert old last w → (content v ≡ content w) × (new ≡ last)
+same_answer content convert old new last v w (t, a, is) (u, b, other) =
+    let (tree, rest) = one_phrase old.unread new.unread last.unread t u a.reads b.reads in (
+      some_same (content v) (content w) (sym is ∙ ap convert tree ∙ other),
+      a.rest ∙ ap (λ x. record old { unread = x }) rest ∙ sym b.rest,
+    )

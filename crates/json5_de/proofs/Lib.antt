@@ -22,4 +22,6 @@ pub mod OtherCodes
 pub mod Rows
 pub mod OpenClose
 pub mod Next
+pub mod Required
+pub mod ListFaults
 pub mod Own

@@ -38,6 +38,10 @@ CompletesFree {C = C} free convert old result =
 abbrev pub StaysFailed : {V : Type 0} → State → State → Result V Error → Type 0
 StaysFailed old new result = old.failed ≡ true → IsErrAnd result (λ e. (kind_of e ≡ code codes.Failed) × (place_of e ≡ None)) × (new ≡ old)
 
+-- two values that may be given for one text have the same content, and leave the same
+abbrev pub OneAnswer : {V C : Type 0} → (V → C) → (Tree → Option C) → Type 0
+OneAnswer {V = V} content convert = (old new last : State) (v w : V) → Gives content convert old new v → Gives content convert old last w → (content v ≡ content w) × (new ≡ last)
+
 -- the fault isn't that of a reader that had failed
 abbrev pub IsUnprompted : Error → Type 0
 IsUnprompted e = kind_of e ≢ code codes.Failed
@@ -56,8 +60,3 @@ pub record ReadsValue {V C : Type 0} (content : V → C) (convert : Tree → Opt
   pub same_text : SameText old new
   pub failed : OnErr result (new.failed ≡ true)
   pub before : StaysFailed old new result
-
--- after a refusal the reader has failed for good, and one that had failed before says so
-pub record LeavesFailed (old : State) (e : Error) (new : State) : Type 0 where
-  pub failed : new.failed ≡ true
-  pub before : old.failed ≡ true → (kind_of e ≡ code codes.Failed) × (place_of e ≡ None)

@@ -10,6 +10,7 @@ pub mod Options
 pub mod Brackets
 pub mod Access
 pub mod Seq
+pub mod Lists
 pub mod Lending
 pub mod Texts
 pub mod Own

@@ -1,6 +1,7 @@
 -- The kinds of values that one token makes, and the law of a method that reads one.
 use Rattle.std.specs.Prelude.{Bool, true, false, ℕ, ◌==◌, ◌||◌, List, ℤ, Option, Result}
 use Rattle.std.specs.String.{string_bytes}
+use Rattle.std.specs.Borrow.{Bor}
 use Rattle.std.specs.declared.string.String.{String}
 use Rattle.std.specs.declared.alloc.Global.{Global}
 use Rattle.json5_grammar.specs.declared.code.ErrorCode.{ErrorCode}
@@ -123,3 +124,7 @@ TellsApart {V = V} row content = (old new : State) (result : Result V Error) →
 -- the bytes of a `String`
 abbrev pub text_bytes : String Global → List ℕ
 text_bytes s = string_bytes s
+
+-- the bytes of a `&str`
+abbrev pub slice_bytes : Bor (List ℕ) → List ℕ
+slice_bytes s = s.now

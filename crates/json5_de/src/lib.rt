@@ -6,6 +6,7 @@ mod brackets;
 mod de;
 mod decimals;
 mod integers;
+mod laws;
 mod lists;
 mod mismatch;
 mod option;
@@ -19,8 +20,8 @@ mod tuples;
 mod types;
 
 pub use de::{Deserialize, Deserializer};
+pub use laws::{one_answer, value_codes};
 pub use reading::read;
-pub use scalars::value_codes;
 pub use seq::SeqAccess;
 pub use spans::Spanned;
 pub use text::from_str;

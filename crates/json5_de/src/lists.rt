@@ -1,7 +1,6 @@
 //! Lists of elements of one type.
 
 use crate::de::{Deserialize, Deserializer};
-use crate::tuples::too_short;
 use json5_text::error::Result;
 use json5_text::input::Input;
 
@@ -9,7 +8,7 @@ use json5_text::input::Input;
 impl<I: Input, T: Deserialize<I>> Deserialize<I> for Vec<T> {
     ghost use Rattle.std.specs.Prelude.{List, map};
     ghost use Rattle.json5_grammar.specs.Members.{array_of, contents};
-    ghost use Rattle.json5_de.specs.Law.{LeavesFailed};
+    ghost use Rattle.json5_de.specs.Lists.{element, every, any_number, RefusesList};
 
     ghost Content = { List T.Content };
 
@@ -17,7 +16,7 @@ impl<I: Input, T: Deserialize<I>> Deserialize<I> for Vec<T> {
 
     ghost convert = { array_of (contents T.convert) };
 
-    ghost refuses = { LeavesFailed };
+    ghost refuses = { RefusesList (every (element T.convert T.refuses)) any_number };
 
     fn deserialize(de: &mut Deserializer<I>) -> Result<Vec<T>> {
         let mut items = Vec::new(de.allocator());
@@ -35,7 +34,7 @@ impl<I: Input, T: Deserialize<I>> Deserialize<I> for Vec<T> {
 impl<I: Input, T: Deserialize<I>, const N: usize> Deserialize<I> for [T; N] {
     ghost use Rattle.std.specs.Prelude.{List, map};
     ghost use Rattle.json5_grammar.specs.Members.{array_of};
-    ghost use Rattle.json5_de.specs.Law.{LeavesFailed};
+    ghost use Rattle.json5_de.specs.Lists.{element, every, array_of_size, RefusesList};
     ghost use Rattle.json5_de.specs.ConvertLists.{exactly};
 
     ghost Content = { List T.Content };
@@ -44,16 +43,14 @@ impl<I: Input, T: Deserialize<I>, const N: usize> Deserialize<I> for [T; N] {
 
     ghost convert = { array_of (exactly N T.convert) };
 
-    ghost refuses = { LeavesFailed };
+    ghost refuses = { RefusesList (every (element T.convert T.refuses)) (array_of_size N) };
 
     fn deserialize(de: &mut Deserializer<I>) -> Result<[T; N]> {
         let alloc = de.allocator();
         let mut items = Vec::new(alloc);
         let mut seq = de.deserialize_tuple(N)?;
         while items.len() < N {
-            let Some(item) = seq.next_element::<T>()? else {
-                return Err(too_short(&seq, alloc, items.len(), "an array of length", N));
-            };
+            let item = seq.required::<T>(alloc, items.len(), "an array of length", N)?;
             items.push(item)?;
         }
         seq.end()?;

@@ -1,9 +1,7 @@
 //! Reading of null, booleans and numbers.
 
 ghost use Rattle.std.specs.Prelude.{ℕ, ◌≤◌, ◌+◌, ◌^◌, ◌≤ℤ◌, ◌-ℤ◌, pos, neg_ℤ, nat_abs, Some, IfOk};
-ghost use Rattle.json5_de.specs.Rows.{ReadsAs, TellsApart, null_row, bool_row, whole_row, natural_row, integer_row, decimal_row, string_row, char_row, cow_row, any_row, text_bytes};
-ghost use Rattle.json5_text.specs.Cows.{cow_bytes, is_borrowed};
-ghost use Rattle.json5_text.specs.ValueViews.{value_of};
+ghost use Rattle.json5_de.specs.Rows.{ReadsAs, null_row, bool_row, whole_row, natural_row, integer_row, decimal_row};
 ghost use Rattle.json5_de.specs.Steps.{WholeAt};
 
 use crate::de::Deserializer;
@@ -190,16 +188,3 @@ impl<I: Input> Deserializer<I> {
         self.signed_integer(i128::MAX, "i128")
     }
 }
-
-/// The codes at the end of the text and at another character, as they follow from the law of a read, for each kind of value.
-pub fn value_codes()
-    ensures null { TellsApart null_row (λ n. n) }
-    ensures boolean { TellsApart bool_row (λ b. b) }
-    ensures natural { (bound : ℕ) → TellsApart (natural_row bound) (λ n. n) }
-    ensures integer { (bound : ℕ) → TellsApart (integer_row bound) (λ n. n) }
-    ensures decimal { TellsApart decimal_row (λ d. d) }
-    ensures string { TellsApart string_row text_bytes }
-    ensures character { TellsApart char_row (λ c. c) }
-    ensures cow { TellsApart cow_row (λ t. (cow_bytes t, is_borrowed t)) }
-    ensures any { TellsApart any_row value_of }
-{}

@@ -13,6 +13,7 @@ ghost use Rattle.json5_de.specs.Faults.{RefusedBy, IsUnplaced};
 ghost use Rattle.json5_de.specs.Brackets.{AreSigns};
 ghost use Rattle.json5_de.specs.Law.{Unprompted};
 ghost use Rattle.json5_de.specs.Access.{bare, Closed, OpensAs, OpensArray, ClosesArray, GivesElement, CompletesElement, CompletesClose, PlacedAtBracket, Unawaited, NotClosed, ElementsLeft, ReadsMore, LeavesFewer};
+ghost use Rattle.json5_de.specs.Lists.{IsTooShort, LeavesOthers, RefusesRequired};
 ghost use Rattle.json5_de.specs.Seq.{TookClosing, RefusesClosing, GoesOn, NoNext, RefusesElement, RefusesNext};
 
 use crate::brackets::Brackets;
@@ -20,6 +21,7 @@ use crate::de::{Deserialize, Deserializer};
 use json5_text::error::{Error, Result};
 use json5_text::input::Input;
 use json5_text::{ErrorCode, Position};
+use std::alloc::Global;
 
 /// The elements of an array, one after another. The reader that lends itself stands as failed until `end`, and for good where
 /// the access is dropped or leaked before.
@@ -237,6 +239,41 @@ impl<'a, I: Input> SeqAccess<'a, I> {
                 self.failed = true;
                 Err(self.place(e))
             }
+        }
+    }
+
+    /// The element at this place of a list of so many. Where the list ends before it, that is refused with a text of its own at
+    /// the opening bracket.
+    pub(crate) fn required<T: Deserialize<I>>(
+        &mut self,
+        alloc: Global,
+        place: usize,
+        expected: &str,
+        size: usize,
+    ) -> Result<T>
+        ensures same_reference { HoldsTheSame self.old self.new }
+        ensures blocks { BlocksReader self.new }
+        ensures start { (seen self.new).start ≡ (seen self.old).start }
+        ensures same_text { SameText (seen self.old).reader (seen self.new).reader }
+        ensures read { IfOk result (λ v. ReadsMore T.content T.convert (seen self.old) (seen self.new) (Some v)) }
+        ensures left { LeavesOthers T.content T.convert (seen self.old) (seen self.new) result }
+        ensures refused { IfErr result (λ e. (seen self.old).reader.failed ≡ false → RefusesRequired T.refuses (seen self.old) e) }
+        ensures unprompted { Unprompted (seen self.old).reader result }
+    {
+        match self.next_element::<T>()? {
+            Some(item) => Ok(item),
+            None => Err(self.too_short(alloc, place, expected, size)),
+        }
+    }
+
+    /// The fault of a list that ended too early, at its bracket.
+    fn too_short(&self, alloc: Global, length: usize, expected: &str, size: usize) -> Error
+        ensures { IsTooShort (seen self.now) result }
+    {
+        let message = format_args!("invalid length {length}, expected {expected} {size}");
+        match Error::custom(alloc, message) {
+            Ok(error) => self.place(error),
+            Err(error) => self.place(error),
         }
     }
 

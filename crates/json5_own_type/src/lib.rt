@@ -10,7 +10,8 @@ ghost use Rattle.json5.specs.ErrorCode.TheVariants as codes;
 ghost use Rattle.json5.specs.Law.{IsUnprompted};
 ghost use Rattle.json5.specs.Faults.{EndsWithOrMemory};
 
-use json5::{Deserialize, Deserializer, Error, Input, Result, SeqAccess, value_codes};
+use json5::de::value_codes;
+use json5::{Deserialize, Deserializer, Error, Input, Result, SeqAccess};
 pub use levels::Level;
 pub use ports::{Endpoint, OpenPort};
 use std::alloc::Global;

@@ -1,9 +1,9 @@
 use Rattle.json5_text.specs.Cows.{cow_bytes, is_borrowed}
 use Rattle.json5_text.specs.ValueViews.{value_of}
-use Rattle.json5_de.specs.Convert.{natural_below, integer_below, every_text, one_character, every_cow}
-use Rattle.json5_de.specs.Rows.{no_tree, plain_text, text_bytes}
+use Rattle.json5_de.specs.Convert.{natural_below, integer_below, every_text, one_character, if_plain, every_cow}
+use Rattle.json5_de.specs.Rows.{every_tree, no_tree, plain_text, text_bytes, slice_bytes}
 use Rattle.json5_de.proofs.Rows.{tells_apart, lawful_null, lawful_bool, lawful_whole, lawful_decimal, lawful_text, lawful_any}
-use Rattle.json5_de.proofs.scalars.value_codes.Goals as goal
+use Rattle.json5_de.proofs.laws.value_codes.Goals as goal
 
 pub returns-clause-null : goal.returns-clause-null
 returns-clause-null c = tells_apart lawful_null (λ n. n)
@@ -25,6 +25,9 @@ returns-clause-string c = tells_apart (lawful_text every_text no_tree) text_byte
 
 pub returns-clause-character : goal.returns-clause-character
 returns-clause-character c = tells_apart (lawful_text one_character no_tree) (λ c. c)
+
+pub returns-clause-plain : goal.returns-clause-plain
+returns-clause-plain c = tells_apart (lawful_text if_plain every_tree) slice_bytes
 
 pub returns-clause-cow : goal.returns-clause-cow
 returns-clause-cow c = tells_apart (lawful_text every_cow plain_text) (λ t. (cow_bytes t, is_borrowed t))

@@ -1,0 +1,106 @@
+-- Why a list is refused.
+use Rattle.std.specs.Prelude.{◌≡◌, ◌⊎◌, ◌<◌, ◌+◌, ℕ, zero, suc, Bool, true, false, List, ◌∷◌, ◌++◌, length, Option, Some, None, is_some, Result, IfOk, MatchResult}
+use Rattle.std.specs.Str.{encode_utf8_all}
+use Rattle.json5_grammar.specs.declared.code.ErrorCode.TheVariants as codes
+use Rattle.json5_grammar.specs.Characters.{left_bracket}
+use Rattle.json5_grammar.specs.Trees.{Tree, Trees, no_more, more}
+use Rattle.json5_text.specs.declared.error.Error.{Error}
+use Rattle.json5_text.specs.Cursor.{Says, IsOutOfMemory}
+use Rattle.json5_de.specs.State.{State}
+use Rattle.json5_de.specs.Brackets.{square}
+use Rattle.json5_de.specs.Faults.{RefusedBy, IsUnplaced}
+use Rattle.json5_de.specs.Access.{Seen, Opened, AtClose, NotOpened, NotClosed, ElementsRead, ElementsLeft, IsAtBracket}
+use Rattle.json5_de.specs.Seq.{RefusedAtBracket}
+
+-- ---- the elements of a list
+
+-- what is expected at a place of a list: which trees convert, and how its type refuses
+pub record Element : Type 1 where
+  pub accepts : Tree → Bool
+  pub refuses : State → Error → State → Type 0
+
+abbrev pub element : {C : Type 0} → (Tree → Option C) → (State → Error → State → Type 0) → Element
+element convert refuses = record { accepts = λ t. is_some (convert t); refuses = refuses }
+
+-- what is expected at each place, counted from 0
+abbrev pub Elements : Type 1
+Elements = ℕ → Element
+
+-- the same at every place
+abbrev pub every : Element → Elements
+every e n = e
+
+-- one, and the others after it
+abbrev pub first_then : Element → Elements → Elements
+first_then e others zero = e
+first_then e others (suc n) = others n
+
+abbrev pub count : Trees → ℕ
+count no_more = 0
+count (more t ts) = suc (count ts)
+
+-- each converts at its place
+abbrev pub Accepted : Elements → Trees → Type 0
+Accepted es no_more = Unit {0}
+Accepted es (more t ts) = ((es 0).accepts t ≡ true) × Accepted (λ n. es (suc n)) ts
+
+-- ---- an element that has to be there
+
+-- a text of its own at the opening bracket, or memory was wanting
+abbrev pub IsTooShort : Seen → Error → Type 0
+IsTooShort old e = IsOutOfMemory e ⊎ (Says None e × IsAtBracket old e)
+
+-- the element's fault, or the list ends before it
+pub data RefusesRequired (refuses : State → Error → State → Type 0) (old : Seen) (e : Error) : Type 0 where
+  at_fault : RefusedAtBracket refuses old e → RefusesRequired refuses old e
+  missing : (at : State) → AtClose old.due old.reader at → IsTooShort old e → RefusesRequired refuses old e
+
+-- where elements are left and the first converts, it was read, unless memory ran out, and the others are left
+abbrev pub LeavesOthers : {V C : Type 0} → (V → C) → (Tree → Option C) → Seen → Seen → Result V Error → Type 0
+LeavesOthers {C = C} content convert old new result =
+    (t : Tree) (ts : Trees) (r : List ℕ) (c : C) → ElementsLeft (more t ts) r old → convert t ≡ Some c → MatchResult result (λ v. (convert t ≡ Some (content v)) × ElementsLeft ts r new) IsOutOfMemory
+
+-- ---- a list
+
+-- the list was opened, and so many elements of it were read, each of which converts
+pub record Within (es : Elements) (old : State) (now : Seen) (n : ℕ) : Type 0 where
+  pub first : State
+  pub opened : Opened square old first
+  pub start : (before : List ℕ) → old.input ≡ before ++ left_bracket ∷ first.unread → now.start ≡ length (encode_utf8_all before)
+  pub trees : Trees
+  pub counted : count trees ≡ n
+  pub read : ElementsRead old trees now
+  pub accepted : Accepted es trees
+
+-- how many elements a list has, None for any number, and whether memory is taken to gather them
+pub record Shape : Type 0 where
+  pub size : Option ℕ
+  pub gathers : Bool
+
+abbrev pub any_number : Shape
+any_number = record { size = None; gathers = true }
+
+abbrev pub array_of_size : ℕ → Shape
+array_of_size n = record { size = Some n; gathers = true }
+
+abbrev pub tuple_of_size : ℕ → Shape
+tuple_of_size n = record { size = Some n; gathers = false }
+
+-- such a list has an element at this place
+abbrev pub HasPlace : Option ℕ → ℕ → Type 0
+HasPlace None place = Unit {0}
+HasPlace (Some n) place = place < n
+
+-- why a list is refused: its opening bracket, the first element at fault, elements that are missing or too many, or want of memory
+pub data ListFault (es : Elements) (shape : Shape) (old : State) (e : Error) : Type 0 where
+  not_opened : RefusedBy (NotOpened square old.level) old e → ListFault es shape old e
+  at_element : (now : Seen) (n : ℕ) → Within es old now n → HasPlace shape.size n → RefusedAtBracket (es n).refuses now e → ListFault es shape old e
+  too_few : (now : Seen) (n size : ℕ) → Within es old now n → shape.size ≡ Some size → n < size → (at : State) → AtClose now.due now.reader at → IsTooShort now e → ListFault es shape old e
+  too_many : (now : Seen) (n : ℕ) → Within es old now n → shape.size ≡ Some n → RefusedBy (NotClosed square now.due) now.reader e → ListFault es shape old e
+  no_memory : shape.gathers ≡ true → IsOutOfMemory e → ListFault es shape old e
+
+-- how a list is refused: after it the reader has failed for good
+pub record RefusesList (es : Elements) (shape : Shape) (old : State) (e : Error) (new : State) : Type 0 where
+  pub cause : old.failed ≡ false → ListFault es shape old e
+  pub failed : new.failed ≡ true
+  pub before : old.failed ≡ true → IsUnplaced codes.Failed e
