@@ -1,1 +1,38 @@
 pub mod Formatted
+-- What else contracts cite, and what a type of a user's own cites: trees, and what stands in a text.
+pub use Rattle.json5_grammar.specs.Trees
+pub use Rattle.json5_grammar.specs.Values
+pub use Rattle.json5_grammar.specs.Members
+pub use Rattle.json5_grammar.specs.Documents
+pub use Rattle.json5_grammar.specs.Numbers
+pub use Rattle.json5_grammar.specs.Characters
+pub use Rattle.json5_grammar.specs.Positions
+pub use Rattle.json5_grammar.specs.declared.position.Position
+pub use Rattle.json5_grammar.specs.declared.code.ErrorCode
+pub use Rattle.json5_text.specs.Cows
+pub use Rattle.json5_text.specs.ValueViews
+pub use Rattle.json5_text.specs.Cursor
+pub use Rattle.json5_text.specs.Errors
+pub use Rattle.json5_text.specs.declared.error.Error
+-- Reading.
+pub use Rattle.json5_de.specs.State
+pub use Rattle.json5_de.specs.Law
+pub use Rattle.json5_de.specs.Convert
+pub use Rattle.json5_de.specs.ConvertLists
+pub use Rattle.json5_de.specs.Own
+pub use Rattle.json5_de.specs.Spans
+pub use Rattle.json5_de.specs.Steps
+pub use Rattle.json5_de.specs.Faults
+pub use Rattle.json5_de.specs.Rows
+pub use Rattle.json5_de.specs.Options
+pub use Rattle.json5_de.specs.Access
+pub use Rattle.json5_de.specs.Seq
+pub use Rattle.json5_de.specs.Lists
+pub use Rattle.json5_de.specs.Lending
+pub use Rattle.json5_de.specs.Texts
+-- Writing.
+pub use Rattle.json5_ser.specs.WrittenTrees
+pub use Rattle.json5_ser.specs.Out
+pub use Rattle.json5_ser.specs.Writes
+pub use Rattle.json5_ser.specs.Pieces
+pub use Rattle.json5_ser.specs.Texts as WrittenTexts

@@ -9,6 +9,8 @@
 //! allocator.
 #![tactic(auto)]
 
+pub mod ser;
+
 ghost use Rattle.std.specs.Prelude.{IfOk, IfErr, MatchResult, string_bytes};
 ghost use Rattle.std.specs.Str.{chars};
 ghost use Rattle.json5_grammar.specs.Trees.{Tree};
@@ -18,10 +20,9 @@ ghost use Rattle.json5_ser.specs.Out.{out};
 ghost use Rattle.json5.specs.Formatted.{IsScalar, WritesTree, IsFormatted, IsRefused};
 
 pub use json5_de as de;
-pub use json5_de::{Deserialize, Deserializer, SeqAccess, from_str};
+pub use json5_de::{Deserialize, Deserializer, SeqAccess, Spanned, from_str, read};
 pub use json5_grammar::code::ErrorCode;
 pub use json5_grammar::position::Position;
-pub use json5_ser as ser;
 pub use json5_ser::{Serialize, Serializer, to_string, to_writer};
 pub use json5_text::char;
 pub use json5_text::cow_str::CowStr;

@@ -25,3 +25,4 @@ pub mod Next
 pub mod Required
 pub mod ListFaults
 pub mod Loops
+pub mod Own

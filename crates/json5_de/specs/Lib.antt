@@ -13,3 +13,5 @@ pub mod Seq
 pub mod Lists
 pub mod Lending
 pub mod Texts
+pub mod Own
+pub mod Spans

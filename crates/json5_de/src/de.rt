@@ -5,7 +5,7 @@ ghost use Rattle.std.specs.Prelude.{◌<◌, ◌+◌, ◌-◌, ◌==◌, ◌∷�
 ghost use Rattle.json5_grammar.specs.Positions.{position_behind};
 ghost use Rattle.std.specs.Str.{chars};
 ghost use Rattle.json5_text.specs.Errors.{Kind, code, kind_of, place_of};
-ghost use Rattle.json5_text.specs.Cursor.{Refused, IsPlaced};
+ghost use Rattle.json5_text.specs.Cursor.{Refused, IsPlaced, IsPositionOf};
 ghost use Rattle.json5_text.specs.Tokens.{FaultyBlanks, FaultyWord, FaultyNumber, FaultyString};
 ghost use Rattle.json5_grammar.specs.Documents.{max_depth};
 ghost use Rattle.json5_grammar.specs.declared.code.ErrorCode.TheVariants as codes;
@@ -283,9 +283,10 @@ impl<I: Input> Deserializer<I> {
         self.scanner.eat(c)
     }
 
-    /// The position of an offset in bytes; the end's, where no character begins there.
-    pub(crate) fn position_at(&self, offset: usize) -> Position
-        ensures { (before rest : List ℕ) → self.now.input ≡ before ++ rest → offset ≡ length (encode_utf8_all before) → result ≡ position_behind before }
+    /// The position of an offset in bytes, as that of a value which `Spanned` gives; the end's, where no character begins there.
+    pub fn position_of(&self, offset: usize) -> Position
+        ensures inside { IsPositionOf self.now.input offset result }
+        ensures past { (IsOffset self.now.input offset → ⊥) → result ≡ position_behind self.now.input }
     {
         self.scanner.position_at(offset)
     }

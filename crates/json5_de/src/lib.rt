@@ -10,8 +10,10 @@ mod laws;
 mod lists;
 mod mismatch;
 mod option;
+mod reading;
 mod scalars;
 mod seq;
+mod spans;
 mod text;
 mod texts;
 mod tuples;
@@ -19,5 +21,7 @@ mod types;
 
 pub use de::{Deserialize, Deserializer};
 pub use laws::{one_answer, value_codes};
+pub use reading::read;
 pub use seq::SeqAccess;
+pub use spans::Spanned;
 pub use text::from_str;

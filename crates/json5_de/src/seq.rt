@@ -6,7 +6,8 @@ ghost use Rattle.json5_grammar.specs.declared.code.ErrorCode.TheVariants as code
 ghost use Rattle.json5_grammar.specs.Characters.{NotBegun};
 ghost use Rattle.json5_grammar.specs.Trees.{Trees};
 ghost use Rattle.json5_grammar.specs.Members.{IsEnd, GoesNowhere};
-ghost use Rattle.json5_text.specs.Cursor.{Refused};
+ghost use Rattle.json5_text.specs.Cursor.{Refused, IsOffset, IsPositionOf};
+ghost use Rattle.json5_grammar.specs.Positions.{position_behind};
 ghost use Rattle.json5_de.specs.State.{SameText, GivesUp, cursor_of};
 ghost use Rattle.json5_de.specs.Faults.{RefusedBy, IsUnplaced};
 ghost use Rattle.json5_de.specs.Brackets.{AreSigns};
@@ -17,9 +18,9 @@ ghost use Rattle.json5_de.specs.Seq.{TookClosing, RefusesClosing, GoesOn, NoNext
 
 use crate::brackets::Brackets;
 use crate::de::{Deserialize, Deserializer};
-use json5_text::ErrorCode;
 use json5_text::error::{Error, Result};
 use json5_text::input::Input;
+use json5_text::{ErrorCode, Position};
 use std::alloc::Global;
 
 /// The elements of an array, one after another. The reader that lends itself stands as failed until `end`, and for good where
@@ -57,7 +58,7 @@ impl<I: Input> Deserializer<I> {
         ensures state { self.new ≡ record self.old { failed = true } }
     {
         let error = match self.peek() {
-            Some(_) => Error::new_at(self.position_at(self.offset()), differs),
+            Some(_) => Error::new_at(self.position_of(self.offset()), differs),
             None => Error::new(ends),
         };
         self.set_failed(true);
@@ -76,7 +77,7 @@ impl<I: Input> Deserializer<I> {
             return Err(self.unawaited(brackets.ends, brackets.not_opened));
         }
         if !self.enter() {
-            let error = Error::new_at(self.position_at(start), ErrorCode::TooDeep);
+            let error = Error::new_at(self.position_of(start), ErrorCode::TooDeep);
             return self.refuse(error);
         }
         Ok(start)
@@ -280,7 +281,15 @@ impl<'a, I: Input> SeqAccess<'a, I> {
     pub fn place(&self, error: Error) -> Error
         ensures { PlacedAtBracket (seen self.now) error result }
     {
-        error.with_position(self.de.position_at(self.start))
+        error.with_position(self.de.position_of(self.start))
+    }
+
+    /// The position of an offset in bytes, as that of an element which `Spanned` gives; the end's, where no character begins there.
+    pub fn position_of(&self, offset: usize) -> Position
+        ensures inside { IsPositionOf (seen self.now).reader.input offset result }
+        ensures past { (IsOffset (seen self.now).reader.input offset → ⊥) → result ≡ position_behind (seen self.now).reader.input }
+    {
+        self.de.position_of(offset)
     }
 
     /// Takes the closing bracket, and before it one comma where an element was read and its comma wasn't taken. Then the reader

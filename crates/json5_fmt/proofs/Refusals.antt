@@ -3,9 +3,9 @@ use Rattle.std.proofs.Common.{◌≡◌, ℕ, List, subst, Option, Some, None}
 use Rattle.std.specs.Prelude.{IfSome}
 use Rattle.std.specs.Str.{chars, IsUtf8}
 use Rattle.std.specs.Io.KnownBytes.{Keeps}
-use Rattle.json5_grammar.specs.declared.code.ErrorCode.TheVariants as codes
-use Rattle.json5_text.specs.declared.error.Error.{Error}
-use Rattle.json5_text.specs.Errors.{Kind, code, custom, failed_write}
+use Rattle.json5.specs.ErrorCode.TheVariants as codes
+use Rattle.json5.specs.Error.{Error}
+use Rattle.json5.specs.Errors.{Kind, code, custom, failed_write}
 use Rattle.json5.specs.Formatted.{IsRefused}
 use Rattle.json5_fmt.specs.Runs.{RefusesText, RunStop}
 use Rattle.json5_fmt.specs.Stops.{stop_of_kind}

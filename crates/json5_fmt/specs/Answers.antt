@@ -1,7 +1,7 @@
 -- What the program does with its streams.
 use Rattle.std.specs.Prelude.{ℕ, List, Bool, true, false, Option, IfSome}
 use lib.Chars.{codes}
-use Rattle.json5_ser.specs.Pieces.{AppendsFront}
+use Rattle.json5.specs.Pieces.{AppendsFront}
 use Rattle.json5_fmt.specs.declared.stop.Stop.{Stop}
 use Rattle.json5_fmt.specs.Reports.{report_line, status_of, usage_line}
 use Rattle.json5_fmt.specs.Runs.{RunStop, WritesFormatted}

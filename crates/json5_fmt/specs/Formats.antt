@@ -1,7 +1,7 @@
 -- What the formatter promises of the bytes of a text.
 use Rattle.std.specs.Prelude.{ℕ, List}
 use Rattle.std.specs.Str.{chars}
-use Rattle.json5_text.specs.declared.error.Error.{Error}
+use Rattle.json5.specs.Error.{Error}
 use Rattle.json5.specs.Formatted.{IsFormatted, IsRefused}
 
 -- the text is a document, and this is written of it

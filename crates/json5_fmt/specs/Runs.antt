@@ -2,10 +2,10 @@
 use Rattle.std.specs.Prelude.{ℕ, List, [], ◌∷◌, ◌++◌, Option, IfSome, ⊤}
 use Rattle.std.specs.Str.{IsUtf8}
 use Rattle.std.specs.Io.KnownBytes.{Appends, Keeps}
-use Rattle.json5_grammar.specs.Characters.{line_feed}
-use Rattle.json5_text.specs.declared.error.Error.{Error}
+use Rattle.json5.specs.Characters.{line_feed}
+use Rattle.json5.specs.Error.{Error}
 use Rattle.json5_fmt.specs.Formats.{Formats, Refuses}
-use Rattle.json5_ser.specs.Pieces.{AppendsFront}
+use Rattle.json5.specs.Pieces.{AppendsFront}
 use Rattle.json5_fmt.specs.declared.stop.Stop.{Stop}
 use Rattle.json5_fmt.specs.declared.stop.Stop.TheVariants as stop
 

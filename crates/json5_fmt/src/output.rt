@@ -1,9 +1,9 @@
 //! Writing several texts.
 
-ghost use Rattle.json5_ser.specs.Pieces.{Pushes};
+ghost use Rattle.json5.specs.Pieces.{Pushes};
 ghost use Rattle.json5_fmt.specs.Pieces.{joined};
 
-use json5_ser::output::write_whole;
+use json5::ser::write_whole;
 use std::io::{self, Write};
 
 /// Writes the texts, one after the other.

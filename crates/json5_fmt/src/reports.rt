@@ -1,13 +1,13 @@
 //! The lines on standard error.
 
 ghost use Rattle.std.specs.Prelude.{◌≡◌};
-ghost use Rattle.json5_ser.specs.Pieces.{AppendsFront, Pushes};
+ghost use Rattle.json5.specs.Pieces.{AppendsFront, Pushes};
 ghost use Rattle.json5_fmt.specs.Reports.{fault_line, report_line, status_of, usage_line};
 
 use crate::output::write_texts;
 use crate::stop::Stop;
 use itoa::Buffer;
-use json5_text::error::Error;
+use json5::Error;
 use std::io::{self, Write};
 
 /// Writes why the work on this input ended, as one line, and answers the status that the program ends with. A failed write

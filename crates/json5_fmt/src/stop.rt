@@ -3,8 +3,7 @@
 ghost use Rattle.std.specs.Prelude.{◌≡◌};
 ghost use Rattle.json5_fmt.specs.Stops.{stop_at};
 
-use json5_text::ErrorCode;
-use json5_text::error::Error;
+use json5::{Error, ErrorCode};
 
 /// Why the work ended.
 #[derive(Debug, Drop)]

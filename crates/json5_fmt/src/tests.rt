@@ -2,8 +2,7 @@
 use crate::reports::{report, usage};
 use crate::run::run;
 use crate::stop::Stop;
-use json5_text::error::Error;
-use json5_text::{ErrorCode, Position};
+use json5::{Error, ErrorCode, Position};
 use std::alloc::Global;
 use std::io::{self, Read, Write};
 use std::test::Fail;

@@ -1,15 +1,21 @@
 //! Types of one's own that are read from JSON5, proved lawful by what json5_de promises alone.
 #![tactic(auto)]
 
-ghost use Rattle.std.specs.Prelude.{◌≡◌, true};
-ghost use Rattle.json5_grammar.specs.declared.code.ErrorCode.TheVariants as codes;
-ghost use Rattle.json5_de.specs.Law.{IsUnprompted};
-ghost use Rattle.json5_de.specs.Faults.{EndsWithOrMemory};
+mod levels;
+mod ports;
+mod tags;
 
-use json5_de::{Deserialize, Deserializer, SeqAccess, value_codes};
-use json5_text::error::{Error, Result};
-use json5_text::input::Input;
+ghost use Rattle.std.specs.Prelude.{◌≡◌, true};
+ghost use Rattle.json5.specs.ErrorCode.TheVariants as codes;
+ghost use Rattle.json5.specs.Law.{IsUnprompted};
+ghost use Rattle.json5.specs.Faults.{EndsWithOrMemory};
+
+use json5::de::value_codes;
+use json5::{Deserialize, Deserializer, Error, Input, Result, SeqAccess};
+pub use levels::Level;
+pub use ports::{Endpoint, OpenPort};
 use std::alloc::Global;
+pub use tags::Labels;
 
 /// Two ends, written as a list: `[low, high]`.
 #[derive(Drop)]
@@ -31,8 +37,8 @@ fn missing<I: Input>(seq: &SeqAccess<'_, I>, alloc: Global, field: &str) -> Erro
 }
 
 impl<I: Input, T: Deserialize<I>> Deserialize<I> for Bounds<T> {
-    ghost use Rattle.json5_grammar.specs.Members.{array_of};
-    ghost use Rattle.json5_de.specs.ConvertLists.{first_of, last_of};
+    ghost use Rattle.json5.specs.Members.{array_of};
+    ghost use Rattle.json5.specs.ConvertLists.{first_of, last_of};
 
     ghost Content = { T.Content × T.Content };
 
@@ -63,7 +69,7 @@ pub struct Port {
 
 impl<I: Input> Deserialize<I> for Port {
     ghost use Rattle.std.specs.Prelude.{ℕ, ◌^◌};
-    ghost use Rattle.json5_de.specs.Convert.{unsigned_below};
+    ghost use Rattle.json5.specs.Convert.{unsigned_below};
 
     ghost Content = { ℕ };
 
@@ -87,8 +93,8 @@ pub struct Point<T> {
 }
 
 impl<I: Input, T: Deserialize<I>> Deserialize<I> for Point<T> {
-    ghost use Rattle.json5_grammar.specs.Members.{array_of};
-    ghost use Rattle.json5_de.specs.ConvertLists.{first_of, last_of};
+    ghost use Rattle.json5.specs.Members.{array_of};
+    ghost use Rattle.json5.specs.ConvertLists.{first_of, last_of};
 
     ghost Content = { T.Content × T.Content };
 

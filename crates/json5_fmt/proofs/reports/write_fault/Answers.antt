@@ -1,5 +1,5 @@
 use Rattle.std.proofs.Common.{ℕ, List, subst}
-use Rattle.json5_ser.specs.Pieces.{Pushes}
+use Rattle.json5.specs.Pieces.{Pushes}
 use Rattle.json5_fmt.proofs.LinesJoined.{fault_joined}
 use Rattle.json5_fmt.proofs.reports.write_fault.Goals as goal
 

@@ -1,5 +1,5 @@
 use Rattle.std.proofs.Common.{rules}
-use Rattle.json5_text.specs.Errors.{kind_of}
+use Rattle.json5.specs.Errors.{kind_of}
 use Rattle.json5_fmt.proofs.Refusals.{refused_input, refused_run}
 use Rattle.json5_fmt.proofs.run.run.Goals as goal
 

@@ -91,9 +91,9 @@ returns-in-Err-clause-reads g c =
     c.in_ok-begin.ensures.passed next (other_sign c.in-Some.next 110 c.if-next-eq110.false) c.in-Err.ensures.refused c.in-Err.ensures.complete c.in-Err.ensures.no_memory c.in-Err.ensures.unprompted c.in-Err.ensures.same_text c.refuse-in-Err.ensures.state
     (record {
       kind = c.with_position-error.ensures.kind;
-      there = c.position_at.result;
+      there = c.position_of.result;
       place = c.with_position-error.ensures.place;
-      is_there = λ before split. c.position_at.ensures before start.unread (c.in-Err.ensures.same_text ∙ split) (c.offset-start.ensures.counted before split);
+      is_there = λ before split. c.position_of.ensures.inside before start.unread (c.in-Err.ensures.same_text ∙ split) (c.offset-start.ensures.counted before split);
     }))
 
 pub returns-in-Err-clause-ends : goal.returns-in-Err-clause-ends

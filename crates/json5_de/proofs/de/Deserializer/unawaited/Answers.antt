@@ -9,8 +9,8 @@ use Rattle.json5_de.proofs.de.Deserializer.unawaited.Goals.{in-Some, in-None}
 pub returns-clause-fault : goal.returns-clause-fault
 returns-clause-fault g c = elim c.match-peek.branch [
   | in-Some w ↦ subst (Refused (Unawaited c.args.ends c.args.differs) (cursor_of c.args.self.now)) (sym w.error-is)
-      (refused_char c.args.self.now w.new_at-error.result c.peek.result _ w.position_at.result c.peek.ensures w.in-Some.is w.new_at-error.ensures.kind w.new_at-error.ensures.place
-      (λ before split. w.position_at.ensures before c.args.self.now.unread split (w.offset.ensures.counted before split)))
+      (refused_char c.args.self.now w.new_at-error.result c.peek.result _ w.position_of.result c.peek.ensures w.in-Some.is w.new_at-error.ensures.kind w.new_at-error.ensures.place
+      (λ before split. w.position_of.ensures.inside before c.args.self.now.unread split (w.offset.ensures.counted before split)))
   | in-None w ↦ subst (Refused (Unawaited c.args.ends c.args.differs) (cursor_of c.args.self.now)) (sym w.error-is)
       (refused_end c.args.self.now w.new-error.result c.peek.result c.peek.ensures w.in-None.is w.new-error.ensures.kind w.new-error.ensures.place)
 ]

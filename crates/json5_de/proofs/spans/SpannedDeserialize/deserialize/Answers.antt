@@ -1,0 +1,41 @@
+use Rattle.std.proofs.Common.{◌∙◌, ◌≡◌, ◌+◌, ◌≤◌, ℕ, List, false, arith, Ok}
+use Rattle.std.proofs.lemmas.Result.{err_from_is_err_and}
+use Rattle.json5_grammar.specs.Documents.{max_depth}
+use Rattle.json5_grammar.specs.Trees.{Tree, depth}
+use Rattle.json5_grammar.specs.Values.{Reads}
+use Rattle.json5_de.specs.State.{State}
+use Rattle.json5_de.specs.Steps.{PassedGap}
+use Rattle.json5_de.proofs.Arrays.{level_of, failed_of}
+use Rattle.json5_de.proofs.Options.{blanks_no_value, value_next, took_behind}
+use Rattle.json5_de.proofs.Own.{reads_content}
+use Rattle.json5_de.proofs.spans.SpannedDeserialize.deserialize.Goals as goal
+
+-- what can be read stands after the blanks
+stands_after : (old at : State) (t : Tree) (r : List ℕ) → PassedGap old at → old.failed ≡ false → Reads old.unread t r → old.level + depth t ≤ max_depth → (at.failed ≡ false) × Reads at.unread t r × (at.level + depth t ≤ max_depth)
+stands_after old at t r p live reads shallow = let level = level_of p.rest in (failed_of p.rest ∙ live, value_next old at t r p reads, omega (arith, shallow, level))
+
+pub returns-in_err-begin-clause-complete : goal.returns-in_err-begin-clause-complete
+returns-in_err-begin-clause-complete g c t r v live reads shallow converts = absurd (blanks_no_value c.args.de.now c.in_err-begin.field-0.0 t r (c.in_err-begin.ensures.refused live) reads)
+
+pub returns-in_err-begin-clause-no_memory : goal.returns-in_err-begin-clause-no_memory
+returns-in_err-begin-clause-no_memory g c t r v live reads shallow converts free = absurd (blanks_no_value c.args.de.now c.in_err-begin.field-0.0 t r (c.in_err-begin.ensures.refused live) reads)
+
+pub returns-in_err-value-clause-complete : goal.returns-in_err-value-clause-complete
+returns-in_err-value-clause-complete g c t r v live reads shallow converts =
+    let (still, here, room) = stands_after c.args.de.now c.begin.new.self t r c.in_ok-begin.ensures.passed live reads shallow in
+    let (y, is, from) = err_from_is_err_and c.from_residual-in_err-value.result c.from_residual-in_err-value.ensures.1 in
+    rw (is, from) (c.in_err-value.ensures.complete t r v still here room converts)
+
+pub returns-in_err-value-clause-no_memory : goal.returns-in_err-value-clause-no_memory
+returns-in_err-value-clause-no_memory g c t r v live reads shallow converts free =
+    let (still, here, room) = stands_after c.args.de.now c.begin.new.self t r c.in_ok-begin.ensures.passed live reads shallow in
+    absurd (cc (c.in_err-value.ensures.no_memory t r v still here room converts free))
+
+pub returns-clause-sound : goal.returns-clause-sound
+returns-clause-sound g c =
+    let (t, took, is) = c.in_ok-value.ensures.sound in
+    (t, took_behind c.args.de.now c.begin.new.self c.deserialize.new.de t c.in_ok-begin.ensures.passed took, is)
+
+pub returns-clause-complete : goal.returns-clause-complete
+returns-clause-complete g c =
+    reads_content g.T.Deserialize.content g.T.Deserialize.convert c.args.de.now c.deserialize.new.de (Ok c.in_ok-value.value) (returns-clause-sound g c) (λ t r v live reads shallow converts. tt)

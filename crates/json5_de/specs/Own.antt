@@ -1,0 +1,22 @@
+-- Types of a user's own: a value is read, and then accepted or refused.
+use Rattle.std.specs.Prelude.{◌≡◌, ℕ, ◌+◌, ◌≤◌, false, List, Option, Some, None, Result, MatchResult}
+use Rattle.json5_grammar.specs.Trees.{Tree, depth}
+use Rattle.json5_grammar.specs.Values.{Reads}
+use Rattle.json5_grammar.specs.Documents.{max_depth}
+use Rattle.json5_text.specs.declared.error.Error.{Error}
+use Rattle.json5_text.specs.Cursor.{IsOutOfMemory}
+use Rattle.json5_de.specs.State.{State}
+
+-- where a tree that converts to c stands in front, the answer is Ok of a value whose content is c, unless memory runs out
+abbrev pub ReadsContent : {V C : Type 0} → (V → C) → (Tree → Option C) → State → Result V Error → Type 0
+ReadsContent {C = C} content convert old result =
+    (t : Tree) (r : List ℕ) (c : C) → old.failed ≡ false → Reads old.unread t r → old.level + depth t ≤ max_depth → convert t ≡ Some c → MatchResult result (λ v. content v ≡ c) IsOutOfMemory
+
+-- what is made of what there is
+abbrev pub if_more : {A B : Type 0} → (A → Option B) → Option A → Option B
+if_more g None = None
+if_more g (Some a) = g a
+
+-- a tree that converts, to what is accepted of it
+abbrev pub and_then : {A B : Type 0} → (Tree → Option A) → (A → Option B) → Tree → Option B
+and_then f g t = if_more g (f t)

@@ -1,0 +1,23 @@
+-- Where a value stands that was read.
+use Rattle.std.specs.Prelude.{◌≡◌, ◌⊎◌, ℕ, ◌++◌, false, List, length}
+use Rattle.std.specs.Str.{encode_utf8_all}
+use Rattle.json5_text.specs.declared.error.Error.{Error}
+use Rattle.json5_text.specs.Cursor.{Refused}
+use Rattle.json5_text.specs.Tokens.{FaultyBlanks}
+use Rattle.json5_de.specs.State.{State, cursor_of}
+use Rattle.json5_de.specs.Steps.{PassedGap}
+
+-- so many bytes stand before what is unread
+abbrev pub IsBefore : State → ℕ → Type 0
+IsBefore s offset = (before : List ℕ) → s.input ≡ before ++ s.unread → offset ≡ length (encode_utf8_all before)
+
+-- so many bytes stand before the value's first character, which the blanks end with, and so many before what follows the value
+pub record SpansValue (old : State) (start end : ℕ) (new : State) : Type 0 where
+  pub at : State
+  pub passed : PassedGap old at
+  pub starts : IsBefore at start
+  pub ends : IsBefore new end
+
+-- a comment before the value is at fault, or T refuses after the blanks
+abbrev pub RefusesSpanned : (State → Error → State → Type 0) → State → Error → State → Type 0
+RefusesSpanned refuses old e new = old.failed ≡ false → Refused FaultyBlanks (cursor_of old) e ⊎ ((at : State) × PassedGap old at × refuses at e new)

@@ -1,0 +1,55 @@
+//! Values and where they stand.
+
+ghost use Rattle.std.specs.Prelude.{IfOk, IfErr};
+ghost use Rattle.json5_de.specs.Law.{Gives, CompletesFree, Unprompted};
+ghost use Rattle.json5_de.specs.Own.{ReadsContent};
+ghost use Rattle.json5_de.specs.State.{SameText};
+ghost use Rattle.json5_de.specs.Spans.{SpansValue, RefusesSpanned};
+
+use crate::de::{Deserialize, Deserializer};
+use json5_text::error::Result;
+use json5_text::input::Input;
+
+/// A value and where it stands, for a fault of one's own at its place.
+///
+/// `position_of` of the reader, or of the access that gave the value, makes a position of `start`.
+#[derive(Drop)]
+pub struct Spanned<T> {
+    /// The count of bytes before the value's first character.
+    pub start: usize,
+    /// The count of bytes before what follows the value.
+    pub end: usize,
+    /// The value itself.
+    pub value: T,
+}
+
+/// What T reads, with the faults of T.
+impl<I: Input, T: Deserialize<I>> Deserialize<I> for Spanned<T> {
+    ghost use Rattle.json5_de.specs.Spans.{RefusesSpanned};
+
+    ghost Content = { T.Content };
+
+    ghost content = { λ s. T.content s.value };
+
+    ghost convert = { T.convert };
+
+    ghost free = { T.free };
+
+    ghost refuses = { RefusesSpanned T.refuses };
+
+    fn deserialize(de: &mut Deserializer<I>) -> Result<Spanned<T>>
+        ensures sound { IfOk result (λ s. Gives (λ v. T.content v.value) T.convert de.old de.new s) }
+        ensures complete { ReadsContent (λ v. T.content v.value) T.convert de.old result }
+        ensures no_memory { CompletesFree T.free T.convert de.old result }
+        ensures refused { IfErr result (λ e. RefusesSpanned T.refuses de.old e de.new) }
+        ensures unprompted { Unprompted de.old result }
+        ensures same_text { SameText de.old de.new }
+        ensures spans { IfOk result (λ s. SpansValue de.old s.start s.end de.new) }
+    {
+        de.begin()?;
+        let start = de.offset();
+        let value = T::deserialize(de)?;
+        let end = de.offset();
+        Ok(Spanned { start, end, value })
+    }
+}

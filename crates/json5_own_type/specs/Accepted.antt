@@ -1,0 +1,22 @@
+-- What the types of this crate accept of what they read.
+use Rattle.std.specs.Prelude.{◌==◌, ℕ, if◌then◌else◌, List, [], ◌∷◌, Option, Some, None, codes}
+use Rattle.std.specs.Str.{bytes_eq}
+use Rattle.json5_own_type.specs.declared.levels.Level.{Level}
+use Rattle.json5_own_type.specs.declared.levels.Level.TheVariants.{Low, Middle, High}
+
+-- a number above 0
+abbrev pub above_zero : ℕ → Option ℕ
+above_zero n = if n == 0 then None else Some n
+
+-- a host, and a port above 0
+abbrev pub open_endpoint : List ℕ × ℕ → Option (List ℕ × ℕ)
+open_endpoint (host, port) = if port == 0 then None else Some (host, port)
+
+-- at least one
+abbrev pub not_empty : {A : Type 0} → List A → Option (List A)
+not_empty [] = None
+not_empty (x ∷ xs) = Some (x ∷ xs)
+
+-- the level of this name
+abbrev pub level_named : List ℕ → Option Level
+level_named s = if bytes_eq s (codes "low") then Some Low else if bytes_eq s (codes "middle") then Some Middle else if bytes_eq s (codes "high") then Some High else None

@@ -1,0 +1,96 @@
+//! Types of one's own: what they accept, and where they refuse.
+
+use json5::{Deserialize, Result, from_str};
+use json5_own_type::{Endpoint, Labels, Level, OpenPort};
+use std::alloc::Global;
+use std::test::Fail;
+
+/// Whether the type refuses the text with a fault that is printed so.
+fn refuses<'de, T: Deserialize<&'de str>>(
+    alloc: Global,
+    text: &'de str,
+    printed: &str,
+) -> Result<bool> {
+    match from_str::<T>(alloc, text) {
+        Ok(_) => Ok(false),
+        Err(fault) => Ok(format!(in alloc; "{fault}")?.as_str() == printed),
+    }
+}
+
+/// Whether 0 is refused where it stands: alone, in a list, and as the port of an endpoint.
+fn port_0_is_refused(alloc: Global) -> Result<bool> {
+    Ok(
+        refuses::<OpenPort>(
+            alloc,
+            "\n/* none */ 0",
+            "port 0 can't be opened at line 2 column 12",
+        )? && refuses::<Vec<OpenPort>>(
+            alloc,
+            "[\n  80,\n  443,\n  0,\n]",
+            "port 0 can't be opened at line 4 column 3",
+        )? && refuses::<Endpoint>(
+            alloc,
+            "[\n  'localhost',\n  0,\n]",
+            "port 0 can't be opened at line 3 column 3",
+        )?,
+    )
+}
+
+/// Whether a list without labels is refused at its bracket, and a name of no level at its quote.
+fn others_are_refused(alloc: Global) -> Result<bool> {
+    Ok(
+        refuses::<Labels>(alloc, "\n  []", "expected a label at line 2 column 3")?
+            && refuses::<Vec<Labels>>(alloc, "[['a'],\n[]]", "expected a label at line 2 column 1")?
+            && refuses::<Level>(
+                alloc,
+                " 'highest'",
+                "expected low, middle or high at line 1 column 2",
+            )?
+            && refuses::<Vec<Level>>(
+                alloc,
+                "['low',\n'']",
+                "expected low, middle or high at line 2 column 1",
+            )?,
+    )
+}
+
+#[test]
+fn faults_of_own_types_stand_where_the_value_begins(
+    rt: HostRuntime,
+) -> std::result::Result<(), Fail> {
+    assert!(rt; port_0_is_refused(rt.alloc())?);
+    assert!(rt; others_are_refused(rt.alloc())?);
+    Ok(())
+}
+
+/// Whether what is refused before it is read keeps its own fault.
+fn other_faults_stay(alloc: Global) -> Result<bool> {
+    Ok(
+        refuses::<OpenPort>(alloc, " /", "EOF parsing comment")?
+            && refuses::<OpenPort>(alloc, "  ", "EOF parsing number")?
+            && refuses::<Level>(alloc, " low", "expected string at line 1 column 2")?
+            && refuses::<Labels>(alloc, "['a', 1]", "expected string at line 1 column 7")?,
+    )
+}
+
+/// Whether each type reads a text of its kind.
+fn own_types_are_read(alloc: Global) -> Result<bool> {
+    let port = from_str::<OpenPort>(alloc, "/* secure */ 443")?;
+    let endpoint = from_str::<Endpoint>(alloc, "['localhost', 8080]")?;
+    let labels = from_str::<Labels>(alloc, "['new', 'red']")?;
+    let levels = from_str::<[Level; 3]>(alloc, "['high', 'low', \"middle\"]")?;
+    Ok(
+        port.number == 443
+            && endpoint.host.as_str() == "localhost"
+            && endpoint.port == 8080
+            && labels.texts.len() == 2
+            && levels == [Level::High, Level::Low, Level::Middle],
+    )
+}
+
+#[test]
+fn own_types_read_what_they_accept(rt: HostRuntime) -> std::result::Result<(), Fail> {
+    assert!(rt; own_types_are_read(rt.alloc())?);
+    assert!(rt; other_faults_stay(rt.alloc())?);
+    Ok(())
+}
