@@ -1,5 +1,5 @@
 -- What the types of this crate accept of what they read.
-use Rattle.std.specs.Prelude.{◌==◌, ℕ, if◌then◌else◌, List, [], ◌∷◌, Option, Some, None, codes}
+use Rattle.std.specs.Prelude.{◌==◌, ℕ, if◌then◌else◌, nat_lt, List, [], ◌∷◌, Option, Some, None, codes}
 use Rattle.std.specs.Str.{bytes_eq}
 use Rattle.json5_own_type.specs.declared.levels.Level.{Level}
 use Rattle.json5_own_type.specs.declared.levels.Level.TheVariants.{Low, Middle, High}
@@ -8,9 +8,9 @@ use Rattle.json5_own_type.specs.declared.levels.Level.TheVariants.{Low, Middle, 
 abbrev pub above_zero : ℕ → Option ℕ
 above_zero n = if n == 0 then None else Some n
 
--- a host, and a port above 0
-abbrev pub open_endpoint : List ℕ × ℕ → Option (List ℕ × ℕ)
-open_endpoint (host, port) = if port == 0 then None else Some (host, port)
+-- the second isn't below the first
+abbrev pub in_order : ℕ × ℕ → Option (ℕ × ℕ)
+in_order (first, last) = if nat_lt last first then None else Some (first, last)
 
 -- at least one
 abbrev pub not_empty : {A : Type 0} → List A → Option (List A)

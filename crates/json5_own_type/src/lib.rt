@@ -13,7 +13,7 @@ ghost use Rattle.json5.specs.Faults.{EndsWithOrMemory};
 use json5::de::value_codes;
 use json5::{Deserialize, Deserializer, Error, Input, Result, SeqAccess};
 pub use levels::Level;
-pub use ports::{Endpoint, OpenPort};
+pub use ports::{Endpoint, OpenPort, PortRange};
 use std::alloc::Global;
 pub use tags::Labels;
 
