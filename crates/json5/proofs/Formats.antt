@@ -68,7 +68,7 @@ number_stop b s (code _) h = absurd h
 number_stop b s failed_write h = absurd h
 number_stop b s (custom _) h = absurd h
 
--- writing a scalar is refused for want of memory alone
+-- writing a scalar is refused only where memory runs out
 pub only_memory : (d : Datum) (e : Error) → RefusesText (out 128 (datum_tree d) 0) e → IsOutOfMemory e
 only_memory datum.null e h = number_stop true null_text (kind_of e) h.stops
 only_memory (datum.boolean b) e h = number_stop true (bool_text b) (kind_of e) h.stops
@@ -82,7 +82,7 @@ pub completed : {S : Type 0} (bytes : S → List ℕ) (x : List ℕ) (t u : Tree
 completed bytes x t u d (Ok s) a b is w k = subst (λ z. IsText (out 128 z 0) (bytes s)) (same_tree t d is ∙ ap unmarked (one_tree 128 128 x t u a b)) w
 completed bytes x t u d (Err e) a b is w k = only_memory d e k
 
--- want of memory is a cause of its own
+-- that memory ran out is a cause of its own
 pub memory_refused : (x : List ℕ) (e : Error) → IsOutOfMemory e → IsRefused x e
 memory_refused x e m = record {
   cause = inl m;

@@ -32,7 +32,7 @@ pub record IsFormatted (x bytes : List ℕ) : Type 0 where
   pub reads_back : Doc 128 (chars bytes) again
   pub same : unmarked again ≡ unmarked tree
 
--- x is refused: as a value of any kind that is read, or for want of memory, which is the only cause where x is a document of a scalar
+-- x is refused: as a value of any kind that is read, or since memory ran out, which is the only cause where x is a document of a scalar
 pub record IsRefused (x : List ℕ) (e : Error) : Type 0 where
   pub cause : IsOutOfMemory e ⊎ RefusesReading datum_of (RefusedAs any_row) x e
   pub after_value : BlamesRest datum_of x e

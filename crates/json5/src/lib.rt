@@ -4,6 +4,9 @@
 //! let port: u16 = json5::from_str(alloc, "/* default */ 8080")?;
 //! let text = json5::to_string(alloc, &port)?;
 //! ```
+//!
+//! What is read has `Deserialize`, what is written `Serialize`; each refusal is an `Error`. What allocates is handed the
+//! allocator.
 #![tactic(auto)]
 
 pub mod ser;
@@ -30,10 +33,16 @@ pub use json5_text::value::Value;
 pub use json5_text::whole::Whole;
 use std::alloc::Global;
 
-/// A document written again, indented, without its comments.
+/// A document written again, without its comments, each number and each text in its one spelling. No line feed stands at
+/// the end.
 ///
-/// It is Ok exactly where the text is a document, unless memory runs out. Today that is said of documents that are one scalar: an
-/// array or an object is refused with `ExpectedValue` at its bracket. A fault is that of reading a `Value`.
+/// It is Ok exactly when the text is a document, unless memory runs out. Today that is said of documents that are one scalar: an
+/// array or an object is refused with `ExpectedValue` at its bracket. A fault is that of reading a `Value`, its place counted
+/// from 0 in the text.
+///
+/// ```text
+/// json5::format(alloc, " +0x1F90 // in hexadecimal")?    // 8080
+/// ```
 pub fn format(alloc: Global, text: &str) -> Result<String>
     ensures formatted { IfOk result (λ s. IsFormatted (chars text.now) (string_bytes s)) }
     ensures complete { (t : Tree) → Doc 128 (chars text.now) t → IsScalar t → MatchResult result (λ s. WritesTree t (string_bytes s)) IsOutOfMemory }

@@ -6,7 +6,7 @@ pub mod Places
 pub mod Arrays
 pub mod Options
 pub mod Elements
-pub mod ManyElements
+pub mod SoMany
 pub mod Offsets
 pub mod AwaitsNumbers
 pub mod Mismatches
@@ -24,4 +24,5 @@ pub mod OpenClose
 pub mod Next
 pub mod Required
 pub mod ListFaults
+pub mod Loops
 pub mod Own

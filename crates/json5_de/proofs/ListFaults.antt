@@ -1,19 +1,14 @@
 -- How far a list was read, and why it is refused there.
-use Rattle.std.proofs.Common.{◌≡◌, ◌<◌, ℕ, zero, suc, Bool, true, false, List, ◌∷◌, ◌++◌, length, refl, sym, ap, ◌∙◌, subst, Option, Some, None, Result, Ok, Err, arith}
-use Rattle.std.specs.Prelude.{is_some, IsOk}
-use Rattle.std.specs.Str.{encode_utf8_all}
-use Rattle.json5_grammar.specs.Characters.{left_bracket}
+use Rattle.std.proofs.Common.{◌≡◌, ◌<◌, ℕ, suc, true, false, List, length, refl, sym, ap, ◌∙◌, subst, Option, Some, Ok, Err}
+use Rattle.std.specs.Prelude.{is_some}
 use Rattle.json5_grammar.specs.Trees.{Tree, Trees, no_more, more}
 use Rattle.json5_grammar.specs.Members.{snoc, contents, IsClose}
 use Rattle.json5_grammar.proofs.MembersConverted.{both_parts}
 use Rattle.json5_grammar.proofs.MembersPassed.{bracket_closes}
 use Rattle.json5_text.specs.declared.error.Error.{Error}
 use Rattle.json5_de.specs.State.{State}
-use Rattle.json5_de.specs.Brackets.{square}
-use Rattle.json5_de.specs.Faults.{RefusedBy}
-use Rattle.json5_de.specs.Access.{Seen, Opened, OpensAs, OpensArray, ClosesArray, AtClose, NotClosed, ElementsRead, ReadsMore}
-use Rattle.json5_de.specs.Seq.{RefusedAtBracket}
-use Rattle.json5_de.specs.Lists.{Element, Elements, element, every, count, Accepted, Within, Shape, HasPlace, ListFault, not_opened, at_element, too_few, too_many, no_memory, RefusesRequired, at_fault, missing, RefusesList}
+use Rattle.json5_de.specs.Access.{Seen, OpensArray, ClosesArray, AtClose, ElementsRead, ReadsMore}
+use Rattle.json5_de.specs.Lists.{Element, Elements, element, every, count, Accepted, Within, Shape, HasPlace, ListFault, not_opened, at_element, too_few, RefusesRequired, at_fault, missing, RefusesList}
 use Rattle.json5_de.proofs.Arrays.{no_bool}
 
 -- ---- elements that convert

@@ -1,5 +1,5 @@
 -- Why a list is refused.
-use Rattle.std.specs.Prelude.{◌≡◌, ◌⊎◌, ◌<◌, ◌+◌, ℕ, zero, suc, Bool, true, false, List, ◌∷◌, ◌++◌, length, Option, Some, None, is_some, Result, IfOk, MatchResult}
+use Rattle.std.specs.Prelude.{◌≡◌, ◌⊎◌, ◌<◌, ℕ, zero, suc, Bool, true, false, List, ◌∷◌, ◌++◌, length, Option, Some, None, is_some, Result, Ok, Err}
 use Rattle.std.specs.Str.{encode_utf8_all}
 use Rattle.json5_grammar.specs.declared.code.ErrorCode.TheVariants as codes
 use Rattle.json5_grammar.specs.Characters.{left_bracket}
@@ -9,7 +9,7 @@ use Rattle.json5_text.specs.Cursor.{Says, IsOutOfMemory}
 use Rattle.json5_de.specs.State.{State}
 use Rattle.json5_de.specs.Brackets.{square}
 use Rattle.json5_de.specs.Faults.{RefusedBy, IsUnplaced}
-use Rattle.json5_de.specs.Access.{Seen, Opened, AtClose, NotOpened, NotClosed, ElementsRead, ElementsLeft, IsAtBracket}
+use Rattle.json5_de.specs.Access.{Seen, Opened, AtClose, NotOpened, NotClosed, ElementsRead, LeavesFewer, IsAtBracket}
 use Rattle.json5_de.specs.Seq.{RefusedAtBracket}
 
 -- ---- the elements of a list
@@ -55,10 +55,11 @@ pub data RefusesRequired (refuses : State → Error → State → Type 0) (old :
   at_fault : RefusedAtBracket refuses old e → RefusesRequired refuses old e
   missing : (at : State) → AtClose old.due old.reader at → IsTooShort old e → RefusesRequired refuses old e
 
--- where elements are left and the first converts, it was read, unless memory ran out, and the others are left
-abbrev pub LeavesOthers : {V C : Type 0} → (V → C) → (Tree → Option C) → Seen → Seen → Result V Error → Type 0
-LeavesOthers {C = C} content convert old new result =
-    (t : Tree) (ts : Trees) (r : List ℕ) (c : C) → ElementsLeft (more t ts) r old → convert t ≡ Some c → MatchResult result (λ v. (convert t ≡ Some (content v)) × ElementsLeft ts r new) IsOutOfMemory
+-- where elements are left and the first converts, it was read, unless memory ran out, and the others are left; where none is left, none was read
+abbrev pub LeavesRequired : {V C : Type 0} → (V → C) → (Tree → Option C) → Trees → List ℕ → Seen → Result V Error → Type 0
+LeavesRequired content convert ts r new (Ok v) = LeavesFewer content convert ts r new (Ok (Some v))
+LeavesRequired content convert no_more r new (Err e) = Unit {0}
+LeavesRequired content convert (more t ts) r new (Err e) = LeavesFewer content convert (more t ts) r new (Err e)
 
 -- ---- a list
 

@@ -13,7 +13,7 @@ ghost use Rattle.json5_de.specs.Faults.{RefusedBy, IsUnplaced};
 ghost use Rattle.json5_de.specs.Brackets.{AreSigns};
 ghost use Rattle.json5_de.specs.Law.{Unprompted};
 ghost use Rattle.json5_de.specs.Access.{bare, Closed, OpensAs, OpensArray, ClosesArray, GivesElement, CompletesElement, CompletesClose, PlacedAtBracket, Unawaited, NotClosed, ElementsLeft, ReadsMore, LeavesFewer};
-ghost use Rattle.json5_de.specs.Lists.{IsTooShort, LeavesOthers, RefusesRequired};
+ghost use Rattle.json5_de.specs.Lists.{IsTooShort, LeavesRequired, RefusesRequired};
 ghost use Rattle.json5_de.specs.Seq.{TookClosing, RefusesClosing, GoesOn, NoNext, RefusesElement, RefusesNext};
 
 use crate::brackets::Brackets;
@@ -256,7 +256,7 @@ impl<'a, I: Input> SeqAccess<'a, I> {
         ensures start { (seen self.new).start ≡ (seen self.old).start }
         ensures same_text { SameText (seen self.old).reader (seen self.new).reader }
         ensures read { IfOk result (λ v. ReadsMore T.content T.convert (seen self.old) (seen self.new) (Some v)) }
-        ensures left { LeavesOthers T.content T.convert (seen self.old) (seen self.new) result }
+        ensures left { (ts : Trees) (r : List ℕ) → ElementsLeft ts r (seen self.old) → LeavesRequired T.content T.convert ts r (seen self.new) result }
         ensures refused { IfErr result (λ e. (seen self.old).reader.failed ≡ false → RefusesRequired T.refuses (seen self.old) e) }
         ensures unprompted { Unprompted (seen self.old).reader result }
     {

@@ -13,11 +13,11 @@ stop_of_kind (code _) e = stop.Text e
 stop_of_kind (custom text) e = stop.Text e
 stop_of_kind failed_write e = stop.Text e
 
--- want of memory is no fault of the text
+-- that memory ran out is no fault of the text
 abbrev pub stop_at : Error → Stop
 stop_at e = stop_of_kind (kind_of e) e
 
--- want of memory is named as such, and no text is refused for it
+-- where memory ran out the cause says so, and no text is blamed
 abbrev pub NamesMemory : Stop → Type 0
 NamesMemory stop.NotUtf8 = ⊤
 NamesMemory (stop.Text e) = ¬ (IsOutOfMemory e)

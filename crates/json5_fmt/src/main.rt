@@ -17,7 +17,7 @@ use std::env;
 use std::process::ExitCode;
 use std::rt::Runtime;
 
-/// Whether words stand after the program's name; also where they can't be had.
+/// Whether words stand after the program's name; true also where the system doesn't give them.
 fn has_words<R: Runtime>(rt: &R) -> bool {
     match env::args(rt) {
         Ok(words) => words.count() > 1,

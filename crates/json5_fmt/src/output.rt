@@ -1,4 +1,4 @@
-//! Writing texts in a row.
+//! Writing several texts.
 
 ghost use Rattle.json5.specs.Pieces.{Pushes};
 ghost use Rattle.json5_fmt.specs.Pieces.{joined};

@@ -10,8 +10,8 @@ use itoa::Buffer;
 use json5::Error;
 use std::io::{self, Write};
 
-/// Writes why the work on this input ended, as one line, and answers the status that the program ends with. A failed write is
-/// passed over.
+/// Writes why the work on this input ended, as one line, and answers the status that the program ends with. A failed write
+/// changes nothing in the answer.
 pub fn report<E: Write>(name: &str, stop: &Stop, e: &mut E) -> u8
     ensures status { result ≡ status_of stop.now }
     ensures line { AppendsFront (E.contents e.old) (E.contents e.new) (report_line name.now stop.now) }
@@ -23,7 +23,7 @@ pub fn report<E: Write>(name: &str, stop: &Stop, e: &mut E) -> u8
     }
 }
 
-/// Writes how the program is called, as one line, and answers the status 2. A failed write is passed over.
+/// Writes how the program is called, as one line, and answers the status 2, after a failed write too.
 pub fn usage<E: Write>(e: &mut E) -> u8
     ensures status { result ≡ 2 }
     ensures line { AppendsFront (E.contents e.old) (E.contents e.new) usage_line }
@@ -44,7 +44,7 @@ fn write_report<E: Write>(name: &str, stop: &Stop, e: &mut E) -> io::Result<()>
     }
 }
 
-/// Writes what the error prints, without memory.
+/// Writes what the fault prints, without memory.
 fn write_fault<E: Write>(name: &str, error: &Error, e: &mut E) -> io::Result<()>
     ensures { Pushes (E.contents e.old) (E.contents e.new) (fault_line name.now error.now) result }
 {

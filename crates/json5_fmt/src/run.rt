@@ -11,7 +11,7 @@ use std::io::{ErrorKind, Read, Write};
 
 /// Reads all of `r`, and writes the text of its value and one LF to `w`, which isn't flushed.
 ///
-/// `NotUtf8` and `Text` say that what was read is no text or no document; a text that is refused for want of memory is
+/// `NotUtf8` and `Text` say that what was read is no text or no document; a text that is refused since memory ran out is
 /// `NoMemory`. At these and at `Read` nothing was written. At `Write` the writer failed, and a prefix of the output was written.
 pub fn run<R: Read, W: Write>(alloc: Global, r: &mut R, w: &mut W) -> Result<(), Stop>
     ensures written { OnOk result (IfSome (R.remaining r.old) (WritesFormatted (W.contents w.old) (W.contents w.new))) }

@@ -12,7 +12,7 @@ pub enum Stop {
     NotUtf8,
     /// The text is no document.
     Text(Error),
-    /// Memory was refused.
+    /// Memory ran out.
     NoMemory,
     /// A read failed.
     Read,
@@ -21,7 +21,7 @@ pub enum Stop {
 }
 
 impl Stop {
-    /// For a refused text; `NoMemory` where memory was the cause.
+    /// The cause that ends the work at this fault of the text; `NoMemory` where memory ran out.
     pub fn at(error: Error) -> Stop
         ensures { result ≡ stop_at error }
     {

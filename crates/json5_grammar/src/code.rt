@@ -3,10 +3,10 @@ ghost use Rattle.std.specs.Prelude.{◌≡◌, Some};
 
 use std::fmt;
 
-/// What a fault is, where it is no custom one.
+/// What a fault says, unless it is a custom fault or a failed write.
 #[derive(Clone, Copy, Debug, PartialEq, Eq)]
 pub enum ErrorCode {
-    /// The text ends after a value in an array, where a comma or `]` is expected.
+    /// The text ends after a value in an array, where a comma or `]` is expected, or where an array is expected.
     EofParsingArray,
     /// The text ends in `true` or `false`, or where a boolean is expected.
     EofParsingBool,
@@ -14,7 +14,7 @@ pub enum ErrorCode {
     EofParsingComment,
     /// The text ends in an escape of a string, or in a name's `\u` escape.
     EofParsingEscapeSequence,
-    /// The text ends in a name, or right after its backslash.
+    /// The text ends in a name, right after its backslash, or where a name is expected.
     EofParsingIdentifier,
     /// The text ends in `null`, or where it is expected.
     EofParsingNull,
@@ -68,11 +68,11 @@ pub enum ErrorCode {
     OverflowParsingNumber,
     /// A character after the document's value that is neither blank nor begins a comment.
     TrailingCharacters,
-    /// An array or object past the nesting limit.
+    /// A bracket past the nesting limit, which is 128.
     TooDeep,
-    /// Memory was refused.
+    /// Memory ran out.
     OutOfMemory,
-    /// An earlier call had failed.
+    /// An earlier call was refused, or an access was dropped before its end.
     Failed,
 }
 

@@ -17,8 +17,9 @@ pub struct Position {
 }
 
 impl Position {
-    /// The position of a byte's offset in a text. Line terminators are LF, CR, U+2028 and U+2029, and a CR LF that lies
-    /// wholly before the offset is one (ECMAScript 5.1 section 7.3).
+    /// The position of an offset in a text. The offset counts bytes; a character begins there, or the text ends. Line
+    /// terminators are LF, CR, U+2028 and U+2029, and a CR LF that lies wholly before the offset is one (ECMAScript 5.1 section
+    /// 7.3).
     pub fn from_offset(offset: usize, input: &str) -> Position
         requires { IsCharBoundary input.now offset }
         ensures { result ≡ position_behind (chars (take offset input.now)) }

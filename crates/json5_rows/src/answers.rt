@@ -16,7 +16,7 @@ pub fn shown<T: Debug + Drop>(alloc: Global, given: Result<T>) -> Answer {
     Ok(format!(in alloc; "{value:?}")?)
 }
 
-/// The fault of a row that names nothing known.
+/// The fault of a row whose call or type is unknown.
 pub fn unknown(alloc: Global) -> Answer {
     Err(Error::custom(alloc, "no such type or call")?)
 }
@@ -99,7 +99,7 @@ fn write_digits<W: fmt::Write>(decimal: &Decimal, f: &mut fmt::Formatter<W>) -> 
     write!(f, "{sign}{digits}e{exponent}")
 }
 
-/// A value of any kind: `null`, a truth, a whole number, a decimal by its digits, or a text in quotes.
+/// A value of any kind: `null`, a boolean, a whole number, a decimal by its digits, or a text in quotes.
 #[derive(Drop)]
 pub struct Any(pub Value);
 

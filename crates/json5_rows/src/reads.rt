@@ -6,7 +6,7 @@ use json5_own_type::{Bounds, Point, Port};
 use std::alloc::Global;
 use std::fmt::Debug;
 
-/// Answers at the type that has this name; else goes on.
+/// Reads as the type of this list that has the name, and returns; does nothing where none has it.
 macro_rules! read_as {
     ($name:ident, $alloc:ident, $text:ident; $($t:ty),* $(,)?) => {
         $(if $name == stringify!($t) {

@@ -21,7 +21,7 @@ pub fn answer_of(alloc: Global, row: &str) -> Result<String, AllocError> {
     shortened(alloc, answer.as_str())
 }
 
-/// Makes the call; one without a name is a reading of the type.
+/// Makes the call; a type alone is read.
 fn answer(alloc: Global, call: &str, text: &str) -> Answer {
     let (name, words) = call.split_once(' ').unwrap_or((call, ""));
     match name {

@@ -28,7 +28,7 @@ fn is_in(class: &str, c: char) -> bool {
     }
 }
 
-/// The position of a byte's offset.
+/// The position of an offset in bytes.
 pub fn position(alloc: Global, offset: &str, text: &str) -> Answer {
     let offset = offset.parse::<usize>().unwrap_or(0);
     if !text.is_char_boundary(offset) {

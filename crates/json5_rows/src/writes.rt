@@ -4,7 +4,7 @@ use crate::answers::{Answer, unknown};
 use json5::{CowStr, Decimal, Deserialize, Serialize, Value, from_str, to_string};
 use std::alloc::Global;
 
-/// Answers at the type that has this name; else goes on.
+/// Writes as the type of this list that has the name, and returns; does nothing where none has it.
 macro_rules! write_as {
     ($name:ident, $alloc:ident, $text:ident; $($t:ty),* $(,)?) => {
         $(if $name == stringify!($t) {

@@ -1,4 +1,4 @@
--- The bytes of a writer behind a reference.
+-- The bytes of a writer that a reference leads to.
 use Rattle.std.specs.Prelude.{ℕ, List, ◌∷◌, Option}
 use Rattle.std.specs.Option.{option_map}
 use Rattle.std.specs.Borrow.{GName}

@@ -48,7 +48,7 @@ impl<W: Write + Drop> Serializer<W> {
         self.put_ascii(&run[..left])
     }
 
-    /// The digits with a point before the last `places` of them, and zeros where there are no more.
+    /// Writes the digits with a point before the last `places` of them, and zeros where there are fewer.
     fn put_pointed(&mut self, digits: &str, places: usize) -> Result<()>
         requires { Each is_digit digits.now }
         ensures { Writes (piece (pointed digits.now places)) self.old result self.new }
@@ -64,7 +64,7 @@ impl<W: Write + Drop> Serializer<W> {
         self.put_ascii(digits)
     }
 
-    /// The digits times ten to the exponent.
+    /// Writes a finite number without its sign: the digits times ten to the exponent.
     fn put_finite(&mut self, value: &Decimal) -> Result<()>
         ensures { Writes (piece (digits_text (digits_in value.now) (exponent_in value.now))) self.old result self.new }
     {
@@ -81,8 +81,8 @@ impl<W: Write + Drop> Serializer<W> {
         self.put_ascii(".0")
     }
 
-    /// Writes the number in plain notation, always with a point; else `Infinity` or `NaN`. A minus
-    /// stands before what is negative, zero too.
+    /// Writes the number in plain notation, always with a point; else `Infinity` or `NaN` (JSON5 section 6). A minus
+    /// stands before what is negative, zero too: `1.5`, `1000.0`, `-0.0`.
     pub fn serialize_decimal(&mut self, value: &Decimal) -> Result<()>
         ensures { WritesTree (number (numbers.decimal value.now)) self.old result self.new }
     {

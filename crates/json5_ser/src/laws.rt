@@ -10,7 +10,7 @@ ghost use Rattle.json5_ser.specs.Out.{out, piece, whole};
 ghost use Rattle.json5_ser.specs.Marks.{marks, unmarked};
 ghost use Rattle.json5_ser.specs.Lone.{IsLoneText};
 
-/// A number's text is whole exactly where it is a whole number in range, or a decimal in normal form.
+/// A number's text is whole exactly when it is a whole number in range, or a decimal in normal form.
 pub fn written_numbers()
     ensures text { (limit d : ℕ) (n : Number) → IsNumber n → out limit (number n) d ≡ piece (number_text n) }
     ensures numbers { (limit d : ℕ) (n : Number) → (out limit (number n) d).stop ≡ whole → IsNumber n }

@@ -4,8 +4,8 @@ ghost use Rattle.json5_ser.specs.Pieces.{Pushes};
 
 use std::io::{self, ErrorKind, Write};
 
-/// Calls `write` until all bytes are taken. An error, `Interrupted` too, and a call that takes nothing, which is answered with
-/// `WriteZero`, end it, and no call follows: then a prefix of the bytes was written.
+/// Calls `write` until all bytes are taken. It ends at the first call that answers an error, `Interrupted` too, or takes
+/// nothing (`WriteZero`), and makes no further call: then a prefix of the bytes was written.
 pub fn write_whole<W: Write>(writer: &mut W, bytes: &[u8]) -> io::Result<()>
     ensures { Pushes (W.contents writer.old) (W.contents writer.new) bytes.now result }
 {

@@ -8,7 +8,7 @@ ghost use Rattle.json5_ser.specs.Escaping.{NeedsNoEscape, SplitsAtEscape, Starts
 
 use json5_text::char::escape;
 
-/// What a text stands between.
+/// The quotes round a text.
 #[derive(Clone, Copy)]
 pub(crate) enum Quote {
     Single,
@@ -58,8 +58,8 @@ fn front(text: &str) -> Option<(char, &str)>
     Some((c, rest.as_str()))
 }
 
-/// The front of the text that is written as it stands, the escape of the character that follows, and
-/// what follows that character; None where the whole text is written as it stands.
+/// Up to the first character that is escaped: the text before it, its escape, and the text after it. None where the whole text
+/// is written as it stands.
 pub(crate) fn split_at_escape(quote: Quote, text: &str) -> Option<(&str, &'static str, &str)>
     ensures { MatchOption result (NeedsNoEscape (delimiter quote) text.now) (λ p. SplitsAtEscape (delimiter quote) text.now p.0.now p.1.now p.2.now) }
 {

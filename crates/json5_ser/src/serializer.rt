@@ -18,7 +18,9 @@ use json5_text::error::{Error, Result};
 use std::io::Write;
 use std::marker::Model;
 
-/// Writes values to `W`. After a refusal every call answers `Failed`.
+/// Writes values to `W`, one after another with nothing between them. Each call writes its text whole, in one or more pieces,
+/// and takes no memory of its own; `flush` is never called. A call is refused where the writer fails (a failed write) and after
+/// an earlier refusal (`Failed`), without a place.
 #[derive(Drop)]
 pub struct Serializer<W: Write + Drop> {
     writer: W,
@@ -35,7 +37,7 @@ impl<W: Write + Drop> Model for Serializer<W> {
 }
 
 impl<W: Write + Drop> Serializer<W> {
-    /// Nothing is written yet.
+    /// A serializer that writes to this writer. Nothing is written yet.
     pub fn new(writer: W) -> Self
         ensures { result ≡ fresh (W.contents writer) }
     {
@@ -46,7 +48,7 @@ impl<W: Write + Drop> Serializer<W> {
         }
     }
 
-    /// Gives the writer back.
+    /// Gives the writer back, with what was written.
     pub fn into_inner(self) -> W
         ensures { W.contents result ≡ self.known }
     {
@@ -58,7 +60,7 @@ impl<W: Write + Drop> Serializer<W> {
         writer
     }
 
-    /// Writes a piece, unless a call was refused before.
+    /// Writes a piece; `Failed` where a call was refused before.
     pub(crate) fn put(&mut self, text: &str) -> Result<()>
         ensures { Writes (piece (chars text.now)) self.old result self.new }
     {
@@ -170,7 +172,7 @@ impl<W: Write + Drop> Serializer<W> {
         self.put_integer(value)
     }
 
-    /// The text with the characters escaped that don't stand for themselves between these quotes.
+    /// Writes the text, the characters escaped that don't stand for themselves between these quotes.
     /// What stands between two escapes is written in one piece.
     fn put_escaped(&mut self, quote: Quote, text: &str) -> Result<()>
         ensures { Writes (piece (escaped_all (delimiter quote) (chars text.now))) self.old result self.new }
@@ -184,7 +186,8 @@ impl<W: Write + Drop> Serializer<W> {
         self.put(rest)
     }
 
-    /// Writes a text between quotes: between `'` where it holds `"` and no `'`, else between `"`.
+    /// Writes a text between quotes: between `'` where it holds `"` and no `'`, else between `"` (JSON5 section 5). That quote,
+    /// backslashes, LF, CR, U+2028 and U+2029 are escaped, and all other characters stand as they are.
     pub fn serialize_str(&mut self, value: &str) -> Result<()>
         ensures { WritesTree (text (chars value.now)) self.old result self.new }
     {
@@ -195,7 +198,7 @@ impl<W: Write + Drop> Serializer<W> {
         self.put(mark)
     }
 
-    /// Writes the text of one character.
+    /// Writes the text of one character, as `serialize_str`.
     pub fn serialize_char(&mut self, value: char) -> Result<()>
         ensures { WritesTree (text (value ∷ [])) self.old result self.new }
     {

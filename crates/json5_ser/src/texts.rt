@@ -34,6 +34,10 @@ impl<W: Write> Write for Lent<'_, W> {
 
 /// Writes the text of a value. After a refusal the writer holds a prefix of the text: exactly
 /// the text before the key or the bracket at `InvalidKey` or `TooDeep`. `flush` isn't called.
+///
+/// ```text
+/// json5::to_writer(&mut rt.stdout(), &port)?;
+/// ```
 pub fn to_writer<T: Serialize, W: Write>(w: &mut W, value: &T) -> Result<()>
     ensures { WritesTree (T.tree value.now) (fresh (W.contents w.old)) result (ended (W.contents w.new) result) }
 {
@@ -44,8 +48,13 @@ pub fn to_writer<T: Serialize, W: Write>(w: &mut W, value: &T) -> Result<()>
     result
 }
 
-/// The text of a value. It refuses with `InvalidKey` or `TooDeep` where the text stops, and with
-/// `OutOfMemory` where a growth was refused.
+/// The text of a value, on one line where it is no list and no object. It refuses with `InvalidKey` or `TooDeep` where the text
+/// stops, and with `OutOfMemory` where memory ran out; no refusal has a place.
+///
+/// ```text
+/// json5::to_string(alloc, &8080u16)?    // 8080
+/// json5::to_string(alloc, &"it's")?     // "it's"
+/// ```
 pub fn to_string<T: Serialize>(alloc: Global, value: &T) -> Result<String>
     ensures whole { IfOk result (λ s. IsText (text_of (T.tree value.now)) (string_bytes s)) }
     ensures refused { IfErr result (RefusesText (text_of (T.tree value.now))) }

@@ -108,7 +108,7 @@ fn positions_are_printed_from_one(rt: HostRuntime) -> Result<(), Fail> {
     Ok(())
 }
 
-/// A message that refuses after its beginning.
+/// A message that writes its first half and then refuses.
 #[derive(Drop)]
 struct Broken;
 
@@ -161,7 +161,7 @@ fn clones_are_equal(alloc: Global) -> json5::Result<bool> {
     Ok(code.clone(alloc)? == code && text.clone(alloc)? == text && write.clone(alloc)? == write)
 }
 
-/// Whether faults differ where they say another thing, or stand at another place.
+/// Whether faults differ that say another thing or have another place.
 fn others_differ(alloc: Global) -> json5::Result<bool> {
     let text = Error::custom(alloc, "out of memory")?;
     let code = Error::new(ErrorCode::OutOfMemory);

@@ -10,6 +10,8 @@ mod own_types;
 #[cfg(test)]
 mod readers;
 #[cfg(test)]
+mod readme;
+#[cfg(test)]
 mod values;
 #[cfg(test)]
 mod writers;

@@ -12,7 +12,7 @@ fn hash_of<T: Hash>(value: &T) -> u64 {
     state.finish()
 }
 
-/// Whether a whole number is these of the two types.
+/// Whether a whole number converts to these.
 fn is_both(number: Whole, unsigned: Option<u128>, signed: Option<i128>) -> bool {
     number.as_u128() == unsigned && number.as_i128() == signed
 }

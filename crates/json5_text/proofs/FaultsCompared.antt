@@ -1,4 +1,4 @@
--- Faults are equal exactly where they say the same and have the same place.
+-- Faults are equal exactly when they say the same and have the same place.
 use Rattle.std.proofs.Common.{◌≡◌, ◌∙◌, ℕ, refl, ap, Option, Some, None, ◌==◌, ◌&&◌, string_bytes}
 use Rattle.std.specs.Bool.{Decides}
 use Rattle.std.specs.String.{string_eq}

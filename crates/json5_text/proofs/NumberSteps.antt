@@ -132,7 +132,7 @@ pub nan_rest : chars (codes "aN") ≡ codes "aN"
 unfolding chars
 nan_rest = refl
 
--- a code is no want of memory
+-- a code doesn't say that memory ran out
 pub known_wants : (r : Refusal) (m : Read Number) → HasCode r → WantsForDigits r m
 known_wants (refusal.Code c left) m h = tt
 known_wants (refusal.InvalidNumber left) m h = absurd h

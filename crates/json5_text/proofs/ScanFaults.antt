@@ -111,7 +111,7 @@ refused {A = A} IsFault s err (refusal.TooLarge left) res k e m = custom_refused
 refused {A = A} IsFault s err (refusal.UnpairedSurrogate u left) res k e m = custom_refused A IsFault s err res left k e m
 refused IsFault s err refusal.OutOfMemory res k e m = inl m
 
--- a code is no want of memory
+-- a code doesn't say that memory ran out
 pub no_memory : (r : Refusal) → HasCode r → r ≡ refusal.OutOfMemory → ⊥
 no_memory (refusal.Code c left) h e = cc
 no_memory (refusal.InvalidNumber left) h e = h

@@ -75,7 +75,7 @@ faulty_number x (bad e p) k = k
 pub number_faulty : (x y : List ℕ) → x ≡ y → FaultyIn FaultyNumber y (number x)
 number_faulty x y e = subst (λ z. FaultyIn FaultyNumber y (number z)) (sym e) (faulty_number y (number y) (number_at_sound y))
 
--- a number in front without digits to keep is not refused for want of memory
+-- memory doesn't run out at a number in front without digits to keep
 pub number_memory : (x y s t : List ℕ) (n : Number) (r : Refusal) → x ≡ y → Refuses r (outcome (number x)) → WantsForDigits r (number x) → y ≡ s ++ t → Num s n → NotBegun (lengthens s) t → keeps_digits n ≡ false → ⊥
 number_memory x y s t n r f h k e num stops free =
     let read : number x ≡ got n t = ap number (f ∙ e) ∙ complete num t stops in

@@ -117,7 +117,7 @@ string_quoted r (quoted k i) = rw k refl
 string_in_front : {s u : List ℕ} {plain : Bool} (r : List ℕ) → Str s u plain → string_at (s ++ r) ≡ got (u, plain) r
 string_in_front r k = string_quoted r k ∙ string_complete r k
 
--- what can be read is refused for want of memory alone
+-- what can be read is refused only where memory runs out
 pub of_memory : {A : Type 0} (r : Refusal) (a : A) (x : List ℕ) → Refuses {A = A} r (gave a x) → r ≡ refusal.OutOfMemory
 of_memory {A = A} (refusal.Code c left) a x h = absurd (gave_failed A a x (Some c) left h)
 of_memory {A = A} (refusal.InvalidNumber left) a x h = absurd (gave_failed A a x None (Some left) h)
@@ -125,7 +125,7 @@ of_memory {A = A} (refusal.TooLarge left) a x h = absurd (gave_failed A a x None
 of_memory {A = A} (refusal.UnpairedSurrogate k left) a x h = absurd (gave_failed A a x None (Some left) h)
 of_memory refusal.OutOfMemory a x h = refl
 
--- a plain string in front is not refused for want of memory
+-- memory doesn't run out at a plain string in front
 pub plain_memory : (x y s u t : List ℕ) (r : Refusal) → x ≡ y → Refuses r (outcome (string_at x)) → (r ≡ refusal.OutOfMemory → (u t : List ℕ) → string_at x ≡ got (u, true) t → ⊥) → y ≡ s ++ t → Str s u true → ⊥
 plain_memory x y s u t r f h k e p =
     let read : string_at x ≡ got (u, true) t = ap string_at (f ∙ e) ∙ string_in_front t p in
@@ -180,7 +180,7 @@ faulty_name x (bad e p) k = k
 pub name_faulty : (x y : List ℕ) → x ≡ y → FaultyIn FaultyName y (identifier x)
 name_faulty x y e = subst (λ z. FaultyIn FaultyName y (identifier z)) (sym e) (faulty_name y (identifier y) (name_at_sound y))
 
--- a plain name in front is not refused for want of memory
+-- memory doesn't run out at a plain name in front
 pub plain_name_memory : (x y s u t : List ℕ) (c : ℕ) (r : Refusal) → x ≡ y → Refuses r (outcome (identifier x)) → (r ≡ refusal.OutOfMemory → (u t : List ℕ) → identifier x ≡ got (u, true) t → ⊥) → y ≡ s ++ c ∷ t → Ident s u true
     → goes_on_name c ≡ false → ⊥
 plain_name_memory x y s u t c r f h k e p stops =

@@ -43,7 +43,7 @@ Skips reading (Err e) = RefusesByCode e reading
 
 -- ---- numbers
 
--- the fault; memory is wanted for digits alone
+-- the fault; memory is taken for digits alone
 pub record RefusesNumber (e : Refusal) (reading : Read Number) : Type 0 where
   pub refused : Refuses e (outcome reading)
   pub memory : WantsForDigits e reading
@@ -76,7 +76,7 @@ pub record IsCow (value : CowStr) (spelled : List ℕ) (plain : Bool) : Type 0 w
 abbrev pub IsOwned : {A : Type 0} → String A → List ℕ → Bool → Type 0
 IsOwned value spelled plain = string_bytes value ≡ encode_utf8_all spelled
 
--- no plain text is refused for want of memory
+-- memory doesn't run out at a plain text
 abbrev pub SparesPlain : Refusal → Read (List ℕ × Bool) → Type 0
 SparesPlain e reading = e ≡ refusal.OutOfMemory → (spelled rest : List ℕ) → reading ≡ got (spelled, true) rest → ⊥
 

@@ -7,7 +7,7 @@ use Rattle.json5_text.specs.declared.refusal.Refusal.{Refusal}
 use Rattle.json5_text.specs.declared.refusal.Refusal.TheVariants as refusal
 use Rattle.json5_text.specs.NumberViews.{keeps_digits}
 
--- want of memory says nothing of the text
+-- that memory ran out says nothing of the text
 abbrev pub Refuses : {A : Type 0} → Refusal → Outcome A → Type 0
 Refuses (refusal.Code c left) m = m ≡ failed (Some c) left
 Refuses (refusal.InvalidNumber left) m = m ≡ failed None (Some left)
@@ -20,7 +20,7 @@ abbrev pub KeepsDigits : Read Number → Type 0
 KeepsDigits (got n r) = keeps_digits n ≡ true
 KeepsDigits (bad e p) = ⊥
 
--- memory is wanted for a number's digits alone
+-- memory is taken for a number's digits alone
 abbrev pub WantsForDigits : Refusal → Read Number → Type 0
 WantsForDigits (refusal.Code c left) m = ⊤
 WantsForDigits (refusal.InvalidNumber left) m = ⊤

@@ -17,7 +17,7 @@ pub record InText (text : List ℕ) (offset end : ℕ) : Type 0 where
   pub counted : end ≡ length text
   pub cut : IsCharBoundary text offset
 
--- a code, and neither a text of its own nor want of memory
+-- a code, and neither a text of its own nor that memory ran out
 abbrev pub HasCode : Refusal → Type 0
 HasCode (refusal.Code c left) = ⊤
 HasCode (refusal.InvalidNumber left) = ⊥

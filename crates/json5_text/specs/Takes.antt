@@ -29,7 +29,7 @@ pub record TakesWord (w : List ℕ) (ends differs : ErrorCode) (old new : Cursor
   pub refused : IfErr result (λ e. Refused (FaultyWord w ends differs) old e)
   pub kept : OnErr result (new ≡ old)
 
--- a number is taken; memory is wanted for digits that are kept, and at a refusal
+-- a number is taken; memory is taken for digits that are kept, and at a refusal
 pub record TakesNumber (old new : Cursor) (result : Result Number Error) : Type 0 where
   pub taken : IfOk result (λ n. (s : List ℕ) × Took old s new × Num s (number_of n) × NotBegun (lengthens s) new.unread)
   pub refused : IfErr result (λ e. IsOutOfMemory e ⊎ Refused FaultyNumber old e)
@@ -42,14 +42,14 @@ pub record TakesOwned {A : Type 0} (old new : Cursor) (result : Result (String A
   pub refused : IfErr result (λ e. IsOutOfMemory e ⊎ Refused FaultyString old e)
   pub kept : OnErr result (new ≡ old)
 
--- a string is taken, its text borrowed where it is plain; memory is wanted where it isn't, and at a refusal
+-- a string is taken, its text borrowed where it is plain; memory is taken where it isn't, and at a refusal
 pub record TakesString (old new : Cursor) (result : Result CowStr Error) : Type 0 where
   pub taken : IfOk result (λ t. (s u : List ℕ) × (plain : Bool) × Took old s new × Str s u plain × (is_borrowed t ≡ plain) × (cow_bytes t ≡ encode_utf8_all u))
   pub refused : IfErr result (λ e. IsOutOfMemory e ⊎ Refused FaultyString old e)
   pub kept : OnErr result (new ≡ old)
   pub plain : (s u r : List ℕ) → old.unread ≡ s ++ r → Str s u true → IsOk result
 
--- a name is taken as far as it goes, its text borrowed where it is plain; memory is wanted where it isn't, and at a refusal
+-- a name is taken as far as it goes, its text borrowed where it is plain; memory is taken where it isn't, and at a refusal
 pub record TakesName (old new : Cursor) (result : Result CowStr Error) : Type 0 where
   pub taken : IfOk result (λ t. (s u : List ℕ) × (plain : Bool) × Took old s new × Ident s u plain × (is_borrowed t ≡ plain) × (cow_bytes t ≡ encode_utf8_all u))
   pub stops : OnOk result ((c : ℕ) × (r : List ℕ) × (new.unread ≡ c ∷ r) × (goes_on_name c ≡ false))

@@ -46,9 +46,14 @@ pub fn is_json5_identifier(c: char) -> bool
         || is_part_category(GeneralCategory::for_char(c))
 }
 
-/// What is written for the character in a string between these quotes (JSON5 section 5.1): the delimiter itself where it is
-/// `"` or `'`, a backslash, LF, CR, U+2028 and U+2029 are escaped, and None says that the character stands for itself. At a
-/// delimiter that is no quote, no quote is escaped.
+/// The escape that is written for the character in a string between these quotes, or None where the character stands for
+/// itself (JSON5 section 5.1). A backslash, LF, CR, U+2028 and U+2029 are escaped, and the delimiter itself where it is `"` or
+/// `'`. At a delimiter that is no quote, no quote is escaped.
+///
+/// ```text
+/// escape('"', '\n') == Some("\\n")
+/// escape('"', '\'') == None
+/// ```
 #[tactic(auto, using(crate::proofs::EscapesSpelled::escapes_spelled))]
 pub fn escape(delimeter: char, c: char) -> Option<&'static str>
     ensures none { IsNone result ↔ (escape_of delimeter c ≡ c ∷ []) }

@@ -11,19 +11,20 @@ ghost use Rattle.std.proofs.Common.{rules};
 use std::cmp::Ordering;
 use std::hash::{Hash, Hasher};
 
-/// A text, borrowed from the text that was read or owned. Borrowed or not, equal texts are equal, order alike and hash alike.
+/// A text that was read: a slice of the input where no escape was used, else in memory of its own. Equality, order and hash
+/// are those of the text's bytes, borrowed or not.
 #[derive(Debug, Drop)]
 pub enum CowStr<'de> {
-    /// A stretch of the text that was read, as it stands there.
+    /// A slice of the text that was read.
     Borrowed(&'de str),
-    /// A text that doesn't stand so in what was read, since an escape spells a part of it.
+    /// A text in memory of its own: an escape spells a part of it, so that it doesn't stand so in what was read.
     Owned(String),
 }
 
 impl<'de> CowStr<'de> {
     ghost use Rattle.json5_text.specs.Cows.{cow_bytes};
 
-    /// The text.
+    /// The text, borrowed or not.
     pub fn as_str(&self) -> &str
         ensures { result.now ≡ cow_bytes self.now }
     {

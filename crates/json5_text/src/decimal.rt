@@ -27,11 +27,12 @@ enum Size {
     Finite(String, i16),
 }
 
-/// Infinity, not-a-number or a finite number, each with a sign.
+/// Infinity, not-a-number or a finite number, each with a sign (JSON5 section 6). It keeps every digit that was read.
 ///
 /// A finite number is its digits times ten to its exponent. The digits are ASCII, without zeros in front
-/// and at the end; zero has no digits and the exponent 0. Two decimals are equal where sign, digits and
-/// exponent are; not-a-number equals itself, and -0 isn't 0.
+/// and at the end; the exponent is from -32768 to 32767; zero has no digits and the exponent 0. So `1.50` is the
+/// digits `15` and the exponent -1. Two decimals are equal when sign, digits and exponent are; not-a-number equals
+/// itself, and -0 isn't 0.
 #[derive(Debug, Drop)]
 pub struct Decimal {
     negative: bool,
@@ -100,7 +101,7 @@ fn joined(alloc: Global, first: &str, last: &str) -> std::result::Result<String,
 }
 
 impl Decimal {
-    /// Infinity.
+    /// Infinity, after a minus where `negative`. Takes no memory.
     pub fn infinity(negative: bool) -> Decimal
         ensures { result ≡ numbers.infinite negative }
     {
@@ -110,7 +111,7 @@ impl Decimal {
         }
     }
 
-    /// Not-a-number.
+    /// Not-a-number, after a minus where `negative`, which counts in equality. Takes no memory.
     pub fn nan(negative: bool) -> Decimal
         ensures { result ≡ numbers.nan negative }
     {
@@ -149,7 +150,11 @@ impl Decimal {
 
     /// The finite number with these digits times ten to the exponent. None where `digits` holds anything but
     /// ASCII digits, or where the exponent is outside -32768 to 32767 once the outer zeros are gone: each zero
-    /// that goes at the end raises it by one, and zero has the exponent 0. The only error is want of memory.
+    /// that goes at the end raises it by one, and zero has the exponent 0. The only fault is `OutOfMemory`.
+    ///
+    /// ```text
+    /// Decimal::finite(alloc, false, "0150", -2)    // 1.5: the digits 15, the exponent -1
+    /// ```
     pub fn finite(
         alloc: Global,
         negative: bool,
@@ -166,7 +171,7 @@ impl Decimal {
         Ok(found)
     }
 
-    /// Whether it has a minus.
+    /// Whether it has a minus, which zero and not-a-number may have too.
     pub fn is_negative(&self) -> bool
         ensures { Shows is_minus self.now result }
     {
@@ -187,7 +192,7 @@ impl Decimal {
         matches!(&self.size, Size::NotANumber)
     }
 
-    /// The digits, without zeros in front and at the end; none for zero, infinity and not-a-number.
+    /// The ASCII digits, without zeros in front and at the end; none for zero, infinity and not-a-number.
     pub fn digits(&self) -> &str
         ensures { Shows digits_in self.now result.now }
     {
@@ -207,7 +212,7 @@ impl Decimal {
         }
     }
 
-    /// The same number. The only error is want of memory.
+    /// The same number. The only fault is `OutOfMemory`.
     pub fn clone(&self, alloc: Global) -> Result<Decimal>
         ensures { MatchResult result (λ d. d ≡ self.now) LacksMemory }
     {
@@ -349,7 +354,7 @@ impl fmt::Display for Decimal {
 
     /// Plain notation with a point: the digits, as many zeros as the exponent says and `.0`, or the point
     /// within the digits or before them. Zero is `0.0`; the others are `Infinity` and `NaN`. A minus stands
-    /// before where it is negative.
+    /// before where it is negative: `1.5`, `1500.0`, `-0.015`. It reads back as the same decimal.
     fn fmt<W: fmt::Write>(&self, f: &mut fmt::Formatter<W>) -> fmt::Result {
         if self.is_negative() {
             f.write_str("-")?;

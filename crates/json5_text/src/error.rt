@@ -11,7 +11,7 @@ use std::alloc::{AllocError, AllocFailed, Global};
 use std::fmt::{self, Write};
 use std::io;
 
-/// What reading and writing answer.
+/// What reading and writing answer: the value, or a fault.
 pub type Result<T> = std::result::Result<T, Error>;
 
 /// What a fault says.
@@ -22,7 +22,12 @@ enum Content {
     FailedWrite,
 }
 
-/// A fault, and perhaps its place in the text. Two faults are equal where they say the same and have the same place.
+/// A fault of reading or writing: a code, a custom text, or a failed write; and perhaps its place in the text that was read,
+/// counted from 0. It prints with the place counted from 1: `expected comma at line 1 column 4`.
+///
+/// A fault has no place where the text ends too early (`EofParsing..`), where memory ran out, after an earlier refusal
+/// (`Failed`), in writing, and where it was made without one. In an array a fault of an element that has none gets the place of
+/// the opening bracket, and `Option<T>` gives one of T the value's start.
 #[derive(Debug, Drop)]
 pub struct Error {
     content: Content,
@@ -30,7 +35,7 @@ pub struct Error {
 }
 
 impl Error {
-    /// A fault with this code, without a place.
+    /// A fault with this code, without a place. Takes no memory.
     pub fn new(code: ErrorCode) -> Error
         ensures { SaysAt (Kind.code code) None result }
     {
@@ -40,7 +45,7 @@ impl Error {
         }
     }
 
-    /// A fault with this code at this place.
+    /// A fault with this code at this place. Takes no memory.
     pub fn new_at(position: Position, code: ErrorCode) -> Error
         ensures { SaysAt (Kind.code code) (Some position) result }
     {
@@ -59,6 +64,10 @@ impl Error {
 
     /// A custom fault with what the message prints, without a place. A message whose Display refuses is kept up to there.
     /// Err is `OutOfMemory` without a place.
+    ///
+    /// ```text
+    /// Error::custom(alloc, format_args!("missing field `{name}`"))?
+    /// ```
     pub fn custom<D: fmt::Display + Drop>(alloc: Global, message: D) -> Result<Error>
         ensures { MatchResult result (IsCustomAt None) LacksMemory }
     {
@@ -88,7 +97,7 @@ impl Error {
         Ok(error.at(position))
     }
 
-    /// An equal fault. Err is `OutOfMemory` without a place, and comes only at a custom fault.
+    /// An equal fault. Err is `OutOfMemory` without a place. The text of a custom fault alone takes memory.
     pub fn clone(&self, alloc: Global) -> Result<Error>
         ensures { MatchResult result (SaysAt (kind_of self.now) (place_of self.now)) LacksMemory }
     {
@@ -125,14 +134,14 @@ impl Error {
         }
     }
 
-    /// The place, where there is one.
+    /// The place, where there is one: line and column, counted from 0.
     pub fn position(&self) -> Option<Position>
         ensures { result ≡ place_of self.now }
     {
         self.position
     }
 
-    /// The fault at this place, where it has none so far; else unchanged.
+    /// The fault at this place where it has none; else unchanged.
     #[must_use]
     pub fn with_position(self, position: Position) -> Error
         ensures { SaysAt (kind_of self) (or_place (place_of self) position) result }
@@ -143,7 +152,7 @@ impl Error {
         }
     }
 
-    /// The fault at this place, wherever it was.
+    /// The fault at this place, in the place of any other.
     #[must_use]
     pub fn at(self, position: Position) -> Error
         ensures { SaysAt (kind_of self) (Some position) result }
@@ -159,7 +168,7 @@ impl Error {
     }
 }
 
-/// Equal are faults that say the same and have the same place, or both none.
+/// Faults are equal when they say the same and have the same place, or both none.
 impl PartialEq for Error {
     ghost eq = { same_fault };
 

@@ -2,20 +2,20 @@
 
 ghost use Rattle.std.specs.Prelude.{◌≡◌};
 
-/// A text to be read. It names no lifetime, so that a reader over it can be lent whole.
+/// A text to be read, as `&str`. It names no lifetime, so that a reader over it can be lent whole.
 pub trait Input: Drop {
     ghost use Rattle.std.specs.Prelude.{ℕ, List};
 
     ghost text: { Self → List ℕ };
 
-    /// The text.
+    /// The text, for as long as this is borrowed.
     fn as_text(&self) -> &str
         ensures { result.now ≡ Self.text self.now };
 }
 
-/// A text that outlives its reader: what is read from it may be borrowed for as long as the text is.
+/// A text that outlives its reader, as `&'de str`: what is read from it may be borrowed for as long as the text is.
 pub trait Borrows<'de>: Input {
-    /// The text.
+    /// The text, for as long as it is there.
     fn as_borrowed(&self) -> &'de str
         ensures { Self.text self.now ≡ result.now };
 }

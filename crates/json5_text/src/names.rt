@@ -81,7 +81,7 @@ fn read_escaped<'t>(
     }
 }
 
-/// Puts what an escape spells and the run after it to the name, and says where that run ends.
+/// Appends what an escape spells and the run after it to the name, and says where that run ends.
 fn put_escape<'t>(
     name: &mut String,
     is_first: bool,

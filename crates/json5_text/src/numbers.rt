@@ -115,7 +115,7 @@ fn read_exponent_digits(negative: bool, text: &str) -> Option<Exponent>
     Some(Exponent { negative, digits })
 }
 
-/// The exponent that is all of the text, if any: none where the text is empty. The text may also be neither.
+/// The exponent that is all of the text, or Some(None) where the text is empty; None where it is neither.
 fn read_exponent(text: &str) -> Option<Option<Exponent>>
     ensures read { model.exponent_at (chars text.now) ≡ option_map (option_map raised_of) result }
     ensures digits { IfSome result (λ e. IfSome e HasExponentDigits) }

@@ -26,8 +26,11 @@ use std::alloc::Global;
 use std::fmt::Display;
 use std::marker::Model;
 
-/// Reads tokens from the front of a text. What a token takes is gone; where a token is refused, nothing is. Memory is wanted
-/// for a finite decimal, for a text or a name with an escape, for a text in memory of its own and for a custom fault alone.
+/// Reads tokens from the front of a text. A call that succeeds takes its token; a call that refuses takes nothing, and may be
+/// followed by any other. No call passes over blanks but `skip_blank`.
+///
+/// Memory is taken for a finite decimal, for a text or a name with an escape, for the text of `string_owned`, and for a custom
+/// fault; where it runs out, the fault is `OutOfMemory` without a place.
 #[derive(Drop)]
 pub struct Scanner<I: Input> {
     input: I,
@@ -47,7 +50,7 @@ impl<I: Input> Model for Scanner<I> {
 }
 
 impl<I: Input> Scanner<I> {
-    /// A scanner at the start of a text. What it gives that must be allocated comes from `alloc`.
+    /// A scanner at the start of a text. What it allocates comes from `alloc`.
     pub fn new(alloc: Global, input: I) -> Scanner<I>
         ensures { result ≡ record { input = chars (I.text input); unread = chars (I.text input) } }
     {
@@ -65,7 +68,7 @@ impl<I: Input> Scanner<I> {
         self.alloc
     }
 
-    /// The count of bytes before what is unread.
+    /// How many bytes of the text were read. A character begins there, or the text ends.
     pub fn offset(&self) -> usize
         ensures counted { result ≡ offset_of self.now }
         ensures suffix { (before : List ℕ) × (self.now.input ≡ before ++ self.now.unread) }
@@ -74,7 +77,7 @@ impl<I: Input> Scanner<I> {
         self.offset
     }
 
-    /// The next character; None at the end.
+    /// The next character, which stays unread; None at the end.
     pub fn peek(&self) -> Option<char>
         ensures { result ≡ slice_get self.now.unread 0 }
     {
@@ -82,7 +85,7 @@ impl<I: Input> Scanner<I> {
         Some(c)
     }
 
-    /// Takes the character where it is next, and says whether it was.
+    /// Takes the character if it is next, and says whether it was.
     pub fn eat(&mut self, c: char) -> bool
         ensures taken { IsTrue result → Took self.old (c ∷ []) self.new }
         ensures kept { (result ≡ false) → (self.new ≡ self.old) × NotBegun (λ d. d == c) self.old.unread }
@@ -98,8 +101,10 @@ impl<I: Input> Scanner<I> {
         true
     }
 
-    /// Passes over blanks: white space, line terminators and comments (JSON5 sections 7 and 8). `ExpectedComment` stands at a
-    /// character after a slash that begins no comment, and `EofParsingComment` has no place.
+    /// Takes blanks, if any: white space, line terminators and comments (JSON5 sections 7 and 8).
+    ///
+    /// The fault is `ExpectedComment` at a character after a slash that is neither a slash nor a star, or `EofParsingComment`
+    /// without a place where the text ends in a comment; at the end of the text a `//` comment is whole.
     pub fn skip_blank(&mut self) -> Result<()>
         ensures { PassesBlanks self.old self.new result }
     {
@@ -111,8 +116,8 @@ impl<I: Input> Scanner<I> {
         Ok(())
     }
 
-    /// Takes the word: `differs` stands at the first character that is another one than the word's, and `ends`, where the text
-    /// ends in the word, has no place.
+    /// Takes the word. The fault is `differs` at the first character that differs from the word's, or `ends` without a place
+    /// where the text ends before the word does. What follows the word isn't looked at.
     pub fn word(&mut self, word: &str, ends: ErrorCode, differs: ErrorCode) -> Result<()>
         ensures { TakesWord (chars word.now) ends differs self.old self.new result }
     {
@@ -124,11 +129,18 @@ impl<I: Input> Scanner<I> {
         Ok(())
     }
 
-    /// Takes a number (JSON5 section 6). Where none begins the fault is `ExpectedNumber` at the character, and at the end
-    /// `EofParsingNumber` without a place. `LeadingZero` and `OverflowParsingNumber` stand at the number's start or, within
-    /// hexadecimal digits, at the digit; a run of a decimal's characters that is no literal, and a hexadecimal number past
-    /// -2^127, are custom faults. Memory is wanted for a finite decimal's digits and for a custom fault: a whole number, infinity
-    /// and not-a-number take none.
+    /// Takes a number, as far as it goes (JSON5 section 6, ECMAScript 5.1 section 7.8.3). A whole number, infinity and
+    /// not-a-number take no memory.
+    ///
+    /// The fault is
+    /// - `ExpectedNumber` at a character that begins no number, after a sign too, or that differs from `Infinity` or `NaN`, or is
+    ///   no hexadecimal digit after `0x`;
+    /// - `EofParsingNumber` without a place where the text ends there;
+    /// - `LeadingZero` at the start where a digit follows a first `0`;
+    /// - `OverflowParsingNumber` at the hexadecimal digit that takes the number past 128 bits, or at the start where a decimal's
+    ///   exponent is past 16 bits;
+    /// - a custom fault at the start where a run of digits, signs, points and `e` is no number, as `1-2`, or where a hexadecimal
+    ///   number is below -2^127.
     pub fn number(&mut self) -> Result<Number>
         ensures { TakesNumber self.old self.new result }
     {
@@ -140,7 +152,8 @@ impl<I: Input> Scanner<I> {
         Ok(number)
     }
 
-    /// Takes a string and gives its text in memory of its own (JSON5 section 5). The faults are those of `string`.
+    /// Takes a string and gives its text in memory of its own (JSON5 section 5, ECMAScript 5.1 section 7.8.4). The faults are
+    /// those of `string`.
     pub fn string_owned(&mut self) -> Result<String>
         ensures { TakesOwned self.old self.new result }
     {
@@ -152,7 +165,8 @@ impl<I: Input> Scanner<I> {
         Ok(text)
     }
 
-    /// The position of an offset in bytes, as `offset` gave it here or earlier.
+    /// The position of an offset in bytes, as `offset` gave it here or earlier. Line and column count from 0, the column in
+    /// characters.
     pub fn position_of(&self, offset: usize) -> Position
         requires { IsOffset self.now.input offset }
         ensures { IsPositionOf self.now.input offset result }
@@ -161,7 +175,7 @@ impl<I: Input> Scanner<I> {
         Position::from_offset(offset, self.input.as_text())
     }
 
-    /// The position of an offset in bytes; the end's, where no character begins there.
+    /// The position of an offset in bytes, or that of the text's end where no character begins at the offset.
     pub fn position_at(&self, offset: usize) -> Position
         ensures inside { IsPositionOf self.now.input offset result }
         ensures past { (IsOffset self.now.input offset → ⊥) → result ≡ position_behind self.now.input }
@@ -235,11 +249,16 @@ impl<I: Input> Scanner<I> {
 }
 
 impl<'de, I: Borrows<'de>> Scanner<I> {
-    /// Takes a string and gives its text, borrowed where the string holds no backslash (JSON5 section 5). Where no string
-    /// begins the fault is `ExpectedString`; a line terminator in one is `LineTerminatorInString` at it, and a faulty escape
-    /// `InvalidEscapeSequence` or, at a surrogate without a pair, a custom fault at the backslash, except that a missing second
-    /// `\u` is faulty where it must stand. `EofParsingString` and `EofParsingEscapeSequence` have no place. Memory is
-    /// wanted where an escape is used, and for a custom fault.
+    /// Takes a string and gives its text, borrowed where the string holds no backslash, which then takes no memory (JSON5
+    /// section 5, ECMAScript 5.1 section 7.8.4).
+    ///
+    /// The fault is
+    /// - `ExpectedString` at a character that is no quote;
+    /// - `LineTerminatorInString` at an LF or CR without a backslash;
+    /// - `InvalidEscapeSequence` at the backslash of a faulty escape, of two the first one's; or, where a second `\u` must follow
+    ///   that of a surrogate, at the character that stands in place of its `\` or `u`;
+    /// - a custom fault at the first backslash of two `\u` escapes that are no pair of surrogates;
+    /// - `EofParsingString` or, in an escape, `EofParsingEscapeSequence`, without a place, where the text ends.
     pub fn string(&mut self) -> Result<CowStr<'de>>
         ensures { TakesString self.old self.new result }
     {
@@ -251,11 +270,15 @@ impl<'de, I: Borrows<'de>> Scanner<I> {
         Ok(text)
     }
 
-    /// Takes an identifier and gives its text, borrowed where it holds no backslash (JSON5 section 3, ECMAScript 5.1 section
-    /// 7.6). A character that may not begin one is `ExpectedIdentifier` at it, and an escape of a character that may not stand
-    /// there is the same at the escape's backslash; faulty escapes are those of `string`. What stands after the identifier must
-    /// be there: `EofParsingIdentifier`, like `EofParsingEscapeSequence`, has no place. Memory is wanted where an escape is used,
-    /// and for a custom fault.
+    /// Takes an identifier, as far as it goes, and gives its text, borrowed where it holds no backslash, which then takes no
+    /// memory (JSON5 section 3, ECMAScript 5.1 section 7.6). A character must follow it: an identifier ends no text.
+    ///
+    /// The fault is
+    /// - `ExpectedIdentifier` at a character that may not begin one, or at the backslash of an escape whose character may not
+    ///   stand there;
+    /// - `InvalidEscapeSequence` at the character after a backslash that is no `u`, and the faults of `\u` escapes as in
+    ///   `string`;
+    /// - `EofParsingIdentifier` or, in a `\u` escape, `EofParsingEscapeSequence`, without a place, where the text ends.
     pub fn identifier(&mut self) -> Result<CowStr<'de>>
         ensures { TakesName self.old self.new result }
     {

@@ -91,7 +91,7 @@ fn read_escaped<'t>(
     }
 }
 
-/// Puts what an escape spells and the run after it to the text, and says where that run ends.
+/// Appends what an escape spells and the run after it to the text, and says where that run ends.
 fn put_escape<'t>(
     text: &mut String,
     quote: char,

@@ -6,8 +6,9 @@ ghost use Rattle.std.specs.Cmp.{on_equiv, partial_equiv_from_equiv};
 use crate::decimal::Decimal;
 use crate::whole::Whole;
 
-/// What a text of JSON5 holds. Two values are equal where they stand for the same: whole numbers and decimals are never equal,
-/// and not-a-number equals itself.
+/// What a text of JSON5 holds (JSON5 section 2); arrays and objects are still to come. Two values are equal when they stand for
+/// the same: whole numbers and decimals are never equal, not-a-number equals itself, and two texts are equal when their
+/// characters are, however they were spelled.
 #[derive(Debug, Drop)]
 pub enum Value {
     /// `null`.
@@ -18,7 +19,7 @@ pub enum Value {
     Whole(Whole),
     /// Any other number.
     Decimal(Decimal),
-    /// A text.
+    /// A text, without the quotes and with its escapes replaced.
     String(String),
 }
 

@@ -8,7 +8,7 @@ ghost use Rattle.json5_text.specs.NumberWholes.{Converts};
 use std::fmt;
 use std::marker::Model;
 
-/// A whole number from `i128::MIN` to `u128::MAX`. There is one value for each of them.
+/// A whole number from `i128::MIN` to `u128::MAX`. There is one value for each of them, so that zero has no sign.
 #[derive(Clone, Copy, Debug, PartialEq, Eq, Hash)]
 pub struct Whole {
     negative: bool,
@@ -30,7 +30,7 @@ impl Model for Whole {
 }
 
 impl Whole {
-    /// The number itself.
+    /// This number.
     pub fn from_u128(number: u128) -> Whole
         ensures { result ≡ pos number }
     {
@@ -40,7 +40,7 @@ impl Whole {
         }
     }
 
-    /// The number itself.
+    /// This number.
     pub fn from_i128(number: i128) -> Whole
         ensures { result ≡ number }
     {
@@ -67,7 +67,7 @@ impl Whole {
         }
     }
 
-    /// The number, where it isn't below zero.
+    /// The number, or None where it is below zero.
     pub fn as_u128(self) -> Option<u128>
         ensures { Converts pos (λ z. pos 0 ≤ℤ z) self result }
     {
@@ -78,7 +78,7 @@ impl Whole {
         }
     }
 
-    /// The number, where it isn't above `i128::MAX`.
+    /// The number, or None where it is above `i128::MAX`.
     pub fn as_i128(self) -> Option<i128>
         ensures { Converts (λ number. number) (λ z. z <ℤ pos (2 ^ 127)) self result }
     {
