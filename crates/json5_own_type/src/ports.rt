@@ -1,6 +1,9 @@
 //! Ports, and where something listens.
 
-use json5::{Deserialize, Deserializer, Error, Input, Result, Spanned, read};
+use json5::{
+    Deserialize, Deserializer, Error, Input, Result, Serialize, Serializer, Spanned, read,
+};
+use std::io::Write;
 
 /// A port that isn't 0.
 #[derive(Drop)]
@@ -31,6 +34,17 @@ impl<I: Input> Deserialize<I> for OpenPort {
             return Err(Error::custom_at(de.allocator(), place, "port 0 can't be opened")?);
         }
         Ok(OpenPort { number: port.value })
+    }
+}
+
+/// Its decimal digits.
+impl Serialize for OpenPort {
+    ghost use Rattle.json5.specs.WrittenTrees.{natural};
+
+    ghost tree = { λ p. natural p.number };
+
+    fn serialize<W: Write + Drop>(&self, ser: &mut Serializer<W>) -> Result<()> {
+        ser.serialize_u16(self.number)
     }
 }
 
