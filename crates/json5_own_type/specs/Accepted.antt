@@ -11,9 +11,9 @@ use Rattle.json5_own_type.specs.declared.levels.Level.TheVariants.{Low, Middle, 
 abbrev pub above_zero : ℕ → Option ℕ
 above_zero n = if n == 0 then None else Some n
 
--- a host, and a port above 0
-abbrev pub open_endpoint : List ℕ × ℕ → Option (List ℕ × ℕ)
-open_endpoint (host, port) = if port == 0 then None else Some (host, port)
+-- the second isn't below the first
+abbrev pub in_order : ℕ × ℕ → Option (ℕ × ℕ)
+in_order (first, last) = if nat_lt last first then None else Some (first, last)
 
 -- at least one
 abbrev pub not_empty : {A : Type 0} → List A → Option (List A)

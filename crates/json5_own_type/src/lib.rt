@@ -15,7 +15,7 @@ use json5::de::value_codes;
 use json5::{Deserialize, Deserializer, Error, Input, Result, SeqAccess};
 pub use at_most::AtMost;
 pub use levels::Level;
-pub use ports::{Endpoint, OpenPort};
+pub use ports::{Endpoint, OpenPort, PortRange};
 use std::alloc::Global;
 pub use tags::Labels;
 
