@@ -1,0 +1,6 @@
+use Rattle.std.proofs.Common.{◌-◌, arith, length}
+use Rattle.json5_text.proofs.NumberWritten.{digits_boundary}
+use Rattle.json5_text.proofs.pieces.Pieces.of_digits.Goals as goal
+
+pub split_at-requires : goal.split_at-requires
+split_at-requires c = digits_boundary c.args.digits.now (length c.args.digits.now - c.from-places.result) c.requires (omega arith)
