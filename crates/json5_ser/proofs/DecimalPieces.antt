@@ -1,5 +1,5 @@
 -- A decimal's text, which is ASCII, in its pieces.
-use Rattle.std.proofs.Common.{◌≡◌, ◌<◌, Result, ℕ, zero, suc, ◌-◌, List, [], ◌∷◌, ◌++◌, Bool, true, false, ◌&&◌, nat_lt, nat_le, cond, length, take, drop, replicate, refl, sym, ap, ◌∙◌, subst, arith}
+use Rattle.std.proofs.Common.{◌≡◌, ◌<◌, Result, ℕ, zero, suc, ◌-◌, List, [], ◌∷◌, ◌++◌, Bool, true, false, ◌&&◌, nat_lt, nat_le, cond, length, take, drop, refl, ap, ◌∙◌, subst, arith}
 use Rattle.std.specs.Prelude.{ℤ, pos, negsuc}
 use Rattle.std.specs.List.{list_all}
 use Rattle.std.specs.Str.{IsAscii, chars}
@@ -11,7 +11,7 @@ use Rattle.json5_grammar.specs.Characters.{is_digit, Each, no_char, char}
 use Rattle.json5_grammar.specs.Numbers.{Decimal, infinite, nan, finite}
 use Rattle.json5_grammar.specs.NumberText.{zeros, pointed, digits_text, decimal_text, Normal}
 use Rattle.json5_text.specs.NumberPieces.{IsFront}
-use Rattle.json5_ser.specs.Out.{Out, piece, ◌then◌}
+use Rattle.json5_ser.specs.Out.{piece, ◌then◌}
 use Rattle.std.specs.Result.{IsErrAnd}
 use Rattle.json5_text.specs.declared.error.Error.{Error}
 use Rattle.json5_ser.specs.Writes.{Seen, Wrote, Refuses, Writes}
@@ -155,5 +155,5 @@ left_exit d o m n rest p after e r h f q w =
 pub left_none : (d : Decimal) (o m : Seen) (rest : List ℕ) → IsLeft d o m rest → rest ≡ [] → Wrote (piece (decimal_text d)) o m
 left_none d o m rest h e =
     let none : Reaches (piece (decimal_text d)) o m (piece []) = subst (λ t. Reaches (piece (decimal_text d)) o m (piece t)) e h.reaches in
-    let open : m.failed ≡ false = h.started (rw e (some_decimal d)) in
-    none.wrote m (record { was = open; stop = refl; chars = refl; bytes = Appends-nil m.known; depth = refl; failed = open })
+    let ready : m.failed ≡ false = h.started (rw e (some_decimal d)) in
+    none.wrote m (record { was = ready; stop = refl; chars = refl; bytes = Appends-nil m.known; depth = refl; failed = ready })

@@ -1,6 +1,6 @@
 //! The text of a decimal, in pieces.
 
-ghost use Rattle.std.specs.Prelude.{◌≡◌, ◌≤◌, ◌<◌, ◌++◌, [], MatchOption};
+ghost use Rattle.std.specs.Prelude.{◌≡◌, ◌≤◌, ◌++◌, [], MatchOption};
 ghost use Rattle.json5_grammar.specs.Characters.{is_digit, Each};
 ghost use Rattle.json5_grammar.specs.NumberText.{zeros, digits_text};
 ghost use Rattle.json5_text.specs.NumberPieces.{IsFront};
@@ -8,7 +8,7 @@ ghost use Rattle.json5_text.specs.NumberPieces.{IsFront};
 use std::marker::Model;
 use std::mem;
 
-/// What is left of the text of a decimal: the texts one after the other, zeros in the middle of them.
+/// What is left of the text of a decimal: the four texts one after the other, and `count` zeros before the third.
 #[derive(Debug, Drop)]
 pub struct Pieces<'a> {
     sign: &'static str,
