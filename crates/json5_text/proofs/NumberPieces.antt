@@ -1,11 +1,8 @@
 -- The front of a text that stands in parts.
-use Rattle.std.proofs.Common.{◌≡◌, ℕ, ◌+◌, ◌-◌, ◌<◌, ◌≤◌, List, [], ◌∷◌, ◌++◌, length, refl, ap, sym, ◌∙◌, arith, append_assoc}
+use Rattle.std.proofs.Common.{◌≡◌, ℕ, ◌+◌, ◌-◌, ◌<◌, ◌≤◌, List, [], ◌∷◌, ◌++◌, length, ap, sym, ◌∙◌, arith, append_assoc}
 use Rattle.std.proofs.lemmas.List.{replicate-append-replicate, length-replicate}
 use Rattle.json5_grammar.specs.NumberText.{zeros}
 use Rattle.json5_text.specs.NumberPieces.{IsFront}
-
-pub front_is : (piece rest : List ℕ) → 0 < length piece → IsFront (piece ++ rest) piece rest
-front_is piece rest h = record { parts = refl; some = h }
 
 -- after a part that is empty
 pub front_after : (s text piece rest : List ℕ) → length s ≡ 0 → IsFront text piece rest → IsFront (s ++ text) piece (s ++ rest)
