@@ -2,4 +2,4 @@
 pub mod Formats
 -- What proofs of a user's own types cite.
 pub use Rattle.json5_de.proofs.Own
-pub use Rattle.json5_de.proofs.ManyElements
+pub use Rattle.json5_de.proofs.Loops

@@ -1,5 +1,6 @@
 -- What a value that is no collection begins with, and what is refused where a value of any kind is awaited.
 use Rattle.std.specs.Prelude.{◌≡◌, ℕ, Bool, true, false, ◌==◌, ◌||◌, cond, List, [], ◌∷◌, Option, Some, None}
+use Rattle.json5_grammar.specs.Characters.{letter_f, letter_n, letter_t}
 use Rattle.json5_grammar.specs.declared.code.ErrorCode.{ErrorCode}
 use Rattle.json5_grammar.specs.declared.code.ErrorCode.TheVariants as codes
 use Rattle.json5_grammar.specs.NumberFaults.{is_sign, begins_number}
@@ -11,7 +12,7 @@ use Rattle.json5_de.specs.declared.any.Kind.TheVariants as kind
 
 -- what the character begins
 abbrev pub kind_at : ℕ → Kind
-kind_at c = cond (c == 0x6E) kind.Null (cond (c == 0x74) kind.True (cond (c == 0x66) kind.False (cond (is_quote c) kind.Text (cond (is_sign c || begins_number c) kind.Number kind.Other))))
+kind_at c = cond (c == letter_n) kind.Null (cond (c == letter_t) kind.True (cond (c == letter_f) kind.False (cond (is_quote c) kind.Text (cond (is_sign c || begins_number c) kind.Number kind.Other))))
 
 abbrev pub kind_in : List ℕ → Kind
 kind_in [] = kind.Other
