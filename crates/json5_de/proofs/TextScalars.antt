@@ -9,14 +9,10 @@ use Rattle.json5_grammar.specs.Characters.{is_in, is_hex_digit, char, no_char}
 use Rattle.json5_grammar.specs.Strings.{short_escape, Hex4, hex4, is_high, is_low, joined, Unicode, single, surrogates, Escape, short, nul, byte, unicode, line_end, cr_lf, lone_cr, itself, Items, no_item, raw, escape, Str, quoted}
 use Rattle.json5_grammar.proofs.Basics.{by_test}
 use Rattle.json5_de.specs.Convert.{one_character}
-
-both_true : (a b : Bool) → (a && b) ≡ true → (a ≡ true) × (b ≡ true)
-both_true true true e = (refl, refl)
-both_true true false e = absurd (cc)
-both_true false b e = absurd (cc)
+use Rattle.std.proofs.lemmas.Bool.{and_parts}
 
 one_more : (c : ℕ) (x : List ℕ) → all_scalars (c ∷ x) ≡ true → IsScalar c × (all_scalars x ≡ true)
-one_more c x e = both_true _ (all_scalars x) e
+one_more c x e = and_parts _ (all_scalars x) e
 
 more_scalars : (c : ℕ) (x : List ℕ) → IsScalar c → all_scalars x ≡ true → all_scalars (c ∷ x) ≡ true
 more_scalars c x h k = rw (h, k) refl

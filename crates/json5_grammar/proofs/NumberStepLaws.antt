@@ -9,7 +9,7 @@ use Rattle.std.proofs.lemmas.Int.{ints}
 use Rattle.json5_grammar.specs.Numbers.{spelled, signed}
 use Rattle.json5_grammar.specs.ReadNumbers.{front_of, rest_of, in_exponents}
 use Rattle.json5_grammar.specs.NumberSteps.{capped, checked}
-use Rattle.json5_grammar.proofs.Basics.{by_test}
+use Rattle.json5_grammar.proofs.Basics.{by_test, lt_from, le_from}
 
 -- in std's words
 
@@ -41,12 +41,6 @@ grows : (base n : ℕ) (s : List ℕ) → 0 < base → n ≤ spelled base n s
 grows zero n s h = absurd (omega arith)
 grows (suc b) n [] h = omega arith
 grows (suc b) n (c ∷ s) h = let k = grows (suc b) (n * suc b + digit_value c) s h in grind (arith, nat_tests)
-
-lt_from : (a b : ℕ) → nat_lt a b ≡ true → a < b
-lt_from a b h = grind (arith, nat_tests)
-
-le_from : (a b : ℕ) → nat_lt a b ≡ false → b ≤ a
-le_from a b h = grind (arith, nat_tests)
 
 -- below the bound the number, else none
 abbrev pub IsChecked : ℕ → ℕ → Option ℕ → Type 0

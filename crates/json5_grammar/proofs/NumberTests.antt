@@ -9,14 +9,7 @@ use Rattle.json5_grammar.specs.Stops.{in_run, begins_run}
 use Rattle.json5_grammar.specs.NumberFaults.{is_sign}
 use Rattle.json5_grammar.specs.ReadNumbers.{front_of, rest_of, in_whole, in_exponents}
 pub use Rattle.json5_grammar.proofs.Basics.{by_test}
-
-pub and_left : (a b : Bool) → (a && b) ≡ true → a ≡ true
-and_left true b h = refl
-and_left false b h = h
-
-pub and_right : (a b : Bool) → (a && b) ≡ true → b ≡ true
-and_right true b h = h
-and_right false b h = cc
+use Rattle.json5_grammar.proofs.Basics.{and_left, and_right}
 
 -- ---- characters
 

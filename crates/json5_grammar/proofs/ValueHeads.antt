@@ -19,12 +19,13 @@ use Rattle.json5_grammar.specs.ReadBlanks.{skip, between}
 use Rattle.json5_grammar.specs.ReadNumbers as numbers
 use Rattle.json5_grammar.specs.ReadTexts.{string}
 use Rattle.json5_grammar.specs.ReadValues.{word_at, items, entries, as_leaf, value_with, too_deep, read}
-use Rattle.json5_grammar.proofs.Basics.{eq_from, either_false}
+use Rattle.json5_grammar.proofs.Basics.{eq_from}
 use Rattle.json5_grammar.proofs.BlanksRead.{printable_no_blank, printable_solid, skip_rest, solid_from, begins_solid}
 use Rattle.json5_grammar.proofs.Classes.{EndsValues, blank_ends_values, slash_ends_values, blank_no_name, slash_no_name, start_no_blank, start_no_slash, start_no_brace, begins_printable, begins_others, number_begins, quote_begins, number_others, quote_others, no_value_others}
 use Rattle.json5_grammar.proofs.NamesRead.{unicode_head}
 use Rattle.json5_grammar.proofs.NumbersRead.{complete, number_unsigned}
 use Rattle.json5_grammar.proofs.NumbersSound.{unsigned_bad, got_not_bad}
+use Rattle.std.proofs.lemmas.Bool.{or_parts}
 
 -- ---- heads
 
@@ -49,7 +50,7 @@ number_head {s = s} {n = n} a = head s (ap numbers.number (sym (append-nil s)) �
       where
         split : (b : Bool) → (is_sign c || begins_number c) ≡ b → (d : ℕ) × (y : List ℕ) × (c ∷ t ≡ d ∷ y) × ((is_sign d || begins_number d) ≡ true)
         split true h = (c, t, refl, h)
-        split false h = let k = either_false (is_sign c) (begins_number c) h in absurd (got_not_bad (sym e ∙ number_unsigned c t no_sign k.0 ∙ unsigned_bad (c ∷ t) false c t k.1))
+        split false h = let k = or_parts (is_sign c) (begins_number c) h in absurd (got_not_bad (sym e ∙ number_unsigned c t no_sign k.0 ∙ unsigned_bad (c ∷ t) false c t k.1))
 
 -- a value begins with a character that begins a value
 pub val_head : {s : List ℕ} {t : Tree} → Val s t → ValueHead s

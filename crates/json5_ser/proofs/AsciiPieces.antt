@@ -9,22 +9,12 @@ use Rattle.json5_ser.specs.Out.{Out, piece, ◌then◌}
 use Rattle.json5_ser.specs.Writes.{Seen}
 use Rattle.json5_ser.proofs.Joins.{Reaches}
 use Rattle.json5_ser.specs.Pieces.{is_ascii_text, IsRun}
-
-below : (b n : ℕ) → nat_lt b n ≡ true → b < n
-below b n e = grind arith
-
-first : (a b : Bool) → (a && b) ≡ true → a ≡ true
-first true b e = refl
-first false b e = absurd (cc)
-
-second : (a b : Bool) → (a && b) ≡ true → b ≡ true
-second true b e = e
-second false b e = absurd (cc)
+use Rattle.json5_grammar.proofs.Basics.{and_left, and_right, lt_from}
 
 pub IsAscii-text : (t : List ℕ) → is_ascii_text t ≡ true → IsAscii t
 IsAscii-text [] e i = omega arith
-IsAscii-text (c ∷ t) e zero = below c 128 (first (nat_lt c 128) (is_ascii_text t) e)
-IsAscii-text (c ∷ t) e (suc i) = IsAscii-text t (second (nat_lt c 128) (is_ascii_text t) e) i
+IsAscii-text (c ∷ t) e zero = lt_from c 128 (and_left (nat_lt c 128) (is_ascii_text t) e)
+IsAscii-text (c ∷ t) e (suc i) = IsAscii-text t (and_right (nat_lt c 128) (is_ascii_text t) e) i
 
 pub ascii_chars : (t : List ℕ) → is_ascii_text t ≡ true → chars t ≡ t
 ascii_chars t e = chars-IsAscii t (IsAscii-text t e)
@@ -36,7 +26,7 @@ ascii_run (suc n) c l = let e : nat_lt c 128 ≡ true = grind arith in ap (λ b.
 pub ascii_digits : {t : List ℕ} → Each is_digit t → is_ascii_text t ≡ true
 ascii_digits no_char = refl
 ascii_digits (char {c} {s} d e) =
-    let h : nat_le c 57 ≡ true = second (nat_le 48 c) (nat_le c 57) d in
+    let h : nat_le c 57 ≡ true = and_right (nat_le 48 c) (nat_le c 57) d in
     let l : nat_lt c 128 ≡ true = grind arith in
     ap (λ b. b && is_ascii_text s) l ∙ ascii_digits e
 
@@ -59,12 +49,12 @@ run_ascii_last run n r l = subst (λ t. is_ascii_text t ≡ true) (sym (run_last
 pub ascii_front : (t : List ℕ) (n : ℕ) → is_ascii_text t ≡ true → is_ascii_text (take n t) ≡ true
 ascii_front t zero e = refl
 ascii_front [] (suc n) e = refl
-ascii_front (c ∷ t) (suc n) e = ap (λ b. b && is_ascii_text (take n t)) (first (nat_lt c 128) (is_ascii_text t) e) ∙ ascii_front t n (second (nat_lt c 128) (is_ascii_text t) e)
+ascii_front (c ∷ t) (suc n) e = ap (λ b. b && is_ascii_text (take n t)) (and_left (nat_lt c 128) (is_ascii_text t) e) ∙ ascii_front t n (and_right (nat_lt c 128) (is_ascii_text t) e)
 
 pub ascii_back : (t : List ℕ) (n : ℕ) → is_ascii_text t ≡ true → is_ascii_text (drop n t) ≡ true
 ascii_back t zero e = e
 ascii_back [] (suc n) e = refl
-ascii_back (c ∷ t) (suc n) e = ascii_back t n (second (nat_lt c 128) (is_ascii_text t) e)
+ascii_back (c ∷ t) (suc n) e = ascii_back t n (and_right (nat_lt c 128) (is_ascii_text t) e)
 
 -- what is left of a run's text, in two parts, and in the last
 pub Reaches-run : (all : Out) (o m : Seen) (run : List ℕ) (n : ℕ) → IsRun run → length run ≤ n → Reaches all o m (piece (replicate n (slice_index run 0)))
