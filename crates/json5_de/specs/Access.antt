@@ -1,5 +1,5 @@
 -- What contracts see of an access to an array.
-use Rattle.std.specs.Prelude.{◌≡◌, ◌≢◌, ◌⊎◌, ℕ, ◌+◌, ◌-◌, ◌<◌, ◌≤◌, Bool, true, false, List, [], ◌∷◌, ◌++◌, length, Option, Some, None, Result, Ok, Err, IfOk, IfErr, OnOk, OnErr, IsOk, IsOkAnd, IsErrAnd, ◌==◌, ◌||◌, ◌&&◌}
+use Rattle.std.specs.Prelude.{◌≡◌, ◌≢◌, ◌⊎◌, ℕ, ◌+◌, ◌-◌, ◌<◌, ◌≤◌, Bool, true, false, List, [], ◌∷◌, ◌++◌, length, Option, Some, None, Result, Ok, Err, IfOk, IfErr, OnOk, OnErr, IsOk, IsOkAnd, IsErrAnd, MatchResult, ◌==◌, ◌||◌, ◌&&◌}
 use Rattle.std.specs.Str.{encode_utf8_all}
 use Rattle.json5_grammar.specs.Characters.{comma_sign, right_bracket}
 use Rattle.json5_grammar.specs.declared.code.ErrorCode.{ErrorCode}
@@ -17,6 +17,7 @@ use Rattle.json5_de.specs.State.{State, OnlyRead, SameText}
 use Rattle.json5_text.specs.Cursor.{IsOutOfMemory}
 use Rattle.json5_de.specs.Law.{IsOkOrMemory, TookValue, Unprompted}
 use Rattle.json5_de.specs.Options.{PlacedAt}
+use Rattle.json5_de.specs.ConvertLists.{if_some}
 use Rattle.json5_de.specs.Faults.{Behind, IsBehind, IsUnplaced, RefusedBy, EndsWith, DiffersWith}
 use Rattle.json5_de.specs.declared.brackets.Brackets.{Brackets}
 use Rattle.json5_de.specs.Brackets.{square}
@@ -71,6 +72,12 @@ GivesElement content convert old new None = AtClose old.due old.reader new.reade
 abbrev pub CompletesElement : {V C : Type 0} → (Tree → Option C) → Seen → Result V Error → Type 0
 CompletesElement {C = C} convert old result =
     (t : Tree) (r : List ℕ) (c : C) → old.reader.failed ≡ false → IsElement old.due old.reader.unread t r → old.reader.level + depth t ≤ max_depth → convert t ≡ Some c → IsOkOrMemory result
+
+-- where an element that converts to c stands, the answer is Ok of an element whose content is c, unless memory runs out
+abbrev pub ReadsElement : {V C : Type 0} → (V → C) → (Tree → Option C) → Seen → Result (Option V) Error → Type 0
+ReadsElement {C = C} content convert old result =
+    (t : Tree) (r : List ℕ) (c : C) → old.reader.failed ≡ false → IsElement old.due old.reader.unread t r → old.reader.level + depth t ≤ max_depth → convert t ≡ Some c
+    → MatchResult result (λ o. if_some content o ≡ Some c) IsOutOfMemory
 
 -- nothing is refused where the array ends
 abbrev pub CompletesClose : {V : Type 0} → Seen → Result V Error → Type 0

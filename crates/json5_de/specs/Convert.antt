@@ -1,7 +1,9 @@
 -- What each type takes of a tree: at most one content.
 use Rattle.std.specs.Prelude.{ℕ, Bool, true, false, if◌then◌else◌, nat_lt, List, [], ◌∷◌, ℤ, pos, negsuc, nat_abs, Option, Some, None}
 use Rattle.std.specs.Fmt as numerals
-use Rattle.std.specs.Str.{encode_utf8_all}
+use Rattle.std.specs.Borrow.{Bor}
+use Rattle.std.specs.List.{position}
+use Rattle.std.specs.Str.{bytes_eq, encode_utf8_all}
 use Rattle.json5_grammar.specs.Numbers.{Number, Decimal, whole, decimal, finite, without_zeros, normal_exponent}
 use Rattle.json5_grammar.specs.Trees.{Tree, null, boolean, number, text}
 use Rattle.json5_text.specs.ValueViews.{Datum}
@@ -94,6 +96,13 @@ abbrev pub one_character : List ℕ → Bool → Option ℕ
 one_character [] plain = None
 one_character (c ∷ []) plain = Some c
 one_character (c ∷ d ∷ u) plain = None
+
+-- a text that is one of these names, as its first place among them
+abbrev pub place_among : List (Bor (List ℕ)) → List ℕ → Bool → Option ℕ
+place_among names u plain = position (λ name. bytes_eq name.now (encode_utf8_all u)) names
+
+abbrev pub variant_of : List (Bor (List ℕ)) → Tree → Option ℕ
+variant_of names = as_text (place_among names)
 
 abbrev pub char_of : Tree → Option ℕ
 char_of = as_text one_character

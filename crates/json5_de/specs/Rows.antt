@@ -15,7 +15,7 @@ use Rattle.json5_text.specs.declared.error.Error.{Error}
 use Rattle.json5_text.specs.ValueViews.{Datum}
 use Rattle.json5_de.specs.State.{State}
 use Rattle.json5_de.specs.Law.{ReadsValue}
-use Rattle.json5_de.specs.Convert.{unit_of, bool_of, as_number, as_whole, natural_below, integer_below, every_decimal, as_text, every_text, if_plain, every_cow, one_character, datum_of}
+use Rattle.json5_de.specs.Convert.{unit_of, bool_of, as_number, as_whole, natural_below, integer_below, every_decimal, as_text, every_text, if_plain, every_cow, one_character, place_among, datum_of}
 use Rattle.json5_de.specs.Faults.{FaultRelation, RefusedBy, RefusedByOrMemory, FaultyNull, FaultyBool, NotNumber, NotText, EndsWith, EndsWithOrMemory, DiffersWith, DiffersWithOrMemory}
 use Rattle.json5_de.specs.Scalars.{FaultyScalar, begins_scalar}
 
@@ -111,6 +111,10 @@ plain_row = text_row if_plain every_tree
 -- a text, and whether it is plain, which then takes no memory
 abbrev pub cow_row : Row (List ℕ × Bool)
 cow_row = text_row every_cow plain_text
+
+-- one of these names, by its first place among them
+abbrev pub variant_row : List (Bor (List ℕ)) → Row ℕ
+variant_row names = text_row (place_among names) no_tree
 
 -- a value of any kind that is no collection
 abbrev pub any_row : Row Datum

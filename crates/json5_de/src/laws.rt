@@ -1,10 +1,11 @@
 //! What follows from the law of a read, for every type at once.
 
-ghost use Rattle.std.specs.Prelude.{ℕ};
+ghost use Rattle.std.specs.Borrow.{Bor};
+ghost use Rattle.std.specs.Prelude.{ℕ, List};
 ghost use Rattle.json5_text.specs.Cows.{cow_bytes, is_borrowed};
 ghost use Rattle.json5_text.specs.ValueViews.{value_of};
 ghost use Rattle.json5_de.specs.Law.{OneAnswer};
-ghost use Rattle.json5_de.specs.Rows.{TellsApart, null_row, bool_row, natural_row, integer_row, decimal_row, string_row, char_row, plain_row, cow_row, any_row, text_bytes, slice_bytes};
+ghost use Rattle.json5_de.specs.Rows.{TellsApart, null_row, bool_row, natural_row, integer_row, decimal_row, string_row, char_row, plain_row, variant_row, cow_row, any_row, text_bytes, slice_bytes};
 
 use crate::de::Deserialize;
 use json5_text::input::Input;
@@ -19,6 +20,7 @@ pub fn value_codes()
     ensures string { TellsApart string_row text_bytes }
     ensures character { TellsApart char_row (λ c. c) }
     ensures plain { TellsApart plain_row slice_bytes }
+    ensures variant { (names : List (Bor (List ℕ))) → TellsApart (variant_row names) (λ n. n) }
     ensures cow { TellsApart cow_row (λ t. (cow_bytes t, is_borrowed t)) }
     ensures any { TellsApart any_row value_of }
 {}

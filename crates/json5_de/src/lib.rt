@@ -18,6 +18,7 @@ mod text;
 mod texts;
 mod tuples;
 mod types;
+mod variants;
 
 pub use de::{Deserialize, Deserializer};
 pub use laws::{one_answer, value_codes};

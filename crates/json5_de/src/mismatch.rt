@@ -14,6 +14,8 @@ pub(crate) enum Mismatch<'a> {
     Escaped(&'a str),
     /// A text that isn't one character.
     NotCharacter(&'a str),
+    /// A name, and the variants of which it is none.
+    UnknownVariant(&'a str, &'a [&'a str]),
 }
 
 impl fmt::Display for Mismatch<'_> {
@@ -30,6 +32,10 @@ impl fmt::Display for Mismatch<'_> {
                 write!(f, "invalid value: string ")?;
                 write_quoted(f, text)?;
                 write!(f, ", expected a character")
+            }
+            Mismatch::UnknownVariant(name, variants) => {
+                write!(f, "unknown variant `{name}`, ")?;
+                write_variants(f, variants)
             }
         }
     }
@@ -56,6 +62,22 @@ fn write_range<W: fmt::Write>(f: &mut fmt::Formatter<W>, whole: Whole, name: &st
         f,
         "invalid type: integer `{number}` as i128, expected {name}"
     )
+}
+
+/// What is expected in place of a name that is none of the variants.
+fn write_variants<W: fmt::Write>(f: &mut fmt::Formatter<W>, variants: &[&str]) -> fmt::Result {
+    match variants {
+        [] => f.write_str("there are no variants"),
+        [only] => write!(f, "expected `{only}`"),
+        [first, second] => write!(f, "expected `{first}` or `{second}`"),
+        [first, others @ ..] => {
+            write!(f, "expected one of `{first}`")?;
+            for variant in others {
+                write!(f, ", `{variant}`")?;
+            }
+            Ok(())
+        }
+    }
 }
 
 /// The text between double quotes, these, backslashes, tabs and line ends escaped.

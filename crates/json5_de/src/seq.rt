@@ -12,7 +12,7 @@ ghost use Rattle.json5_de.specs.State.{SameText, GivesUp, cursor_of};
 ghost use Rattle.json5_de.specs.Faults.{RefusedBy, IsUnplaced};
 ghost use Rattle.json5_de.specs.Brackets.{AreSigns};
 ghost use Rattle.json5_de.specs.Law.{Unprompted};
-ghost use Rattle.json5_de.specs.Access.{bare, Closed, OpensAs, OpensArray, ClosesArray, GivesElement, CompletesElement, CompletesClose, PlacedAtBracket, Unawaited, NotClosed, ElementsLeft, ReadsMore, LeavesFewer};
+ghost use Rattle.json5_de.specs.Access.{bare, Closed, OpensAs, OpensArray, ClosesArray, GivesElement, CompletesElement, ReadsElement, CompletesClose, PlacedAtBracket, Unawaited, NotClosed, ElementsLeft, ReadsMore, LeavesFewer};
 ghost use Rattle.json5_de.specs.Lists.{IsTooShort, LeavesRequired, RefusesRequired};
 ghost use Rattle.json5_de.specs.Seq.{TookClosing, RefusesClosing, GoesOn, NoNext, RefusesElement, RefusesNext};
 
@@ -217,7 +217,7 @@ impl<'a, I: Input> SeqAccess<'a, I> {
         ensures same_reference { HoldsTheSame self.old self.new }
         ensures blocks { BlocksReader self.new }
         ensures sound { IfOk result (GivesElement T.content T.convert (seen self.old) (seen self.new)) }
-        ensures complete { CompletesElement T.convert (seen self.old) result }
+        ensures complete { ReadsElement T.content T.convert (seen self.old) result }
         ensures closing { CompletesClose (seen self.old) result }
         ensures start { (seen self.new).start ≡ (seen self.old).start }
         ensures same_text { SameText (seen self.old).reader (seen self.new).reader }

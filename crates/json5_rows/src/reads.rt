@@ -1,7 +1,7 @@
 //! Reading a text as a type.
 
 use crate::answers::{Answer, Any, Digits, shown, unknown};
-use json5::{CowStr, Deserialize, from_str};
+use json5::{CowStr, Deserialize, Deserializer, from_str};
 use json5_own_type::{Bounds, Point, Port};
 use std::alloc::Global;
 use std::fmt::Debug;
@@ -81,4 +81,16 @@ fn read_bounds(alloc: Global, text: &str) -> Answer {
 fn read_point(alloc: Global, text: &str) -> Answer {
     let Point { x, y } = from_str::<Point<&str>>(alloc, text)?;
     shown(alloc, Ok((x, y)))
+}
+
+/// The place of the text among the variants, which commas separate.
+pub fn read_variant(alloc: Global, variants: &str, text: &str) -> Answer {
+    let mut names = Vec::new(alloc);
+    for name in variants.split(',').filter(|name| !name.is_empty()) {
+        names.push(name)?;
+    }
+    let mut de = Deserializer::from_str(alloc, text);
+    let place = de.deserialize_variant(names.as_slice())?;
+    de.end()?;
+    shown(alloc, Ok(place))
 }

@@ -28,6 +28,7 @@ fn answer(alloc: Global, call: &str, text: &str) -> Answer {
         "write" => writes::write(alloc, words, text),
         "display" => writes::display(alloc, text),
         "format" => json5::format(alloc, text),
+        "variant" => reads::read_variant(alloc, words, text),
         "sequence" => sequences::sequence(alloc, words, text),
         "scan" => scans::scan(alloc, words, text),
         "position" => texts::position(alloc, words, text),

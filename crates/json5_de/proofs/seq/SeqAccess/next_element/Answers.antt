@@ -3,7 +3,7 @@ use Rattle.std.proofs.Math.Bool.{or-true, or-false}
 use Rattle.json5_grammar.proofs.MembersPassed.{element_shorter}
 use Rattle.json5_de.specs.Access.{Seen}
 use Rattle.json5_de.specs.Lending.{seen}
-use Rattle.json5_de.proofs.Elements.{reads_more, leaves_fewer}
+use Rattle.json5_de.proofs.Elements.{reads_element, reads_more, leaves_fewer}
 use Rattle.json5_de.proofs.Next.{lent_on, gives_seen, gives_next, at_same_text, refuses_next}
 use Rattle.json5_de.proofs.seq.SeqAccess.next_element.Goals as goal
 
@@ -16,6 +16,11 @@ pub returns-in-Ok-Some-clause-shorter : goal.returns-in-Ok-Some-clause-shorter
 returns-in-Ok-Some-clause-shorter g c =
     let (t, took, due, is) = returns-in-Ok-Some-clause-sound g c in
     element_shorter c.args.self.now.due c.args.self.now.de.now.unread _ t took.element
+
+pub returns-in-Ok-Some-clause-complete : goal.returns-in-Ok-Some-clause-complete
+returns-in-Ok-Some-clause-complete g c =
+    let new : Seen = record { reader = record c.set_failed-2.new.self { failed = c.args.self.now.failed }; start = c.args.self.now.start; due = true } in
+    reads_element g.T.Deserialize.content g.T.Deserialize.convert (seen c.args.self.now) new (Some c.in-Ok-Some.item) (returns-in-Ok-Some-clause-sound g c)
 
 pub returns-in-Ok-Some-clause-refused : goal.returns-in-Ok-Some-clause-refused
 returns-in-Ok-Some-clause-refused g c = gives_next g.T.Deserialize.content g.T.Deserialize.convert _ (seen c.args.self.now) _ (Some c.in-Ok-Some.item) (returns-in-Ok-Some-clause-sound g c)
@@ -31,6 +36,11 @@ pub returns-in-Ok-None-clause-sound : goal.returns-in-Ok-None-clause-sound
 returns-in-Ok-None-clause-sound g c =
     let new : Seen = record { reader = record c.set_failed-2.new.self { failed = c.args.self.now.failed }; start = c.args.self.now.start; due = c.args.self.now.due } in
     gives_seen g.T.Deserialize.content g.T.Deserialize.convert (seen c.args.self.now) new c.set_failed.new.self c.element-next.new.self None c.set_failed.ensures (lent_on c.set_failed-2.new.self c.element-next.new.self c.set_failed-2.ensures) (sym (or-false c.args.self.now.due)) (rw c.in-Ok-None.field-0-is at c.in-Ok-None.ensures.sound)
+
+pub returns-in-Ok-None-clause-complete : goal.returns-in-Ok-None-clause-complete
+returns-in-Ok-None-clause-complete g c =
+    let new : Seen = record { reader = record c.set_failed-2.new.self { failed = c.args.self.now.failed }; start = c.args.self.now.start; due = c.args.self.now.due } in
+    reads_element g.T.Deserialize.content g.T.Deserialize.convert (seen c.args.self.now) new None (returns-in-Ok-None-clause-sound g c)
 
 pub returns-in-Ok-None-clause-refused : goal.returns-in-Ok-None-clause-refused
 returns-in-Ok-None-clause-refused g c = gives_next g.T.Deserialize.content g.T.Deserialize.convert _ (seen c.args.self.now) _ None (returns-in-Ok-None-clause-sound g c)
