@@ -20,6 +20,7 @@ use Rattle.json5_de.specs.Faults.{NotNumber, faulty_number, other_number}
 use Rattle.json5_de.proofs.Awaited.{Awaited}
 use Rattle.std.proofs.lemmas.Bool.{or_parts}
 use Rattle.json5_grammar.proofs.Basics.{first_same, true_false, none_some}
+use Rattle.json5_grammar.proofs.Refusals.{same_bad}
 
 number_none : reading.number [] ≡ bad (Some EofParsingNumber) inner
 unfolding reading.number
@@ -27,9 +28,6 @@ number_none = refl
 
 number_other : (c : ℕ) (r : List ℕ) → (is_sign c || begins_number c) ≡ false → reading.number (c ∷ r) ≡ bad (Some ExpectedNumber) (here (c ∷ r))
 number_other c r h = let k = or_parts (is_sign c) (begins_number c) h in number_unsigned c r no_sign k.0 ∙ unsigned_bad (c ∷ r) false c r k.1
-
-same_bad : (a : Read Number) (e d : Option ErrorCode) (p q : Place) → a ≡ bad e p → a ≡ bad d q → (e ≡ d) × (p ≡ q)
-same_bad a e d p q h k = (cc, cc)
 
 -- a number isn't empty
 not_empty : {s : List ℕ} {n : Number} {A : Type 0} (r : List ℕ) → Num s n → s ++ r ≡ [] → A

@@ -17,9 +17,7 @@ use Rattle.json5_text.specs.Tokens.{FaultyString, faulty, no_quote, string_missi
 use Rattle.json5_de.specs.Convert.{as_text}
 use Rattle.json5_de.specs.Faults.{NotText, faulty_text, other_text}
 use Rattle.json5_de.proofs.Awaited.{Awaited}
-
-same_bad : {A : Type 0} (a : Read A) (e d : Option ErrorCode) (p q : Place) → a ≡ bad e p → a ≡ bad d q → (e ≡ d) × (p ≡ q)
-same_bad a e d p q h k = (cc, cc)
+use Rattle.json5_grammar.proofs.Refusals.{same_bad}
 
 -- x begins with a quote
 abbrev Quoted : List ℕ → Type 0

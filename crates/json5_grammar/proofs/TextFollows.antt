@@ -23,7 +23,7 @@ escape_follows z (unpaired r x y s h) = unpaired z x y s h
 pub escape_heads : {m : Bool} {x part : List ℕ} {code : Option ErrorCode} {place : Option (List ℕ)} (z : List ℕ) → EscapeFault m x code place part by_char → SameHead x (part ++ z)
 escape_heads {x = x} {part = part} z f = by_backslash x (part ++ z) (fault_head f) (fault_head (escape_follows z f))
 
-string_moved : {x b p : List ℕ} {e : Option ErrorCode} {pl : Option (List ℕ)} {how : Shown} (y : List ℕ) → StringFault x e pl b p how → x ≡ y → StringFault y e pl b p how
+pub string_moved : {x b p : List ℕ} {e : Option ErrorCode} {pl : Option (List ℕ)} {how : Shown} (y : List ℕ) → StringFault x e pl b p how → x ≡ y → StringFault y e pl b p how
 string_moved {b = b} {p = p} {e = e} {pl = pl} {how = how} y f h = subst (λ z. StringFault z e pl b p how) h f
 
 pub string_follows : {x b p : List ℕ} {e : Option ErrorCode} {pl : Option (List ℕ)} (z : List ℕ) → StringFault x e pl b p by_char → StringFault ((b ++ p) ++ z) e pl b p by_char
@@ -34,7 +34,7 @@ pub string_heads : {x b p : List ℕ} {e : Option ErrorCode} {pl : Option (List 
 string_heads z (raw_terminator r k i h) = refl
 string_heads z (StringFault.in_escape k i f) = refl
 
-name_moved : {x b p : List ℕ} {e : Option ErrorCode} {pl : Option (List ℕ)} {how : Shown} (y : List ℕ) → NameFault x e pl b p how → x ≡ y → NameFault y e pl b p how
+pub name_moved : {x b p : List ℕ} {e : Option ErrorCode} {pl : Option (List ℕ)} {how : Shown} (y : List ℕ) → NameFault x e pl b p how → x ≡ y → NameFault y e pl b p how
 name_moved {b = b} {p = p} {e = e} {pl = pl} {how = how} y f h = subst (λ z. NameFault z e pl b p how) h f
 
 pub name_follows : {x b p : List ℕ} {e : Option ErrorCode} {pl : Option (List ℕ)} (z : List ℕ) → NameFault x e pl b p by_char → NameFault ((b ++ p) ++ z) e pl b p by_char

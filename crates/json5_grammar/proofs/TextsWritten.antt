@@ -74,7 +74,7 @@ written_all : (q : ℕ) (r u : List ℕ) → is_quote q ≡ true → WrittenItem
 written_all q r [] k = (true, no_item)
 written_all q r (c ∷ u) k = written_char q c r u (escaped_all q u) k (written_all q r u k)
 
-quote_is : (u : List ℕ) → is_quote (quote_for u) ≡ true
+pub quote_is : (u : List ℕ) → is_quote (quote_for u) ≡ true
 quote_is u = by_test (λ q. is_quote q ≡ true) (list_any (λ c. c == 34) u && not (list_any (λ c. c == 39) u)) 39 34 (λ h. refl) (λ h. refl)
 
 -- a written text is a string of that text, plain where it holds no backslash

@@ -14,7 +14,7 @@ use Rattle.json5_grammar.proofs.NumberStepLaws.{IsChecked, checked_is, capped_ra
 use Rattle.json5_text.specs.declared.numbers.Exponent.{Exponent}
 use Rattle.json5_text.specs.declared.numbers.Literal.{Literal}
 use Rattle.json5_text.specs.NumberParts.{raised_of, parts_of, limited_exponent, is_whole_literal}
-use Rattle.json5_text.proofs.NumberZeros.{length-front}
+use Rattle.json5_grammar.proofs.DecimalsWritten.{length-front}
 
 -- ---- whole numbers
 

@@ -11,7 +11,7 @@ use Rattle.json5_grammar.specs.Numbers.{finite, without_front_zeros, without_zer
 use Rattle.json5_grammar.specs.NumberText.{IsNormal}
 use Rattle.json5_text.specs.NumberSteps.{raised}
 use Rattle.json5_grammar.proofs.NumberTests.{by_test}
-use Rattle.json5_grammar.proofs.DecimalsWritten.{Each-reverse}
+use Rattle.json5_grammar.proofs.DecimalsWritten.{Each-reverse, length-front}
 use Rattle.json5_grammar.proofs.NormalForms.{bare_twice}
 
 -- ---- in front
@@ -86,14 +86,6 @@ normal_exponent_is ds front rest first last e h k =
     exponent_step e (length (without_front_zeros ds)) (without_zeros ds)
     ∙ ap (λ n. raised e n (length (without_zeros ds))) (ap length (sym h) ∙ length-append front rest)
     ∙ ap (raised e (length front + length rest)) (ap length (sym k) ∙ length-append first last)
-
-length_if : (b : Bool) (c : ℕ) (s t : List ℕ) → length t ≤ length s → length (cond b t (c ∷ s)) ≤ suc (length s)
-length_if true c s t h = omega arith
-length_if false c s t h = omega arith
-
-pub length-front : (s : List ℕ) → length (without_front_zeros s) ≤ length s
-length-front [] = omega arith
-length-front (c ∷ s) = length_if (c == 48) c s (without_front_zeros s) (length-front s)
 
 pub fewer_digits : (ds front rest first last : List ℕ) → front ++ rest ≡ without_front_zeros ds → first ++ last ≡ without_zeros ds → length first + length last ≤ length front + length rest
 fewer_digits ds front rest first last h k = omega (arith, length-append front rest, length-append first last, ap length h, ap length k, length-reverse (without_front_zeros (reverse (without_front_zeros ds))), length-front (reverse (without_front_zeros ds)), length-reverse (without_front_zeros ds))

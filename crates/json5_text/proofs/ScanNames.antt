@@ -11,7 +11,7 @@ use Rattle.json5_grammar.specs.declared.code.ErrorCode.TheVariants.{EofParsingId
 use Rattle.json5_grammar.specs.Reading.{Read, Place, got, bad, here, inner, and_then}
 use Rattle.json5_grammar.specs.ReadTexts.{unicode_at, name_escape, fit, put, identifier}
 use Rattle.json5_grammar.proofs.NamesRead.{unicode_head}
-use Rattle.json5_grammar.proofs.NamesSound.{EscapedSound, escaped_sound, shorter}
+use Rattle.json5_grammar.proofs.NamesSound.{EscapedSound, escaped_sound}
 use Rattle.json5_grammar.proofs.StringsRead.{put_none, put_raw, put_escape, put_end}
 use Rattle.json5_grammar.proofs.Turns.{name_rest, name_end, name_stops, name_raw, name_escaped, name_bad, start_raw, start_escaped, start_bad}
 use Rattle.json5_text.specs.declared.refusal.Refusal.{Refusal}
@@ -22,6 +22,7 @@ use Rattle.json5_text.specs.Refused.{Refuses}
 use Rattle.json5_text.specs.ScanNames.{fits, is_raw_part, name_at, item, item_then, NoPart, StopsAt, GoesOn, IsFurther, StopsText}
 use Rattle.json5_text.proofs.ScanEscapes.{refuses_as, then_refuses}
 use Rattle.json5_text.proofs.ScanStrings.{put_bad, plain_put}
+use Rattle.json5_grammar.proofs.StringsSound.{shorter}
 
 -- ---- characters that stand for themselves
 

@@ -12,7 +12,7 @@ use Rattle.json5_grammar.specs.Strings.{is_raw, is_quote}
 use Rattle.json5_grammar.specs.Reading.{Read, Place, got, bad, here, inner, and_then}
 use Rattle.json5_grammar.specs.ReadTexts.{escape_at, put, string}
 use Rattle.json5_grammar.proofs.EscapesSound.{EscapeSound, escape_sound}
-use Rattle.json5_grammar.proofs.StringsRead.{escape_head, put_none, put_raw, put_escape, put_end}
+use Rattle.json5_grammar.proofs.StringsRead.{escape_head, put_none, put_raw, put_escape, put_end, raw_fails, quote_no_backslash}
 use Rattle.json5_grammar.proofs.Turns.{string_is, rest_end, rest_quote, rest_line, rest_raw, rest_bad, rest_escape}
 use Rattle.json5_text.specs.declared.refusal.Refusal.{Refusal}
 use Rattle.json5_text.specs.declared.strings.Stop.{Stop}
@@ -24,14 +24,8 @@ use Rattle.json5_text.proofs.ScanEscapes.{refuses_as, then_refuses}
 
 -- ---- characters that stand for themselves
 
-raw_fails : (q c : ℕ) → is_raw q c ≡ true → ((c == q) ≡ false) × ((c == 92) ≡ false) × (((c == 10) || (c == 13)) ≡ false)
-raw_fails q c h = (grind (arith, nat_tests), grind (arith, nat_tests), grind (arith, nat_tests))
-
 not_raw : (q c : ℕ) → is_raw q c ≡ false → (c == q) ≡ false → (c == 92) ≡ false → ((c == 10) || (c == 13)) ≡ true
 not_raw q c h i j = grind (arith, nat_tests)
-
-quote_no_backslash : (q : ℕ) → is_quote q ≡ true → (92 == q) ≡ false
-quote_no_backslash q h = grind (arith, nat_tests)
 
 -- one more character that passes the test
 pub one_more : (p : ℕ → Bool) (c : ℕ) (x y z : List ℕ) → p c ≡ true → (raw : List ℕ) × (x ≡ raw ++ y) × Each p raw → y ≡ c ∷ z → (raw : List ℕ) × (x ≡ raw ++ z) × Each p raw
