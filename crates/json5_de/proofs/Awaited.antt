@@ -127,7 +127,3 @@ pub completes_or_memory : {V C : Type 0} {F : List ℕ → Option ErrorCode → 
 completes_or_memory a old (Ok v) k t r c live reads shallow is = tt
 completes_or_memory a old (Err e) (inl m) t r c live reads shallow is = m
 completes_or_memory a old (Err e) (inr k) t r c live reads shallow is = absurd (wrongly_refused a old e t r c live reads is k)
-
-pub or_memory : {V : Type 0} (result : Result V Error) → IsOk result → IsOkOrMemory result
-or_memory (Ok v) h = tt
-or_memory (Err e) h = absurd (cc)

@@ -69,9 +69,6 @@ reading es old now n w = ap (λ (s : State). s.failed) w.read.rest ∙ w.read.li
 
 -- ---- why it is refused
 
-pub unopened : {A : Type 0} (es : Elements) (shape : Shape) (seen : A → Seen) (old : State) (e : Error) (new : State) → OpensArray seen old (Err e) → new.failed ≡ true → RefusesList es shape old e new
-unopened es shape seen old e new opens failed = record { cause = λ live. not_opened opens.bracket.refused; failed = failed; before = opens.bracket.before }
-
 pub refuses_list : (es : Elements) (shape : Shape) (old : State) (e : Error) (new : State) → old.failed ≡ false → new.failed ≡ true → ListFault es shape old e → RefusesList es shape old e new
 refuses_list es shape old e new live failed fault = record { cause = λ l. fault; failed = failed; before = λ h. absurd (true_false h live) }
 

@@ -60,19 +60,9 @@ awaits_nothing {ends = ends} {differs = differs} begins = record {
 pub blanks_no_value : (s : State) (e : Error) (t : Tree) (r : List ℕ) → Refused FaultyBlanks (cursor_of s) e → Reads s.unread t r → ⊥
 blanks_no_value s e t r f p = let (b, part, shown, fault) = f.fault in no_reads_in_blanks s.unread b part r t f.reason f.place shown fault p
 
--- nor before a character that stands there
-pub blanks_no_other : {begins : ℕ → Bool} (s : State) (e : Error) (w : List ℕ) → Refused FaultyBlanks (cursor_of s) e → AtOther begins s w → ⊥
-blanks_no_other s e w f o =
-    let (b, part, shown, fault) = f.fault in
-    no_blank_fault (Gap.blanks o.blank) (begins_solid o.char o.more o.solid) (subst (λ x. BlankFault x f.reason f.place b part shown) o.split fault)
-
 -- at the end nothing is next
 pub end_next : (s mid : State) (c : ℕ) (m : List ℕ) → AtEnd s → PassedGap s mid → mid.unread ≡ c ∷ m → ⊥
 end_next s mid c m at p e = not_nil c m mid.unread e (gap_last s.unread p.gap mid.unread at.1 p.is_gap p.solid p.split).1
-
--- the character that stands there is next
-pub other_next : {begins : ℕ → Bool} (s mid : State) (w : List ℕ) → (o : AtOther begins s w) → PassedGap s mid → mid.unread ≡ o.char ∷ o.more
-other_next s mid w o p = (gap_before w p.gap mid.unread o.char o.more o.blank o.solid p.is_gap p.solid (sym o.split ∙ p.split)).1
 
 -- a value that can be read is next
 pub value_next : (s mid : State) (t : Tree) (r : List ℕ) → PassedGap s mid → Reads s.unread t r → Reads mid.unread t r

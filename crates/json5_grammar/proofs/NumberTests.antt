@@ -19,9 +19,6 @@ digit_no_sign c h = (grind (arith, nat_tests), grind (arith, nat_tests))
 pub digit_in_run : (c : ℕ) → is_digit c ≡ true → in_run c ≡ true
 digit_in_run c h = rw h
 
-pub sign_in_run : (c : ℕ) → is_sign c ≡ true → in_run c ≡ true
-sign_in_run c h = grind (arith, nat_tests)
-
 pub e_in_run : (c : ℕ) → ((c == 101) || (c == 69)) ≡ true → in_run c ≡ true
 e_in_run c h = grind (arith, nat_tests)
 

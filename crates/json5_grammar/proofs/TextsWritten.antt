@@ -84,9 +84,6 @@ quoted_is u =
     let s : Str (quoted_text u) u w.0 = quoted (quote_is u) w.1 in
     subst (Str (quoted_text u) u) (string_plain s) s
 
-pub quoted_read : (u r : List ℕ) → string (quoted_text u ++ r) ≡ got (u, not (holds_backslash (quoted_text u))) r
-quoted_read u r = string_complete r (quoted_is u)
-
 -- ---- names
 
 backslash_no_part : is_identifier_part 92 ≡ false

@@ -33,11 +33,6 @@ pub whole_parts : (d : Decimal) (ds : List ℕ) (e : ℤ) (n : ℕ) → ds ≡ d
     → piece (digits_text (digits_in d) (exponent_in d)) ≡ piece ds then (piece (zeros n) then piece (codes ".0"))
 whole_parts d ds e n h k l p m = ap (λ x. piece (digits_text x (exponent_in d))) (sym h) ∙ (ap (λ x. piece (digits_text ds x)) (sym k) ∙ finite_whole ds e n l p m)
 
-pub finite_pointed : (ds : List ℕ) (e : ℤ) (n : ℕ) → 0 < length ds → e <ℤ pos 0 → n ≡ unsigned_abs e → piece (digits_text ds e) ≡ piece (pointed ds n)
-finite_pointed [] e n l p h = absurd (omega (arith, l))
-finite_pointed (d ∷ ds) (pos k) n l p h = absurd (omega (arith, ints, p))
-finite_pointed (d ∷ ds) (negsuc k) n l p h = ap (λ m. piece (pointed (d ∷ ds) m)) (sym h)
-
 -- the sign, and then the rest
 abbrev pub decimal_rest : Decimal → List ℕ
 decimal_rest (infinite m) = codes "Infinity"

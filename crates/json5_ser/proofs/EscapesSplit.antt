@@ -31,9 +31,6 @@ chars_before : (q : ℕ) (t rest : List ℕ) → (h : StandsBefore q t rest) →
 chars_before q t rest h =
     ap chars h.bytes ∙ (chars-append (encode_utf8_all h.before) rest (h.before, (h.scalars, refl)) ∙ ap (λ l. l ++ chars rest) (chars-encodes h.before h.scalars))
 
-pub stands_first : (q : ℕ) (t : List ℕ) → IsUtf8 t → StandsBefore q t t
-stands_first q t u = record { before = []; scalars = refl; bytes = refl; same = refl; utf8 = u }
-
 seam_at : (q : ℕ) (t rest : List ℕ) → (h : StandsBefore q t rest) → length (encode_utf8_all h.before) ≡ length t - length rest
 seam_at q t rest h =
     let e : length t ≡ length (encode_utf8_all h.before) + length rest = ap length h.bytes ∙ length-append (encode_utf8_all h.before) rest in

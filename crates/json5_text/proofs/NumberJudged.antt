@@ -23,10 +23,6 @@ whole_at m i g h None None p q = refl
 whole_at m i g h None (Some e) p q = cc
 whole_at m i g h (Some b) e p q = cc
 
-pub no_whole_at : {B E : Type 0} (m : Bool) (i : List ℕ) (g : B → List ℕ) (h : E → ℤ) (b : Option B) (e : Option E) → is_some b ≡ true → is_whole m i (option_map g b) (option_map h e) ≡ false
-no_whole_at m i g h None e p = cc
-no_whole_at m i g h (Some b) e p = refl
-
 pub not_whole : (m : Bool) (l : Literal) → (is_whole_literal m l ≡ true → ⊥) → is_whole_literal m l ≡ false
 not_whole m l n = by (is_whole_literal m l) refl
   where

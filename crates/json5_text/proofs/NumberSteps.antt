@@ -63,9 +63,6 @@ hexadecimal_read q xs ys m c r e h k = let f : hex_digits 0 (c ∷ ys) ≡ r = a
 pub hexadecimal_past : (q xs ys : List ℕ) (m : Bool) (c : ℕ) (e : Option ErrorCode) (p : Place) → xs ≡ c ∷ ys → digit_value c < 16 → hex_digits 0 xs ≡ bad e p → hexadecimal q m xs ≡ bad e p
 hexadecimal_past q xs ys m c e p f h k = hexadecimal_read q xs ys m c (bad e p) f h k ∙ hex_judged_bad q m e p
 
-pub hexadecimal_whole : (q xs ys : List ℕ) (m : Bool) (c n : ℕ) (r : List ℕ) → xs ≡ c ∷ ys → digit_value c < 16 → hex_digits 0 xs ≡ got n r → InWhole (signed m n) → hexadecimal q m xs ≡ got (whole (signed m n)) r
-hexadecimal_whole q xs ys m c n r e h k i = hexadecimal_read q xs ys m c (got n r) e h k ∙ hex_kept q m n r i
-
 judged_large : (q : List ℕ) (m : Bool) (n : ℕ) (r : List ℕ) → n < 2 ^ 128 → (InWhole (signed m n) → ⊥) → hex_judged q m (got n r) ≡ bad None (here q)
 judged_large q false n r l h = absurd (h (omega (arith, ints), omega (arith, ints)))
 judged_large q true n r l h = by (nat_le n (2 ^ 127)) refl

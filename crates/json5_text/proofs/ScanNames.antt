@@ -142,9 +142,6 @@ pub escape_unicode : (c : ℕ) (b xs ys : List ℕ) → xs ≡ c ∷ ys → c �
 unfolding name_escape
 escape_unicode c b xs ys e h = rw (e, h) refl
 
-pub item_fits : (p : ℕ → Bool) (b xs ys : List ℕ) (n : ℕ) → name_escape b xs ≡ got n ys → p n ≡ true → and_then (name_escape b xs) (fit p b) ≡ got n ys
-item_fits p b xs ys n e h = ap (λ z. and_then z (fit p b)) e ∙ rw h refl
-
 pub item_misfits : (p : ℕ → Bool) (b xs ys : List ℕ) (n : ℕ) → name_escape b xs ≡ got n ys → p n ≡ false → and_then (name_escape b xs) (fit p b) ≡ bad (Some ExpectedIdentifier) (here b)
 item_misfits p b xs ys n e h = ap (λ z. and_then z (fit p b)) e ∙ rw h refl
 
