@@ -15,8 +15,8 @@ use Rattle.json5_grammar.proofs.NamesSound.{EscapedSound, escaped_sound}
 use Rattle.json5_grammar.proofs.StringsRead.{put_none, put_raw, put_escape, put_end}
 use Rattle.json5_grammar.proofs.Turns.{name_rest, name_end, name_stops, name_raw, name_escaped, name_bad, start_raw, start_escaped, start_bad}
 use Rattle.json5_text.specs.declared.refusal.Refusal.{Refusal}
-use Rattle.json5_text.specs.declared.names.Stop.{Stop}
-use Rattle.json5_text.specs.declared.names.Stop.TheVariants as stop
+use Rattle.json5_text.specs.declared.names.NameStop.{NameStop}
+use Rattle.json5_text.specs.declared.names.NameStop.TheVariants as stop
 use Rattle.json5_text.specs.Outcome.{outcome}
 use Rattle.json5_text.specs.Refused.{Refuses}
 use Rattle.json5_text.specs.ScanNames.{fits, is_raw_part, name_at, item, item_then, NoPart, StopsAt, GoesOn, IsFurther, StopsText}
@@ -104,7 +104,7 @@ item_run : (first : Bool) (x y z raw t : List ℕ) (n : ℕ) → item first x y 
 item_run first x y z raw t n g f k =
     after_item first x y z n g ∙ ap (λ s. put (n ∷ []) false (name_at false s)) f ∙ ap (put (n ∷ []) false) (run_read raw t k) ∙ put_escape (n ∷ []) raw true (name_at false t)
 
-pub goes_on : (first : Bool) (x y z raw t : List ℕ) (n : ℕ) (s : Stop) → item first x y ≡ got n z → z ≡ raw ++ t → Each is_raw_part raw → StopsAt t s → GoesOn (item_then first x y) (n ∷ raw) s
+pub goes_on : (first : Bool) (x y z raw t : List ℕ) (n : ℕ) (s : NameStop) → item first x y ≡ got n z → z ≡ raw ++ t → Each is_raw_part raw → StopsAt t s → GoesOn (item_then first x y) (n ∷ raw) s
 goes_on first x y z raw t n (stop.End rest) g f k a =
     item_run first x y z raw t n g f k ∙ ap (put (n ∷ raw) false) (stopped t a.1) ∙ put_end (n ∷ raw) false t ∙ ap (got (n ∷ raw, false)) a.0
 goes_on first x y z raw t n (stop.Escape escape behind) g f k a = (item_run first x y z raw t n g f k ∙ ap (λ s. put (n ∷ raw) false (name_at false s)) a.0, a.1)
@@ -116,7 +116,7 @@ item_shorter first x y z n e g =
     let m : length z < length (92 ∷ y) = shorter (92 ∷ y) k.0 z k.1 (unicode_head k.2) in
     omega arith
 
-pub is_further : (first : Bool) (x y z raw t : List ℕ) (n : ℕ) (s : Stop) → item first x y ≡ got n z → z ≡ raw ++ t → StopsAt t s → StopsText s → x ≡ 92 ∷ y → IsFurther x s
+pub is_further : (first : Bool) (x y z raw t : List ℕ) (n : ℕ) (s : NameStop) → item first x y ≡ got n z → z ≡ raw ++ t → StopsAt t s → StopsText s → x ≡ 92 ∷ y → IsFurther x s
 is_further first x y z raw t n (stop.End rest) g f a u e = u
 is_further first x y z raw t n (stop.Escape escape behind) g f a u e =
     let less = item_shorter first x y z n e g in
