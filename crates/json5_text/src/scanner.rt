@@ -97,7 +97,7 @@ impl<I: Input> Scanner<I> {
             return false;
         }
         let left = rest.len();
-        self.leave(left);
+        self.leave_unread(left);
         true
     }
 
@@ -112,7 +112,7 @@ impl<I: Input> Scanner<I> {
             Ok(rest) => rest.len(),
             Err(refusal) => return Err(self.fault(refusal)),
         };
-        self.leave(left);
+        self.leave_unread(left);
         Ok(())
     }
 
@@ -125,7 +125,7 @@ impl<I: Input> Scanner<I> {
             Ok(rest) => rest.len(),
             Err(refusal) => return Err(self.fault(refusal)),
         };
-        self.leave(left);
+        self.leave_unread(left);
         Ok(())
     }
 
@@ -148,7 +148,7 @@ impl<I: Input> Scanner<I> {
             Ok((number, rest)) => (number, rest.len()),
             Err(refusal) => return Err(self.fault(refusal)),
         };
-        self.leave(left);
+        self.leave_unread(left);
         Ok(number)
     }
 
@@ -161,7 +161,7 @@ impl<I: Input> Scanner<I> {
             Ok((text, rest)) => (text, rest.len()),
             Err(refusal) => return Err(self.fault(refusal)),
         };
-        self.leave(left);
+        self.leave_unread(left);
         Ok(text)
     }
 
@@ -197,7 +197,7 @@ impl<I: Input> Scanner<I> {
     }
 
     /// Leaves so many bytes unread.
-    fn leave(&mut self, left: usize)
+    fn leave_unread(&mut self, left: usize)
         requires { Leaves self.old left }
         ensures { LeavesAt self.old left self.new }
     {
@@ -266,7 +266,7 @@ impl<'de, I: Borrows<'de>> Scanner<I> {
             Ok((text, rest)) => (text, rest.len()),
             Err(refusal) => return Err(self.fault(refusal)),
         };
-        self.leave(left);
+        self.leave_unread(left);
         Ok(text)
     }
 
@@ -286,7 +286,7 @@ impl<'de, I: Borrows<'de>> Scanner<I> {
             Ok((text, rest)) => (text, rest.len()),
             Err(refusal) => return Err(self.fault(refusal)),
         };
-        self.leave(left);
+        self.leave_unread(left);
         Ok(text)
     }
 }

@@ -9,5 +9,5 @@ leave-requires g c = leaves_rest (c.in-Some.next ∷ []) c.in-Some.rest.now (sym
 
 pub returns-clause-taken : goal.returns-clause-taken
 returns-clause-taken g c = λ t.
-    subst (λ z. Took c.args.self.now (z ∷ []) c.leave.new.self) c.if-next-c.false
-    (c.leave.ensures (c.in-Some.next ∷ []) (chars c.in-Some.rest.now) (sym c.rest.ensures ∙ c.in-Some.ensures.chars) (left_counted c.in-Some.rest.now c.in-Some.ensures.text)).0
+    subst (λ z. Took c.args.self.now (z ∷ []) c.leave_unread.new.self) c.if-next-c.false
+    (c.leave_unread.ensures (c.in-Some.next ∷ []) (chars c.in-Some.rest.now) (sym c.rest.ensures ∙ c.in-Some.ensures.chars) (left_counted c.in-Some.rest.now c.in-Some.ensures.text)).0

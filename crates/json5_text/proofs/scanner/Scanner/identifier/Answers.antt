@@ -28,7 +28,7 @@ pub returns : goal.returns
 returns g c =
     let given = c.in-Ok.ensures in
     let k = name_taken (chars c.rest.result.now) c.args.self.now.unread given.spelled (chars c.in-Ok.rest.now) given.plain c.rest.ensures given.read in
-    let l = c.leave.ensures k.name (chars c.in-Ok.rest.now) k.split (left_counted c.in-Ok.rest.now given.text) in
+    let l = c.leave_unread.ensures k.name (chars c.in-Ok.rest.now) k.split (left_counted c.in-Ok.rest.now given.text) in
     record {
       taken = (k.name, given.spelled, given.plain, l.0, k.is_name, given.is_text.borrowed, given.is_text.bytes);
       stops = (k.stops.0, k.stops.1, l.1 ∙ k.stops.2, k.stops.3);

@@ -25,5 +25,5 @@ leave-requires g c =
 pub returns : goal.returns
 returns g c =
     let k = blanks_passed _ _ _ c.rest.ensures c.in-Ok.ensures.read in
-    let l = c.leave.ensures k.gap (chars c.in-Ok.rest.now) k.split (left_counted c.in-Ok.rest.now c.in-Ok.ensures.text) in
+    let l = c.leave_unread.ensures k.gap (chars c.in-Ok.rest.now) k.split (left_counted c.in-Ok.rest.now c.in-Ok.ensures.text) in
     record { passed = (k.gap, l.0, subst (Gap k.gap) (sym l.1) k.blank, subst Solid (sym l.1) k.solid); refused = tt; kept = tt }
