@@ -16,8 +16,8 @@ use Rattle.json5_ser.specs.Out.{Out, whole as ended_whole, no_number, piece, sto
 use Rattle.json5_ser.specs.Writes.{Seen, Writes}
 use Rattle.std.proofs.lemmas.Bool.{and_parts}
 
-joined : (a b : Bool) → a ≡ true → b ≡ true → (a && b) ≡ true
-joined a b e f = ap (λ x. x && b) e ∙ f
+both_from : (a b : Bool) → a ≡ true → b ≡ true → (a && b) ≡ true
+both_from a b e f = ap (λ x. x && b) e ∙ f
 
 le_from : (a b : ℤ) → le_z a b ≡ true → a ≤ℤ b
 le_from a b e = grind (arith, ints)
@@ -31,7 +31,7 @@ digits_from (c ∷ ds) e = let b = and_parts (is_digit c) (list_all is_digit ds)
 
 digits_test : {ds : List ℕ} → Each is_digit ds → list_all is_digit ds ≡ true
 digits_test no_char = refl
-digits_test (char {c} {s} d e) = joined (is_digit c) (list_all is_digit s) d (digits_test e)
+digits_test (char {c} {s} d e) = both_from (is_digit c) (list_all is_digit s) d (digits_test e)
 
 zero_from : (ds : List ℕ) (e : ℤ) → (not (is_empty ds) || int_eq e (pos 0)) ≡ true → ds ≡ [] → e ≡ pos 0
 zero_from [] e h k = (signed_Decides e (pos 0)).0 h
@@ -45,7 +45,7 @@ within : (low high z : ℤ) → is_within low high z ≡ true → (low ≤ℤ z)
 within low high z h = let b = and_parts (le_z low z) (le_z z high) h in (le_from low z b.0, le_from z high b.1)
 
 within_test : (low high z : ℤ) → low ≤ℤ z → z ≤ℤ high → is_within low high z ≡ true
-within_test low high z l h = joined (le_z low z) (le_z z high) (le_test low z l) (le_test z high h)
+within_test low high z l h = both_from (le_z low z) (le_z z high) (le_test low z l) (le_test z high h)
 
 normal_from : (ds : List ℕ) (e : ℤ) → is_normal ds e ≡ true → IsNormal ds e
 normal_from ds e h =
@@ -56,7 +56,7 @@ normal_from ds e h =
 
 normal_test : (ds : List ℕ) (e : ℤ) → IsNormal ds e → is_normal ds e ≡ true
 normal_test ds e n =
-    joined _ _ (digits_test n.digits) (joined _ _ ((bytes_decides (without_zeros ds) ds).1 n.bare) (joined _ _ (within_test _ _ e n.in_range.0 n.in_range.1) (zero_test ds e n.zero)))
+    both_from _ _ (digits_test n.digits) (both_from _ _ ((bytes_decides (without_zeros ds) ds).1 n.bare) (both_from _ _ (within_test _ _ e n.in_range.0 n.in_range.1) (zero_test ds e n.zero)))
 
 pub number_from : (n : Number) → is_writable n ≡ true → IsNumber n
 unfolding is_writable
