@@ -4,8 +4,8 @@ use Rattle.json5_text.specs.Cursor.{Took}
 use Rattle.json5_text.proofs.ScanTokens.{left_counted, leaves_rest}
 use Rattle.json5_text.proofs.scanner.Scanner.eat.Goals as goal
 
-pub leave-requires : goal.leave-requires
-leave-requires g c = leaves_rest (c.in-Some.next ∷ []) c.in-Some.rest.now (sym c.rest.ensures ∙ c.in-Some.ensures.chars) c.in-Some.ensures.text
+pub leave_unread-requires : goal.leave_unread-requires
+leave_unread-requires g c = leaves_rest (c.in-Some.next ∷ []) c.in-Some.rest.now (sym c.rest.ensures ∙ c.in-Some.ensures.chars) c.in-Some.ensures.text
 
 pub returns-clause-taken : goal.returns-clause-taken
 returns-clause-taken g c = λ t.

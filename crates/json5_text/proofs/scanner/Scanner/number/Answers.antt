@@ -21,8 +21,8 @@ returns-in-Err g c = record {
   memory = λ s r n split num stops free. absurd (number_memory (chars c.rest.result.now) c.args.self.now.unread s r n c.in-Err.refusal c.rest.ensures c.in-Err.ensures.refused c.in-Err.ensures.memory split num stops free);
 }
 
-pub leave-requires : goal.leave-requires
-leave-requires g c =
+pub leave_unread-requires : goal.leave_unread-requires
+leave_unread-requires g c =
     let k = number_taken (chars c.rest.result.now) c.args.self.now.unread (chars c.in-Ok.rest.now) (number_of c.in-Ok.number) c.rest.ensures c.in-Ok.ensures.read in
     leaves_rest k.literal c.in-Ok.rest.now k.split c.in-Ok.ensures.text
 

@@ -17,8 +17,8 @@ returns-in-Err g c = record {
   kept = refl;
 }
 
-pub leave-requires : goal.leave-requires
-leave-requires g c =
+pub leave_unread-requires : goal.leave_unread-requires
+leave_unread-requires g c =
     let k = blanks_passed _ _ _ c.rest.ensures c.in-Ok.ensures.read in
     leaves_rest k.gap c.in-Ok.rest.now k.split c.in-Ok.ensures.text
 
