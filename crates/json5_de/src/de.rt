@@ -288,6 +288,6 @@ impl<I: Input> Deserializer<I> {
         ensures inside { IsPositionOf self.now.input offset result }
         ensures past { (IsOffset self.now.input offset → ⊥) → result ≡ position_behind self.now.input }
     {
-        self.scanner.position_at(offset)
+        self.scanner.position_of(offset)
     }
 }

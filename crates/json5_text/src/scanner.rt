@@ -18,7 +18,7 @@ use crate::names::read_name;
 use crate::number::Number;
 use crate::numbers::number;
 use crate::refusal::Refusal;
-use crate::strings::{read_owned, read_string};
+use crate::strings::{read_string_owned, read_string};
 use crate::words::skip_word;
 use json5_grammar::code::ErrorCode;
 use json5_grammar::position::Position;
@@ -157,7 +157,7 @@ impl<I: Input> Scanner<I> {
     pub fn string_owned(&mut self) -> Result<String>
         ensures { TakesOwned self.old self.new result }
     {
-        let (text, left) = match read_owned(self.alloc, self.rest(self.input.as_text())) {
+        let (text, left) = match read_string_owned(self.alloc, self.rest(self.input.as_text())) {
             Ok((text, rest)) => (text, rest.len()),
             Err(refusal) => return Err(self.fault(refusal)),
         };
@@ -165,18 +165,9 @@ impl<I: Input> Scanner<I> {
         Ok(text)
     }
 
-    /// The position of an offset in bytes, as `offset` gave it here or earlier. Line and column count from 0, the column in
-    /// characters.
+    /// The position of an offset in bytes, or that of the text's end where no character begins at the offset. Line and column
+    /// count from 0, the column in characters.
     pub fn position_of(&self, offset: usize) -> Position
-        requires { IsOffset self.now.input offset }
-        ensures { IsPositionOf self.now.input offset result }
-    {
-        let _end = self.end;
-        Position::from_offset(offset, self.input.as_text())
-    }
-
-    /// The position of an offset in bytes, or that of the text's end where no character begins at the offset.
-    pub fn position_at(&self, offset: usize) -> Position
         ensures inside { IsPositionOf self.now.input offset result }
         ensures past { (IsOffset self.now.input offset → ⊥) → result ≡ position_behind self.now.input }
     {
@@ -205,7 +196,7 @@ impl<I: Input> Scanner<I> {
     }
 
     /// The position where so many bytes are left.
-    fn position(&self, left: usize) -> Position
+    fn position_where_left(&self, left: usize) -> Position
         requires { Leaves self.now left }
         ensures { IsWhere self.now left result }
     {
@@ -219,17 +210,17 @@ impl<I: Input> Scanner<I> {
     {
         match refusal {
             Refusal::Code(code, None) => Error::new(code),
-            Refusal::Code(code, Some(left)) => Error::new_at(self.position(left), code),
-            Refusal::InvalidNumber(left) => self.custom(self.position(left), "invalid number"),
+            Refusal::Code(code, Some(left)) => Error::new_at(self.position_where_left(left), code),
+            Refusal::InvalidNumber(left) => self.custom(self.position_where_left(left), "invalid number"),
             Refusal::TooLarge(left) => {
                 self.custom(
-                    self.position(left),
+                    self.position_where_left(left),
                     "number too large to fit in target type",
                 )
             }
             Refusal::UnpairedSurrogate(escape, left) => {
                 self.custom(
-                    self.position(left),
+                    self.position_where_left(left),
                     format_args!("unpaired surrogate found: {escape:x}"),
                 )
             }

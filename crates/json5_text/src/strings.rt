@@ -49,7 +49,7 @@ pub(crate) fn read_string<'t>(
 }
 
 /// The text of the string in front in a `String` of its own, and what follows the string.
-pub(crate) fn read_owned(alloc: Global, text: &str) -> Result<(String, &str), Refusal>
+pub(crate) fn read_string_owned(alloc: Global, text: &str) -> Result<(String, &str), Refusal>
     ensures { AnswersOwned (string_at (chars text.now)) result }
 {
     let (text, rest) = read_string(alloc, text)?;
