@@ -7,10 +7,7 @@ use Rattle.std.proofs.lemmas.Str.{IsCharBoundary-from_ascii}
 use Rattle.json5_grammar.specs.Characters.{is_digit, Each, no_char, char}
 use Rattle.json5_grammar.specs.NumberText.{zeros}
 use Rattle.json5_text.proofs.NumberRuns.{is_zero, zero_is_ascii, digit_is_ascii, each_below}
-
-each_zero : (n : ℕ) → Each is_zero (zeros n)
-each_zero zero = no_char
-each_zero (suc n) = char refl (each_zero n)
+use Rattle.json5_grammar.proofs.DecimalsWritten.{each_zero}
 
 pub zeros_boundary : (s : List ℕ) (n i : ℕ) → s ≡ zeros n → i ≤ n → IsCharBoundary s i
 zeros_boundary s n i e h = rw e (IsCharBoundary-from_ascii (zeros n) i (λ j. each_below zero_is_ascii (each_zero n) j) (omega (arith, length-replicate {A = ℕ} n 48)))

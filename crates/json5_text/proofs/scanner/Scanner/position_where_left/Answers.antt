@@ -3,7 +3,7 @@ use Rattle.std.specs.Str.{chars, IsCharBoundary}
 use Rattle.json5_grammar.specs.Positions.{position_behind}
 use Rattle.json5_text.specs.Cursor.{Cursor}
 use Rattle.json5_text.proofs.ScanBytes.{cut_left, take_left, fits_left, whole_split}
-use Rattle.json5_text.proofs.scanner.Scanner.position.Goals as goal
+use Rattle.json5_text.proofs.scanner.Scanner.position_where_left.Goals as goal
 
 pub overflow_sub-self-inside : goal.overflow_sub-self-inside
 overflow_sub-self-inside g c =
