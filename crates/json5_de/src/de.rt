@@ -19,7 +19,7 @@ ghost use Rattle.json5_grammar.specs.Numbers.{Num};
 ghost use Rattle.json5_grammar.specs.Stops.{lengthens};
 ghost use Rattle.json5_grammar.specs.Strings.{Str};
 ghost use Rattle.json5_text.specs.NumberViews.{keeps_digits};
-ghost use Rattle.json5_de.specs.Steps.{PassedGap, TookText, TookNumber, TookOwned, TookCow, RefusesToken, IsOffset, IsMismatch};
+ghost use Rattle.json5_de.specs.Steps.{PassedGap, TookText, TookNumber, TookOwned, TookCharacters, TookCow, RefusesToken, IsOffset, IsMismatch};
 
 use crate::mismatch::Mismatch;
 use json5_text::cow_str::CowStr;
@@ -172,11 +172,13 @@ impl<I: Input> Deserializer<I> {
     }
 
     /// Takes the string in front, its text in memory of its own.
-    pub(crate) fn owned_text(&mut self) -> Result<String>
+    pub(crate) fn string_owned(&mut self) -> Result<String>
         ensures taken { IfOk result (TookOwned self.old self.new) }
+        ensures characters { IfOk result (TookCharacters self.old self.new) }
         ensures refused { IfErr result (RefusesToken FaultyString self.old) }
         ensures failed { OnErr result (GivesUp self.old self.new) }
     {
+        let _offset = self.offset();
         match self.scanner.string_owned() {
             Ok(text) => Ok(text),
             Err(e) => self.refuse(e),
