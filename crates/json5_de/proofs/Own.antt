@@ -1,17 +1,30 @@
 -- What a type of a user's own takes of a tree.
-use Rattle.std.proofs.Common.{◌≡◌, Option, Some, None, Result, Ok, Err, refl}
+use Rattle.std.proofs.Common.{◌≡◌, ◌∙◌, ℕ, [], ◌++◌, Option, Some, None, Result, Ok, Err, refl, sym, ap, subst}
 use Rattle.std.specs.Prelude.{IfOk}
+use Rattle.std.proofs.lemmas.List.{append-nil}
+use Rattle.json5_grammar.specs.declared.position.Position.{Position}
+use Rattle.json5_grammar.specs.Positions.{position_behind}
 use Rattle.json5_grammar.specs.Trees.{Tree}
+use Rattle.json5_grammar.proofs.MembersRead.{phrase_found}
 use Rattle.json5_grammar.proofs.Unique.{one_phrase}
 use Rattle.json5_text.specs.declared.error.Error.{Error}
+use Rattle.json5_text.specs.Cursor.{IsPositionOf}
+use Rattle.json5_text.specs.Errors.{IsCustomAt}
 use Rattle.json5_de.specs.State.{State}
-use Rattle.json5_de.specs.Law.{Gives, Completes}
-use Rattle.json5_de.specs.Own.{ReadsContent, if_more}
+use Rattle.json5_de.specs.Faults.{RefusedBy}
+use Rattle.json5_de.specs.Law.{Gives, Completes, TookValue}
+use Rattle.json5_de.specs.Own.{ReadsContent, if_more, and_then, NotAccepted, not_accepted}
+use Rattle.json5_de.specs.Spans.{SpansValue}
+use Rattle.json5_de.proofs.Taken.{refused_token, input_of}
 
 -- what is accepted was converted
 pub parts : {A B : Type 0} (g : A → Option B) (o : Option A) (v : B) → if_more g o ≡ Some v → (x : A) × (o ≡ Some x) × (g x ≡ Some v)
 parts g None v e = absurd (cc)
 parts g (Some a) v e = (a, refl, e)
+
+-- what isn't accepted has no content
+pub no_content : {A B : Type 0} (f : Tree → Option A) (g : A → Option B) (t : Tree) (a : A) (v : B) → ((x : A) → f t ≡ Some x → a ≡ x) → g a ≡ None → and_then f g t ≡ Some v → ⊥
+no_content f g t a v same none e = let (x, is, accepted) = parts g (f t) v e in let here = same x is in absurd (cc (here, none, accepted))
 
 -- one tree stands in front, so what is answered is its content
 pub reads_content : {V C : Type 0} (content : V → C) (convert : Tree → Option C) (old new : State) (result : Result V Error) → IfOk result (λ v. Gives content convert old new v) → Completes convert old result → ReadsContent content convert old result
@@ -23,3 +36,17 @@ reads_content content convert old new (Err e) sound complete t r c live reads sh
 pub completes : {V C : Type 0} (content : V → C) (convert : Tree → Option C) (old : State) (result : Result V Error) → ReadsContent content convert old result → Completes convert old result
 completes content convert old (Ok v) reads t r c live k shallow is = tt
 completes content convert old (Err e) reads t r c live k shallow is = reads t r c live k shallow is
+
+module _ {A B : Type 0} (f : Tree → Option A) (g : A → Option B) (old new : State) (a : A) (start end : ℕ) (p : Position) (e : Error) where
+  -- what was read and isn't accepted is refused where it stands
+  pub refused_at : (t : Tree) × TookValue old t new × (f t ≡ Some a) → SpansValue old start end new → g a ≡ None → IsPositionOf new.input start p → IsCustomAt (Some p) e → RefusedBy (NotAccepted f g) old e
+  refused_at (t, took, is) span none place own = refused_token old span.at e span.passed (record {
+    reason = None;
+    place = Some [];
+    fault = subst (λ x. NotAccepted f g x None (Some [])) (sym there) (not_accepted new.unread a took.reads.value took.reads.stops is none);
+    says = own.kind;
+    placed = λ before split. own.place ∙ ap (λ z. Some z) (place before span.at.unread (input_of took.rest ∙ sym (input_of span.passed.rest) ∙ split) (span.starts before split)) ∙ ap (λ z. Some (position_behind z)) (sym (append-nil before));
+  })
+    where
+      there : span.at.unread ≡ took.reads.phrase ++ new.unread
+      there = phrase_found old.unread span.passed.gap span.at.unread new.unread t span.passed.split span.passed.is_gap span.passed.solid took.reads

@@ -1,11 +1,13 @@
 -- Types of a user's own: a value is read, and then accepted or refused.
-use Rattle.std.specs.Prelude.{◌≡◌, ℕ, ◌+◌, ◌≤◌, false, List, Option, Some, None, Result, MatchResult}
+use Rattle.std.specs.Prelude.{◌≡◌, ◌⊎◌, ℕ, ◌+◌, ◌≤◌, false, List, [], ◌++◌, Option, Some, None, Result, MatchResult}
+use Rattle.json5_grammar.specs.declared.code.ErrorCode.{ErrorCode}
 use Rattle.json5_grammar.specs.Trees.{Tree, depth}
-use Rattle.json5_grammar.specs.Values.{Reads}
+use Rattle.json5_grammar.specs.Values.{Val, Reads, Stops}
 use Rattle.json5_grammar.specs.Documents.{max_depth}
 use Rattle.json5_text.specs.declared.error.Error.{Error}
 use Rattle.json5_text.specs.Cursor.{IsOutOfMemory}
 use Rattle.json5_de.specs.State.{State}
+use Rattle.json5_de.specs.Faults.{RefusedByOrMemory}
 
 -- where a tree that converts to c stands in front, the answer is Ok of a value whose content is c, unless memory runs out
 abbrev pub ReadsContent : {V C : Type 0} → (V → C) → (Tree → Option C) → State → Result V Error → Type 0
@@ -20,3 +22,11 @@ if_more g (Some a) = g a
 -- a tree that converts, to what is accepted of it
 abbrev pub and_then : {A B : Type 0} → (Tree → Option A) → (A → Option B) → Tree → Option B
 and_then f g t = if_more g (f t)
+
+-- a value that converts and isn't accepted: a text of its own, at the value's first character
+pub data NotAccepted {A B : Type 0} (f : Tree → Option A) (g : A → Option B) : List ℕ → Option ErrorCode → Option (List ℕ) → Type 0 where
+  not_accepted : {s : List ℕ} {t : Tree} (r : List ℕ) (a : A) → Val s t → Stops s r → f t ≡ Some a → g a ≡ None → NotAccepted f g (s ++ r) None (Some [])
+
+-- refused as what is read, or where that isn't accepted
+abbrev pub RefusesOwn : {A B : Type 0} → (Tree → Option A) → (A → Option B) → (State → Error → State → Type 0) → State → Error → State → Type 0
+RefusesOwn f g refuses old e new = refuses old e new ⊎ RefusedByOrMemory (NotAccepted f g) old e

@@ -1,6 +1,6 @@
 //! Levels, each by its name.
 
-use json5::{Deserialize, Deserializer, Error, Input, Result, Spanned, read};
+use json5::{Deserialize, Deserializer, Error, Input, Result, Spanned};
 
 /// How much is said.
 #[derive(Clone, Copy, Debug, PartialEq, Eq)]
@@ -16,7 +16,7 @@ pub enum Level {
 /// A text that names a level; another one is refused where it stands.
 impl<I: Input> Deserialize<I> for Level {
     ghost use Rattle.json5.specs.Convert.{text_of};
-    ghost use Rattle.json5.specs.Own.{and_then};
+    ghost use Rattle.json5.specs.Own.{and_then, RefusesOwn};
     ghost use Rattle.json5_own_type.specs.declared.levels.Level.{Level};
     ghost use Rattle.json5_own_type.specs.Accepted.{level_named};
 
@@ -26,8 +26,10 @@ impl<I: Input> Deserialize<I> for Level {
 
     ghost convert = { and_then text_of level_named };
 
+    ghost refuses = { RefusesOwn text_of level_named ⟦<Spanned<String> as Deserialize<I>>⟧.refuses };
+
     fn deserialize(de: &mut Deserializer<I>) -> Result<Level> {
-        let name = read::<I, Spanned<String>>(de)?;
+        let name = Spanned::<String>::deserialize(de)?;
         match name.value.as_str() {
             "low" => Ok(Level::Low),
             "middle" => Ok(Level::Middle),

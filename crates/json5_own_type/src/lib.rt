@@ -1,6 +1,7 @@
 //! Types of one's own that are read from JSON5, proved lawful by what json5_de promises alone.
 #![tactic(auto)]
 
+mod at_most;
 mod levels;
 mod ports;
 mod tags;
@@ -12,8 +13,9 @@ ghost use Rattle.json5.specs.Faults.{EndsWithOrMemory};
 
 use json5::de::value_codes;
 use json5::{Deserialize, Deserializer, Error, Input, Result, SeqAccess};
+pub use at_most::AtMost;
 pub use levels::Level;
-pub use ports::{Endpoint, OpenPort};
+pub use ports::{Endpoint, OpenPort, PortRange};
 use std::alloc::Global;
 pub use tags::Labels;
 

@@ -1,6 +1,9 @@
 //! Ports, and where something listens.
 
-use json5::{Deserialize, Deserializer, Error, Input, Result, Spanned, read};
+use json5::{
+    Deserialize, Deserializer, Error, Input, Result, Serialize, Serializer, Spanned, read,
+};
+use std::io::Write;
 
 /// A port that isn't 0.
 #[derive(Drop)]
@@ -13,7 +16,7 @@ pub struct OpenPort {
 impl<I: Input> Deserialize<I> for OpenPort {
     ghost use Rattle.std.specs.Prelude.{ℕ, ◌^◌};
     ghost use Rattle.json5.specs.Convert.{unsigned_below};
-    ghost use Rattle.json5.specs.Own.{and_then};
+    ghost use Rattle.json5.specs.Own.{and_then, RefusesOwn};
     ghost use Rattle.json5_own_type.specs.Accepted.{above_zero};
 
     ghost Content = { ℕ };
@@ -22,8 +25,10 @@ impl<I: Input> Deserialize<I> for OpenPort {
 
     ghost convert = { and_then (unsigned_below (2 ^ 16)) above_zero };
 
+    ghost refuses = { RefusesOwn (unsigned_below (2 ^ 16)) above_zero ⟦<Spanned<u16> as Deserialize<I>>⟧.refuses };
+
     fn deserialize(de: &mut Deserializer<I>) -> Result<OpenPort> {
-        let port = read::<I, Spanned<u16>>(de)?;
+        let port = Spanned::<u16>::deserialize(de)?;
         if port.value == 0 {
             let place = de.position_of(port.start);
             return Err(Error::custom_at(de.allocator(), place, "port 0 can't be opened")?);
@@ -32,39 +37,82 @@ impl<I: Input> Deserialize<I> for OpenPort {
     }
 }
 
+/// Its decimal digits.
+impl Serialize for OpenPort {
+    ghost use Rattle.json5.specs.WrittenTrees.{natural};
+
+    ghost tree = { λ p. natural p.number };
+
+    fn serialize<W: Write + Drop>(&self, ser: &mut Serializer<W>) -> Result<()> {
+        ser.serialize_u16(self.number)
+    }
+}
+
 /// Where something listens, written as a list: `['localhost', 80]`.
 #[derive(Drop)]
 pub struct Endpoint {
     /// The first of the list.
     pub host: String,
-    /// The second, from 1 to 65535.
-    pub port: u16,
+    /// The second.
+    pub port: OpenPort,
 }
 
-/// A list of a text and a number; 0 is refused where it stands.
+/// A list of a text and a port, with the faults of both.
 impl<I: Input> Deserialize<I> for Endpoint {
     ghost use Rattle.std.specs.Prelude.{ℕ, List, ◌^◌, string_bytes};
     ghost use Rattle.json5.specs.Members.{array_of};
     ghost use Rattle.json5.specs.Convert.{text_of, unsigned_below};
     ghost use Rattle.json5.specs.ConvertLists.{first_of, last_of};
     ghost use Rattle.json5.specs.Own.{and_then};
-    ghost use Rattle.json5_own_type.specs.Accepted.{open_endpoint};
+    ghost use Rattle.json5_own_type.specs.Accepted.{above_zero};
 
     ghost Content = { List ℕ × ℕ };
 
-    ghost content = { λ e. (string_bytes e.host, e.port) };
+    ghost content = { λ e. (string_bytes e.host, e.port.number) };
 
-    ghost convert = { and_then (array_of (first_of text_of (last_of (unsigned_below (2 ^ 16))))) open_endpoint };
+    ghost convert = { array_of (first_of text_of (last_of (and_then (unsigned_below (2 ^ 16)) above_zero))) };
+
+    ghost refuses = { ⟦<(String, OpenPort) as Deserialize<I>>⟧.refuses };
 
     fn deserialize(de: &mut Deserializer<I>) -> Result<Endpoint> {
-        let (host, port) = read::<I, (String, Spanned<u16>)>(de)?;
-        if port.value == 0 {
-            let place = de.position_of(port.start);
-            return Err(Error::custom_at(de.allocator(), place, "port 0 can't be opened")?);
+        let (host, port) = <(String, OpenPort)>::deserialize(de)?;
+        Ok(Endpoint { host, port })
+    }
+}
+
+/// Ports from one to another, written as a list: `[8000, 8080]`.
+#[derive(Drop)]
+pub struct PortRange {
+    /// The first of the list.
+    pub first: u16,
+    /// The second, not below the first.
+    pub last: u16,
+}
+
+/// A list of two numbers; where the second is below the first it is refused where the second stands.
+impl<I: Input> Deserialize<I> for PortRange {
+    ghost use Rattle.std.specs.Prelude.{ℕ, ◌^◌};
+    ghost use Rattle.json5.specs.Members.{array_of};
+    ghost use Rattle.json5.specs.Convert.{unsigned_below};
+    ghost use Rattle.json5.specs.ConvertLists.{first_of, last_of};
+    ghost use Rattle.json5.specs.Own.{and_then};
+    ghost use Rattle.json5_own_type.specs.Accepted.{in_order};
+
+    ghost Content = { ℕ × ℕ };
+
+    ghost content = { λ r. (r.first, r.last) };
+
+    ghost convert = { and_then (array_of (first_of (unsigned_below (2 ^ 16)) (last_of (unsigned_below (2 ^ 16))))) in_order };
+
+    fn deserialize(de: &mut Deserializer<I>) -> Result<PortRange> {
+        let (first, last) = read::<I, (u16, Spanned<u16>)>(de)?;
+        if last.value < first {
+            let place = de.position_of(last.start);
+            return Err(Error::custom_at(de.allocator(), place, "the range ends before it begins")?);
         }
-        Ok(Endpoint {
-            host,
-            port: port.value,
+        Ok(PortRange {
+            first,
+            last: last.value,
         })
     }
 }

@@ -1,6 +1,6 @@
 //! Labels.
 
-use json5::{Deserialize, Deserializer, Error, Input, Result, Spanned, read};
+use json5::{Deserialize, Deserializer, Error, Input, Result, Spanned};
 
 /// Labels, at least one.
 #[derive(Drop)]
@@ -14,7 +14,7 @@ impl<I: Input> Deserialize<I> for Labels {
     ghost use Rattle.std.specs.Prelude.{ℕ, List, map, string_bytes};
     ghost use Rattle.json5.specs.Members.{array_of, contents};
     ghost use Rattle.json5.specs.Convert.{text_of};
-    ghost use Rattle.json5.specs.Own.{and_then};
+    ghost use Rattle.json5.specs.Own.{and_then, RefusesOwn};
     ghost use Rattle.json5_own_type.specs.Accepted.{not_empty};
 
     ghost Content = { List (List ℕ) };
@@ -23,8 +23,10 @@ impl<I: Input> Deserialize<I> for Labels {
 
     ghost convert = { and_then (array_of (contents text_of)) not_empty };
 
+    ghost refuses = { RefusesOwn (array_of (contents text_of)) not_empty ⟦<Spanned<Vec<String>> as Deserialize<I>>⟧.refuses };
+
     fn deserialize(de: &mut Deserializer<I>) -> Result<Labels> {
-        let texts = read::<I, Spanned<Vec<String>>>(de)?;
+        let texts = Spanned::<Vec<String>>::deserialize(de)?;
         if texts.value.is_empty() {
             let place = de.position_of(texts.start);
             return Err(Error::custom_at(de.allocator(), place, "expected a label")?);

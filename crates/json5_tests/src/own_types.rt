@@ -1,7 +1,7 @@
 //! Types of one's own: what they accept, and where they refuse.
 
-use json5::{Deserialize, Result, from_str};
-use json5_own_type::{Endpoint, Labels, Level, OpenPort};
+use json5::{Deserialize, Result, Spanned, from_str};
+use json5_own_type::{Endpoint, Labels, Level, OpenPort, PortRange};
 use std::alloc::Global;
 use std::test::Fail;
 
@@ -36,6 +36,15 @@ fn port_0_is_refused(alloc: Global) -> Result<bool> {
     )
 }
 
+/// Whether a range that ends before it begins is refused at its second number.
+fn bad_range_is_refused(alloc: Global) -> Result<bool> {
+    let printed = "the range ends before it begins at line 2 column 7";
+    Ok(
+        refuses::<PortRange>(alloc, "\n[443, 442]", printed)?
+            && refuses::<Vec<PortRange>>(alloc, "[[80, 80],\n[443, 442]]", printed)?,
+    )
+}
+
 /// Whether a list without labels is refused at its bracket, and a name of no level at its quote.
 fn others_are_refused(alloc: Global) -> Result<bool> {
     Ok(
@@ -59,6 +68,7 @@ fn faults_of_own_types_stand_where_the_value_begins(
     rt: HostRuntime,
 ) -> std::result::Result<(), Fail> {
     assert!(rt; port_0_is_refused(rt.alloc())?);
+    assert!(rt; bad_range_is_refused(rt.alloc())?);
     assert!(rt; others_are_refused(rt.alloc())?);
     Ok(())
 }
@@ -77,12 +87,15 @@ fn other_faults_stay(alloc: Global) -> Result<bool> {
 fn own_types_are_read(alloc: Global) -> Result<bool> {
     let port = from_str::<OpenPort>(alloc, "/* secure */ 443")?;
     let endpoint = from_str::<Endpoint>(alloc, "['localhost', 8080]")?;
+    let range = from_str::<PortRange>(alloc, "[8000, 8080]")?;
     let labels = from_str::<Labels>(alloc, "['new', 'red']")?;
     let levels = from_str::<[Level; 3]>(alloc, "['high', 'low', \"middle\"]")?;
     Ok(
         port.number == 443
             && endpoint.host.as_str() == "localhost"
-            && endpoint.port == 8080
+            && endpoint.port.number == 8080
+            && range.first == 8000
+            && range.last == 8080
             && labels.texts.len() == 2
             && levels == [Level::High, Level::Low, Level::Middle],
     )
@@ -92,5 +105,26 @@ fn own_types_are_read(alloc: Global) -> Result<bool> {
 fn own_types_read_what_they_accept(rt: HostRuntime) -> std::result::Result<(), Fail> {
     assert!(rt; own_types_are_read(rt.alloc())?);
     assert!(rt; other_faults_stay(rt.alloc())?);
+    Ok(())
+}
+
+/// Whether a value is counted in bytes from its first character to what follows it.
+fn spans_are_in_bytes(alloc: Global) -> Result<bool> {
+    let (name, number) = from_str::<(Spanned<String>, Spanned<u8>)>(
+        alloc,
+        "['\u{e9}'/* \u{e9} */, 80\n]",
+    )?;
+    Ok(
+        name.start == 1
+            && name.end == 5
+            && number.start == 15
+            && number.end == 17
+            && number.value == 80,
+    )
+}
+
+#[test]
+fn spans_count_bytes(rt: HostRuntime) -> std::result::Result<(), Fail> {
+    assert!(rt; spans_are_in_bytes(rt.alloc())?);
     Ok(())
 }

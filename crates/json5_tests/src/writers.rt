@@ -3,6 +3,7 @@
 use json5::{
     Decimal, Error, ErrorCode, Result, Serialize, Serializer, from_str, to_string, to_writer,
 };
+use json5_own_type::OpenPort;
 use json5_ser::output::write_whole;
 use std::alloc::Global;
 use std::io::{self, ErrorKind, Write};
@@ -88,27 +89,11 @@ fn writes<T: Serialize>(alloc: Global, value: &T, wanted: &str) -> Result<bool> 
     Ok(text.as_str() == wanted && bytes.as_slice() == wanted.as_bytes())
 }
 
-/// The number of a port, a type as a user would write it.
-#[derive(Drop)]
-struct Port {
-    number: u16,
-}
-
-impl Serialize for Port {
-    ghost use Rattle.json5_ser.specs.WrittenTrees.{natural};
-
-    ghost tree = { λ p. natural p.number };
-
-    fn serialize<W: Write + Drop>(&self, ser: &mut Serializer<W>) -> Result<()> {
-        ser.serialize_u16(self.number)
-    }
-}
-
 #[test]
 fn a_writer_gets_the_text(rt: HostRuntime) -> std::result::Result<(), Fail> {
     assert!(rt; writes(rt.alloc(), &"a\"", "'a\"'")?);
     assert!(rt; writes(rt.alloc(), &&-7i8, "-7")?);
-    assert!(rt; writes(rt.alloc(), &Port { number: 8080 }, "8080")?);
+    assert!(rt; writes(rt.alloc(), &OpenPort { number: 8080 }, "8080")?);
     Ok(())
 }
 

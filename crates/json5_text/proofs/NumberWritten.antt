@@ -19,8 +19,5 @@ zeros_cut s n i e h =
     let l : i ≡ length (zeros i) = sym (length-replicate {A = ℕ} i 48) in
     ap (take i) (e ∙ k) ∙ ap (λ m. take m (zeros i ++ zeros (n - i))) l ∙ take-append_seam (zeros i) (zeros (n - i))
 
-pub zeros_more : (n piece total : ℕ) → n + piece ≡ total → zeros n ++ zeros piece ≡ zeros total
-zeros_more n piece total e = replicate-append-replicate n piece 48 ∙ ap zeros e
-
 pub digits_boundary : (s : List ℕ) (i : ℕ) → Each is_digit s → i ≤ length s → IsCharBoundary s i
 digits_boundary s i e h = IsCharBoundary-from_ascii s i (λ j. each_below digit_is_ascii e j) h

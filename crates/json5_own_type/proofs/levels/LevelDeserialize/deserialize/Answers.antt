@@ -1,8 +1,8 @@
-use Rattle.std.proofs.Common.{◌≡◌, ◌≢◌, List, ℕ, None, refl, rules, codes}
+use Rattle.std.proofs.Common.{◌≡◌, ◌≢◌, List, ℕ, None, refl, inr, ap, sym, ◌∙◌, rules, codes}
 use Rattle.std.proofs.lemmas.Bool.{false_from_ne_true}
 use Rattle.std.proofs.lemmas.Slice.Eq.{bytes_eq-Decides}
 use Rattle.json5.specs.Convert.{text_of}
-use Rattle.json5.proofs.Own.{parts}
+use Rattle.json5.proofs.Own.{parts, no_content, refused_at}
 use Rattle.json5_own_type.specs.Accepted.{level_named}
 use Rattle.json5_own_type.proofs.levels.LevelDeserialize.deserialize.Goals as goal
 
@@ -16,8 +16,10 @@ returns-in_err-name-clause-complete g c t r v live reads shallow converts =
 
 pub returns-clause-complete : goal.returns-clause-complete
 returns-clause-complete g c t r v live reads shallow converts =
-    let (s, is, accepted) = parts level_named (text_of t) v converts in
-    let same = c.in_ok-name.ensures.complete t r s live reads shallow is in
     let none = no_name c.as_str.result.now c.in_default.not-low c.in_default.not-middle c.in_default.not-high in
-    let value = c.as_str.ensures.value in
-    absurd (cc (accepted, none, same, value))
+    absurd (no_content text_of level_named t _ v (λ s is. c.in_ok-name.ensures.complete t r s live reads shallow is) (ap level_named (sym c.as_str.ensures.value) ∙ none) converts)
+
+pub returns-clause-refused : goal.returns-clause-refused
+returns-clause-refused g c =
+    let none = no_name c.as_str.result.now c.in_default.not-low c.in_default.not-middle c.in_default.not-high in
+    inr (inr (refused_at _ level_named c.args.de.now c.deserialize.new.de _ _ _ _ _ c.in_ok-name.ensures.sound c.in_ok-name.ensures.spans (ap level_named (sym c.as_str.ensures.value) ∙ none) c.position_of-place.ensures.inside c.in_ok-custom_at-in_default.ensures))

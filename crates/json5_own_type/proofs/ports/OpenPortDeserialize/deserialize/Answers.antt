@@ -1,11 +1,8 @@
-use Rattle.std.proofs.Common.{◌≡◌, ◌^◌, ℕ, Some, rules, arith}
+use Rattle.std.proofs.Common.{◌^◌, ap, inr, rules}
 use Rattle.json5.specs.Convert.{unsigned_below}
-use Rattle.json5.proofs.Own.{parts}
+use Rattle.json5.proofs.Own.{parts, no_content, refused_at}
 use Rattle.json5_own_type.specs.Accepted.{above_zero}
 use Rattle.json5_own_type.proofs.ports.OpenPortDeserialize.deserialize.Goals as goal
-
-not_zero : (n v : ℕ) → n ≡ 0 → above_zero n ≡ Some v → ⊥
-not_zero n v zero e = grind arith
 
 pub returns-in_err-port-clause-complete : goal.returns-in_err-port-clause-complete
 returns-in_err-port-clause-complete g c t r v live reads shallow converts =
@@ -14,6 +11,9 @@ returns-in_err-port-clause-complete g c t r v live reads shallow converts =
 
 pub returns-then-port-eq0-clause-complete : goal.returns-then-port-eq0-clause-complete
 returns-then-port-eq0-clause-complete g c t r v live reads shallow converts =
-    let (n, is, accepted) = parts above_zero (unsigned_below (2 ^ 16) t) v converts in
-    let same = c.in_ok-port.ensures.complete t r n live reads shallow is in
-    absurd (not_zero _ v c.if-port-eq0.true (rw (← same) at accepted))
+    absurd (no_content (unsigned_below (2 ^ 16)) above_zero t c.in_ok-port.port.value v (λ n is. c.in_ok-port.ensures.complete t r n live reads shallow is) (ap above_zero c.if-port-eq0.true) converts)
+
+pub returns-then-port-eq0-clause-refused : goal.returns-then-port-eq0-clause-refused
+returns-then-port-eq0-clause-refused g c =
+    let port = c.in_ok-port.ensures in
+    inr (inr (refused_at _ above_zero c.args.de.now c.deserialize.new.de _ _ _ _ _ port.sound port.spans (ap above_zero c.if-port-eq0.true) c.position_of-place.ensures.inside c.in_ok-custom_at.ensures))

@@ -1,13 +1,13 @@
-use Rattle.std.proofs.Common.{◌≡◌, List, [], ◌∷◌, length, map, Some, rules, arith, string_bytes}
+use Rattle.std.proofs.Common.{◌≡◌, List, [], ◌∷◌, length, map, None, refl, inr, rules, arith, string_bytes}
 use Rattle.json5.specs.Members.{array_of, contents}
 use Rattle.json5.specs.Convert.{text_of}
-use Rattle.json5.proofs.Own.{parts}
+use Rattle.json5.proofs.Own.{parts, no_content, refused_at}
 use Rattle.json5_own_type.specs.Accepted.{not_empty}
 use Rattle.json5_own_type.proofs.tags.LabelsDeserialize.deserialize.Goals as goal
 
-some_there : {A B : Type 0} (f : A → B) (xs : List A) (v : List B) → length xs ≡ 0 → not_empty (map f xs) ≡ Some v → ⊥
-some_there f [] v none e = absurd (cc)
-some_there f (x ∷ xs) v none e = omega arith
+none_there : {A B : Type 0} (f : A → B) (xs : List A) → length xs ≡ 0 → not_empty (map f xs) ≡ None
+none_there f [] e = refl
+none_there f (x ∷ xs) e = absurd (omega arith)
 
 pub returns-in_err-texts-clause-complete : goal.returns-in_err-texts-clause-complete
 returns-in_err-texts-clause-complete g c t r v live reads shallow converts =
@@ -16,7 +16,10 @@ returns-in_err-texts-clause-complete g c t r v live reads shallow converts =
 
 pub returns-then-is_empty-clause-complete : goal.returns-then-is_empty-clause-complete
 returns-then-is_empty-clause-complete g c t r v live reads shallow converts =
-    let (texts, is, accepted) = parts not_empty (array_of (contents text_of) t) v converts in
-    let same = c.in_ok-texts.ensures.complete t r texts live reads shallow is in
-    let none : length c.in_ok-texts.texts.value.items ≡ 0 = grind (arith, c.is_empty.ensures, c.if-is_empty.true) in
-    absurd (some_there string_bytes c.in_ok-texts.texts.value.items v none (rw (← same) at accepted))
+    let none = none_there string_bytes c.in_ok-texts.texts.value.items (grind (arith, c.is_empty.ensures, c.if-is_empty.true)) in
+    absurd (no_content (array_of (contents text_of)) not_empty t _ v (λ texts is. c.in_ok-texts.ensures.complete t r texts live reads shallow is) none converts)
+
+pub returns-then-is_empty-clause-refused : goal.returns-then-is_empty-clause-refused
+returns-then-is_empty-clause-refused g c =
+    let none = none_there string_bytes c.in_ok-texts.texts.value.items (grind (arith, c.is_empty.ensures, c.if-is_empty.true)) in
+    inr (inr (refused_at _ not_empty c.args.de.now c.deserialize.new.de _ _ _ _ _ c.in_ok-texts.ensures.sound c.in_ok-texts.ensures.spans none c.position_of-place.ensures.inside c.in_ok-custom_at.ensures))
