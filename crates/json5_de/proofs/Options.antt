@@ -140,9 +140,9 @@ option_parts f (object ps) v n e = some_of (f (object ps)) v e
 pub null_unit : (t : Tree) → t ≡ null → unit_of t ≡ Some tt
 null_unit t e = ap unit_of e
 
--- a value that was read behind the blanks was read
-pub took_behind : (s mid new : State) (t : Tree) → PassedGap s mid → TookValue mid t new → TookValue s t new
-took_behind s mid new t p took = record {
+-- a value that was read after the blanks was read
+pub took_after : (s mid new : State) (t : Tree) → PassedGap s mid → TookValue mid t new → TookValue s t new
+took_after s mid new t p took = record {
   live = p.live;
   reads = reads_here s.unread p.gap mid.unread new.unread t p.split p.is_gap took.reads;
   shallow = let level = level_of p.rest in let deep = took.shallow in omega (arith, level, deep);

@@ -8,7 +8,7 @@ use Rattle.json5_text.specs.declared.cow_str.CowStr.{CowStr}
 use Rattle.json5_text.specs.declared.number.Number as token
 use Rattle.json5_text.specs.Cows.{cow_bytes, is_borrowed}
 use Rattle.json5_text.specs.NumberViews.{number_of}
-use Rattle.json5_grammar.specs.Positions.{position_behind}
+use Rattle.json5_grammar.specs.Positions.{position_after}
 use Rattle.json5_text.specs.declared.error.Error.{Error}
 use Rattle.json5_text.specs.Errors.{place_of}
 use Rattle.json5_text.specs.Cursor.{Says, Refused, IsOutOfMemory}
@@ -61,9 +61,9 @@ IsOffset input offset = (before : List ℕ) × (rest : List ℕ) × (input ≡ b
 -- a text of its own at this offset, or memory was wanting
 abbrev pub IsMismatch : List ℕ → ℕ → Error → Type 0
 IsMismatch input offset e =
-    IsOutOfMemory e ⊎ (Says None e × ((before rest : List ℕ) → input ≡ before ++ rest → offset ≡ length (encode_utf8_all before) → place_of e ≡ Some (position_behind before)))
+    IsOutOfMemory e ⊎ (Says None e × ((before rest : List ℕ) → input ≡ before ++ rest → offset ≡ length (encode_utf8_all before) → place_of e ≡ Some (position_after before)))
 
--- a whole number was taken behind a gap, and so many bytes stand before it
+-- a whole number was taken after a gap, and so many bytes stand before it
 pub record WholeAt (old new : State) (start : ℕ) (z : ℤ) : Type 0 where
   pub between : State
   pub phrase : List ℕ

@@ -7,7 +7,7 @@ use Rattle.json5_text.specs.declared.error.Error.{Error}
 use Rattle.json5_text.specs.Cursor.{Refused, IsOutOfMemory}
 use Rattle.json5_de.specs.State.{State}
 use Rattle.json5_de.specs.Law.{TookValue}
-use Rattle.json5_de.specs.Faults.{Behind, RefusedBy, Trailing}
+use Rattle.json5_de.specs.Faults.{AfterBlanks, RefusedBy, Trailing}
 
 -- a reader at the start of the text
 abbrev pub at_start : List ℕ → State
@@ -25,4 +25,4 @@ pub data RefusesReading {C : Type 0} (convert : Tree → Option C) (refuses : St
 -- where a value that converts stands in front, the fault is that of what stands after it, want of memory aside
 abbrev pub BlamesRest : {C : Type 0} → (Tree → Option C) → List ℕ → Error → Type 0
 BlamesRest {C = C} convert x e = (t : Tree) (r : List ℕ) (c : C) → Reads x t r → depth t ≤ max_depth → convert t ≡ Some c
-    → IsOutOfMemory e ⊎ Refused (Behind Trailing) (record { input = x; unread = r }) e
+    → IsOutOfMemory e ⊎ Refused (AfterBlanks Trailing) (record { input = x; unread = r }) e

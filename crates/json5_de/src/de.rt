@@ -2,7 +2,7 @@
 
 ghost use Rattle.std.specs.Prelude.{◌≡◌, ◌≤◌, Bool, ◌++◌, ℕ, List, [], length, Some, None, IfOk, IfErr, OnOk, OnErr, IsOk, IsErrAnd, true, false, slice_get};
 ghost use Rattle.std.specs.Prelude.{◌<◌, ◌+◌, ◌-◌, ◌==◌, ◌∷◌};
-ghost use Rattle.json5_grammar.specs.Positions.{position_behind};
+ghost use Rattle.json5_grammar.specs.Positions.{position_after};
 ghost use Rattle.std.specs.Str.{chars};
 ghost use Rattle.json5_text.specs.Errors.{FaultKind, code, kind_of, place_of};
 ghost use Rattle.json5_text.specs.Cursor.{Refused, IsPlaced, IsPositionOf};
@@ -288,7 +288,7 @@ impl<I: Input> Deserializer<I> {
     /// The position of an offset in bytes, as that of a value which `Spanned` gives; the end's, where no character begins there.
     pub fn position_of(&self, offset: usize) -> Position
         ensures inside { IsPositionOf self.now.input offset result }
-        ensures past { (IsOffset self.now.input offset → ⊥) → result ≡ position_behind self.now.input }
+        ensures past { (IsOffset self.now.input offset → ⊥) → result ≡ position_after self.now.input }
     {
         self.scanner.position_of(offset)
     }

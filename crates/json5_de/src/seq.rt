@@ -7,7 +7,7 @@ ghost use Rattle.json5_grammar.specs.Characters.{NotBegun};
 ghost use Rattle.json5_grammar.specs.Trees.{Trees};
 ghost use Rattle.json5_grammar.specs.Members.{IsEnd, GoesNowhere};
 ghost use Rattle.json5_text.specs.Cursor.{Refused, IsOffset, IsPositionOf};
-ghost use Rattle.json5_grammar.specs.Positions.{position_behind};
+ghost use Rattle.json5_grammar.specs.Positions.{position_after};
 ghost use Rattle.json5_de.specs.State.{SameText, GivesUp, cursor_of};
 ghost use Rattle.json5_de.specs.Faults.{RefusedBy, IsUnplaced};
 ghost use Rattle.json5_de.specs.Brackets.{AreSigns};
@@ -287,13 +287,13 @@ impl<'a, I: Input> SeqAccess<'a, I> {
     /// The position of an offset in bytes, as that of an element which `Spanned` gives; the end's, where no character begins there.
     pub fn position_of(&self, offset: usize) -> Position
         ensures inside { IsPositionOf (seen self.now).reader.input offset result }
-        ensures past { (IsOffset (seen self.now).reader.input offset → ⊥) → result ≡ position_behind (seen self.now).reader.input }
+        ensures past { (IsOffset (seen self.now).reader.input offset → ⊥) → result ≡ position_after (seen self.now).reader.input }
     {
         self.de.position_of(offset)
     }
 
     /// Takes the closing bracket, and before it one comma where an element was read and its comma wasn't taken. Then the reader
-    /// goes on behind it. `ExpectedClosingBracket` stands at another character; `EofParsingArray` at the end has no place.
+    /// goes on after it. `ExpectedClosingBracket` stands at another character; `EofParsingArray` at the end has no place.
     pub fn end(self) -> Result<()>
         ensures { ClosesArray (seen self.entry) self.exit.0.now result }
     {

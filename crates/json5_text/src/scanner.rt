@@ -3,7 +3,7 @@
 ghost use Rattle.std.specs.Prelude.{◌≡◌, ℕ, List, [], ◌∷◌, ◌++◌, true, false, ◌==◌, ◌⊎◌, length, drop, Some, slice_get, IsTrue};
 ghost use Rattle.std.specs.Str.{all_scalars, chars, encode_utf8_all};
 ghost use Rattle.json5_grammar.specs.Characters.{NotBegun};
-ghost use Rattle.json5_grammar.specs.Positions.{position_behind};
+ghost use Rattle.json5_grammar.specs.Positions.{position_after};
 ghost use Rattle.json5_text.specs.Cursor.{Cursor, offset_of, Took, IsOutOfMemory, IsOffset, IsPositionOf};
 ghost use Rattle.json5_text.specs.Errors.{IsCustomAt};
 ghost use Rattle.json5_text.specs.Scan.{InText, Leaves, LeavesAt, InUnread, IsWhere, MadeOf};
@@ -169,13 +169,13 @@ impl<I: Input> Scanner<I> {
     /// count from 0, the column in characters.
     pub fn position_of(&self, offset: usize) -> Position
         ensures inside { IsPositionOf self.now.input offset result }
-        ensures past { (IsOffset self.now.input offset → ⊥) → result ≡ position_behind self.now.input }
+        ensures past { (IsOffset self.now.input offset → ⊥) → result ≡ position_after self.now.input }
     {
         let _end = self.end;
         let text = self.input.as_text();
         match text.split_at_checked(offset) {
-            Some((before, _)) => Position::behind(before),
-            None => Position::behind(text),
+            Some((before, _)) => Position::after(before),
+            None => Position::after(text),
         }
     }
 

@@ -12,7 +12,7 @@ use Rattle.json5_de.proofs.Awaits.{awaits_null}
 use Rattle.json5_de.proofs.Taken.{took_leaf, refused_blanks, refused_token, null_stops, chars_null}
 use Rattle.json5_de.proofs.Places.{none_next, some_next}
 use Rattle.json5_de.proofs.Rows.{given_up, gives_up}
-use Rattle.json5_de.proofs.Options.{awaits_nothing, blanks_no_value, end_next, value_no_end, null_next, null_not_next, option_some, null_unit, took_behind, reads_option, refuses_option, refuses_some, missing_there, null_there, other_sign}
+use Rattle.json5_de.proofs.Options.{awaits_nothing, blanks_no_value, end_next, value_no_end, null_next, null_not_next, option_some, null_unit, took_after, reads_option, refuses_option, refuses_some, missing_there, null_there, other_sign}
 use Rattle.json5_de.proofs.de.Deserializer.deserialize_option.Goals as goal
 use Rattle.json5_grammar.proofs.Basics.{true_false}
 
@@ -73,7 +73,7 @@ returns-in-Ok-clause-reads g c =
     let (m, next) = some_next c.begin.new.self.unread c.in-Some.next (sym c.peek.ensures ∙ c.in-Some.is) in
     reads_option g.T.Deserialize.content g.T.Deserialize.convert g.T.Deserialize.free g.T.Deserialize.refuses c.args.self.now c.deserialize.new.de _ (
       t,
-      took_behind c.args.self.now c.begin.new.self c.deserialize.new.de t passed took,
+      took_after c.args.self.now c.begin.new.self c.deserialize.new.de t passed took,
       option_some g.T.Deserialize.convert t (g.T.Deserialize.content c.in-Ok.value) (null_not_next c.begin.new.self.unread t c.in-Some.next m c.deserialize.new.de.unread next passed.solid c.if-next-eq110.false took.reads) is,
     )
 
