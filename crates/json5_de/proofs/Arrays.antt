@@ -24,7 +24,7 @@ use Rattle.json5_de.specs.Law.{TookValue}
 use Rattle.json5_de.specs.Steps.{PassedGap, TookText}
 use Rattle.json5_de.specs.declared.brackets.Brackets.{Brackets}
 use Rattle.json5_de.specs.Brackets.{AreSigns, square}
-use Rattle.json5_de.specs.Access.{TookElement, Unawaited, at_end, at_char, NotOpened, no_bracket, text_ends, too_deep, NoBracket, other_sign, bracket_missing, NotClosed, not_here, after_comma as comma_before}
+use Rattle.json5_de.specs.Access.{TookElement, Unexpected, at_end, at_char, NotOpened, no_bracket, text_ends, too_deep, NoBracket, other_sign, bracket_missing, NotClosed, not_here, after_comma as comma_before}
 use Rattle.json5_de.specs.Seq.{IsAfterGap, Begun, AtElement, GoesOn, NoNext, no_comma, list_ends}
 use Rattle.json5_de.specs.Faults.{AfterBlanks, in_blanks, after_gap, RefusedBy}
 use Rattle.json5_de.proofs.Taken.{refused_token}
@@ -45,16 +45,16 @@ after_gap_of old mid p = record { gap = p.gap; split = p.split; is_gap = p.is_ga
 
 -- ---- what is refused
 
-pub no_next : (due : Bool) (x : List ℕ) (reason : Option ErrorCode) (place : Option (List ℕ)) → due ≡ true → NotBegun (λ c. c == 0x2C) x → NotBegun (λ c. c == 0x5D) x → Unawaited codes.EofParsingArray codes.ExpectedComma x reason place → NoNext due x reason place
+pub no_next : (due : Bool) (x : List ℕ) (reason : Option ErrorCode) (place : Option (List ℕ)) → due ≡ true → NotBegun (λ c. c == 0x2C) x → NotBegun (λ c. c == 0x5D) x → Unexpected codes.EofParsingArray codes.ExpectedComma x reason place → NoNext due x reason place
 no_next due x reason place d m n at_end = list_ends d
 no_next due x reason place d m n (at_char c r) = no_comma c r d m n
 
-pub not_opened_here : (b : Brackets) (level : ℕ) (x : List ℕ) (reason : Option ErrorCode) (place : Option (List ℕ)) → NotBegun (λ c. c == b.opening) x → Unawaited b.ends b.not_opened x reason place → NotOpened b level x reason place
+pub not_opened_here : (b : Brackets) (level : ℕ) (x : List ℕ) (reason : Option ErrorCode) (place : Option (List ℕ)) → NotBegun (λ c. c == b.opening) x → Unexpected b.ends b.not_opened x reason place → NotOpened b level x reason place
 not_opened_here b level x reason place n at_end = text_ends
 not_opened_here b level x reason place n (at_char c r) = no_bracket c r n
 
 pub no_bracket_here : (b : Brackets) (comma : Bool) (x : List ℕ) (reason : Option ErrorCode) (place : Option (List ℕ)) → (comma ≡ true → NotBegun (λ c. c == 0x2C) x) → NotBegun (λ c. c == b.closing) x
-    → Unawaited b.ends b.not_closed x reason place → NoBracket b comma x reason place
+    → Unexpected b.ends b.not_closed x reason place → NoBracket b comma x reason place
 no_bracket_here b comma x reason place m n at_end = bracket_missing
 no_bracket_here b comma x reason place m n (at_char c r) = other_sign c r n m
 
@@ -186,13 +186,13 @@ ok_unless (Err e) k h = absurd (h e k)
 
 -- where no comma stands, or none may
 pub refused_bracket : (b : Brackets) (due : Bool) (s mid at : State) (e : Error) → PassedGap s mid → at ≡ mid → (due ≡ true → NotBegun (λ c. c == 0x2C) mid.unread)
-    → Refused (Unawaited b.ends b.not_closed) (cursor_of at) e × NotBegun (λ c. c == b.closing) at.unread → RefusedBy (NotClosed b due) s e
+    → Refused (Unexpected b.ends b.not_closed) (cursor_of at) e × NotBegun (λ c. c == b.closing) at.unread → RefusedBy (NotClosed b due) s e
 refused_bracket b due s mid at e p same m (f, n) =
     refused_token s mid e p (refused_as at mid e same (λ reason place k. not_here (no_bracket_here b due mid.unread reason place m (subst (NotBegun (λ c. c == b.closing)) (unread_of same) n) k)) f)
 
 -- after the comma
 pub refused_bracket_after : (b : Brackets) (due : Bool) (s mid next far : State) (e : Error) → due ≡ true → PassedGap s mid → TookText mid (0x2C ∷ []) next → PassedGap next far
-    → Refused (Unawaited b.ends b.not_closed) (cursor_of far) e × NotBegun (λ c. c == b.closing) far.unread → RefusedBy (NotClosed b due) s e
+    → Refused (Unexpected b.ends b.not_closed) (cursor_of far) e × NotBegun (λ c. c == b.closing) far.unread → RefusedBy (NotClosed b due) s e
 refused_bracket_after b due s mid next far e d p took q (f, n) =
     let there : Refused (AfterBlanks (NoBracket b false)) (cursor_of next) e =
     refused_token next far e q (refused_as far far e refl (λ reason place k. no_bracket_here b false far.unread reason place (λ is. absurd (true_false is refl)) n k) f) q.live in

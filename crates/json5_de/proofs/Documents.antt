@@ -56,7 +56,7 @@ cursor_at x r = record { input = x; unread = r }
 pub live_after : (s mid : State) (x : List ℕ) (u : Tree) → s ≡ at_start x → TookValue s u mid → mid.failed ≡ false
 live_after s mid x u e took = failed_of took.rest ∙ failed_of e
 
--- a value that converts isn't refused, want of memory aside
+-- a value that converts isn't refused, unless memory runs out
 pub blames_value : (V : Type 0) {C : Type 0} {convert : Tree → Option C} (s : State) (x : List ℕ) (t : Tree) (r : List ℕ) (c : C) (e : Error) → s ≡ at_start x → Reads x t r → depth t ≤ max_depth → convert t ≡ Some c → Completes {V = V} convert s (Err e)
     → IsOutOfMemory e ⊎ Refused (AfterBlanks Trailing) (record { input = x; unread = r }) e
 blames_value V s x t r c e is reads shallow converts complete =

@@ -12,7 +12,7 @@ use Rattle.json5_text.specs.Tokens.{FaultyBlanks}
 use Rattle.json5_de.specs.State.{State, cursor_of}
 use Rattle.json5_de.specs.Faults.{AtEnd, Trailing, trailing, RefusedBy}
 use Rattle.json5_de.specs.Steps.{PassedGap}
-use Rattle.json5_de.proofs.Awaited.{no_end_fault}
+use Rattle.json5_de.proofs.Expected.{no_end_fault}
 use Rattle.json5_de.proofs.Taken.{refused_token}
 
 pub some_left : (x : List ℕ) → is_some (slice_get x 0) ≡ true → (c : ℕ) × (r : List ℕ) × (x ≡ c ∷ r)

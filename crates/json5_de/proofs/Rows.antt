@@ -19,11 +19,11 @@ use Rattle.json5_grammar.specs.Trees.{Tree, null, boolean, number, text, array, 
 use Rattle.json5_de.specs.Convert.{as_whole, as_number, every_decimal, as_text, if_plain}
 use Rattle.json5_de.specs.Faults.{FaultRelation, AfterBlanks, in_blanks, after_gap, RefusedBy, RefusedByOrMemory, NotNumber, faulty_number, other_number, faulty_text, begins_with}
 use Rattle.json5_de.specs.Rows.{Row, RefusedWith, ReadsAs, EndsWhere, DiffersWhere, TellsApart, every_tree, plain_text, null_row, bool_row, whole_row, decimal_row, text_row, plain_row, any_row}
-use Rattle.json5_de.proofs.Awaited.{Awaited, wrongly_refused, completes_or_memory, ends_from, ends_or_memory, differs_from, differs_or_memory}
-use Rattle.json5_de.proofs.Awaits.{awaits_null, awaits_bool}
-use Rattle.json5_de.proofs.AwaitsNumbers.{awaits_number}
-use Rattle.json5_de.proofs.AwaitsTexts.{awaits_text}
-use Rattle.json5_de.proofs.ScalarsAwaited.{awaits_scalar}
+use Rattle.json5_de.proofs.Expected.{Expected, wrongly_refused, completes_or_memory, ends_from, ends_or_memory, differs_from, differs_or_memory}
+use Rattle.json5_de.proofs.Expects.{expects_null, expects_bool}
+use Rattle.json5_de.proofs.ExpectsNumbers.{expects_number}
+use Rattle.json5_de.proofs.ExpectsTexts.{expects_text}
+use Rattle.json5_de.proofs.ScalarsExpected.{expects_scalar}
 use Rattle.json5_de.proofs.Taken.{input_of, refused_blanks, refused_token, took_leaf, refused_or_memory}
 use Rattle.json5_de.proofs.Mismatches.{StartsAt, refused_number, refused_text}
 use Rattle.json5_de.proofs.WithoutMemory.{whole_there, no_other_number, plain_there, no_other_text}
@@ -36,7 +36,7 @@ use Rattle.json5_grammar.proofs.Basics.{true_false}
 
 -- a kind of value is told apart from all others, and none of its faults is that the reader had failed
 pub record IsLawful {C : Type 0} (row : Row C) : Type 0 where
-  pub awaited : Awaited row.IsFault row.convert row.begins row.ends row.differs
+  pub expected : Expected row.IsFault row.convert row.begins row.ends row.differs
   pub lacks : Lacks row.IsFault
 
 other_says : (reason : Option ErrorCode) (e : Error) → reason ≢ Some codes.Failed → Says reason e → kind_of e ≢ code codes.Failed
@@ -93,7 +93,7 @@ pub reads_err : {V C : Type 0} {row : Row C} → IsLawful row → (content : V �
     → StaysFailed {V = V} old new (Err e) → ReadsAs row content old new (Err e)
 reads_err {V = V} {row = row} l content old new e free k failed before = record {
   sound = tt;
-  complete = completes_or_memory {V = V} l.awaited old (Err e) (or_memory_as row.may_lack_memory old e k);
+  complete = completes_or_memory {V = V} l.expected old (Err e) (or_memory_as row.may_lack_memory old e k);
   no_memory = free;
   refused = k;
   unprompted = unprompted_from {V = V} l.lacks row.may_lack_memory old (Err e) k;
@@ -109,7 +109,7 @@ passed_on true old e k = inr k
 -- a fault of the relation
 pub refuses : {V C : Type 0} {row : Row C} → IsLawful row → (content : V → C) (old new : State) (e : Error) → RefusedBy row.IsFault old e → GivesUp old new → StaysFailed {V = V} old new (Err e) → ReadsAs row content old new (Err e)
 refuses {row = row} l content old new e k =
-    reads_err l content old new e (λ t r c live reads shallow is free. absurd (wrongly_refused l.awaited old e t r c live reads is k)) (passed_on row.may_lack_memory old e k)
+    reads_err l content old new e (λ t r c live reads shallow is free. absurd (wrongly_refused l.expected old e t r c live reads is k)) (passed_on row.may_lack_memory old e k)
 
 -- a comment before it is at fault, or the reader had failed
 pub not_begun : {V C : Type 0} {row : Row C} → IsLawful row → (content : V → C) (old new : State) (e : Error) → (old.failed ≡ false → Refused FaultyBlanks (cursor_of old) e) → GivesUp old new → StaysFailed {V = Unit {0}} old new (Err e)
@@ -120,7 +120,7 @@ not_begun l content old new e k failed before = refuses l content old new e (ref
 pub refuses_after : {V C : Type 0} {row : Row C} → IsLawful row → (content : V → C) (old mid new : State) (e : Error) → PassedGap old mid → Refused row.IsFault (cursor_of mid) e → GivesUp mid new → ReadsAs row content old new (Err e)
 refuses_after l content old mid new e p k failed = refuses l content old new e (refused_token old mid e p k) (given_up old mid new p failed) (λ f. true_false f p.live)
 
--- the same, or memory was wanting, where no tree is free
+-- the same, or memory ran out, where no tree is free
 pub refuses_value : {V C : Type 0} {row : Row C} → IsLawful row → row.may_lack_memory ≡ true → ((t : Tree) → row.free t ≡ false) → (content : V → C) (old mid new : State) (e : Error) → PassedGap old mid → RefusedByOrMemory row.IsFault old e → GivesUp mid new
     → ReadsAs row content old new (Err e)
 refuses_value {V = V} {row = row} l m none content old mid new e p k failed = reads_err l content old new e
@@ -132,16 +132,16 @@ refuses_value {V = V} {row = row} l m none content old mid new e p k failed = re
 -- ---- the kinds
 
 pub lawful_null : IsLawful null_row
-lawful_null = record { awaited = awaits_null; lacks = word_lacks null_text codes.EofParsingNull codes.ExpectedNull (λ e. absurd (cc)) (λ e. absurd (cc)) }
+lawful_null = record { expected = expects_null; lacks = word_lacks null_text codes.EofParsingNull codes.ExpectedNull (λ e. absurd (cc)) (λ e. absurd (cc)) }
 
 pub lawful_bool : IsLawful bool_row
-lawful_bool = record { awaited = awaits_bool; lacks = λ x. word_lacks (if begins_with 0x66 x then false_text else true_text) codes.EofParsingBool codes.ExpectedBool (λ e. absurd (cc)) (λ e. absurd (cc)) x }
+lawful_bool = record { expected = expects_bool; lacks = λ x. word_lacks (if begins_with 0x66 x then false_text else true_text) codes.EofParsingBool codes.ExpectedBool (λ e. absurd (cc)) (λ e. absurd (cc)) x }
 
 pub lawful_whole : {C : Type 0} (f : ℤ → Option C) → IsLawful (whole_row f)
-lawful_whole f = record { awaited = awaits_number (as_whole f); lacks = number_lacks (as_whole f) }
+lawful_whole f = record { expected = expects_number (as_whole f); lacks = number_lacks (as_whole f) }
 
 pub lawful_decimal : IsLawful decimal_row
-lawful_decimal = record { awaited = awaits_number every_decimal; lacks = number_lacks every_decimal }
+lawful_decimal = record { expected = expects_number every_decimal; lacks = number_lacks every_decimal }
 
 -- ---- whole numbers
 
@@ -216,7 +216,7 @@ out_of_range f content old new last result start z w none is failed = not_whole 
 -- ---- texts
 
 pub lawful_text : {C : Type 0} (f : List ℕ → Bool → Option C) (free : Tree → Bool) → IsLawful (text_row f free)
-lawful_text f free = record { awaited = awaits_text f; lacks = text_lacks f }
+lawful_text f free = record { expected = expects_text f; lacks = text_lacks f }
 
 -- the string in front was taken or refused
 pub reads_text : {V C : Type 0} (f : List ℕ → Bool → Option C) (free : Tree → Bool) (content : V → C) (old mid new : State) (result : Result V Error) → PassedGap old mid → IfOk result (Gives content (as_text f) old new)
@@ -261,7 +261,7 @@ plain_refused content old mid new e p k failed ok =
 -- ---- values of any kind
 
 pub lawful_any : IsLawful any_row
-lawful_any = record { awaited = awaits_scalar; lacks = scalar_lacks }
+lawful_any = record { expected = expects_scalar; lacks = scalar_lacks }
 
 -- ---- the codes
 
@@ -274,12 +274,12 @@ answers row content old new (Ok v) k = (k.sound, tt)
 answers row content old new (Err e) k = (tt, k.refused)
 
 ends_as : {V C : Type 0} {row : Row C} → IsLawful row → (m : Bool) → row.may_lack_memory ≡ m → (content : V → C) (old new : State) (result : Result V Error) → Answers m row.IsFault row.convert content old new result → EndsWhere m row.ends old result
-ends_as l false e content old new result k = ends_from l.awaited content old new result k.0 k.1
-ends_as l true e content old new result k = ends_or_memory l.awaited content old new result k.0 k.1
+ends_as l false e content old new result k = ends_from l.expected content old new result k.0 k.1
+ends_as l true e content old new result k = ends_or_memory l.expected content old new result k.0 k.1
 
 differs_as : {V C : Type 0} {row : Row C} → IsLawful row → (m : Bool) → row.may_lack_memory ≡ m → (content : V → C) (old new : State) (result : Result V Error) → Answers m row.IsFault row.convert content old new result → DiffersWhere m row.begins row.differs old result
-differs_as l false e content old new result k = differs_from l.awaited content old new result k.0 k.1
-differs_as l true e content old new result k = differs_or_memory l.awaited content old new result k.0 k.1
+differs_as l false e content old new result k = differs_from l.expected content old new result k.0 k.1
+differs_as l true e content old new result k = differs_or_memory l.expected content old new result k.0 k.1
 
 pub tells_apart : {V C : Type 0} {row : Row C} → IsLawful row → (content : V → C) → TellsApart row content
 tells_apart {row = row} l content old new result k =

@@ -13,8 +13,8 @@ use Rattle.json5_text.specs.NumberViews.{keeps_digits}
 use Rattle.json5_de.specs.Convert.{as_number, as_whole, as_text, if_plain}
 use Rattle.json5_de.specs.State.{State}
 use Rattle.json5_de.specs.Steps.{PassedGap, TookText}
-use Rattle.json5_de.proofs.AwaitsNumbers.{number_phrase}
-use Rattle.json5_de.proofs.AwaitsTexts.{text_phrase}
+use Rattle.json5_de.proofs.ExpectsNumbers.{number_phrase}
+use Rattle.json5_de.proofs.ExpectsTexts.{text_phrase}
 use Rattle.json5_grammar.proofs.Basics.{none_some}
 
 phrase_after : (old mid : State) (t : Tree) (r : List ℕ) → PassedGap old mid → (h : Reads old.unread t r) → mid.unread ≡ h.phrase ++ r

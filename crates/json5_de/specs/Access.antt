@@ -68,7 +68,7 @@ abbrev pub GivesElement : {V C : Type 0} → (V → C) → (Tree → Option C) �
 GivesElement content convert old new (Some v) = (t : Tree) × TookElement old.due old.reader t new.reader × (new.due ≡ true) × (convert t ≡ Some (content v))
 GivesElement content convert old new None = AtClose old.due old.reader new.reader × (new.due ≡ old.due)
 
--- an element that can be read is read, want of memory aside
+-- an element that can be read is read, unless memory runs out
 abbrev pub CompletesElement : {V C : Type 0} → (Tree → Option C) → Seen → Result V Error → Type 0
 CompletesElement {C = C} convert old result =
     (t : Tree) (r : List ℕ) (c : C) → old.reader.failed ≡ false → IsElement old.due old.reader.unread t r → old.reader.level + depth t ≤ max_depth → convert t ≡ Some c → IsOkOrMemory result
@@ -107,7 +107,7 @@ abbrev pub ReadsMore : {V C : Type 0} → (V → C) → (Tree → Option C) → 
 ReadsMore content convert old new (Some v) = (t : Tree) × (convert t ≡ Some (content v)) × ((from : State) (ts : Trees) → ElementsRead from ts old → ElementsRead from (snoc ts t) new)
 ReadsMore content convert old new None = (from : State) (ts : Trees) → ElementsRead from ts old → ElementsRead from ts new
 
--- where elements are left and the first converts, it was read, want of memory aside, and the others are left; where none is left, none was given.
+-- where elements are left and the first converts, it was read, unless memory ran out, and the others are left; where none is left, none was given.
 -- Nothing is said of the refusal of one that doesn't convert.
 abbrev pub LeavesFewer : {V C : Type 0} → (V → C) → (Tree → Option C) → Trees → List ℕ → Seen → Result (Option V) Error → Type 0
 LeavesFewer content convert no_more r new (Ok None) = ElementsLeft no_more r new
@@ -164,22 +164,22 @@ begins_close b due c = (c == b.closing) || (due && (c == comma_sign))
 -- ---- what is refused
 
 -- at the end, without a place, or at any other character that stands there
-pub data Unawaited (ends differs : ErrorCode) : List ℕ → Option ErrorCode → Option (List ℕ) → Type 0 where
-  at_end : Unawaited ends differs [] (Some ends) None
-  at_char : (c : ℕ) (r : List ℕ) → Unawaited ends differs (c ∷ r) (Some differs) (Some [])
+pub data Unexpected (ends differs : ErrorCode) : List ℕ → Option ErrorCode → Option (List ℕ) → Type 0 where
+  at_end : Unexpected ends differs [] (Some ends) None
+  at_char : (c : ℕ) (r : List ℕ) → Unexpected ends differs (c ∷ r) (Some differs) (Some [])
 
--- where an opening bracket is awaited, and so many are open: none, or one too many
+-- where an opening bracket is expected, and so many are open: none, or one too many
 pub data NotOpened (b : Brackets) (level : ℕ) : List ℕ → Option ErrorCode → Option (List ℕ) → Type 0 where
   no_bracket : (c : ℕ) (r : List ℕ) → (c == b.opening) ≡ false → NotOpened b level (c ∷ r) (Some b.not_opened) (Some [])
   text_ends : NotOpened b level [] (Some b.ends) None
   too_deep : (r : List ℕ) → level ≡ max_depth → NotOpened b level (b.opening ∷ r) (Some codes.TooDeep) (Some [])
 
--- where the closing bracket is awaited
+-- where the closing bracket is expected
 pub data NoBracket (b : Brackets) (comma : Bool) : List ℕ → Option ErrorCode → Option (List ℕ) → Type 0 where
   other_sign : (c : ℕ) (r : List ℕ) → (c == b.closing) ≡ false → (comma ≡ true → (c == comma_sign) ≡ false) → NoBracket b comma (c ∷ r) (Some b.not_closed) (Some [])
   bracket_missing : NoBracket b comma [] (Some b.ends) None
 
--- where the closing bracket is awaited, and a comma before it where one is due
+-- where the closing bracket is expected, and a comma before it where one is due
 pub data NotClosed (b : Brackets) (due : Bool) : List ℕ → Option ErrorCode → Option (List ℕ) → Type 0 where
   not_here : {x : List ℕ} {reason : Option ErrorCode} {place : Option (List ℕ)} → NoBracket b due x reason place → NotClosed b due x reason place
   after_comma : {x : List ℕ} {reason : Option ErrorCode} {place : Option (List ℕ)} → due ≡ true → AfterBlanks (NoBracket b false) x reason place
@@ -187,7 +187,7 @@ pub data NotClosed (b : Brackets) (due : Bool) : List ℕ → Option ErrorCode �
 
 -- ---- what the calls of an access mean
 
--- where a bracket that opens is awaited
+-- where a bracket that opens is expected
 pub record OpensAs {A : Type 0} (b : Brackets) (seen : A → Seen) (old : State) (result : Result A Error) : Type 0 where
   pub opened : IfOk result (λ a. Opened b old (seen a).reader × ((seen a).due ≡ false))
   pub start : IfOk result (λ a. (before : List ℕ) → old.input ≡ before ++ b.opening ∷ (seen a).reader.unread → (seen a).start ≡ length (encode_utf8_all before))
@@ -199,7 +199,7 @@ pub record OpensAs {A : Type 0} (b : Brackets) (seen : A → Seen) (old : State)
   pub unprompted : Unprompted old result
   pub before : old.failed ≡ true → IsErrAnd result (IsUnplaced codes.Failed)
 
--- where the closing bracket is awaited
+-- where the closing bracket is expected
 pub record ClosesAs (b : Brackets) (due : Bool) (old new : State) (result : Result (Unit {0}) Error) : Type 0 where
   pub closed : OnOk result (Closed b due old new)
   pub complete : (r : List ℕ) → old.failed ≡ false → IsEnd b.closing due old.unread r → IsOk result

@@ -1,4 +1,4 @@
--- What is refused where a value is awaited.
+-- What is refused where a value is expected.
 use Rattle.std.specs.Prelude.{◌≡◌, ℕ, Bool, true, false, if◌then◌else◌, ◌==◌, ◌⊎◌, List, [], ◌∷◌, ◌++◌, Option, Some, None, Result, IsErrAnd}
 use Rattle.json5_grammar.specs.Characters.{letter_f}
 use Rattle.json5_grammar.specs.Codes.{after_text}
@@ -18,7 +18,7 @@ use Rattle.json5_de.specs.State.{State, cursor_of}
 abbrev pub FaultRelation : Type 1
 FaultRelation = List ℕ → Option ErrorCode → Option (List ℕ) → Type 0
 
--- a comment in front is at fault, or after the gap stands what isn't awaited
+-- a comment in front is at fault, or after the gap stands what isn't expected
 pub data AfterBlanks (IsFault : FaultRelation) : List ℕ → Option ErrorCode → Option (List ℕ) → Type 0 where
   in_blanks : {x : List ℕ} {reason : Option ErrorCode} {place : Option (List ℕ)} → FaultyBlanks x reason place → AfterBlanks IsFault x reason place
   after_gap : {w x : List ℕ} {reason : Option ErrorCode} {place : Option (List ℕ)} → Gap w x → Solid x → IsFault x reason place → AfterBlanks IsFault (w ++ x) reason (after_text w place)
@@ -37,7 +37,7 @@ pub data NotText {C : Type 0} (convert : List ℕ → Bool → Option C) : List 
 abbrev pub RefusedBy : FaultRelation → State → Error → Type 0
 RefusedBy IsFault old e = old.failed ≡ false → Refused (AfterBlanks IsFault) (cursor_of old) e
 
--- the same, or memory was wanting
+-- the same, or memory ran out
 abbrev pub RefusedByOrMemory : FaultRelation → State → Error → Type 0
 RefusedByOrMemory IsFault old e = IsOutOfMemory e ⊎ RefusedBy IsFault old e
 
@@ -52,7 +52,7 @@ begins_with c (d ∷ s) = d == c
 abbrev pub FaultyBool : FaultRelation
 FaultyBool x = FaultyWord (if begins_with letter_f x then false_text else true_text) codes.EofParsingBool codes.ExpectedBool x
 
--- a character where the end is awaited: TrailingCharacters at it
+-- a character where the end is expected: TrailingCharacters at it
 pub data Trailing : List ℕ → Option ErrorCode → Option (List ℕ) → Type 0 where
   trailing : (c : ℕ) (r : List ℕ) → Trailing (c ∷ r) (Some codes.TrailingCharacters) (Some [])
 
@@ -68,7 +68,7 @@ IsAfter c old w e = (kind_of e ≡ code c) × IsPlaced (cursor_of old) (Some w) 
 abbrev pub AtEnd : State → Type 0
 AtEnd old = (old.failed ≡ false) × LastBlanks old.unread
 
--- after the blanks w stands a character that begins nothing of what is awaited
+-- after the blanks w stands a character that begins nothing of what is expected
 pub record AtOther (begins : ℕ → Bool) (old : State) (w : List ℕ) : Type 0 where
   pub live : old.failed ≡ false
   pub blank : Blanks w
@@ -85,7 +85,7 @@ EndsWith ends old result = AtEnd old → IsErrAnd result (IsUnplaced ends)
 abbrev pub EndsWithOrMemory : {V : Type 0} → ErrorCode → State → Result V Error → Type 0
 EndsWithOrMemory ends old result = AtEnd old → IsErrAnd result (λ e. IsOutOfMemory e ⊎ IsUnplaced ends e)
 
--- the code at a character that begins nothing of what is awaited
+-- the code at a character that begins nothing of what is expected
 abbrev pub DiffersWith : {V : Type 0} → (ℕ → Bool) → ErrorCode → State → Result V Error → Type 0
 DiffersWith begins differs old result = (w : List ℕ) → AtOther begins old w → IsErrAnd result (IsAfter differs old w)
 

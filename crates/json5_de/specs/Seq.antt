@@ -14,7 +14,7 @@ use Rattle.json5_de.specs.State.{State, OnlyRead, cursor_of}
 use Rattle.json5_de.specs.declared.brackets.Brackets.{Brackets}
 use Rattle.json5_de.specs.Law.{Unprompted}
 use Rattle.json5_de.specs.Faults.{RefusedBy, AtEnd, DiffersWith}
-use Rattle.json5_de.specs.Access.{Seen, AtClose, Unawaited, HasPlace, PlacedAtBracket, IsAtBracket, is_comma_or_closing}
+use Rattle.json5_de.specs.Access.{Seen, AtClose, Unexpected, HasPlace, PlacedAtBracket, IsAtBracket, is_comma_or_closing}
 
 -- y is what stands after the gap in front of x
 pub record IsAfterGap (x y : List ℕ) : Type 0 where
@@ -34,7 +34,7 @@ TookClosing b old new = (old.unread ≡ b.closing ∷ new.unread) × (new ≡ re
 
 -- something else stands in front
 abbrev pub RefusesClosing : Brackets → State → Error → Type 0
-RefusesClosing b old e = Refused (Unawaited b.ends b.not_closed) (cursor_of old) e × NotBegun (λ c. c == b.closing) old.unread
+RefusesClosing b old e = Refused (Unexpected b.ends b.not_closed) (cursor_of old) e × NotBegun (λ c. c == b.closing) old.unread
 
 -- no closing bracket is next
 pub record AtElement (due : Bool) (old new : State) : Type 0 where

@@ -50,7 +50,7 @@ TookCow old new t = (s u : List ℕ) × (plain : Bool) × TookText old s new × 
 abbrev pub TookCharacters : {A : Type 0} → State → State → String A → Type 0
 TookCharacters old new t = (s : List ℕ) × (plain : Bool) × TookText old s new × Str s (chars (string_bytes t)) plain
 
--- the token in front is refused with one of its faults, or memory was wanting
+-- the token in front is refused with one of its faults, or memory ran out
 abbrev pub RefusesToken : FaultRelation → State → Error → Type 0
 RefusesToken IsFault old e = IsOutOfMemory e ⊎ Refused IsFault (cursor_of old) e
 
@@ -58,7 +58,7 @@ RefusesToken IsFault old e = IsOutOfMemory e ⊎ Refused IsFault (cursor_of old)
 abbrev pub IsOffset : List ℕ → ℕ → Type 0
 IsOffset input offset = (before : List ℕ) × (rest : List ℕ) × (input ≡ before ++ rest) × (offset ≡ length (encode_utf8_all before))
 
--- a text of its own at this offset, or memory was wanting
+-- a text of its own at this offset, or memory ran out
 abbrev pub IsMismatch : List ℕ → ℕ → Error → Type 0
 IsMismatch input offset e =
     IsOutOfMemory e ⊎ (Says None e × ((before rest : List ℕ) → input ≡ before ++ rest → offset ≡ length (encode_utf8_all before) → place_of e ≡ Some (position_after before)))

@@ -104,7 +104,7 @@ impl<I: Input> Deserializer<I> {
         self.scanner.allocator()
     }
 
-    /// Whether a value may be awaited: after a refusal there is none.
+    /// Answers `Failed` where a call refused before, or an access holds the reader.
     pub(crate) fn live(&self) -> Result<()>
         ensures live { OnOk result ((self.now.failed ≡ false) × (self.now.level ≤ max_depth)) }
         ensures failed { IfErr result (λ e. (self.now.failed ≡ true) × (kind_of e ≡ code codes.Failed) × (place_of e ≡ None)) }
@@ -220,7 +220,7 @@ impl<I: Input> Deserializer<I> {
         self.scanner.offset()
     }
 
-    /// Refuses what is whole, and isn't of the type that was awaited: a text of its own, at the offset.
+    /// Refuses a value that isn't of the type that is expected: a text of its own, at the offset.
     pub(crate) fn mismatch<T>(&mut self, offset: usize, mismatch: &Mismatch<'_>) -> Result<T>
         requires { IsOffset self.old.input offset }
         ensures refused { IsErrAnd result (IsMismatch self.old.input offset) }
@@ -232,25 +232,8 @@ impl<I: Input> Deserializer<I> {
             Err(error) => self.refuse(error),
         }
     }
-}
 
-impl<'de, I: Borrows<'de>> Deserializer<I> {
-    /// Takes the string in front, its text borrowed where it holds no backslash.
-    pub(crate) fn text(&mut self) -> Result<CowStr<'de>>
-        ensures taken { IfOk result (TookCow self.old self.new) }
-        ensures refused { IfErr result (RefusesToken FaultyString self.old) }
-        ensures failed { OnErr result (GivesUp self.old self.new) }
-        ensures plain { (s u r : List ℕ) → self.old.unread ≡ s ++ r → Str s u true → IsOk result }
-    {
-        match self.scanner.string() {
-            Ok(text) => Ok(text),
-            Err(e) => self.refuse(e),
-        }
-    }
-}
-
-impl<I: Input> Deserializer<I> {
-    /// Takes the reader back from what it was lent to, or lends it, while which it stands as failed.
+    /// Sets the flag that blocks the reader while an access holds it.
     pub(crate) fn set_failed(&mut self, failed: bool)
         ensures { self.new ≡ record self.old { failed = failed } }
     {
@@ -291,5 +274,21 @@ impl<I: Input> Deserializer<I> {
         ensures past { (IsOffset self.now.input offset → ⊥) → result ≡ position_after self.now.input }
     {
         self.scanner.position_of(offset)
+    }
+}
+
+// What is borrowed from the text.
+impl<'de, I: Borrows<'de>> Deserializer<I> {
+    /// Takes the string in front, its text borrowed where it holds no backslash.
+    pub(crate) fn text(&mut self) -> Result<CowStr<'de>>
+        ensures taken { IfOk result (TookCow self.old self.new) }
+        ensures refused { IfErr result (RefusesToken FaultyString self.old) }
+        ensures failed { OnErr result (GivesUp self.old self.new) }
+        ensures plain { (s u r : List ℕ) → self.old.unread ≡ s ++ r → Str s u true → IsOk result }
+    {
+        match self.scanner.string() {
+            Ok(text) => Ok(text),
+            Err(e) => self.refuse(e),
+        }
     }
 }

@@ -47,6 +47,7 @@ impl<I: Input> Deserializer<I> {
     }
 }
 
+// What is borrowed from the text.
 impl<'de, I: Borrows<'de>> Deserializer<I> {
     /// Reads a text, borrowed where no escape is used, which then takes no memory.
     pub fn deserialize_identifier(&mut self) -> Result<CowStr<'de>>

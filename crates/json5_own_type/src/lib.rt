@@ -110,7 +110,7 @@ impl<I: Input, T: Deserialize<I>> Deserialize<I> for Point<T> {
     }
 }
 
-/// Gives the reader up after one element: from then on it answers `Failed`.
+/// Drops the access after one element: from then on the reader answers `Failed`.
 pub fn gives_up<I: Input>(de: &mut Deserializer<I>) -> Result<()>
     ensures { de.new.failed ≡ true }
 {

@@ -239,6 +239,7 @@ impl<I: Input> Scanner<I> {
     }
 }
 
+// What is borrowed from the text.
 impl<'de, I: Borrows<'de>> Scanner<I> {
     /// Takes a string and gives its text, borrowed where the string holds no backslash, which then takes no memory (JSON5
     /// section 5, ECMAScript 5.1 section 7.8.4).

@@ -12,8 +12,8 @@ use Rattle.json5_de.specs.Scalars.{in_null, in_true, in_false, in_text, in_numbe
 use Rattle.json5_de.specs.Rows.{any_row}
 use Rattle.json5_de.specs.Steps.{TookText}
 use Rattle.json5_de.proofs.Taken.{took_leaf, null_stops, true_stops, false_stops, chars_null, chars_true, chars_false}
-use Rattle.json5_de.proofs.AwaitsTexts.{text_stops}
-use Rattle.json5_de.proofs.ScalarsAwaited.{kind_there, none_left, in_token, or_memory_in, value_missing, no_value_there}
+use Rattle.json5_de.proofs.ExpectsTexts.{text_stops}
+use Rattle.json5_de.proofs.ScalarsExpected.{kind_there, none_left, in_token, or_memory_in, value_missing, no_value_there}
 use Rattle.json5_de.proofs.Rows.{lawful_any, not_begun, refuses_value, reads_ok, gives_up}
 use Rattle.json5_de.proofs.de.Deserializer.deserialize_any.Goals as goal
 

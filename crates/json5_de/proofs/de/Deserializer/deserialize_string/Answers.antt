@@ -5,7 +5,7 @@ use Rattle.json5_grammar.specs.Values.{is_text}
 use Rattle.json5_de.specs.Convert.{every_text}
 use Rattle.json5_de.specs.Rows.{no_tree}
 use Rattle.json5_de.proofs.Taken.{took_leaf}
-use Rattle.json5_de.proofs.AwaitsTexts.{text_stops}
+use Rattle.json5_de.proofs.ExpectsTexts.{text_stops}
 use Rattle.json5_de.proofs.Rows.{lawful_text, not_begun, reads_text}
 use Rattle.json5_de.proofs.de.Deserializer.deserialize_string.Goals as goal
 

@@ -8,7 +8,7 @@ use Rattle.json5_de.specs.Convert.{place_among}
 use Rattle.json5_de.specs.Faults.{faulty_text}
 use Rattle.json5_de.specs.Rows.{no_tree, variant_row}
 use Rattle.json5_de.proofs.Taken.{took_leaf, refused_or_memory}
-use Rattle.json5_de.proofs.AwaitsTexts.{text_stops}
+use Rattle.json5_de.proofs.ExpectsTexts.{text_stops}
 use Rattle.json5_de.proofs.Rows.{lawful_text, not_begun, refuses_value, not_text, reads_ok}
 use Rattle.json5_de.proofs.de.Deserializer.deserialize_variant.Goals as goal
 

@@ -21,8 +21,8 @@ returns-in_err-begin-clause-nowhere g c =
 pub returns-then-not-eat-clause-refused : goal.returns-then-not-eat-clause-refused
 returns-then-not-eat-clause-refused g c =
     let kept = c.if-not-eat.ensures.kept refl in
-    refused_token c.args.self.now c.begin.new.self c.unawaited.result c.in_ok-begin.ensures.passed
-    (refused_as c.eat.new.self c.begin.new.self c.unawaited.result kept.0 (λ reason place f. no_next c.args.due c.begin.new.self.unread reason place c.if-not-due.false kept.1 (c.if-at_bracket.ensures.other refl) f) c.unawaited.ensures.fault)
+    refused_token c.args.self.now c.begin.new.self c.unexpected.result c.in_ok-begin.ensures.passed
+    (refused_as c.eat.new.self c.begin.new.self c.unexpected.result kept.0 (λ reason place f. no_next c.args.due c.begin.new.self.unread reason place c.if-not-due.false kept.1 (c.if-at_bracket.ensures.other refl) f) c.unexpected.ensures.fault)
 
 pub returns-then-not-eat-clause-nowhere : goal.returns-then-not-eat-clause-nowhere
 returns-then-not-eat-clause-nowhere g c = λ live.
@@ -52,7 +52,7 @@ returns-clause-sound g c =
     c.in_ok-begin-2.ensures.passed c.at_bracket-2.ensures.found c.at_bracket-2.ensures.other
 
 pub returns-then-not-eat-clause-unprompted : goal.returns-then-not-eat-clause-unprompted
-returns-then-not-eat-clause-unprompted g c = refused_other (next_lacks c.args.due) c.args.self.now c.unawaited.result (returns-then-not-eat-clause-refused g c)
+returns-then-not-eat-clause-unprompted g c = refused_other (next_lacks c.args.due) c.args.self.now c.unexpected.result (returns-then-not-eat-clause-refused g c)
 
 pub returns-in_err-begin-2-clause-unprompted : goal.returns-in_err-begin-2-clause-unprompted
 returns-in_err-begin-2-clause-unprompted g c =
