@@ -18,7 +18,7 @@ use crate::names::read_name;
 use crate::number::Number;
 use crate::numbers::number;
 use crate::refusal::Refusal;
-use crate::strings::{read_string_owned, read_string};
+use crate::strings::{read_string, read_string_owned};
 use crate::words::skip_word;
 use json5_grammar::code::ErrorCode;
 use json5_grammar::position::Position;
@@ -211,7 +211,10 @@ impl<I: Input> Scanner<I> {
         match refusal {
             Refusal::Code(code, None) => Error::new(code),
             Refusal::Code(code, Some(left)) => Error::new_at(self.position_where_left(left), code),
-            Refusal::InvalidNumber(left) => self.custom(self.position_where_left(left), "invalid number"),
+            Refusal::InvalidNumber(left) => self.custom(
+                self.position_where_left(left),
+                "invalid number",
+            ),
             Refusal::TooLarge(left) => {
                 self.custom(
                     self.position_where_left(left),
