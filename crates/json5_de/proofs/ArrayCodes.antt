@@ -14,18 +14,18 @@ use Rattle.json5_text.specs.declared.error.Error.{Error}
 use Rattle.json5_de.specs.State.{State}
 use Rattle.json5_de.specs.declared.brackets.Brackets.{Brackets}
 use Rattle.json5_de.specs.Brackets.{AreSigns}
-use Rattle.json5_de.specs.Access.{Closed, NotOpened, no_bracket, text_ends, too_deep, other_sign, bracket_missing, NotClosed, not_here, behind_comma, AtFull, is_opening, is_comma_or_closing, begins_close}
-use Rattle.json5_de.specs.Seq.{GoesOn, NoNext, no_comma, list_ends, in_blanks_behind}
-use Rattle.json5_de.specs.Faults.{AtEnd, AtOther, IsBehind, RefusedBy}
-use Rattle.json5_de.proofs.Awaited.{Awaited, other_fault}
+use Rattle.json5_de.specs.Access.{Closed, NotOpened, no_bracket, text_ends, too_deep, other_sign, bracket_missing, NotClosed, not_here, after_comma, AtFull, is_opening, is_comma_or_closing, begins_close}
+use Rattle.json5_de.specs.Seq.{GoesOn, NoNext, no_comma, list_ends, in_blanks_after}
+use Rattle.json5_de.specs.Faults.{AtEnd, AtOther, IsAfter, RefusedBy}
+use Rattle.json5_de.proofs.Expected.{Expected, other_fault}
 use Rattle.std.proofs.lemmas.Bool.{or_parts}
 use Rattle.json5_grammar.proofs.Basics.{same_char, first_same, true_false}
 
--- ---- what is awaited
+-- ---- what is expected
 
--- behind an element
-pub awaits_more : (due : Bool) → Awaited {C = Unit {0}} (NoNext due) (λ t. None) is_comma_or_closing codes.EofParsingArray codes.ExpectedComma
-awaits_more due = record {
+-- after an element
+pub expects_more : (due : Bool) → Expected {C = Unit {0}} (NoNext due) (λ t. None) is_comma_or_closing codes.EofParsingArray codes.ExpectedComma
+expects_more due = record {
   at_end = λ reason place f. at_none [] reason place refl f;
   at_other = λ c r reason place h f. at_some (c ∷ r) c r reason place refl h f;
   no_fault = λ s r t v reason place e k stops f. absurd (cc);
@@ -35,16 +35,16 @@ awaits_more due = record {
     at_none : (x : List ℕ) (reason : Option ErrorCode) (place : Option (List ℕ)) → x ≡ [] → NoNext due x reason place → (reason ≡ Some codes.EofParsingArray) × (place ≡ None)
     at_none x reason place e (no_comma c r d m n) = absurd (cc)
     at_none x reason place e (list_ends d) = (refl, refl)
-    at_none x reason place e (in_blanks_behind d f) = absurd (cc)
+    at_none x reason place e (in_blanks_after d f) = absurd (cc)
 
     at_some : (x : List ℕ) (c : ℕ) (r : List ℕ) (reason : Option ErrorCode) (place : Option (List ℕ)) → x ≡ c ∷ r → is_comma_or_closing c ≡ false → NoNext due x reason place → (reason ≡ Some codes.ExpectedComma) × (place ≡ Some [])
     at_some x c r reason place e h (no_comma d q k m n) = (refl, refl)
     at_some x c r reason place e h (list_ends k) = absurd (cc)
-    at_some x c r reason place e h (in_blanks_behind {x = y} k f) = absurd (true_false {b = true} refl (subst (λ d. is_comma_or_closing d ≡ false) (sym (first_same 0x2C c y r e)) h))
+    at_some x c r reason place e h (in_blanks_after {x = y} k f) = absurd (true_false {b = true} refl (subst (λ d. is_comma_or_closing d ≡ false) (sym (first_same 0x2C c y r e)) h))
 
 -- where an opening bracket is
-pub awaits_opening : (b : Brackets) (level : ℕ) → Awaited {C = Unit {0}} (NotOpened b level) (λ t. None) (is_opening b) b.ends b.not_opened
-awaits_opening b level = record {
+pub expects_opening : (b : Brackets) (level : ℕ) → Expected {C = Unit {0}} (NotOpened b level) (λ t. None) (is_opening b) b.ends b.not_opened
+expects_opening b level = record {
   at_end = λ reason place f. at_none [] reason place refl f;
   at_other = λ c r reason place h f. at_some (c ∷ r) c r reason place refl h f;
   no_fault = λ s r t v reason place e k stops f. absurd (cc);
@@ -62,8 +62,8 @@ awaits_opening b level = record {
     at_some x c r reason place e h (too_deep q full) = absurd (true_false (same_char b.opening) (subst (λ d. is_opening b d ≡ false) (sym (first_same b.opening c q r e)) h))
 
 -- one more bracket than may be open
-awaits_room : (b : Brackets) (level : ℕ) → Awaited {C = Unit {0}} (NotOpened b level) (λ t. None) (λ c. not (is_opening b c)) b.ends codes.TooDeep
-awaits_room b level = record {
+expects_room : (b : Brackets) (level : ℕ) → Expected {C = Unit {0}} (NotOpened b level) (λ t. None) (λ c. not (is_opening b c)) b.ends codes.TooDeep
+expects_room b level = record {
   at_end = λ reason place f. at_none [] reason place refl f;
   at_other = λ c r reason place h f. at_some (c ∷ r) c r reason place refl h f;
   no_fault = λ s r t v reason place e k stops f. absurd (cc);
@@ -81,8 +81,8 @@ awaits_room b level = record {
     at_some x c r reason place e h (too_deep q full) = (refl, refl)
 
 -- where a closing bracket is
-pub awaits_closing : (b : Brackets) (due : Bool) → Awaited {C = Unit {0}} (NotClosed b due) (λ t. None) (begins_close b due) b.ends b.not_closed
-awaits_closing b due = record {
+pub expects_closing : (b : Brackets) (due : Bool) → Expected {C = Unit {0}} (NotClosed b due) (λ t. None) (begins_close b due) b.ends b.not_closed
+expects_closing b due = record {
   at_end = λ reason place f. at_none [] reason place refl f;
   at_other = λ c r reason place h f. at_some (c ∷ r) c r reason place refl h f;
   no_fault = λ s r t v reason place e k stops f. absurd (cc);
@@ -92,7 +92,7 @@ awaits_closing b due = record {
     at_none : (x : List ℕ) (reason : Option ErrorCode) (place : Option (List ℕ)) → x ≡ [] → NotClosed b due x reason place → (reason ≡ Some b.ends) × (place ≡ None)
     at_none x reason place e (not_here (other_sign c r n m)) = absurd (cc)
     at_none x reason place e (not_here bracket_missing) = (refl, refl)
-    at_none x reason place e (behind_comma d f) = absurd (cc)
+    at_none x reason place e (after_comma d f) = absurd (cc)
 
     at_comma : (d : Bool) → d ≡ true → begins_close b d 0x2C ≡ true
     at_comma true d = or-true (0x2C == b.closing)
@@ -101,7 +101,7 @@ awaits_closing b due = record {
     at_some : (x : List ℕ) (c : ℕ) (r : List ℕ) (reason : Option ErrorCode) (place : Option (List ℕ)) → x ≡ c ∷ r → begins_close b due c ≡ false → NotClosed b due x reason place → (reason ≡ Some b.not_closed) × (place ≡ Some [])
     at_some x c r reason place e h (not_here (other_sign d q n m)) = (refl, refl)
     at_some x c r reason place e h (not_here bracket_missing) = absurd (cc)
-    at_some x c r reason place e h (behind_comma {x = y} d f) = absurd (true_false (at_comma due d) (subst (λ k. begins_close b due k ≡ false) (sym (first_same 0x2C c y r e)) h))
+    at_some x c r reason place e h (after_comma {x = y} d f) = absurd (true_false (at_comma due d) (subst (λ k. begins_close b due k ≡ false) (sym (first_same 0x2C c y r e)) h))
 
 -- ---- where nothing goes on
 
@@ -153,6 +153,6 @@ other_not_closed b k due old new w o c = by due (or_parts (o.char == b.closing) 
 
 -- ---- what is said of one bracket too many
 
-pub full_fault : (b : Brackets) → AreSigns b → (old : State) (e : Error) (w : List ℕ) → AtFull b old w → RefusedBy (NotOpened b old.level) old e → IsBehind codes.TooDeep old w e
+pub full_fault : (b : Brackets) → AreSigns b → (old : State) (e : Error) (w : List ℕ) → AtFull b old w → RefusedBy (NotOpened b old.level) old e → IsAfter codes.TooDeep old w e
 full_fault b k old e w at f =
-    other_fault (awaits_room b old.level) old e w (record { live = at.live; blank = at.blank; char = b.opening; more = at.more; split = at.split; solid = k.opening; other = ap not (same_char b.opening) }) f
+    other_fault (expects_room b old.level) old e w (record { live = at.live; blank = at.blank; char = b.opening; more = at.more; split = at.split; solid = k.opening; other = ap not (same_char b.opening) }) f

@@ -10,25 +10,25 @@ use Rattle.json5_grammar.specs.Values.{Reads}
 use Rattle.json5_grammar.specs.Documents.{max_depth}
 use Rattle.json5_grammar.specs.Members.{IsSign, IsEnd, IsElement, IsClose, GoesNowhere}
 use Rattle.json5_grammar.proofs.MembersRead.{comma_solid, bracket_solid, opening_solid, sign_here, sign_found, reads_found}
-use Rattle.json5_grammar.proofs.MembersPassed.{behind_comma, no_comma_end}
+use Rattle.json5_grammar.proofs.MembersPassed.{after_same_comma, no_comma_end}
 use Rattle.json5_grammar.proofs.MembersNowhere.{reads_here, no_sign, no_sign_in_blanks, nowhere_blanks, nowhere_other, nowhere_comma}
 use Rattle.json5_text.specs.declared.error.Error.{Error}
 use Rattle.json5_text.specs.Cursor.{Refused}
 use Rattle.json5_text.specs.Tokens.{FaultyBlanks}
 use Rattle.json5_text.specs.Errors.{code, kind_of, place_of}
 use Rattle.json5_grammar.specs.declared.position.Position.{Position}
-use Rattle.json5_grammar.specs.Positions.{position_behind}
+use Rattle.json5_grammar.specs.Positions.{position_after}
 use Rattle.std.proofs.lemmas.List.{append-nil}
 use Rattle.json5_de.specs.State.{State, cursor_of, OnlyRead}
 use Rattle.json5_de.specs.Law.{TookValue}
 use Rattle.json5_de.specs.Steps.{PassedGap, TookText}
 use Rattle.json5_de.specs.declared.brackets.Brackets.{Brackets}
 use Rattle.json5_de.specs.Brackets.{AreSigns, square}
-use Rattle.json5_de.specs.Access.{TookElement, Unawaited, at_end, at_char, NotOpened, no_bracket, text_ends, too_deep, NoBracket, other_sign, bracket_missing, NotClosed, not_here, behind_comma as comma_before}
-use Rattle.json5_de.specs.Seq.{IsBehindGap, Begun, AtElement, GoesOn, NoNext, no_comma, list_ends}
-use Rattle.json5_de.specs.Faults.{Behind, in_blanks, behind_gap, RefusedBy}
+use Rattle.json5_de.specs.Access.{TookElement, Unexpected, at_end, at_char, NotOpened, no_bracket, text_ends, too_deep, NoBracket, other_sign, bracket_missing, NotClosed, not_here, after_comma as comma_before}
+use Rattle.json5_de.specs.Seq.{IsAfterGap, Begun, AtElement, GoesOn, NoNext, no_comma, list_ends}
+use Rattle.json5_de.specs.Faults.{AfterBlanks, in_blanks, after_gap, RefusedBy}
 use Rattle.json5_de.proofs.Taken.{refused_token}
-use Rattle.json5_de.proofs.Places.{some_next, refused_as, refused_behind}
+use Rattle.json5_de.proofs.Places.{some_next, refused_as, refused_after}
 use Rattle.json5_grammar.proofs.Basics.{same_char, true_false}
 
 pub failed_of : {s t : State} → s ≡ t → s.failed ≡ t.failed
@@ -40,68 +40,68 @@ level_of e = ap (λ (s : State). s.level) e
 pub unread_of : {s t : State} → s ≡ t → s.unread ≡ t.unread
 unread_of e = ap (λ (s : State). s.unread) e
 
-pub behind_gap_of : (old mid : State) → PassedGap old mid → IsBehindGap old.unread mid.unread
-behind_gap_of old mid p = record { gap = p.gap; split = p.split; is_gap = p.is_gap; solid = p.solid }
+pub after_gap_of : (old mid : State) → PassedGap old mid → IsAfterGap old.unread mid.unread
+after_gap_of old mid p = record { gap = p.gap; split = p.split; is_gap = p.is_gap; solid = p.solid }
 
 -- ---- what is refused
 
-pub no_next : (due : Bool) (x : List ℕ) (reason : Option ErrorCode) (place : Option (List ℕ)) → due ≡ true → NotBegun (λ c. c == 0x2C) x → NotBegun (λ c. c == 0x5D) x → Unawaited codes.EofParsingArray codes.ExpectedComma x reason place → NoNext due x reason place
+pub no_next : (due : Bool) (x : List ℕ) (reason : Option ErrorCode) (place : Option (List ℕ)) → due ≡ true → NotBegun (λ c. c == 0x2C) x → NotBegun (λ c. c == 0x5D) x → Unexpected codes.EofParsingArray codes.ExpectedComma x reason place → NoNext due x reason place
 no_next due x reason place d m n at_end = list_ends d
 no_next due x reason place d m n (at_char c r) = no_comma c r d m n
 
-pub not_opened_here : (b : Brackets) (level : ℕ) (x : List ℕ) (reason : Option ErrorCode) (place : Option (List ℕ)) → NotBegun (λ c. c == b.opening) x → Unawaited b.ends b.not_opened x reason place → NotOpened b level x reason place
+pub not_opened_here : (b : Brackets) (level : ℕ) (x : List ℕ) (reason : Option ErrorCode) (place : Option (List ℕ)) → NotBegun (λ c. c == b.opening) x → Unexpected b.ends b.not_opened x reason place → NotOpened b level x reason place
 not_opened_here b level x reason place n at_end = text_ends
 not_opened_here b level x reason place n (at_char c r) = no_bracket c r n
 
 pub no_bracket_here : (b : Brackets) (comma : Bool) (x : List ℕ) (reason : Option ErrorCode) (place : Option (List ℕ)) → (comma ≡ true → NotBegun (λ c. c == 0x2C) x) → NotBegun (λ c. c == b.closing) x
-    → Unawaited b.ends b.not_closed x reason place → NoBracket b comma x reason place
+    → Unexpected b.ends b.not_closed x reason place → NoBracket b comma x reason place
 no_bracket_here b comma x reason place m n at_end = bracket_missing
 no_bracket_here b comma x reason place m n (at_char c r) = other_sign c r n m
 
 -- ---- what goes on
 
--- behind the gap stands a sign
-pub sign_next : (sign : ℕ) (x y z : List ℕ) → IsBehindGap x y → y ≡ sign ∷ z → IsSign sign x z
+-- after the gap stands a sign
+pub sign_next : (sign : ℕ) (x y z : List ℕ) → IsAfterGap x y → y ≡ sign ∷ z → IsSign sign x z
 sign_next sign x y z g e = sign_here sign x g.gap z (g.split ∙ ap (λ k. g.gap ++ k) e) (subst (Gap g.gap) e g.is_gap)
 
-pub no_sign_next : (sign : ℕ) (x y r : List ℕ) → is_solid sign ≡ true → IsBehindGap x y → NotBegun (λ c. c == sign) y → IsSign sign x r → ⊥
+pub no_sign_next : (sign : ℕ) (x y r : List ℕ) → is_solid sign ≡ true → IsAfterGap x y → NotBegun (λ c. c == sign) y → IsSign sign x r → ⊥
 no_sign_next sign x y r h g n s = no_sign sign x g.gap y r h g.split g.is_gap g.solid n s
 
 -- neither the comma that is due nor the bracket
-pub nowhere_next : (due : Bool) (x y : List ℕ) → due ≡ true → IsBehindGap x y → NotBegun (λ c. c == 0x2C) y → NotBegun (λ c. c == 0x5D) y → GoesNowhere due x
+pub nowhere_next : (due : Bool) (x y : List ℕ) → due ≡ true → IsAfterGap x y → NotBegun (λ c. c == 0x2C) y → NotBegun (λ c. c == 0x5D) y → GoesNowhere due x
 nowhere_next due x y is g m n = subst (λ b. GoesNowhere b x) (sym is) (nowhere_other x g.gap y g.split g.is_gap g.solid m n)
 
 -- a comment in front is at fault
 pub nowhere_faulty : (due : Bool) (s : State) (e : Error) → Refused FaultyBlanks (cursor_of s) e → GoesNowhere due s.unread
 nowhere_faulty due s e f = let (b, p, shown, fault) = f.fault in nowhere_blanks due s.unread b p f.reason f.place shown fault
 
--- a comment behind the comma is at fault
-pub nowhere_behind : (due : Bool) (s mid next : State) (e : Error) → due ≡ true → PassedGap s mid → NotBegun (λ c. c == 0x5D) mid.unread → TookText mid (0x2C ∷ []) next → Refused FaultyBlanks (cursor_of next) e → GoesNowhere due s.unread
-nowhere_behind due s mid next e is p n took f =
-    let g = behind_gap_of s mid p in
+-- a comment after the comma is at fault
+pub nowhere_after : (due : Bool) (s mid next : State) (e : Error) → due ≡ true → PassedGap s mid → NotBegun (λ c. c == 0x5D) mid.unread → TookText mid (0x2C ∷ []) next → Refused FaultyBlanks (cursor_of next) e → GoesNowhere due s.unread
+nowhere_after due s mid next e is p n took f =
+    let g = after_gap_of s mid p in
     subst (λ b. GoesNowhere b s.unread) (sym is)
     (nowhere_comma s.unread next.unread (sign_next 0x2C s.unread mid.unread next.unread g took.split) (nowhere_faulty false next e f) (λ r c. no_sign_next 0x5D s.unread mid.unread r bracket_solid g n c))
 
 pub only_read : (s t u : State) → OnlyRead s t → OnlyRead t u → OnlyRead s u
 only_read s t u a b = b ∙ ap (λ (m : State). record m { unread = u.unread }) a
 
--- the bracket or an element behind the comma
-pub goes_behind : (due is : Bool) (s mid next last : State) → due ≡ true → PassedGap s mid → TookText mid (0x2C ∷ []) next → PassedGap next last
+-- the bracket or an element after the comma
+pub goes_after : (due is : Bool) (s mid next last : State) → due ≡ true → PassedGap s mid → TookText mid (0x2C ∷ []) next → PassedGap next last
     → (is ≡ true → slice_get last.unread 0 ≡ Some 0x5D) → (is ≡ false → NotBegun (λ c. c == 0x5D) last.unread) → GoesOn due s last (not is)
-goes_behind due true s mid next last d p took q found other =
+goes_after due true s mid next last d p took q found other =
     let (r, split) = some_next last.unread 0x5D (found refl) in
-    let comma = sign_next 0x2C s.unread mid.unread next.unread (behind_gap_of s mid p) took.split in
-    let bracket = sign_next 0x5D next.unread last.unread r (behind_gap_of next last q) split in
+    let comma = sign_next 0x2C s.unread mid.unread next.unread (after_gap_of s mid p) took.split in
+    let bracket = sign_next 0x5D next.unread last.unread r (after_gap_of next last q) split in
     record {
       live = p.live;
       close = (r, subst (λ b. IsClose b s.unread r) (sym d) (inr (next.unread, comma, bracket)), split);
       rest = only_read s mid last p.rest (only_read mid next last took.rest q.rest);
     }
-goes_behind due false s mid next last d p took q found other =
-    let comma = sign_next 0x2C s.unread mid.unread next.unread (behind_gap_of s mid p) took.split in
+goes_after due false s mid next last d p took q found other =
+    let comma = sign_next 0x2C s.unread mid.unread next.unread (after_gap_of s mid p) took.split in
     record {
       live = p.live;
-      begun = subst (λ b. Begun b s.unread last.unread) (sym d) (next.unread, comma, behind_gap_of next last q);
+      begun = subst (λ b. Begun b s.unread last.unread) (sym d) (next.unread, comma, after_gap_of next last q);
       inside = other refl;
       rest = only_read s mid last p.rest (only_read mid next last took.rest q.rest);
     }
@@ -116,13 +116,13 @@ element_read true x y r t (z, comma, g) p = (z, comma, reads_here z g.gap y r t 
 -- and what stands there
 pub element_found : (due : Bool) (x y r : List ℕ) (t : Tree) → Begun due x y → IsElement due x t r → Reads y t r
 element_found false x y r t g p = reads_found x g.gap y r t g.split g.is_gap g.solid p
-element_found true x y r t (z, comma, g) (k, other, p) = reads_found z g.gap y r t g.split g.is_gap g.solid (behind_comma (λ q. Reads q t r) x z k comma other p)
+element_found true x y r t (z, comma, g) (k, other, p) = reads_found z g.gap y r t g.split g.is_gap g.solid (after_same_comma (λ q. Reads q t r) x z k comma other p)
 
 -- no bracket closes there
 pub no_close_found : (b : Brackets) → AreSigns b → (due : Bool) (x y r : List ℕ) → Begun due x y → NotBegun (λ c. c == b.closing) y → IsEnd b.closing due x r → ⊥
 no_close_found b k false x y r g n c = no_sign_next b.closing x y r k.closing g n c
 no_close_found b k true x y r (z, comma, g) n (inl c) = no_comma_end b.closing x z r k.closing k.no_comma comma c
-no_close_found b k true x y r (z, comma, g) n (inr (w, other, c)) = no_sign_next b.closing z y r k.closing g n (behind_comma (λ q. IsSign b.closing q r) x z w comma other c)
+no_close_found b k true x y r (z, comma, g) n (inr (w, other, c)) = no_sign_next b.closing z y r k.closing g n (after_same_comma (λ q. IsSign b.closing q r) x z w comma other c)
 
 pub took_element : (due : Bool) (s mid last : State) (t : Tree) → AtElement due s mid → TookValue mid t last → TookElement due s t last
 took_element due s mid last t at took = record {
@@ -145,21 +145,21 @@ square_signs = record {
 
 -- one open bracket too many
 pub too_deep_here : (b : Brackets) (level : ℕ) (s next : State) (e : Error) (p : Position) → level ≡ max_depth → TookText s (b.opening ∷ []) next → kind_of e ≡ code codes.TooDeep → place_of e ≡ Some p
-    → ((before : List ℕ) → s.input ≡ before ++ s.unread → p ≡ position_behind before) → Refused (NotOpened b level) (cursor_of s) e
+    → ((before : List ℕ) → s.input ≡ before ++ s.unread → p ≡ position_after before) → Refused (NotOpened b level) (cursor_of s) e
 too_deep_here b level s next e p full took kind place there = record {
   reason = Some codes.TooDeep;
   place = Some [];
   fault = subst (λ x. NotOpened b level x (Some codes.TooDeep) (Some [])) (sym took.split) (too_deep next.unread full);
   says = kind;
-  placed = λ before split. place ∙ ap (λ q. Some q) (there before split) ∙ ap (λ q. Some (position_behind q)) (sym (append-nil before));
+  placed = λ before split. place ∙ ap (λ q. Some q) (there before split) ∙ ap (λ q. Some (position_after q)) (sym (append-nil before));
 }
 
 -- ---- no closing
 
 pub no_close_next : (b : Brackets) → AreSigns b → (due : Bool) (s mid : State) (r : List ℕ) → PassedGap s mid → (due ≡ true → NotBegun (λ c. c == 0x2C) mid.unread) → NotBegun (λ c. c == b.closing) mid.unread → IsEnd b.closing due s.unread r → ⊥
-no_close_next b k false s mid r p m n c = no_sign_next b.closing s.unread mid.unread r k.closing (behind_gap_of s mid p) n c
-no_close_next b k true s mid r p m n (inl c) = no_sign_next b.closing s.unread mid.unread r k.closing (behind_gap_of s mid p) n c
-no_close_next b k true s mid r p m n (inr (y, comma, c)) = no_sign_next 0x2C s.unread mid.unread y comma_solid (behind_gap_of s mid p) (m refl) comma
+no_close_next b k false s mid r p m n c = no_sign_next b.closing s.unread mid.unread r k.closing (after_gap_of s mid p) n c
+no_close_next b k true s mid r p m n (inl c) = no_sign_next b.closing s.unread mid.unread r k.closing (after_gap_of s mid p) n c
+no_close_next b k true s mid r p m n (inr (y, comma, c)) = no_sign_next 0x2C s.unread mid.unread y comma_solid (after_gap_of s mid p) (m refl) comma
 
 -- a comment in front is at fault
 pub no_close_faulty : (b : Brackets) → AreSigns b → (due : Bool) (s : State) (e : Error) (r : List ℕ) → Refused FaultyBlanks (cursor_of s) e → IsEnd b.closing due s.unread r → ⊥
@@ -167,16 +167,16 @@ no_close_faulty b k false s e r f c = let (w, p, shown, fault) = f.fault in no_s
 no_close_faulty b k true s e r f (inl c) = let (w, p, shown, fault) = f.fault in no_sign_in_blanks b.closing s.unread w p r f.reason f.place shown k.closing fault c
 no_close_faulty b k true s e r f (inr (y, comma, c)) = let (w, p, shown, fault) = f.fault in no_sign_in_blanks 0x2C s.unread w p y f.reason f.place shown comma_solid fault comma
 
--- behind the comma
-pub no_close_behind : (b : Brackets) → AreSigns b → (due : Bool) (s mid next : State) (r : List ℕ) → due ≡ true → PassedGap s mid → TookText mid (0x2C ∷ []) next → (IsSign b.closing next.unread r → ⊥) → IsEnd b.closing due s.unread r → ⊥
-no_close_behind b k due s mid next r d p took n c = by (subst (λ t. IsEnd b.closing t s.unread r) d c)
+-- after the comma
+pub no_close_after : (b : Brackets) → AreSigns b → (due : Bool) (s mid next : State) (r : List ℕ) → due ≡ true → PassedGap s mid → TookText mid (0x2C ∷ []) next → (IsSign b.closing next.unread r → ⊥) → IsEnd b.closing due s.unread r → ⊥
+no_close_after b k due s mid next r d p took n c = by (subst (λ t. IsEnd b.closing t s.unread r) d c)
   where
     comma : IsSign 0x2C s.unread next.unread
-    comma = sign_next 0x2C s.unread mid.unread next.unread (behind_gap_of s mid p) took.split
+    comma = sign_next 0x2C s.unread mid.unread next.unread (after_gap_of s mid p) took.split
 
     by : IsEnd b.closing true s.unread r → ⊥
     by (inl q) = no_comma_end b.closing s.unread next.unread r k.closing k.no_comma comma q
-    by (inr (y, other, q)) = n (behind_comma (λ z. IsSign b.closing z r) s.unread next.unread y comma other q)
+    by (inr (y, other, q)) = n (after_same_comma (λ z. IsSign b.closing z r) s.unread next.unread y comma other q)
 
 pub ok_unless : {V E : Type 0} {P : E → Type 0} (result : Result V E) → IfErr result P → ((e : E) → P e → ⊥) → IsOk result
 ok_unless (Ok v) k h = refl
@@ -186,22 +186,22 @@ ok_unless (Err e) k h = absurd (h e k)
 
 -- where no comma stands, or none may
 pub refused_bracket : (b : Brackets) (due : Bool) (s mid at : State) (e : Error) → PassedGap s mid → at ≡ mid → (due ≡ true → NotBegun (λ c. c == 0x2C) mid.unread)
-    → Refused (Unawaited b.ends b.not_closed) (cursor_of at) e × NotBegun (λ c. c == b.closing) at.unread → RefusedBy (NotClosed b due) s e
+    → Refused (Unexpected b.ends b.not_closed) (cursor_of at) e × NotBegun (λ c. c == b.closing) at.unread → RefusedBy (NotClosed b due) s e
 refused_bracket b due s mid at e p same m (f, n) =
     refused_token s mid e p (refused_as at mid e same (λ reason place k. not_here (no_bracket_here b due mid.unread reason place m (subst (NotBegun (λ c. c == b.closing)) (unread_of same) n) k)) f)
 
--- behind the comma
-pub refused_bracket_behind : (b : Brackets) (due : Bool) (s mid next far : State) (e : Error) → due ≡ true → PassedGap s mid → TookText mid (0x2C ∷ []) next → PassedGap next far
-    → Refused (Unawaited b.ends b.not_closed) (cursor_of far) e × NotBegun (λ c. c == b.closing) far.unread → RefusedBy (NotClosed b due) s e
-refused_bracket_behind b due s mid next far e d p took q (f, n) =
-    let there : Refused (Behind (NoBracket b false)) (cursor_of next) e =
+-- after the comma
+pub refused_bracket_after : (b : Brackets) (due : Bool) (s mid next far : State) (e : Error) → due ≡ true → PassedGap s mid → TookText mid (0x2C ∷ []) next → PassedGap next far
+    → Refused (Unexpected b.ends b.not_closed) (cursor_of far) e × NotBegun (λ c. c == b.closing) far.unread → RefusedBy (NotClosed b due) s e
+refused_bracket_after b due s mid next far e d p took q (f, n) =
+    let there : Refused (AfterBlanks (NoBracket b false)) (cursor_of next) e =
     refused_token next far e q (refused_as far far e refl (λ reason place k. no_bracket_here b false far.unread reason place (λ is. absurd (true_false is refl)) n k) f) q.live in
-    refused_token s mid e p (refused_behind mid next e (0x2C ∷ []) took (λ reason place k. comma_before d k) there)
+    refused_token s mid e p (refused_after mid next e (0x2C ∷ []) took (λ reason place k. comma_before d k) there)
 
--- a faulty comment behind the comma
-pub refused_blanks_behind : (b : Brackets) (due : Bool) (s mid next : State) (e : Error) → due ≡ true → PassedGap s mid → TookText mid (0x2C ∷ []) next → (next.failed ≡ false → Refused FaultyBlanks (cursor_of next) e) → RefusedBy (NotClosed b due) s e
-refused_blanks_behind b due s mid next e d p took f =
-    refused_token s mid e p (refused_behind mid next e (0x2C ∷ []) took (λ reason place k. comma_before d (in_blanks k)) (f (failed_of took.rest ∙ failed_of p.rest ∙ p.live)))
+-- a faulty comment after the comma
+pub refused_blanks_after : (b : Brackets) (due : Bool) (s mid next : State) (e : Error) → due ≡ true → PassedGap s mid → TookText mid (0x2C ∷ []) next → (next.failed ≡ false → Refused FaultyBlanks (cursor_of next) e) → RefusedBy (NotClosed b due) s e
+refused_blanks_after b due s mid next e d p took f =
+    refused_token s mid e p (refused_after mid next e (0x2C ∷ []) took (λ reason place k. comma_before d (in_blanks k)) (f (failed_of took.rest ∙ failed_of p.rest ∙ p.live)))
 
 -- ---- no opening
 
@@ -211,9 +211,9 @@ opens_begun b level x r reason place e room text_ends = absurd (cc)
 opens_begun b level x r reason place e room (too_deep q full) = omega (arith, room, full)
 
 -- what is there is opened, within the limit
-pub no_opening_refusal : (b : Brackets) → AreSigns b → (level : ℕ) (x r : List ℕ) (reason : Option ErrorCode) (place : Option (List ℕ)) → IsSign b.opening x r → level < max_depth → Behind (NotOpened b level) x reason place → ⊥
+pub no_opening_refusal : (b : Brackets) → AreSigns b → (level : ℕ) (x r : List ℕ) (reason : Option ErrorCode) (place : Option (List ℕ)) → IsSign b.opening x r → level < max_depth → AfterBlanks (NotOpened b level) x reason place → ⊥
 no_opening_refusal b k level x r reason place o room (in_blanks (w, p, shown, f)) = no_sign_in_blanks b.opening x w p r reason place shown k.opening f o
-no_opening_refusal b k level x r reason place o room (behind_gap {w = w} {x = y} {place = q} g s f) =
+no_opening_refusal b k level x r reason place o room (after_gap {w = w} {x = y} {place = q} g s f) =
     opens_begun b level y r reason q (sign_found b.opening (w ++ y) w y r k.opening refl g s o) room f
 
 pub opening_refused : (b : Brackets) → AreSigns b → (s : State) (e : Error) (r : List ℕ) → RefusedBy (NotOpened b s.level) s e → s.failed ≡ false → IsSign b.opening s.unread r → s.level < max_depth → ⊥

@@ -10,7 +10,7 @@ use Rattle.json5_grammar.specs.Documents.{Doc, max_depth}
 use Rattle.json5_grammar.proofs.Unique.{document_phrase, phrase_document, one_phrase}
 use Rattle.json5_de.specs.State.{State}
 use Rattle.json5_de.specs.Law.{TookValue, Gives, Completes}
-use Rattle.json5_de.specs.Faults.{Behind, AtEnd, RefusedBy, Trailing}
+use Rattle.json5_de.specs.Faults.{AfterBlanks, AtEnd, RefusedBy, Trailing}
 use Rattle.json5_de.specs.Texts.{at_start}
 use Rattle.json5_de.proofs.Taken.{input_of}
 use Rattle.std.proofs.lemmas.Option.{same_Some}
@@ -53,22 +53,22 @@ the_document s mid x t u e doc took =
 abbrev cursor_at : List ℕ → List ℕ → Cursor
 cursor_at x r = record { input = x; unread = r }
 
-pub live_behind : (s mid : State) (x : List ℕ) (u : Tree) → s ≡ at_start x → TookValue s u mid → mid.failed ≡ false
-live_behind s mid x u e took = failed_of took.rest ∙ failed_of e
+pub live_after : (s mid : State) (x : List ℕ) (u : Tree) → s ≡ at_start x → TookValue s u mid → mid.failed ≡ false
+live_after s mid x u e took = failed_of took.rest ∙ failed_of e
 
--- a value that converts isn't refused, want of memory aside
+-- a value that converts isn't refused, unless memory runs out
 pub blames_value : (V : Type 0) {C : Type 0} {convert : Tree → Option C} (s : State) (x : List ℕ) (t : Tree) (r : List ℕ) (c : C) (e : Error) → s ≡ at_start x → Reads x t r → depth t ≤ max_depth → convert t ≡ Some c → Completes {V = V} convert s (Err e)
-    → IsOutOfMemory e ⊎ Refused (Behind Trailing) (record { input = x; unread = r }) e
+    → IsOutOfMemory e ⊎ Refused (AfterBlanks Trailing) (record { input = x; unread = r }) e
 blames_value V s x t r c e is reads shallow converts complete =
     inl (complete t r c (failed_of is) (subst (λ z. Reads z t r) (sym (ap (λ (s : State). s.unread) is)) reads) (let level = ap (λ (s : State). s.level) is in omega (arith, level, shallow)) converts)
 
 -- what stands after it is
 pub blames_rest : (s mid : State) (x : List ℕ) (t u : Tree) (r : List ℕ) (e : Error) → s ≡ at_start x → Reads x t r → TookValue s u mid → RefusedBy Trailing mid e
-    → IsOutOfMemory e ⊎ Refused (Behind Trailing) (record { input = x; unread = r }) e
+    → IsOutOfMemory e ⊎ Refused (AfterBlanks Trailing) (record { input = x; unread = r }) e
 blames_rest s mid x t u r e is reads took f =
     let (same_tree, rest) = one_phrase x r mid.unread t u reads (subst (λ z. Reads z u mid.unread) (ap (λ (s : State). s.unread) is) took.reads) in
     let input = input_of took.rest ∙ ap (λ (s : State). s.input) is in
-    inr (subst (λ k. Refused (Behind Trailing) k e) (cursor input (sym rest)) (f (live_behind s mid x u is took)))
+    inr (subst (λ k. Refused (AfterBlanks Trailing) k e) (cursor input (sym rest)) (f (live_after s mid x u is took)))
   where
     cursor : {a b c d : List ℕ} → a ≡ b → c ≡ d → cursor_at a c ≡ cursor_at b d
     cursor {b = b} {c = c} i u = ap (λ z. cursor_at z c) i ∙ ap (λ z. cursor_at b z) u

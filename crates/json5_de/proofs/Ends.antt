@@ -12,7 +12,7 @@ use Rattle.json5_text.specs.Tokens.{FaultyBlanks}
 use Rattle.json5_de.specs.State.{State, cursor_of}
 use Rattle.json5_de.specs.Faults.{AtEnd, Trailing, trailing, RefusedBy}
 use Rattle.json5_de.specs.Steps.{PassedGap}
-use Rattle.json5_de.proofs.Awaited.{no_end_fault}
+use Rattle.json5_de.proofs.Expected.{no_end_fault}
 use Rattle.json5_de.proofs.Taken.{refused_token}
 
 pub some_left : (x : List ℕ) → is_some (slice_get x 0) ≡ true → (c : ℕ) × (r : List ℕ) × (x ≡ c ∷ r)
@@ -26,7 +26,7 @@ none_left (c ∷ r) e = absurd (cc)
 pub peeked : (x : List ℕ) (o : Option ℕ) (b v : Bool) → b ≡ v → b ≡ is_some o → o ≡ slice_get x 0 → is_some (slice_get x 0) ≡ v
 peeked x o b v test is_it at = ap is_some (sym at) ∙ sym is_it ∙ test
 
--- what is left behind the gap at the end
+-- what is left after the gap at the end
 end_left : (old mid : State) → PassedGap old mid → AtEnd old → mid.unread ≡ []
 end_left old mid p (live, last) = (gap_last old.unread p.gap mid.unread last p.is_gap p.solid p.split).1
 

@@ -1,6 +1,6 @@
-pub mod Awaited
+pub mod Expected
 pub mod Words
-pub mod Awaits
+pub mod Expects
 pub mod Taken
 pub mod Places
 pub mod Arrays
@@ -8,14 +8,14 @@ pub mod Options
 pub mod Elements
 pub mod SoMany
 pub mod Offsets
-pub mod AwaitsNumbers
+pub mod ExpectsNumbers
 pub mod Mismatches
 pub mod Ends
-pub mod AwaitsTexts
+pub mod ExpectsTexts
 pub mod Documents
 pub mod TextScalars
 pub mod WholeDecimals
-pub mod ScalarsAwaited
+pub mod ScalarsExpected
 pub mod WithoutMemory
 pub mod ArrayCodes
 pub mod OtherCodes

@@ -4,7 +4,7 @@ use Rattle.std.specs.Prelude.{Result, Ok, Err, IfErr, IsErrAnd}
 use Rattle.std.specs.Str.{encode_utf8_all}
 use Rattle.std.proofs.lemmas.List.{append-nil}
 use Rattle.json5_grammar.specs.declared.code.ErrorCode.{ErrorCode}
-use Rattle.json5_grammar.specs.Positions.{position_behind}
+use Rattle.json5_grammar.specs.Positions.{position_after}
 use Rattle.json5_grammar.specs.Numbers.{Number, Num}
 use Rattle.json5_grammar.specs.Strings.{Str}
 use Rattle.json5_grammar.specs.Values.{Stops}
@@ -28,7 +28,7 @@ mismatched old mid new e start s p k at fault (inr (says, placed)) =
       place = Some [];
       fault = fault;
       says = says;
-      placed = λ before whole. subst (λ z. place_of e ≡ Some (position_behind z)) (sym (append-nil before)) (placed before mid.unread (input_of k.rest ∙ whole) (at before whole));
+      placed = λ before whole. subst (λ z. place_of e ≡ Some (position_after z)) (sym (append-nil before)) (placed before mid.unread (input_of k.rest ∙ whole) (at before whole));
     }))
 
 pub refused_number : {V C : Type 0} (f : Number → Option C) (old mid new : State) (result : Result V Error) (start : ℕ) (s : List ℕ) (n : Number) → PassedGap old mid → TookText mid s new → Num s n → Stops s new.unread → f n ≡ None

@@ -9,12 +9,12 @@ use Rattle.json5_grammar.proofs.MembersRead.{comma_solid}
 use Rattle.json5_text.specs.declared.error.Error.{Error}
 use Rattle.json5_text.specs.Errors.{code, kind_of, place_of, or_place}
 use Rattle.json5_de.specs.State.{State, OnlyRead, SameText}
-use Rattle.json5_de.specs.Faults.{AtEnd, AtOther, IsUnplaced, IsBehind}
-use Rattle.json5_de.specs.Access.{Seen, bare, Opened, TookElement, AtClose, GivesElement, StartsBehind, PlacedAtBracket, IsAtBracket, is_comma_or_closing}
+use Rattle.json5_de.specs.Faults.{AtEnd, AtOther, IsUnplaced, IsAfter}
+use Rattle.json5_de.specs.Access.{Seen, bare, Opened, TookElement, AtClose, GivesElement, StartsAfter, PlacedAtBracket, IsAtBracket, is_comma_or_closing}
 use Rattle.json5_de.specs.Brackets.{square}
 use Rattle.json5_de.specs.Seq.{RefusesElement, not_reached, in_element, RefusesNext}
-use Rattle.json5_de.proofs.Awaited.{end_fault, other_fault}
-use Rattle.json5_de.proofs.ArrayCodes.{awaits_more, end_no_sign, other_no_sign, end_goes_nowhere, other_goes_nowhere}
+use Rattle.json5_de.proofs.Expected.{end_fault, other_fault}
+use Rattle.json5_de.proofs.ArrayCodes.{expects_more, end_no_sign, other_no_sign, end_goes_nowhere, other_goes_nowhere}
 use Rattle.std.proofs.lemmas.Bool.{or_parts}
 use Rattle.json5_grammar.proofs.Basics.{true_false}
 
@@ -100,13 +100,13 @@ refuses_next refuses old new after own e cause other before p failed = record {
 }
   where
     at_end : RefusesElement refuses old.due old.reader own after → old.due ≡ true → AtEnd old.reader → (kind_of e ≡ code codes.EofParsingArray) × IsAtBracket old e
-    at_end (not_reached f) d at = let (says, none) = end_fault (awaits_more old.due) old.reader own at f in (p.kind ∙ says, λ b s. p.place ∙ ap (λ o. or_place o p.there) none ∙ ap Some (p.is_there b s))
+    at_end (not_reached f) d at = let (says, none) = end_fault (expects_more old.due) old.reader own at f in (p.kind ∙ says, λ b s. p.place ∙ ap (λ o. or_place o p.there) none ∙ ap Some (p.is_there b s))
     at_end (in_element start there k) d at = absurd (end_goes_nowhere old.due true old.reader start d at there)
 
-    at_other : RefusesElement refuses old.due old.reader own after → old.due ≡ true → (w : List ℕ) → AtOther is_comma_or_closing old.reader w → IsBehind codes.ExpectedComma old.reader w e
-    at_other (not_reached f) d w o = let (says, placed) = other_fault (awaits_more old.due) old.reader own w o f in (p.kind ∙ says, λ b split. place_kept own e p.there _ p.place (placed b split))
+    at_other : RefusesElement refuses old.due old.reader own after → old.due ≡ true → (w : List ℕ) → AtOther is_comma_or_closing old.reader w → IsAfter codes.ExpectedComma old.reader w e
+    at_other (not_reached f) d w o = let (says, placed) = other_fault (expects_more old.due) old.reader own w o f in (p.kind ∙ says, λ b split. place_kept own e p.there _ p.place (placed b split))
     at_other (in_element start there k) d w o = absurd (other_goes_nowhere old.due true old.reader start w d o there)
 
 -- the bracket stands where it stood, since the text is the same
-pub at_same_text : (old after last : State) {start : ℕ} {before : List ℕ} → SameText old after → last ≡ record after { failed = true } → StartsBehind old.input start before → StartsBehind last.input start before
-at_same_text old after last {start = start} {before = before} same blocked b = subst (λ x. StartsBehind x start before) (sym (ap (λ (s : State). s.input) blocked ∙ same)) b
+pub at_same_text : (old after last : State) {start : ℕ} {before : List ℕ} → SameText old after → last ≡ record after { failed = true } → StartsAfter old.input start before → StartsAfter last.input start before
+at_same_text old after last {start = start} {before = before} same blocked b = subst (λ x. StartsAfter x start before) (sym (ap (λ (s : State). s.input) blocked ∙ same)) b

@@ -10,14 +10,14 @@ use Rattle.json5_de.specs.Faults.{RefusedBy, IsUnplaced}
 use Rattle.json5_de.specs.declared.brackets.Brackets.{Brackets}
 use Rattle.json5_de.specs.Brackets.{AreSigns}
 use Rattle.json5_de.specs.Access.{Seen, Opened, Closed, NotOpened, NotClosed, OpensAs, ClosesAs}
-use Rattle.json5_de.proofs.Awaited.{end_fault, other_fault}
+use Rattle.json5_de.proofs.Expected.{end_fault, other_fault}
 use Rattle.json5_grammar.specs.Documents.{max_depth}
 use Rattle.json5_de.specs.Steps.{PassedGap, TookText}
 use Rattle.json5_de.proofs.Taken.{input_of}
 use Rattle.json5_de.proofs.OtherCodes.{opening_lacks, closing_lacks}
 use Rattle.json5_de.proofs.Rows.{refused_other}
-use Rattle.json5_de.proofs.Arrays.{opening_refused, only_read, level_of, unread_of, sign_next, behind_gap_of}
-use Rattle.json5_de.proofs.ArrayCodes.{awaits_opening, awaits_closing, full_fault, end_no_sign, other_no_sign, end_not_closed, other_not_closed}
+use Rattle.json5_de.proofs.Arrays.{opening_refused, only_read, level_of, unread_of, sign_next, after_gap_of}
+use Rattle.json5_de.proofs.ArrayCodes.{expects_opening, expects_closing, full_fault, end_no_sign, other_no_sign, end_not_closed, other_not_closed}
 use Rattle.json5_grammar.proofs.Basics.{true_false}
 
 pub opens : {A : Type 0} (b : Brackets) → AreSigns b → (seen : A → Seen) (old : State) (a : A) → Opened b old (seen a).reader → (seen a).due ≡ false
@@ -40,8 +40,8 @@ refuses_opening b k seen old e f before = record {
   start = tt;
   complete = λ r live sign room. absurd (opening_refused b k old e r f live sign room);
   refused = f;
-  ends = λ at. end_fault (awaits_opening b old.level) old e at f;
-  differs = λ w o. other_fault (awaits_opening b old.level) old e w o f;
+  ends = λ at. end_fault (expects_opening b old.level) old e at f;
+  differs = λ w o. other_fault (expects_opening b old.level) old e w o f;
   too_deep = λ w at. full_fault b k old e w at f;
   unprompted = refused_other (opening_lacks b k old.level) old e f;
   before = before;
@@ -67,8 +67,8 @@ refuses_closing b k due old new e f complete before = record {
   closed = tt;
   complete = complete;
   refused = f;
-  ends = λ at. end_fault (awaits_closing b due) old e at f;
-  differs = λ w o. other_fault (awaits_closing b due) old e w o f;
+  ends = λ at. end_fault (expects_closing b due) old e at f;
+  differs = λ w o. other_fault (expects_closing b due) old e w o f;
   unprompted = refused_other (closing_lacks b k due) old e f;
   before = before;
 }
@@ -95,7 +95,7 @@ opened_here b old mid next last p took (room, entered) =
     record {
       live = p.live;
       room = omega (arith, level, room);
-      bracket = sign_next b.opening old.unread mid.unread last.unread (behind_gap_of old mid p) (took.split ∙ ap (λ z. b.opening ∷ z) (sym (unread_of entered)));
+      bracket = sign_next b.opening old.unread mid.unread last.unread (after_gap_of old mid p) (took.split ∙ ap (λ z. b.opening ∷ z) (sym (unread_of entered)));
       rest = counted ∙ ap (λ x. record old { unread = x; level = old.level + 1 }) (sym (unread_of entered));
     }
 
@@ -104,13 +104,13 @@ pub starts_here : (b : Brackets) (old mid next last : State) (start : ℕ) → P
 starts_here b old mid next last start p took entered counted before split =
     counted before (input_of p.rest ∙ split ∙ ap (λ z. before ++ z) (sym (took.split ∙ ap (λ z. b.opening ∷ z) (sym (unread_of entered)))))
 
--- a bracket that was taken behind the comma
-pub closed_behind : {V : Type 0} (b : Brackets) (due : Bool) (old mid next far last : State) (result : Result V Error) → due ≡ true → PassedGap old mid → TookText mid (0x2C ∷ []) next → PassedGap next far
+-- a bracket that was taken after the comma
+pub closed_after : {V : Type 0} (b : Brackets) (due : Bool) (old mid next far last : State) (result : Result V Error) → due ≡ true → PassedGap old mid → TookText mid (0x2C ∷ []) next → PassedGap next far
     → OnOk result ((far.unread ≡ b.closing ∷ last.unread) × (last ≡ record far { unread = last.unread; level = far.level - 1 })) → OnOk result (Closed b due old last)
-closed_behind b due old mid next far last (Err e) d p took q k = tt
-closed_behind b due old mid next far last (Ok v) d p took q (split, left) =
-    let comma = sign_next 0x2C old.unread mid.unread next.unread (behind_gap_of old mid p) took.split in
-    let bracket = sign_next b.closing next.unread far.unread last.unread (behind_gap_of next far q) split in
+closed_after b due old mid next far last (Err e) d p took q k = tt
+closed_after b due old mid next far last (Ok v) d p took q (split, left) =
+    let comma = sign_next 0x2C old.unread mid.unread next.unread (after_gap_of old mid p) took.split in
+    let bracket = sign_next b.closing next.unread far.unread last.unread (after_gap_of next far q) split in
     let read = only_read old mid far p.rest (only_read mid next far took.rest q.rest) in
     record {
       live = p.live;

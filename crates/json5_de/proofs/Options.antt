@@ -26,8 +26,8 @@ use Rattle.json5_de.specs.Convert.{unit_of}
 use Rattle.json5_de.specs.ConvertLists.{option_of, if_some}
 use Rattle.json5_de.specs.Faults.{AtEnd, AtOther, RefusedBy, IsUnplaced, FaultyNull}
 use Rattle.json5_de.specs.Steps.{PassedGap}
-use Rattle.json5_de.specs.Access.{Unawaited, at_end, at_char}
-use Rattle.json5_de.proofs.Awaited.{Awaited}
+use Rattle.json5_de.specs.Access.{Unexpected, at_end, at_char}
+use Rattle.json5_de.proofs.Expected.{Expected}
 use Rattle.json5_de.proofs.Arrays.{only_read, level_of}
 use Rattle.json5_de.proofs.Taken.{input_of, refused_token}
 use Rattle.json5_de.proofs.OtherCodes.{option_lacks}
@@ -38,19 +38,19 @@ pub not_nil : (c : ℕ) (x y : List ℕ) → y ≡ c ∷ x → y ≡ [] → ⊥
 not_nil c x y e k = let none : c ∷ x ≡ [] = sym e ∙ k in absurd (cc)
 
 -- nothing but the end or a character is told apart
-pub awaits_nothing : {ends differs : ErrorCode} (begins : ℕ → Bool) → Awaited {C = Unit {0}} (Unawaited ends differs) (λ t. None) begins ends differs
-awaits_nothing {ends = ends} {differs = differs} begins = record {
+pub expects_nothing : {ends differs : ErrorCode} (begins : ℕ → Bool) → Expected {C = Unit {0}} (Unexpected ends differs) (λ t. None) begins ends differs
+expects_nothing {ends = ends} {differs = differs} begins = record {
   at_end = λ reason place f. none [] reason place refl f;
   at_other = λ c r reason place h f. some (c ∷ r) c r reason place refl f;
   no_fault = λ s r t v reason place e k stops f. absurd (cc);
   first = λ s t v e k. absurd (cc);
 }
   where
-    none : (x : List ℕ) (reason : Option ErrorCode) (place : Option (List ℕ)) → x ≡ [] → Unawaited ends differs x reason place → (reason ≡ Some ends) × (place ≡ None)
+    none : (x : List ℕ) (reason : Option ErrorCode) (place : Option (List ℕ)) → x ≡ [] → Unexpected ends differs x reason place → (reason ≡ Some ends) × (place ≡ None)
     none x reason place e at_end = (refl, refl)
     none x reason place e (at_char c r) = absurd (cc)
 
-    some : (x : List ℕ) (c : ℕ) (r : List ℕ) (reason : Option ErrorCode) (place : Option (List ℕ)) → x ≡ c ∷ r → Unawaited ends differs x reason place → (reason ≡ Some differs) × (place ≡ Some [])
+    some : (x : List ℕ) (c : ℕ) (r : List ℕ) (reason : Option ErrorCode) (place : Option (List ℕ)) → x ≡ c ∷ r → Unexpected ends differs x reason place → (reason ≡ Some differs) × (place ≡ Some [])
     some x c r reason place e at_end = absurd (cc)
     some x c r reason place e (at_char d q) = (refl, refl)
 
@@ -140,9 +140,9 @@ option_parts f (object ps) v n e = some_of (f (object ps)) v e
 pub null_unit : (t : Tree) → t ≡ null → unit_of t ≡ Some tt
 null_unit t e = ap unit_of e
 
--- a value that was read behind the blanks was read
-pub took_behind : (s mid new : State) (t : Tree) → PassedGap s mid → TookValue mid t new → TookValue s t new
-took_behind s mid new t p took = record {
+-- a value that was read after the blanks was read
+pub took_after : (s mid new : State) (t : Tree) → PassedGap s mid → TookValue mid t new → TookValue s t new
+took_after s mid new t p took = record {
   live = p.live;
   reads = reads_here s.unread p.gap mid.unread new.unread t p.split p.is_gap took.reads;
   shallow = let level = level_of p.rest in let deep = took.shallow in omega (arith, level, deep);

@@ -6,14 +6,14 @@ use Rattle.json5_grammar.specs.Blanks.{BlankFault, CommentFault, in_comment, no_
 use Rattle.json5_grammar.specs.Codes.{Shown}
 use Rattle.json5_grammar.specs.NumberFaults.{NumberFault, number_word_differs, number_word_ends, sign_without_number, sign_ends, no_hexadecimal_digit, hexadecimal_ends, hexadecimal_overflows, negative_too_large, not_a_literal, literal_overflows, leading_zero}
 use Rattle.json5_grammar.specs.Numbers.{Number}
-use Rattle.json5_grammar.specs.StringFaults.{StringFault, EscapeFault, raw_terminator, string_ends, in_escape, digit_behind_nul, escaped_digit, no_escape_digit, no_second_escape, unpaired, escape_ends}
+use Rattle.json5_grammar.specs.StringFaults.{StringFault, EscapeFault, raw_terminator, string_ends, in_escape, digit_after_nul, escaped_digit, no_escape_digit, no_second_escape, unpaired, escape_ends}
 use Rattle.json5_text.specs.Tokens.{FaultyString, no_quote, string_missing, FaultyWord, word_differs, word_ends, FaultyNumber, faulty, no_number, number_missing}
-use Rattle.json5_de.specs.Faults.{Behind, in_blanks, behind_gap, NotNumber, faulty_number, other_number, NotText, faulty_text, other_text, Trailing, trailing}
+use Rattle.json5_de.specs.Faults.{AfterBlanks, in_blanks, after_gap, NotNumber, faulty_number, other_number, NotText, faulty_text, other_text, Trailing, trailing}
 use Rattle.json5_de.specs.Scalars.{FaultyScalar, scalar_missing, no_scalar, in_null, in_true, in_false, in_text, in_number}
 use Rattle.json5_de.specs.declared.brackets.Brackets.{Brackets}
 use Rattle.json5_de.specs.Brackets.{AreSigns}
-use Rattle.json5_de.specs.Access.{NotClosed, NoBracket, other_sign, bracket_missing, not_here, behind_comma, NotOpened, no_bracket, text_ends, too_deep}
-use Rattle.json5_de.specs.Seq.{NoNext, no_comma, list_ends, in_blanks_behind}
+use Rattle.json5_de.specs.Access.{NotClosed, NoBracket, other_sign, bracket_missing, not_here, after_comma, NotOpened, no_bracket, text_ends, too_deep}
+use Rattle.json5_de.specs.Seq.{NoNext, no_comma, list_ends, in_blanks_after}
 use Rattle.json5_de.specs.Options.{NoOption, option_missing, faulty_null}
 use Rattle.json5_grammar.specs.Values.{null_text, true_text, false_text}
 
@@ -29,9 +29,9 @@ in_comment_other (block_ends i) e = absurd (cc)
 pub in_blanks_other : {x before part : List ℕ} {reason : Option ErrorCode} {place : Option (List ℕ)} {shown : Shown} → BlankFault x reason place before part shown → reason ≢ Some codes.Failed
 in_blanks_other (in_comment b f) = in_comment_other f
 
-pub behind_lacks : {F : List ℕ → Option ErrorCode → Option (List ℕ) → Type 0} → Lacks F → Lacks (Behind F)
-behind_lacks l x reason place (in_blanks (before, part, shown, fault)) = in_blanks_other fault
-behind_lacks l x reason place (behind_gap {x = y} {place = p} g s f) = l y reason p f
+pub after_lacks : {F : List ℕ → Option ErrorCode → Option (List ℕ) → Type 0} → Lacks F → Lacks (AfterBlanks F)
+after_lacks l x reason place (in_blanks (before, part, shown, fault)) = in_blanks_other fault
+after_lacks l x reason place (after_gap {x = y} {place = p} g s f) = l y reason p f
 
 pub word_lacks : (w : List ℕ) (ends differs : ErrorCode) → ends ≢ codes.Failed → differs ≢ codes.Failed → Lacks (FaultyWord w ends differs)
 word_lacks w ends differs a b x reason place (word_differs p q r c d e h) k = b cc
@@ -62,7 +62,7 @@ number_lacks f x reason place (other_number r k stops none) = λ e. absurd (cc)
 -- ---- texts
 
 in_escape_other : {in_string : Bool} {x part : List ℕ} {reason : Option ErrorCode} {place : Option (List ℕ)} {shown : Shown} → EscapeFault in_string x reason place part shown → reason ≢ Some codes.Failed
-in_escape_other (digit_behind_nul r h) e = absurd (cc)
+in_escape_other (digit_after_nul r h) e = absurd (cc)
 in_escape_other (escaped_digit r h) e = absurd (cc)
 in_escape_other (no_escape_digit c r i h) e = absurd (cc)
 in_escape_other (no_second_escape c r a h) e = absurd (cc)
@@ -105,7 +105,7 @@ bracket_lacks b k comma x reason place bracket_missing = some_other b.ends k.oth
 
 pub closing_lacks : (b : Brackets) → AreSigns b → (due : Bool) → Lacks (NotClosed b due)
 closing_lacks b k due x reason place (not_here f) = bracket_lacks b k due x reason place f
-closing_lacks b k due x reason place (behind_comma {x = y} {place = p} h f) = behind_lacks (bracket_lacks b k false) y reason p f
+closing_lacks b k due x reason place (after_comma {x = y} {place = p} h f) = after_lacks (bracket_lacks b k false) y reason p f
 
 pub opening_lacks : (b : Brackets) → AreSigns b → (level : ℕ) → Lacks (NotOpened b level)
 opening_lacks b k level x reason place (no_bracket c r h) = some_other b.not_opened k.other_not_opened
@@ -117,7 +117,7 @@ opening_lacks b k level x reason place (too_deep r full) = λ e. absurd (cc)
 pub next_lacks : (due : Bool) → Lacks (NoNext due)
 next_lacks due x reason place (no_comma c r d h k) = λ e. absurd (cc)
 next_lacks due x reason place (list_ends d) = λ e. absurd (cc)
-next_lacks due x reason place (in_blanks_behind d (before, part, shown, fault)) = in_blanks_other fault
+next_lacks due x reason place (in_blanks_after d (before, part, shown, fault)) = in_blanks_other fault
 
 -- ---- where an option or the end is expected
 

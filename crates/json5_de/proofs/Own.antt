@@ -3,7 +3,7 @@ use Rattle.std.proofs.Common.{◌≡◌, ◌∙◌, ℕ, [], ◌++◌, Option, S
 use Rattle.std.specs.Prelude.{IfOk}
 use Rattle.std.proofs.lemmas.List.{append-nil}
 use Rattle.json5_grammar.specs.declared.position.Position.{Position}
-use Rattle.json5_grammar.specs.Positions.{position_behind}
+use Rattle.json5_grammar.specs.Positions.{position_after}
 use Rattle.json5_grammar.specs.Trees.{Tree}
 use Rattle.json5_grammar.proofs.MembersRead.{phrase_found}
 use Rattle.json5_grammar.proofs.Unique.{one_phrase}
@@ -45,7 +45,7 @@ module _ {A B : Type 0} (f : Tree → Option A) (g : A → Option B) (old new : 
     place = Some [];
     fault = subst (λ x. NotAccepted f g x None (Some [])) (sym there) (not_accepted new.unread a took.reads.value took.reads.stops is none);
     says = own.kind;
-    placed = λ before split. own.place ∙ ap (λ z. Some z) (place before span.at.unread (input_of took.rest ∙ sym (input_of span.passed.rest) ∙ split) (span.starts before split)) ∙ ap (λ z. Some (position_behind z)) (sym (append-nil before));
+    placed = λ before split. own.place ∙ ap (λ z. Some z) (place before span.at.unread (input_of took.rest ∙ sym (input_of span.passed.rest) ∙ split) (span.starts before split)) ∙ ap (λ z. Some (position_after z)) (sym (append-nil before));
   })
     where
       there : span.at.unread ≡ took.reads.phrase ++ new.unread

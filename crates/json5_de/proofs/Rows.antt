@@ -17,13 +17,13 @@ use Rattle.json5_de.specs.Law.{Gives, CompletesFree, StaysFailed, Unprompted}
 use Rattle.json5_grammar.specs.Numbers.{Number, whole, decimal, Num}
 use Rattle.json5_grammar.specs.Trees.{Tree, null, boolean, number, text, array, object}
 use Rattle.json5_de.specs.Convert.{as_whole, as_number, every_decimal, as_text, if_plain}
-use Rattle.json5_de.specs.Faults.{FaultRelation, Behind, in_blanks, behind_gap, RefusedBy, RefusedByOrMemory, NotNumber, faulty_number, other_number, faulty_text, begins_with}
+use Rattle.json5_de.specs.Faults.{FaultRelation, AfterBlanks, in_blanks, after_gap, RefusedBy, RefusedByOrMemory, NotNumber, faulty_number, other_number, faulty_text, begins_with}
 use Rattle.json5_de.specs.Rows.{Row, RefusedWith, ReadsAs, EndsWhere, DiffersWhere, TellsApart, every_tree, plain_text, null_row, bool_row, whole_row, decimal_row, text_row, plain_row, any_row}
-use Rattle.json5_de.proofs.Awaited.{Awaited, wrongly_refused, completes_or_memory, ends_from, ends_or_memory, differs_from, differs_or_memory}
-use Rattle.json5_de.proofs.Awaits.{awaits_null, awaits_bool}
-use Rattle.json5_de.proofs.AwaitsNumbers.{awaits_number}
-use Rattle.json5_de.proofs.AwaitsTexts.{awaits_text}
-use Rattle.json5_de.proofs.ScalarsAwaited.{awaits_scalar}
+use Rattle.json5_de.proofs.Expected.{Expected, wrongly_refused, completes_or_memory, ends_from, ends_or_memory, differs_from, differs_or_memory}
+use Rattle.json5_de.proofs.Expects.{expects_null, expects_bool}
+use Rattle.json5_de.proofs.ExpectsNumbers.{expects_number}
+use Rattle.json5_de.proofs.ExpectsTexts.{expects_text}
+use Rattle.json5_de.proofs.ScalarsExpected.{expects_scalar}
 use Rattle.json5_de.proofs.Taken.{input_of, refused_blanks, refused_token, took_leaf, refused_or_memory}
 use Rattle.json5_de.proofs.Mismatches.{StartsAt, refused_number, refused_text}
 use Rattle.json5_de.proofs.WithoutMemory.{whole_there, no_other_number, plain_there, no_other_text}
@@ -31,12 +31,12 @@ use Rattle.json5_grammar.specs.Characters.{NotBegun}
 use Rattle.json5_grammar.specs.Stops.{lengthens}
 use Rattle.json5_text.specs.NumberViews.{keeps_digits}
 use Rattle.std.proofs.lemmas.Bool.{false≢true}
-use Rattle.json5_de.proofs.OtherCodes.{Lacks, in_blanks_other, behind_lacks, word_lacks, number_lacks, text_lacks, scalar_lacks}
+use Rattle.json5_de.proofs.OtherCodes.{Lacks, in_blanks_other, after_lacks, word_lacks, number_lacks, text_lacks, scalar_lacks}
 use Rattle.json5_grammar.proofs.Basics.{true_false}
 
 -- a kind of value is told apart from all others, and none of its faults is that the reader had failed
 pub record IsLawful {C : Type 0} (row : Row C) : Type 0 where
-  pub awaited : Awaited row.IsFault row.convert row.begins row.ends row.differs
+  pub expected : Expected row.IsFault row.convert row.begins row.ends row.differs
   pub lacks : Lacks row.IsFault
 
 other_says : (reason : Option ErrorCode) (e : Error) → reason ≢ Some codes.Failed → Says reason e → kind_of e ≢ code codes.Failed
@@ -44,7 +44,7 @@ other_says (Some c) e h s k = h (let same : code c ≡ code codes.Failed = sym s
 other_says None e h (own, s) k = let same : custom own ≡ code codes.Failed = sym s ∙ k in absurd (cc)
 
 pub refused_other : {F : List ℕ → Option ErrorCode → Option (List ℕ) → Type 0} → Lacks F → (old : State) (e : Error) → RefusedBy F old e → old.failed ≡ false → kind_of e ≢ code codes.Failed
-refused_other l old e k live = let f = k live in other_says f.reason e (behind_lacks l _ f.reason f.place f.fault) f.says
+refused_other l old e k live = let f = k live in other_says f.reason e (after_lacks l _ f.reason f.place f.fault) f.says
 
 memory_other : (e : Error) → IsOutOfMemory e → kind_of e ≢ code codes.Failed
 memory_other e m k = let same : code codes.OutOfMemory ≡ code codes.Failed = sym m ∙ k in absurd (cc)
@@ -65,12 +65,12 @@ or_memory_as : (m : Bool) {F : List ℕ → Option ErrorCode → Option (List �
 or_memory_as false old e k = inr k
 or_memory_as true old e k = k
 
--- what gave up behind the gap gave up
+-- what gave up after the gap gave up
 pub given_up : (old mid new : State) → PassedGap old mid → GivesUp mid new → GivesUp old new
 given_up old mid new p g = record { failed = g.failed; same_text = g.same_text ∙ input_of p.rest }
 
-pub given_up_behind : (old mid new last : State) (s : List ℕ) → PassedGap old mid → TookText mid s new → GivesUp new last → GivesUp old last
-given_up_behind old mid new last s p k g = given_up old mid last p (record { failed = g.failed; same_text = g.same_text ∙ input_of k.rest })
+pub given_up_after : (old mid new last : State) (s : List ℕ) → PassedGap old mid → TookText mid s new → GivesUp new last → GivesUp old last
+given_up_after old mid new last s p k g = given_up old mid last p (record { failed = g.failed; same_text = g.same_text ∙ input_of k.rest })
 
 pub gives_up : (old new : State) → new ≡ record old { failed = true } → GivesUp old new
 gives_up old new e = record { failed = ap (λ (s : State). s.failed) e; same_text = ap (λ (s : State). s.input) e }
@@ -93,7 +93,7 @@ pub reads_err : {V C : Type 0} {row : Row C} → IsLawful row → (content : V �
     → StaysFailed {V = V} old new (Err e) → ReadsAs row content old new (Err e)
 reads_err {V = V} {row = row} l content old new e free k failed before = record {
   sound = tt;
-  complete = completes_or_memory {V = V} l.awaited old (Err e) (or_memory_as row.may_lack_memory old e k);
+  complete = completes_or_memory {V = V} l.expected old (Err e) (or_memory_as row.may_lack_memory old e k);
   no_memory = free;
   refused = k;
   unprompted = unprompted_from {V = V} l.lacks row.may_lack_memory old (Err e) k;
@@ -109,18 +109,18 @@ passed_on true old e k = inr k
 -- a fault of the relation
 pub refuses : {V C : Type 0} {row : Row C} → IsLawful row → (content : V → C) (old new : State) (e : Error) → RefusedBy row.IsFault old e → GivesUp old new → StaysFailed {V = V} old new (Err e) → ReadsAs row content old new (Err e)
 refuses {row = row} l content old new e k =
-    reads_err l content old new e (λ t r c live reads shallow is free. absurd (wrongly_refused l.awaited old e t r c live reads is k)) (passed_on row.may_lack_memory old e k)
+    reads_err l content old new e (λ t r c live reads shallow is free. absurd (wrongly_refused l.expected old e t r c live reads is k)) (passed_on row.may_lack_memory old e k)
 
 -- a comment before it is at fault, or the reader had failed
 pub not_begun : {V C : Type 0} {row : Row C} → IsLawful row → (content : V → C) (old new : State) (e : Error) → (old.failed ≡ false → Refused FaultyBlanks (cursor_of old) e) → GivesUp old new → StaysFailed {V = Unit {0}} old new (Err e)
     → ReadsAs row content old new (Err e)
 not_begun l content old new e k failed before = refuses l content old new e (refused_blanks old e k) failed before
 
--- behind the blanks, a fault of the relation
-pub refuses_behind : {V C : Type 0} {row : Row C} → IsLawful row → (content : V → C) (old mid new : State) (e : Error) → PassedGap old mid → Refused row.IsFault (cursor_of mid) e → GivesUp mid new → ReadsAs row content old new (Err e)
-refuses_behind l content old mid new e p k failed = refuses l content old new e (refused_token old mid e p k) (given_up old mid new p failed) (λ f. true_false f p.live)
+-- after the blanks, a fault of the relation
+pub refuses_after : {V C : Type 0} {row : Row C} → IsLawful row → (content : V → C) (old mid new : State) (e : Error) → PassedGap old mid → Refused row.IsFault (cursor_of mid) e → GivesUp mid new → ReadsAs row content old new (Err e)
+refuses_after l content old mid new e p k failed = refuses l content old new e (refused_token old mid e p k) (given_up old mid new p failed) (λ f. true_false f p.live)
 
--- the same, or memory was wanting, where no tree is free
+-- the same, or memory ran out, where no tree is free
 pub refuses_value : {V C : Type 0} {row : Row C} → IsLawful row → row.may_lack_memory ≡ true → ((t : Tree) → row.free t ≡ false) → (content : V → C) (old mid new : State) (e : Error) → PassedGap old mid → RefusedByOrMemory row.IsFault old e → GivesUp mid new
     → ReadsAs row content old new (Err e)
 refuses_value {V = V} {row = row} l m none content old mid new e p k failed = reads_err l content old new e
@@ -132,16 +132,16 @@ refuses_value {V = V} {row = row} l m none content old mid new e p k failed = re
 -- ---- the kinds
 
 pub lawful_null : IsLawful null_row
-lawful_null = record { awaited = awaits_null; lacks = word_lacks null_text codes.EofParsingNull codes.ExpectedNull (λ e. absurd (cc)) (λ e. absurd (cc)) }
+lawful_null = record { expected = expects_null; lacks = word_lacks null_text codes.EofParsingNull codes.ExpectedNull (λ e. absurd (cc)) (λ e. absurd (cc)) }
 
 pub lawful_bool : IsLawful bool_row
-lawful_bool = record { awaited = awaits_bool; lacks = λ x. word_lacks (if begins_with 0x66 x then false_text else true_text) codes.EofParsingBool codes.ExpectedBool (λ e. absurd (cc)) (λ e. absurd (cc)) x }
+lawful_bool = record { expected = expects_bool; lacks = λ x. word_lacks (if begins_with 0x66 x then false_text else true_text) codes.EofParsingBool codes.ExpectedBool (λ e. absurd (cc)) (λ e. absurd (cc)) x }
 
 pub lawful_whole : {C : Type 0} (f : ℤ → Option C) → IsLawful (whole_row f)
-lawful_whole f = record { awaited = awaits_number (as_whole f); lacks = number_lacks (as_whole f) }
+lawful_whole f = record { expected = expects_number (as_whole f); lacks = number_lacks (as_whole f) }
 
 pub lawful_decimal : IsLawful decimal_row
-lawful_decimal = record { awaited = awaits_number every_decimal; lacks = number_lacks every_decimal }
+lawful_decimal = record { expected = expects_number every_decimal; lacks = number_lacks every_decimal }
 
 -- ---- whole numbers
 
@@ -163,7 +163,7 @@ not_whole f content old mid new last (Err e) start s n p k num stops none at is 
     reads_err (lawful_whole f) content old last e
     (λ t r v live reads shallow converts free. absurd (no_other_number (as_whole f) old mid new s n t r v p k num stops none reads converts))
     (refused_number {V = Unit {0}} (as_whole f) old mid new (Err e) start s n p k num stops none at is)
-    (given_up_behind old mid new last s p k failed)
+    (given_up_after old mid new last s p k failed)
     (λ h. true_false h p.live)
 
 -- what is no whole number is none in a range
@@ -195,13 +195,13 @@ narrower {C = C} f wide content old new e k =
     wider x reason place (faulty_number k) = faulty_number k
     wider x reason place (other_number {n = n} r num stops none) = other_number r num stops (none_number n none)
 
-    behind : (x : List ℕ) (reason : Option ErrorCode) (place : Option (List ℕ)) → Behind (NotNumber (as_whole (λ x. Some x))) x reason place → Behind (NotNumber (as_whole f)) x reason place
-    behind x reason place (in_blanks f) = in_blanks f
-    behind x reason place (behind_gap {x = y} {reason = c} {place = p} g s f) = behind_gap g s (wider y c p f)
+    after : (x : List ℕ) (reason : Option ErrorCode) (place : Option (List ℕ)) → AfterBlanks (NotNumber (as_whole (λ x. Some x))) x reason place → AfterBlanks (NotNumber (as_whole f)) x reason place
+    after x reason place (in_blanks f) = in_blanks f
+    after x reason place (after_gap {x = y} {reason = c} {place = p} g s f) = after_gap g s (wider y c p f)
 
     narrowed : RefusedByOrMemory (NotNumber (as_whole (λ x. Some x))) old e → RefusedByOrMemory (NotNumber (as_whole f)) old e
     narrowed (inl m) = inl m
-    narrowed (inr k) = inr (λ live. let f = k live in record { reason = f.reason; place = f.place; fault = behind _ f.reason f.place f.fault; says = f.says; placed = f.placed })
+    narrowed (inr k) = inr (λ live. let f = k live in record { reason = f.reason; place = f.place; fault = after _ f.reason f.place f.fault; says = f.says; placed = f.placed })
 
 -- the number is in the range
 pub in_range : {V C : Type 0} (f : ℤ → Option C) (content : V → C) (old new : State) (start : ℕ) (z : ℤ) (v : V) → WholeAt old new start z → f z ≡ Some (content v) → ReadsAs (whole_row f) content old new (Ok v)
@@ -216,7 +216,7 @@ out_of_range f content old new last result start z w none is failed = not_whole 
 -- ---- texts
 
 pub lawful_text : {C : Type 0} (f : List ℕ → Bool → Option C) (free : Tree → Bool) → IsLawful (text_row f free)
-lawful_text f free = record { awaited = awaits_text f; lacks = text_lacks f }
+lawful_text f free = record { expected = expects_text f; lacks = text_lacks f }
 
 -- the string in front was taken or refused
 pub reads_text : {V C : Type 0} (f : List ℕ → Bool → Option C) (free : Tree → Bool) (content : V → C) (old mid new : State) (result : Result V Error) → PassedGap old mid → IfOk result (Gives content (as_text f) old new)
@@ -233,7 +233,7 @@ not_text f free content old mid new last (Err e) start s u plain p k str none at
     reads_err (lawful_text f free) content old last e
     (λ t r v live reads shallow converts free. absurd (no_other_text f old mid new s u plain t r v p k str none reads converts))
     (refused_text {V = Unit {0}} f old mid new (Err e) start s u plain p k str none at is)
-    (given_up_behind old mid new last s p k failed)
+    (given_up_after old mid new last s p k failed)
     (λ h. true_false h p.live)
 
 plain_converts : (t : Tree) → plain_text t ≡ true → (v : List ℕ) × (as_text if_plain t ≡ Some v)
@@ -261,7 +261,7 @@ plain_refused content old mid new e p k failed ok =
 -- ---- values of any kind
 
 pub lawful_any : IsLawful any_row
-lawful_any = record { awaited = awaits_scalar; lacks = scalar_lacks }
+lawful_any = record { expected = expects_scalar; lacks = scalar_lacks }
 
 -- ---- the codes
 
@@ -274,12 +274,12 @@ answers row content old new (Ok v) k = (k.sound, tt)
 answers row content old new (Err e) k = (tt, k.refused)
 
 ends_as : {V C : Type 0} {row : Row C} → IsLawful row → (m : Bool) → row.may_lack_memory ≡ m → (content : V → C) (old new : State) (result : Result V Error) → Answers m row.IsFault row.convert content old new result → EndsWhere m row.ends old result
-ends_as l false e content old new result k = ends_from l.awaited content old new result k.0 k.1
-ends_as l true e content old new result k = ends_or_memory l.awaited content old new result k.0 k.1
+ends_as l false e content old new result k = ends_from l.expected content old new result k.0 k.1
+ends_as l true e content old new result k = ends_or_memory l.expected content old new result k.0 k.1
 
 differs_as : {V C : Type 0} {row : Row C} → IsLawful row → (m : Bool) → row.may_lack_memory ≡ m → (content : V → C) (old new : State) (result : Result V Error) → Answers m row.IsFault row.convert content old new result → DiffersWhere m row.begins row.differs old result
-differs_as l false e content old new result k = differs_from l.awaited content old new result k.0 k.1
-differs_as l true e content old new result k = differs_or_memory l.awaited content old new result k.0 k.1
+differs_as l false e content old new result k = differs_from l.expected content old new result k.0 k.1
+differs_as l true e content old new result k = differs_or_memory l.expected content old new result k.0 k.1
 
 pub tells_apart : {V C : Type 0} {row : Row C} → IsLawful row → (content : V → C) → TellsApart row content
 tells_apart {row = row} l content old new result k =

@@ -1,9 +1,9 @@
 -- What the steps of a read amount to.
 use Rattle.std.proofs.Common.{◌≡◌, ℕ, Bool, false, List, [], ◌∷◌, ◌++◌, refl, ap, sym, ◌∙◌, subst, append_assoc, ◌⊎◌, inl, inr, Option, Some, None, arith}
 use Rattle.json5_grammar.specs.declared.code.ErrorCode.{ErrorCode}
-use Rattle.json5_grammar.specs.Codes.{behind_text}
+use Rattle.json5_grammar.specs.Codes.{after_text}
 use Rattle.json5_grammar.specs.Blanks.{Blanks, Gap}
-use Rattle.json5_grammar.specs.Positions.{position_behind}
+use Rattle.json5_grammar.specs.Positions.{position_after}
 use Rattle.json5_grammar.specs.Trees.{Tree, depth}
 use Rattle.json5_grammar.specs.Values.{Val, Stops, null_text, true_text, false_text}
 use Rattle.std.specs.Str.{chars}
@@ -18,7 +18,7 @@ use Rattle.json5_text.specs.Cursor.{IsPlaced, Refused, IsOutOfMemory}
 use Rattle.json5_text.specs.Tokens.{FaultyBlanks, FaultyWord}
 use Rattle.json5_de.specs.State.{State, cursor_of}
 use Rattle.json5_de.specs.Law.{TookValue}
-use Rattle.json5_de.specs.Faults.{Behind, in_blanks, behind_gap, RefusedBy, RefusedByOrMemory, FaultyBool, begins_with}
+use Rattle.json5_de.specs.Faults.{AfterBlanks, in_blanks, after_gap, RefusedBy, RefusedByOrMemory, FaultyBool, begins_with}
 use Rattle.json5_de.specs.Steps.{PassedGap, TookText}
 
 -- a gap before a value is of blanks
@@ -27,7 +27,7 @@ value_gap w x r v g e =
     let head = val_head v in
     gap_blanks head.char (head.more ++ r) (subst (Gap w) (e ∙ ap (λ z. z ++ r) head.is) g)
 
--- a value that is no collection was read behind the blanks
+-- a value that is no collection was read after the blanks
 pub took_leaf : (old mid new : State) (s : List ℕ) (t : Tree) → depth t ≡ 0 → PassedGap old mid → TookText mid s new → Val s t → Stops s new.unread → TookValue old t new
 took_leaf old mid new s t flat p k v stops = record {
   live = p.live;
@@ -46,11 +46,11 @@ took_leaf old mid new s t flat p k v stops = record {
 pub input_of : {s t : State} → s ≡ t → s.input ≡ t.input
 input_of e = ap (λ (s : State). s.input) e
 
-pub placed_behind : (old mid : State) (e : Error) (w : List ℕ) (place : Option (List ℕ)) → old.unread ≡ w ++ mid.unread → mid.input ≡ old.input → IsPlaced (cursor_of mid) place e → IsPlaced (cursor_of old) (behind_text w place) e
-placed_behind old mid e w None split same k = k
-placed_behind old mid e w (Some p) split same k = λ before whole.
+pub placed_after : (old mid : State) (e : Error) (w : List ℕ) (place : Option (List ℕ)) → old.unread ≡ w ++ mid.unread → mid.input ≡ old.input → IsPlaced (cursor_of mid) place e → IsPlaced (cursor_of old) (after_text w place) e
+placed_after old mid e w None split same k = k
+placed_after old mid e w (Some p) split same k = λ before whole.
     let there : mid.input ≡ (before ++ w) ++ mid.unread = same ∙ whole ∙ ap (λ y. before ++ y) split ∙ sym (append_assoc before w mid.unread) in
-    subst (λ z. place_of e ≡ Some (position_behind z)) (append_assoc before w p) (k (before ++ w) there)
+    subst (λ z. place_of e ≡ Some (position_after z)) (append_assoc before w p) (k (before ++ w) there)
 
 pub refused_blanks : {F : List ℕ → Option ErrorCode → Option (List ℕ) → Type 0} (old : State) (e : Error) → (old.failed ≡ false → Refused FaultyBlanks (cursor_of old) e) → RefusedBy F old e
 refused_blanks old e k live = let f = k live in record { reason = f.reason; place = f.place; fault = in_blanks f.fault; says = f.says; placed = f.placed }
@@ -58,10 +58,10 @@ refused_blanks old e k live = let f = k live in record { reason = f.reason; plac
 pub refused_token : {F : List ℕ → Option ErrorCode → Option (List ℕ) → Type 0} (old mid : State) (e : Error) → PassedGap old mid → Refused F (cursor_of mid) e → RefusedBy F old e
 refused_token {F = F} old mid e p f live = record {
   reason = f.reason;
-  place = behind_text p.gap f.place;
-  fault = subst (λ x. Behind F x f.reason (behind_text p.gap f.place)) (sym p.split) (behind_gap p.is_gap p.solid f.fault);
+  place = after_text p.gap f.place;
+  fault = subst (λ x. AfterBlanks F x f.reason (after_text p.gap f.place)) (sym p.split) (after_gap p.is_gap p.solid f.fault);
   says = f.says;
-  placed = placed_behind old mid e p.gap f.place p.split (input_of p.rest) f.placed;
+  placed = placed_after old mid e p.gap f.place p.split (input_of p.rest) f.placed;
 }
 
 pub null_stops : (r : List ℕ) → Stops null_text r

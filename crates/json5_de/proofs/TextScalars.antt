@@ -1,5 +1,5 @@
 -- The text that a string of a text stands for is of scalar values.
-use Rattle.std.proofs.Common.{◌≡◌, ℕ, ◌+◌, ◌*◌, ◌<◌, ◌≤◌, Bool, true, false, List, [], ◌∷◌, ◌++◌, refl, ap, ◌∙◌, subst, Option, Some, None, arith}
+use Rattle.std.proofs.Common.{◌≡◌, ℕ, ◌+◌, ◌*◌, ◌<◌, ◌≤◌, Bool, true, false, List, [], ◌∷◌, ◌++◌, refl, ap, sym, ◌∙◌, subst, Option, Some, None, arith}
 use Rattle.std.specs.Prelude.{◌&&◌, ◌==◌}
 use Rattle.std.specs.Char.{IsScalar, digit_value}
 use Rattle.std.specs.Str.{all_scalars, chars, encode_utf8_all}
@@ -11,6 +11,10 @@ use Rattle.json5_grammar.proofs.Basics.{by_test}
 use Rattle.json5_de.specs.Convert.{one_character}
 use Rattle.std.proofs.lemmas.Bool.{and_parts}
 use Rattle.json5_text.proofs.ScanBytes.{scalar_halves, one_scalar}
+use Rattle.std.specs.String.{string_bytes}
+use Rattle.std.specs.declared.string.String.{String}
+use Rattle.json5_de.specs.State.{State}
+use Rattle.json5_de.specs.Steps.{TookText, TookOwned, TookCharacters}
 
 one_more : (c : ℕ) (x : List ℕ) → all_scalars (c ∷ x) ≡ true → IsScalar c × (all_scalars x ≡ true)
 one_more c x e = and_parts _ (all_scalars x) e
@@ -105,3 +109,8 @@ pub same_character : (u : List ℕ) (plain : Bool) → one_character u plain ≡
 same_character [] plain = refl
 same_character (c ∷ []) plain = refl
 same_character (c ∷ d ∷ u) plain = refl
+
+-- the text that was taken is that of its characters
+pub took_characters : {A : Type 0} (t : String A) (old new : State) → all_scalars old.unread ≡ true → TookOwned old new t → TookCharacters old new t
+took_characters t old new scalars (s, u, plain, took, str, bytes) =
+    (s, plain, took, subst (λ z. Str s z plain) (sym (text_characters old.unread new.unread (string_bytes t) took.split scalars str bytes)) str)

@@ -1,4 +1,4 @@
--- What stands behind the blanks where a whole number or a plain text can be read.
+-- What stands after the blanks where a whole number or a plain text can be read.
 use Rattle.std.proofs.Common.{◌≡◌, ℕ, Bool, true, false, List, ◌++◌, refl, ap, sym, ◌∙◌, subst, Option, Some, None, ℤ}
 use Rattle.json5_grammar.specs.Blanks.{Gap}
 use Rattle.json5_grammar.specs.Numbers.{Number, whole, decimal, Num}
@@ -13,12 +13,12 @@ use Rattle.json5_text.specs.NumberViews.{keeps_digits}
 use Rattle.json5_de.specs.Convert.{as_number, as_whole, as_text, if_plain}
 use Rattle.json5_de.specs.State.{State}
 use Rattle.json5_de.specs.Steps.{PassedGap, TookText}
-use Rattle.json5_de.proofs.AwaitsNumbers.{number_phrase}
-use Rattle.json5_de.proofs.AwaitsTexts.{text_phrase}
+use Rattle.json5_de.proofs.ExpectsNumbers.{number_phrase}
+use Rattle.json5_de.proofs.ExpectsTexts.{text_phrase}
 use Rattle.json5_grammar.proofs.Basics.{none_some}
 
-phrase_behind : (old mid : State) (t : Tree) (r : List ℕ) → PassedGap old mid → (h : Reads old.unread t r) → mid.unread ≡ h.phrase ++ r
-phrase_behind old mid t r p h = (one_gap h.front (h.phrase ++ r) p.gap mid.unread (Gap.blanks h.blank) (value_solid r (val_head h.value)) p.is_gap p.solid (sym h.split ∙ p.split)).1
+phrase_after : (old mid : State) (t : Tree) (r : List ℕ) → PassedGap old mid → (h : Reads old.unread t r) → mid.unread ≡ h.phrase ++ r
+phrase_after old mid t r p h = (one_gap h.front (h.phrase ++ r) p.gap mid.unread (Gap.blanks h.blank) (value_solid r (val_head h.value)) p.is_gap p.solid (sym h.split ∙ p.split)).1
 
 -- ---- numbers
 
@@ -38,14 +38,14 @@ whole_free f (decimal d) v e = absurd (cc)
 pub whole_there : {C : Type 0} (f : ℤ → Option C) (old mid : State) (t : Tree) (r : List ℕ) (v : C) → PassedGap old mid → Reads old.unread t r → as_number (as_whole f) t ≡ Some v → NumberThere mid.unread r
 whole_there f old mid t r v p h is =
     let (n, num, e) = number_phrase (as_whole f) v is h.value in
-    record { literal = h.phrase; number = n; split = phrase_behind old mid t r p h; is_number = num; stops = h.stops; free = whole_free f n v e }
+    record { literal = h.phrase; number = n; split = phrase_after old mid t r p h; is_number = num; stops = h.stops; free = whole_free f n v e }
 
 -- a number that isn't of the type isn't one that is
 pub no_other_number : {C : Type 0} (f : Number → Option C) (old mid new : State) (s : List ℕ) (n : Number) (t : Tree) (r : List ℕ) (v : C) → PassedGap old mid → TookText mid s new → Num s n → Stops s new.unread → f n ≡ None → Reads old.unread t r
     → as_number f t ≡ Some v → ⊥
 no_other_number f old mid new s n t r v p k num stops none h is =
     let (m, there, e) = number_phrase f v is h.value in
-    let one = one_number num there stops h.stops (sym k.split ∙ phrase_behind old mid t r p h) in
+    let one = one_number num there stops h.stops (sym k.split ∙ phrase_after old mid t r p h) in
     none_some (f m) v (sym (ap f one.1) ∙ none) e
 
 -- ---- texts
@@ -64,12 +64,12 @@ is_plain u false v e = absurd (cc)
 pub plain_there : (old mid : State) (t : Tree) (r v : List ℕ) → PassedGap old mid → Reads old.unread t r → as_text if_plain t ≡ Some v → PlainThere mid.unread r
 plain_there old mid t r v p h is =
     let (u, plain, str, e) = text_phrase if_plain v is h.value in
-    record { string = h.phrase; text = u; split = phrase_behind old mid t r p h; is_string = subst (Str h.phrase u) (is_plain u plain v e) str }
+    record { string = h.phrase; text = u; split = phrase_after old mid t r p h; is_string = subst (Str h.phrase u) (is_plain u plain v e) str }
 
 -- a text that isn't of the type isn't one that is
 pub no_other_text : {C : Type 0} (f : List ℕ → Bool → Option C) (old mid new : State) (s u : List ℕ) (plain : Bool) (t : Tree) (r : List ℕ) (v : C) → PassedGap old mid → TookText mid s new → Str s u plain → f u plain ≡ None → Reads old.unread t r
     → as_text f t ≡ Some v → ⊥
 no_other_text f old mid new s u plain t r v p k str none h is =
     let (w, q, there, e) = text_phrase f v is h.value in
-    let one = one_string new.unread r str there (sym k.split ∙ phrase_behind old mid t r p h) in
+    let one = one_string new.unread r str there (sym k.split ∙ phrase_after old mid t r p h) in
     none_some (f w q) v (subst (λ z. f w z ≡ None) one.2 (subst (λ z. f z plain ≡ None) one.1 none)) e

@@ -4,9 +4,9 @@ use Rattle.std.specs.Str.{encode_utf8_all}
 use Rattle.json5_grammar.specs.Characters.{comma_sign, right_bracket}
 use Rattle.json5_grammar.specs.declared.code.ErrorCode.{ErrorCode}
 use Rattle.json5_grammar.specs.declared.code.ErrorCode.TheVariants as codes
-use Rattle.json5_grammar.specs.Codes.{behind_text}
+use Rattle.json5_grammar.specs.Codes.{after_text}
 use Rattle.json5_grammar.specs.Blanks.{Blanks}
-use Rattle.json5_grammar.specs.Positions.{position_behind}
+use Rattle.json5_grammar.specs.Positions.{position_after}
 use Rattle.json5_grammar.specs.Trees.{Tree, Trees, array, more, no_more, depth, depths}
 use Rattle.json5_grammar.specs.Documents.{max_depth}
 use Rattle.json5_grammar.specs.Values.{Reads}
@@ -18,7 +18,7 @@ use Rattle.json5_text.specs.Cursor.{IsOutOfMemory}
 use Rattle.json5_de.specs.Law.{IsOkOrMemory, TookValue, Unprompted}
 use Rattle.json5_de.specs.Options.{PlacedAt}
 use Rattle.json5_de.specs.ConvertLists.{if_some}
-use Rattle.json5_de.specs.Faults.{Behind, IsBehind, IsUnplaced, RefusedBy, EndsWith, DiffersWith}
+use Rattle.json5_de.specs.Faults.{AfterBlanks, IsAfter, IsUnplaced, RefusedBy, EndsWith, DiffersWith}
 use Rattle.json5_de.specs.declared.brackets.Brackets.{Brackets}
 use Rattle.json5_de.specs.Brackets.{square}
 
@@ -42,7 +42,7 @@ pub record Opened (b : Brackets) (old new : State) : Type 0 where
   pub bracket : IsSign b.opening old.unread new.unread
   pub rest : new ≡ record old { unread = new.unread; level = old.level + 1 }
 
--- the closing bracket was taken, behind a comma where one may stand, and one bracket less is open
+-- the closing bracket was taken, after a comma where one may stand, and one bracket less is open
 pub record Closed (b : Brackets) (due : Bool) (old new : State) : Type 0 where
   pub live : old.failed ≡ false
   pub close : IsEnd b.closing due old.unread new.unread
@@ -50,14 +50,14 @@ pub record Closed (b : Brackets) (due : Bool) (old new : State) : Type 0 where
 
 -- ---- an array
 
--- an element of the tree t was read, behind the comma that was due
+-- an element of the tree t was read, after the comma that was due
 pub record TookElement (due : Bool) (old : State) (t : Tree) (new : State) : Type 0 where
   pub live : old.failed ≡ false
   pub element : IsElement due old.unread t new.unread
   pub shallow : old.level + depth t ≤ max_depth
   pub rest : OnlyRead old new
 
--- the closing bracket is next, behind the comma that may stand there
+-- the closing bracket is next, after the comma that may stand there
 pub record AtClose (due : Bool) (old new : State) : Type 0 where
   pub live : old.failed ≡ false
   pub close : IsAtClose due old.unread new.unread
@@ -68,7 +68,7 @@ abbrev pub GivesElement : {V C : Type 0} → (V → C) → (Tree → Option C) �
 GivesElement content convert old new (Some v) = (t : Tree) × TookElement old.due old.reader t new.reader × (new.due ≡ true) × (convert t ≡ Some (content v))
 GivesElement content convert old new None = AtClose old.due old.reader new.reader × (new.due ≡ old.due)
 
--- an element that can be read is read, want of memory aside
+-- an element that can be read is read, unless memory runs out
 abbrev pub CompletesElement : {V C : Type 0} → (Tree → Option C) → Seen → Result V Error → Type 0
 CompletesElement {C = C} convert old result =
     (t : Tree) (r : List ℕ) (c : C) → old.reader.failed ≡ false → IsElement old.due old.reader.unread t r → old.reader.level + depth t ≤ max_depth → convert t ≡ Some c → IsOkOrMemory result
@@ -91,12 +91,12 @@ pub record ElementsRead (from : State) (ts : Trees) (now : Seen) : Type 0 where
   pub shallow : from.level + depth (array ts) ≤ max_depth
   pub inside : List ℕ
   pub bracket : Opens from.unread inside
-  pub behind : List ℕ
-  pub passed : Passed ts false inside now.due behind
-  pub here : (now.reader.unread ≡ behind) ⊎ IsAtClose now.due behind now.reader.unread
+  pub after : List ℕ
+  pub passed : Passed ts false inside now.due after
+  pub here : (now.reader.unread ≡ after) ⊎ IsAtClose now.due after now.reader.unread
   pub rest : now.reader ≡ record from { unread = now.reader.unread; level = from.level + 1 }
 
--- these elements are left, behind a comma where one is due, and then the closing bracket, with r behind it; none is too deep
+-- these elements are left, after a comma where one is due, and then the closing bracket, with r after it; none is too deep
 pub record ElementsLeft (ts : Trees) (r : List ℕ) (now : Seen) : Type 0 where
   pub live : now.reader.failed ≡ false
   pub shallow : now.reader.level + depths ts ≤ max_depth
@@ -107,7 +107,7 @@ abbrev pub ReadsMore : {V C : Type 0} → (V → C) → (Tree → Option C) → 
 ReadsMore content convert old new (Some v) = (t : Tree) × (convert t ≡ Some (content v)) × ((from : State) (ts : Trees) → ElementsRead from ts old → ElementsRead from (snoc ts t) new)
 ReadsMore content convert old new None = (from : State) (ts : Trees) → ElementsRead from ts old → ElementsRead from ts new
 
--- where elements are left and the first converts, it was read, want of memory aside, and the others are left; where none is left, none was given.
+-- where elements are left and the first converts, it was read, unless memory ran out, and the others are left; where none is left, none was given.
 -- Nothing is said of the refusal of one that doesn't convert.
 abbrev pub LeavesFewer : {V C : Type 0} → (V → C) → (Tree → Option C) → Trees → List ℕ → Seen → Result (Option V) Error → Type 0
 LeavesFewer content convert no_more r new (Ok None) = ElementsLeft no_more r new
@@ -120,23 +120,23 @@ LeavesFewer {C = C} content convert (more t ts) r new (Err e) = (c : C) → conv
 -- ---- places
 
 -- the offset counts the bytes before this text's place in the input
-pub record StartsBehind (input : List ℕ) (offset : ℕ) (before : List ℕ) : Type 0 where
+pub record StartsAfter (input : List ℕ) (offset : ℕ) (before : List ℕ) : Type 0 where
   pub rest : List ℕ
   pub split : input ≡ before ++ rest
   pub counted : offset ≡ length (encode_utf8_all before)
 
 -- the same fault, at the opening bracket where it had no place
 abbrev pub PlacedAtBracket : Seen → Error → Error → Type 0
-PlacedAtBracket s own e = PlacedAt (StartsBehind s.reader.input s.start) own e
+PlacedAtBracket s own e = PlacedAt (StartsAfter s.reader.input s.start) own e
 
 -- the fault's place is the opening bracket
 abbrev pub IsAtBracket : Seen → Error → Type 0
-IsAtBracket s e = (before : List ℕ) → StartsBehind s.reader.input s.start before → place_of e ≡ Some (position_behind before)
+IsAtBracket s e = (before : List ℕ) → StartsAfter s.reader.input s.start before → place_of e ≡ Some (position_after before)
 
 abbrev pub HasPlace : Error → Type 0
 HasPlace e = place_of e ≢ None
 
--- behind the blanks w stands an opening bracket, where no more may be open
+-- after the blanks w stands an opening bracket, where no more may be open
 pub record AtFull (b : Brackets) (old : State) (w : List ℕ) : Type 0 where
   pub live : old.failed ≡ false
   pub full : old.level ≡ max_depth
@@ -146,14 +146,14 @@ pub record AtFull (b : Brackets) (old : State) (w : List ℕ) : Type 0 where
 
 -- TooDeep at that bracket
 abbrev pub TooDeepAt : {V : Type 0} → Brackets → State → Result V Error → Type 0
-TooDeepAt b old result = (w : List ℕ) → AtFull b old w → IsErrAnd result (IsBehind codes.TooDeep old w)
+TooDeepAt b old result = (w : List ℕ) → AtFull b old w → IsErrAnd result (IsAfter codes.TooDeep old w)
 
 -- ---- what begins the rest
 
 abbrev pub is_opening : Brackets → ℕ → Bool
 is_opening b c = c == b.opening
 
--- behind an element
+-- after an element
 abbrev pub is_comma_or_closing : ℕ → Bool
 is_comma_or_closing c = (c == comma_sign) || (c == right_bracket)
 
@@ -164,30 +164,30 @@ begins_close b due c = (c == b.closing) || (due && (c == comma_sign))
 -- ---- what is refused
 
 -- at the end, without a place, or at any other character that stands there
-pub data Unawaited (ends differs : ErrorCode) : List ℕ → Option ErrorCode → Option (List ℕ) → Type 0 where
-  at_end : Unawaited ends differs [] (Some ends) None
-  at_char : (c : ℕ) (r : List ℕ) → Unawaited ends differs (c ∷ r) (Some differs) (Some [])
+pub data Unexpected (ends differs : ErrorCode) : List ℕ → Option ErrorCode → Option (List ℕ) → Type 0 where
+  at_end : Unexpected ends differs [] (Some ends) None
+  at_char : (c : ℕ) (r : List ℕ) → Unexpected ends differs (c ∷ r) (Some differs) (Some [])
 
--- where an opening bracket is awaited, and so many are open: none, or one too many
+-- where an opening bracket is expected, and so many are open: none, or one too many
 pub data NotOpened (b : Brackets) (level : ℕ) : List ℕ → Option ErrorCode → Option (List ℕ) → Type 0 where
   no_bracket : (c : ℕ) (r : List ℕ) → (c == b.opening) ≡ false → NotOpened b level (c ∷ r) (Some b.not_opened) (Some [])
   text_ends : NotOpened b level [] (Some b.ends) None
   too_deep : (r : List ℕ) → level ≡ max_depth → NotOpened b level (b.opening ∷ r) (Some codes.TooDeep) (Some [])
 
--- where the closing bracket is awaited
+-- where the closing bracket is expected
 pub data NoBracket (b : Brackets) (comma : Bool) : List ℕ → Option ErrorCode → Option (List ℕ) → Type 0 where
   other_sign : (c : ℕ) (r : List ℕ) → (c == b.closing) ≡ false → (comma ≡ true → (c == comma_sign) ≡ false) → NoBracket b comma (c ∷ r) (Some b.not_closed) (Some [])
   bracket_missing : NoBracket b comma [] (Some b.ends) None
 
--- where the closing bracket is awaited, and a comma before it where one is due
+-- where the closing bracket is expected, and a comma before it where one is due
 pub data NotClosed (b : Brackets) (due : Bool) : List ℕ → Option ErrorCode → Option (List ℕ) → Type 0 where
   not_here : {x : List ℕ} {reason : Option ErrorCode} {place : Option (List ℕ)} → NoBracket b due x reason place → NotClosed b due x reason place
-  behind_comma : {x : List ℕ} {reason : Option ErrorCode} {place : Option (List ℕ)} → due ≡ true → Behind (NoBracket b false) x reason place
-      → NotClosed b due (comma_sign ∷ x) reason (behind_text (comma_sign ∷ []) place)
+  after_comma : {x : List ℕ} {reason : Option ErrorCode} {place : Option (List ℕ)} → due ≡ true → AfterBlanks (NoBracket b false) x reason place
+      → NotClosed b due (comma_sign ∷ x) reason (after_text (comma_sign ∷ []) place)
 
 -- ---- what the calls of an access mean
 
--- where a bracket that opens is awaited
+-- where a bracket that opens is expected
 pub record OpensAs {A : Type 0} (b : Brackets) (seen : A → Seen) (old : State) (result : Result A Error) : Type 0 where
   pub opened : IfOk result (λ a. Opened b old (seen a).reader × ((seen a).due ≡ false))
   pub start : IfOk result (λ a. (before : List ℕ) → old.input ≡ before ++ b.opening ∷ (seen a).reader.unread → (seen a).start ≡ length (encode_utf8_all before))
@@ -199,7 +199,7 @@ pub record OpensAs {A : Type 0} (b : Brackets) (seen : A → Seen) (old : State)
   pub unprompted : Unprompted old result
   pub before : old.failed ≡ true → IsErrAnd result (IsUnplaced codes.Failed)
 
--- where the closing bracket is awaited
+-- where the closing bracket is expected
 pub record ClosesAs (b : Brackets) (due : Bool) (old new : State) (result : Result (Unit {0}) Error) : Type 0 where
   pub closed : OnOk result (Closed b due old new)
   pub complete : (r : List ℕ) → old.failed ≡ false → IsEnd b.closing due old.unread r → IsOk result

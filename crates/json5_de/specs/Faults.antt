@@ -1,7 +1,7 @@
--- What is refused where a value is awaited.
+-- What is refused where a value is expected.
 use Rattle.std.specs.Prelude.{◌≡◌, ℕ, Bool, true, false, if◌then◌else◌, ◌==◌, ◌⊎◌, List, [], ◌∷◌, ◌++◌, Option, Some, None, Result, IsErrAnd}
 use Rattle.json5_grammar.specs.Characters.{letter_f}
-use Rattle.json5_grammar.specs.Codes.{behind_text}
+use Rattle.json5_grammar.specs.Codes.{after_text}
 use Rattle.json5_grammar.specs.declared.code.ErrorCode.{ErrorCode}
 use Rattle.json5_grammar.specs.declared.code.ErrorCode.TheVariants as codes
 use Rattle.json5_grammar.specs.Blanks.{Blanks, LastBlanks, Gap, Solid, is_solid}
@@ -18,10 +18,10 @@ use Rattle.json5_de.specs.State.{State, cursor_of}
 abbrev pub FaultRelation : Type 1
 FaultRelation = List ℕ → Option ErrorCode → Option (List ℕ) → Type 0
 
--- a comment in front is at fault, or behind the gap stands what isn't awaited
-pub data Behind (IsFault : FaultRelation) : List ℕ → Option ErrorCode → Option (List ℕ) → Type 0 where
-  in_blanks : {x : List ℕ} {reason : Option ErrorCode} {place : Option (List ℕ)} → FaultyBlanks x reason place → Behind IsFault x reason place
-  behind_gap : {w x : List ℕ} {reason : Option ErrorCode} {place : Option (List ℕ)} → Gap w x → Solid x → IsFault x reason place → Behind IsFault (w ++ x) reason (behind_text w place)
+-- a comment in front is at fault, or after the gap stands what isn't expected
+pub data AfterBlanks (IsFault : FaultRelation) : List ℕ → Option ErrorCode → Option (List ℕ) → Type 0 where
+  in_blanks : {x : List ℕ} {reason : Option ErrorCode} {place : Option (List ℕ)} → FaultyBlanks x reason place → AfterBlanks IsFault x reason place
+  after_gap : {w x : List ℕ} {reason : Option ErrorCode} {place : Option (List ℕ)} → Gap w x → Solid x → IsFault x reason place → AfterBlanks IsFault (w ++ x) reason (after_text w place)
 
 -- a number in front is faulty, or it is whole and isn't the type's: a text of its own, at the number's start
 pub data NotNumber {C : Type 0} (convert : Number → Option C) : List ℕ → Option ErrorCode → Option (List ℕ) → Type 0 where
@@ -33,11 +33,11 @@ pub data NotText {C : Type 0} (convert : List ℕ → Bool → Option C) : List 
   faulty_text : {x : List ℕ} {reason : Option ErrorCode} {place : Option (List ℕ)} → FaultyString x reason place → NotText convert x reason place
   other_text : {s u : List ℕ} {plain : Bool} (r : List ℕ) → Str s u plain → convert u plain ≡ None → NotText convert (s ++ r) None (Some [])
 
--- a reader that hasn't failed refuses with a fault that the relation gives what is behind the blanks, at its place
+-- a reader that hasn't failed refuses with a fault that the relation gives what is after the blanks, at its place
 abbrev pub RefusedBy : FaultRelation → State → Error → Type 0
-RefusedBy IsFault old e = old.failed ≡ false → Refused (Behind IsFault) (cursor_of old) e
+RefusedBy IsFault old e = old.failed ≡ false → Refused (AfterBlanks IsFault) (cursor_of old) e
 
--- the same, or memory was wanting
+-- the same, or memory ran out
 abbrev pub RefusedByOrMemory : FaultRelation → State → Error → Type 0
 RefusedByOrMemory IsFault old e = IsOutOfMemory e ⊎ RefusedBy IsFault old e
 
@@ -48,11 +48,11 @@ abbrev pub begins_with : ℕ → List ℕ → Bool
 begins_with c [] = false
 begins_with c (d ∷ s) = d == c
 
--- behind an `f` the word is `false`, else `true`
+-- after an `f` the word is `false`, else `true`
 abbrev pub FaultyBool : FaultRelation
 FaultyBool x = FaultyWord (if begins_with letter_f x then false_text else true_text) codes.EofParsingBool codes.ExpectedBool x
 
--- a character where the end is awaited: TrailingCharacters at it
+-- a character where the end is expected: TrailingCharacters at it
 pub data Trailing : List ℕ → Option ErrorCode → Option (List ℕ) → Type 0 where
   trailing : (c : ℕ) (r : List ℕ) → Trailing (c ∷ r) (Some codes.TrailingCharacters) (Some [])
 
@@ -60,15 +60,15 @@ pub data Trailing : List ℕ → Option ErrorCode → Option (List ℕ) → Type
 abbrev pub IsUnplaced : ErrorCode → Error → Type 0
 IsUnplaced c e = (kind_of e ≡ code c) × (place_of e ≡ None)
 
--- this code, at the place behind w
-abbrev pub IsBehind : ErrorCode → State → List ℕ → Error → Type 0
-IsBehind c old w e = (kind_of e ≡ code c) × IsPlaced (cursor_of old) (Some w) e
+-- this code, at the place after w
+abbrev pub IsAfter : ErrorCode → State → List ℕ → Error → Type 0
+IsAfter c old w e = (kind_of e ≡ code c) × IsPlaced (cursor_of old) (Some w) e
 
 -- nothing but blanks is unread
 abbrev pub AtEnd : State → Type 0
 AtEnd old = (old.failed ≡ false) × LastBlanks old.unread
 
--- behind the blanks w stands a character that begins nothing of what is awaited
+-- after the blanks w stands a character that begins nothing of what is expected
 pub record AtOther (begins : ℕ → Bool) (old : State) (w : List ℕ) : Type 0 where
   pub live : old.failed ≡ false
   pub blank : Blanks w
@@ -85,9 +85,9 @@ EndsWith ends old result = AtEnd old → IsErrAnd result (IsUnplaced ends)
 abbrev pub EndsWithOrMemory : {V : Type 0} → ErrorCode → State → Result V Error → Type 0
 EndsWithOrMemory ends old result = AtEnd old → IsErrAnd result (λ e. IsOutOfMemory e ⊎ IsUnplaced ends e)
 
--- the code at a character that begins nothing of what is awaited
+-- the code at a character that begins nothing of what is expected
 abbrev pub DiffersWith : {V : Type 0} → (ℕ → Bool) → ErrorCode → State → Result V Error → Type 0
-DiffersWith begins differs old result = (w : List ℕ) → AtOther begins old w → IsErrAnd result (IsBehind differs old w)
+DiffersWith begins differs old result = (w : List ℕ) → AtOther begins old w → IsErrAnd result (IsAfter differs old w)
 
 abbrev pub DiffersWithOrMemory : {V : Type 0} → (ℕ → Bool) → ErrorCode → State → Result V Error → Type 0
-DiffersWithOrMemory begins differs old result = (w : List ℕ) → AtOther begins old w → IsErrAnd result (λ e. IsOutOfMemory e ⊎ IsBehind differs old w e)
+DiffersWithOrMemory begins differs old result = (w : List ℕ) → AtOther begins old w → IsErrAnd result (λ e. IsOutOfMemory e ⊎ IsAfter differs old w e)

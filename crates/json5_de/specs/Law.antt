@@ -24,7 +24,7 @@ abbrev pub IsOkOrMemory : {V : Type 0} → Result V Error → Type 0
 IsOkOrMemory (Ok v) = Unit {0}
 IsOkOrMemory (Err e) = IsOutOfMemory e
 
--- what can be read is read, want of memory aside
+-- what can be read is read, unless memory runs out
 abbrev pub Completes : {V C : Type 0} → (Tree → Option C) → State → Result V Error → Type 0
 Completes {C = C} convert old result =
     (t : Tree) (r : List ℕ) (c : C) → old.failed ≡ false → Reads old.unread t r → old.level + depth t ≤ max_depth → convert t ≡ Some c → IsOkOrMemory result

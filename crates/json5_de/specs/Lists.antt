@@ -46,7 +46,7 @@ Accepted es (more t ts) = ((es 0).accepts t ≡ true) × Accepted (λ n. es (suc
 
 -- ---- an element that has to be there
 
--- a text of its own at the opening bracket, or memory was wanting
+-- a text of its own at the opening bracket, or memory ran out
 abbrev pub IsTooShort : Seen → Error → Type 0
 IsTooShort old e = IsOutOfMemory e ⊎ (Says None e × IsAtBracket old e)
 
@@ -92,7 +92,7 @@ abbrev pub HasPlace : Option ℕ → ℕ → Type 0
 HasPlace None place = Unit {0}
 HasPlace (Some n) place = place < n
 
--- why a list is refused: its opening bracket, the first element at fault, elements that are missing or too many, or want of memory
+-- why a list is refused: its opening bracket, the first element at fault, elements that are missing or too many, or memory that ran out
 pub data ListFault (es : Elements) (shape : Shape) (old : State) (e : Error) : Type 0 where
   not_opened : RefusedBy (NotOpened square old.level) old e → ListFault es shape old e
   at_element : (now : Seen) (n : ℕ) → Within es old now n → HasPlace shape.size n → RefusedAtBracket (es n).refuses now e → ListFault es shape old e

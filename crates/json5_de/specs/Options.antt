@@ -4,14 +4,14 @@ use Rattle.json5_grammar.specs.Characters.{letter_n}
 use Rattle.json5_grammar.specs.declared.code.ErrorCode.{ErrorCode}
 use Rattle.json5_grammar.specs.declared.code.ErrorCode.TheVariants as codes
 use Rattle.json5_grammar.specs.declared.position.Position.{Position}
-use Rattle.json5_grammar.specs.Positions.{position_behind}
+use Rattle.json5_grammar.specs.Positions.{position_after}
 use Rattle.json5_grammar.specs.Trees.{Tree, null, boolean, number, text, array, object}
 use Rattle.json5_text.specs.declared.error.Error.{Error}
 use Rattle.json5_text.specs.Errors.{kind_of, place_of, or_place}
 use Rattle.json5_text.specs.Cursor.{Refused}
 use Rattle.json5_de.specs.State.{State, cursor_of}
 use Rattle.json5_de.specs.Steps.{PassedGap}
-use Rattle.json5_de.specs.Faults.{Behind, FaultyNull}
+use Rattle.json5_de.specs.Faults.{AfterBlanks, FaultyNull}
 
 -- null is read without memory, and what T reads so
 abbrev pub option_free : (Tree → Bool) → Tree → Bool
@@ -27,7 +27,7 @@ pub record PlacedAt (IsBefore : List ℕ → Type 0) (own e : Error) : Type 0 wh
   pub kind : kind_of e ≡ kind_of own
   pub there : Position
   pub place : place_of e ≡ or_place (place_of own) there
-  pub is_there : (before : List ℕ) → IsBefore before → there ≡ position_behind before
+  pub is_there : (before : List ℕ) → IsBefore before → there ≡ position_after before
 
 -- no T begins: EofParsingValue at the end, and the faults of null at an `n`
 pub data NoOption : List ℕ → Option ErrorCode → Option (List ℕ) → Type 0 where
@@ -50,7 +50,7 @@ pub record RefusedInside (refuses : State → Error → State → Type 0) (old :
 
 -- why an option is refused
 abbrev pub RefusesOption : (State → Error → State → Type 0) → State → Error → State → Type 0
-RefusesOption refuses old e new = old.failed ≡ false → Refused (Behind NoOption) (cursor_of old) e ⊎ RefusedInside refuses old e new
+RefusesOption refuses old e new = old.failed ≡ false → Refused (AfterBlanks NoOption) (cursor_of old) e ⊎ RefusedInside refuses old e new
 
 -- a reader that hasn't failed refuses as T does, and has failed
 abbrev pub RefusesLive : (State → Error → State → Type 0) → State → Error → State → Type 0

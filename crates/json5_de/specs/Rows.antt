@@ -20,7 +20,7 @@ use Rattle.json5_de.specs.Faults.{FaultRelation, RefusedBy, RefusedByOrMemory, F
 use Rattle.json5_de.specs.Scalars.{FaultyScalar, begins_scalar}
 
 -- a kind of value: the faults where one is expected, what each tree gives, which trees are read without memory,
--- what begins one, the codes at the end and at another character, and whether a refusal may be for want of memory
+-- what begins one, the codes at the end and at another character, and whether it may be refused because memory ran out
 pub record Row (C : Type 0) : Type 1 where
   pub IsFault : FaultRelation
   pub convert : Tree → Option C

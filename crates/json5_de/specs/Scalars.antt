@@ -1,4 +1,4 @@
--- What a value that is no collection begins with, and what is refused where a value of any kind is awaited.
+-- What a value that is no collection begins with, and what is refused where a value of any kind is expected.
 use Rattle.std.specs.Prelude.{◌≡◌, ℕ, Bool, true, false, ◌==◌, ◌||◌, cond, List, [], ◌∷◌, Option, Some, None}
 use Rattle.json5_grammar.specs.Characters.{letter_f, letter_n, letter_t}
 use Rattle.json5_grammar.specs.declared.code.ErrorCode.{ErrorCode}

@@ -2,7 +2,7 @@
 use Rattle.std.specs.Prelude.{◌≡◌, ℕ, ◌-◌, Bool, true, false, List, [], ◌∷◌, ◌++◌, Option, Some, None, ◌==◌, Result, IfErr, OnErr, IsErrAnd}
 use Rattle.json5_grammar.specs.declared.code.ErrorCode.{ErrorCode}
 use Rattle.json5_grammar.specs.declared.code.ErrorCode.TheVariants as codes
-use Rattle.json5_grammar.specs.Codes.{behind_text}
+use Rattle.json5_grammar.specs.Codes.{after_text}
 use Rattle.json5_grammar.specs.Characters.{NotBegun}
 use Rattle.json5_grammar.specs.Blanks.{Gap, Solid}
 use Rattle.json5_grammar.specs.Members.{IsSign}
@@ -14,19 +14,19 @@ use Rattle.json5_de.specs.State.{State, OnlyRead, cursor_of}
 use Rattle.json5_de.specs.declared.brackets.Brackets.{Brackets}
 use Rattle.json5_de.specs.Law.{Unprompted}
 use Rattle.json5_de.specs.Faults.{RefusedBy, AtEnd, DiffersWith}
-use Rattle.json5_de.specs.Access.{Seen, AtClose, Unawaited, HasPlace, PlacedAtBracket, IsAtBracket, is_comma_or_closing}
+use Rattle.json5_de.specs.Access.{Seen, AtClose, Unexpected, HasPlace, PlacedAtBracket, IsAtBracket, is_comma_or_closing}
 
--- y is what stands behind the gap in front of x
-pub record IsBehindGap (x y : List ℕ) : Type 0 where
+-- y is what stands after the gap in front of x
+pub record IsAfterGap (x y : List ℕ) : Type 0 where
   pub gap : List ℕ
   pub split : x ≡ gap ++ y
   pub is_gap : Gap gap y
   pub solid : Solid y
 
--- y is where an element of x may begin, behind the comma that is due
+-- y is where an element of x may begin, after the comma that is due
 abbrev pub Begun : Bool → List ℕ → List ℕ → Type 0
-Begun false x y = IsBehindGap x y
-Begun true x y = (z : List ℕ) × IsSign 0x2C x z × IsBehindGap z y
+Begun false x y = IsAfterGap x y
+Begun true x y = (z : List ℕ) × IsSign 0x2C x z × IsAfterGap z y
 
 -- the closing bracket in front was taken
 abbrev pub TookClosing : Brackets → State → State → Type 0
@@ -34,7 +34,7 @@ TookClosing b old new = (old.unread ≡ b.closing ∷ new.unread) × (new ≡ re
 
 -- something else stands in front
 abbrev pub RefusesClosing : Brackets → State → Error → Type 0
-RefusesClosing b old e = Refused (Unawaited b.ends b.not_closed) (cursor_of old) e × NotBegun (λ c. c == b.closing) old.unread
+RefusesClosing b old e = Refused (Unexpected b.ends b.not_closed) (cursor_of old) e × NotBegun (λ c. c == b.closing) old.unread
 
 -- no closing bracket is next
 pub record AtElement (due : Bool) (old new : State) : Type 0 where
@@ -51,7 +51,7 @@ GoesOn due old new false = AtClose due old new
 pub data NoNext (due : Bool) : List ℕ → Option ErrorCode → Option (List ℕ) → Type 0 where
   no_comma : (c : ℕ) (r : List ℕ) → due ≡ true → (c == 0x2C) ≡ false → (c == 0x5D) ≡ false → NoNext due (c ∷ r) (Some codes.ExpectedComma) (Some [])
   list_ends : due ≡ true → NoNext due [] (Some codes.EofParsingArray) None
-  in_blanks_behind : {x : List ℕ} {reason : Option ErrorCode} {place : Option (List ℕ)} → due ≡ true → FaultyBlanks x reason place → NoNext due (0x2C ∷ x) reason (behind_text (0x2C ∷ []) place)
+  in_blanks_after : {x : List ℕ} {reason : Option ErrorCode} {place : Option (List ℕ)} → due ≡ true → FaultyBlanks x reason place → NoNext due (0x2C ∷ x) reason (after_text (0x2C ∷ []) place)
 
 -- the fault of a call for an element: none was reached, or the element's own
 pub data RefusesElement (refuses : State → Error → State → Type 0) (due : Bool) (old : State) (e : Error) (after : State) : Type 0 where

@@ -2,7 +2,7 @@
 use Rattle.std.specs.Prelude.{◌≡◌, ℕ, List, Bool, true}
 use Rattle.json5_text.specs.Cursor.{Cursor}
 
--- the whole text, what is unread of it, the count of open brackets, and whether a call refused or what was lent was given up
+-- the whole text, what is unread of it, the count of open brackets, and whether a call refused, or an access holds the reader or was dropped before its end
 pub record State : Type 0 where
   pub input : List ℕ
   pub unread : List ℕ

@@ -8,7 +8,7 @@ use Rattle.json5_text.specs.declared.cow_str.CowStr.{CowStr}
 use Rattle.json5_text.specs.declared.number.Number as token
 use Rattle.json5_text.specs.Cows.{cow_bytes, is_borrowed}
 use Rattle.json5_text.specs.NumberViews.{number_of}
-use Rattle.json5_grammar.specs.Positions.{position_behind}
+use Rattle.json5_grammar.specs.Positions.{position_after}
 use Rattle.json5_text.specs.declared.error.Error.{Error}
 use Rattle.json5_text.specs.Errors.{place_of}
 use Rattle.json5_text.specs.Cursor.{Says, Refused, IsOutOfMemory}
@@ -50,7 +50,7 @@ TookCow old new t = (s u : List ℕ) × (plain : Bool) × TookText old s new × 
 abbrev pub TookCharacters : {A : Type 0} → State → State → String A → Type 0
 TookCharacters old new t = (s : List ℕ) × (plain : Bool) × TookText old s new × Str s (chars (string_bytes t)) plain
 
--- the token in front is refused with one of its faults, or memory was wanting
+-- the token in front is refused with one of its faults, or memory ran out
 abbrev pub RefusesToken : FaultRelation → State → Error → Type 0
 RefusesToken IsFault old e = IsOutOfMemory e ⊎ Refused IsFault (cursor_of old) e
 
@@ -58,12 +58,12 @@ RefusesToken IsFault old e = IsOutOfMemory e ⊎ Refused IsFault (cursor_of old)
 abbrev pub IsOffset : List ℕ → ℕ → Type 0
 IsOffset input offset = (before : List ℕ) × (rest : List ℕ) × (input ≡ before ++ rest) × (offset ≡ length (encode_utf8_all before))
 
--- a text of its own at this offset, or memory was wanting
+-- a text of its own at this offset, or memory ran out
 abbrev pub IsMismatch : List ℕ → ℕ → Error → Type 0
 IsMismatch input offset e =
-    IsOutOfMemory e ⊎ (Says None e × ((before rest : List ℕ) → input ≡ before ++ rest → offset ≡ length (encode_utf8_all before) → place_of e ≡ Some (position_behind before)))
+    IsOutOfMemory e ⊎ (Says None e × ((before rest : List ℕ) → input ≡ before ++ rest → offset ≡ length (encode_utf8_all before) → place_of e ≡ Some (position_after before)))
 
--- a whole number was taken behind a gap, and so many bytes stand before it
+-- a whole number was taken after a gap, and so many bytes stand before it
 pub record WholeAt (old new : State) (start : ℕ) (z : ℤ) : Type 0 where
   pub between : State
   pub phrase : List ℕ

@@ -7,7 +7,7 @@ use Rattle.json5_text.specs.declared.error.Error.{Error}
 use Rattle.json5_text.specs.Cursor.{Refused, IsOutOfMemory}
 use Rattle.json5_de.specs.State.{State}
 use Rattle.json5_de.specs.Law.{TookValue}
-use Rattle.json5_de.specs.Faults.{Behind, RefusedBy, Trailing}
+use Rattle.json5_de.specs.Faults.{AfterBlanks, RefusedBy, Trailing}
 
 -- a reader at the start of the text
 abbrev pub at_start : List ℕ → State
@@ -22,7 +22,7 @@ pub data RefusesReading {C : Type 0} (convert : Tree → Option C) (refuses : St
   in_value : (new : State) → refuses (at_start x) e new → RefusesReading convert refuses x e
   after_value : (t : Tree) (c : C) (new : State) → TookValue (at_start x) t new → convert t ≡ Some c → RefusedBy Trailing new e → RefusesReading convert refuses x e
 
--- where a value that converts stands in front, the fault is that of what stands after it, want of memory aside
+-- where a value that converts stands in front, the fault is that of what stands after it, unless memory runs out
 abbrev pub BlamesRest : {C : Type 0} → (Tree → Option C) → List ℕ → Error → Type 0
 BlamesRest {C = C} convert x e = (t : Tree) (r : List ℕ) (c : C) → Reads x t r → depth t ≤ max_depth → convert t ≡ Some c
-    → IsOutOfMemory e ⊎ Refused (Behind Trailing) (record { input = x; unread = r }) e
+    → IsOutOfMemory e ⊎ Refused (AfterBlanks Trailing) (record { input = x; unread = r }) e

@@ -8,7 +8,6 @@ ghost use Rattle.json5_text.specs.ValueViews as datum;
 ghost use Rattle.json5_text.specs.NumberViews.{number_of};
 ghost use Rattle.json5_de.specs.State.{GivesUp};
 ghost use Rattle.json5_de.specs.Rows.{ReadsAs, any_row};
-ghost use Rattle.json5_de.specs.Steps.{TookCharacters, RefusesToken};
 ghost use Rattle.json5_de.specs.Scalars.{kind_at};
 
 use crate::de::Deserializer;
@@ -44,16 +43,6 @@ fn kind_at(c: char) -> ValueKind
 }
 
 impl<I: Input> Deserializer<I> {
-    /// Takes the string in front; its characters are those of the text.
-    fn characters(&mut self) -> Result<String>
-        ensures taken { IfOk result (TookCharacters self.old self.new) }
-        ensures refused { IfErr result (RefusesToken FaultyString self.old) }
-        ensures failed { OnErr result (GivesUp self.old self.new) }
-    {
-        let _offset = self.offset();
-        self.owned_text()
-    }
-
     /// Reads a value of any kind. Until they come, an array or an object is refused with `ExpectedValue` at its bracket.
     pub fn deserialize_any(&mut self) -> Result<Value>
         ensures { ReadsAs any_row value_of self.old self.new result }
@@ -76,7 +65,7 @@ impl<I: Input> Deserializer<I> {
                 Ok(Value::Bool(false))
             }
             ValueKind::Text => {
-                let text = self.characters()?;
+                let text = self.string_owned()?;
                 Ok(Value::String(text))
             }
             ValueKind::Number => {

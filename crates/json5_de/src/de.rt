@@ -2,7 +2,7 @@
 
 ghost use Rattle.std.specs.Prelude.{◌≡◌, ◌≤◌, Bool, ◌++◌, ℕ, List, [], length, Some, None, IfOk, IfErr, OnOk, OnErr, IsOk, IsErrAnd, true, false, slice_get};
 ghost use Rattle.std.specs.Prelude.{◌<◌, ◌+◌, ◌-◌, ◌==◌, ◌∷◌};
-ghost use Rattle.json5_grammar.specs.Positions.{position_behind};
+ghost use Rattle.json5_grammar.specs.Positions.{position_after};
 ghost use Rattle.std.specs.Str.{chars};
 ghost use Rattle.json5_text.specs.Errors.{FaultKind, code, kind_of, place_of};
 ghost use Rattle.json5_text.specs.Cursor.{Refused, IsPlaced, IsPositionOf};
@@ -19,7 +19,7 @@ ghost use Rattle.json5_grammar.specs.Numbers.{Num};
 ghost use Rattle.json5_grammar.specs.Stops.{lengthens};
 ghost use Rattle.json5_grammar.specs.Strings.{Str};
 ghost use Rattle.json5_text.specs.NumberViews.{keeps_digits};
-ghost use Rattle.json5_de.specs.Steps.{PassedGap, TookText, TookNumber, TookOwned, TookCow, RefusesToken, IsOffset, IsMismatch};
+ghost use Rattle.json5_de.specs.Steps.{PassedGap, TookText, TookNumber, TookOwned, TookCharacters, TookCow, RefusesToken, IsOffset, IsMismatch};
 
 use crate::mismatch::Mismatch;
 use json5_text::cow_str::CowStr;
@@ -104,7 +104,7 @@ impl<I: Input> Deserializer<I> {
         self.scanner.allocator()
     }
 
-    /// Whether a value may be awaited: after a refusal there is none.
+    /// Answers `Failed` where a call refused before, or an access holds the reader.
     pub(crate) fn live(&self) -> Result<()>
         ensures live { OnOk result ((self.now.failed ≡ false) × (self.now.level ≤ max_depth)) }
         ensures failed { IfErr result (λ e. (self.now.failed ≡ true) × (kind_of e ≡ code codes.Failed) × (place_of e ≡ None)) }
@@ -172,11 +172,13 @@ impl<I: Input> Deserializer<I> {
     }
 
     /// Takes the string in front, its text in memory of its own.
-    pub(crate) fn owned_text(&mut self) -> Result<String>
+    pub(crate) fn string_owned(&mut self) -> Result<String>
         ensures taken { IfOk result (TookOwned self.old self.new) }
+        ensures characters { IfOk result (TookCharacters self.old self.new) }
         ensures refused { IfErr result (RefusesToken FaultyString self.old) }
         ensures failed { OnErr result (GivesUp self.old self.new) }
     {
+        let _offset = self.offset();
         match self.scanner.string_owned() {
             Ok(text) => Ok(text),
             Err(e) => self.refuse(e),
@@ -218,7 +220,7 @@ impl<I: Input> Deserializer<I> {
         self.scanner.offset()
     }
 
-    /// Refuses what is whole, and isn't of the type that was awaited: a text of its own, at the offset.
+    /// Refuses a value that isn't of the type that is expected: a text of its own, at the offset.
     pub(crate) fn mismatch<T>(&mut self, offset: usize, mismatch: &Mismatch<'_>) -> Result<T>
         requires { IsOffset self.old.input offset }
         ensures refused { IsErrAnd result (IsMismatch self.old.input offset) }
@@ -230,25 +232,8 @@ impl<I: Input> Deserializer<I> {
             Err(error) => self.refuse(error),
         }
     }
-}
 
-impl<'de, I: Borrows<'de>> Deserializer<I> {
-    /// Takes the string in front, its text borrowed where it holds no backslash.
-    pub(crate) fn text(&mut self) -> Result<CowStr<'de>>
-        ensures taken { IfOk result (TookCow self.old self.new) }
-        ensures refused { IfErr result (RefusesToken FaultyString self.old) }
-        ensures failed { OnErr result (GivesUp self.old self.new) }
-        ensures plain { (s u r : List ℕ) → self.old.unread ≡ s ++ r → Str s u true → IsOk result }
-    {
-        match self.scanner.string() {
-            Ok(text) => Ok(text),
-            Err(e) => self.refuse(e),
-        }
-    }
-}
-
-impl<I: Input> Deserializer<I> {
-    /// Takes the reader back from what it was lent to, or lends it, while which it stands as failed.
+    /// Sets the flag that blocks the reader while an access holds it.
     pub(crate) fn set_failed(&mut self, failed: bool)
         ensures { self.new ≡ record self.old { failed = failed } }
     {
@@ -286,8 +271,24 @@ impl<I: Input> Deserializer<I> {
     /// The position of an offset in bytes, as that of a value which `Spanned` gives; the end's, where no character begins there.
     pub fn position_of(&self, offset: usize) -> Position
         ensures inside { IsPositionOf self.now.input offset result }
-        ensures past { (IsOffset self.now.input offset → ⊥) → result ≡ position_behind self.now.input }
+        ensures past { (IsOffset self.now.input offset → ⊥) → result ≡ position_after self.now.input }
     {
         self.scanner.position_of(offset)
+    }
+}
+
+// What is borrowed from the text.
+impl<'de, I: Borrows<'de>> Deserializer<I> {
+    /// Takes the string in front, its text borrowed where it holds no backslash.
+    pub(crate) fn text(&mut self) -> Result<CowStr<'de>>
+        ensures taken { IfOk result (TookCow self.old self.new) }
+        ensures refused { IfErr result (RefusesToken FaultyString self.old) }
+        ensures failed { OnErr result (GivesUp self.old self.new) }
+        ensures plain { (s u r : List ℕ) → self.old.unread ≡ s ++ r → Str s u true → IsOk result }
+    {
+        match self.scanner.string() {
+            Ok(text) => Ok(text),
+            Err(e) => self.refuse(e),
+        }
     }
 }

@@ -23,7 +23,7 @@ fn magnitude(whole: Whole) -> u128
     }
 }
 
-/// The decimal of the same number; zero has no sign. The only error is want of memory.
+/// The decimal of the same number; zero has no sign. The only error is that memory ran out.
 pub(crate) fn same_decimal(alloc: Global, whole: Whole) -> Result<Decimal>
     ensures ok { IfOk result (λ d. d ≡ same_decimal (numbers.whole whole)) }
     ensures err { IfErr result IsOutOfMemory }

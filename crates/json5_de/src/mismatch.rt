@@ -1,16 +1,16 @@
-//! The texts of faults at what is whole, and isn't of the type that was awaited.
+//! The texts of faults at a value that isn't of the type that is expected.
 
 use json5_text::whole::Whole;
 use std::fmt;
 
-/// What stands in place of what was awaited.
+/// What stands in place of what is expected.
 #[derive(Drop)]
 pub(crate) enum Mismatch<'a> {
     /// A whole number that isn't in the range of the type of this name.
     OutOfRange(Whole, &'a str),
-    /// A decimal where the integer type of this name is awaited.
+    /// A decimal where the integer type of this name is expected.
     NotWhole(&'a str),
-    /// A text with an escape where a borrowed one is awaited.
+    /// A text with an escape where a borrowed one is expected.
     Escaped(&'a str),
     /// A text that isn't one character.
     NotCharacter(&'a str),

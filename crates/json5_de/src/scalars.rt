@@ -91,9 +91,7 @@ impl<I: Input> Deserializer<I> {
         };
         Ok(integer)
     }
-}
 
-impl<I: Input> Deserializer<I> {
     /// Reads a whole number as `u8`, which takes no memory; another one is a custom fault at its start.
     pub fn deserialize_u8(&mut self) -> Result<u8>
         ensures { ReadsAs (natural_row (2 ^ 8)) (λ n. n) self.old self.new result }

@@ -7,12 +7,12 @@ ghost use Rattle.json5_grammar.specs.Characters.{NotBegun};
 ghost use Rattle.json5_grammar.specs.Trees.{Trees};
 ghost use Rattle.json5_grammar.specs.Members.{IsEnd, GoesNowhere};
 ghost use Rattle.json5_text.specs.Cursor.{Refused, IsOffset, IsPositionOf};
-ghost use Rattle.json5_grammar.specs.Positions.{position_behind};
+ghost use Rattle.json5_grammar.specs.Positions.{position_after};
 ghost use Rattle.json5_de.specs.State.{SameText, GivesUp, cursor_of};
 ghost use Rattle.json5_de.specs.Faults.{RefusedBy, IsUnplaced};
 ghost use Rattle.json5_de.specs.Brackets.{AreSigns};
 ghost use Rattle.json5_de.specs.Law.{Unprompted};
-ghost use Rattle.json5_de.specs.Access.{bare, Closed, OpensAs, OpensArray, ClosesArray, GivesElement, CompletesElement, ReadsElement, CompletesClose, PlacedAtBracket, Unawaited, NotClosed, ElementsLeft, ReadsMore, LeavesFewer};
+ghost use Rattle.json5_de.specs.Access.{bare, Closed, OpensAs, OpensArray, ClosesArray, GivesElement, CompletesElement, ReadsElement, CompletesClose, PlacedAtBracket, Unexpected, NotClosed, ElementsLeft, ReadsMore, LeavesFewer};
 ghost use Rattle.json5_de.specs.Lists.{IsTooShort, LeavesRequired, RefusesRequired};
 ghost use Rattle.json5_de.specs.Seq.{TookClosing, RefusesClosing, GoesOn, NoNext, RefusesElement, RefusesNext};
 
@@ -23,8 +23,8 @@ use json5_text::input::Input;
 use json5_text::{ErrorCode, Position};
 use std::alloc::Global;
 
-/// The elements of an array, one after another. The reader that lends itself stands as failed until `end`, and for good where
-/// the access is dropped or leaked before.
+/// The elements of an array, one after another. The reader answers `Failed` until `end`, and for good where the access is
+/// dropped or leaked before.
 pub struct SeqAccess<'a, I: Input> {
     de: &'a mut Deserializer<I>,
     /// The count of bytes before the opening bracket.
@@ -35,7 +35,7 @@ pub struct SeqAccess<'a, I: Input> {
     failed: bool,
 }
 
-/// Dropped before its end, it leaves the reader as it stands, which is failed.
+/// Dropped before its end, it leaves the reader blocked.
 impl<I: Input> Drop for SeqAccess<'_, I> {
     fn drop(self)
         ensures { self.exit.0.now ≡ self.entry.de.now }
@@ -53,8 +53,8 @@ impl<I: Input> Deserializer<I> {
     ghost use Rattle.json5_de.specs.Lending.{seen, Holds, BlocksReader, lends_reader};
 
     /// Refuses what is next: `differs` at the character, or `ends` at the end, without a place.
-    fn unawaited(&mut self, ends: ErrorCode, differs: ErrorCode) -> Error
-        ensures fault { Refused (Unawaited ends differs) (cursor_of self.old) result }
+    fn unexpected(&mut self, ends: ErrorCode, differs: ErrorCode) -> Error
+        ensures fault { Refused (Unexpected ends differs) (cursor_of self.old) result }
         ensures state { self.new ≡ record self.old { failed = true } }
     {
         let error = match self.peek() {
@@ -74,7 +74,7 @@ impl<I: Input> Deserializer<I> {
         self.begin()?;
         let start = self.offset();
         if !self.eat(brackets.opening) {
-            return Err(self.unawaited(brackets.ends, brackets.not_opened));
+            return Err(self.unexpected(brackets.ends, brackets.not_opened));
         }
         if !self.enter() {
             let error = Error::new_at(self.position_of(start), ErrorCode::TooDeep);
@@ -108,7 +108,7 @@ impl<I: Input> Deserializer<I> {
             return Ok(true);
         }
         if !self.eat(',') {
-            return Err(self.unawaited(ErrorCode::EofParsingArray, ErrorCode::ExpectedComma));
+            return Err(self.unexpected(ErrorCode::EofParsingArray, ErrorCode::ExpectedComma));
         }
         self.begin()?;
         Ok(!self.at_bracket())
@@ -138,7 +138,7 @@ impl<I: Input> Deserializer<I> {
         ensures same_text { SameText self.old self.new }
     {
         if !self.eat(brackets.closing) {
-            return Err(self.unawaited(brackets.ends, brackets.not_closed));
+            return Err(self.unexpected(brackets.ends, brackets.not_closed));
         }
         self.leave();
         Ok(())
@@ -164,8 +164,8 @@ impl<I: Input> Deserializer<I> {
         self.bracket(brackets)
     }
 
-    /// Opens an array, and lends the reader to what reads its elements: `ExpectedOpeningBracket` at another character, `TooDeep`
-    /// at the 129th open bracket, `EofParsingArray` at the end, without a place.
+    /// Opens an array, and blocks the reader while the access reads its elements. `ExpectedOpeningBracket` stands at another
+    /// character, `TooDeep` at the 129th open bracket; `EofParsingArray` at the end has no place.
     pub fn deserialize_seq(&mut self) -> Result<SeqAccess<'_, I>>
         ensures* lends { sem 𝓛 (lends_reader I.row I.Input self.entry result) }
         ensures same_reference { IfOk result (Holds self.entry) }
@@ -287,13 +287,13 @@ impl<'a, I: Input> SeqAccess<'a, I> {
     /// The position of an offset in bytes, as that of an element which `Spanned` gives; the end's, where no character begins there.
     pub fn position_of(&self, offset: usize) -> Position
         ensures inside { IsPositionOf (seen self.now).reader.input offset result }
-        ensures past { (IsOffset (seen self.now).reader.input offset → ⊥) → result ≡ position_behind (seen self.now).reader.input }
+        ensures past { (IsOffset (seen self.now).reader.input offset → ⊥) → result ≡ position_after (seen self.now).reader.input }
     {
         self.de.position_of(offset)
     }
 
     /// Takes the closing bracket, and before it one comma where an element was read and its comma wasn't taken. Then the reader
-    /// goes on behind it. `ExpectedClosingBracket` stands at another character; `EofParsingArray` at the end has no place.
+    /// goes on after it. `ExpectedClosingBracket` stands at another character; `EofParsingArray` at the end has no place.
     pub fn end(self) -> Result<()>
         ensures { ClosesArray (seen self.entry) self.exit.0.now result }
     {

@@ -30,7 +30,7 @@ impl<I: Input> Deserializer<I> {
         ensures { ReadsAs string_row string_bytes self.old self.new result }
     {
         self.begin()?;
-        self.owned_text()
+        self.string_owned()
     }
 
     /// Reads a text of one character; another one is a custom fault at the quote.
@@ -39,7 +39,7 @@ impl<I: Input> Deserializer<I> {
     {
         self.begin()?;
         let start = self.offset();
-        let text = self.owned_text()?;
+        let text = self.string_owned()?;
         let Some(c) = only_character(text.as_str()) else {
             return self.mismatch(start, &Mismatch::NotCharacter(text.as_str()));
         };
@@ -47,6 +47,7 @@ impl<I: Input> Deserializer<I> {
     }
 }
 
+// What is borrowed from the text.
 impl<'de, I: Borrows<'de>> Deserializer<I> {
     /// Reads a text, borrowed where no escape is used, which then takes no memory.
     pub fn deserialize_identifier(&mut self) -> Result<CowStr<'de>>

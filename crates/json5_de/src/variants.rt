@@ -30,7 +30,7 @@ impl<I: Input> Deserializer<I> {
     {
         self.begin()?;
         let start = self.offset();
-        let name = self.owned_text()?;
+        let name = self.string_owned()?;
         let Some(place) = place_among(variants, name.as_str()) else {
             return self.mismatch(start, &Mismatch::UnknownVariant(name.as_str(), variants));
         };

@@ -2,10 +2,10 @@
 use Rattle.std.specs.Prelude.{ℕ, List, Bool, true, false, Option, IfSome}
 use lib.Chars.{codes}
 use Rattle.json5.specs.Pieces.{AppendsFront}
-use Rattle.json5_fmt.specs.declared.stop.Stop.{Stop}
+use Rattle.json5_fmt.specs.declared.failure.Failure.{Failure}
 use Rattle.json5_fmt.specs.Reports.{report_line, status_of, usage_line}
-use Rattle.json5_fmt.specs.Runs.{RunStop, WritesFormatted}
-use Rattle.json5_fmt.specs.Stops.{NamesMemory}
+use Rattle.json5_fmt.specs.Runs.{RunFailure, WritesFormatted}
+use Rattle.json5_fmt.specs.Failures.{NamesMemory}
 
 -- whether there were words, what was read, what output and errors held before and after, and the status
 pub data Answers : Bool → Option (List ℕ) → Option (List ℕ) → Option (List ℕ) → Option (List ℕ) → Option (List ℕ) → ℕ → Type 0 where
@@ -14,5 +14,5 @@ pub data Answers : Bool → Option (List ℕ) → Option (List ℕ) → Option (
   -- it wrote the formatted text
   formats : {input output written errors : Option (List ℕ)} → IfSome input (WritesFormatted output written) → Answers false input output written errors errors 0
   -- it said why it stopped
-  stops : {input output written errors said : Option (List ℕ)} (s : Stop) → RunStop input output written s → NamesMemory s
+  fails : {input output written errors said : Option (List ℕ)} (s : Failure) → RunFailure input output written s → NamesMemory s
       → AppendsFront errors said (report_line (codes "stdin") s) → Answers false input output written errors said (status_of s)

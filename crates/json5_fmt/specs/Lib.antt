@@ -3,4 +3,4 @@ pub mod Formats
 pub mod Pieces
 pub mod Reports
 pub mod Runs
-pub mod Stops
+pub mod Failures

@@ -6,8 +6,8 @@ use Rattle.json5.specs.Characters.{line_feed}
 use Rattle.json5.specs.Error.{Error}
 use Rattle.json5_fmt.specs.Formats.{Formats, Refuses}
 use Rattle.json5.specs.Pieces.{AppendsFront}
-use Rattle.json5_fmt.specs.declared.stop.Stop.{Stop}
-use Rattle.json5_fmt.specs.declared.stop.Stop.TheVariants as stop
+use Rattle.json5_fmt.specs.declared.failure.Failure.{Failure}
+use Rattle.json5_fmt.specs.declared.failure.Failure.TheVariants as failure
 
 abbrev pub line : List ℕ → List ℕ
 line text = text ++ line_feed ∷ []
@@ -25,17 +25,17 @@ abbrev pub RefusesText : Error → List ℕ → Type 0
 RefusesText e bytes = IsUtf8 bytes × Refuses bytes e
 
 -- no text was read
-abbrev pub ReadStop : Option (List ℕ) → Stop → Type 0
-ReadStop input stop.NotUtf8 = IfSome input (λ bytes. ¬ (IsUtf8 bytes))
-ReadStop input (stop.Text e) = ⊥
-ReadStop input stop.NoMemory = ⊤
-ReadStop input stop.Read = ⊤
-ReadStop input stop.Write = ⊥
+abbrev pub ReadFailure : Option (List ℕ) → Failure → Type 0
+ReadFailure input failure.NotUtf8 = IfSome input (λ bytes. ¬ (IsUtf8 bytes))
+ReadFailure input (failure.Text e) = ⊥
+ReadFailure input failure.NoMemory = ⊤
+ReadFailure input failure.Read = ⊤
+ReadFailure input failure.Write = ⊥
 
 -- nothing was written, but at a failed write
-abbrev pub RunStop : Option (List ℕ) → Option (List ℕ) → Option (List ℕ) → Stop → Type 0
-RunStop input old new stop.NotUtf8 = IfSome input (λ bytes. ¬ (IsUtf8 bytes)) × Keeps old new
-RunStop input old new (stop.Text e) = IfSome input (RefusesText e) × Keeps old new
-RunStop input old new stop.NoMemory = Keeps old new
-RunStop input old new stop.Read = Keeps old new
-RunStop input old new stop.Write = IfSome input (BeginsFormatted old new)
+abbrev pub RunFailure : Option (List ℕ) → Option (List ℕ) → Option (List ℕ) → Failure → Type 0
+RunFailure input old new failure.NotUtf8 = IfSome input (λ bytes. ¬ (IsUtf8 bytes)) × Keeps old new
+RunFailure input old new (failure.Text e) = IfSome input (RefusesText e) × Keeps old new
+RunFailure input old new failure.NoMemory = Keeps old new
+RunFailure input old new failure.Read = Keeps old new
+RunFailure input old new failure.Write = IfSome input (BeginsFormatted old new)

@@ -23,6 +23,6 @@ pub fn answer<R: Read, W: Write, E: Write>(
     }
     match run(alloc, r, w) {
         Ok(()) => 0,
-        Err(stop) => report("stdin", &stop, e),
+        Err(failure) => report("stdin", &failure, e),
     }
 }

@@ -5,10 +5,10 @@
 #![tactic(auto)]
 
 mod answer;
+mod failure;
 mod output;
 mod reports;
 mod run;
-mod stop;
 #[cfg(test)]
 mod tests;
 

@@ -4,22 +4,22 @@ ghost use Rattle.std.specs.Prelude.{◌≡◌};
 ghost use Rattle.json5.specs.Pieces.{AppendsFront, Pushes};
 ghost use Rattle.json5_fmt.specs.Reports.{fault_line, report_line, status_of, usage_line};
 
+use crate::failure::Failure;
 use crate::output::write_texts;
-use crate::stop::Stop;
 use itoa::Buffer;
 use json5::Error;
 use std::io::{self, Write};
 
 /// Writes why the work on this input ended, as one line, and answers the status that the program ends with. A failed write
 /// changes nothing in the answer.
-pub fn report<E: Write>(name: &str, stop: &Stop, e: &mut E) -> u8
-    ensures status { result ≡ status_of stop.now }
-    ensures line { AppendsFront (E.contents e.old) (E.contents e.new) (report_line name.now stop.now) }
+pub fn report<E: Write>(name: &str, failure: &Failure, e: &mut E) -> u8
+    ensures status { result ≡ status_of failure.now }
+    ensures line { AppendsFront (E.contents e.old) (E.contents e.new) (report_line name.now failure.now) }
 {
-    let _ = write_report(name, stop, e);
-    match stop {
-        Stop::NotUtf8 | Stop::Text(_) => 1,
-        Stop::NoMemory | Stop::Read | Stop::Write => 2,
+    let _ = write_report(name, failure, e);
+    match failure {
+        Failure::NotUtf8 | Failure::Text(_) => 1,
+        Failure::NoMemory | Failure::Read | Failure::Write => 2,
     }
 }
 
@@ -32,15 +32,15 @@ pub fn usage<E: Write>(e: &mut E) -> u8
     2
 }
 
-fn write_report<E: Write>(name: &str, stop: &Stop, e: &mut E) -> io::Result<()>
-    ensures { Pushes (E.contents e.old) (E.contents e.new) (report_line name.now stop.now) result }
+fn write_report<E: Write>(name: &str, failure: &Failure, e: &mut E) -> io::Result<()>
+    ensures { Pushes (E.contents e.old) (E.contents e.new) (report_line name.now failure.now) result }
 {
-    match stop {
-        Stop::NotUtf8 => write_texts(e, &[name, ": not UTF-8\n"]),
-        Stop::Text(error) => write_fault(name, error, e),
-        Stop::NoMemory => write_texts(e, &[name, ": out of memory\n"]),
-        Stop::Read => write_texts(e, &[name, ": cannot be read\n"]),
-        Stop::Write => write_texts(e, &["output: cannot be written\n"]),
+    match failure {
+        Failure::NotUtf8 => write_texts(e, &[name, ": not UTF-8\n"]),
+        Failure::Text(error) => write_fault(name, error, e),
+        Failure::NoMemory => write_texts(e, &[name, ": out of memory\n"]),
+        Failure::Read => write_texts(e, &[name, ": cannot be read\n"]),
+        Failure::Write => write_texts(e, &["output: cannot be written\n"]),
     }
 }
 

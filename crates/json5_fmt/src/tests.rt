@@ -1,7 +1,7 @@
 //! What is written on standard error, and runs over readers and writers that fail.
+use crate::failure::Failure;
 use crate::reports::{report, usage};
 use crate::run::run;
-use crate::stop::Stop;
 use json5::{Error, ErrorCode, Position};
 use std::alloc::Global;
 use std::io::{self, Read, Write};
@@ -10,17 +10,17 @@ use std::test::Fail;
 /// The line of each cause and of the usage, and the status that it ends with on a line of its own.
 fn lines(alloc: Global) -> Result<String, Fail> {
     let place = Position { line: 0, column: 3 };
-    let stops = [
-        Stop::Text(Error::new_at(place, ErrorCode::ExpectedComma)),
-        Stop::Text(Error::new(ErrorCode::EofParsingValue)),
-        Stop::NotUtf8,
-        Stop::NoMemory,
-        Stop::Read,
-        Stop::Write,
+    let failures = [
+        Failure::Text(Error::new_at(place, ErrorCode::ExpectedComma)),
+        Failure::Text(Error::new(ErrorCode::EofParsingValue)),
+        Failure::NotUtf8,
+        Failure::NoMemory,
+        Failure::Read,
+        Failure::Write,
     ];
     let mut lines = Vec::new(alloc);
-    for stop in &stops {
-        let status = report("a.json5", stop, &mut lines);
+    for failure in &failures {
+        let status = report("a.json5", failure, &mut lines);
         writeln!(lines, "{status}")?;
     }
     let status = usage(&mut lines);
@@ -83,8 +83,8 @@ fn printed(alloc: Global, bytes: &[u8], fails_at: usize) -> Result<String, Fail>
         fails_at,
     };
     let mut written = Vec::new(alloc);
-    if let Err(stop) = run(alloc, &mut input, &mut written) {
-        report("stdin", &stop, &mut written);
+    if let Err(failure) = run(alloc, &mut input, &mut written) {
+        report("stdin", &failure, &mut written);
     }
     Ok(String::from_utf8(written)?)
 }
@@ -175,7 +175,7 @@ fn ends_after(alloc: Global, text: &str) -> bool {
         calls: 0,
     };
     let ended = run(alloc, &mut input, &mut slow);
-    matches!(ended, Err(Stop::Write))
+    matches!(ended, Err(Failure::Write))
         && slow.bytes.as_slice() == text.as_bytes()
         && slow.calls == text.len() + 1
 }

@@ -5,7 +5,7 @@ use Rattle.std.specs.Char.{digit_value}
 use Rattle.std.proofs.lemmas.Bool.Decides.{nat_tests}
 use Rattle.json5_grammar.specs.Characters.{NotBegun, is_digit, is_hex_digit}
 use Rattle.json5_grammar.specs.Strings.{Items, no_item, raw, escape, Escape, short, nul, byte, unicode, line_end, cr_lf, lone_cr, itself}
-use Rattle.json5_grammar.specs.Codes.{behind_text}
+use Rattle.json5_grammar.specs.Codes.{after_text}
 use Rattle.json5_grammar.specs.Reading.{Place, here, inner, IsAt}
 
 -- a test that a `cond` makes
@@ -72,11 +72,11 @@ no_hex c h = grind (arith, nat_tests)
 -- ---- places, and the next character
 
 -- a place after more text
-pub at_behind : (t x : List ℕ) (pl : Option (List ℕ)) (p : Place) → IsAt x pl p → IsAt (t ++ x) (behind_text t pl) p
-at_behind t x (Some b) (here q) e = ap (λ z. t ++ z) e ∙ sym (append_assoc t b q)
-at_behind t x (Some b) inner h = absurd h
-at_behind t x None (here q) h = absurd h
-at_behind t x None inner h = tt
+pub at_after : (t x : List ℕ) (pl : Option (List ℕ)) (p : Place) → IsAt x pl p → IsAt (t ++ x) (after_text t pl) p
+at_after t x (Some b) (here q) e = ap (λ z. t ++ z) e ∙ sym (append_assoc t b q)
+at_after t x (Some b) inner h = absurd h
+at_after t x None (here q) h = absurd h
+at_after t x None inner h = tt
 
 abbrev pub SameHead : List ℕ → List ℕ → Type 0
 SameHead [] [] = ⊤

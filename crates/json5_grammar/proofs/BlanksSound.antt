@@ -3,13 +3,13 @@ use Rattle.std.proofs.Common.{◌≡◌, ℕ, Bool, true, false, cond, ◌||◌,
 use Rattle.std.specs.Prelude.{◌==◌}
 use Rattle.std.proofs.lemmas.List.{append-nil}
 use Rattle.json5_grammar.specs.Characters.{is_terminator, is_blank, NotBegun, Each, no_char, char}
-use Rattle.json5_grammar.specs.Codes.{ErrorCode, ExpectedComment, EofParsingComment, Shown, by_char, by_end, behind_text}
+use Rattle.json5_grammar.specs.Codes.{ErrorCode, ExpectedComment, EofParsingComment, Shown, by_char, by_end, after_text}
 use Rattle.json5_grammar.specs.Blanks.{Inside, ends, star, other, Blanks, empty, blank, line, block, LastBlanks, open_line, Gap, at_end, is_solid, Solid, CommentFault, no_comment, slash_ends, block_ends, BlankFault, in_comment}
 use Rattle.json5_grammar.specs.Blames.{BlankBlame, HasGap, IsBlamed}
 use Rattle.json5_grammar.specs.Reading.{Place, here, inner, Read, got, bad, IsAt}
 use Rattle.json5_grammar.specs.ReadBlanks.{Mode, between, slash, skip}
-use Rattle.json5_grammar.proofs.Basics.{by_test, eq_from, neq_from, not_eq, at_behind}
-use Rattle.json5_grammar.proofs.Refusals.{Refuses, one_refusal, not_both, refuses_behind, one_answer}
+use Rattle.json5_grammar.proofs.Basics.{by_test, eq_from, neq_from, not_eq, at_after}
+use Rattle.json5_grammar.proofs.Refusals.{Refuses, one_refusal, not_both, refuses_after, one_answer}
 use Rattle.json5_grammar.proofs.BlanksRead.{skip_slash, skip_blanks, skip_gap, skip_rest, solid_from, begins_solid}
 
 -- ---- blanks after blanks
@@ -59,9 +59,9 @@ Skipped x (got u r) = (w : List ℕ) × (x ≡ w ++ r) × Gap w r × Solid r
 Skipped x (bad e p) = (w : List ℕ) × (q : List ℕ) × (x ≡ w ++ q) × Blanks w × CommentBlamed q e p
 
 -- blanks in front
-behind_blanks : (v x : List ℕ) (res : Read (Unit {0})) → Blanks v → Skipped x res → Skipped (v ++ x) res
-behind_blanks v x (got u r) b (w, e, g, s) = (v ++ w, ap (λ z. v ++ z) e ∙ sym (append_assoc v w r), Gap-append b g, s)
-behind_blanks v x (bad c p) b (w, q, e, a, k) = (v ++ w, q, ap (λ z. v ++ z) e ∙ sym (append_assoc v w q), Blanks-append b a, k)
+after_blanks : (v x : List ℕ) (res : Read (Unit {0})) → Blanks v → Skipped x res → Skipped (v ++ x) res
+after_blanks v x (got u r) b (w, e, g, s) = (v ++ w, ap (λ z. v ++ z) e ∙ sym (append_assoc v w r), Gap-append b g, s)
+after_blanks v x (bad c p) b (w, q, e, a, k) = (v ++ w, q, ap (λ z. v ++ z) e ∙ sym (append_assoc v w q), Blanks-append b a, k)
 
 abbrev NoTerminator : List ℕ → Type 0
 NoTerminator x = Each (λ d. not (is_terminator d)) x
@@ -83,11 +83,11 @@ ByMode Mode.block r res = BlockIs r res
 ByMode Mode.star r res = StarIs r res
 
 from_line : (r : List ℕ) (res : Read (Unit {0})) → LineIs r res → Skipped (47 ∷ 47 ∷ r) res
-from_line r res (inl (x, c, s, e, n, h, k)) = rw (e, ← append_assoc (47 ∷ 47 ∷ x) (c ∷ []) s) (behind_blanks (47 ∷ 47 ∷ x ++ c ∷ []) s res (line c n h empty) k)
+from_line r res (inl (x, c, s, e, n, h, k)) = rw (e, ← append_assoc (47 ∷ 47 ∷ x) (c ∷ []) s) (after_blanks (47 ∷ 47 ∷ x ++ c ∷ []) s res (line c n h empty) k)
 from_line r res (inr (n, e)) = rw e (47 ∷ 47 ∷ r, sym (append-nil (47 ∷ 47 ∷ r)), at_end (open_line empty n), tt)
 
 from_block : (r : List ℕ) (res : Read (Unit {0})) → BlockIs r res → Skipped (47 ∷ 42 ∷ r) res
-from_block r res (inl (x, s, e, i, k)) = rw (e, ← append_assoc (47 ∷ 42 ∷ x) (42 ∷ 47 ∷ []) s) (behind_blanks (47 ∷ 42 ∷ x ++ 42 ∷ 47 ∷ []) s res (block i empty) k)
+from_block r res (inl (x, s, e, i, k)) = rw (e, ← append_assoc (47 ∷ 42 ∷ x) (42 ∷ 47 ∷ []) s) (after_blanks (47 ∷ 42 ∷ x ++ 42 ∷ 47 ∷ []) s res (block i empty) k)
 from_block r res (inr (i, e)) = rw e ([], 47 ∷ 42 ∷ r, refl, empty, record { place = None; part = 47 ∷ 42 ∷ r; shown = by_end; fault = block_ends i; is_at = tt })
 
 from_star : (r : List ℕ) (res : Read (Unit {0})) → StarIs r res → BlockIs (42 ∷ r) res
@@ -112,7 +112,7 @@ unfolding skip
 by_mode between [] = ([], refl, Gap.blanks empty, tt)
 by_mode between (c ∷ r) =
     by_test (Skipped (c ∷ r)) (is_blank c) _ _
-    (λ h. behind_blanks (c ∷ []) r (skip between r) (blank h empty) (by_mode between r))
+    (λ h. after_blanks (c ∷ []) r (skip between r) (blank h empty) (by_mode between r))
     (λ h. by_test (Skipped (c ∷ r)) (c == 47) (skip slash r) (got tt (c ∷ r))
     (λ k. subst (λ z. Skipped (z ∷ r) (skip slash r)) (sym (eq_from c 47 k)) (by_mode slash r))
     (λ k. ([], refl, Gap.blanks empty, begins_solid c r (solid_from c h k))))
@@ -142,7 +142,7 @@ by_mode Mode.star (c ∷ r) =
     (λ k. inr (h, block_more c r (skip Mode.block r) (neq_from c 42 k) (by_mode Mode.block r))))
 
 blamed : {x : List ℕ} {code : Option ErrorCode} {p : Place} (w : List ℕ) → Blanks w → CommentBlamed x code p → BlankBlamed (w ++ x) code p
-blamed {x = x} {p = p} w b k = record { place = behind_text w k.place; before = w; part = k.part; shown = k.shown; fault = in_comment b k.fault; is_at = at_behind w x k.place p k.is_at }
+blamed {x = x} {p = p} w b k = record { place = after_text w k.place; before = w; part = k.part; shown = k.shown; fault = in_comment b k.fault; is_at = at_after w x k.place p k.is_at }
 
 from_skipped : (x : List ℕ) (res : Read (Unit {0})) → Skipped x res → BlanksSound x res
 from_skipped x (got u r) h = h
@@ -182,7 +182,7 @@ comment_refused (block_ends {x = x} i) = (inner, skip_slash (42 ∷ x) ∙ block
 -- a fault of blanks is refused with its code at its place
 pub blank_refused : {x before part : List ℕ} {code : Option ErrorCode} {place : Option (List ℕ)} {shown : Shown} → BlankFault x code place before part shown → Refuses (skip between x) x code place
 blank_refused (in_comment {w = w} {x = x} {code = code} {place = place} b f) =
-    refuses_behind w x (skip between x) (skip between (w ++ x)) code place (λ p e. skip_blanks x b ∙ e) (comment_refused f)
+    refuses_after w x (skip between x) (skip between (w ++ x)) code place (λ p e. skip_blanks x b ∙ e) (comment_refused f)
 
 -- two faults of blanks of one text have one code and one place
 pub one_blank_fault : {x b c p q : List ℕ} {e f : Option ErrorCode} {pl pm : Option (List ℕ)} {h i : Shown} → BlankFault x e pl b p h → BlankFault x f pm c q i → (e ≡ f) × (pl ≡ pm)

@@ -6,7 +6,7 @@ use Rattle.std.proofs.lemmas.List.{append-nil}
 use Rattle.json5_grammar.specs.Characters.{is_digit, is_hex_digit, is_in, is_terminator, NotBegun, Each}
 use Rattle.json5_grammar.specs.Strings.{short_escape, stands_for_itself, Hex4, is_high, Unicode, single, surrogates, Escape, short, nul, byte, unicode, line_end, cr_lf, lone_cr, itself}
 use Rattle.json5_grammar.specs.Codes.{ErrorCode, EofParsingEscapeSequence, InvalidEscapeSequence, Shown}
-use Rattle.json5_grammar.specs.StringFaults.{is_surrogate, in_byte, in_first, in_second, no_backslash, no_u, lone_backslash, digits_missing, second_missing, EscapeFault, digit_behind_nul, escaped_digit, no_escape_digit, no_second_escape, unpaired, escape_ends}
+use Rattle.json5_grammar.specs.StringFaults.{is_surrogate, in_byte, in_first, in_second, no_backslash, no_u, lone_backslash, digits_missing, second_missing, EscapeFault, digit_after_nul, escaped_digit, no_escape_digit, no_second_escape, unpaired, escape_ends}
 use Rattle.json5_grammar.specs.Reading.{Place, here, inner, Read, got, bad, and_then}
 use Rattle.json5_grammar.specs.ReadTexts.{hex, paired, second, first, unicode_at, one_char, after_nul, after_cr, escape_at, name_escape, not_short}
 use Rattle.json5_grammar.proofs.Basics.{not_eq}
@@ -123,7 +123,7 @@ second_cut {n = n} d b x s e l = at_second b (92 ∷ 117 ∷ d) x s ∙ ap (λ z
 
 pub escape_refused : {m : Bool} {x part : List ℕ} {code : Option ErrorCode} {place : Option (List ℕ)} {shown : Shown} → EscapeFault m x code place part shown → Refuses (escape_from m x) x code place
 unfolding escape_at
-escape_refused (digit_behind_nul {c = c} r h) = (here (92 ∷ 48 ∷ c ∷ r), rw h, refl)
+escape_refused (digit_after_nul {c = c} r h) = (here (92 ∷ 48 ∷ c ∷ r), rw h, refl)
 escape_refused (escaped_digit {c = c} r h) = (here (92 ∷ c ∷ r), digit_refused c (92 ∷ c ∷ r) r h, refl)
 escape_refused (no_escape_digit c r (in_byte {d = d} e l) h) = (here (92 ∷ 120 ∷ d ++ c ∷ r), ap (λ z. and_then z one_char) (hex_refused 2 0 d (92 ∷ 120 ∷ d ++ c ∷ r) c r e l h), refl)
 escape_refused {m = m} (no_escape_digit c r (in_first {d = d} e l) h) = (here (92 ∷ 117 ∷ d ++ c ∷ r), by_u m (d ++ c ∷ r) _ _ (first_refused d (92 ∷ 117 ∷ d ++ c ∷ r) c r e l h), refl)

@@ -6,7 +6,7 @@ use Rattle.std.proofs.lemmas.List.{append-nil}
 use Rattle.json5_grammar.specs.Characters.{is_digit, is_in, is_terminator}
 use Rattle.json5_grammar.specs.Strings.{short_escape, stands_for_itself, Hex4, is_high, is_low, Unicode, single, surrogates, Escape, short, nul, byte, unicode, line_end, cr_lf, lone_cr, itself}
 use Rattle.json5_grammar.specs.Codes.{ErrorCode, InvalidEscapeSequence, Shown, by_char, by_end}
-use Rattle.json5_grammar.specs.StringFaults.{is_surrogate, in_byte, in_first, in_second, no_backslash, no_u, lone_backslash, digits_missing, second_missing, EscapeFault, digit_behind_nul, escaped_digit, no_escape_digit, no_second_escape, unpaired, escape_ends}
+use Rattle.json5_grammar.specs.StringFaults.{is_surrogate, in_byte, in_first, in_second, no_backslash, no_u, lone_backslash, digits_missing, second_missing, EscapeFault, digit_after_nul, escaped_digit, no_escape_digit, no_second_escape, unpaired, escape_ends}
 use Rattle.json5_grammar.specs.Reading.{Place, here, Read, got, bad, and_then, IsAt}
 use Rattle.json5_grammar.specs.ReadTexts.{hex, paired, second, second_u, first, unicode_at, one_char, after_nul, after_cr, escape_at, not_short}
 use Rattle.json5_grammar.proofs.Basics.{by_test, eq_from, neq_from}
@@ -91,7 +91,7 @@ nul_sound : (r : List ℕ) → EscapeSound (92 ∷ 48 ∷ r) (after_nul (92 ∷ 
 nul_sound [] = (92 ∷ 48 ∷ [], refl, nul tt)
 nul_sound (c ∷ r) =
     by_test (EscapeSound (92 ∷ 48 ∷ c ∷ r)) (is_digit c) _ _
-    (λ t. record { place = Some []; part = 92 ∷ 48 ∷ c ∷ []; shown = by_char; fault = digit_behind_nul r t; is_at = refl })
+    (λ t. record { place = Some []; part = 92 ∷ 48 ∷ c ∷ []; shown = by_char; fault = digit_after_nul r t; is_at = refl })
     (λ t. (92 ∷ 48 ∷ [], refl, nul t))
 
 cr_sound : (r : List ℕ) → EscapeSound (92 ∷ 13 ∷ r) (after_cr r)

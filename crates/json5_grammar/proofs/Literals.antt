@@ -35,10 +35,10 @@ no_point_found : {e : List ℕ} {w : Option ℤ} (i : List ℕ) → Exponent e w
 no_point_found i no_exponent = refl
 no_point_found i (exponent {c = c} h s ds) = rw (e_no_point c h)
 
-with_found : {e : List ℕ} {w : Option ℤ} (i : List ℕ) (f : Option (List ℕ)) → Exponent e w → with_exponent i f (exponent_at e) ≡ Some (record { before = i; behind = f; raised = w })
+with_found : {e : List ℕ} {w : Option ℤ} (i : List ℕ) (f : Option (List ℕ)) → Exponent e w → with_exponent i f (exponent_at e) ≡ Some (record { before = i; after = f; raised = w })
 with_found i f x = ap (with_exponent i f) (exponent_found x)
 
-pub literal_found : {l i : List ℕ} {f : Option (List ℕ)} {w : Option ℤ} → Literal l i f w → literal_at l ≡ Some (record { before = i; behind = f; raised = w })
+pub literal_found : {l i : List ℕ} {f : Option (List ℕ)} {w : Option ℤ} → Literal l i f w → literal_at l ≡ Some (record { before = i; after = f; raised = w })
 unfolding literal_at rest_of front_of
 literal_found (literal {e = e} {i = i} (integer n) x) =
     rw (front_all e (integer_digits n) (exponent_no_digit x), rest_all e (integer_digits n) (exponent_no_digit x))
@@ -59,7 +59,7 @@ ExponentIs y (Some w) = Exponent y w
 
 abbrev pub LiteralIs : List ℕ → Option Parts → Type 0
 LiteralIs x None = ⊤
-LiteralIs x (Some p) = Literal x p.before p.behind p.raised
+LiteralIs x (Some p) = Literal x p.before p.after p.raised
 
 digits_is : (c : ℕ) {s : List ℕ} {m : Bool} → ((c == 101) || (c == 69)) ≡ true → Sign s m → (y : List ℕ) → ExponentIs (c ∷ s ++ y) (exponent_digits m y)
 digits_is c h g [] = tt

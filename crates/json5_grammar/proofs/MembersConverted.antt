@@ -10,12 +10,12 @@ both_parts (Some c) None cs h = absurd (cc)
 both_parts (Some c) (Some rest) cs h = (c, rest, refl, refl, cc)
 
 -- one more after a list
-pub one_behind : {C : Type 0} (d c : C) (rest cs : List C) (o : Option C) (q : Option (List C)) → o ≡ Some d → q ≡ Some (rest ++ c ∷ []) → cs ≡ d ∷ rest → both o q ≡ Some (cs ++ c ∷ [])
-one_behind d c rest cs o q a b e = rw (a, b, e) refl
+pub one_after : {C : Type 0} (d c : C) (rest cs : List C) (o : Option C) (q : Option (List C)) → o ≡ Some d → q ≡ Some (rest ++ c ∷ []) → cs ≡ d ∷ rest → both o q ≡ Some (cs ++ c ∷ [])
+one_after d c rest cs o q a b e = rw (a, b, e) refl
 
 -- one more member's content
 pub contents_snoc : {C : Type 0} (f : Tree → Option C) (ts : Trees) (t : Tree) (cs : List C) (c : C) → contents f ts ≡ Some cs → f t ≡ Some c → contents f (snoc ts t) ≡ Some (cs ++ c ∷ [])
 contents_snoc f no_more t cs c h e = let none : [] ≡ cs = cc in rw (e, ← none) refl
 contents_snoc f (more u us) t cs c h e =
     let (d, rest, is, are, k) = both_parts (f u) (contents f us) cs h in
-    one_behind d c rest cs (f u) (contents f (snoc us t)) is (contents_snoc f us t rest c are e) k
+    one_after d c rest cs (f u) (contents f (snoc us t)) is (contents_snoc f us t rest c are e) k

@@ -12,14 +12,14 @@ use Rattle.json5_grammar.proofs.Basics.{same_char}
 use Rattle.json5_grammar.proofs.BlanksRead.{begins_solid}
 use Rattle.json5_grammar.proofs.BlanksSound.{gap_blanks, no_blank_fault}
 use Rattle.json5_grammar.proofs.ValueHeads.{val_head, value_solid}
-use Rattle.json5_grammar.proofs.MembersRead.{comma_solid, bracket_solid, sign_found, reads_behind, reads_found}
-use Rattle.json5_grammar.proofs.MembersPassed.{behind_comma}
+use Rattle.json5_grammar.proofs.MembersRead.{comma_solid, bracket_solid, sign_found, reads_after, reads_found}
+use Rattle.json5_grammar.proofs.MembersPassed.{after_same_comma}
 
 -- ---- what goes on
 
 -- a phrase after a gap
 pub reads_here : (x w y r : List ℕ) (t : Tree) → x ≡ w ++ y → Gap w y → Reads y t r → Reads x t r
-reads_here x w y r t e g p = subst (λ z. Reads z t r) (sym e) (reads_behind w y r t (blanks_of y refl g) p)
+reads_here x w y r t e g p = subst (λ z. Reads z t r) (sym e) (reads_after w y r t (blanks_of y refl g) p)
   where
     head_of : (q : List ℕ) → [] ≡ p.front ++ (p.phrase ++ q) → ⊥
     head_of q e = none p.front p.phrase (val_head p.value).char (val_head p.value).more q (val_head p.value).is e
@@ -62,11 +62,11 @@ nowhere_due x m n = record { no_element = λ t r a. m a.0 a.1; no_close = λ r c
 
 -- nothing after the comma
 pub nowhere_comma : (x y : List ℕ) → IsSign 44 x y → GoesNowhere false y → ((r : List ℕ) → IsSign 93 x r → ⊥) → GoesNowhere true x
-nowhere_comma x y s h n = record { no_element = λ t r a. h.no_element t r (behind_comma (λ k. Reads k t r) x y a.0 s a.1 a.2); no_close = λ r c. by_close r c }
+nowhere_comma x y s h n = record { no_element = λ t r a. h.no_element t r (after_same_comma (λ k. Reads k t r) x y a.0 s a.1 a.2); no_close = λ r c. by_close r c }
   where
     by_close : (r : List ℕ) → IsClose true x r → ⊥
     by_close r (inl c) = n r c
-    by_close r (inr (y2, c, d)) = h.no_close r (behind_comma (λ k. IsSign 93 k r) x y y2 s c d)
+    by_close r (inr (y2, c, d)) = h.no_close r (after_same_comma (λ k. IsSign 93 k r) x y y2 s c d)
 
 -- a faulty comment
 pub nowhere_blanks : (due : Bool) (x b p : List ℕ) (code : Option ErrorCode) (place : Option (List ℕ)) (shown : Shown) → BlankFault x code place b p shown → GoesNowhere due x

@@ -13,7 +13,7 @@ use Rattle.json5_grammar.proofs.Classes.{EndsValues, comma_ends_values, brace_en
 use Rattle.json5_grammar.proofs.KeysRead
 use Rattle.json5_grammar.proofs.ValueHeads.{key_head, key_begins, key_solid, key_before_blanks, key_spelling, stops_blanks}
 use Rattle.json5_grammar.proofs.Unique.{one_phrase}
-use Rattle.json5_grammar.proofs.MembersPassed.{same_sign, behind_comma, no_comma_end, one_end, sign_ends, sign_shorter, reads_shorter}
+use Rattle.json5_grammar.proofs.MembersPassed.{same_sign, after_same_comma, no_comma_end, one_end, sign_ends, sign_shorter, reads_shorter}
 use Rattle.json5_grammar.proofs.ValuesRead.{regroup_pair}
 
 -- ---- signs and keys
@@ -51,7 +51,7 @@ one_opening_brace x r q a b = same_sign 123 x r q opening_brace_solid a b
 -- one key
 pub one_key : (due : Bool) (x r y u v : List ℕ) (p q : Bool) → IsKey due x u p r → IsKey due x v q y → (u ≡ v) × (p ≡ q) × (r ≡ y)
 one_key false x r y u v p q a b = one_reads_key x r y u v p q a b
-one_key true x r y u v p q (k, c, a) (z, d, b) = one_reads_key k r y u v p q a (behind_comma (λ s. ReadsKey s v q y) x k z c d b)
+one_key true x r y u v p q (k, c, a) (z, d, b) = one_reads_key k r y u v p q a (after_same_comma (λ s. ReadsKey s v q y) x k z c d b)
 
 -- one value of a key
 pub one_key_value : (x r q : List ℕ) (t u : Tree) → IsKeyValue x t r → IsKeyValue x u q → (t ≡ u) × (r ≡ q)
@@ -65,7 +65,7 @@ one_brace due x r q a b = one_end 125 brace_solid refl due x r q a b
 pub key_or_brace : (due : Bool) (x r q u : List ℕ) (p : Bool) → IsKey due x u p r → IsBrace due x q → ⊥
 key_or_brace false x r q u p a b = brace_no_key x r q u p b a
 key_or_brace true x r q u p (y, c, a) (inl b) = no_comma_end 125 x y q brace_solid refl c b
-key_or_brace true x r q u p (y, c, a) (inr (z, d, b)) = brace_no_key y r q u p (behind_comma (λ k. IsSign 125 k q) x y z c d b) a
+key_or_brace true x r q u p (y, c, a) (inr (z, d, b)) = brace_no_key y r q u p (after_same_comma (λ k. IsSign 125 k q) x y z c d b) a
 
 pair_same : (u v : List ℕ) (p q : Bool) (s t : Tree) (ps qs : Pairs) → u ≡ v → p ≡ q → s ≡ t → ps ≡ qs → pair u p s ps ≡ pair v q t qs
 pair_same u v p q s t ps qs a b c d = cc

@@ -3,7 +3,7 @@ use Rattle.std.proofs.Common.{◌≡◌, ℕ, ◌+◌, ◌≤◌, ◌<◌, Bool,
 use Rattle.json5_grammar.specs.Trees.{Tree, Pairs, null, boolean, number, text, array, object, no_pair, pair, depth, pair_depths}
 use Rattle.json5_grammar.specs.Values.{Reads}
 use Rattle.json5_grammar.specs.Members.{OpensObject, IsKey, IsKeyValue, IsBrace, PairsTail, PairsPassed, joined_pairs, snoc_pair, joint, pair_contents, object_of}
-use Rattle.json5_grammar.proofs.MembersConverted.{both_parts, one_behind}
+use Rattle.json5_grammar.proofs.MembersConverted.{both_parts, one_after}
 use Rattle.json5_grammar.proofs.MembersPairs.{one_key, key_or_brace, object_front, object_closed, object_left, pairs_more, pairs_go, shallow_snoc_pair, pair_shallow}
 
 joint_parts : {K V : Type 0} (o : Option K) (p : Option V) (c : K × V) → joint o p ≡ Some c → (o ≡ Some c.0) × (p ≡ Some c.1)
@@ -25,7 +25,7 @@ pub pair_contents_snoc : {K V : Type 0} (g : List ℕ → Bool → Option K) (f 
 pair_contents_snoc g f no_pair u p t cs k v h a b = let none : [] ≡ cs = cc in rw (a, b, ← none) refl
 pair_contents_snoc g f (pair w m s ps) u p t cs k v h a b =
     let (d, rest, is, are, e) = both_parts (joint (g w m) (f s)) (pair_contents g f ps) cs h in
-    one_behind d (k, v) rest cs (joint (g w m) (f s)) (pair_contents g f (snoc_pair ps u p t)) is (pair_contents_snoc g f ps u p t rest k v are a b) e
+    one_after d (k, v) rest cs (joint (g w m) (f s)) (pair_contents g f (snoc_pair ps u p t)) is (pair_contents_snoc g f ps u p t rest k v are a b) e
 
 -- a pair's content
 pub pair_contents_at : {K V : Type 0} (g : List ℕ → Bool → Option K) (f : Tree → Option V) (ps qs : Pairs) (u : List ℕ) (p : Bool) (t : Tree) (cs : List (K × V))

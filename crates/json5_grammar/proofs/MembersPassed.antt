@@ -17,8 +17,8 @@ pub same_sign : (c : ℕ) (x r q : List ℕ) → is_solid c ≡ true → IsSign 
 same_sign c x r q h a b = (one_sign c c x r q h h a b).1
 
 -- what stands after the comma
-pub behind_comma : (P : List ℕ → Type 0) (x y z : List ℕ) → IsSign 44 x y → IsSign 44 x z → P z → P y
-behind_comma P x y z c d p = subst P (same_sign 44 x z y comma_solid d c) p
+pub after_same_comma : (P : List ℕ → Type 0) (x y z : List ℕ) → IsSign 44 x y → IsSign 44 x z → P z → P y
+after_same_comma P x y z c d p = subst P (same_sign 44 x z y comma_solid d c) p
 
 -- a comma is no closing sign
 pub no_comma_end : (sign : ℕ) (x r q : List ℕ) → is_solid sign ≡ true → (44 == sign) ≡ false → IsSign 44 x r → IsSign sign x q → ⊥
@@ -30,7 +30,7 @@ one_end sign h n false x r q a b = same_sign sign x r q h a b
 one_end sign h n true x r q (inl a) (inl b) = same_sign sign x r q h a b
 one_end sign h n true x r q (inl a) (inr (y, c, b)) = absurd (no_comma_end sign x y r h n c a)
 one_end sign h n true x r q (inr (y, c, a)) (inl b) = absurd (no_comma_end sign x y q h n c b)
-one_end sign h n true x r q (inr (y, c, a)) (inr (z, d, b)) = same_sign sign y r q h a (behind_comma (λ k. IsSign sign k q) x y z c d b)
+one_end sign h n true x r q (inr (y, c, a)) (inr (z, d, b)) = same_sign sign y r q h a (after_same_comma (λ k. IsSign sign k q) x y z c d b)
 
 -- one opening bracket
 pub one_opening : (x r q : List ℕ) → Opens x r → Opens x q → r ≡ q
@@ -39,7 +39,7 @@ one_opening x r q a b = same_sign 91 x r q opening_solid a b
 -- one member
 pub one_element : (due : Bool) (x r q : List ℕ) (t u : Tree) → IsElement due x t r → IsElement due x u q → (t ≡ u) × (r ≡ q)
 one_element false x r q t u a b = one_phrase x r q t u a b
-one_element true x r q t u (y, c, a) (z, d, b) = one_phrase y r q t u a (behind_comma (λ k. Reads k u q) x y z c d b)
+one_element true x r q t u (y, c, a) (z, d, b) = one_phrase y r q t u a (after_same_comma (λ k. Reads k u q) x y z c d b)
 
 -- one closing bracket
 pub one_close : (due : Bool) (x r q : List ℕ) → IsClose due x r → IsClose due x q → r ≡ q
@@ -49,7 +49,7 @@ one_close due x r q a b = one_end 93 bracket_solid refl due x r q a b
 pub element_or_close : (due : Bool) (x r q : List ℕ) (t : Tree) → IsElement due x t r → IsClose due x q → ⊥
 element_or_close false x r q t a b = sign_no_value 93 x r q t bracket_solid refl b a
 element_or_close true x r q t (y, c, a) (inl b) = no_comma_end 93 x y q bracket_solid refl c b
-element_or_close true x r q t (y, c, a) (inr (z, d, b)) = sign_no_value 93 y r q t bracket_solid refl (behind_comma (λ k. IsSign 93 k q) x y z c d b) a
+element_or_close true x r q t (y, c, a) (inr (z, d, b)) = sign_no_value 93 y r q t bracket_solid refl (after_same_comma (λ k. IsSign 93 k q) x y z c d b) a
 
 more_same : (t u : Tree) (ts us : Trees) → t ≡ u → ts ≡ us → more t ts ≡ more u us
 more_same t u ts us e f = cc

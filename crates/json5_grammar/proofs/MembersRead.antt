@@ -43,16 +43,16 @@ pub sign_here : (c : ℕ) (x w r : List ℕ) → x ≡ w ++ c ∷ r → Gap w (c
 sign_here c x w r e g = record { front = w; split = e; blank = gap_blanks c r g }
 
 -- blanks may stand before a sign
-pub sign_behind : (c : ℕ) (w x r : List ℕ) → Blanks w → IsSign c x r → IsSign c (w ++ x) r
-sign_behind c w x r b a = record { front = w ++ a.front; split = ap (λ z. w ++ z) a.split ∙ sym (append_assoc w a.front (c ∷ r)); blank = Blanks-append b a.blank }
+pub sign_after : (c : ℕ) (w x r : List ℕ) → Blanks w → IsSign c x r → IsSign c (w ++ x) r
+sign_after c w x r b a = record { front = w ++ a.front; split = ap (λ z. w ++ z) a.split ∙ sym (append_assoc w a.front (c ∷ r)); blank = Blanks-append b a.blank }
 
 -- after the gap before a sign it stands alone
 pub sign_found : (c : ℕ) (x w y r : List ℕ) → is_solid c ≡ true → x ≡ w ++ y → Gap w y → Solid y → IsSign c x r → y ≡ c ∷ r
 sign_found c x w y r h e g s a = (one_gap a.front (c ∷ r) w y (Gap.blanks a.blank) (begins_solid c r h) g s (sym a.split ∙ e)).1
 
 -- blanks may stand before a phrase
-pub reads_behind : (w x r : List ℕ) (t : Tree) → Blanks w → Reads x t r → Reads (w ++ x) t r
-reads_behind w x r t b p = record {
+pub reads_after : (w x r : List ℕ) (t : Tree) → Blanks w → Reads x t r → Reads (w ++ x) t r
+reads_after w x r t b p = record {
   front = w ++ p.front;
   phrase = p.phrase;
   split = ap (λ z. w ++ z) p.split ∙ sym (append_assoc w p.front (p.phrase ++ r));

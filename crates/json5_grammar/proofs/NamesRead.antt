@@ -10,7 +10,7 @@ use Rattle.json5_grammar.specs.NameFaults.{NameFault, no_unicode_escape, escaped
 use Rattle.json5_grammar.specs.Reading.{Place, here, inner, Read, got, bad, and_then}
 use Rattle.json5_grammar.specs.ReadTexts.{one_char, name_escape, fit, escaped_item, put, parts, identifier}
 use Rattle.json5_grammar.proofs.Basics.{not_eq}
-use Rattle.json5_grammar.proofs.Refusals.{Refuses, one_refusal, not_both, one_answer, refuses_behind}
+use Rattle.json5_grammar.proofs.Refusals.{Refuses, one_refusal, not_both, one_answer, refuses_after}
 use Rattle.json5_grammar.proofs.EscapesRead.{escape_from, unicode_read, escape_refused}
 use Rattle.json5_grammar.proofs.StringsRead.{escape_head, fault_head, put_none, put_raw, put_escape, put_end}
 
@@ -135,7 +135,7 @@ cut_off b = refl
 
 pub name_refused : {x b part : List ℕ} {code : Option ErrorCode} {place : Option (List ℕ)} {shown : Shown} → NameFault x code place b part shown → Refuses (identifier x) x code place
 name_refused (NameFault.in_escape {t = t} {x = x} {code = code} {place = place} k f) =
-    refuses_behind t x (escape_from false x) (identifier (t ++ x)) code place (λ p e. named_faulty x code p k (fault_head f) e) (escape_refused f)
+    refuses_after t x (escape_from false x) (identifier (t ++ x)) code place (λ p e. named_faulty x code p k (fault_head f) e) (escape_refused f)
 name_refused (no_unicode_escape {t = t} c r k n) =
     (here (c ∷ r), named_bad (c ∷ r) _ _ k (no_u c (92 ∷ c ∷ r) r n), sym (append_assoc t (92 ∷ []) (c ∷ r)))
 name_refused (escaped_no_start {e = e} r u n) =

@@ -108,17 +108,17 @@ before_of : Option Parts → List ℕ
 before_of None = []
 before_of (Some p) = p.before
 
-behind_of : Option Parts → Option (List ℕ)
-behind_of None = None
-behind_of (Some p) = p.behind
+after_of : Option Parts → Option (List ℕ)
+after_of None = None
+after_of (Some p) = p.after
 
 raised_of : Option Parts → Option ℤ
 raised_of None = None
 raised_of (Some p) = p.raised
 
 lone_parts : {i : List ℕ} {f : Option (List ℕ)} {w : Option ℤ} → Literal (48 ∷ []) i f w → (i ≡ 48 ∷ []) × (f ≡ None) × (w ≡ None)
-unfolding literal_at front_of rest_of before_of behind_of raised_of
-lone_parts h = let e = sym (literal_found h) in (ap before_of e, ap behind_of e, ap raised_of e)
+unfolding literal_at front_of rest_of before_of after_of raised_of
+lone_parts h = let e = sym (literal_found h) in (ap before_of e, ap after_of e, ap raised_of e)
 
 judged_whole : (q : List ℕ) (m : Bool) (r i : List ℕ) → InWhole (signed m (spelled 10 0 i)) → judged q m r i None None ≡ got (whole (signed m (spelled 10 0 i))) r
 unfolding judged

@@ -9,7 +9,7 @@ use Rattle.json5_grammar.specs.Characters.{is_digit, is_hex_digit, NotBegun, Beg
 use Rattle.json5_grammar.specs.Numbers.{Sign, no_sign, plus, minus, signed, spelled, integer, lone_zero, no_exponent, Literal, literal, Number, whole, decimal, infinite, nan, finite, Num, is_infinite, is_nan, is_hexadecimal, is_integer, is_decimal, hex_start, InWhole, IsWholeLiteral, all_digits, without_zeros, exponent_of}
 use Rattle.json5_grammar.specs.Stops.{in_run, begins_run, after_zero, lengthens_body, lengthens}
 use Rattle.json5_grammar.specs.Codes.{ErrorCode, Shown, by_char, by_end, ExpectedNumber, EofParsingNumber, OverflowParsingNumber, LeadingZero}
-use Rattle.json5_grammar.specs.NumberFaults.{is_sign, begins_number, NumberWord, Run, run, zero_run, Behind, behind_end, behind_char, NumberFault, number_word_differs, number_word_ends, sign_without_number, sign_ends, no_hexadecimal_digit, hexadecimal_ends, hexadecimal_overflows, negative_too_large, not_a_literal, literal_overflows, leading_zero}
+use Rattle.json5_grammar.specs.NumberFaults.{is_sign, begins_number, NumberWord, Run, run, zero_run, RunEnd, run_at_end, run_at_char, NumberFault, number_word_differs, number_word_ends, sign_without_number, sign_ends, no_hexadecimal_digit, hexadecimal_ends, hexadecimal_overflows, negative_too_large, not_a_literal, literal_overflows, leading_zero}
 use Rattle.json5_grammar.specs.Reading.{Place, Read, got, bad, here, inner}
 use Rattle.json5_grammar.specs.ReadNumbers.{Parts, front_of, rest_of, literal_at, in_exponents, is_whole, judged, if_literal, decimal_run, at_zero, hex_judged, hexadecimal, hex_digits, word, unsigned, number}
 use Rattle.json5_grammar.proofs.Basics.{by_test, eq_from, neq_from, rest_same, cons_not_nil, lt_from, le_from}
@@ -79,11 +79,11 @@ word_sound {s = s} k ks n r (bad e p) g w a st (inr (d, q, i, u, l)) =
 pub record Followed (p : ℕ → Bool) (r : List ℕ) : Type 0 where
   pub text : List ℕ
   pub shown : Shown
-  pub behind : Behind p r text shown
+  pub after : RunEnd p r text shown
 
 pub followed : (p : ℕ → Bool) (r : List ℕ) → NotBegun p r → Followed p r
-followed p [] h = record { text = []; shown = by_end; behind = behind_end }
-followed p (c ∷ r) h = record { text = c ∷ []; shown = by_char; behind = behind_char r h }
+followed p [] h = record { text = []; shown = by_end; after = run_at_end }
+followed p (c ∷ r) h = record { text = c ∷ []; shown = by_char; after = run_at_char r h }
 
 -- ---- hexadecimal numbers
 
@@ -133,7 +133,7 @@ hex_got {h = h} r x minus k n e l st =
     by_test (SoundNumber (45 ∷ 48 ∷ x ∷ (h ++ r))) (nat_le (spelled 16 0 h) (2 ^ 127)) (got (whole (signed true (spelled 16 0 h))) r) (bad None (here (45 ∷ 48 ∷ x ∷ (h ++ r))))
     (λ a. hex_number x minus k n e (in_whole_signed true (spelled 16 0 h) l (λ f. le_yes (spelled 16 0 h) (2 ^ 127) a)) st)
     (λ a. let f = followed is_hex_digit r st in
-    record { place = Some []; is_place = ([], refl, refl); part = 45 ∷ 48 ∷ x ∷ (h ++ f.text); shown = f.shown; fault = negative_too_large r h f.text x k e (le_no (spelled 16 0 h) (2 ^ 127) a) l f.behind })
+    record { place = Some []; is_place = ([], refl, refl); part = 45 ∷ 48 ∷ x ∷ (h ++ f.text); shown = f.shown; fault = negative_too_large r h f.text x k e (le_no (spelled 16 0 h) (2 ^ 127) a) l f.after })
 
 first_is : (d : ℕ) (y h r : List ℕ) → d ∷ y ≡ h ++ r → is_hex_digit d ≡ true → NotBegun is_hex_digit r → h ≢ []
 first_is d y h r e k st n = stop r (e ∙ ap (λ z. z ++ r) n) st
@@ -224,7 +224,7 @@ judged_sound {s = s} {l = l} {i = i} {m = m} {f = f} {w = w} r g k x e st =
     (λ h. by_test (SoundNumber ((s ++ l) ++ r)) (in_exponents (exponent_of i f w)) (got (decimal (finite m (without_zeros (all_digits i f)) (exponent_of i f w))) r) (bad (Some OverflowParsingNumber) (here ((s ++ l) ++ r)))
     (λ j. (s ++ l, refl, is_decimal g k (λ o. true_not_false (whole_true m i f w o) h) (in_exponents_yes (exponent_of i f w) j), longer_stops r g x st))
     (λ j. let b = followed in_run r st in
-    record { place = Some []; is_place = ([], refl, refl); part = (s ++ l) ++ b.text; shown = b.shown; fault = literal_overflows r s l i b.text (longer_run g x e) g k (no_number g k x h j) b.behind }))
+    record { place = Some []; is_place = ([], refl, refl); part = (s ++ l) ++ b.text; shown = b.shown; fault = literal_overflows r s l i b.text (longer_run g x e) g k (no_number g k x h j) b.after }))
 
 some_not_none : {A : Type 0} {x : A} → Some x ≡ None → ⊥
 some_not_none h = cc
@@ -238,7 +238,7 @@ no_literal {n = n} g b o t l i m d w a x e =
 run_sound : {s n : List ℕ} {m : Bool} (r : List ℕ) (o : Option Parts) → literal_at n ≡ o → LiteralIs n o → Sign s m → Longer n → Each in_run n → NotBegun in_run r → SoundNumber ((s ++ n) ++ r) (if_literal ((s ++ n) ++ r) m r o)
 run_sound {s = s} {n = n} r None e h g x a st =
     let b = followed in_run r st in
-    record { place = Some []; is_place = ([], refl, refl); part = (s ++ n) ++ b.text; shown = b.shown; fault = not_a_literal r (s ++ n) b.text (longer_run g x a) (no_literal g (longer_bare x) e) b.behind }
+    record { place = Some []; is_place = ([], refl, refl); part = (s ++ n) ++ b.text; shown = b.shown; fault = not_a_literal r (s ++ n) b.text (longer_run g x a) (no_literal g (longer_bare x) e) b.after }
 run_sound r (Some p) e h g x a st = judged_sound r g h x a st
 
 decimal_sound : {s : List ℕ} {m : Bool} (y : List ℕ) → Sign s m → Longer (front_of in_run y) → SoundNumber (s ++ y) (decimal_run (s ++ y) m y)

@@ -9,7 +9,7 @@ use Rattle.json5_grammar.specs.Characters.{is_digit, is_hex_digit, NotBegun, Eac
 use Rattle.json5_grammar.specs.Numbers.{Sign, minus, spelled, Literal, Number, decimal, infinite, nan, Num, is_decimal, exponent_of}
 use Rattle.json5_grammar.specs.Stops.{in_run, lengthens}
 use Rattle.json5_grammar.specs.Codes.{ErrorCode, Shown, ExpectedNumber, EofParsingNumber, OverflowParsingNumber}
-use Rattle.json5_grammar.specs.NumberFaults.{is_sign, NumberWord, Cut, Run, run, zero_run, Behind, behind_end, behind_char, NumberFault, number_word_differs, number_word_ends, sign_without_number, sign_ends, no_hexadecimal_digit, hexadecimal_ends, hexadecimal_overflows, negative_too_large, not_a_literal, literal_overflows, leading_zero}
+use Rattle.json5_grammar.specs.NumberFaults.{is_sign, NumberWord, Cut, Run, run, zero_run, RunEnd, run_at_end, run_at_char, NumberFault, number_word_differs, number_word_ends, sign_without_number, sign_ends, no_hexadecimal_digit, hexadecimal_ends, hexadecimal_overflows, negative_too_large, not_a_literal, literal_overflows, leading_zero}
 use Rattle.json5_grammar.specs.Reading.{Place, Read, got, bad, here, inner}
 use Rattle.json5_grammar.specs.ReadNumbers.{Parts, literal_at, in_exponents, is_whole, if_literal, hex_judged, hexadecimal, hex_digits, word, unsigned, number}
 use Rattle.json5_grammar.proofs.Basics.{not_eq, same_char}
@@ -32,9 +32,9 @@ abbrev first : List ℕ → ℕ
 first [] = 0
 first (c ∷ s) = c
 
-abbrev behind_first : List ℕ → List ℕ
-behind_first [] = []
-behind_first (c ∷ s) = s
+abbrev without_first : List ℕ → List ℕ
+without_first [] = []
+without_first (c ∷ s) = s
 
 record WordHead (w : List ℕ) (m : Bool) : Type 0 where
   head : ℕ
@@ -63,7 +63,7 @@ word_number : {s w : List ℕ} {m : Bool} (k : ℕ) (v y : List ℕ) → Sign s 
 word_number {s = s} {m = m} k v y g h e =
     let t : h.head ∷ h.tail ≡ k ∷ v = sym h.is ∙ e in
     let a : h.head ≡ k = ap first t in
-    let b : h.tail ≡ v = ap behind_first t in
+    let b : h.tail ≡ v = ap without_first t in
     number_unsigned k y g (subst (λ z. is_sign z ≡ false) a h.no_sign)
     ∙ ap (λ z. unsigned (s ++ k ∷ y) m (z ∷ y)) (sym a) ∙ h.reads (s ++ k ∷ y) y ∙ ap (λ z. word h.means z y) b
 
@@ -126,9 +126,9 @@ not_nil h l e = let k : spelled 16 0 h ≡ 0 = ap (spelled 16 0) e in omega arit
 hex_past : (q : List ℕ) (n : ℕ) (r : List ℕ) → 2 ^ 127 < n → hex_judged q true (got n r) ≡ bad None (here q)
 hex_past q n r h = let k : nat_le n (2 ^ 127) ≡ false = le_false n (2 ^ 127) h in rw k
 
-pub behind_stops : {p : ℕ → Bool} {r c : List ℕ} {shown : Shown} → Behind p r c shown → NotBegun p r
-behind_stops behind_end = tt
-behind_stops (behind_char r h) = h
+pub after_stops : {p : ℕ → Bool} {r c : List ℕ} {shown : Shown} → RunEnd p r c shown → NotBegun p r
+after_stops run_at_end = tt
+after_stops (run_at_char r h) = h
 
 -- ---- decimal runs
 
@@ -152,12 +152,12 @@ run_number {n = n} r k st =
 
 none_found : {n : List ℕ} (k : RunIs n) → ((s l i : List ℕ) (m : Bool) (d : Option (List ℕ)) (w : Option ℤ) → Sign s m → Literal l i d w → n ≡ s ++ l → ⊥) → (o : Option Parts) → LiteralIs k.body o → o ≡ None
 none_found k f None h = refl
-none_found k f (Some p) h = absurd (f k.sign k.body p.before k.minus p.behind p.raised k.signs h k.is)
+none_found k f (Some p) h = absurd (f k.sign k.body p.before k.minus p.after p.raised k.signs h k.is)
 
-run_refused : {n c : List ℕ} {shown : Shown} (r : List ℕ) → Run n → ((s l i : List ℕ) (m : Bool) (d : Option (List ℕ)) (w : Option ℤ) → Sign s m → Literal l i d w → n ≡ s ++ l → ⊥) → Behind in_run r c shown → Refused (n ++ r) None (Some [])
+run_refused : {n c : List ℕ} {shown : Shown} (r : List ℕ) → Run n → ((s l i : List ℕ) (m : Bool) (d : Option (List ℕ)) (w : Option ℤ) → Sign s m → Literal l i d w → n ≡ s ++ l → ⊥) → RunEnd in_run r c shown → Refused (n ++ r) None (Some [])
 run_refused {n = n} r h f b =
     let k = run_is h in
-    record { place = here (n ++ r); answer = run_number r k (behind_stops b) ∙ ap (if_literal (n ++ r) k.minus r) (none_found k f (literal_at k.body) (literal_is k.body)); is_place = ([], refl, refl) }
+    record { place = here (n ++ r); answer = run_number r k (after_stops b) ∙ ap (if_literal (n ++ r) k.minus r) (none_found k f (literal_at k.body) (literal_is k.body)); is_place = ([], refl, refl) }
 
 not_whole : {s l i : List ℕ} {m : Bool} {f : Option (List ℕ)} {w : Option ℤ} → Sign s m → Literal l i f w → ((n : Number) → Num (s ++ l) n → ⊥) → (b : Bool) → is_whole m i f w ≡ b → b ≡ false
 not_whole {f = f} {w = w} g h n true e = absurd (n _ (whole_num f w e g h))
@@ -170,13 +170,13 @@ not_exponent g h n k false e = refl
 longer_from : {s l : List ℕ} {m : Bool} {i : List ℕ} {f : Option (List ℕ)} {w : Option ℤ} → RunIs (s ++ l) → Sign s m → Literal l i f w → Longer l
 longer_from {l = l} k g h = subst Longer (sym (sign_split l k.body g k.signs (head_bare (literal_head h)) (longer_bare k.longer) k.is)) k.longer
 
-over_refused : {s l i c : List ℕ} {shown : Shown} {m : Bool} {f : Option (List ℕ)} {w : Option ℤ} (r : List ℕ) → Run (s ++ l) → Sign s m → Literal l i f w → ((n : Number) → Num (s ++ l) n → ⊥) → Behind in_run r c shown → Refused ((s ++ l) ++ r) (Some OverflowParsingNumber) (Some [])
+over_refused : {s l i c : List ℕ} {shown : Shown} {m : Bool} {f : Option (List ℕ)} {w : Option ℤ} (r : List ℕ) → Run (s ++ l) → Sign s m → Literal l i f w → ((n : Number) → Num (s ++ l) n → ⊥) → RunEnd in_run r c shown → Refused ((s ++ l) ++ r) (Some OverflowParsingNumber) (Some [])
 over_refused {s = s} {l = l} {i = i} {m = m} {f = f} {w = w} r h g k n b =
     let q = (s ++ l) ++ r in
     let x : Longer l = longer_from (run_is h) g k in
     let a : is_whole m i f w ≡ false = not_whole g k n (is_whole m i f w) refl in
     let d : in_exponents (exponent_of i f w) ≡ false = not_exponent g k n a (in_exponents (exponent_of i f w)) refl in
-    record { place = here q; answer = number_bare r g (longer_bare x) ∙ run_read q m r k x (behind_stops b) ∙ judged_bad q m r i f w a d; is_place = ([], refl, refl) }
+    record { place = here q; answer = number_bare r g (longer_bare x) ∙ run_read q m r k x (after_stops b) ∙ judged_bad q m r i f w a d; is_place = ([], refl, refl) }
 
 -- ---- every row
 
@@ -212,7 +212,7 @@ refused (negative_too_large r h c x k a l f b) =
     record {
       place = here q;
       answer = number_unsigned 48 (x ∷ (h ++ r)) minus refl ∙ unsigned_hex q true x (h ++ r) k ∙ hexadecimal_first q true r a (not_nil h l)
-          ∙ ap (hex_judged q true) (hex_over 0 r a f ∙ hex_stop (spelled 16 0 h) r (behind_stops b)) ∙ hex_past q (spelled 16 0 h) r l;
+          ∙ ap (hex_judged q true) (hex_over 0 r a f ∙ hex_stop (spelled 16 0 h) r (after_stops b)) ∙ hex_past q (spelled 16 0 h) r l;
       is_place = ([], refl, refl);
     }
 refused (not_a_literal r n c h f b) = run_refused r h f b

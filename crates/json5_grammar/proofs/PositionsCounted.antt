@@ -4,7 +4,7 @@ use Rattle.std.specs.Prelude.{◌==◌, not}
 use Rattle.std.specs.List.{list_any}
 use Rattle.std.proofs.lemmas.Bool.Decides.{nat_tests}
 use Rattle.json5_grammar.specs.Characters.{is_terminator}
-use Rattle.json5_grammar.specs.Positions.{begins_line_feed, line_of, column_of, position_behind}
+use Rattle.json5_grammar.specs.Positions.{begins_line_feed, line_of, column_of, position_after}
 use Rattle.json5_grammar.specs.PositionSteps.{position_step, position_from}
 use Rattle.json5_grammar.specs.declared.position.Position.{Position}
 
@@ -63,15 +63,15 @@ plain_column : (s : List ℕ) → list_any is_terminator s ≡ false → column_
 plain_column [] h = refl
 plain_column (c ∷ s) h = rw h refl
 
-behind_return : (b t : Bool) (c : ℕ) (p : Position) → t ≡ true → (b && (c == 10)) ≡ false → (if b && (c == 10) then p else if t then record { line = suc p.line; column = 0 } else record { line = p.line; column = suc p.column }).column ≡ 0
-behind_return b t c p h k = rw (k, h) refl
+after_return : (b t : Bool) (c : ℕ) (p : Position) → t ≡ true → (b && (c == 10)) ≡ false → (if b && (c == 10) then p else if t then record { line = suc p.line; column = 0 } else record { line = p.line; column = suc p.column }).column ≡ 0
+after_return b t c p h k = rw (k, h) refl
 
 column_counted : (s : List ℕ) (p : Position) (b : Bool) → (b ≡ true → p.column ≡ 0) → (position_from p b s).column ≡ (if list_any is_terminator s then column_of s else p.column + length s)
 column_counted [] p b h = omega arith
 column_counted (c ∷ s) p b h =
     step_columns (b && (c == 10)) (is_terminator c) (list_any is_terminator s) _ _ p.column (column_of s) (length s) (feed_ends b c) (λ k. h (grind (arith, nat_tests)))
     (column_stepped (b && (c == 10)) (is_terminator c) p) (plain_column s)
-    (column_counted s (position_step p b c) (c == 13) (λ k. behind_return b (is_terminator c) c p (return_ends c k) (grind (arith, nat_tests))))
+    (column_counted s (position_step p b c) (c == 13) (λ k. after_return b (is_terminator c) c p (return_ends c k) (grind (arith, nat_tests))))
 
 same_position : (p : Position) (l k : ℕ) → p.line ≡ l → p.column ≡ k → p ≡ record { line = l; column = k }
 same_position p l k h j = ap (λ x. record { line = x; column = p.column }) h ∙ ap (λ y. record { line = l; column = y }) j
@@ -80,7 +80,7 @@ whole_column : (g : Bool) (k l : ℕ) → (g ≡ false → k ≡ l) → (if g th
 whole_column true k l h = refl
 whole_column false k l h = let e = h refl in omega arith
 
-pub counted : (s : List ℕ) → position_from (record { line = 0; column = 0 }) false s ≡ position_behind s
+pub counted : (s : List ℕ) → position_from (record { line = 0; column = 0 }) false s ≡ position_after s
 counted s =
     same_position (position_from (record { line = 0; column = 0 }) false s) (line_of s) (column_of s)
     (omega (arith, line_counted s (record { line = 0; column = 0 }) false))

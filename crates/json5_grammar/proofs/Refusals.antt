@@ -1,9 +1,9 @@
 -- A refusal has one code and one place.
 use Rattle.std.proofs.Common.{◌≡◌, ℕ, List, ◌++◌, refl, ap, sym, ◌∙◌, subst, Option, Some, None}
 use Rattle.std.proofs.lemmas.List.{append_cancel_right}
-use Rattle.json5_grammar.specs.Codes.{ErrorCode, behind_text}
+use Rattle.json5_grammar.specs.Codes.{ErrorCode, after_text}
 use Rattle.json5_grammar.specs.Reading.{Place, here, inner, Read, got, bad, IsAt}
-use Rattle.json5_grammar.proofs.Basics.{at_behind}
+use Rattle.json5_grammar.proofs.Basics.{at_after}
 
 -- the reader's answer res on x is this code at this place
 abbrev pub Refuses : {A : Type 0} → Read A → List ℕ → Option ErrorCode → Option (List ℕ) → Type 0
@@ -31,9 +31,9 @@ pub not_both : {A : Type 0} (res : Read A) (x r : List ℕ) (v : A) (c : Option 
 not_both res x r v c a e (p, f, i) = let same : got v r ≡ bad c p = sym e ∙ f in absurd (cc)
 
 -- a refusal after more text
-pub refuses_behind : {A B : Type 0} (t x : List ℕ) (res : Read A) (whole : Read B) (c : Option ErrorCode) (a : Option (List ℕ))
-    → ((p : Place) → res ≡ bad c p → whole ≡ bad c p) → Refuses res x c a → Refuses whole (t ++ x) c (behind_text t a)
-refuses_behind t x res whole c a k (p, e, i) = (p, k p e, at_behind t x a p i)
+pub refuses_after : {A B : Type 0} (t x : List ℕ) (res : Read A) (whole : Read B) (c : Option ErrorCode) (a : Option (List ℕ))
+    → ((p : Place) → res ≡ bad c p → whole ≡ bad c p) → Refuses res x c a → Refuses whole (t ++ x) c (after_text t a)
+refuses_after t x res whole c a k (p, e, i) = (p, k p e, at_after t x a p i)
 
 pub got_same : {A : Type 0} (a b : A) (r y : List ℕ) → got a r ≡ got b y → (a ≡ b) × (r ≡ y)
 got_same a b r y e = (cc, cc)

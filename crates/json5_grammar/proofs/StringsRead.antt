@@ -5,11 +5,11 @@ use Rattle.std.proofs.lemmas.Bool.Decides.{nat_tests}
 use Rattle.std.proofs.lemmas.List.{append-nil}
 use Rattle.json5_grammar.specs.Strings.{Items, no_item, raw, escape, is_raw, is_quote, Str, quoted, Escape, short, nul, byte, unicode, line_end, cr_lf, lone_cr, itself, single, surrogates}
 use Rattle.json5_grammar.specs.Codes.{ErrorCode, EofParsingString, LineTerminatorInString, Shown}
-use Rattle.json5_grammar.specs.StringFaults.{InDigits, in_byte, in_first, in_second, AfterSurrogate, no_backslash, no_u, lone_backslash, digits_missing, second_missing, EscapeFault, digit_behind_nul, escaped_digit, no_escape_digit, no_second_escape, unpaired, escape_ends, StringFault, raw_terminator, string_ends}
+use Rattle.json5_grammar.specs.StringFaults.{InDigits, in_byte, in_first, in_second, AfterSurrogate, no_backslash, no_u, lone_backslash, digits_missing, second_missing, EscapeFault, digit_after_nul, escaped_digit, no_escape_digit, no_second_escape, unpaired, escape_ends, StringFault, raw_terminator, string_ends}
 use Rattle.json5_grammar.specs.Reading.{Place, here, inner, Read, got, bad, and_then}
 use Rattle.json5_grammar.specs.ReadTexts.{put, items, string}
 use Rattle.json5_grammar.proofs.Basics.{same_char, same_items}
-use Rattle.json5_grammar.proofs.Refusals.{Refuses, one_refusal, not_both, one_answer, refuses_behind}
+use Rattle.json5_grammar.proofs.Refusals.{Refuses, one_refusal, not_both, one_answer, refuses_after}
 use Rattle.json5_grammar.proofs.EscapesRead.{escape_from, escape_read, escape_refused}
 
 pub escape_head : {e v r : List ℕ} → Escape e v r → (t : List ℕ) × (e ≡ 92 ∷ t)
@@ -36,7 +36,7 @@ no_rest : (e : List ℕ) → (t : List ℕ) × (e ++ [] ≡ 92 ∷ t) → (t : L
 no_rest e (t, h) = (t, sym (append-nil e) ∙ h)
 
 pub fault_head : {m : Bool} {x part : List ℕ} {code : Option ErrorCode} {place : Option (List ℕ)} {shown : Shown} → EscapeFault m x code place part shown → (t : List ℕ) × (x ≡ 92 ∷ t)
-fault_head (digit_behind_nul {c = c} r h) = (48 ∷ c ∷ r, refl)
+fault_head (digit_after_nul {c = c} r h) = (48 ∷ c ∷ r, refl)
 fault_head (escaped_digit {c = c} r h) = (c ∷ r, refl)
 fault_head (no_escape_digit c r i h) = digits_head (c ∷ r) i
 fault_head (no_second_escape c r i h) = after_head (c ∷ r) i
@@ -131,7 +131,7 @@ string_refused (string_ends {q = q} {s = s} {u = u} {plain = p} k i) =
     (inner, ap string (sym (append-nil (q ∷ s))) ∙ j.2 ∙ ap (put u p) (at_end j.0 q), tt)
 string_refused (StringFault.in_escape {q = q} {s = s} {u = u} {x = x} {plain = pl} {code = code} {place = place} k i f) =
     let j = string_through x k i in
-    refuses_behind (q ∷ s) x (escape_from true x) (string (q ∷ s ++ x)) code place (λ p e. j.2 ∙ ap (put u pl) (at_escape j.0 q x code p j.1 k (fault_head f) e)) (escape_refused f)
+    refuses_after (q ∷ s) x (escape_from true x) (string (q ∷ s ++ x)) code place (λ p e. j.2 ∙ ap (put u pl) (at_escape j.0 q x code p j.1 k (fault_head f) e)) (escape_refused f)
 
 -- the code and the place are the only ones
 pub one_string_fault : {x b c p q : List ℕ} {e f : Option ErrorCode} {pl pm : Option (List ℕ)} {h i : Shown} → StringFault x e pl b p h → StringFault x f pm c q i → (e ≡ f) × (pl ≡ pm)

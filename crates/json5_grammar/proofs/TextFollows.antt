@@ -2,7 +2,7 @@
 use Rattle.std.proofs.Common.{◌≡◌, ℕ, Bool, List, [], ◌∷◌, ◌++◌, refl, sym, append_assoc, subst, Option}
 use Rattle.json5_grammar.specs.Strings.{Unicode, single, surrogates}
 use Rattle.json5_grammar.specs.Codes.{ErrorCode, Shown, by_char}
-use Rattle.json5_grammar.specs.StringFaults.{EscapeFault, digit_behind_nul, escaped_digit, no_escape_digit, no_second_escape, unpaired, StringFault, raw_terminator}
+use Rattle.json5_grammar.specs.StringFaults.{EscapeFault, digit_after_nul, escaped_digit, no_escape_digit, no_second_escape, unpaired, StringFault, raw_terminator}
 use Rattle.json5_grammar.specs.NameFaults.{NameFault, no_unicode_escape, escaped_no_start, escaped_no_part}
 use Rattle.json5_grammar.proofs.Basics.{SameHead, same_append, same_items}
 use Rattle.json5_grammar.proofs.StringsRead.{fault_head}
@@ -14,7 +14,7 @@ escape_moved : {m : Bool} {x part : List ℕ} {code : Option ErrorCode} {place :
 escape_moved {m = m} {part = part} {code = code} {place = place} {how = how} y f h = subst (λ z. EscapeFault m z code place part how) h f
 
 pub escape_follows : {m : Bool} {x part : List ℕ} {code : Option ErrorCode} {place : Option (List ℕ)} (z : List ℕ) → EscapeFault m x code place part by_char → EscapeFault m (part ++ z) code place part by_char
-escape_follows z (digit_behind_nul r h) = digit_behind_nul z h
+escape_follows z (digit_after_nul r h) = digit_after_nul z h
 escape_follows z (escaped_digit r h) = escaped_digit z h
 escape_follows z (no_escape_digit {e = e} c r i h) = escape_moved _ (no_escape_digit c z i h) (sym (append_assoc e (c ∷ []) z))
 escape_follows z (no_second_escape {e = e} c r i h) = escape_moved _ (no_second_escape c z i h) (sym (append_assoc e (c ∷ []) z))

@@ -3,7 +3,7 @@ use Rattle.std.proofs.Common.{◌≡◌, ℕ, Bool, true, List, [], ◌∷◌, �
 use Rattle.std.proofs.lemmas.Bool.Decides.{nat_tests}
 use Rattle.json5_grammar.specs.Parts.{Part, one, an_escape, nul_escape, in_string, in_name, in_name_backslash, Nearly, just, one_more}
 use Rattle.json5_grammar.specs.Codes.{ErrorCode, Shown}
-use Rattle.json5_grammar.specs.StringFaults.{in_first, in_second, lone_backslash, digits_missing, second_missing, EscapeFault, digit_behind_nul, escaped_digit, no_escape_digit, no_second_escape, unpaired, escape_ends, StringFault, raw_terminator, string_ends}
+use Rattle.json5_grammar.specs.StringFaults.{in_first, in_second, lone_backslash, digits_missing, second_missing, EscapeFault, digit_after_nul, escaped_digit, no_escape_digit, no_second_escape, unpaired, escape_ends, StringFault, raw_terminator, string_ends}
 use Rattle.json5_grammar.specs.NameFaults.{NameFault, no_unicode_escape, escaped_no_start, escaped_no_part, name_ends, backslash_ends, Named, no_item_yet, some_items}
 use Rattle.json5_grammar.specs.Strings.{Hex4, hex4, Unicode, single, surrogates}
 use Rattle.json5_grammar.specs.Characters.{is_in, no_char, char}
@@ -25,7 +25,7 @@ whole_escape (single x s) = four_digits x
 whole_escape (surrogates {n = n} x y a b) = eight_digits x (high_surrogate n a) y
 
 escape_part : {m : Bool} {x p : List ℕ} {e : Option ErrorCode} {pl : Option (List ℕ)} {how : Shown} → EscapeFault m x e pl p how → Part p
-escape_part (digit_behind_nul {c = c} r h) = nul_escape (one_more c)
+escape_part (digit_after_nul {c = c} r h) = nul_escape (one_more c)
 escape_part (escaped_digit {c = c} r h) = an_escape (92 ∷ []) (92 ∷ c ∷ []) lone_backslash (one_more c)
 escape_part (no_escape_digit {e = e} c r i n) = an_escape e (e ++ c ∷ []) (digits_missing i) (one_more c)
 escape_part {m = m} (no_second_escape {e = e} c r i n) = an_escape e (e ++ c ∷ []) {in_string = m} (second_missing i) (one_more c)

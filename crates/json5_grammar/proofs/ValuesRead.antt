@@ -9,7 +9,7 @@ use Rattle.json5_grammar.specs.Values.{no_last_comma, last_comma, KeyText, Val, 
 use Rattle.json5_grammar.specs.Reading.{Read, got, and_then, placed}
 use Rattle.json5_grammar.specs.ReadBlanks.{skip, between}
 use Rattle.json5_grammar.specs.ReadNumbers as numbers
-use Rattle.json5_grammar.specs.ReadValues.{items, entries, close_or, after_member, after_pair, key_or, value_behind, as_leaf, value_with, read}
+use Rattle.json5_grammar.specs.ReadValues.{items, entries, close_or, after_member, after_pair, key_or, value_after, as_leaf, value_with, read}
 use Rattle.json5_grammar.proofs.BlanksRead.{skip_blanks, skip_solid, printable_no_blank}
 use Rattle.json5_grammar.proofs.Classes.{EndsValues, comma_ends_values, bracket_ends_values, brace_ends_values, begins_others, colon_no_name}
 use Rattle.json5_grammar.proofs.WordsRead.{word_complete}
@@ -90,21 +90,21 @@ close_head : {s : List ℕ} (m : Read Trees) (r : List ℕ) → ValueHead s → 
 close_head m r h = rw h.is (rw (begins_others h.char h.begins).3 refl)
 
 -- what is read after a member
-abbrev pub behind_member : (List ℕ → Read Trees) → Tree → List ℕ → Read Trees
-behind_member k t y = and_then (skip between y) (λ u z. and_then (after_member k z) (λ ts x. got (more t ts) x))
+abbrev pub after_member_blanks : (List ℕ → Read Trees) → Tree → List ℕ → Read Trees
+after_member_blanks k t y = and_then (skip between y) (λ u z. and_then (after_member k z) (λ ts x. got (more t ts) x))
 
 -- one member, and what follows it
 pub items_member : {w s v : List ℕ} {t : Tree} (d k : ℕ) (y : List ℕ) → Blanks w → ValueHead s → Blanks v → read d (s ++ (v ++ y)) ≡ got t (v ++ y)
-    → items (read d) (suc k) (w ++ (s ++ (v ++ y))) ≡ behind_member (items (read d) k) t y
+    → items (read d) (suc k) (w ++ (s ++ (v ++ y))) ≡ after_member_blanks (items (read d) k) t y
 unfolding items
 items_member {s = s} {v = v} d k y bw h bv e =
     rw (skip_blanks (s ++ (v ++ y)) bw, skip_value (v ++ y) h)
     (close_head _ (v ++ y) h ∙ rw (e, skip_blanks y bv) refl)
 
-after_comma : (t : Tree) (ts : Trees) (d k : ℕ) (x r : List ℕ) → items (read d) k x ≡ got ts r → behind_member (items (read d) k) t (44 ∷ x) ≡ got (more t ts) r
+after_comma : (t : Tree) (ts : Trees) (d k : ℕ) (x r : List ℕ) → items (read d) k x ≡ got ts r → after_member_blanks (items (read d) k) t (44 ∷ x) ≡ got (more t ts) r
 after_comma t ts d k x r e = rw (skip_comma x) (ap (λ q. and_then q (λ ts x. got (more t ts) x)) e)
 
-at_close : (t : Tree) (d k : ℕ) (r : List ℕ) → behind_member (items (read d) k) t (93 ∷ r) ≡ got (more t no_more) r
+at_close : (t : Tree) (d k : ℕ) (r : List ℕ) → after_member_blanks (items (read d) k) t (93 ∷ r) ≡ got (more t no_more) r
 at_close t d k r = rw (skip_bracket r) refl
 
 pub regroup : (w s v c r : List ℕ) → (w ++ (s ++ (v ++ c))) ++ r ≡ w ++ (s ++ (v ++ (c ++ r)))
@@ -120,16 +120,16 @@ key_or_head : {k : List ℕ} (m : Read Pairs) (r : List ℕ) → KeyHead k → k
 key_or_head m r h = rw h.is (rw (key_begins h.char h.begins).2 refl)
 
 -- what is read after a pair
-abbrev pub behind_pair : (List ℕ → Read Pairs) → List ℕ → Bool → Tree → List ℕ → Read Pairs
-behind_pair k u plain t y = and_then (skip between y) (λ w z. and_then (after_pair k z) (λ ps q. got (pair u plain t ps) q))
+abbrev pub after_pair_blanks : (List ℕ → Read Pairs) → List ℕ → Bool → Tree → List ℕ → Read Pairs
+after_pair_blanks k u plain t y = and_then (skip between y) (λ w z. and_then (after_pair k z) (λ ps q. got (pair u plain t ps) q))
 
 -- blanks, the colon, blanks and the value
-pub colon_and_value : {b w s : List ℕ} {t : Tree} (val : List ℕ → Read Tree) (y : List ℕ) → Blanks b → Blanks w → ValueHead s → val (s ++ y) ≡ got t y → value_behind val (b ++ 58 ∷ (w ++ (s ++ y))) ≡ got t y
+pub colon_and_value : {b w s : List ℕ} {t : Tree} (val : List ℕ → Read Tree) (y : List ℕ) → Blanks b → Blanks w → ValueHead s → val (s ++ y) ≡ got t y → value_after val (b ++ 58 ∷ (w ++ (s ++ y))) ≡ got t y
 colon_and_value {w = w} {s = s} val y bb bw h e = rw (skip_blanks (58 ∷ (w ++ (s ++ y))) bb, skip_colon (w ++ (s ++ y))) (rw (skip_blanks (s ++ y) bw, skip_value y h) e)
 
 -- one pair, and what follows it
 pub entries_pair : {a k b w s v u : List ℕ} {plain : Bool} {t : Tree} (d n : ℕ) (y : List ℕ) → Blanks a → KeyText k u plain → Blanks b → Blanks w → ValueHead s → Blanks v → read d (s ++ (v ++ y)) ≡ got t (v ++ y)
-    → entries (read d) (suc n) (a ++ (k ++ (b ++ 58 ∷ (w ++ (s ++ (v ++ y)))))) ≡ behind_pair (entries (read d) n) u plain t y
+    → entries (read d) (suc n) (a ++ (k ++ (b ++ 58 ∷ (w ++ (s ++ (v ++ y)))))) ≡ after_pair_blanks (entries (read d) n) u plain t y
 unfolding entries
 entries_pair {k = k} {b = b} {w = w} {s = s} {v = v} d n y ba kt bb bw h bv e =
     let z = b ++ 58 ∷ (w ++ (s ++ (v ++ y))) in
@@ -137,10 +137,10 @@ entries_pair {k = k} {b = b} {w = w} {s = s} {v = v} d n y ba kt bb bw h bv e =
     rw (skip_blanks (k ++ z) ba, skip_key z head)
     (key_or_head _ z head ∙ rw (key_complete (key_before_blanks 58 (w ++ (s ++ (v ++ y))) bb kt colon_no_name), colon_and_value (read d) (v ++ y) bb bw h e, skip_blanks y bv) refl)
 
-after_pair_comma : (u : List ℕ) (plain : Bool) (t : Tree) (ps : Pairs) (d k : ℕ) (x r : List ℕ) → entries (read d) k x ≡ got ps r → behind_pair (entries (read d) k) u plain t (44 ∷ x) ≡ got (pair u plain t ps) r
+after_pair_comma : (u : List ℕ) (plain : Bool) (t : Tree) (ps : Pairs) (d k : ℕ) (x r : List ℕ) → entries (read d) k x ≡ got ps r → after_pair_blanks (entries (read d) k) u plain t (44 ∷ x) ≡ got (pair u plain t ps) r
 after_pair_comma u plain t ps d k x r e = rw (skip_comma x) (ap (λ q. and_then q (λ ps x. got (pair u plain t ps) x)) e)
 
-at_brace : (u : List ℕ) (plain : Bool) (t : Tree) (d k : ℕ) (r : List ℕ) → behind_pair (entries (read d) k) u plain t (125 ∷ r) ≡ got (pair u plain t no_pair) r
+at_brace : (u : List ℕ) (plain : Bool) (t : Tree) (d k : ℕ) (r : List ℕ) → after_pair_blanks (entries (read d) k) u plain t (125 ∷ r) ≡ got (pair u plain t no_pair) r
 at_brace u plain t d k r = rw (skip_brace r) refl
 
 pub regroup_pair : (a k b w s v y : List ℕ) → (a ++ (k ++ (b ++ 58 ∷ (w ++ (s ++ v))))) ++ y ≡ a ++ (k ++ (b ++ 58 ∷ (w ++ (s ++ (v ++ y)))))
@@ -204,7 +204,7 @@ mutual
 
   -- a pair is read, up to the character after it
   pub entry_complete : {p u : List ℕ} {plain : Bool} {t : Tree} → Entry p u plain t → (c : ℕ) (y : List ℕ) → EndsValues c → (d : ℕ) → depth t ≤ d → (n : ℕ)
-      → entries (read d) (suc n) (p ++ c ∷ y) ≡ behind_pair (entries (read d) n) u plain t (c ∷ y)
+      → entries (read d) (suc n) (p ++ c ∷ y) ≡ after_pair_blanks (entries (read d) n) u plain t (c ∷ y)
   entry_complete (entry {a = a} {k = k} {b = b} {w = w} {s = s} {v = v} ba kt bb bw vs bv) c y ends d l n =
       ap (entries (read d) (suc n)) (regroup_pair a k b w s v (c ∷ y))
       ∙ entries_pair d n (c ∷ y) ba kt bb bw (val_head vs) bv (read_complete vs (v ++ c ∷ y) (stops_blanks s c y bv ends) d l)

@@ -2,7 +2,7 @@
 -- JSON5 section 7 (comments) and section 8 (white space).
 use Rattle.std.specs.Prelude.{◌≡◌, ◌≢◌, ℕ, Bool, true, false, not, ◌||◌, ◌==◌, List, [], ◌∷◌, ◌++◌, Option, Some, None}
 use Rattle.json5_grammar.specs.Characters.{is_terminator, is_blank, slash_sign, star_sign, NotBegun, Each}
-use Rattle.json5_grammar.specs.Codes.{ErrorCode, ExpectedComment, EofParsingComment, Shown, by_char, by_end, behind_text}
+use Rattle.json5_grammar.specs.Codes.{ErrorCode, ExpectedComment, EofParsingComment, Shown, by_char, by_end, after_text}
 
 -- x, where `x*/` holds `*/` at its end only
 pub data Inside : List ℕ → Type 0 where
@@ -47,4 +47,4 @@ pub data CommentFault : List ℕ → Option ErrorCode → Option (List ℕ) → 
 -- blanks, and then a faulty comment, its place and part being within the whole
 pub data BlankFault : List ℕ → Option ErrorCode → Option (List ℕ) → List ℕ → List ℕ → Shown → Type 0 where
   in_comment : {w x part : List ℕ} {code : Option ErrorCode} {place : Option (List ℕ)} {shown : Shown} → Blanks w → CommentFault x code place part shown
-      → BlankFault (w ++ x) code (behind_text w place) w part shown
+      → BlankFault (w ++ x) code (after_text w place) w part shown

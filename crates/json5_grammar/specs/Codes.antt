@@ -9,6 +9,6 @@ pub data Shown : Type 0 where
   by_end : Shown
 
 -- a place within what follows t, as a place within the whole; a place is the text before it, and None is the end
-abbrev pub behind_text : List ℕ → Option (List ℕ) → Option (List ℕ)
-behind_text t None = None
-behind_text t (Some p) = Some (t ++ p)
+abbrev pub after_text : List ℕ → Option (List ℕ) → Option (List ℕ)
+after_text t None = None
+after_text t (Some p) = Some (t ++ p)

@@ -1,7 +1,7 @@
 -- The faults of an identifier, from its first character on.
 use Rattle.std.specs.Prelude.{◌≡◌, ◌≢◌, ℕ, Bool, false, List, [], ◌∷◌, ◌++◌, Option, Some, None}
 use Rattle.json5_grammar.specs.Characters.{backslash, letter_u, is_identifier_start, is_identifier_part}
-use Rattle.json5_grammar.specs.Codes.{ErrorCode, EofParsingIdentifier, ExpectedIdentifier, InvalidEscapeSequence, Shown, by_char, by_end, behind_text}
+use Rattle.json5_grammar.specs.Codes.{ErrorCode, EofParsingIdentifier, ExpectedIdentifier, InvalidEscapeSequence, Shown, by_char, by_end, after_text}
 use Rattle.json5_grammar.specs.Strings.{Unicode}
 use Rattle.json5_grammar.specs.Names.{Ident}
 use Rattle.json5_grammar.specs.StringFaults.{EscapeFault}
@@ -15,7 +15,7 @@ pub data Named : List ℕ → Type 0 where
 pub data NameFault : List ℕ → Option ErrorCode → Option (List ℕ) → List ℕ → List ℕ → Shown → Type 0 where
   -- in an escape
   in_escape : {t x part : List ℕ} {code : Option ErrorCode} {place : Option (List ℕ)} {shown : Shown} → Named t → EscapeFault false x code place part shown
-      → NameFault (t ++ x) code (behind_text t place) t part shown
+      → NameFault (t ++ x) code (after_text t place) t part shown
   -- InvalidEscapeSequence at the character after a backslash that is no `u`
   no_unicode_escape : {t : List ℕ} (c : ℕ) (r : List ℕ) → Named t → c ≢ letter_u
       → NameFault (t ++ backslash ∷ c ∷ r) (Some InvalidEscapeSequence) (Some (t ++ backslash ∷ [])) t (backslash ∷ c ∷ []) by_char

@@ -66,19 +66,19 @@ is_empty (c ∷ s) = false
 abbrev pub normal_exponent : List ℕ → ℤ → ℤ
 normal_exponent s e = if is_empty (without_zeros s) then pos 0 else e +ℤ pos (length (without_front_zeros s) - length (without_zeros s))
 
-abbrev pub digits_behind : Option (List ℕ) → List ℕ
-digits_behind None = []
-digits_behind (Some f) = f
+abbrev pub digits_after : Option (List ℕ) → List ℕ
+digits_after None = []
+digits_after (Some f) = f
 
 abbrev pub written : Option ℤ → ℤ
 written None = pos 0
 written (Some e) = e
 
 abbrev pub all_digits : List ℕ → Option (List ℕ) → List ℕ
-all_digits i f = i ++ digits_behind f
+all_digits i f = i ++ digits_after f
 
 abbrev pub exponent_of : List ℕ → Option (List ℕ) → Option ℤ → ℤ
-exponent_of i f w = normal_exponent (all_digits i f) (written w -ℤ pos (length (digits_behind f)))
+exponent_of i f w = normal_exponent (all_digits i f) (written w -ℤ pos (length (digits_after f)))
 
 abbrev pub InExponents : ℤ → Type 0
 InExponents e = (neg_ℤ (pos 32768) ≤ℤ e) × (e ≤ℤ pos 32767)

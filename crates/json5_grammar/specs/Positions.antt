@@ -20,5 +20,5 @@ column_of [] = 0
 column_of (c ∷ s) = if list_any is_terminator (c ∷ s) then column_of s else suc (length s)
 
 -- the position after this prefix of the text
-abbrev pub position_behind : List ℕ → Position
-position_behind s = record { line = line_of s; column = column_of s }
+abbrev pub position_after : List ℕ → Position
+position_after s = record { line = line_of s; column = column_of s }

@@ -45,7 +45,7 @@ rest_of p (c ∷ s) = cond (p c) (rest_of p s) (c ∷ s)
 -- digits before the point, digits after it, the written exponent
 pub record Parts : Type 0 where
   pub before : List ℕ
-  pub behind : Option (List ℕ)
+  pub after : Option (List ℕ)
   pub raised : Option ℤ
 
 abbrev pub exponent_digits : Bool → List ℕ → Option (Option ℤ)
@@ -67,7 +67,7 @@ is_integer (c ∷ s) = not (c == digit_zero) || is_empty s
 
 abbrev pub with_exponent : List ℕ → Option (List ℕ) → Option (Option ℤ) → Option Parts
 with_exponent i f None = None
-with_exponent i f (Some w) = Some (record { before = i; behind = f; raised = w })
+with_exponent i f (Some w) = Some (record { before = i; after = f; raised = w })
 
 abbrev pub no_point : List ℕ → List ℕ → Option Parts
 no_point i y = cond (is_integer i) (with_exponent i None (exponent_at y)) None
@@ -103,7 +103,7 @@ judged q m r i f w =
 
 abbrev pub if_literal : List ℕ → Bool → List ℕ → Option Parts → Read Number
 if_literal q m r None = bad None (here q)
-if_literal q m r (Some p) = judged q m r p.before p.behind p.raised
+if_literal q m r (Some p) = judged q m r p.before p.after p.raised
 
 abbrev pub decimal_run : List ℕ → Bool → List ℕ → Read Number
 decimal_run q m x = if_literal q m (rest_of in_run x) (literal_at (front_of in_run x))

@@ -46,11 +46,11 @@ colon_at [] = bad (Some EofParsingObject) inner
 colon_at (c ∷ r) = cond (c == colon_sign) (got tt r) (bad (Some ExpectedColon) (here (c ∷ r)))
 
 -- after a key: blanks, the colon, blanks, the value
-abbrev pub value_behind : (List ℕ → Read Tree) → List ℕ → Read Tree
-value_behind val x = and_then (skip between x) (λ u y. and_then (colon_at y) (λ v z. and_then (skip between z) (λ w q. val q)))
+abbrev pub value_after : (List ℕ → Read Tree) → List ℕ → Read Tree
+value_after val x = and_then (skip between x) (λ u y. and_then (colon_at y) (λ v z. and_then (skip between z) (λ w q. val q)))
 
 abbrev pub pair_at : (List ℕ → Read Tree) → (List ℕ → Read Pairs) → List ℕ → Read Pairs
-pair_at val k x = and_then (key x) (λ a r. and_then (value_behind val r) (λ t y. and_then (skip between y) (λ u z. and_then (after_pair k z) (λ ps q. got (pair a.0 a.1 t ps) q))))
+pair_at val k x = and_then (key x) (λ a r. and_then (value_after val r) (λ t y. and_then (skip between y) (λ u z. and_then (after_pair k z) (λ ps q. got (pair a.0 a.1 t ps) q))))
 
 abbrev pub key_or : Read Pairs → List ℕ → Read Pairs
 key_or m [] = bad (Some EofParsingObject) inner

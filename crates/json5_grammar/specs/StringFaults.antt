@@ -1,7 +1,7 @@
 -- The faults of an escape and of a string, from its first character on.
 use Rattle.std.specs.Prelude.{◌≡◌, ◌≢◌, ℕ, ◌<◌, Bool, true, false, ◌&&◌, ◌||◌, ◌==◌, List, [], ◌∷◌, ◌++◌, length, Option, Some, None}
 use Rattle.json5_grammar.specs.Characters.{line_feed, carriage_return, digit_zero, digit_one, digit_nine, backslash, letter_u, letter_x, is_in, is_digit, is_hex_digit, Each, first_high_surrogate, last_low_surrogate}
-use Rattle.json5_grammar.specs.Codes.{ErrorCode, EofParsingEscapeSequence, EofParsingString, InvalidEscapeSequence, LineTerminatorInString, Shown, by_char, by_end, behind_text}
+use Rattle.json5_grammar.specs.Codes.{ErrorCode, EofParsingEscapeSequence, EofParsingString, InvalidEscapeSequence, LineTerminatorInString, Shown, by_char, by_end, after_text}
 use Rattle.json5_grammar.specs.Strings.{Hex4, is_high, is_low, Items, is_quote}
 
 abbrev pub is_surrogate : ℕ → Bool
@@ -27,7 +27,7 @@ pub data CutEscape : Bool → List ℕ → Type 0 where
 -- x begins with a faulty escape: the code (None: custom), the text before the place (None: no place), the part, what shows it
 pub data EscapeFault : Bool → List ℕ → Option ErrorCode → Option (List ℕ) → List ℕ → Shown → Type 0 where
   -- InvalidEscapeSequence at the backslash: a digit after `\0`
-  digit_behind_nul : {c : ℕ} (r : List ℕ) → is_digit c ≡ true → EscapeFault true (backslash ∷ digit_zero ∷ c ∷ r) (Some InvalidEscapeSequence) (Some []) (backslash ∷ digit_zero ∷ c ∷ []) by_char
+  digit_after_nul : {c : ℕ} (r : List ℕ) → is_digit c ≡ true → EscapeFault true (backslash ∷ digit_zero ∷ c ∷ r) (Some InvalidEscapeSequence) (Some []) (backslash ∷ digit_zero ∷ c ∷ []) by_char
   -- InvalidEscapeSequence at the backslash: `\1` to `\9`
   escaped_digit : {c : ℕ} (r : List ℕ) → is_in digit_one digit_nine c ≡ true → EscapeFault true (backslash ∷ c ∷ r) (Some InvalidEscapeSequence) (Some []) (backslash ∷ c ∷ []) by_char
   -- InvalidEscapeSequence at the (first) backslash: no hexadecimal digit within `\x` or `\u`
@@ -50,4 +50,4 @@ pub data StringFault : List ℕ → Option ErrorCode → Option (List ℕ) → L
       → StringFault (q ∷ s) (Some EofParsingString) None [] (q ∷ s) by_end
   -- in an escape
   in_escape : {q : ℕ} {s u x part : List ℕ} {plain : Bool} {code : Option ErrorCode} {place : Option (List ℕ)} {shown : Shown} → is_quote q ≡ true → Items q x s u plain → EscapeFault true x code place part shown
-      → StringFault (q ∷ s ++ x) code (behind_text (q ∷ s) place) (q ∷ s) part shown
+      → StringFault (q ∷ s ++ x) code (after_text (q ∷ s) place) (q ∷ s) part shown

@@ -2,7 +2,7 @@
 ghost use Rattle.std.specs.Prelude.{◌≡◌, ◌+◌, ◌<◌, ◌++◌, Some, take, decimal};
 ghost use Rattle.std.specs.Str.{IsCharBoundary, chars};
 ghost use lib.Chars.{codes};
-ghost use Rattle.json5_grammar.specs.Positions.{position_behind};
+ghost use Rattle.json5_grammar.specs.Positions.{position_after};
 ghost use Rattle.json5_grammar.specs.PositionSteps.{position_step};
 
 use std::fmt;
@@ -22,14 +22,14 @@ impl Position {
     /// 7.3).
     pub fn from_offset(offset: usize, input: &str) -> Position
         requires { IsCharBoundary input.now offset }
-        ensures { result ≡ position_behind (chars (take offset input.now)) }
+        ensures { result ≡ position_after (chars (take offset input.now)) }
     {
-        Position::behind(&input[..offset])
+        Position::after(&input[..offset])
     }
 
     /// The position right after a text, counted from the text's start.
-    pub fn behind(text: &str) -> Position
-        ensures { result ≡ position_behind (chars text.now) }
+    pub fn after(text: &str) -> Position
+        ensures { result ≡ position_after (chars text.now) }
     {
         let mut position = Position { line: 0, column: 0 };
         let mut is_after_cr = false;

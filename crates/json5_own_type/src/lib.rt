@@ -11,9 +11,9 @@ ghost use Rattle.json5.specs.ErrorCode.TheVariants as codes;
 ghost use Rattle.json5.specs.Law.{IsUnprompted};
 ghost use Rattle.json5.specs.Faults.{EndsWithOrMemory};
 
+pub use at_most::AtMost;
 use json5::de::value_codes;
 use json5::{Deserialize, Deserializer, Error, Input, Result, SeqAccess};
-pub use at_most::AtMost;
 pub use levels::Level;
 pub use ports::{Endpoint, OpenPort, PortRange};
 use std::alloc::Global;
@@ -110,7 +110,7 @@ impl<I: Input, T: Deserialize<I>> Deserialize<I> for Point<T> {
     }
 }
 
-/// Gives the reader up after one element: from then on it answers `Failed`.
+/// Drops the access after one element: from then on the reader answers `Failed`.
 pub fn gives_up<I: Input>(de: &mut Deserializer<I>) -> Result<()>
     ensures { de.new.failed ≡ true }
 {

@@ -5,7 +5,7 @@ use Rattle.std.specs.Option.{is_some, option_map}
 use Rattle.std.proofs.lemmas.Bool.Decides.{nat_tests}
 use Rattle.std.proofs.lemmas.List.{length-append}
 use Rattle.json5_grammar.specs.declared.code.ErrorCode.TheVariants.{OverflowParsingNumber}
-use Rattle.json5_grammar.specs.Numbers.{Decimal, finite, whole, decimal, signed, spelled, InExponents, is_empty, without_front_zeros, without_zeros, normal_exponent, digits_behind, written, all_digits, exponent_of}
+use Rattle.json5_grammar.specs.Numbers.{Decimal, finite, whole, decimal, signed, spelled, InExponents, is_empty, without_front_zeros, without_zeros, normal_exponent, digits_after, written, all_digits, exponent_of}
 use Rattle.json5_grammar.specs.NumberSteps.{checked}
 use Rattle.json5_grammar.specs.Reading.{got, bad, here}
 use Rattle.json5_grammar.specs.ReadNumbers.{is_whole, in_whole, in_exponents, judged, if_literal}
@@ -93,26 +93,26 @@ unfolding judged
 judged_past q m r i f w e h a n = let t = not_in_range (exponent_of i f w) (λ k. n (a.1 k)) in rw (h, t) refl
 
 -- a literal's number, with the digits after the point and the lowered exponent that code has
-pub record Found (l : Literal) (behind : List ℕ) (e : ℤ) : Type 0 where
-  pub behind_is : behind ≡ digits_behind (parts_of l).behind
-  pub exponent_is : e ≡ limited_exponent (2 ^ 100) l.exponent -ℤ pos (length behind)
-  pub short : length (l.before.now ++ behind) < 2 ^ 64
+pub record Found (l : Literal) (after : List ℕ) (e : ℤ) : Type 0 where
+  pub after_is : after ≡ digits_after (parts_of l).after
+  pub exponent_is : e ≡ limited_exponent (2 ^ 100) l.exponent -ℤ pos (length after)
+  pub short : length (l.before.now ++ after) < 2 ^ 64
 
-pub found_is : (l : Literal) (behind : List ℕ) (r e : ℤ) → behind ≡ digits_behind (parts_of l).behind → r ≡ limited_exponent (2 ^ 100) l.exponent -ℤ pos (length behind) → e ≡ r → length l.before.now < 2 ^ 63 → length behind < 2 ^ 63 → Found l behind e
-found_is l behind r e h k f a b = record { behind_is = h; exponent_is = f ∙ k; short = omega (arith, length-append l.before.now behind) }
+pub found_is : (l : Literal) (after : List ℕ) (r e : ℤ) → after ≡ digits_after (parts_of l).after → r ≡ limited_exponent (2 ^ 100) l.exponent -ℤ pos (length after) → e ≡ r → length l.before.now < 2 ^ 63 → length after < 2 ^ 63 → Found l after e
+found_is l after r e h k f a b = record { after_is = h; exponent_is = f ∙ k; short = omega (arith, length-append l.before.now after) }
 
-agree_found : (l : Literal) (behind : List ℕ) (e : ℤ) → Found l behind e → Agree (normal_exponent (l.before.now ++ behind) e) (exponent_of (parts_of l).before (parts_of l).behind (parts_of l).raised)
-agree_found l behind e h =
+agree_found : (l : Literal) (after : List ℕ) (e : ℤ) → Found l after e → Agree (normal_exponent (l.before.now ++ after) e) (exponent_of (parts_of l).before (parts_of l).after (parts_of l).raised)
+agree_found l after e h =
     let s = h.short in
-    let a = agree_exponent (l.before.now ++ behind) l.exponent (length behind) (omega (arith, length-append l.before.now behind)) (omega arith) in
-    rw (h.exponent_is, ← h.behind_is) a
+    let a = agree_exponent (l.before.now ++ after) l.exponent (length after) (omega (arith, length-append l.before.now after)) (omega arith) in
+    rw (h.exponent_is, ← h.after_is) a
 
-pub literal_decimal : (q : List ℕ) (m : Bool) (r : List ℕ) (l : Literal) (behind : List ℕ) (e : ℤ) (d : Decimal) → Found l behind e → is_whole_literal m l ≡ false → InExponents (normal_exponent (l.before.now ++ behind) e)
-    → d ≡ finite m (without_zeros (l.before.now ++ behind)) (normal_exponent (l.before.now ++ behind) e) → if_literal q m r (Some (parts_of l)) ≡ got (decimal d) r
-literal_decimal q m r l behind e d h w k g =
-    judged_decimal q m r (parts_of l).before (parts_of l).behind (parts_of l).raised d (normal_exponent (l.before.now ++ behind) e) w (agree_found l behind e h) k
-    (g ∙ ap (λ z. finite m (without_zeros (l.before.now ++ z)) (normal_exponent (l.before.now ++ behind) e)) h.behind_is)
+pub literal_decimal : (q : List ℕ) (m : Bool) (r : List ℕ) (l : Literal) (after : List ℕ) (e : ℤ) (d : Decimal) → Found l after e → is_whole_literal m l ≡ false → InExponents (normal_exponent (l.before.now ++ after) e)
+    → d ≡ finite m (without_zeros (l.before.now ++ after)) (normal_exponent (l.before.now ++ after) e) → if_literal q m r (Some (parts_of l)) ≡ got (decimal d) r
+literal_decimal q m r l after e d h w k g =
+    judged_decimal q m r (parts_of l).before (parts_of l).after (parts_of l).raised d (normal_exponent (l.before.now ++ after) e) w (agree_found l after e h) k
+    (g ∙ ap (λ z. finite m (without_zeros (l.before.now ++ z)) (normal_exponent (l.before.now ++ after) e)) h.after_is)
 
-pub literal_past : (q : List ℕ) (m : Bool) (r : List ℕ) (l : Literal) (behind : List ℕ) (e : ℤ) → Found l behind e → is_whole_literal m l ≡ false → (InExponents (normal_exponent (l.before.now ++ behind) e) → ⊥)
+pub literal_past : (q : List ℕ) (m : Bool) (r : List ℕ) (l : Literal) (after : List ℕ) (e : ℤ) → Found l after e → is_whole_literal m l ≡ false → (InExponents (normal_exponent (l.before.now ++ after) e) → ⊥)
     → if_literal q m r (Some (parts_of l)) ≡ bad (Some OverflowParsingNumber) (here q)
-literal_past q m r l behind e h w n = judged_past q m r (parts_of l).before (parts_of l).behind (parts_of l).raised (normal_exponent (l.before.now ++ behind) e) w (agree_found l behind e h) n
+literal_past q m r l after e h w n = judged_past q m r (parts_of l).before (parts_of l).after (parts_of l).raised (normal_exponent (l.before.now ++ after) e) w (agree_found l after e h) n

@@ -96,5 +96,5 @@ point_without_digits i f z b e h = let k = sym e ∙ h in rw k refl
 pub point_without_exponent : (i f z : List ℕ) (b : Bool) → b ≡ (is_integer i || (is_empty i && not (is_empty f))) → b ≡ true → exponent_at z ≡ None → at_point i f z ≡ None
 point_without_exponent i f z b e h l = let k = sym e ∙ h in rw (k, l) refl
 
-pub point_found : (i f z : List ℕ) (b : Bool) (w : Option ℤ) → b ≡ (is_integer i || (is_empty i && not (is_empty f))) → b ≡ true → exponent_at z ≡ Some w → at_point i f z ≡ Some (record { before = i; behind = Some f; raised = w })
+pub point_found : (i f z : List ℕ) (b : Bool) (w : Option ℤ) → b ≡ (is_integer i || (is_empty i && not (is_empty f))) → b ≡ true → exponent_at z ≡ Some w → at_point i f z ≡ Some (record { before = i; after = Some f; raised = w })
 point_found i f z b w e h l = let k = sym e ∙ h in rw (k, l) refl

@@ -69,8 +69,8 @@ boundary_offset text i u b =
     (chars (take i text), chars (drop i text), (halves_at text i u b).split, (let taken = length-take i text in let bytes = ap length same in omega arith))
 
 -- and cut again after p
-pub halves_behind : {text x y : List ℕ} (p q : List ℕ) → Halves text x y → y ≡ p ++ q → Halves text (x ++ p) q
-halves_behind {x = x} p q h e = record { is_text = h.is_text; split = h.split ∙ ap (λ z. x ++ z) e ∙ sym (append_assoc x p q) }
+pub halves_after : {text x y : List ℕ} (p q : List ℕ) → Halves text x y → y ≡ p ++ q → Halves text (x ++ p) q
+halves_after {x = x} p q h e = record { is_text = h.is_text; split = h.split ∙ ap (λ z. x ++ z) e ∙ sym (append_assoc x p q) }
 
 -- texts of the same characters have the same bytes
 pub same_text : (a b : List ℕ) → IsUtf8 a → IsUtf8 b → chars a ≡ chars b → a ≡ b
@@ -96,7 +96,7 @@ fits_left x y k e l = rw (k.counted, l) (left_fits (record { is_text = k.is_text
 
 -- the whole text, cut within what is unread
 pub whole_split : {text : List ℕ} {offset end : ℕ} (p q : List ℕ) → InText text offset end → chars (drop offset text) ≡ p ++ q → chars text ≡ (chars (take offset text) ++ p) ++ q
-whole_split p q k e = (halves_behind p q (halves_in k) e).split
+whole_split p q k e = (halves_after p q (halves_in k) e).split
 
 pub offset_counted : {text : List ℕ} {offset end : ℕ} → InText text offset end → offset ≡ length (encode_utf8_all (chars text)) - length (encode_utf8_all (chars (drop offset text)))
 offset_counted {text = text} {offset = offset} k =

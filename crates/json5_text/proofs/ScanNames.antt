@@ -97,8 +97,8 @@ name_item first x y e = either (item first x y) refl
 after_item : (first : Bool) (x y z : List ℕ) (n : ℕ) → item first x y ≡ got n z → item_then first x y ≡ put (n ∷ []) false (name_at false z)
 after_item first x y z n h = ap (λ m. and_then m (λ c z. put (c ∷ []) false (name_at false z))) h
 
-pub behind_item : (first : Bool) (r : Refusal) (x y z : List ℕ) (n : ℕ) → item first x y ≡ got n z → Refuses r (outcome (name_at false z)) → Refuses r (outcome (item_then first x y))
-behind_item first r x y z n g = refuses_as r (name_at false z) (item_then first x y) (λ c p h. after_item first x y z n g ∙ put_bad (n ∷ []) false (name_at false z) c p h)
+pub refused_after_item : (first : Bool) (r : Refusal) (x y z : List ℕ) (n : ℕ) → item first x y ≡ got n z → Refuses r (outcome (name_at false z)) → Refuses r (outcome (item_then first x y))
+refused_after_item first r x y z n g = refuses_as r (name_at false z) (item_then first x y) (λ c p h. after_item first x y z n g ∙ put_bad (n ∷ []) false (name_at false z) c p h)
 
 item_run : (first : Bool) (x y z raw t : List ℕ) (n : ℕ) → item first x y ≡ got n z → z ≡ raw ++ t → Each is_raw_part raw → item_then first x y ≡ put (n ∷ raw) false (name_at false t)
 item_run first x y z raw t n g f k =
@@ -107,7 +107,7 @@ item_run first x y z raw t n g f k =
 pub goes_on : (first : Bool) (x y z raw t : List ℕ) (n : ℕ) (s : NameStop) → item first x y ≡ got n z → z ≡ raw ++ t → Each is_raw_part raw → StopsAt t s → GoesOn (item_then first x y) (n ∷ raw) s
 goes_on first x y z raw t n (stop.End rest) g f k a =
     item_run first x y z raw t n g f k ∙ ap (put (n ∷ raw) false) (stopped t a.1) ∙ put_end (n ∷ raw) false t ∙ ap (got (n ∷ raw, false)) a.0
-goes_on first x y z raw t n (stop.Escape escape behind) g f k a = (item_run first x y z raw t n g f k ∙ ap (λ s. put (n ∷ raw) false (name_at false s)) a.0, a.1)
+goes_on first x y z raw t n (stop.Escape escape after) g f k a = (item_run first x y z raw t n g f k ∙ ap (λ s. put (n ∷ raw) false (name_at false s)) a.0, a.1)
 
 item_shorter : (first : Bool) (x y z : List ℕ) (n : ℕ) → x ≡ 92 ∷ y → item first x y ≡ got n z → length z < length x
 item_shorter first x y z n e g =
@@ -118,7 +118,7 @@ item_shorter first x y z n e g =
 
 pub is_further : (first : Bool) (x y z raw t : List ℕ) (n : ℕ) (s : NameStop) → item first x y ≡ got n z → z ≡ raw ++ t → StopsAt t s → StopsText s → x ≡ 92 ∷ y → IsFurther x s
 is_further first x y z raw t n (stop.End rest) g f a u e = u
-is_further first x y z raw t n (stop.Escape escape behind) g f a u e =
+is_further first x y z raw t n (stop.Escape escape after) g f a u e =
     let less = item_shorter first x y z n e g in
     let whole : length z ≡ length raw + length t = ap length f ∙ length-append raw t in
     let same : length t ≡ length (chars escape.now) = ap length a.0 in

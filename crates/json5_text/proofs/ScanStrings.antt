@@ -81,8 +81,8 @@ string_escape q x y k e = either (escape_at x y) refl
         ap (λ t. string (q ∷ t)) e ∙ string_is q (92 ∷ y) ∙ rest_bad q y c p (quote_no_backslash q k) (ap (λ t. escape_at t y) (sym e) ∙ h)
         ∙ sym (ap (λ m. and_then m (λ v z. put v false (string (q ∷ z)))) h)
 
-pub behind_escape : (q : ℕ) (r : Refusal) (x y v z : List ℕ) → escape_at x y ≡ got v z → Refuses r (outcome (string (q ∷ z))) → Refuses r (outcome (escape_then q x y))
-behind_escape q r x y v z h = refuses_as r (string (q ∷ z)) (escape_then q x y) (λ c p g. after_escape q x y v z h ∙ put_bad v false (string (q ∷ z)) c p g)
+pub refused_after_escape : (q : ℕ) (r : Refusal) (x y v z : List ℕ) → escape_at x y ≡ got v z → Refuses r (outcome (string (q ∷ z))) → Refuses r (outcome (escape_then q x y))
+refused_after_escape q r x y v z h = refuses_as r (string (q ∷ z)) (escape_then q x y) (λ c p g. after_escape q x y v z h ∙ put_bad v false (string (q ∷ z)) c p g)
 
 escape_run : (q : ℕ) (x y v z raw t : List ℕ) → escape_at x y ≡ got v z → z ≡ raw ++ t → Each (is_raw q) raw → escape_then q x y ≡ put (v ++ raw) false (string (q ∷ t))
 escape_run q x y v z raw t h f r =
@@ -92,7 +92,7 @@ pub goes_on : (q : ℕ) (x y v z raw t : List ℕ) (s : StringStop) → escape_a
 goes_on q x y v z raw t (stop.Quote rest) h f r a =
     escape_run q x y v z raw t h f r ∙ ap (λ s. put (v ++ raw) false (string (q ∷ s))) a
     ∙ ap (put (v ++ raw) false) (string_is q (q ∷ chars rest.now) ∙ rest_quote q q (chars rest.now) (grind arith)) ∙ put_end (v ++ raw) false (chars rest.now)
-goes_on q x y v z raw t (stop.Escape escape behind) h f r a = (escape_run q x y v z raw t h f r ∙ ap (λ s. put (v ++ raw) false (string (q ∷ s))) a.0, a.1)
+goes_on q x y v z raw t (stop.Escape escape after) h f r a = (escape_run q x y v z raw t h f r ∙ ap (λ s. put (v ++ raw) false (string (q ∷ s))) a.0, a.1)
 
 escape_shorter : (x y v z : List ℕ) → x ≡ 92 ∷ y → escape_at x y ≡ got v z → length z < length x
 escape_shorter x y v z e h =
@@ -104,7 +104,7 @@ escape_shorter x y v z e h =
 
 pub is_further : (q : ℕ) (x y v z raw t : List ℕ) (s : StringStop) → escape_at x y ≡ got v z → z ≡ raw ++ t → StopsAt q t s → StopsText s → x ≡ 92 ∷ y → IsFurther x s
 is_further q x y v z raw t (stop.Quote rest) h f a u e = u
-is_further q x y v z raw t (stop.Escape escape behind) h f a u e =
+is_further q x y v z raw t (stop.Escape escape after) h f a u e =
     let shorter = escape_shorter x y v z e h in
     let whole : length z ≡ length raw + length t = ap length f ∙ length-append raw t in
     let same : length t ≡ length (chars escape.now) = ap length a.0 in

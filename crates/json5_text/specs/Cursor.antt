@@ -3,7 +3,7 @@ use Rattle.std.specs.Prelude.{◌≡◌, ◌-◌, ℕ, List, ◌++◌, length, O
 use Rattle.std.specs.Str.{encode_utf8_all}
 use Rattle.json5_grammar.specs.declared.code.ErrorCode.{ErrorCode}
 use Rattle.json5_grammar.specs.declared.code.ErrorCode.TheVariants as codes
-use Rattle.json5_grammar.specs.Positions.{position_behind}
+use Rattle.json5_grammar.specs.Positions.{position_after}
 use Rattle.json5_grammar.specs.declared.position.Position.{Position}
 use Rattle.json5_text.specs.declared.error.Error.{Error}
 use Rattle.json5_text.specs.Errors.{code, custom, kind_of, place_of}
@@ -24,7 +24,7 @@ Says None e = (text : List ℕ) × (kind_of e ≡ custom text)
 -- the fault's place, where the text before the place begins after what is read
 abbrev pub IsPlaced : Cursor → Option (List ℕ) → Error → Type 0
 IsPlaced s None e = place_of e ≡ None
-IsPlaced s (Some p) e = (before : List ℕ) → s.input ≡ before ++ s.unread → place_of e ≡ Some (position_behind (before ++ p))
+IsPlaced s (Some p) e = (before : List ℕ) → s.input ≡ before ++ s.unread → place_of e ≡ Some (position_after (before ++ p))
 
 abbrev pub IsOutOfMemory : Error → Type 0
 IsOutOfMemory e = kind_of e ≡ code codes.OutOfMemory
@@ -50,4 +50,4 @@ IsOffset input offset = (before rest : List ℕ) × (input ≡ before ++ rest) �
 
 -- the position at the offset
 abbrev pub IsPositionOf : List ℕ → ℕ → Position → Type 0
-IsPositionOf input offset position = (before rest : List ℕ) → input ≡ before ++ rest → offset ≡ length (encode_utf8_all before) → position ≡ position_behind before
+IsPositionOf input offset position = (before rest : List ℕ) → input ≡ before ++ rest → offset ≡ length (encode_utf8_all before) → position ≡ position_after before

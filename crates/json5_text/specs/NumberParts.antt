@@ -11,7 +11,7 @@ abbrev pub raised_of : Exponent → ℤ
 raised_of e = signed e.negative (spelled 10 0 e.digits.now)
 
 abbrev pub parts_of : Literal → Parts
-parts_of l = record { before = l.before.now; behind = option_map (λ digits. digits.now) l.behind; raised = option_map raised_of l.exponent }
+parts_of l = record { before = l.before.now; after = option_map (λ digits. digits.now) l.after; raised = option_map raised_of l.exponent }
 
 -- the written exponent, or the limit where that is less
 abbrev pub signed_limited : ℕ → Exponent → ℤ
@@ -23,14 +23,14 @@ limited_exponent limit None = pos 0
 limited_exponent limit (Some e) = signed_limited limit e
 
 abbrev pub is_whole_literal : Bool → Literal → Bool
-is_whole_literal negative l = is_whole negative (parts_of l).before (parts_of l).behind (parts_of l).raised
+is_whole_literal negative l = is_whole negative (parts_of l).before (parts_of l).after (parts_of l).raised
 
 abbrev pub HasExponentDigits : Exponent → Type 0
 HasExponentDigits e = Each is_digit e.digits.now
 
 pub record HasDigits (l : Literal) : Type 0 where
   pub before : Each is_digit l.before.now
-  pub behind : IfSome l.behind (λ digits. Each is_digit digits.now)
+  pub after : IfSome l.after (λ digits. Each is_digit digits.now)
   pub exponent : IfSome l.exponent HasExponentDigits
 
 -- the literal, and that its parts are digits

@@ -3,7 +3,7 @@ use Rattle.std.specs.Prelude.{◌≡◌, ℕ, Bool, List, [], ◌∷◌, ◌++�
 use Rattle.std.specs.Str.{IsUtf8, IsCharBoundary, chars}
 use Rattle.json5_grammar.specs.Characters.{NotBegun, Each}
 use Rattle.json5_grammar.specs.declared.position.Position.{Position}
-use Rattle.json5_grammar.specs.Positions.{position_behind}
+use Rattle.json5_grammar.specs.Positions.{position_after}
 use Rattle.json5_text.specs.declared.error.Error.{Error}
 use Rattle.json5_text.specs.declared.refusal.Refusal.{Refusal}
 use Rattle.json5_text.specs.declared.refusal.Refusal.TheVariants as refusal
@@ -47,7 +47,7 @@ InUnread s refusal.OutOfMemory = ⊤
 
 -- the position where so many bytes are left
 abbrev pub IsWhere : Cursor → ℕ → Position → Type 0
-IsWhere s left p = (before rest : List ℕ) → s.input ≡ before ++ rest → left ≡ bytes_in rest → p ≡ position_behind before
+IsWhere s left p = (before rest : List ℕ) → s.input ≡ before ++ rest → left ≡ bytes_in rest → p ≡ position_after before
 
 abbrev pub IsThere : Cursor → ℕ → Error → Type 0
 IsThere s left e = (p : Position) × (place_of e ≡ Some p) × IsWhere s left p

@@ -36,11 +36,11 @@ pub record NoPart (x : List ℕ) : Type 0 where
 -- a run of a name ends before x
 abbrev pub StopsAt : List ℕ → NameStop → Type 0
 StopsAt x (stop.End rest) = (x ≡ chars rest.now) × NoPart x
-StopsAt x (stop.Escape escape behind) = (x ≡ chars escape.now) × (chars escape.now ≡ backslash ∷ chars behind.now)
+StopsAt x (stop.Escape escape after) = (x ≡ chars escape.now) × (chars escape.now ≡ backslash ∷ chars after.now)
 
 abbrev pub StopsText : NameStop → Type 0
 StopsText (stop.End rest) = IsUtf8 rest.now
-StopsText (stop.Escape escape behind) = IsUtf8 escape.now × IsUtf8 behind.now
+StopsText (stop.Escape escape after) = IsUtf8 escape.now × IsUtf8 after.now
 
 -- the part in front stands for itself in a name, up to where it stops
 pub record IsRun (whole part : List ℕ) (end : NameStop) : Type 0 where
@@ -67,12 +67,12 @@ item_then first x y = and_then (item first x y) (λ c z. put (c ∷ []) false (n
 -- reading spells u up to there
 abbrev pub GoesOn : Read (List ℕ × Bool) → List ℕ → NameStop → Type 0
 GoesOn reading u (stop.End rest) = reading ≡ got (u, false) (chars rest.now)
-GoesOn reading u (stop.Escape escape behind) = (reading ≡ put u false (name_at false (chars escape.now))) × (chars escape.now ≡ backslash ∷ chars behind.now)
+GoesOn reading u (stop.Escape escape after) = (reading ≡ put u false (name_at false (chars escape.now))) × (chars escape.now ≡ backslash ∷ chars after.now)
 
 -- less is left there than x, and it is text
 abbrev pub IsFurther : List ℕ → NameStop → Type 0
 IsFurther x (stop.End rest) = IsUtf8 rest.now
-IsFurther x (stop.Escape escape behind) = (length (chars escape.now) < length x) × IsUtf8 escape.now × IsUtf8 behind.now
+IsFurther x (stop.Escape escape after) = (length (chars escape.now) < length x) × IsUtf8 escape.now × IsUtf8 after.now
 
 -- the bytes gained what an escape and the run after it spell
 pub record PutEscape (first : Bool) (x y old new : List ℕ) (end : NameStop) : Type 0 where

@@ -22,11 +22,11 @@ string_at (c ∷ r) = cond (is_quote c) (string (c ∷ r)) (bad (Some ExpectedSt
 -- a run of a string in the quotes q ends before x
 abbrev pub StopsAt : ℕ → List ℕ → StringStop → Type 0
 StopsAt q x (stop.Quote rest) = x ≡ q ∷ chars rest.now
-StopsAt q x (stop.Escape escape behind) = (x ≡ chars escape.now) × (chars escape.now ≡ backslash ∷ chars behind.now)
+StopsAt q x (stop.Escape escape after) = (x ≡ chars escape.now) × (chars escape.now ≡ backslash ∷ chars after.now)
 
 abbrev pub StopsText : StringStop → Type 0
 StopsText (stop.Quote rest) = IsUtf8 rest.now
-StopsText (stop.Escape escape behind) = IsUtf8 escape.now × IsUtf8 behind.now
+StopsText (stop.Escape escape after) = IsUtf8 escape.now × IsUtf8 after.now
 
 -- the part in front stands for itself between the quotes q, up to where it stops
 pub record IsRun (q : ℕ) (whole part : List ℕ) (end : StringStop) : Type 0 where
@@ -49,12 +49,12 @@ escape_then q x y = and_then (escape_at x y) (λ v z. put v false (string (q ∷
 -- reading spells u up to there, in the quotes q
 abbrev pub GoesOn : ℕ → Read (List ℕ × Bool) → List ℕ → StringStop → Type 0
 GoesOn q reading u (stop.Quote rest) = reading ≡ got (u, false) (chars rest.now)
-GoesOn q reading u (stop.Escape escape behind) = (reading ≡ put u false (string (q ∷ chars escape.now))) × (chars escape.now ≡ backslash ∷ chars behind.now)
+GoesOn q reading u (stop.Escape escape after) = (reading ≡ put u false (string (q ∷ chars escape.now))) × (chars escape.now ≡ backslash ∷ chars after.now)
 
 -- less is left there than x, and it is text
 abbrev pub IsFurther : List ℕ → StringStop → Type 0
 IsFurther x (stop.Quote rest) = IsUtf8 rest.now
-IsFurther x (stop.Escape escape behind) = (length (chars escape.now) < length x) × IsUtf8 escape.now × IsUtf8 behind.now
+IsFurther x (stop.Escape escape after) = (length (chars escape.now) < length x) × IsUtf8 escape.now × IsUtf8 after.now
 
 -- the bytes gained what an escape and the run after it spell
 pub record PutEscape (q : ℕ) (x y old new : List ℕ) (end : StringStop) : Type 0 where

@@ -45,9 +45,9 @@ pub(crate) fn read_name<'t>(alloc: Global, text: &'t str) -> Result<(CowStr<'t>,
             let name = &text[..text.len() - end.len()];
             Ok((CowStr::Borrowed(name), end))
         }
-        NameStop::Escape(escape, behind) => {
+        NameStop::Escape(escape, after) => {
             let raw = &text[..text.len() - escape.len()];
-            let (name, end) = read_escaped(alloc, raw, false, escape, behind)?;
+            let (name, end) = read_escaped(alloc, raw, false, escape, after)?;
             Ok((CowStr::Owned(name), end))
         }
     }
@@ -60,22 +60,22 @@ fn read_escaped<'t>(
     raw: &str,
     is_first: bool,
     escape: &'t str,
-    behind: &'t str,
+    after: &'t str,
 ) -> Result<(String, &'t str), Refusal>
-    requires { chars escape.now ≡ backslash ∷ chars behind.now }
+    requires { chars escape.now ≡ backslash ∷ chars after.now }
     ensures { AnswersMore raw.now (name_at is_first (chars escape.now)) result }
 {
     let mut name = String::from_str(alloc, raw)?;
     let mut is_first = is_first;
     let mut escape = escape;
-    let mut behind = behind;
+    let mut after = after;
     loop {
-        match put_escape(&mut name, is_first, escape, behind)? {
+        match put_escape(&mut name, is_first, escape, after)? {
             NameStop::End(end) => return Ok((name, end)),
-            NameStop::Escape(next, behind_next) => {
+            NameStop::Escape(next, after_next) => {
                 is_first = false;
                 escape = next;
-                behind = behind_next;
+                after = after_next;
             }
         }
     }
@@ -86,11 +86,11 @@ fn put_escape<'t>(
     name: &mut String,
     is_first: bool,
     escape: &str,
-    behind: &'t str,
+    after: &'t str,
 ) -> Result<NameStop<'t>, Refusal>
-    ensures { PutsEscape is_first (chars escape.now) (chars behind.now) (string_bytes name.old) (string_bytes name.new) result }
+    ensures { PutsEscape is_first (chars escape.now) (chars after.now) (string_bytes name.old) (string_bytes name.new) result }
 {
-    let (c, rest) = read_item(is_first, escape, behind)?;
+    let (c, rest) = read_item(is_first, escape, after)?;
     let (parts, stop) = read_parts(rest)?;
     name.push(c)?;
     name.push_str(parts)?;
@@ -98,10 +98,10 @@ fn put_escape<'t>(
 }
 
 /// The character that an escape spells, which may stand there in a name, and what follows the escape.
-fn read_item<'t>(is_first: bool, escape: &str, behind: &'t str) -> Result<(char, &'t str), Refusal>
-    ensures { Answers (item is_first (chars escape.now) (chars behind.now)) result }
+fn read_item<'t>(is_first: bool, escape: &str, after: &'t str) -> Result<(char, &'t str), Refusal>
+    ensures { Answers (item is_first (chars escape.now) (chars after.now)) result }
 {
-    let (c, rest) = read_escape(escape, behind)?;
+    let (c, rest) = read_escape(escape, after)?;
     if !fits(is_first, c) {
         return Err(Refusal::Code(ErrorCode::ExpectedIdentifier, Some(escape.len())));
     }
@@ -119,14 +119,14 @@ fn fits(is_first: bool, c: char) -> bool
 }
 
 /// The character that a name's escape spells, and what follows the escape.
-fn read_escape<'t>(escape: &str, behind: &'t str) -> Result<(char, &'t str), Refusal>
-    ensures { Answers (name_escape (chars escape.now) (chars behind.now)) result }
+fn read_escape<'t>(escape: &str, after: &'t str) -> Result<(char, &'t str), Refusal>
+    ensures { Answers (name_escape (chars escape.now) (chars after.now)) result }
 {
-    let Some((c, digits)) = front(behind) else {
+    let Some((c, digits)) = front(after) else {
         return Err(Refusal::Code(ErrorCode::EofParsingIdentifier, None));
     };
     if c != 'u' {
-        return Err(Refusal::Code(ErrorCode::InvalidEscapeSequence, Some(behind.len())));
+        return Err(Refusal::Code(ErrorCode::InvalidEscapeSequence, Some(after.len())));
     }
     unicode_escape(escape, digits)
 }

@@ -89,7 +89,7 @@ struct Exponent<'t> {
 #[derive(Clone, Copy)]
 struct Literal<'t> {
     before: &'t str,
-    behind: Option<&'t str>,
+    after: Option<&'t str>,
     exponent: Option<Exponent<'t>>,
 }
 
@@ -155,16 +155,16 @@ fn read_without_point<'t>(before: &'t str, rest: &'t str) -> Option<Literal<'t>>
     let exponent = read_exponent(rest)?;
     Some(Literal {
         before,
-        behind: None,
+        after: None,
         exponent,
     })
 }
 
 /// An integer before the point, or digits after it alone.
-fn has_digits(before: &str, behind: &str) -> bool
-    ensures { result ≡ (model.is_integer before.now || (numbers.is_empty before.now && not (numbers.is_empty behind.now))) }
+fn has_digits(before: &str, after: &str) -> bool
+    ensures { result ≡ (model.is_integer before.now || (numbers.is_empty before.now && not (numbers.is_empty after.now))) }
 {
-    is_integer(before) || before.is_empty() && !behind.is_empty()
+    is_integer(before) || before.is_empty() && !after.is_empty()
 }
 
 /// The literal that is all of the run.
@@ -178,8 +178,8 @@ fn read_literal(run: &str) -> Option<Literal>
     if point != '.' {
         return read_without_point(before, rest);
     }
-    let (behind, rest) = split_digits(tail);
-    if !has_digits(before, behind) {
+    let (after, rest) = split_digits(tail);
+    if !has_digits(before, after) {
         return None;
     }
     let Some(exponent) = read_exponent(rest) else {
@@ -187,7 +187,7 @@ fn read_literal(run: &str) -> Option<Literal>
     };
     Some(Literal {
         before,
-        behind: Some(behind),
+        after: Some(after),
         exponent,
     })
 }
@@ -213,12 +213,12 @@ fn decimal_value(text: &str) -> Option<u128>
 }
 
 /// The digits after the point, if any.
-fn digits_behind<'t>(literal: &Literal<'t>) -> &'t str
-    requires { IfSome literal.now.behind (λ digits. Each is_digit digits.now) }
-    ensures value { result.now ≡ numbers.digits_behind (parts_of literal.now).behind }
+fn digits_after<'t>(literal: &Literal<'t>) -> &'t str
+    requires { IfSome literal.now.after (λ digits. Each is_digit digits.now) }
+    ensures value { result.now ≡ numbers.digits_after (parts_of literal.now).after }
     ensures digits { Each is_digit result.now }
 {
-    match literal.behind {
+    match literal.after {
         Some(digits) => digits,
         None => "",
     }
@@ -264,7 +264,7 @@ fn whole_number(negative: bool, literal: &Literal) -> Option<Whole>
     ensures whole { IsSome result ↔ (is_whole_literal negative literal.now ≡ true) }
     ensures value { IfSome result (λ z. z ≡ numbers.signed negative (numbers.spelled 10 0 literal.now.before.now)) }
 {
-    if literal.behind.is_some() {
+    if literal.after.is_some() {
         return None;
     }
     if literal.exponent.is_some() {
@@ -284,9 +284,9 @@ fn judge(alloc: Global, start: &str, negative: bool, literal: &Literal) -> Resul
     if let Some(whole) = whole_number(negative, literal) {
         return Ok(Number::Whole(whole));
     }
-    let behind = digits_behind(literal);
-    let exponent = lowered_exponent(literal, behind.len());
-    let Ok(found) = Decimal::normal(alloc, negative, literal.before, behind, exponent) else {
+    let after = digits_after(literal);
+    let exponent = lowered_exponent(literal, after.len());
+    let Ok(found) = Decimal::normal(alloc, negative, literal.before, after, exponent) else {
         return Err(Refusal::OutOfMemory);
     };
     let Some(decimal) = found else {
@@ -346,14 +346,14 @@ fn after_zero<'t>(
     requires text { IsUtf8 rest.now }
     ensures { AnswersNumber number_of (model.at_zero (chars start.now) negative (chars rest.now)) result }
 {
-    let Some((c, behind)) = front(rest) else {
+    let Some((c, after)) = front(rest) else {
         return Ok((Number::Whole(Whole::from_u128(0)), rest));
     };
     if is_decimal_digit(c) {
         return Err(Refusal::Code(ErrorCode::LeadingZero, Some(start.len())));
     }
     if begins_hexadecimal(c) {
-        return match hexadecimal(start, negative, behind) {
+        return match hexadecimal(start, negative, after) {
             Ok((number, rest)) => Ok((Number::Whole(number), rest)),
             Err(refusal) => Err(refusal),
         };

@@ -82,8 +82,8 @@ impl<'a> Pieces<'a> {
             return Pieces::new(sign, digits, places, ".0", "");
         }
         if places < digits.len() {
-            let (before, behind) = digits.split_at(digits.len() - places);
-            return Pieces::new(sign, before, 0, ".", behind);
+            let (before, after) = digits.split_at(digits.len() - places);
+            return Pieces::new(sign, before, 0, ".", after);
         }
         Pieces::new(sign, "0.", places - digits.len(), "", digits)
     }

@@ -3,7 +3,7 @@
 ghost use Rattle.std.specs.Prelude.{◌≡◌, ℕ, List, [], ◌∷◌, ◌++◌, true, false, ◌==◌, ◌⊎◌, length, drop, Some, slice_get, IsTrue};
 ghost use Rattle.std.specs.Str.{all_scalars, chars, encode_utf8_all};
 ghost use Rattle.json5_grammar.specs.Characters.{NotBegun};
-ghost use Rattle.json5_grammar.specs.Positions.{position_behind};
+ghost use Rattle.json5_grammar.specs.Positions.{position_after};
 ghost use Rattle.json5_text.specs.Cursor.{Cursor, offset_of, Took, IsOutOfMemory, IsOffset, IsPositionOf};
 ghost use Rattle.json5_text.specs.Errors.{IsCustomAt};
 ghost use Rattle.json5_text.specs.Scan.{InText, Leaves, LeavesAt, InUnread, IsWhere, MadeOf};
@@ -18,7 +18,7 @@ use crate::names::read_name;
 use crate::number::Number;
 use crate::numbers::number;
 use crate::refusal::Refusal;
-use crate::strings::{read_string_owned, read_string};
+use crate::strings::{read_string, read_string_owned};
 use crate::words::skip_word;
 use json5_grammar::code::ErrorCode;
 use json5_grammar::position::Position;
@@ -169,13 +169,13 @@ impl<I: Input> Scanner<I> {
     /// count from 0, the column in characters.
     pub fn position_of(&self, offset: usize) -> Position
         ensures inside { IsPositionOf self.now.input offset result }
-        ensures past { (IsOffset self.now.input offset → ⊥) → result ≡ position_behind self.now.input }
+        ensures past { (IsOffset self.now.input offset → ⊥) → result ≡ position_after self.now.input }
     {
         let _end = self.end;
         let text = self.input.as_text();
         match text.split_at_checked(offset) {
-            Some((before, _)) => Position::behind(before),
-            None => Position::behind(text),
+            Some((before, _)) => Position::after(before),
+            None => Position::after(text),
         }
     }
 
@@ -211,7 +211,10 @@ impl<I: Input> Scanner<I> {
         match refusal {
             Refusal::Code(code, None) => Error::new(code),
             Refusal::Code(code, Some(left)) => Error::new_at(self.position_where_left(left), code),
-            Refusal::InvalidNumber(left) => self.custom(self.position_where_left(left), "invalid number"),
+            Refusal::InvalidNumber(left) => self.custom(
+                self.position_where_left(left),
+                "invalid number",
+            ),
             Refusal::TooLarge(left) => {
                 self.custom(
                     self.position_where_left(left),
@@ -239,6 +242,7 @@ impl<I: Input> Scanner<I> {
     }
 }
 
+// What is borrowed from the text.
 impl<'de, I: Borrows<'de>> Scanner<I> {
     /// Takes a string and gives its text, borrowed where the string holds no backslash, which then takes no memory (JSON5
     /// section 5, ECMAScript 5.1 section 7.8.4).

@@ -41,8 +41,8 @@ pub(crate) fn read_string<'t>(
     let (raw, stop) = read_run(quote, body)?;
     match stop {
         StringStop::Quote(rest) => Ok((CowStr::Borrowed(raw), rest)),
-        StringStop::Escape(escape, behind) => {
-            let (text, rest) = read_escaped(alloc, quote, raw, escape, behind)?;
+        StringStop::Escape(escape, after) => {
+            let (text, rest) = read_escaped(alloc, quote, raw, escape, after)?;
             Ok((CowStr::Owned(text), rest))
         }
     }
@@ -71,21 +71,21 @@ fn read_escaped<'t>(
     quote: char,
     raw: &str,
     escape: &'t str,
-    behind: &'t str,
+    after: &'t str,
 ) -> Result<(String, &'t str), Refusal>
     requires quote { is_quote quote ≡ true }
-    requires escape { chars escape.now ≡ backslash ∷ chars behind.now }
+    requires escape { chars escape.now ≡ backslash ∷ chars after.now }
     ensures { AnswersMore raw.now (string (quote ∷ chars escape.now)) result }
 {
     let mut text = String::from_str(alloc, raw)?;
     let mut escape = escape;
-    let mut behind = behind;
+    let mut after = after;
     loop {
-        match put_escape(&mut text, quote, escape, behind)? {
+        match put_escape(&mut text, quote, escape, after)? {
             StringStop::Quote(rest) => return Ok((text, rest)),
-            StringStop::Escape(next, behind_next) => {
+            StringStop::Escape(next, after_next) => {
                 escape = next;
-                behind = behind_next;
+                after = after_next;
             }
         }
     }
@@ -96,11 +96,11 @@ fn put_escape<'t>(
     text: &mut String,
     quote: char,
     escape: &str,
-    behind: &'t str,
+    after: &'t str,
 ) -> Result<StringStop<'t>, Refusal>
-    ensures { PutsEscape quote (chars escape.now) (chars behind.now) (string_bytes text.old) (string_bytes text.new) result }
+    ensures { PutsEscape quote (chars escape.now) (chars after.now) (string_bytes text.old) (string_bytes text.new) result }
 {
-    let (spelled, run) = read_escape(escape, behind)?;
+    let (spelled, run) = read_escape(escape, after)?;
     push_spelled(text, spelled)?;
     let (raw, stop) = read_run(quote, run)?;
     text.push_str(raw)?;

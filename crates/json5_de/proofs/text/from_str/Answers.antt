@@ -6,7 +6,7 @@ use Rattle.json5_de.specs.Law.{TookValue}
 use Rattle.json5_de.specs.Texts.{in_value, after_value}
 use Rattle.json5_de.proofs.OtherCodes.{trailing_lacks}
 use Rattle.json5_de.proofs.Rows.{refused_other}
-use Rattle.json5_de.proofs.Documents.{read_document, readable, the_document, blames_value, blames_rest, live_behind}
+use Rattle.json5_de.proofs.Documents.{read_document, readable, the_document, blames_value, blames_rest, live_after}
 use Rattle.json5_de.proofs.text.from_str.Goals as goal
 
 pub returns-in_err-value-clause-complete : goal.returns-in_err-value-clause-complete
@@ -65,7 +65,7 @@ pub returns-in_err-end-clause-unprompted : goal.returns-in_err-end-clause-unprom
 returns-in_err-end-clause-unprompted g c =
     let (y, from_is, from) = err_from_is_err_and c.from_residual-in_err-end.result c.from_residual-in_err-end.ensures.1 in
     let (u, took, is) = c.in_ok-value.ensures.sound in
-    rw (from_is, from) (refused_other trailing_lacks c.deserialize.new.de c.in_err-end.field-0.0 c.in_err-end.ensures.refused (live_behind c.from_str-de.result c.deserialize.new.de (chars c.args.input.now) u c.from_str-de.ensures took))
+    rw (from_is, from) (refused_other trailing_lacks c.deserialize.new.de c.in_err-end.field-0.0 c.in_err-end.ensures.refused (live_after c.from_str-de.result c.deserialize.new.de (chars c.args.input.now) u c.from_str-de.ensures took))
 
 pub returns-clause-sound : goal.returns-clause-sound
 returns-clause-sound g c =

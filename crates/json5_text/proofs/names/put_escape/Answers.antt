@@ -1,7 +1,7 @@
 use Rattle.std.proofs.Common.{◌∷◌}
 use Rattle.std.specs.Str.{chars}
 use Rattle.std.proofs.lemmas.Result.{err_from_is_err_and}
-use Rattle.json5_text.proofs.ScanNames.{item_bad, behind_item, goes_on, is_further, char_put}
+use Rattle.json5_text.proofs.ScanNames.{item_bad, refused_after_item, goes_on, is_further, char_put}
 use Rattle.json5_text.proofs.names.put_escape.Goals as goal
 
 pub returns-in_err-c : goal.returns-in_err-c
@@ -12,7 +12,7 @@ returns-in_err-c c =
 pub returns-in_err-parts : goal.returns-in_err-parts
 returns-in_err-parts c =
     let p = err_from_is_err_and c.from_residual-in_err-parts.result c.from_residual-in_err-parts.ensures.1 in
-    rw (p.1, p.2) (behind_item c.args.is_first c.in_err-parts.field-0.0 _ _ _ c.in_ok-c.c c.in_ok-c.ensures.read c.in_err-parts.ensures.refused)
+    rw (p.1, p.2) (refused_after_item c.args.is_first c.in_err-parts.field-0.0 _ _ _ c.in_ok-c.c c.in_ok-c.ensures.read c.in_err-parts.ensures.refused)
 
 pub returns : goal.returns
 returns c =

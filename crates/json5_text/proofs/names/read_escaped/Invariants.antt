@@ -9,8 +9,8 @@ use Rattle.json5_text.proofs.names.read_escaped.Given as goal
 abbrev pub invariant-loop-name : goal.invariant-loop-name
 invariant-loop-name l = record {
   escape : shadow (Utf8 l.escape);
-  behind : shadow (Utf8 l.behind);
-  sign : chars l.escape ≡ 92 ∷ chars l.behind;
+  after : shadow (Utf8 l.after);
+  sign : chars l.escape ≡ 92 ∷ chars l.after;
   read : (u : List ℕ) × (plain : Bool) × (name_at l.fn.is_first (chars l.fn.escape) ≡ put u plain (name_at l.is_first (chars l.escape))) × (string_bytes l.name ≡ l.fn.raw ++ encode_utf8_all u);
 }
 

@@ -98,7 +98,7 @@ returns-in_err-name-in-Escape c =
     (record {
       refused = escaped_refused c.in-Some.c c.in_err-name-in-Escape.field-0.0 _ _ (chars c.in_ok-stop.field-0-0.now) _ c.in-Some.ensures.chars c.if-c-eq92.false (sym c.if-not-is_json5_identifier_start.ensures)
           (run.split ∙ ap (λ z. chars c.in_ok-stop.field-0-0.now ++ z) stops.0) run.raw c.in_err-name-in-Escape.ensures;
-      memory = λ e u r read. escape_not_plain c.in-Some.c (chars c.args.text.now) (chars c.in-Some.rest.now) (chars c.in_ok-stop.field-0-0.now) run.rest (chars c.in-Escape.behind.now) u r c.in-Some.ensures.chars c.if-c-eq92.false
+      memory = λ e u r read. escape_not_plain c.in-Some.c (chars c.args.text.now) (chars c.in-Some.rest.now) (chars c.in_ok-stop.field-0-0.now) run.rest (chars c.in-Escape.after.now) u r c.in-Some.ensures.chars c.if-c-eq92.false
           (sym c.if-not-is_json5_identifier_start.ensures) run.split run.raw (stops.0 ∙ stops.1) read;
     })
 

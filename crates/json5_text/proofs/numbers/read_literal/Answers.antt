@@ -23,5 +23,5 @@ pub returns : goal.returns
 returns c = record {
   read = literal_pointed (chars c.args.run.now) _ _ _ _ _ c.in-Some.point c.split_digits.ensures.front c.split_digits.ensures.rest c.in-Some.ensures.chars c.if-point-ne46.false c.split_digits-2.ensures.front c.split_digits-2.ensures.rest
       ∙ point_found c.split_digits.result.0.now c.split_digits-2.result.0.now (chars c.split_digits-2.result.1.now) _ _ c.has_digits.ensures c.if-not-has_digits.false c.in-Some-read_exponent.ensures.read;
-  digits = record { before = c.split_digits.ensures.digits; behind = c.split_digits-2.ensures.digits; exponent = c.in-Some-read_exponent.ensures.digits };
+  digits = record { before = c.split_digits.ensures.digits; after = c.split_digits-2.ensures.digits; exponent = c.in-Some-read_exponent.ensures.digits };
 }

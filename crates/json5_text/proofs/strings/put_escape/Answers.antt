@@ -2,7 +2,7 @@ use Rattle.std.proofs.Common.{◌++◌}
 use Rattle.std.specs.Str.{chars}
 use Rattle.std.proofs.lemmas.Result.{err_from_is_err_and}
 use Rattle.json5_text.specs.Scan.{in_list}
-use Rattle.json5_text.proofs.ScanStrings.{escape_refused, behind_escape, goes_on, is_further, bytes_put}
+use Rattle.json5_text.proofs.ScanStrings.{escape_refused, refused_after_escape, goes_on, is_further, bytes_put}
 use Rattle.json5_text.proofs.strings.put_escape.Goals as goal
 
 pub returns-in_err-spelled : goal.returns-in_err-spelled
@@ -13,7 +13,7 @@ returns-in_err-spelled c =
 pub returns-in_err-raw : goal.returns-in_err-raw
 returns-in_err-raw c =
     let p = err_from_is_err_and c.from_residual-in_err-raw.result c.from_residual-in_err-raw.ensures.1 in
-    rw (p.1, p.2) (behind_escape c.args.quote c.in_err-raw.field-0.0 _ _ _ _ c.in_ok-spelled.ensures.read c.in_err-raw.ensures.refused)
+    rw (p.1, p.2) (refused_after_escape c.args.quote c.in_err-raw.field-0.0 _ _ _ _ c.in_ok-spelled.ensures.read c.in_err-raw.ensures.refused)
 
 pub returns : goal.returns
 returns c =

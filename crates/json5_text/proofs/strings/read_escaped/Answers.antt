@@ -9,7 +9,7 @@ use Rattle.json5_text.proofs.strings.read_escaped.Goals as goal
 pub loop-text-init : goal.loop-text-init
 loop-text-init c = record {
   escape = c.utf8.escape;
-  behind = c.utf8.behind;
+  after = c.utf8.after;
   sign = c.requires.escape;
   read = subst (Reached (string (c.args.quote ∷ chars c.args.escape.now)) (string (c.args.quote ∷ chars c.args.escape.now)) c.args.raw.now) (sym c.in_ok-text.ensures.ok) (reached_start (string (c.args.quote ∷ chars c.args.escape.now)) c.args.raw.now);
 }
@@ -17,13 +17,13 @@ loop-text-init c = record {
 pub loop-text-preserved : goal.loop-text-preserved
 loop-text-preserved c =
     let put = c.in_ok-rest.ensures in
-    let reading = escape_then c.args.quote (chars c.loop-text.escape.now) (chars c.loop-text.behind.now) in
+    let reading = escape_then c.args.quote (chars c.loop-text.escape.now) (chars c.loop-text.after.now) in
     let goes = subst (GoesOn c.args.quote reading put.spelled) c.in-Escape.is put.goes_on in
     let further = subst (IsFurther (chars c.loop-text.escape.now)) c.in-Escape.is (put.further c.loop-text.invariant.sign) in
     let first = string_escape c.args.quote _ _ c.requires.quote c.loop-text.invariant.sign in
     record {
       escape = further.1;
-      behind = further.2;
+      after = further.2;
       sign = goes.1;
       read = reached_more _ _ _ c.args.raw.now _ _ put.spelled c.loop-text.invariant.read (first ∙ goes.0) put.bytes;
     }
@@ -37,7 +37,7 @@ returns-in_err-rest c =
 pub returns-in-Quote : goal.returns-in-Quote
 returns-in-Quote c =
     let put = c.in_ok-rest.ensures in
-    let reading = escape_then c.args.quote (chars c.loop-text.escape.now) (chars c.loop-text.behind.now) in
+    let reading = escape_then c.args.quote (chars c.loop-text.escape.now) (chars c.loop-text.after.now) in
     let goes = subst (GoesOn c.args.quote reading put.spelled) c.in-Quote.is put.goes_on in
     let first = string_escape c.args.quote _ _ c.requires.quote c.loop-text.invariant.sign in
     let whole = reached_end _ _ c.args.raw.now _ _ put.spelled (chars c.in-Quote.rest.now) c.loop-text.invariant.read (first ∙ goes) put.bytes in

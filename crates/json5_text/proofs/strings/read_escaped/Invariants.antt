@@ -8,8 +8,8 @@ use Rattle.json5_text.proofs.strings.read_escaped.Given as goal
 abbrev pub invariant-loop-text : goal.invariant-loop-text
 invariant-loop-text l = record {
   escape : shadow (Utf8 l.escape);
-  behind : shadow (Utf8 l.behind);
-  sign : chars l.escape ≡ 92 ∷ chars l.behind;
+  after : shadow (Utf8 l.after);
+  sign : chars l.escape ≡ 92 ∷ chars l.after;
   read : (u : List ℕ) × (plain : Bool) × (string (l.fn.quote ∷ chars l.fn.escape) ≡ put u plain (string (l.fn.quote ∷ chars l.escape))) × (string_bytes l.text ≡ l.fn.raw ++ encode_utf8_all u);
 }
 

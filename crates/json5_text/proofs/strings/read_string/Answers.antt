@@ -38,7 +38,7 @@ returns-in_err-text-in-Escape c =
     rw (p.1, p.2)
     (record {
       refused = rw quoted (run_refused c.in-Some.quote c.in_err-text-in-Escape.field-0.0 _ _ _ (run.split ∙ ap (λ z. chars c.in_ok-raw.raw.now ++ z) stops.0) run.raw c.in_err-text-in-Escape.ensures);
-      memory = λ e u r read. escape_not_plain c.in-Some.quote (chars c.in-Some.body.now) (chars c.in_ok-raw.raw.now) run.rest (chars c.in-Escape.behind.now) u r (sym c.if-not-is_quote.ensures) run.split run.raw (stops.0 ∙ stops.1)
+      memory = λ e u r read. escape_not_plain c.in-Some.quote (chars c.in-Some.body.now) (chars c.in_ok-raw.raw.now) run.rest (chars c.in-Escape.after.now) u r (sym c.if-not-is_quote.ensures) run.split run.raw (stops.0 ∙ stops.1)
           (sym quoted ∙ read);
     })
 

@@ -12,8 +12,8 @@ use Rattle.json5_de.specs.Scalars.{in_null, in_true, in_false, in_text, in_numbe
 use Rattle.json5_de.specs.Rows.{any_row}
 use Rattle.json5_de.specs.Steps.{TookText}
 use Rattle.json5_de.proofs.Taken.{took_leaf, null_stops, true_stops, false_stops, chars_null, chars_true, chars_false}
-use Rattle.json5_de.proofs.AwaitsTexts.{text_stops}
-use Rattle.json5_de.proofs.ScalarsAwaited.{kind_there, none_left, in_token, or_memory_in, value_missing, no_value_there}
+use Rattle.json5_de.proofs.ExpectsTexts.{text_stops}
+use Rattle.json5_de.proofs.ScalarsExpected.{kind_there, none_left, in_token, or_memory_in, value_missing, no_value_there}
 use Rattle.json5_de.proofs.Rows.{lawful_any, not_begun, refuses_value, reads_ok, gives_up}
 use Rattle.json5_de.proofs.de.Deserializer.deserialize_any.Goals as goal
 
@@ -86,7 +86,7 @@ returns-in_err-text-in-Text g c =
     let e = c.in_err-text-in-Text.field-0.0 in
     let (y, is, from) = err_from_is_err_and c.from_residual-in_err-text-in-Text.result c.from_residual-in_err-text-in-Text.ensures.1 in
     let there = kind_there mid.unread c.peek.result c.in-Some.c c.kind_at.result kind.Text c.peek.ensures c.in-Some.is c.kind_at.ensures c.in-Text.is in
-    rw (is, from) (refuses_value lawful_any refl (λ t. refl) value_of old mid c.characters.new.self e c.in_ok-begin.ensures.passed
+    rw (is, from) (refuses_value lawful_any refl (λ t. refl) value_of old mid c.string_owned.new.self e c.in_ok-begin.ensures.passed
     (or_memory_in old mid e (λ reason place f. in_text there f) c.in_ok-begin.ensures.passed c.in_err-text-in-Text.ensures.refused) c.in_err-text-in-Text.ensures.failed)
 
 pub returns-in_err-number-in-Number : goal.returns-in_err-number-in-Number
@@ -101,9 +101,9 @@ returns-in_err-number-in-Number g c =
 
 pub returns-in_ok-text-in-Text : goal.returns-in_ok-text-in-Text
 returns-in_ok-text-in-Text g c =
-    let (s, plain, took, str) = c.in_ok-text-in-Text.ensures.taken in
+    let (s, plain, took, str) = c.in_ok-text-in-Text.ensures.characters in
     let u = chars (string_bytes c.in_ok-text-in-Text.text) in
-    reads_ok any_row value_of c.args.self.now c.characters.new.self _ (trees.text u plain, took_leaf c.args.self.now c.begin.new.self c.characters.new.self s (trees.text u plain) refl c.in_ok-begin.ensures.passed took (is_text str) (text_stops c.characters.new.self.unread str), refl)
+    reads_ok any_row value_of c.args.self.now c.string_owned.new.self _ (trees.text u plain, took_leaf c.args.self.now c.begin.new.self c.string_owned.new.self s (trees.text u plain) refl c.in_ok-begin.ensures.passed took (is_text str) (text_stops c.string_owned.new.self.unread str), refl)
 
 pub returns-in_ok-number-in-Number : goal.returns-in_ok-number-in-Number
 returns-in_ok-number-in-Number g c =

@@ -5,7 +5,7 @@ use Rattle.json5_grammar.specs.Values.{true_text, false_text, is_true, is_false}
 use Rattle.json5_de.specs.Steps.{TookText}
 use Rattle.json5_de.proofs.Taken.{took_leaf, refused_bool, true_stops, false_stops, chars_true, chars_false}
 use Rattle.json5_de.specs.Rows.{bool_row}
-use Rattle.json5_de.proofs.Rows.{lawful_bool, not_begun, refuses_behind, reads_ok}
+use Rattle.json5_de.proofs.Rows.{lawful_bool, not_begun, refuses_after, reads_ok}
 use Rattle.json5_de.proofs.de.Deserializer.deserialize_bool.Goals as goal
 
 pub returns-in_err-begin : goal.returns-in_err-begin
@@ -17,7 +17,7 @@ pub returns-in_err-word : goal.returns-in_err-word
 returns-in_err-word g c =
     let (y, is, from) = err_from_is_err_and c.from_residual-in_err-word.result c.from_residual-in_err-word.ensures.1 in
     let faulty = refused_bool c.begin.new.self c.in_err-word.field-0.0 _ true c.eq.result c.peek.result c.if-eq.true c.eq.ensures c.peek.ensures chars_false c.in_err-word.ensures.refused in
-    rw (is, from) (refuses_behind lawful_bool (λ b. b) c.args.self.now c.begin.new.self c.word.new.self c.in_err-word.field-0.0 c.in_ok-begin.ensures.passed faulty c.in_err-word.ensures.failed)
+    rw (is, from) (refuses_after lawful_bool (λ b. b) c.args.self.now c.begin.new.self c.word.new.self c.in_err-word.field-0.0 c.in_ok-begin.ensures.passed faulty c.in_err-word.ensures.failed)
 
 pub returns-then-eq : goal.returns-then-eq
 returns-then-eq g c =
@@ -28,7 +28,7 @@ pub returns-in_err-word-2 : goal.returns-in_err-word-2
 returns-in_err-word-2 g c =
     let (y, is, from) = err_from_is_err_and c.from_residual-in_err-word-2.result c.from_residual-in_err-word-2.ensures.1 in
     let faulty = refused_bool c.begin.new.self c.in_err-word-2.field-0.0 _ false c.eq.result c.peek.result c.if-eq.false c.eq.ensures c.peek.ensures chars_true c.in_err-word-2.ensures.refused in
-    rw (is, from) (refuses_behind lawful_bool (λ b. b) c.args.self.now c.begin.new.self c.word-2.new.self c.in_err-word-2.field-0.0 c.in_ok-begin.ensures.passed faulty c.in_err-word-2.ensures.failed)
+    rw (is, from) (refuses_after lawful_bool (λ b. b) c.args.self.now c.begin.new.self c.word-2.new.self c.in_err-word-2.field-0.0 c.in_ok-begin.ensures.passed faulty c.in_err-word-2.ensures.failed)
 
 pub returns : goal.returns
 returns g c =

@@ -6,7 +6,7 @@ use Rattle.json5_text.specs.Cows.{cow_bytes, is_borrowed}
 use Rattle.json5_de.specs.Convert.{every_cow, as_text}
 use Rattle.json5_de.specs.Rows.{plain_text}
 use Rattle.json5_de.proofs.Taken.{took_leaf}
-use Rattle.json5_de.proofs.AwaitsTexts.{text_stops}
+use Rattle.json5_de.proofs.ExpectsTexts.{text_stops}
 use Rattle.json5_de.proofs.Rows.{lawful_text, not_begun, reads_text, plain_completes}
 use Rattle.json5_de.proofs.de.Deserializer.deserialize_identifier.Goals as goal
 

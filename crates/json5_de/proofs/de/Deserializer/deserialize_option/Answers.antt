@@ -7,12 +7,12 @@ use Rattle.json5_text.specs.Cursor.{Refused}
 use Rattle.json5_text.specs.Tokens.{FaultyWord}
 use Rattle.json5_de.specs.State.{cursor_of}
 use Rattle.json5_de.specs.Steps.{TookText}
-use Rattle.json5_de.proofs.Awaited.{end_fault, wrongly_refused}
-use Rattle.json5_de.proofs.Awaits.{awaits_null}
+use Rattle.json5_de.proofs.Expected.{end_fault, wrongly_refused}
+use Rattle.json5_de.proofs.Expects.{expects_null}
 use Rattle.json5_de.proofs.Taken.{took_leaf, refused_blanks, refused_token, null_stops, chars_null}
 use Rattle.json5_de.proofs.Places.{none_next, some_next}
 use Rattle.json5_de.proofs.Rows.{given_up, gives_up}
-use Rattle.json5_de.proofs.Options.{awaits_nothing, blanks_no_value, end_next, value_no_end, null_next, null_not_next, option_some, null_unit, took_behind, reads_option, refuses_option, refuses_some, missing_there, null_there, other_sign}
+use Rattle.json5_de.proofs.Options.{expects_nothing, blanks_no_value, end_next, value_no_end, null_next, null_not_next, option_some, null_unit, took_after, reads_option, refuses_option, refuses_some, missing_there, null_there, other_sign}
 use Rattle.json5_de.proofs.de.Deserializer.deserialize_option.Goals as goal
 use Rattle.json5_grammar.proofs.Basics.{true_false}
 
@@ -27,7 +27,7 @@ returns-in_err-begin-clause-reads g c =
 pub returns-in_err-begin-clause-ends : goal.returns-in_err-begin-clause-ends
 returns-in_err-begin-clause-ends g c = λ at.
     let (y, is, from) = err_from_is_err_and c.from_residual.result c.from_residual.ensures.1 in
-    rw (is, from) (end_fault (awaits_nothing {ends = codes.EofParsingValue} {differs = codes.ExpectedValue} (λ k. false)) c.args.self.now c.in_err-begin.field-0.0 at
+    rw (is, from) (end_fault (expects_nothing {ends = codes.EofParsingValue} {differs = codes.ExpectedValue} (λ k. false)) c.args.self.now c.in_err-begin.field-0.0 at
     (refused_blanks c.args.self.now c.in_err-begin.field-0.0 c.in_err-begin.ensures.refused))
 
 pub returns-in_default-clause-reads : goal.returns-in_default-clause-reads
@@ -48,7 +48,7 @@ returns-in_err-word-clause-reads g c =
     let faulty = subst (λ s. Refused (FaultyWord s codes.EofParsingNull codes.ExpectedNull) (cursor_of c.begin.new.self) e) chars_null c.in_err-word.ensures.refused in
     rw (is, from) (refuses_option g.T.Deserialize.content g.T.Deserialize.convert g.T.Deserialize.free g.T.Deserialize.refuses c.args.self.now c.word.new.self e
     (null_there c.args.self.now c.begin.new.self e m passed n faulty) (given_up c.args.self.now c.begin.new.self c.word.new.self passed c.in_err-word.ensures.failed) (λ h. absurd (true_false h passed.live))
-    (λ t r live reads. wrongly_refused awaits_null c.args.self.now e t r tt live reads (null_unit t (null_next c.args.self.now c.begin.new.self t m r passed n reads)) (refused_token c.args.self.now c.begin.new.self e passed faulty)))
+    (λ t r live reads. wrongly_refused expects_null c.args.self.now e t r tt live reads (null_unit t (null_next c.args.self.now c.begin.new.self t m r passed n reads)) (refused_token c.args.self.now c.begin.new.self e passed faulty)))
 
 pub returns-in_err-word-clause-ends : goal.returns-in_err-word-clause-ends
 returns-in_err-word-clause-ends g c = λ at.
@@ -73,7 +73,7 @@ returns-in-Ok-clause-reads g c =
     let (m, next) = some_next c.begin.new.self.unread c.in-Some.next (sym c.peek.ensures ∙ c.in-Some.is) in
     reads_option g.T.Deserialize.content g.T.Deserialize.convert g.T.Deserialize.free g.T.Deserialize.refuses c.args.self.now c.deserialize.new.de _ (
       t,
-      took_behind c.args.self.now c.begin.new.self c.deserialize.new.de t passed took,
+      took_after c.args.self.now c.begin.new.self c.deserialize.new.de t passed took,
       option_some g.T.Deserialize.convert t (g.T.Deserialize.content c.in-Ok.value) (null_not_next c.begin.new.self.unread t c.in-Some.next m c.deserialize.new.de.unread next passed.solid c.if-next-eq110.false took.reads) is,
     )
 

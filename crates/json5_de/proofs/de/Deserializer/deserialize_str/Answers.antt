@@ -7,7 +7,7 @@ use Rattle.json5_text.specs.Cows.{cow_bytes, is_borrowed}
 use Rattle.json5_de.specs.Convert.{if_plain}
 use Rattle.json5_de.specs.Rows.{every_tree, plain_row}
 use Rattle.json5_de.proofs.Taken.{took_leaf}
-use Rattle.json5_de.proofs.AwaitsTexts.{text_stops}
+use Rattle.json5_de.proofs.ExpectsTexts.{text_stops}
 use Rattle.json5_de.proofs.Rows.{lawful_text, not_begun, plain_refused, not_text, reads_ok}
 use Rattle.json5_de.proofs.de.Deserializer.deserialize_str.Goals as goal
 

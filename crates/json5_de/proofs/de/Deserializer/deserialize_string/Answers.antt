@@ -5,7 +5,7 @@ use Rattle.json5_grammar.specs.Values.{is_text}
 use Rattle.json5_de.specs.Convert.{every_text}
 use Rattle.json5_de.specs.Rows.{no_tree}
 use Rattle.json5_de.proofs.Taken.{took_leaf}
-use Rattle.json5_de.proofs.AwaitsTexts.{text_stops}
+use Rattle.json5_de.proofs.ExpectsTexts.{text_stops}
 use Rattle.json5_de.proofs.Rows.{lawful_text, not_begun, reads_text}
 use Rattle.json5_de.proofs.de.Deserializer.deserialize_string.Goals as goal
 
@@ -17,7 +17,7 @@ returns-in_err-begin g c =
 pub returns : goal.returns
 returns g c =
     let passed = c.in_ok-begin.ensures.passed in
-    let new = c.owned_text.new.self in
-    reads_text every_text no_tree string_bytes c.args.self.now c.begin.new.self new c.owned_text.result passed
-    (IfOk-weaker c.owned_text.result _ _ (λ t (s, u, plain, took, str, bytes). (trees.text u plain, took_leaf c.args.self.now c.begin.new.self new s (trees.text u plain) refl passed took (is_text str) (text_stops new.unread str), rw bytes refl)) c.owned_text.ensures.taken)
-    c.owned_text.ensures.refused c.owned_text.ensures.failed (λ t r v live reads shallow is free. absurd (cc))
+    let new = c.string_owned.new.self in
+    reads_text every_text no_tree string_bytes c.args.self.now c.begin.new.self new c.string_owned.result passed
+    (IfOk-weaker c.string_owned.result _ _ (λ t (s, u, plain, took, str, bytes). (trees.text u plain, took_leaf c.args.self.now c.begin.new.self new s (trees.text u plain) refl passed took (is_text str) (text_stops new.unread str), rw bytes refl)) c.string_owned.ensures.taken)
+    c.string_owned.ensures.refused c.string_owned.ensures.failed (λ t r v live reads shallow is free. absurd (cc))

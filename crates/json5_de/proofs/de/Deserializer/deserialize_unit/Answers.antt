@@ -9,7 +9,7 @@ use Rattle.json5_de.specs.State.{cursor_of}
 use Rattle.json5_de.specs.Steps.{TookText}
 use Rattle.json5_de.proofs.Taken.{took_leaf, null_stops, chars_null}
 use Rattle.json5_de.specs.Rows.{null_row}
-use Rattle.json5_de.proofs.Rows.{lawful_null, not_begun, refuses_behind, reads_ok}
+use Rattle.json5_de.proofs.Rows.{lawful_null, not_begun, refuses_after, reads_ok}
 use Rattle.json5_de.proofs.de.Deserializer.deserialize_unit.Goals as goal
 
 pub returns-in_err-begin : goal.returns-in_err-begin
@@ -21,7 +21,7 @@ pub returns-in_err-word : goal.returns-in_err-word
 returns-in_err-word g c =
     let (y, is, from) = err_from_is_err_and c.from_residual-in_err-word.result c.from_residual-in_err-word.ensures.1 in
     let faulty = subst (λ s. Refused (FaultyWord s codes.EofParsingNull codes.ExpectedNull) (cursor_of c.begin.new.self) c.in_err-word.field-0.0) chars_null c.in_err-word.ensures.refused in
-    rw (is, from) (refuses_behind lawful_null (λ _. tt) c.args.self.now c.begin.new.self c.word.new.self c.in_err-word.field-0.0 c.in_ok-begin.ensures.passed faulty c.in_err-word.ensures.failed)
+    rw (is, from) (refuses_after lawful_null (λ _. tt) c.args.self.now c.begin.new.self c.word.new.self c.in_err-word.field-0.0 c.in_ok-begin.ensures.passed faulty c.in_err-word.ensures.failed)
 
 pub returns : goal.returns
 returns g c =

@@ -1,11 +1,11 @@
 use Rattle.std.proofs.Common.{◌∙◌, refl, [], ◌∷◌}
 use Rattle.std.proofs.lemmas.Result.{err_from_is_err_and}
-use Rattle.json5_de.specs.Seq.{in_blanks_behind}
+use Rattle.json5_de.specs.Seq.{in_blanks_after}
 use Rattle.json5_de.proofs.Taken.{refused_blanks, refused_token}
-use Rattle.json5_de.proofs.Places.{refused_as, refused_behind}
+use Rattle.json5_de.proofs.Places.{refused_as, refused_after}
 use Rattle.json5_de.proofs.OtherCodes.{next_lacks}
 use Rattle.json5_de.proofs.Rows.{refused_other}
-use Rattle.json5_de.proofs.Arrays.{failed_of, behind_gap_of, no_next, nowhere_next, nowhere_faulty, nowhere_behind, goes_behind}
+use Rattle.json5_de.proofs.Arrays.{failed_of, after_gap_of, no_next, nowhere_next, nowhere_faulty, nowhere_after, goes_after}
 use Rattle.json5_de.proofs.de.Deserializer.goes_on.Goals as goal
 
 pub returns-in_err-begin-clause-refused : goal.returns-in_err-begin-clause-refused
@@ -21,12 +21,12 @@ returns-in_err-begin-clause-nowhere g c =
 pub returns-then-not-eat-clause-refused : goal.returns-then-not-eat-clause-refused
 returns-then-not-eat-clause-refused g c =
     let kept = c.if-not-eat.ensures.kept refl in
-    refused_token c.args.self.now c.begin.new.self c.unawaited.result c.in_ok-begin.ensures.passed
-    (refused_as c.eat.new.self c.begin.new.self c.unawaited.result kept.0 (λ reason place f. no_next c.args.due c.begin.new.self.unread reason place c.if-not-due.false kept.1 (c.if-at_bracket.ensures.other refl) f) c.unawaited.ensures.fault)
+    refused_token c.args.self.now c.begin.new.self c.unexpected.result c.in_ok-begin.ensures.passed
+    (refused_as c.eat.new.self c.begin.new.self c.unexpected.result kept.0 (λ reason place f. no_next c.args.due c.begin.new.self.unread reason place c.if-not-due.false kept.1 (c.if-at_bracket.ensures.other refl) f) c.unexpected.ensures.fault)
 
 pub returns-then-not-eat-clause-nowhere : goal.returns-then-not-eat-clause-nowhere
 returns-then-not-eat-clause-nowhere g c = λ live.
-    nowhere_next c.args.due c.args.self.now.unread c.begin.new.self.unread c.if-not-due.false (behind_gap_of c.args.self.now c.begin.new.self c.in_ok-begin.ensures.passed)
+    nowhere_next c.args.due c.args.self.now.unread c.begin.new.self.unread c.if-not-due.false (after_gap_of c.args.self.now c.begin.new.self c.in_ok-begin.ensures.passed)
     (c.if-not-eat.ensures.kept refl).1 (c.if-at_bracket.ensures.other refl)
 
 pub returns-in_err-begin-2-clause-refused : goal.returns-in_err-begin-2-clause-refused
@@ -35,7 +35,7 @@ returns-in_err-begin-2-clause-refused g c =
     let passed = c.in_ok-begin.ensures.passed in
     let took = c.if-not-eat.ensures.taken refl in
     rw (is, from) (refused_token c.args.self.now c.begin.new.self c.in_err-begin-2.field-0.0 passed
-    (refused_behind c.begin.new.self c.eat.new.self c.in_err-begin-2.field-0.0 (0x2C ∷ []) took (λ reason place f. in_blanks_behind c.if-not-due.false f)
+    (refused_after c.begin.new.self c.eat.new.self c.in_err-begin-2.field-0.0 (0x2C ∷ []) took (λ reason place f. in_blanks_after c.if-not-due.false f)
     (c.in_err-begin-2.ensures.refused (failed_of took.rest ∙ failed_of passed.rest ∙ passed.live))))
 
 pub returns-in_err-begin-2-clause-nowhere : goal.returns-in_err-begin-2-clause-nowhere
@@ -43,16 +43,16 @@ returns-in_err-begin-2-clause-nowhere g c =
     let (y, is, from) = err_from_is_err_and c.from_residual-in_err-begin-2.result c.from_residual-in_err-begin-2.ensures.1 in
     let passed = c.in_ok-begin.ensures.passed in
     let took = c.if-not-eat.ensures.taken refl in
-    rw is (λ live. nowhere_behind c.args.due c.args.self.now c.begin.new.self c.eat.new.self c.in_err-begin-2.field-0.0 c.if-not-due.false passed (c.if-at_bracket.ensures.other refl) took
+    rw is (λ live. nowhere_after c.args.due c.args.self.now c.begin.new.self c.eat.new.self c.in_err-begin-2.field-0.0 c.if-not-due.false passed (c.if-at_bracket.ensures.other refl) took
     (c.in_err-begin-2.ensures.refused (failed_of took.rest ∙ failed_of passed.rest ∙ passed.live)))
 
 pub returns-clause-sound : goal.returns-clause-sound
 returns-clause-sound g c =
-    goes_behind c.args.due c.at_bracket-2.result c.args.self.now c.begin.new.self c.eat.new.self c.begin-2.new.self c.if-not-due.false c.in_ok-begin.ensures.passed (c.if-not-eat.ensures.taken refl)
+    goes_after c.args.due c.at_bracket-2.result c.args.self.now c.begin.new.self c.eat.new.self c.begin-2.new.self c.if-not-due.false c.in_ok-begin.ensures.passed (c.if-not-eat.ensures.taken refl)
     c.in_ok-begin-2.ensures.passed c.at_bracket-2.ensures.found c.at_bracket-2.ensures.other
 
 pub returns-then-not-eat-clause-unprompted : goal.returns-then-not-eat-clause-unprompted
-returns-then-not-eat-clause-unprompted g c = refused_other (next_lacks c.args.due) c.args.self.now c.unawaited.result (returns-then-not-eat-clause-refused g c)
+returns-then-not-eat-clause-unprompted g c = refused_other (next_lacks c.args.due) c.args.self.now c.unexpected.result (returns-then-not-eat-clause-refused g c)
 
 pub returns-in_err-begin-2-clause-unprompted : goal.returns-in_err-begin-2-clause-unprompted
 returns-in_err-begin-2-clause-unprompted g c =

@@ -6,7 +6,7 @@ use Rattle.json5_grammar.specs.Values.{Reads}
 use Rattle.json5_de.specs.State.{State}
 use Rattle.json5_de.specs.Steps.{PassedGap}
 use Rattle.json5_de.proofs.Arrays.{level_of, failed_of}
-use Rattle.json5_de.proofs.Options.{blanks_no_value, value_next, took_behind}
+use Rattle.json5_de.proofs.Options.{blanks_no_value, value_next, took_after}
 use Rattle.json5_de.proofs.Own.{reads_content}
 use Rattle.json5_de.proofs.spans.SpannedDeserialize.deserialize.Goals as goal
 
@@ -34,7 +34,7 @@ returns-in_err-value-clause-no_memory g c t r v live reads shallow converts free
 pub returns-clause-sound : goal.returns-clause-sound
 returns-clause-sound g c =
     let (t, took, is) = c.in_ok-value.ensures.sound in
-    (t, took_behind c.args.de.now c.begin.new.self c.deserialize.new.de t c.in_ok-begin.ensures.passed took, is)
+    (t, took_after c.args.de.now c.begin.new.self c.deserialize.new.de t c.in_ok-begin.ensures.passed took, is)
 
 pub returns-clause-complete : goal.returns-clause-complete
 returns-clause-complete g c =

@@ -50,7 +50,7 @@ pub returns-then-len-clause-complete : goal.returns-then-len-clause-complete
 returns-then-len-clause-complete g c =
     let ws = c.loop-seq.values.items ++ c.in-Some.next.value ∷ [] in
     let m = steps g.T.Deserialize.content (λ (s : Spanned _). g.T.Deserialize.content s.value) g.T.Deserialize.convert _ ws c.in-Some.next.value c.in-Some.next (seen c.in_ok-seq.seq) (seen c.loop-seq.seq) (seen c.next_element.new.self) refl c.loop-seq.invariant.reading
-        refl c.in_ok-next.ensures.start (rw c.in-Some.is at c.in_ok-next.ensures.read) (rw c.in-Some.is at c.in_ok-next.ensures.left) in
+    refl c.in_ok-next.ensures.start (rw c.in-Some.is at c.in_ok-next.ensures.read) (rw c.in-Some.is at c.in_ok-next.ensures.left) in
     let (counted, k) = c.loop-seq.values.ok in
     let more = length-append c.loop-seq.values.items (c.in-Some.next.value ∷ []) in
     let test = c.if-len.true in
@@ -67,6 +67,6 @@ returns-in_err-end-clause-complete g c =
 pub returns-clause-sound : goal.returns-clause-sound
 returns-clause-sound g c =
     let (ts, took, are) = stops g.T.Deserialize.content g.T.Deserialize.convert _ c.args.de.now _ (seen c.in_ok-seq.seq) (seen c.loop-seq.seq) c.loop-seq.invariant.reading c.in_ok-seq.ensures.opens.read
-        (λ ts k. c.in_ok-end.ensures.read c.args.de.now ts (rw c.in_default.is at c.in_ok-next.ensures.read c.args.de.now ts k)) in
+    (λ ts k. c.in_ok-end.ensures.read c.args.de.now ts (rw c.in_default.is at c.in_ok-next.ensures.read c.args.de.now ts k)) in
     let back : c.de-2-1.given.0 ≡ _ = c.de-2-1.given.1 (search rules) in
     (array ts, subst (λ n. TookValue c.args.de.now (array ts) n) (sym back) took, at_most_values g.T.Deserialize.convert g.row.N ts _ are (rw (length-map c.loop-seq.values.items g.T.Deserialize.content) c.loop-seq.invariant.few))

@@ -1,16 +1,16 @@
 use Rattle.std.proofs.Common.{◌≡◌, take, ap, sym, ◌∙◌, subst, refl, false, true}
 use Rattle.std.specs.Str.{chars, IsCharBoundary}
-use Rattle.json5_grammar.specs.Positions.{position_behind}
+use Rattle.json5_grammar.specs.Positions.{position_after}
 use Rattle.json5_text.specs.Cursor.{Cursor, IsOffset}
 use Rattle.json5_text.proofs.ScanBytes.{cut_before, take_before, boundary_offset}
 use Rattle.json5_text.proofs.scanner.Scanner.position_of.Goals as goal
 
 pub returns-in-Some-clause-inside : goal.returns-in-Some-clause-inside
 returns-in-Some-clause-inside g c = λ before rest split counted.
-    c.behind.ensures
-    ∙ ap (λ z. position_behind (chars z)) c.in-Some.ensures.front
-    ∙ ap (λ z. position_behind (chars (take c.args.offset z))) c.as_text-text.ensures
-    ∙ ap position_behind (take_before before rest c.self.invariant (ap (λ (s : Cursor). s.input) c.self.view_is ∙ split) counted)
+    c.after.ensures
+    ∙ ap (λ z. position_after (chars z)) c.in-Some.ensures.front
+    ∙ ap (λ z. position_after (chars (take c.args.offset z))) c.as_text-text.ensures
+    ∙ ap position_after (take_before before rest c.self.invariant (ap (λ (s : Cursor). s.input) c.self.view_is ∙ split) counted)
 
 pub returns-in-None-clause-inside : goal.returns-in-None-clause-inside
 returns-in-None-clause-inside g c = λ before rest split counted.

@@ -1,6 +1,6 @@
 use Rattle.std.proofs.Common.{◌-◌, take, ap, sym, ◌∙◌, subst}
 use Rattle.std.specs.Str.{chars, IsCharBoundary}
-use Rattle.json5_grammar.specs.Positions.{position_behind}
+use Rattle.json5_grammar.specs.Positions.{position_after}
 use Rattle.json5_text.specs.Cursor.{Cursor}
 use Rattle.json5_text.proofs.ScanBytes.{cut_left, take_left, fits_left, whole_split}
 use Rattle.json5_text.proofs.scanner.Scanner.position_where_left.Goals as goal
@@ -19,5 +19,5 @@ from_offset-requires g c =
 pub returns : goal.returns
 returns g c = λ before rest split counted.
     c.from_offset.ensures
-    ∙ ap (λ z. position_behind (chars (take (c.self.inside.end - c.args.left) z))) c.as_text.ensures
-    ∙ ap position_behind (take_left before rest c.self.invariant (ap (λ (s : Cursor). s.input) c.self.view_is ∙ split) counted)
+    ∙ ap (λ z. position_after (chars (take (c.self.inside.end - c.args.left) z))) c.as_text.ensures
+    ∙ ap position_after (take_left before rest c.self.invariant (ap (λ (s : Cursor). s.input) c.self.view_is ∙ split) counted)

@@ -1,4 +1,4 @@
--- What a type of texts awaits.
+-- What a type of texts expects.
 use Rattle.std.proofs.Common.{◌≡◌, ℕ, Bool, true, false, List, [], ◌∷◌, ◌++◌, refl, ap, sym, ◌∙◌, subst, ◌⊎◌, inl, inr, Option, Some, None}
 use Rattle.std.specs.Prelude.{◌||◌, ◌==◌}
 use Rattle.json5_grammar.specs.declared.code.ErrorCode.{ErrorCode}
@@ -16,7 +16,7 @@ use Rattle.json5_grammar.proofs.StringsRead.{no_string_fault, one_string}
 use Rattle.json5_text.specs.Tokens.{FaultyString, faulty, no_quote, string_missing}
 use Rattle.json5_de.specs.Convert.{as_text}
 use Rattle.json5_de.specs.Faults.{NotText, faulty_text, other_text}
-use Rattle.json5_de.proofs.Awaited.{Awaited}
+use Rattle.json5_de.proofs.Expected.{Expected}
 use Rattle.json5_grammar.proofs.Refusals.{same_bad}
 
 -- x begins with a quote
@@ -83,8 +83,8 @@ not_text f {u = u} {plain = plain} v x r reason place e k is (other_text {u = w}
     let one = one_string y r l k e in
     none_some (f u plain) v (subst (λ z. f u z ≡ None) one.2 (subst (λ z. f z p ≡ None) one.1 none)) is
 
-pub awaits_text : {C : Type 0} (f : List ℕ → Bool → Option C) → Awaited (NotText f) (as_text f) is_quote EofParsingString ExpectedString
-awaits_text f = record {
+pub expects_text : {C : Type 0} (f : List ℕ → Bool → Option C) → Expected (NotText f) (as_text f) is_quote EofParsingString ExpectedString
+expects_text f = record {
   at_end = λ reason place k. end_text f [] reason place refl k;
   at_other = λ c r reason place h k. other_begin f (c ∷ r) c r reason place refl h k;
   no_fault = λ s r t v reason place e k stops g. let (u, plain, str, is) = text_phrase f v e k in not_text f v (s ++ r) r reason place refl str is g;

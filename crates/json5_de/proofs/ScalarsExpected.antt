@@ -1,4 +1,4 @@
--- A value of any kind is awaited: what begins one, and what is refused.
+-- A value of any kind is expected: what begins one, and what is refused.
 use Rattle.std.proofs.Common.{◌≡◌, ℕ, true, false, List, [], ◌∷◌, ◌++◌, refl, ap, sym, ◌∙◌, subst, arith, ◌⊎◌, inl, inr, Option, Some, None}
 use Rattle.std.specs.Prelude.{◌==◌, ◌||◌, slice_get}
 use Rattle.std.proofs.lemmas.Bool.Decides.{nat_tests}
@@ -22,9 +22,9 @@ use Rattle.json5_de.specs.Steps.{PassedGap}
 use Rattle.json5_de.specs.Convert.{datum_of, every_text, every_decimal, same_decimal}
 use Rattle.json5_de.specs.Faults.{RefusedBy, RefusedByOrMemory, faulty_text, faulty_number}
 use Rattle.json5_de.specs.Scalars.{kind_at, kind_in, is_scalar_kind, begins_scalar, FaultyScalar, scalar_missing, no_scalar, in_null, in_true, in_false, in_text, in_number}
-use Rattle.json5_de.proofs.Awaited.{Awaited}
-use Rattle.json5_de.proofs.AwaitsNumbers.{awaits_number}
-use Rattle.json5_de.proofs.AwaitsTexts.{awaits_text}
+use Rattle.json5_de.proofs.Expected.{Expected}
+use Rattle.json5_de.proofs.ExpectsNumbers.{expects_number}
+use Rattle.json5_de.proofs.ExpectsTexts.{expects_text}
 use Rattle.json5_de.proofs.Taken.{refused_token}
 use Rattle.json5_de.proofs.Words.{word_no_fault}
 
@@ -112,7 +112,7 @@ no_text_fault s r null reason place e v stops f = absurd (cc)
 no_text_fault s r (boolean true) reason place e v stops f = absurd (cc)
 no_text_fault s r (boolean false) reason place e v stops f = absurd (cc)
 no_text_fault s r (number n) reason place e v stops f = absurd (cc)
-no_text_fault s r (text u plain) reason place e v stops f = (awaits_text every_text).no_fault s r (text u plain) _ reason place refl v stops (faulty_text f)
+no_text_fault s r (text u plain) reason place e v stops f = (expects_text every_text).no_fault s r (text u plain) _ reason place refl v stops (faulty_text f)
 no_text_fault s r (array ts) reason place e v stops f = absurd (cc)
 no_text_fault s r (object ps) reason place e v stops f = absurd (cc)
 
@@ -120,7 +120,7 @@ no_number_fault : (s r : List ℕ) (t : Tree) (reason : Option ErrorCode) (place
 no_number_fault s r null reason place e v stops f = absurd (cc)
 no_number_fault s r (boolean true) reason place e v stops f = absurd (cc)
 no_number_fault s r (boolean false) reason place e v stops f = absurd (cc)
-no_number_fault s r (number n) reason place e v stops f = (awaits_number every_decimal).no_fault s r (number n) (same_decimal n) reason place refl v stops (faulty_number f)
+no_number_fault s r (number n) reason place e v stops f = (expects_number every_decimal).no_fault s r (number n) (same_decimal n) reason place refl v stops (faulty_number f)
 no_number_fault s r (text u plain) reason place e v stops f = absurd (cc)
 no_number_fault s r (array ts) reason place e v stops f = absurd (cc)
 no_number_fault s r (object ps) reason place e v stops f = absurd (cc)
@@ -166,8 +166,8 @@ at_other c r reason place e n (in_number h f) = begun_other (kind_at c) kind.Num
 first : (s : List ℕ) (t : Tree) (d : Datum) → datum_of t ≡ Some d → Val s t → (c : ℕ) × (y : List ℕ) × (s ≡ c ∷ y) × (begins_scalar c ≡ true)
 first s t d e v = let (c, y, is, k) = val_kind d e v in (c, y, is, ap is_scalar_kind k ∙ scalar_kind t d e)
 
-pub awaits_scalar : Awaited FaultyScalar datum_of begins_scalar codes_of.EofParsingValue codes_of.ExpectedValue
-awaits_scalar = record {
+pub expects_scalar : Expected FaultyScalar datum_of begins_scalar codes_of.EofParsingValue codes_of.ExpectedValue
+expects_scalar = record {
   at_end = λ reason place f. at_end reason place refl f;
   at_other = λ c r reason place h f. at_other c r reason place refl h f;
   no_fault = no_fault;

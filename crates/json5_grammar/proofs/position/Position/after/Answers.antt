@@ -8,7 +8,7 @@ use Rattle.std.proofs.lemmas.List.{length-append}
 use Rattle.std.proofs.StrCases.{chars_of_empty}
 use Rattle.json5_grammar.specs.PositionSteps.{position_from, position_step}
 use Rattle.json5_grammar.proofs.PositionsCounted.{counted, step_bounded}
-use Rattle.json5_grammar.proofs.position.Position.behind.Goals as goal
+use Rattle.json5_grammar.proofs.position.Position.after.Goals as goal
 
 pub loop-c-preserved : goal.loop-c-preserved
 loop-c-preserved c =

@@ -3,7 +3,7 @@ use Rattle.std.proofs.Common.{◌≡◌, ℕ, Bool, true, false, List, [], ◌�
 use Rattle.std.specs.Prelude.{Result, Ok, Err, IsOk, IfOk, IfErr}
 use Rattle.std.proofs.lemmas.List.{append-nil}
 use Rattle.json5_grammar.specs.declared.code.ErrorCode.{ErrorCode}
-use Rattle.json5_grammar.specs.Codes.{behind_text}
+use Rattle.json5_grammar.specs.Codes.{after_text}
 use Rattle.json5_grammar.specs.Blanks.{Blanks, LastBlanks, Gap, is_solid, BlankFault}
 use Rattle.json5_grammar.specs.Trees.{Tree}
 use Rattle.json5_grammar.specs.Values.{Val, Stops, Reads}
@@ -15,11 +15,11 @@ use Rattle.json5_text.specs.Cursor.{Says, IsPlaced}
 use Rattle.json5_text.specs.Tokens.{FaultyBlanks}
 use Rattle.json5_de.specs.State.{State, cursor_of}
 use Rattle.json5_de.specs.Law.{Gives, Completes, IsOkOrMemory}
-use Rattle.json5_de.specs.Faults.{Behind, in_blanks, behind_gap, RefusedBy, RefusedByOrMemory, IsUnplaced, IsBehind, AtEnd, AtOther, EndsWith, EndsWithOrMemory, DiffersWith, DiffersWithOrMemory}
+use Rattle.json5_de.specs.Faults.{AfterBlanks, in_blanks, after_gap, RefusedBy, RefusedByOrMemory, IsUnplaced, IsAfter, AtEnd, AtOther, EndsWith, EndsWithOrMemory, DiffersWith, DiffersWithOrMemory}
 use Rattle.json5_grammar.proofs.Basics.{first_same, true_false}
 
--- a kind of value: what is refused where one is awaited, its trees, what begins one, and the codes at the end and at another character
-pub record Awaited {C : Type 0} (IsFault : List ℕ → Option ErrorCode → Option (List ℕ) → Type 0) (convert : Tree → Option C) (begins : ℕ → Bool) (ends differs : ErrorCode) : Type 0 where
+-- a kind of value: what is refused where one is expected, its trees, what begins one, and the codes at the end and at another character
+pub record Expected {C : Type 0} (IsFault : List ℕ → Option ErrorCode → Option (List ℕ) → Type 0) (convert : Tree → Option C) (begins : ℕ → Bool) (ends differs : ErrorCode) : Type 0 where
   pub at_end : (reason : Option ErrorCode) (place : Option (List ℕ)) → IsFault [] reason place → (reason ≡ Some ends) × (place ≡ None)
   pub at_other : (c : ℕ) (r : List ℕ) (reason : Option ErrorCode) (place : Option (List ℕ)) → begins c ≡ false → IsFault (c ∷ r) reason place → (reason ≡ Some differs) × (place ≡ Some [])
   pub no_fault : (s r : List ℕ) (t : Tree) (v : C) (reason : Option ErrorCode) (place : Option (List ℕ)) → convert t ≡ Some v → Val s t → Stops s r → IsFault (s ++ r) reason place → ⊥
@@ -32,30 +32,30 @@ pub no_end_fault : (x : List ℕ) (reason : Option ErrorCode) (place : Option (L
 no_end_fault x reason place l (before, part, shown, fault) =
     no_blank_fault (Gap.at_end l) tt (subst (λ y. BlankFault y reason place before part shown) (sym (append-nil x)) fault)
 
-pub behind_end : {C : Type 0} {F : List ℕ → Option ErrorCode → Option (List ℕ) → Type 0} {convert : Tree → Option C} {begins : ℕ → Bool} {ends differs : ErrorCode} → Awaited F convert begins ends differs
-    → (x : List ℕ) (reason : Option ErrorCode) (place : Option (List ℕ)) → LastBlanks x → Behind F x reason place → (reason ≡ Some ends) × (place ≡ None)
-behind_end a x reason place l (in_blanks f) = absurd (no_end_fault x reason place l f)
-behind_end {F = F} a x reason place l (behind_gap {w = w} {x = y} {place = p} g s f) =
+pub after_end : {C : Type 0} {F : List ℕ → Option ErrorCode → Option (List ℕ) → Type 0} {convert : Tree → Option C} {begins : ℕ → Bool} {ends differs : ErrorCode} → Expected F convert begins ends differs
+    → (x : List ℕ) (reason : Option ErrorCode) (place : Option (List ℕ)) → LastBlanks x → AfterBlanks F x reason place → (reason ≡ Some ends) × (place ≡ None)
+after_end a x reason place l (in_blanks f) = absurd (no_end_fault x reason place l f)
+after_end {F = F} a x reason place l (after_gap {w = w} {x = y} {place = p} g s f) =
     let gap = gap_last (w ++ y) w y l g s refl in
     let k = a.at_end reason p (subst (λ z. F z reason p) gap.1 f) in
-    (k.0, ap (behind_text w) k.1)
+    (k.0, ap (after_text w) k.1)
 
-pub behind_other : {C : Type 0} {F : List ℕ → Option ErrorCode → Option (List ℕ) → Type 0} {convert : Tree → Option C} {begins : ℕ → Bool} {ends differs : ErrorCode} → Awaited F convert begins ends differs
-    → (x w r : List ℕ) (c : ℕ) (reason : Option ErrorCode) (place : Option (List ℕ)) → Blanks w → is_solid c ≡ true → begins c ≡ false → x ≡ w ++ c ∷ r → Behind F x reason place
+pub after_other : {C : Type 0} {F : List ℕ → Option ErrorCode → Option (List ℕ) → Type 0} {convert : Tree → Option C} {begins : ℕ → Bool} {ends differs : ErrorCode} → Expected F convert begins ends differs
+    → (x w r : List ℕ) (c : ℕ) (reason : Option ErrorCode) (place : Option (List ℕ)) → Blanks w → is_solid c ≡ true → begins c ≡ false → x ≡ w ++ c ∷ r → AfterBlanks F x reason place
     → (reason ≡ Some differs) × (place ≡ Some w)
-behind_other a x w r c reason place b s n e (in_blanks (before, part, shown, fault)) =
+after_other a x w r c reason place b s n e (in_blanks (before, part, shown, fault)) =
     absurd (no_blank_fault (Gap.blanks b) (begins_solid c r s) (subst (λ y. BlankFault y reason place before part shown) e fault))
-behind_other {F = F} a x w r c reason place b s n e (behind_gap {w = v} {x = y} {place = p} g t f) =
+after_other {F = F} a x w r c reason place b s n e (after_gap {w = v} {x = y} {place = p} g t f) =
     let gap = gap_before w v y c r b s g t (sym e) in
     let k = a.at_other c r reason p n (subst (λ z. F z reason p) gap.1 f) in
-    (k.0, ap (behind_text v) k.1 ∙ ap Some (append-nil v ∙ gap.0))
+    (k.0, ap (after_text v) k.1 ∙ ap Some (append-nil v ∙ gap.0))
 
 -- what can be read isn't refused
-pub no_refusal : {C : Type 0} {F : List ℕ → Option ErrorCode → Option (List ℕ) → Type 0} {convert : Tree → Option C} {begins : ℕ → Bool} {ends differs : ErrorCode} → Awaited F convert begins ends differs
-    → (x r : List ℕ) (t : Tree) (v : C) (reason : Option ErrorCode) (place : Option (List ℕ)) → convert t ≡ Some v → Reads x t r → Behind F x reason place → ⊥
+pub no_refusal : {C : Type 0} {F : List ℕ → Option ErrorCode → Option (List ℕ) → Type 0} {convert : Tree → Option C} {begins : ℕ → Bool} {ends differs : ErrorCode} → Expected F convert begins ends differs
+    → (x r : List ℕ) (t : Tree) (v : C) (reason : Option ErrorCode) (place : Option (List ℕ)) → convert t ≡ Some v → Reads x t r → AfterBlanks F x reason place → ⊥
 no_refusal a x r t v reason place e h (in_blanks (before, part, shown, fault)) =
     no_blank_fault (Gap.blanks h.blank) (value_solid r (val_head h.value)) (subst (λ y. BlankFault y reason place before part shown) h.split fault)
-no_refusal {F = F} a x r t v reason place e h (behind_gap {w = w} {x = y} {place = p} g s f) =
+no_refusal {F = F} a x r t v reason place e h (after_gap {w = w} {x = y} {place = p} g s f) =
     let gap = one_gap h.front (h.phrase ++ r) w y (Gap.blanks h.blank) (value_solid r (val_head h.value)) g s (sym h.split) in
     a.no_fault h.phrase r t v reason p e h.value h.stops (subst (λ z. F z reason p) gap.1 f)
 
@@ -67,8 +67,8 @@ end_no_value x r t l h =
     let none : head.char ∷ (head.more ++ r) ≡ [] = sym (ap (λ z. z ++ r) head.is) ∙ gap.1 in
     absurd (cc)
 
--- behind the blanks stands a character that begins no value of the kind
-pub other_no_value : {C : Type 0} {F : List ℕ → Option ErrorCode → Option (List ℕ) → Type 0} {convert : Tree → Option C} {begins : ℕ → Bool} {ends differs : ErrorCode} → Awaited F convert begins ends differs
+-- after the blanks stands a character that begins no value of the kind
+pub other_no_value : {C : Type 0} {F : List ℕ → Option ErrorCode → Option (List ℕ) → Type 0} {convert : Tree → Option C} {begins : ℕ → Bool} {ends differs : ErrorCode} → Expected F convert begins ends differs
     → (x w q r : List ℕ) (c : ℕ) (t : Tree) (v : C) → Blanks w → is_solid c ≡ true → begins c ≡ false → x ≡ w ++ c ∷ q → convert t ≡ Some v → Reads x t r → ⊥
 other_no_value {begins = begins} a x w q r c t v b s n e k h =
     let gap = gap_before w h.front (h.phrase ++ r) c q b s (Gap.blanks h.blank) (value_solid r (val_head h.value)) (sym e ∙ h.split) in
@@ -78,51 +78,51 @@ other_no_value {begins = begins} a x w q r c t v b s n e k h =
 
 -- ---- what a refusal says
 
-pub end_fault : {C : Type 0} {F : List ℕ → Option ErrorCode → Option (List ℕ) → Type 0} {convert : Tree → Option C} {begins : ℕ → Bool} {ends differs : ErrorCode} → Awaited F convert begins ends differs
+pub end_fault : {C : Type 0} {F : List ℕ → Option ErrorCode → Option (List ℕ) → Type 0} {convert : Tree → Option C} {begins : ℕ → Bool} {ends differs : ErrorCode} → Expected F convert begins ends differs
     → (old : State) (e : Error) → AtEnd old → RefusedBy F old e → IsUnplaced ends e
 end_fault a old e (live, l) k =
     let f = k live in
-    let is = behind_end a old.unread f.reason f.place l f.fault in
+    let is = after_end a old.unread f.reason f.place l f.fault in
     (subst (λ z. Says z e) is.0 f.says, subst (λ z. IsPlaced (cursor_of old) z e) is.1 f.placed)
 
-pub other_fault : {C : Type 0} {F : List ℕ → Option ErrorCode → Option (List ℕ) → Type 0} {convert : Tree → Option C} {begins : ℕ → Bool} {ends differs : ErrorCode} → Awaited F convert begins ends differs
-    → (old : State) (e : Error) (w : List ℕ) → AtOther begins old w → RefusedBy F old e → IsBehind differs old w e
+pub other_fault : {C : Type 0} {F : List ℕ → Option ErrorCode → Option (List ℕ) → Type 0} {convert : Tree → Option C} {begins : ℕ → Bool} {ends differs : ErrorCode} → Expected F convert begins ends differs
+    → (old : State) (e : Error) (w : List ℕ) → AtOther begins old w → RefusedBy F old e → IsAfter differs old w e
 other_fault a old e w o k =
     let f = k o.live in
-    let is = behind_other a old.unread w o.more o.char f.reason f.place o.blank o.solid o.other o.split f.fault in
+    let is = after_other a old.unread w o.more o.char f.reason f.place o.blank o.solid o.other o.split f.fault in
     (subst (λ z. Says z e) is.0 f.says, subst (λ z. IsPlaced (cursor_of old) z e) is.1 f.placed)
 
-pub wrongly_refused : {C : Type 0} {F : List ℕ → Option ErrorCode → Option (List ℕ) → Type 0} {convert : Tree → Option C} {begins : ℕ → Bool} {ends differs : ErrorCode} → Awaited F convert begins ends differs
+pub wrongly_refused : {C : Type 0} {F : List ℕ → Option ErrorCode → Option (List ℕ) → Type 0} {convert : Tree → Option C} {begins : ℕ → Bool} {ends differs : ErrorCode} → Expected F convert begins ends differs
     → (old : State) (e : Error) (t : Tree) (r : List ℕ) (v : C) → old.failed ≡ false → Reads old.unread t r → convert t ≡ Some v → RefusedBy F old e → ⊥
 wrongly_refused a old e t r v live reads is k = let f = k live in no_refusal a old.unread r t v f.reason f.place is reads f.fault
 
 -- ---- the clauses of a read that takes no memory
 
-pub ends_from : {V C : Type 0} {F : List ℕ → Option ErrorCode → Option (List ℕ) → Type 0} {convert : Tree → Option C} {begins : ℕ → Bool} {ends differs : ErrorCode} → Awaited F convert begins ends differs
+pub ends_from : {V C : Type 0} {F : List ℕ → Option ErrorCode → Option (List ℕ) → Type 0} {convert : Tree → Option C} {begins : ℕ → Bool} {ends differs : ErrorCode} → Expected F convert begins ends differs
     → (content : V → C) (old new : State) (result : Result V Error) → IfOk result (λ v. Gives content convert old new v) → IfErr result (RefusedBy F old) → EndsWith ends old result
 ends_from a content old new (Ok v) (t, took, is) k at = end_no_value old.unread new.unread t at.1 took.reads
 ends_from a content old new (Err e) g k at = end_fault a old e at k
 
-pub differs_from : {V C : Type 0} {F : List ℕ → Option ErrorCode → Option (List ℕ) → Type 0} {convert : Tree → Option C} {begins : ℕ → Bool} {ends differs : ErrorCode} → Awaited F convert begins ends differs
+pub differs_from : {V C : Type 0} {F : List ℕ → Option ErrorCode → Option (List ℕ) → Type 0} {convert : Tree → Option C} {begins : ℕ → Bool} {ends differs : ErrorCode} → Expected F convert begins ends differs
     → (content : V → C) (old new : State) (result : Result V Error) → IfOk result (λ v. Gives content convert old new v) → IfErr result (RefusedBy F old) → DiffersWith begins differs old result
 differs_from a content old new (Ok v) (t, took, is) k w o = other_no_value a old.unread w o.more new.unread o.char t (content v) o.blank o.solid o.other o.split is took.reads
 differs_from a content old new (Err e) g k w o = other_fault a old e w o k
 
--- ---- the same, want of memory aside
+-- ---- the same, unless memory runs out
 
-pub ends_or_memory : {V C : Type 0} {F : List ℕ → Option ErrorCode → Option (List ℕ) → Type 0} {convert : Tree → Option C} {begins : ℕ → Bool} {ends differs : ErrorCode} → Awaited F convert begins ends differs
+pub ends_or_memory : {V C : Type 0} {F : List ℕ → Option ErrorCode → Option (List ℕ) → Type 0} {convert : Tree → Option C} {begins : ℕ → Bool} {ends differs : ErrorCode} → Expected F convert begins ends differs
     → (content : V → C) (old new : State) (result : Result V Error) → IfOk result (λ v. Gives content convert old new v) → IfErr result (RefusedByOrMemory F old) → EndsWithOrMemory ends old result
 ends_or_memory a content old new (Ok v) (t, took, is) k at = end_no_value old.unread new.unread t at.1 took.reads
 ends_or_memory a content old new (Err e) g (inl m) at = inl m
 ends_or_memory a content old new (Err e) g (inr k) at = inr (end_fault a old e at k)
 
-pub differs_or_memory : {V C : Type 0} {F : List ℕ → Option ErrorCode → Option (List ℕ) → Type 0} {convert : Tree → Option C} {begins : ℕ → Bool} {ends differs : ErrorCode} → Awaited F convert begins ends differs
+pub differs_or_memory : {V C : Type 0} {F : List ℕ → Option ErrorCode → Option (List ℕ) → Type 0} {convert : Tree → Option C} {begins : ℕ → Bool} {ends differs : ErrorCode} → Expected F convert begins ends differs
     → (content : V → C) (old new : State) (result : Result V Error) → IfOk result (λ v. Gives content convert old new v) → IfErr result (RefusedByOrMemory F old) → DiffersWithOrMemory begins differs old result
 differs_or_memory a content old new (Ok v) (t, took, is) k w o = other_no_value a old.unread w o.more new.unread o.char t (content v) o.blank o.solid o.other o.split is took.reads
 differs_or_memory a content old new (Err e) g (inl m) w o = inl m
 differs_or_memory a content old new (Err e) g (inr k) w o = inr (other_fault a old e w o k)
 
-pub completes_or_memory : {V C : Type 0} {F : List ℕ → Option ErrorCode → Option (List ℕ) → Type 0} {convert : Tree → Option C} {begins : ℕ → Bool} {ends differs : ErrorCode} → Awaited F convert begins ends differs
+pub completes_or_memory : {V C : Type 0} {F : List ℕ → Option ErrorCode → Option (List ℕ) → Type 0} {convert : Tree → Option C} {begins : ℕ → Bool} {ends differs : ErrorCode} → Expected F convert begins ends differs
     → (old : State) (result : Result V Error) → IfErr result (RefusedByOrMemory F old) → Completes convert old result
 completes_or_memory a old (Ok v) k t r c live reads shallow is = tt
 completes_or_memory a old (Err e) (inl m) t r c live reads shallow is = m

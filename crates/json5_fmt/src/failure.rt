@@ -1,13 +1,13 @@
 //! Why the program ends before its work is done.
 
 ghost use Rattle.std.specs.Prelude.{◌≡◌};
-ghost use Rattle.json5_fmt.specs.Stops.{stop_at};
+ghost use Rattle.json5_fmt.specs.Failures.{failure_at};
 
 use json5::{Error, ErrorCode};
 
 /// Why the work ended.
 #[derive(Debug, Drop)]
-pub enum Stop {
+pub enum Failure {
     /// The bytes that were read are no UTF-8.
     NotUtf8,
     /// The text is no document.
@@ -20,14 +20,14 @@ pub enum Stop {
     Write,
 }
 
-impl Stop {
+impl Failure {
     /// The cause that ends the work at this fault of the text; `NoMemory` where memory ran out.
-    pub fn at(error: Error) -> Stop
-        ensures { result ≡ stop_at error }
+    pub fn at(error: Error) -> Failure
+        ensures { result ≡ failure_at error }
     {
         match error.code() {
-            Some(ErrorCode::OutOfMemory) => Stop::NoMemory,
-            _ => Stop::Text(error),
+            Some(ErrorCode::OutOfMemory) => Failure::NoMemory,
+            _ => Failure::Text(error),
         }
     }
 }

@@ -1,7 +1,7 @@
 use Rattle.std.proofs.Common.{◌≡◌, ◌≤◌, ◌+◌, false, length, IsUtf8, chars}
 use Rattle.std.specs.Str.Iter.{chars_rest}
 use Rattle.json5_grammar.specs.PositionSteps.{position_from}
-use Rattle.json5_grammar.proofs.position.Position.behind.Given as goal
+use Rattle.json5_grammar.proofs.position.Position.after.Given as goal
 
 abbrev pub invariant-loop-c : goal.invariant-loop-c
 invariant-loop-c l = IsUtf8 (chars_rest l.c-iterator)

@@ -1,4 +1,4 @@
--- What a type of numbers awaits.
+-- What a type of numbers expects.
 use Rattle.std.proofs.Common.{◌≡◌, ℕ, Bool, true, false, List, [], ◌∷◌, ◌++◌, refl, ap, sym, ◌∙◌, subst, Option, Some, None}
 use Rattle.std.specs.Prelude.{◌||◌}
 use Rattle.std.proofs.lemmas.List.{append_cancel_right}
@@ -17,7 +17,7 @@ use Rattle.json5_grammar.proofs.ValueHeads.{number_head}
 use Rattle.json5_text.specs.Tokens.{FaultyNumber, faulty, no_number, number_missing}
 use Rattle.json5_de.specs.Convert.{as_number}
 use Rattle.json5_de.specs.Faults.{NotNumber, faulty_number, other_number}
-use Rattle.json5_de.proofs.Awaited.{Awaited}
+use Rattle.json5_de.proofs.Expected.{Expected}
 use Rattle.std.proofs.lemmas.Bool.{or_parts}
 use Rattle.json5_grammar.proofs.Basics.{first_same, true_false, none_some}
 use Rattle.json5_grammar.proofs.Refusals.{same_bad}
@@ -93,8 +93,8 @@ not_number f {n = n} v x r reason place e k is stops (other_number y l others no
 first_of_number : {C : Type 0} {s : List ℕ} {t : Tree} (f : Number → Option C) (v : C) → as_number f t ≡ Some v → Val s t → (c : ℕ) × (y : List ℕ) × (s ≡ c ∷ y) × ((is_sign c || begins_number c) ≡ true)
 first_of_number f v e k = number_head (number_phrase f v e k).1
 
-pub awaits_number : {C : Type 0} (f : Number → Option C) → Awaited (NotNumber f) (as_number f) (λ c. is_sign c || begins_number c) EofParsingNumber ExpectedNumber
-awaits_number f = record {
+pub expects_number : {C : Type 0} (f : Number → Option C) → Expected (NotNumber f) (as_number f) (λ c. is_sign c || begins_number c) EofParsingNumber ExpectedNumber
+expects_number f = record {
   at_end = λ reason place k. end_number f [] reason place refl k;
   at_other = λ c r reason place h k. other_begin f (c ∷ r) c r reason place refl h k;
   no_fault = λ s r t v reason place e k stops g. let (n, num, is) = number_phrase f v e k in not_number f v (s ++ r) r reason place refl num is stops g;

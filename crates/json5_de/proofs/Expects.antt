@@ -1,4 +1,4 @@
--- The kinds of values that a type awaits.
+-- The kinds of values that a type expects.
 use Rattle.std.proofs.Common.{◌≡◌, ℕ, Bool, true, false, List, [], ◌∷◌, ◌++◌, refl, ap, subst, ◌⊎◌, inl, inr, Option, Some}
 use Rattle.std.specs.Prelude.{◌==◌, ◌||◌, if◌then◌else◌}
 use lib.Chars.{codes}
@@ -10,7 +10,7 @@ use Rattle.json5_grammar.proofs.Basics.{neq_from}
 use Rattle.json5_text.specs.Tokens.{FaultyWord}
 use Rattle.json5_de.specs.Convert.{unit_of, bool_of}
 use Rattle.json5_de.specs.Faults.{FaultyNull, FaultyBool}
-use Rattle.json5_de.proofs.Awaited.{Awaited}
+use Rattle.json5_de.proofs.Expected.{Expected}
 use Rattle.json5_de.proofs.Words.{word_end, word_other, word_no_fault}
 use Rattle.std.proofs.lemmas.Bool.{or_parts}
 
@@ -35,8 +35,8 @@ null_phrase e (is_array m) = absurd (cc)
 null_phrase e (is_empty_object b) = absurd (cc)
 null_phrase e (is_object m) = absurd (cc)
 
-pub awaits_null : Awaited FaultyNull unit_of (λ c. c == 0x6E) codes_of.EofParsingNull codes_of.ExpectedNull
-awaits_null = record {
+pub expects_null : Expected FaultyNull unit_of (λ c. c == 0x6E) codes_of.EofParsingNull codes_of.ExpectedNull
+expects_null = record {
   at_end = λ reason place f. word_end null_text [] reason place refl f;
   at_other = λ c r reason place h f. word_other 0x6E (codes "ull") c r (c ∷ r) reason place (neq_from c 0x6E h) refl f;
   no_fault = λ s r t v reason place e k stops f. word_no_fault null_text r (s ++ r) reason place (ap (λ z. z ++ r) (null_phrase (null_only t v e) k)) f;
@@ -70,8 +70,8 @@ bool_first : (s : List ℕ) → (s ≡ true_text) ⊎ (s ≡ false_text) → (c 
 bool_first s (inl e) = (0x74, codes "rue", e, refl)
 bool_first s (inr e) = (0x66, codes "alse", e, refl)
 
-pub awaits_bool : Awaited FaultyBool bool_of (λ c. (c == 0x74) || (c == 0x66)) codes_of.EofParsingBool codes_of.ExpectedBool
-awaits_bool = record {
+pub expects_bool : Expected FaultyBool bool_of (λ c. (c == 0x74) || (c == 0x66)) codes_of.EofParsingBool codes_of.ExpectedBool
+expects_bool = record {
   at_end = λ reason place f. word_end true_text [] reason place refl f;
   at_other = other_bool;
   no_fault = λ s r t v reason place e k stops f. no_bool_fault s r reason place (bool_phrase v e k) f;
