@@ -53,17 +53,17 @@ one_less content f (more t ts) r all done more_done new v cs are counted one (is
     let length_is = ap length k in
     record { trees = ts; values = rest; are = others; left = left; counted = omega (arith, length_is, counted, one) }
 
--- one value more
-pub steps : {V C : Type 0} (content : V → C) (f : Tree → Option C) (vs ws : List V) (v : V) (first s new : Seen) → Reading content f vs first s → ws ≡ vs ++ v ∷ [] → new.start ≡ s.start → ReadsMore content f s new (Some v)
-    → ((ts : Trees) (r : List ℕ) → ElementsLeft ts r s → LeavesFewer content f ts r new (Ok (Some v))) → Reading content f ws first new
-steps content f vs ws v first s new m e start (t, is, on) fewer = record {
+-- one value more, which may be kept in another form than it was read
+pub steps : {V W C : Type 0} (content : V → C) (given : W → C) (f : Tree → Option C) (vs ws : List V) (v : V) (w : W) (first s new : Seen) → given w ≡ content v → Reading content f vs first s → ws ≡ vs ++ v ∷ [] → new.start ≡ s.start
+    → ReadsMore given f s new (Some w) → ((ts : Trees) (r : List ℕ) → ElementsLeft ts r s → LeavesFewer given f ts r new (Ok (Some w))) → Reading content f ws first new
+steps content given f vs ws v w first s new same m e start (t, is, on) fewer = record {
   trees = snoc m.trees t;
-  are = let all = ap (λ xs. map content xs) e ∙ map-append content vs (v ∷ []) in rw all (contents_snoc f m.trees t (map content vs) (content v) m.are is);
+  are = let all = ap (λ xs. map content xs) e ∙ map-append content vs (v ∷ []) in rw all (contents_snoc f m.trees t (map content vs) (content v) m.are (is ∙ ap Some same));
   read = λ from read. on from m.trees (m.read from read);
   left = λ ts r cs are left.
-      let w = m.left ts r cs are left in
+      let l = m.left ts r cs are left in
       let one = ap length e ∙ length-append vs (v ∷ []) in
-      one_less content f w.trees r (length cs) (length vs) (length ws) new v w.values w.are w.counted one (fewer w.trees r w.left);
+      one_less given f l.trees r (length cs) (length vs) (length ws) new w l.values l.are l.counted one (fewer l.trees r l.left);
   start = start ∙ m.start;
 }
 
@@ -98,7 +98,7 @@ all_taken f (more t ts) r s cs are none left =
     absurd (omega (arith, length_is, none))
 
 -- the elements of an array that can be read are left, where it is opened
-abbrev OpensAll : State → Seen → Type 0
+abbrev pub OpensAll : State → Seen → Type 0
 OpensAll old first = (ts : Trees) (r : List ℕ) → old.failed ≡ false → Reads old.unread (array ts) r → old.level + depth (array ts) ≤ max_depth → ElementsLeft ts r first
 
 -- what converts has elements that do
@@ -109,34 +109,47 @@ HasContents {C = C} {D = D} f g = (ts : Trees) (d : D) → g ts ≡ Some d → (
 abbrev pub HasSoMany : {C D : Type 0} → (Tree → Option C) → (Trees → Option D) → ℕ → Type 0
 HasSoMany {C = C} {D = D} f g n = (ts : Trees) (d : D) → g ts ≡ Some d → (cs : List C) × (contents f ts ≡ Some cs) × (length cs ≡ n)
 
-module _ {V C D : Type 0} (content : V → C) (f : Tree → Option C) (g : Trees → Option D) (vs : List V) (old : State) (first now : Seen) where
+-- at most so many of them
+abbrev pub HasAtMost : {C D : Type 0} → (Tree → Option C) → (Trees → Option D) → ℕ → Type 0
+HasAtMost {C = C} {D = D} f g n = (ts : Trees) (d : D) → g ts ≡ Some d → (cs : List C) × (contents f ts ≡ Some cs) × (length cs ≤ n)
+
+module _ {V W C D : Type 0} (content : V → C) (given : W → C) (f : Tree → Option C) (g : Trees → Option D) (vs : List V) (old : State) (first now : Seen) where
   -- an element was refused
-  pub next_completes : (new : Seen) (e : Error) → HasContents f g → OpensAll old first → Reading content f vs first now → ((ts : Trees) (r : List ℕ) → ElementsLeft ts r now → LeavesFewer content f ts r new (Err e))
+  pub next_completes : (new : Seen) (e : Error) → HasContents f g → OpensAll old first → Reading content f vs first now → ((ts : Trees) (r : List ℕ) → ElementsLeft ts r now → LeavesFewer given f ts r new (Err e))
       → Completes {V = Unit {0}} (array_of g) old (Err e)
   next_completes new e parts opens m fewer t r d live reads shallow converts =
       let (ts, is, list, deep) = is_array g old t r d reads shallow converts in
       let (cs, are) = parts ts d is in
       let w = m.left ts r cs are (opens ts r live list deep) in
-      next_refused content f w.trees r new e w.values w.are (fewer w.trees r w.left)
+      next_refused given f w.trees r new e w.values w.are (fewer w.trees r w.left)
 
   -- an element that has to be there was refused
-  pub required_completes : (new : Seen) (e : Error) (n : ℕ) → HasSoMany f g n → length vs < n → OpensAll old first → Reading content f vs first now → ((ts : Trees) (r : List ℕ) → ElementsLeft ts r now → LeavesRequired content f ts r new (Err e))
+  pub required_completes : (new : Seen) (e : Error) (n : ℕ) → HasSoMany f g n → length vs < n → OpensAll old first → Reading content f vs first now → ((ts : Trees) (r : List ℕ) → ElementsLeft ts r now → LeavesRequired given f ts r new (Err e))
       → Completes {V = Unit {0}} (array_of g) old (Err e)
   required_completes new e n parts few opens m fewer t r d live reads shallow converts =
       let (ts, is, list, deep) = is_array g old t r d reads shallow converts in
       let (cs, are, count) = parts ts d is in
       let w = m.left ts r cs are (opens ts r live list deep) in
       let counted = w.counted in
-      required_refused content f w.trees r new e w.values w.are (omega (arith, few, count, counted)) (fewer w.trees r w.left)
+      required_refused given f w.trees r new e w.values w.are (omega (arith, few, count, counted)) (fewer w.trees r w.left)
+
+  -- one more was read than there may be, and is refused
+  pub past_completes : (e : Error) (n : ℕ) → HasAtMost f g n → n < length vs → OpensAll old first → Reading content f vs first now → Completes {V = Unit {0}} (array_of g) old (Err e)
+  past_completes e n parts past opens m t r d live reads shallow converts =
+      let (ts, is, list, deep) = is_array g old t r d reads shallow converts in
+      let (cs, are, few) = parts ts d is in
+      let w = m.left ts r cs are (opens ts r live list deep) in
+      let counted = w.counted in
+      absurd (omega (arith, past, few, counted))
 
   -- the bracket was refused where no element was given
-  pub end_completes : (new : Seen) (e : Error) → HasContents f g → OpensAll old first → Reading content f vs first now → ((ts : Trees) (r : List ℕ) → ElementsLeft ts r now → LeavesFewer content f ts r new (Ok None))
+  pub end_completes : (new : Seen) (e : Error) → HasContents f g → OpensAll old first → Reading content f vs first now → ((ts : Trees) (r : List ℕ) → ElementsLeft ts r now → LeavesFewer given f ts r new (Ok None))
       → ((r : List ℕ) → ElementsLeft no_more r new → IsOk {T = Unit {0}} {E = Error} (Err e)) → Completes {V = Unit {0}} (array_of g) old (Err e)
   end_completes new e parts opens m fewer ends t r d live reads shallow converts =
       let (ts, is, list, deep) = is_array g old t r d reads shallow converts in
       let (cs, are) = parts ts d is in
       let w = m.left ts r cs are (opens ts r live list deep) in
-      absurd (false≢true (ends r (none_left content f w.trees r new (fewer w.trees r w.left))))
+      absurd (false≢true (ends r (none_left given f w.trees r new (fewer w.trees r w.left))))
 
   -- the bracket was refused where all elements were read
   pub last_completes : (e : Error) (n : ℕ) → HasSoMany f g n → length vs ≡ n → OpensAll old first → Reading content f vs first now → ((r : List ℕ) → ElementsLeft no_more r now → IsOk {T = Unit {0}} {E = Error} (Err e))

@@ -1,6 +1,9 @@
 -- What the types of this crate accept of what they read.
-use Rattle.std.specs.Prelude.{◌==◌, ℕ, if◌then◌else◌, nat_lt, List, [], ◌∷◌, Option, Some, None, codes}
+use Rattle.std.specs.Prelude.{◌==◌, ℕ, if◌then◌else◌, nat_lt, length, List, [], ◌∷◌, Option, Some, None, codes}
 use Rattle.std.specs.Str.{bytes_eq}
+use Rattle.json5.specs.Trees.{Tree, Trees}
+use Rattle.json5.specs.Members.{contents}
+use Rattle.json5.specs.Own.{if_more}
 use Rattle.json5_own_type.specs.declared.levels.Level.{Level}
 use Rattle.json5_own_type.specs.declared.levels.Level.TheVariants.{Low, Middle, High}
 
@@ -20,3 +23,11 @@ not_empty (x ∷ xs) = Some (x ∷ xs)
 -- the level of this name
 abbrev pub level_named : List ℕ → Option Level
 level_named s = if bytes_eq s (codes "low") then Some Low else if bytes_eq s (codes "middle") then Some Middle else if bytes_eq s (codes "high") then Some High else None
+
+-- these, where they are at most so many
+abbrev pub if_at_most : {C : Type 0} → ℕ → List C → Option (List C)
+if_at_most n cs = if nat_lt n (length cs) then None else Some cs
+
+-- elements that convert, at most so many
+abbrev pub at_most : {C : Type 0} → ℕ → (Tree → Option C) → Trees → Option (List C)
+at_most n f ts = if_more (if_at_most n) (contents f ts)

@@ -1,6 +1,7 @@
 //! Types of one's own that are read from JSON5, proved lawful by what json5_de promises alone.
 #![tactic(auto)]
 
+mod at_most;
 mod levels;
 mod ports;
 mod tags;
@@ -10,6 +11,7 @@ ghost use Rattle.json5.specs.ErrorCode.TheVariants as codes;
 ghost use Rattle.json5.specs.Law.{IsUnprompted};
 ghost use Rattle.json5.specs.Faults.{EndsWithOrMemory};
 
+pub use at_most::AtMost;
 use json5::de::value_codes;
 use json5::{Deserialize, Deserializer, Error, Input, Result, SeqAccess};
 pub use levels::Level;

@@ -1,7 +1,7 @@
 //! Types of one's own: what they accept, and where they refuse.
 
 use json5::{Deserialize, Result, Spanned, from_str};
-use json5_own_type::{Endpoint, Labels, Level, OpenPort, PortRange};
+use json5_own_type::{AtMost, Endpoint, Labels, Level, OpenPort, PortRange};
 use std::alloc::Global;
 use std::test::Fail;
 
@@ -63,6 +63,26 @@ fn others_are_refused(alloc: Global) -> Result<bool> {
     )
 }
 
+/// Whether a fourth value of at most three is refused where it stands, before what follows it, and three are read.
+fn fourth_is_refused(alloc: Global) -> Result<bool> {
+    let most = from_str::<AtMost<u8, 3>>(alloc, "[1, 2, 3, ]")?;
+    let empty = from_str::<AtMost<u8, 3>>(alloc, "[]")?;
+    Ok(
+        most.values.as_slice() == [1, 2, 3].as_slice()
+            && empty.values.is_empty()
+            && refuses::<AtMost<u8, 3>>(
+                alloc,
+                "[1, 2, 3,\n  4, nothing",
+                "one value too many at line 2 column 3",
+            )?
+            && refuses::<AtMost<OpenPort, 3>>(
+                alloc,
+                "[1, 2, 0]",
+                "port 0 can't be opened at line 1 column 8",
+            )?,
+    )
+}
+
 #[test]
 fn faults_of_own_types_stand_where_the_value_begins(
     rt: HostRuntime,
@@ -70,6 +90,7 @@ fn faults_of_own_types_stand_where_the_value_begins(
     assert!(rt; port_0_is_refused(rt.alloc())?);
     assert!(rt; bad_range_is_refused(rt.alloc())?);
     assert!(rt; others_are_refused(rt.alloc())?);
+    assert!(rt; fourth_is_refused(rt.alloc())?);
     Ok(())
 }
 
