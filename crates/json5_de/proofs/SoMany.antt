@@ -1,7 +1,6 @@
 -- Lists of so many elements.
 use Rattle.std.proofs.Common.{◌≡◌, ℕ, ◌+◌, Bool, true, false, List, [], ◌∷◌, ◌++◌, length, refl, ap, ◌∙◌, arith, Option, Some, None}
 use Rattle.std.specs.Prelude.{◌==◌, if◌then◌else◌}
-use Rattle.std.proofs.lemmas.List.{length-append}
 use Rattle.json5_grammar.specs.Trees.{Tree, Trees}
 use Rattle.json5_grammar.specs.Members.{contents}
 use Rattle.json5_de.specs.ConvertLists.{exactly, if_length}
@@ -30,6 +29,3 @@ so_many f n ts v e = let (are, count) = exactly_parts f n ts v e in (v, are, cou
 
 pub exactly_from : {C : Type 0} (f : Tree → Option C) (n : ℕ) (ts : Trees) (v : List C) → contents f ts ≡ Some v → length v ≡ n → exactly n f ts ≡ Some v
 exactly_from f n ts v e l = rw (e, equal_to (length v) n l) refl
-
-pub counted_more : {V : Type 0} (vs ws : List V) (v : V) (k l : ℕ) → ws ≡ vs ++ v ∷ [] → l ≡ k + 1 → length vs ≡ k → length ws ≡ l
-counted_more vs ws v k l e h c = let more = ap length e ∙ length-append vs (v ∷ []) in omega (arith, more, h, c)
