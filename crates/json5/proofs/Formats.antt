@@ -7,7 +7,7 @@ use Rattle.json5_grammar.specs.Quoting.{quoted_text}
 use Rattle.json5_grammar.specs.Values.{null_text}
 use Rattle.json5_grammar.proofs.Unique.{one_tree}
 use Rattle.json5_text.specs.declared.error.Error.{Error}
-use Rattle.json5_text.specs.Errors.{Kind, code, custom, failed_write, kind_of}
+use Rattle.json5_text.specs.Errors.{FaultKind, code, custom, failed_write, kind_of}
 use Rattle.json5_text.specs.Cursor.{IsOutOfMemory}
 use Rattle.json5_grammar.specs.Trees.{Tree, null, boolean, number, text, array, object}
 use Rattle.json5_grammar.specs.Documents.{Doc}
@@ -58,7 +58,7 @@ formatted x bytes t d doc e w = record {
   same = tree_again 128 (datum_tree d) 0 w.stop ∙ same_tree t d e;
 }
 
-number_stop : (b : Bool) (s : List ℕ) (k : Kind) → StopsAs (cond b (piece s) (stopped no_number)) k → k ≡ code codes_of.OutOfMemory
+number_stop : (b : Bool) (s : List ℕ) (k : FaultKind) → StopsAs (cond b (piece s) (stopped no_number)) k → k ≡ code codes_of.OutOfMemory
 number_stop b s (code codes_of.OutOfMemory) h = refl
 number_stop true s (code codes_of.InvalidKey) h = absurd (cc)
 number_stop false s (code codes_of.InvalidKey) h = absurd (cc)

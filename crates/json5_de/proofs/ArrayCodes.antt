@@ -18,11 +18,8 @@ use Rattle.json5_de.specs.Access.{Closed, NotOpened, no_bracket, text_ends, too_
 use Rattle.json5_de.specs.Seq.{GoesOn, NoNext, no_comma, list_ends, in_blanks_behind}
 use Rattle.json5_de.specs.Faults.{AtEnd, AtOther, IsBehind, RefusedBy}
 use Rattle.json5_de.proofs.Awaited.{Awaited, other_fault}
-use Rattle.json5_de.proofs.Options.{first_same}
-use Rattle.json5_de.proofs.Arrays.{no_bool}
-
-same_sign : (c : ℕ) → (c == c) ≡ true
-same_sign c = grind arith
+use Rattle.std.proofs.lemmas.Bool.{or_parts}
+use Rattle.json5_grammar.proofs.Basics.{same_char, first_same, true_false}
 
 -- ---- what is awaited
 
@@ -43,7 +40,7 @@ awaits_more due = record {
     at_some : (x : List ℕ) (c : ℕ) (r : List ℕ) (reason : Option ErrorCode) (place : Option (List ℕ)) → x ≡ c ∷ r → is_comma_or_closing c ≡ false → NoNext due x reason place → (reason ≡ Some codes.ExpectedComma) × (place ≡ Some [])
     at_some x c r reason place e h (no_comma d q k m n) = (refl, refl)
     at_some x c r reason place e h (list_ends k) = absurd (cc)
-    at_some x c r reason place e h (in_blanks_behind {x = y} k f) = absurd (no_bool {b = true} refl (subst (λ d. is_comma_or_closing d ≡ false) (sym (first_same 0x2C c y r e)) h))
+    at_some x c r reason place e h (in_blanks_behind {x = y} k f) = absurd (true_false {b = true} refl (subst (λ d. is_comma_or_closing d ≡ false) (sym (first_same 0x2C c y r e)) h))
 
 -- where an opening bracket is
 pub awaits_opening : (b : Brackets) (level : ℕ) → Awaited {C = Unit {0}} (NotOpened b level) (λ t. None) (is_opening b) b.ends b.not_opened
@@ -62,7 +59,7 @@ awaits_opening b level = record {
     at_some : (x : List ℕ) (c : ℕ) (r : List ℕ) (reason : Option ErrorCode) (place : Option (List ℕ)) → x ≡ c ∷ r → is_opening b c ≡ false → NotOpened b level x reason place → (reason ≡ Some b.not_opened) × (place ≡ Some [])
     at_some x c r reason place e h (no_bracket d q n) = (refl, refl)
     at_some x c r reason place e h text_ends = absurd (cc)
-    at_some x c r reason place e h (too_deep q full) = absurd (no_bool (same_sign b.opening) (subst (λ d. is_opening b d ≡ false) (sym (first_same b.opening c q r e)) h))
+    at_some x c r reason place e h (too_deep q full) = absurd (true_false (same_char b.opening) (subst (λ d. is_opening b d ≡ false) (sym (first_same b.opening c q r e)) h))
 
 -- one more bracket than may be open
 awaits_room : (b : Brackets) (level : ℕ) → Awaited {C = Unit {0}} (NotOpened b level) (λ t. None) (λ c. not (is_opening b c)) b.ends codes.TooDeep
@@ -79,7 +76,7 @@ awaits_room b level = record {
     at_none x reason place e (too_deep r full) = absurd (cc)
 
     at_some : (x : List ℕ) (c : ℕ) (r : List ℕ) (reason : Option ErrorCode) (place : Option (List ℕ)) → x ≡ c ∷ r → not (is_opening b c) ≡ false → NotOpened b level x reason place → (reason ≡ Some codes.TooDeep) × (place ≡ Some [])
-    at_some x c r reason place e h (no_bracket d q n) = absurd (no_bool {b = true} refl (subst (λ t. not t ≡ false) (subst (λ k. is_opening b k ≡ false) (first_same d c q r e) n) h))
+    at_some x c r reason place e h (no_bracket d q n) = absurd (true_false {b = true} refl (subst (λ t. not t ≡ false) (subst (λ k. is_opening b k ≡ false) (first_same d c q r e) n) h))
     at_some x c r reason place e h text_ends = absurd (cc)
     at_some x c r reason place e h (too_deep q full) = (refl, refl)
 
@@ -104,7 +101,7 @@ awaits_closing b due = record {
     at_some : (x : List ℕ) (c : ℕ) (r : List ℕ) (reason : Option ErrorCode) (place : Option (List ℕ)) → x ≡ c ∷ r → begins_close b due c ≡ false → NotClosed b due x reason place → (reason ≡ Some b.not_closed) × (place ≡ Some [])
     at_some x c r reason place e h (not_here (other_sign d q n m)) = (refl, refl)
     at_some x c r reason place e h (not_here bracket_missing) = absurd (cc)
-    at_some x c r reason place e h (behind_comma {x = y} d f) = absurd (no_bool (at_comma due d) (subst (λ k. begins_close b due k ≡ false) (sym (first_same 0x2C c y r e)) h))
+    at_some x c r reason place e h (behind_comma {x = y} d f) = absurd (true_false (at_comma due d) (subst (λ k. begins_close b due k ≡ false) (sym (first_same 0x2C c y r e)) h))
 
 -- ---- where nothing goes on
 
@@ -113,10 +110,6 @@ end_no_sign sign s r h (live, l) k = no_sign sign s.unread s.unread [] r h (sym 
 
 pub other_no_sign : {begins : ℕ → Bool} (sign : ℕ) (s : State) (w r : List ℕ) → is_solid sign ≡ true → (o : AtOther begins s w) → (o.char == sign) ≡ false → IsSign sign s.unread r → ⊥
 other_no_sign sign s w r h o n k = no_sign sign s.unread w (o.char ∷ o.more) r h o.split (Gap.blanks o.blank) (begins_solid o.char o.more o.solid) n k
-
-pub either_false : (a b : Bool) → (a || b) ≡ false → (a ≡ false) × (b ≡ false)
-either_false true b h = absurd (cc)
-either_false false b h = (refl, h)
 
 -- what went on began with a comma or the bracket
 went_on : (due more : Bool) (old new : State) → due ≡ true → GoesOn due old new more → ((z : List ℕ) × IsSign 0x2C old.unread z) ⊎ ((z : List ℕ) × IsSign 0x5D old.unread z)
@@ -136,7 +129,7 @@ end_goes_nowhere due more old new d at k = elim (went_on due more old new d k) [
 
 pub other_goes_nowhere : (due more : Bool) (old new : State) (w : List ℕ) → due ≡ true → AtOther is_comma_or_closing old w → GoesOn due old new more → ⊥
 other_goes_nowhere due more old new w d o k =
-    let neither = either_false (o.char == 0x2C) (o.char == 0x5D) o.other in
+    let neither = or_parts (o.char == 0x2C) (o.char == 0x5D) o.other in
     elim (went_on due more old new d k) [
       | inl z ↦ other_no_sign 0x2C old w z.0 comma_solid o neither.0 z.1
       | inr z ↦ other_no_sign 0x5D old w z.0 bracket_solid o neither.1 z.1
@@ -151,7 +144,7 @@ end_not_closed b k due old new at c = by due c.close
     by true (inr (y, comma, c)) = end_no_sign 0x2C old y comma_solid at comma
 
 pub other_not_closed : (b : Brackets) → AreSigns b → (due : Bool) (old new : State) (w : List ℕ) → AtOther (begins_close b due) old w → Closed b due old new → ⊥
-other_not_closed b k due old new w o c = by due (either_false (o.char == b.closing) (due && (o.char == 0x2C)) o.other) c.close
+other_not_closed b k due old new w o c = by due (or_parts (o.char == b.closing) (due && (o.char == 0x2C)) o.other) c.close
   where
     by : (d : Bool) → ((o.char == b.closing) ≡ false) × ((d && (o.char == 0x2C)) ≡ false) → IsEnd b.closing d old.unread new.unread → ⊥
     by false n c = other_no_sign b.closing old w new.unread k.closing o n.0 c
@@ -162,4 +155,4 @@ other_not_closed b k due old new w o c = by due (either_false (o.char == b.closi
 
 pub full_fault : (b : Brackets) → AreSigns b → (old : State) (e : Error) (w : List ℕ) → AtFull b old w → RefusedBy (NotOpened b old.level) old e → IsBehind codes.TooDeep old w e
 full_fault b k old e w at f =
-    other_fault (awaits_room b old.level) old e w (record { live = at.live; blank = at.blank; char = b.opening; more = at.more; split = at.split; solid = k.opening; other = ap not (same_sign b.opening) }) f
+    other_fault (awaits_room b old.level) old e w (record { live = at.live; blank = at.blank; char = b.opening; more = at.more; split = at.split; solid = k.opening; other = ap not (same_char b.opening) }) f

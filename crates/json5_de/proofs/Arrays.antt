@@ -29,6 +29,7 @@ use Rattle.json5_de.specs.Seq.{IsBehindGap, Begun, AtElement, GoesOn, NoNext, no
 use Rattle.json5_de.specs.Faults.{Behind, in_blanks, behind_gap, RefusedBy}
 use Rattle.json5_de.proofs.Taken.{refused_token}
 use Rattle.json5_de.proofs.Places.{some_next, refused_as, refused_behind}
+use Rattle.json5_grammar.proofs.Basics.{same_char, true_false}
 
 pub failed_of : {s t : State} → s ≡ t → s.failed ≡ t.failed
 failed_of e = ap (λ (s : State). s.failed) e
@@ -142,9 +143,6 @@ square_signs = record {
   other_not_closed = λ e. absurd (cc);
 }
 
-pub no_bool : {b : Bool} → b ≡ true → b ≡ false → ⊥
-no_bool h k = let e : true ≡ false = sym h ∙ k in absurd (cc)
-
 -- one open bracket too many
 pub too_deep_here : (b : Brackets) (level : ℕ) (s next : State) (e : Error) (p : Position) → level ≡ max_depth → TookText s (b.opening ∷ []) next → kind_of e ≡ code codes.TooDeep → place_of e ≡ Some p
     → ((before : List ℕ) → s.input ≡ before ++ s.unread → p ≡ position_behind before) → Refused (NotOpened b level) (cursor_of s) e
@@ -197,7 +195,7 @@ pub refused_bracket_behind : (b : Brackets) (due : Bool) (s mid next far : State
     → Refused (Unawaited b.ends b.not_closed) (cursor_of far) e × NotBegun (λ c. c == b.closing) far.unread → RefusedBy (NotClosed b due) s e
 refused_bracket_behind b due s mid next far e d p took q (f, n) =
     let there : Refused (Behind (NoBracket b false)) (cursor_of next) e =
-    refused_token next far e q (refused_as far far e refl (λ reason place k. no_bracket_here b false far.unread reason place (λ is. absurd (no_bool is refl)) n k) f) q.live in
+    refused_token next far e q (refused_as far far e refl (λ reason place k. no_bracket_here b false far.unread reason place (λ is. absurd (true_false is refl)) n k) f) q.live in
     refused_token s mid e p (refused_behind mid next e (0x2C ∷ []) took (λ reason place k. comma_before d k) there)
 
 -- a faulty comment behind the comma
@@ -208,10 +206,7 @@ refused_blanks_behind b due s mid next e d p took f =
 -- ---- no opening
 
 opens_begun : (b : Brackets) (level : ℕ) (x r : List ℕ) (reason : Option ErrorCode) (place : Option (List ℕ)) → x ≡ b.opening ∷ r → level < max_depth → NotOpened b level x reason place → ⊥
-opens_begun b level x r reason place e room (no_bracket c q n) = let same : c ≡ b.opening = cc in no_bool (ap (λ d. d == b.opening) same ∙ same_sign b.opening) n
-  where
-    same_sign : (c : ℕ) → (c == c) ≡ true
-    same_sign c = grind arith
+opens_begun b level x r reason place e room (no_bracket c q n) = let same : c ≡ b.opening = cc in true_false (ap (λ d. d == b.opening) same ∙ same_char b.opening) n
 opens_begun b level x r reason place e room text_ends = absurd (cc)
 opens_begun b level x r reason place e room (too_deep q full) = omega (arith, room, full)
 

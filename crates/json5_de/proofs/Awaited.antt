@@ -16,6 +16,7 @@ use Rattle.json5_text.specs.Tokens.{FaultyBlanks}
 use Rattle.json5_de.specs.State.{State, cursor_of}
 use Rattle.json5_de.specs.Law.{Gives, Completes, IsOkOrMemory}
 use Rattle.json5_de.specs.Faults.{Behind, in_blanks, behind_gap, RefusedBy, RefusedByOrMemory, IsUnplaced, IsBehind, AtEnd, AtOther, EndsWith, EndsWithOrMemory, DiffersWith, DiffersWithOrMemory}
+use Rattle.json5_grammar.proofs.Basics.{first_same, true_false}
 
 -- a kind of value: what is refused where one is awaited, its trees, what begins one, and the codes at the end and at another character
 pub record Awaited {C : Type 0} (IsFault : List ℕ → Option ErrorCode → Option (List ℕ) → Type 0) (convert : Tree → Option C) (begins : ℕ → Bool) (ends differs : ErrorCode) : Type 0 where
@@ -25,9 +26,6 @@ pub record Awaited {C : Type 0} (IsFault : List ℕ → Option ErrorCode → Opt
   pub first : (s : List ℕ) (t : Tree) (v : C) → convert t ≡ Some v → Val s t → (c : ℕ) × (y : List ℕ) × (s ≡ c ∷ y) × (begins c ≡ true)
 
 -- ---- gaps
-
-same_first : (c d : ℕ) (x y : List ℕ) → c ∷ x ≡ d ∷ y → c ≡ d
-same_first c d x y e = cc
 
 -- blanks to the end have no fault
 pub no_end_fault : (x : List ℕ) (reason : Option ErrorCode) (place : Option (List ℕ)) → LastBlanks x → FaultyBlanks x reason place → ⊥
@@ -69,9 +67,6 @@ end_no_value x r t l h =
     let none : head.char ∷ (head.more ++ r) ≡ [] = sym (ap (λ z. z ++ r) head.is) ∙ gap.1 in
     absurd (cc)
 
-true_false : {b : Bool} → b ≡ true → b ≡ false → ⊥
-true_false h k = let e : true ≡ false = sym h ∙ k in absurd (cc)
-
 -- behind the blanks stands a character that begins no value of the kind
 pub other_no_value : {C : Type 0} {F : List ℕ → Option ErrorCode → Option (List ℕ) → Type 0} {convert : Tree → Option C} {begins : ℕ → Bool} {ends differs : ErrorCode} → Awaited F convert begins ends differs
     → (x w q r : List ℕ) (c : ℕ) (t : Tree) (v : C) → Blanks w → is_solid c ≡ true → begins c ≡ false → x ≡ w ++ c ∷ q → convert t ≡ Some v → Reads x t r → ⊥
@@ -79,7 +74,7 @@ other_no_value {begins = begins} a x w q r c t v b s n e k h =
     let gap = gap_before w h.front (h.phrase ++ r) c q b s (Gap.blanks h.blank) (value_solid r (val_head h.value)) (sym e ∙ h.split) in
     let (d, y, is, begun) = a.first h.phrase t v k h.value in
     let same : d ∷ (y ++ r) ≡ c ∷ q = sym (ap (λ z. z ++ r) is) ∙ gap.1 in
-    true_false (subst (λ z. begins z ≡ true) (same_first d c (y ++ r) q same) begun) n
+    true_false (subst (λ z. begins z ≡ true) (first_same d c (y ++ r) q same) begun) n
 
 -- ---- what a refusal says
 
@@ -132,7 +127,3 @@ pub completes_or_memory : {V C : Type 0} {F : List ℕ → Option ErrorCode → 
 completes_or_memory a old (Ok v) k t r c live reads shallow is = tt
 completes_or_memory a old (Err e) (inl m) t r c live reads shallow is = m
 completes_or_memory a old (Err e) (inr k) t r c live reads shallow is = absurd (wrongly_refused a old e t r c live reads is k)
-
-pub or_memory : {V : Type 0} (result : Result V Error) → IsOk result → IsOkOrMemory result
-or_memory (Ok v) h = tt
-or_memory (Err e) h = absurd (cc)

@@ -12,6 +12,7 @@ use Rattle.json5_de.specs.Convert.{unit_of, bool_of}
 use Rattle.json5_de.specs.Faults.{FaultyNull, FaultyBool}
 use Rattle.json5_de.proofs.Awaited.{Awaited}
 use Rattle.json5_de.proofs.Words.{word_end, word_other, word_no_fault}
+use Rattle.std.proofs.lemmas.Bool.{or_parts}
 
 -- ---- null
 
@@ -44,10 +45,6 @@ awaits_null = record {
 
 -- ---- booleans
 
-neither : (a b : Bool) → (a || b) ≡ false → (a ≡ false) × (b ≡ false)
-neither true b h = absurd (cc)
-neither false b h = (refl, h)
-
 bool_phrase : {s : List ℕ} {t : Tree} (v : Bool) → bool_of t ≡ Some v → Val s t → (s ≡ true_text) ⊎ (s ≡ false_text)
 bool_phrase v e is_null = absurd (cc)
 bool_phrase v e is_true = inl refl
@@ -61,7 +58,7 @@ bool_phrase v e (is_object m) = absurd (cc)
 
 other_bool : (c : ℕ) (r : List ℕ) (reason : Option ErrorCode) (place : Option (List ℕ)) → ((c == 0x74) || (c == 0x66)) ≡ false → FaultyBool (c ∷ r) reason place → (reason ≡ Some codes_of.ExpectedBool) × (place ≡ Some [])
 other_bool c r reason place h f =
-    let both = neither (c == 0x74) (c == 0x66) h in
+    let both = or_parts (c == 0x74) (c == 0x66) h in
     word_other 0x74 (codes "rue") c r (c ∷ r) reason place (neq_from c 0x74 both.0) refl
     (subst (λ b. FaultyWord (if b then false_text else true_text) codes_of.EofParsingBool codes_of.ExpectedBool (c ∷ r) reason place) both.1 f)
 

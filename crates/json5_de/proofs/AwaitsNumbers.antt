@@ -18,24 +18,16 @@ use Rattle.json5_text.specs.Tokens.{FaultyNumber, faulty, no_number, number_miss
 use Rattle.json5_de.specs.Convert.{as_number}
 use Rattle.json5_de.specs.Faults.{NotNumber, faulty_number, other_number}
 use Rattle.json5_de.proofs.Awaited.{Awaited}
-use Rattle.json5_de.proofs.Words.{cons_same}
+use Rattle.std.proofs.lemmas.Bool.{or_parts}
+use Rattle.json5_grammar.proofs.Basics.{first_same, true_false, none_some}
+use Rattle.json5_grammar.proofs.Refusals.{same_bad}
 
 number_none : reading.number [] ≡ bad (Some EofParsingNumber) inner
 unfolding reading.number
 number_none = refl
 
-either_false : (a b : Bool) → (a || b) ≡ false → (a ≡ false) × (b ≡ false)
-either_false true b h = absurd (cc)
-either_false false b h = (refl, h)
-
 number_other : (c : ℕ) (r : List ℕ) → (is_sign c || begins_number c) ≡ false → reading.number (c ∷ r) ≡ bad (Some ExpectedNumber) (here (c ∷ r))
-number_other c r h = let k = either_false (is_sign c) (begins_number c) h in number_unsigned c r no_sign k.0 ∙ unsigned_bad (c ∷ r) false c r k.1
-
-same_bad : (a : Read Number) (e d : Option ErrorCode) (p q : Place) → a ≡ bad e p → a ≡ bad d q → (e ≡ d) × (p ≡ q)
-same_bad a e d p q h k = (cc, cc)
-
-not_begun : {A : Type 0} (b : Bool) → b ≡ true → b ≡ false → A
-not_begun b h k = let e : true ≡ false = sym h ∙ k in absurd (cc)
+number_other c r h = let k = or_parts (is_sign c) (begins_number c) h in number_unsigned c r no_sign k.0 ∙ unsigned_bad (c ∷ r) false c r k.1
 
 -- a number isn't empty
 not_empty : {s : List ℕ} {n : Number} {A : Type 0} (r : List ℕ) → Num s n → s ++ r ≡ [] → A
@@ -45,8 +37,8 @@ not_empty r k e = let (c, t, is, h) = number_head k in let none : c ∷ (t ++ r)
 begins_as : {s : List ℕ} {n : Number} {A : Type 0} (r : List ℕ) (d : ℕ) (y : List ℕ) → Num s n → s ++ r ≡ d ∷ y → (is_sign d || begins_number d) ≡ false → A
 begins_as r d y k e other =
     let (c, t, is, h) = number_head k in
-    let same : c ≡ d = cons_same c d (t ++ r) y (sym (ap (λ z. z ++ r) is) ∙ e) in
-    not_begun (is_sign d || begins_number d) (subst (λ z. (is_sign z || begins_number z) ≡ true) same h) other
+    let same : c ≡ d = first_same c d (t ++ r) y (sym (ap (λ z. z ++ r) is) ∙ e) in
+    true_false (subst (λ z. (is_sign z || begins_number z) ≡ true) same h) other
 
 end_faulty : (x : List ℕ) (reason : Option ErrorCode) (place : Option (List ℕ)) → x ≡ [] → FaultyNumber x reason place → (reason ≡ Some EofParsingNumber) × (place ≡ None)
 end_faulty x reason place e (faulty f) =
@@ -91,9 +83,6 @@ other_begin : {C : Type 0} (f : Number → Option C) (x : List ℕ) (c : ℕ) (r
     → (reason ≡ Some ExpectedNumber) × (place ≡ Some [])
 other_begin f x c r reason place e h (faulty_number k) = other_faulty x c r reason place e h k
 other_begin f x c r reason place e h (other_number y k stops none) = begins_as y c r k e h
-
-pub none_some : {C : Type 0} {A : Type 0} (o : Option C) (v : C) → o ≡ None → o ≡ Some v → A
-none_some o v e h = absurd (cc)
 
 not_number : {C : Type 0} (f : Number → Option C) {s : List ℕ} {n : Number} (v : C) (x r : List ℕ) (reason : Option ErrorCode) (place : Option (List ℕ)) → x ≡ s ++ r → Num s n → f n ≡ Some v → Stops s r → NotNumber f x reason place → ⊥
 not_number f v x r reason place e k is stops (faulty_number g) = not_faulty x r reason place e k stops g

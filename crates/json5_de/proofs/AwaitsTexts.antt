@@ -11,19 +11,13 @@ use Rattle.json5_grammar.specs.Stops.{lengthens}
 use Rattle.json5_grammar.specs.Characters.{NotBegun}
 use Rattle.json5_grammar.specs.Trees.{Tree}
 use Rattle.json5_grammar.specs.Values.{Val, Stops, is_null, is_true, is_false, is_number, is_text, is_empty_array, is_array, is_empty_object, is_object}
-use Rattle.json5_grammar.proofs.Basics.{eq_from}
+use Rattle.json5_grammar.proofs.Basics.{eq_from, first_same, true_false, none_some}
 use Rattle.json5_grammar.proofs.StringsRead.{no_string_fault, one_string}
 use Rattle.json5_text.specs.Tokens.{FaultyString, faulty, no_quote, string_missing}
 use Rattle.json5_de.specs.Convert.{as_text}
 use Rattle.json5_de.specs.Faults.{NotText, faulty_text, other_text}
 use Rattle.json5_de.proofs.Awaited.{Awaited}
-use Rattle.json5_de.proofs.Words.{cons_same}
-
-same_bad : {A : Type 0} (a : Read A) (e d : Option ErrorCode) (p q : Place) → a ≡ bad e p → a ≡ bad d q → (e ≡ d) × (p ≡ q)
-same_bad a e d p q h k = (cc, cc)
-
-not_both : {A : Type 0} (b : Bool) → b ≡ true → b ≡ false → A
-not_both b h k = let e : true ≡ false = sym h ∙ k in absurd (cc)
+use Rattle.json5_grammar.proofs.Refusals.{same_bad}
 
 -- x begins with a quote
 abbrev Quoted : List ℕ → Type 0
@@ -45,8 +39,8 @@ quoted_none x e (q, y, is, k) = let none : q ∷ y ≡ [] = sym is ∙ e in absu
 
 quoted_other : {A : Type 0} (x : List ℕ) (c : ℕ) (r : List ℕ) → x ≡ c ∷ r → is_quote c ≡ false → Quoted x → A
 quoted_other x c r e h (q, y, is, k) =
-    let same : q ≡ c = cons_same q c y r (sym is ∙ e) in
-    not_both (is_quote c) (subst (λ z. is_quote z ≡ true) same k) h
+    let same : q ≡ c = first_same q c y r (sym is ∙ e) in
+    true_false (subst (λ z. is_quote z ≡ true) same k) h
 
 end_faulty : (x : List ℕ) (reason : Option ErrorCode) (place : Option (List ℕ)) → x ≡ [] → FaultyString x reason place → (reason ≡ Some EofParsingString) × (place ≡ None)
 end_faulty x reason place e (faulty f) = quoted_none x e (fault_quote f)
@@ -82,9 +76,6 @@ other_begin : {C : Type 0} (f : List ℕ → Bool → Option C) (x : List ℕ) (
     → (reason ≡ Some ExpectedString) × (place ≡ Some [])
 other_begin f x c r reason place e h (faulty_text k) = other_faulty x c r reason place e h k
 other_begin f x c r reason place e h (other_text y k none) = quoted_other x c r e h (quoted_more y (text_quote k))
-
-none_some : {C : Type 0} {A : Type 0} (o : Option C) (v : C) → o ≡ None → o ≡ Some v → A
-none_some o v e h = absurd (cc)
 
 not_text : {C : Type 0} (f : List ℕ → Bool → Option C) {s u : List ℕ} {plain : Bool} (v : C) (x r : List ℕ) (reason : Option ErrorCode) (place : Option (List ℕ)) → x ≡ s ++ r → Str s u plain → f u plain ≡ Some v → NotText f x reason place → ⊥
 not_text f v x r reason place e k is (faulty_text g) = not_faulty x r reason place e k g

@@ -13,6 +13,8 @@ use Rattle.json5_de.specs.Law.{TookValue, Gives, Completes}
 use Rattle.json5_de.specs.Faults.{Behind, AtEnd, RefusedBy, Trailing}
 use Rattle.json5_de.specs.Texts.{at_start}
 use Rattle.json5_de.proofs.Taken.{input_of}
+use Rattle.std.proofs.lemmas.Option.{same_Some}
+use Rattle.json5_de.proofs.Arrays.{failed_of}
 
 -- what was read up to the end is a document
 pub read_document : (s mid : State) (x : List ℕ) (t : Tree) → s ≡ at_start x → TookValue s t mid → AtEnd mid → Doc max_depth x t
@@ -38,9 +40,6 @@ readable s x t e doc =
       last = last;
       shallow = let level = ap (λ (s : State). s.level) e in omega (arith, level, shallow);
     }
-
-failed_of : {s t : State} → s ≡ t → s.failed ≡ t.failed
-failed_of e = ap (λ (s : State). s.failed) e
 
 -- what was read of a document is its tree, and nothing but blanks follows
 pub the_document : (s mid : State) (x : List ℕ) (t u : Tree) → s ≡ at_start x → Doc max_depth x t → TookValue s u mid → (t ≡ u) × AtEnd mid
@@ -76,13 +75,10 @@ blames_rest s mid x t u r e is reads took f =
 
 -- ---- one answer
 
-some_same : {C : Type 0} (a b : C) → Some a ≡ Some b → a ≡ b
-some_same a b e = cc
-
 -- two values that may be given for one text have the same content, and leave the same
 pub same_answer : {V C : Type 0} (content : V → C) (convert : Tree → Option C) (old new last : State) (v w : V) → Gives content convert old new v → Gives content convert old last w → (content v ≡ content w) × (new ≡ last)
 same_answer content convert old new last v w (t, a, is) (u, b, other) =
     let (tree, rest) = one_phrase old.unread new.unread last.unread t u a.reads b.reads in (
-      some_same (content v) (content w) (sym is ∙ ap convert tree ∙ other),
+      same_Some (content v) (content w) (sym is ∙ ap convert tree ∙ other),
       a.rest ∙ ap (λ x. record old { unread = x }) rest ∙ sym b.rest,
     )

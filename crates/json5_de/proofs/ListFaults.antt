@@ -9,7 +9,7 @@ use Rattle.json5_text.specs.declared.error.Error.{Error}
 use Rattle.json5_de.specs.State.{State}
 use Rattle.json5_de.specs.Access.{Seen, OpensArray, ClosesArray, AtClose, ElementsRead, ReadsMore}
 use Rattle.json5_de.specs.Lists.{Element, Elements, element, every, count, Accepted, Within, Shape, HasPlace, ListFault, not_opened, at_element, too_few, RefusesRequired, at_fault, missing, RefusesList}
-use Rattle.json5_de.proofs.Arrays.{no_bool}
+use Rattle.json5_grammar.proofs.Basics.{true_false}
 
 -- ---- elements that convert
 
@@ -69,11 +69,8 @@ reading es old now n w = ap (λ (s : State). s.failed) w.read.rest ∙ w.read.li
 
 -- ---- why it is refused
 
-pub unopened : {A : Type 0} (es : Elements) (shape : Shape) (seen : A → Seen) (old : State) (e : Error) (new : State) → OpensArray seen old (Err e) → new.failed ≡ true → RefusesList es shape old e new
-unopened es shape seen old e new opens failed = record { cause = λ live. not_opened opens.bracket.refused; failed = failed; before = opens.bracket.before }
-
 pub refuses_list : (es : Elements) (shape : Shape) (old : State) (e : Error) (new : State) → old.failed ≡ false → new.failed ≡ true → ListFault es shape old e → RefusesList es shape old e new
-refuses_list es shape old e new live failed fault = record { cause = λ l. fault; failed = failed; before = λ h. absurd (no_bool h live) }
+refuses_list es shape old e new live failed fault = record { cause = λ l. fault; failed = failed; before = λ h. absurd (true_false h live) }
 
 pub required_fault : (es : Elements) (shape : Shape) (old : State) (e : Error) (now : Seen) (n size : ℕ) → shape.size ≡ Some size → n < size → Within es old now n → RefusesRequired (es n).refuses now e → ListFault es shape old e
 required_fault es shape old e now n size is few w (at_fault f) = at_element now n w (subst (λ s. HasPlace s n) (sym is) few) f

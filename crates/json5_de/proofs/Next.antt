@@ -14,8 +14,9 @@ use Rattle.json5_de.specs.Access.{Seen, bare, Opened, TookElement, AtClose, Give
 use Rattle.json5_de.specs.Brackets.{square}
 use Rattle.json5_de.specs.Seq.{RefusesElement, not_reached, in_element, RefusesNext}
 use Rattle.json5_de.proofs.Awaited.{end_fault, other_fault}
-use Rattle.json5_de.proofs.Arrays.{no_bool}
-use Rattle.json5_de.proofs.ArrayCodes.{awaits_more, end_no_sign, other_no_sign, either_false, end_goes_nowhere, other_goes_nowhere}
+use Rattle.json5_de.proofs.ArrayCodes.{awaits_more, end_no_sign, other_no_sign, end_goes_nowhere, other_goes_nowhere}
+use Rattle.std.proofs.lemmas.Bool.{or_parts}
+use Rattle.json5_grammar.proofs.Basics.{true_false}
 
 -- ---- the flag that blocks the reader
 
@@ -59,12 +60,12 @@ end_no_element content convert old new None d at (close, due) = absurd (end_goes
 
 other_no_element : {V C : Type 0} {A : Type 0} (content : V → C) (convert : Tree → Option C) (old new : Seen) (o : Option V) (w : List ℕ) → old.due ≡ true → AtOther is_comma_or_closing old.reader w → GivesElement content convert old new o → A
 other_no_element content convert old new (Some v) w d at (t, took, due, is) =
-    absurd (let (z, comma, reads) = starts_with_comma old.due old.reader.unread new.reader.unread t d took.element in other_no_sign 0x2C old.reader w z comma_solid at (either_false (at.char == 0x2C) (at.char == 0x5D) at.other).0 comma)
+    absurd (let (z, comma, reads) = starts_with_comma old.due old.reader.unread new.reader.unread t d took.element in other_no_sign 0x2C old.reader w z comma_solid at (or_parts (at.char == 0x2C) (at.char == 0x5D) at.other).0 comma)
 other_no_element content convert old new None w d at (close, due) = absurd (other_goes_nowhere old.due false old.reader new.reader w d at close)
 
 gives_live : {V C : Type 0} {A : Type 0} (content : V → C) (convert : Tree → Option C) (old new : Seen) (o : Option V) → old.reader.failed ≡ true → GivesElement content convert old new o → A
-gives_live content convert old new (Some v) h (t, took, due, is) = absurd (no_bool h took.live)
-gives_live content convert old new None h (close, due) = absurd (no_bool h close.live)
+gives_live content convert old new (Some v) h (t, took, due, is) = absurd (true_false h took.live)
+gives_live content convert old new None h (close, due) = absurd (true_false h close.live)
 
 pub gives_next : {V C : Type 0} (content : V → C) (convert : Tree → Option C) (refuses : State → Error → State → Type 0) (old new : Seen) (o : Option V) → GivesElement content convert old new o → RefusesNext refuses old new (Ok o)
 gives_next content convert refuses old new o gives = record {

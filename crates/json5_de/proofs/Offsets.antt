@@ -7,7 +7,7 @@ use Rattle.json5_text.specs.Cursor.{Cursor, offset_of}
 use Rattle.json5_de.specs.State.{State}
 use Rattle.json5_de.specs.Steps.{IsOffset}
 
-bytes_apart : (x y : List ℕ) → length (encode_utf8_all (x ++ y)) ≡ length (encode_utf8_all x) + length (encode_utf8_all y)
+pub bytes_apart : (x y : List ℕ) → length (encode_utf8_all (x ++ y)) ≡ length (encode_utf8_all x) + length (encode_utf8_all y)
 bytes_apart x y = ap length (encodes-append x y) ∙ length-append (encode_utf8_all x) (encode_utf8_all y)
 
 counted_before : (input unread before : List ℕ) (offset : ℕ) → offset ≡ length (encode_utf8_all input) - length (encode_utf8_all unread) → input ≡ before ++ unread → offset ≡ length (encode_utf8_all before)

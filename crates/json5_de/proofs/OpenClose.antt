@@ -16,8 +16,9 @@ use Rattle.json5_de.specs.Steps.{PassedGap, TookText}
 use Rattle.json5_de.proofs.Taken.{input_of}
 use Rattle.json5_de.proofs.OtherCodes.{opening_lacks, closing_lacks}
 use Rattle.json5_de.proofs.Rows.{refused_other}
-use Rattle.json5_de.proofs.Arrays.{no_bool, opening_refused, only_read, level_of, unread_of, sign_next, behind_gap_of}
+use Rattle.json5_de.proofs.Arrays.{opening_refused, only_read, level_of, unread_of, sign_next, behind_gap_of}
 use Rattle.json5_de.proofs.ArrayCodes.{awaits_opening, awaits_closing, full_fault, end_no_sign, other_no_sign, end_not_closed, other_not_closed}
+use Rattle.json5_grammar.proofs.Basics.{true_false}
 
 pub opens : {A : Type 0} (b : Brackets) → AreSigns b → (seen : A → Seen) (old : State) (a : A) → Opened b old (seen a).reader → (seen a).due ≡ false
     → ((before : List ℕ) → old.input ≡ before ++ b.opening ∷ (seen a).reader.unread → (seen a).start ≡ length (encode_utf8_all before)) → OpensAs b seen old (Ok a)
@@ -30,7 +31,7 @@ opens b k seen old a o due start = record {
   differs = λ w at. absurd (other_no_sign b.opening old w (seen a).reader.unread k.opening at at.other o.bracket);
   too_deep = λ w at. let room = o.room in let full = at.full in absurd (omega (arith, room, full));
   unprompted = tt;
-  before = λ h. absurd (no_bool h o.live);
+  before = λ h. absurd (true_false h o.live);
 }
 
 pub refuses_opening : {A : Type 0} (b : Brackets) → AreSigns b → (seen : A → Seen) (old : State) (e : Error) → RefusedBy (NotOpened b old.level) old e → (old.failed ≡ true → IsUnplaced codes.Failed e) → OpensAs b seen old (Err e)
@@ -58,7 +59,7 @@ closes b k due old new c = record {
   ends = λ at. absurd (end_not_closed b k due old new at c);
   differs = λ w o. absurd (other_not_closed b k due old new w o c);
   unprompted = tt;
-  before = λ h. absurd (no_bool h c.live);
+  before = λ h. absurd (true_false h c.live);
 }
 
 pub refuses_closing : (b : Brackets) → AreSigns b → (due : Bool) (old new : State) (e : Error) → RefusedBy (NotClosed b due) old e → ((r : List ℕ) → old.failed ≡ false → IsEnd b.closing due old.unread r → IsOk {T = Unit {0}} {E = Error} (Err e)) → (old.failed ≡ true → IsUnplaced codes.Failed e) → ClosesAs b due old new (Err e)

@@ -28,13 +28,11 @@ use Rattle.json5_de.specs.Faults.{AtEnd, AtOther, RefusedBy, IsUnplaced, FaultyN
 use Rattle.json5_de.specs.Steps.{PassedGap}
 use Rattle.json5_de.specs.Access.{Unawaited, at_end, at_char}
 use Rattle.json5_de.proofs.Awaited.{Awaited}
-use Rattle.json5_de.proofs.Arrays.{only_read, level_of, no_bool}
+use Rattle.json5_de.proofs.Arrays.{only_read, level_of}
 use Rattle.json5_de.proofs.Taken.{input_of, refused_token}
 use Rattle.json5_de.proofs.OtherCodes.{option_lacks}
 use Rattle.json5_de.proofs.Rows.{refused_other}
-
-pub first_same : (c d : ℕ) (x y : List ℕ) → c ∷ x ≡ d ∷ y → c ≡ d
-first_same c d x y e = cc
+use Rattle.json5_grammar.proofs.Basics.{first_same, true_false}
 
 pub not_nil : (c : ℕ) (x y : List ℕ) → y ≡ c ∷ x → y ≡ [] → ⊥
 not_nil c x y e k = let none : c ∷ x ≡ [] = sym e ∙ k in absurd (cc)
@@ -62,19 +60,9 @@ awaits_nothing {ends = ends} {differs = differs} begins = record {
 pub blanks_no_value : (s : State) (e : Error) (t : Tree) (r : List ℕ) → Refused FaultyBlanks (cursor_of s) e → Reads s.unread t r → ⊥
 blanks_no_value s e t r f p = let (b, part, shown, fault) = f.fault in no_reads_in_blanks s.unread b part r t f.reason f.place shown fault p
 
--- nor before a character that stands there
-pub blanks_no_other : {begins : ℕ → Bool} (s : State) (e : Error) (w : List ℕ) → Refused FaultyBlanks (cursor_of s) e → AtOther begins s w → ⊥
-blanks_no_other s e w f o =
-    let (b, part, shown, fault) = f.fault in
-    no_blank_fault (Gap.blanks o.blank) (begins_solid o.char o.more o.solid) (subst (λ x. BlankFault x f.reason f.place b part shown) o.split fault)
-
 -- at the end nothing is next
 pub end_next : (s mid : State) (c : ℕ) (m : List ℕ) → AtEnd s → PassedGap s mid → mid.unread ≡ c ∷ m → ⊥
 end_next s mid c m at p e = not_nil c m mid.unread e (gap_last s.unread p.gap mid.unread at.1 p.is_gap p.solid p.split).1
-
--- the character that stands there is next
-pub other_next : {begins : ℕ → Bool} (s mid : State) (w : List ℕ) → (o : AtOther begins s w) → PassedGap s mid → mid.unread ≡ o.char ∷ o.more
-other_next s mid w o p = (gap_before w p.gap mid.unread o.char o.more o.blank o.solid p.is_gap p.solid (sym o.split ∙ p.split)).1
 
 -- a value that can be read is next
 pub value_next : (s mid : State) (t : Tree) (r : List ℕ) → PassedGap s mid → Reads s.unread t r → Reads mid.unread t r
@@ -88,7 +76,7 @@ value_no_end s mid t r p e k =
 -- ---- null
 
 other_head : (c d : ℕ) (x y : List ℕ) → (d == 110) ≡ false → d ∷ y ≡ 110 ∷ x → ⊥
-other_head c d x y n e = no_bool (ap (λ k. k == 110) (first_same d 110 y x e)) n
+other_head c d x y n e = true_false (ap (λ k. k == 110) (first_same d 110 y x e)) n
 
 -- what begins with `n` is null
 n_is_null : {s : List ℕ} {t : Tree} (x : List ℕ) → s ≡ 110 ∷ x → Val s t → t ≡ null
@@ -207,7 +195,7 @@ module _ {V C : Type 0} (content : V → C) (convert : Tree → Option C) (free 
     unprompted = tt;
     same_text = input_of took.rest;
     failed = tt;
-    before = λ h. absurd (no_bool h took.live);
+    before = λ h. absurd (true_false h took.live);
   }
 
   -- no T begins
@@ -238,14 +226,14 @@ module _ {V C : Type 0} (content : V → C) (convert : Tree → Option C) (free 
     unprompted = λ live k. other (at_start live) (sym placed.kind ∙ k);
     same_text = input_of left ∙ same ∙ input_of p.rest;
     failed = ap (λ (s : State). s.failed) left;
-    before = λ h. absurd (no_bool h p.live);
+    before = λ h. absurd (true_false h p.live);
   }
     where
       there : (t : Tree) (r : List ℕ) → Reads old.unread t r → Reads start.unread t r
       there t r reads = value_next old start t r p reads
 
       is_no_null : (t : Tree) (r : List ℕ) → Reads old.unread t r → t ≡ null → ⊥
-      is_no_null t r reads = null_not_next start.unread t c m r next p.solid (λ is. no_bool (ap (λ k. k == 110) is) no_null) (there t r reads)
+      is_no_null t r reads = null_not_next start.unread t c m r next p.solid (λ is. true_false (ap (λ k. k == 110) is) no_null) (there t r reads)
 
       at_start : old.failed ≡ false → start.failed ≡ false
       at_start live = ap (λ (s : State). s.failed) p.rest ∙ live

@@ -15,16 +15,7 @@ use Rattle.json5_de.specs.State.{State, cursor_of}
 use Rattle.json5_de.specs.Steps.{TookText}
 use Rattle.json5_de.specs.Access.{Unawaited, at_end, at_char}
 use Rattle.json5_de.proofs.Taken.{placed_behind, input_of}
-
-bytes_apart : (x y : List ℕ) → length (encode_utf8_all (x ++ y)) ≡ length (encode_utf8_all x) + length (encode_utf8_all y)
-bytes_apart x y = ap length (encodes-append x y) ∙ length-append (encode_utf8_all x) (encode_utf8_all y)
-
--- an offset counts the bytes before what is unread
-pub counted_before : (s : State) (cursor : Cursor) (offset : ℕ) → cursor.input ≡ s.input → cursor.unread ≡ s.unread → offset ≡ offset_of cursor → (before : List ℕ) → s.input ≡ before ++ s.unread → offset ≡ length (encode_utf8_all before)
-counted_before s cursor offset same_input same_unread e before split =
-    let whole : cursor.input ≡ before ++ cursor.unread = same_input ∙ split ∙ ap (λ z. before ++ z) (sym same_unread) in
-    let apart = ap (λ x. length (encode_utf8_all x)) whole ∙ bytes_apart before cursor.unread in
-    omega (arith, e, apart)
+use Rattle.json5_de.proofs.Offsets.{bytes_apart}
 
 pub none_next : (x : List ℕ) → slice_get x 0 ≡ None → x ≡ []
 none_next [] e = refl

@@ -32,6 +32,7 @@ use Rattle.json5_grammar.specs.Stops.{lengthens}
 use Rattle.json5_text.specs.NumberViews.{keeps_digits}
 use Rattle.std.proofs.lemmas.Bool.{false≢true}
 use Rattle.json5_de.proofs.OtherCodes.{Lacks, in_blanks_other, behind_lacks, word_lacks, number_lacks, text_lacks, scalar_lacks}
+use Rattle.json5_grammar.proofs.Basics.{true_false}
 
 -- a kind of value is told apart from all others, and none of its faults is that the reader had failed
 pub record IsLawful {C : Type 0} (row : Row C) : Type 0 where
@@ -53,9 +54,6 @@ unprompted_from l m old (Ok v) k = tt
 unprompted_from l false old (Err e) k = refused_other l old e k
 unprompted_from l true old (Err e) (inl m) = λ live. memory_other e m
 unprompted_from l true old (Err e) (inr k) = refused_other l old e k
-
-true_false_state : {A : Type 0} (s : State) → s.failed ≡ true → s.failed ≡ false → A
-true_false_state s h k = let e : true ≡ false = sym h ∙ k in absurd (cc)
 
 -- what a comment at fault says is something else too
 pub blanks_other : {s : Cursor} (e : Error) → Refused FaultyBlanks s e → kind_of e ≢ code codes.Failed
@@ -87,7 +85,7 @@ reads_ok row content old new v (t, took, is) = record {
   unprompted = tt;
   same_text = input_of took.rest;
   failed = tt;
-  before = λ f. true_false_state old f took.live;
+  before = λ f. true_false f took.live;
 }
 
 -- the token in front was refused
@@ -120,7 +118,7 @@ not_begun l content old new e k failed before = refuses l content old new e (ref
 
 -- behind the blanks, a fault of the relation
 pub refuses_behind : {V C : Type 0} {row : Row C} → IsLawful row → (content : V → C) (old mid new : State) (e : Error) → PassedGap old mid → Refused row.IsFault (cursor_of mid) e → GivesUp mid new → ReadsAs row content old new (Err e)
-refuses_behind l content old mid new e p k failed = refuses l content old new e (refused_token old mid e p k) (given_up old mid new p failed) (λ f. true_false_state old f p.live)
+refuses_behind l content old mid new e p k failed = refuses l content old new e (refused_token old mid e p k) (given_up old mid new p failed) (λ f. true_false f p.live)
 
 -- the same, or memory was wanting, where no tree is free
 pub refuses_value : {V C : Type 0} {row : Row C} → IsLawful row → row.may_lack_memory ≡ true → ((t : Tree) → row.free t ≡ false) → (content : V → C) (old mid new : State) (e : Error) → PassedGap old mid → RefusedByOrMemory row.IsFault old e → GivesUp mid new
@@ -129,7 +127,7 @@ refuses_value {V = V} {row = row} l m none content old mid new e p k failed = re
     (λ t r c live reads shallow is free. absurd (let both : false ≡ true = sym (none t) ∙ free in cc))
     (subst (λ z. RefusedWith z row.IsFault old e) (sym m) k)
     (given_up old mid new p failed)
-    (λ h. true_false_state old h p.live)
+    (λ h. true_false h p.live)
 
 -- ---- the kinds
 
@@ -156,7 +154,7 @@ number_refused f content old mid new e p k failed memory =
     (λ t r v live reads shallow converts free. let w = whole_there f old mid t r v p reads converts in absurd (false≢true (memory w.literal r w.number w.split w.is_number w.stops w.free)))
     (refused_or_memory old mid e (λ x reason place g. faulty_number g) p k)
     (given_up old mid new p failed)
-    (λ h. true_false_state old h p.live)
+    (λ h. true_false h p.live)
 
 pub not_whole : {V C : Type 0} (f : ℤ → Option C) (content : V → C) (old mid new last : State) (result : Result V Error) (start : ℕ) (s : List ℕ) (n : Number) → PassedGap old mid → TookText mid s new → Num s n → Stops s new.unread → as_whole f n ≡ None
     → StartsAt mid start → IsErrAnd result (IsMismatch new.input start) → GivesUp new last → ReadsAs (whole_row f) content old last result
@@ -166,7 +164,7 @@ not_whole f content old mid new last (Err e) start s n p k num stops none at is 
     (λ t r v live reads shallow converts free. absurd (no_other_number (as_whole f) old mid new s n t r v p k num stops none reads converts))
     (refused_number {V = Unit {0}} (as_whole f) old mid new (Err e) start s n p k num stops none at is)
     (given_up_behind old mid new last s p k failed)
-    (λ h. true_false_state old h p.live)
+    (λ h. true_false h p.live)
 
 -- what is no whole number is none in a range
 pub narrower : {V W C : Type 0} (f : ℤ → Option C) (wide : V → ℤ) (content : W → C) (old new : State) (e : Error) → ReadsAs (whole_row (λ z. Some z)) wide old new (Err e) → ReadsAs (whole_row f) content old new (Err e)
@@ -225,7 +223,7 @@ pub reads_text : {V C : Type 0} (f : List ℕ → Bool → Option C) (free : Tre
     → IfErr result (λ e. IsOutOfMemory e ⊎ Refused FaultyString (cursor_of mid) e) → OnErr result (GivesUp mid new) → CompletesFree free (as_text f) old result → ReadsAs (text_row f free) content old new result
 reads_text f free content old mid new (Ok v) p gives k failed complete = reads_ok (text_row f free) content old new v gives
 reads_text f free content old mid new (Err e) p gives k failed complete =
-    reads_err (lawful_text f free) content old new e complete (refused_or_memory old mid e (λ x reason place g. faulty_text g) p k) (given_up old mid new p failed) (λ h. true_false_state old h p.live)
+    reads_err (lawful_text f free) content old new e complete (refused_or_memory old mid e (λ x reason place g. faulty_text g) p k) (given_up old mid new p failed) (λ h. true_false h p.live)
 
 -- it isn't of the type
 pub not_text : {V C : Type 0} (f : List ℕ → Bool → Option C) (free : Tree → Bool) (content : V → C) (old mid new last : State) (result : Result V Error) (start : ℕ) (s u : List ℕ) (plain : Bool) → PassedGap old mid → TookText mid s new → Str s u plain
@@ -236,7 +234,7 @@ not_text f free content old mid new last (Err e) start s u plain p k str none at
     (λ t r v live reads shallow converts free. absurd (no_other_text f old mid new s u plain t r v p k str none reads converts))
     (refused_text {V = Unit {0}} f old mid new (Err e) start s u plain p k str none at is)
     (given_up_behind old mid new last s p k failed)
-    (λ h. true_false_state old h p.live)
+    (λ h. true_false h p.live)
 
 plain_converts : (t : Tree) → plain_text t ≡ true → (v : List ℕ) × (as_text if_plain t ≡ Some v)
 plain_converts null e = absurd (cc)

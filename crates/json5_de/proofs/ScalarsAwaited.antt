@@ -15,8 +15,8 @@ use Rattle.json5_text.specs.declared.error.Error.{Error}
 use Rattle.json5_text.specs.Errors.{code, kind_of, place_of}
 use Rattle.json5_text.specs.Cursor.{IsPlaced, Refused, IsOutOfMemory}
 use Rattle.json5_text.specs.Tokens.{FaultyNumber, FaultyString}
-use Rattle.json5_de.specs.declared.any.Kind.{Kind}
-use Rattle.json5_de.specs.declared.any.Kind.TheVariants as kind
+use Rattle.json5_de.specs.declared.any.ValueKind.{ValueKind}
+use Rattle.json5_de.specs.declared.any.ValueKind.TheVariants as kind
 use Rattle.json5_de.specs.State.{State, cursor_of}
 use Rattle.json5_de.specs.Steps.{PassedGap}
 use Rattle.json5_de.specs.Convert.{datum_of, every_text, every_decimal, same_decimal}
@@ -29,7 +29,7 @@ use Rattle.json5_de.proofs.Taken.{refused_token}
 use Rattle.json5_de.proofs.Words.{word_no_fault}
 
 -- what a tree's text begins with
-abbrev kind_of_tree : Tree → Kind
+abbrev kind_of_tree : Tree → ValueKind
 kind_of_tree null = kind.Null
 kind_of_tree (boolean true) = kind.True
 kind_of_tree (boolean false) = kind.False
@@ -125,7 +125,7 @@ no_number_fault s r (text u plain) reason place e v stops f = absurd (cc)
 no_number_fault s r (array ts) reason place e v stops f = absurd (cc)
 no_number_fault s r (object ps) reason place e v stops f = absurd (cc)
 
-not_other : (k : Kind) {A : Type 0} → is_scalar_kind k ≡ true → k ≡ kind.Other → A
+not_other : (k : ValueKind) {A : Type 0} → is_scalar_kind k ≡ true → k ≡ kind.Other → A
 not_other k h e = let x : false ≡ true = sym (ap is_scalar_kind e) ∙ h in absurd (cc)
 
 no_fault_at : {x : List ℕ} (s r : List ℕ) (t : Tree) (d : Datum) (reason : Option ErrorCode) (place : Option (List ℕ)) → x ≡ s ++ r → kind_in x ≡ kind_of_tree t → datum_of t ≡ Some d → Val s t → Stops s r → FaultyScalar x reason place → ⊥
@@ -142,7 +142,7 @@ no_fault s r t d reason place is v stops f =
     let (c, y, split, k) = val_kind d is v in
     no_fault_at s r t d reason place refl (ap (λ z. kind_in (z ++ r)) split ∙ k) is v stops f
 
-begun_other : (k l : Kind) {A : Type 0} → is_scalar_kind k ≡ false → k ≡ l → is_scalar_kind l ≡ true → A
+begun_other : (k l : ValueKind) {A : Type 0} → is_scalar_kind k ≡ false → k ≡ l → is_scalar_kind l ≡ true → A
 begun_other k l h e i = let x : false ≡ true = sym h ∙ ap is_scalar_kind e ∙ i in absurd (cc)
 
 at_end : {x : List ℕ} (reason : Option ErrorCode) (place : Option (List ℕ)) → x ≡ [] → FaultyScalar x reason place → (reason ≡ Some codes_of.EofParsingValue) × (place ≡ None)
@@ -177,7 +177,7 @@ awaits_scalar = record {
 -- ---- what the steps refuse
 
 -- the kind of what is next
-pub kind_there : (x : List ℕ) (next : Option ℕ) (c : ℕ) (k l : Kind) → next ≡ slice_get x 0 → next ≡ Some c → k ≡ kind_at c → k ≡ l → kind_in x ≡ l
+pub kind_there : (x : List ℕ) (next : Option ℕ) (c : ℕ) (k l : ValueKind) → next ≡ slice_get x 0 → next ≡ Some c → k ≡ kind_at c → k ≡ l → kind_in x ≡ l
 kind_there [] next c k l peeked is at same = absurd (cc)
 kind_there (d ∷ x) next c k l peeked is at same = let here : d ≡ c = cc in ap kind_at here ∙ sym at ∙ same
 

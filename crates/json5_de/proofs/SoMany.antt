@@ -5,9 +5,7 @@ use Rattle.json5_grammar.specs.Trees.{Tree, Trees}
 use Rattle.json5_grammar.specs.Members.{contents}
 use Rattle.json5_de.specs.ConvertLists.{exactly, if_length}
 use Rattle.json5_de.proofs.Loops.{HasSoMany}
-
-equal_from : (a b : ℕ) → (a == b) ≡ true → a ≡ b
-equal_from a b h = grind arith
+use Rattle.json5_grammar.proofs.Basics.{eq_from}
 
 equal_to : (a b : ℕ) → a ≡ b → (a == b) ≡ true
 equal_to a b h = grind arith
@@ -17,7 +15,7 @@ length_parts n None v e = absurd (cc)
 length_parts n (Some cs) v e = by_test (length cs == n) refl e
   where
     by_test : (b : Bool) → (length cs == n) ≡ b → (if b then Some cs else None) ≡ Some v → (Some cs ≡ Some v) × (length v ≡ n)
-    by_test true h k = let same : v ≡ cs = cc in (k, ap length same ∙ equal_from (length cs) n h)
+    by_test true h k = let same : v ≡ cs = cc in (k, ap length same ∙ eq_from (length cs) n h)
     by_test false h k = absurd (cc)
 
 exactly_parts : {C : Type 0} (f : Tree → Option C) (n : ℕ) (ts : Trees) (v : List C) → exactly n f ts ≡ Some v → (contents f ts ≡ Some v) × (length v ≡ n)

@@ -6,27 +6,17 @@ use Rattle.std.specs.Str.{all_scalars, chars, encode_utf8_all}
 use Rattle.std.proofs.lemmas.Bool.Decides.{nat_tests}
 use Rattle.std.proofs.lemmas.Str.{chars-encodes}
 use Rattle.json5_grammar.specs.Characters.{is_in, is_hex_digit, char, no_char}
-use Rattle.json5_grammar.specs.Strings.{short_escape, Hex4, hex4, is_high, is_low, joined, Unicode, single, surrogates, Escape, short, nul, byte, unicode, line_end, cr_lf, lone_cr, itself, Items, no_item, raw, escape, Str, quoted}
+use Rattle.json5_grammar.specs.Strings.{short_escape, Hex4, hex4, is_high, is_low, pair_value, Unicode, single, surrogates, Escape, short, nul, byte, unicode, line_end, cr_lf, lone_cr, itself, Items, no_item, raw, escape, Str, quoted}
 use Rattle.json5_grammar.proofs.Basics.{by_test}
 use Rattle.json5_de.specs.Convert.{one_character}
-
-both_true : (a b : Bool) → (a && b) ≡ true → (a ≡ true) × (b ≡ true)
-both_true true true e = (refl, refl)
-both_true true false e = absurd (cc)
-both_true false b e = absurd (cc)
+use Rattle.std.proofs.lemmas.Bool.{and_parts}
+use Rattle.json5_text.proofs.ScanBytes.{scalar_halves, one_scalar}
 
 one_more : (c : ℕ) (x : List ℕ) → all_scalars (c ∷ x) ≡ true → IsScalar c × (all_scalars x ≡ true)
-one_more c x e = both_true _ (all_scalars x) e
+one_more c x e = and_parts _ (all_scalars x) e
 
 more_scalars : (c : ℕ) (x : List ℕ) → IsScalar c → all_scalars x ≡ true → all_scalars (c ∷ x) ≡ true
 more_scalars c x h k = rw (h, k) refl
-
-halves : (x y : List ℕ) → all_scalars (x ++ y) ≡ true → (all_scalars x ≡ true) × (all_scalars y ≡ true)
-halves [] y s = (refl, s)
-halves (c ∷ x) y s =
-    let k = one_more c (x ++ y) s in
-    let l = halves x y k.1 in
-    (more_scalars c x k.0 l.0, l.1)
 
 append_scalars : (x y : List ℕ) → all_scalars x ≡ true → all_scalars y ≡ true → all_scalars (x ++ y) ≡ true
 append_scalars [] y a b = b
@@ -56,13 +46,13 @@ four_below a b c d h k l m = omega arith
 hex4_below : {h : List ℕ} {n : ℕ} → Hex4 h n → n < 0x1_0000
 hex4_below (hex4 {a = a} {b = b} {c = c} {d = d} (char h (char k (char l (char m no_char))))) = four_below (digit_value a) (digit_value b) (digit_value c) (digit_value d) (hex_below a h) (hex_below b k) (hex_below c l) (hex_below d m)
 
-joined_scalar : (n k : ℕ) → is_high n ≡ true → is_low k ≡ true → IsScalar (joined n k)
+joined_scalar : (n k : ℕ) → is_high n ≡ true → is_low k ≡ true → IsScalar (pair_value n k)
 joined_scalar n k h l =
     let a = in_low 0xD800 0xDBFF n h in
     let b = in_high 0xD800 0xDBFF n h in
     let c = in_low 0xDC00 0xDFFF k l in
     let d = in_high 0xDC00 0xDFFF k l in
-    above_scalar (joined n k) (omega arith) (omega arith)
+    above_scalar (pair_value n k) (omega arith) (omega arith)
 
 unicode_scalar : {e : List ℕ} {n : ℕ} → Unicode e n → IsScalar n
 unicode_scalar (single {n = n} x h) = no_surrogate n (hex4_below x) h
@@ -87,9 +77,6 @@ short_small c =
     by_test IsSmall (c == 0x66) _ _ (λ _. some_small 0x0C (omega arith)) (λ _.
     by_test IsSmall (c == 0x72) (Some 0x0D) None (λ _. some_small 0x0D (omega arith)) (λ _. none_small))))))
 
-one_scalar : (c : ℕ) → IsScalar c → all_scalars (c ∷ []) ≡ true
-one_scalar c h = more_scalars c [] h refl
-
 escape_scalars : {e v r : List ℕ} → Escape e v r → all_scalars e ≡ true → all_scalars v ≡ true
 escape_scalars (short {c = c} {d = d} h) k = one_scalar d (below_scalar d (short_small c d h))
 escape_scalars (nul h) k = refl
@@ -104,15 +91,15 @@ escape_scalars (itself {c = c} h) k = (one_more 92 (c ∷ []) k).1
 items_scalars : {q : ℕ} {r s u : List ℕ} {plain : Bool} → Items q r s u plain → all_scalars s ≡ true → all_scalars u ≡ true
 items_scalars no_item k = refl
 items_scalars (raw {c = c} {s = s} {u = u} h i) k = let l = one_more c s k in more_scalars c u l.0 (items_scalars i l.1)
-items_scalars (escape {e = e} {v = v} {s = s} {u = u} x i) k = let l = halves e s k in append_scalars v u (escape_scalars x l.0) (items_scalars i l.1)
+items_scalars (escape {e = e} {v = v} {s = s} {u = u} x i) k = let l = scalar_halves e s k in append_scalars v u (escape_scalars x l.0) (items_scalars i l.1)
 
 pub text_scalars : {s u : List ℕ} {plain : Bool} → Str s u plain → all_scalars s ≡ true → all_scalars u ≡ true
-text_scalars (quoted {q = q} {s = s} h i) k = items_scalars i (halves s (q ∷ []) (one_more q (s ++ q ∷ []) k).1).0
+text_scalars (quoted {q = q} {s = s} h i) k = items_scalars i (scalar_halves s (q ∷ []) (one_more q (s ++ q ∷ []) k).1).0
 
 -- the characters of the bytes of a text in front
 pub text_characters : {s u : List ℕ} {plain : Bool} (x r bytes : List ℕ) → x ≡ s ++ r → all_scalars x ≡ true → Str s u plain → bytes ≡ encode_utf8_all u → chars bytes ≡ u
 text_characters {s = s} {u = u} x r bytes split k str same =
-    ap chars same ∙ chars-encodes u (text_scalars str (halves s r (subst (λ z. all_scalars z ≡ true) split k)).0)
+    ap chars same ∙ chars-encodes u (text_scalars str (scalar_halves s r (subst (λ z. all_scalars z ≡ true) split k)).0)
 
 pub same_character : (u : List ℕ) (plain : Bool) → one_character u plain ≡ one_character u false
 same_character [] plain = refl

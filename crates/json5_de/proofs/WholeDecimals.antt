@@ -9,9 +9,7 @@ use Rattle.json5_grammar.specs.Characters.{is_digit, Each, no_char, char}
 use Rattle.json5_grammar.specs.Numbers.{without_front_zeros, without_zeros, is_empty, normal_exponent, InExponents, InWhole}
 use Rattle.json5_grammar.proofs.Basics.{by_test}
 use Rattle.json5_grammar.proofs.NumberTests.{Each-append}
-
-glyph_digit : (d : ℕ) → d < 10 → is_digit (48 + d) ≡ true
-glyph_digit d h = grind (arith, nat_tests)
+use Rattle.json5_grammar.proofs.WholesWritten.{glyph_digit}
 
 all_digits : (n : ℕ) → n < 10 ^ 64 → Each is_digit (decimal n)
 all_digits = decimal_by_steps_wide (λ n ds. Each is_digit ds)

@@ -13,8 +13,9 @@ use Rattle.json5_text.specs.NumberViews.{keeps_digits}
 use Rattle.json5_de.specs.Convert.{as_number, as_whole, as_text, if_plain}
 use Rattle.json5_de.specs.State.{State}
 use Rattle.json5_de.specs.Steps.{PassedGap, TookText}
-use Rattle.json5_de.proofs.AwaitsNumbers.{number_phrase, none_some}
+use Rattle.json5_de.proofs.AwaitsNumbers.{number_phrase}
 use Rattle.json5_de.proofs.AwaitsTexts.{text_phrase}
+use Rattle.json5_grammar.proofs.Basics.{none_some}
 
 phrase_behind : (old mid : State) (t : Tree) (r : List ℕ) → PassedGap old mid → (h : Reads old.unread t r) → mid.unread ≡ h.phrase ++ r
 phrase_behind old mid t r p h = (one_gap h.front (h.phrase ++ r) p.gap mid.unread (Gap.blanks h.blank) (value_solid r (val_head h.value)) p.is_gap p.solid (sym h.split ∙ p.split)).1

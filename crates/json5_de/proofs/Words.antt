@@ -3,6 +3,7 @@ use Rattle.std.proofs.Common.{◌≡◌, ◌≢◌, ℕ, List, [], ◌∷◌, �
 use Rattle.std.proofs.lemmas.List.{append-nil, append_cancel_left}
 use Rattle.json5_grammar.specs.declared.code.ErrorCode.{ErrorCode}
 use Rattle.json5_text.specs.Tokens.{FaultyWord, word_differs, word_ends}
+use Rattle.json5_grammar.proofs.Basics.{first_same}
 
 pub append_not_nil : (p : List ℕ) (c : ℕ) (r : List ℕ) → p ++ c ∷ r ≡ [] → ⊥
 append_not_nil [] c r e = absurd (cc)
@@ -27,14 +28,11 @@ word_other k ks c r x reason place other e (word_ends (a ∷ p) q d is) =
     let first : k ≡ a = cc in
     absurd (other (same ∙ sym first))
 
-pub cons_same : (c d : ℕ) (x y : List ℕ) → c ∷ x ≡ d ∷ y → c ≡ d
-cons_same c d x y e = cc
-
 -- the word in front is no fault
 pub word_no_fault : {ends differs : ErrorCode} (w r x : List ℕ) (reason : Option ErrorCode) (place : Option (List ℕ)) → x ≡ w ++ r → FaultyWord w ends differs x reason place → ⊥
 word_no_fault w r x reason place e (word_differs p q y c d is ne) =
     let split : p ++ c ∷ y ≡ p ++ d ∷ (q ++ r) = e ∙ ap (λ z. z ++ r) is ∙ append_assoc p (d ∷ q) r in
-    ne (cons_same c d y (q ++ r) (append_cancel_left p (c ∷ y) (d ∷ (q ++ r)) split))
+    ne (first_same c d y (q ++ r) (append_cancel_left p (c ∷ y) (d ∷ (q ++ r)) split))
 word_no_fault w r x reason place e (word_ends p q d is) =
     let split : p ++ d ∷ (q ++ r) ≡ p ++ [] = sym (e ∙ ap (λ z. z ++ r) is ∙ append_assoc p (d ∷ q) r) ∙ sym (append-nil p) in
     let none : d ∷ (q ++ r) ≡ [] = append_cancel_left p (d ∷ (q ++ r)) [] split in

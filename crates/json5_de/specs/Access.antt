@@ -1,6 +1,7 @@
 -- What contracts see of an access to an array.
 use Rattle.std.specs.Prelude.{◌≡◌, ◌≢◌, ◌⊎◌, ℕ, ◌+◌, ◌-◌, ◌<◌, ◌≤◌, Bool, true, false, List, [], ◌∷◌, ◌++◌, length, Option, Some, None, Result, Ok, Err, IfOk, IfErr, OnOk, OnErr, IsOk, IsOkAnd, IsErrAnd, MatchResult, ◌==◌, ◌||◌, ◌&&◌}
 use Rattle.std.specs.Str.{encode_utf8_all}
+use Rattle.json5_grammar.specs.Characters.{comma_sign, right_bracket}
 use Rattle.json5_grammar.specs.declared.code.ErrorCode.{ErrorCode}
 use Rattle.json5_grammar.specs.declared.code.ErrorCode.TheVariants as codes
 use Rattle.json5_grammar.specs.Codes.{behind_text}
@@ -154,11 +155,11 @@ is_opening b c = c == b.opening
 
 -- behind an element
 abbrev pub is_comma_or_closing : ℕ → Bool
-is_comma_or_closing c = (c == 0x2C) || (c == 0x5D)
+is_comma_or_closing c = (c == comma_sign) || (c == right_bracket)
 
 -- the closing bracket, and before it the comma that may stand there
 abbrev pub begins_close : Brackets → Bool → ℕ → Bool
-begins_close b due c = (c == b.closing) || (due && (c == 0x2C))
+begins_close b due c = (c == b.closing) || (due && (c == comma_sign))
 
 -- ---- what is refused
 
@@ -175,14 +176,14 @@ pub data NotOpened (b : Brackets) (level : ℕ) : List ℕ → Option ErrorCode 
 
 -- where the closing bracket is awaited
 pub data NoBracket (b : Brackets) (comma : Bool) : List ℕ → Option ErrorCode → Option (List ℕ) → Type 0 where
-  other_sign : (c : ℕ) (r : List ℕ) → (c == b.closing) ≡ false → (comma ≡ true → (c == 0x2C) ≡ false) → NoBracket b comma (c ∷ r) (Some b.not_closed) (Some [])
+  other_sign : (c : ℕ) (r : List ℕ) → (c == b.closing) ≡ false → (comma ≡ true → (c == comma_sign) ≡ false) → NoBracket b comma (c ∷ r) (Some b.not_closed) (Some [])
   bracket_missing : NoBracket b comma [] (Some b.ends) None
 
 -- where the closing bracket is awaited, and a comma before it where one is due
 pub data NotClosed (b : Brackets) (due : Bool) : List ℕ → Option ErrorCode → Option (List ℕ) → Type 0 where
   not_here : {x : List ℕ} {reason : Option ErrorCode} {place : Option (List ℕ)} → NoBracket b due x reason place → NotClosed b due x reason place
   behind_comma : {x : List ℕ} {reason : Option ErrorCode} {place : Option (List ℕ)} → due ≡ true → Behind (NoBracket b false) x reason place
-      → NotClosed b due (0x2C ∷ x) reason (behind_text (0x2C ∷ []) place)
+      → NotClosed b due (comma_sign ∷ x) reason (behind_text (comma_sign ∷ []) place)
 
 -- ---- what the calls of an access mean
 

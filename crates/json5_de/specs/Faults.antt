@@ -1,5 +1,6 @@
 -- What is refused where a value is awaited.
 use Rattle.std.specs.Prelude.{◌≡◌, ℕ, Bool, true, false, if◌then◌else◌, ◌==◌, ◌⊎◌, List, [], ◌∷◌, ◌++◌, Option, Some, None, Result, IsErrAnd}
+use Rattle.json5_grammar.specs.Characters.{letter_f}
 use Rattle.json5_grammar.specs.Codes.{behind_text}
 use Rattle.json5_grammar.specs.declared.code.ErrorCode.{ErrorCode}
 use Rattle.json5_grammar.specs.declared.code.ErrorCode.TheVariants as codes
@@ -49,7 +50,7 @@ begins_with c (d ∷ s) = d == c
 
 -- behind an `f` the word is `false`, else `true`
 abbrev pub FaultyBool : FaultRelation
-FaultyBool x = FaultyWord (if begins_with 0x66 x then false_text else true_text) codes.EofParsingBool codes.ExpectedBool x
+FaultyBool x = FaultyWord (if begins_with letter_f x then false_text else true_text) codes.EofParsingBool codes.ExpectedBool x
 
 -- a character where the end is awaited: TrailingCharacters at it
 pub data Trailing : List ℕ → Option ErrorCode → Option (List ℕ) → Type 0 where

@@ -1,5 +1,6 @@
 -- What is refused where an option is expected.
 use Rattle.std.specs.Prelude.{◌≡◌, ◌⊎◌, ◌==◌, ℕ, Bool, true, false, List, [], ◌∷◌, ◌++◌, Option, Some, None}
+use Rattle.json5_grammar.specs.Characters.{letter_n}
 use Rattle.json5_grammar.specs.declared.code.ErrorCode.{ErrorCode}
 use Rattle.json5_grammar.specs.declared.code.ErrorCode.TheVariants as codes
 use Rattle.json5_grammar.specs.declared.position.Position.{Position}
@@ -31,7 +32,7 @@ pub record PlacedAt (IsBefore : List ℕ → Type 0) (own e : Error) : Type 0 wh
 -- no T begins: EofParsingValue at the end, and the faults of null at an `n`
 pub data NoOption : List ℕ → Option ErrorCode → Option (List ℕ) → Type 0 where
   option_missing : NoOption [] (Some codes.EofParsingValue) None
-  faulty_null : {r : List ℕ} {reason : Option ErrorCode} {place : Option (List ℕ)} → FaultyNull (0x6E ∷ r) reason place → NoOption (0x6E ∷ r) reason place
+  faulty_null : {r : List ℕ} {reason : Option ErrorCode} {place : Option (List ℕ)} → FaultyNull (letter_n ∷ r) reason place → NoOption (letter_n ∷ r) reason place
 
 -- T refused after the blanks, with a fault that gets the value's start where it had no place
 pub record RefusedInside (refuses : State → Error → State → Type 0) (old : State) (e : Error) (new : State) : Type 0 where
@@ -40,7 +41,7 @@ pub record RefusedInside (refuses : State → Error → State → Type 0) (old :
   pub char : ℕ
   pub more : List ℕ
   pub begins : start.unread ≡ char ∷ more
-  pub no_null : (char == 0x6E) ≡ false
+  pub no_null : (char == letter_n) ≡ false
   pub own : Error
   pub after : State
   pub cause : refuses start own after

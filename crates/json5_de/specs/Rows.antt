@@ -4,6 +4,7 @@ use Rattle.std.specs.String.{string_bytes}
 use Rattle.std.specs.Borrow.{Bor}
 use Rattle.std.specs.declared.string.String.{String}
 use Rattle.std.specs.declared.alloc.Global.{Global}
+use Rattle.json5_grammar.specs.Characters.{letter_f, letter_n, letter_t}
 use Rattle.json5_grammar.specs.declared.code.ErrorCode.{ErrorCode}
 use Rattle.json5_grammar.specs.declared.code.ErrorCode.TheVariants as codes
 use Rattle.json5_grammar.specs.NumberFaults.{is_sign, begins_number}
@@ -72,10 +73,10 @@ plain_text _ = false
 -- ---- the kinds
 
 abbrev pub null_row : Row (Unit {0})
-null_row = record { IsFault = FaultyNull; convert = unit_of; free = every_tree; begins = λ c. c == 0x6E; ends = codes.EofParsingNull; differs = codes.ExpectedNull; may_lack_memory = false }
+null_row = record { IsFault = FaultyNull; convert = unit_of; free = every_tree; begins = λ c. c == letter_n; ends = codes.EofParsingNull; differs = codes.ExpectedNull; may_lack_memory = false }
 
 abbrev pub bool_row : Row Bool
-bool_row = record { IsFault = FaultyBool; convert = bool_of; free = every_tree; begins = λ c. (c == 0x74) || (c == 0x66); ends = codes.EofParsingBool; differs = codes.ExpectedBool; may_lack_memory = false }
+bool_row = record { IsFault = FaultyBool; convert = bool_of; free = every_tree; begins = λ c. (c == letter_t) || (c == letter_f); ends = codes.EofParsingBool; differs = codes.ExpectedBool; may_lack_memory = false }
 
 -- a whole number that converts
 abbrev pub whole_row : {C : Type 0} → (ℤ → Option C) → Row C

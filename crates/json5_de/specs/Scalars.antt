@@ -1,23 +1,24 @@
 -- What a value that is no collection begins with, and what is refused where a value of any kind is awaited.
 use Rattle.std.specs.Prelude.{◌≡◌, ℕ, Bool, true, false, ◌==◌, ◌||◌, cond, List, [], ◌∷◌, Option, Some, None}
+use Rattle.json5_grammar.specs.Characters.{letter_f, letter_n, letter_t}
 use Rattle.json5_grammar.specs.declared.code.ErrorCode.{ErrorCode}
 use Rattle.json5_grammar.specs.declared.code.ErrorCode.TheVariants as codes
 use Rattle.json5_grammar.specs.NumberFaults.{is_sign, begins_number}
 use Rattle.json5_grammar.specs.Strings.{is_quote}
 use Rattle.json5_grammar.specs.Values.{null_text, true_text, false_text}
 use Rattle.json5_text.specs.Tokens.{FaultyWord, FaultyNumber, FaultyString}
-use Rattle.json5_de.specs.declared.any.Kind.{Kind}
-use Rattle.json5_de.specs.declared.any.Kind.TheVariants as kind
+use Rattle.json5_de.specs.declared.any.ValueKind.{ValueKind}
+use Rattle.json5_de.specs.declared.any.ValueKind.TheVariants as kind
 
 -- what the character begins
-abbrev pub kind_at : ℕ → Kind
-kind_at c = cond (c == 0x6E) kind.Null (cond (c == 0x74) kind.True (cond (c == 0x66) kind.False (cond (is_quote c) kind.Text (cond (is_sign c || begins_number c) kind.Number kind.Other))))
+abbrev pub kind_at : ℕ → ValueKind
+kind_at c = cond (c == letter_n) kind.Null (cond (c == letter_t) kind.True (cond (c == letter_f) kind.False (cond (is_quote c) kind.Text (cond (is_sign c || begins_number c) kind.Number kind.Other))))
 
-abbrev pub kind_in : List ℕ → Kind
+abbrev pub kind_in : List ℕ → ValueKind
 kind_in [] = kind.Other
 kind_in (c ∷ r) = kind_at c
 
-abbrev pub is_scalar_kind : Kind → Bool
+abbrev pub is_scalar_kind : ValueKind → Bool
 is_scalar_kind kind.Other = false
 is_scalar_kind _ = true
 

@@ -20,7 +20,7 @@ use json5_text::value::Value;
 
 /// What a character begins.
 #[derive(Clone, Copy)]
-enum Kind {
+enum ValueKind {
     Null,
     True,
     False,
@@ -30,16 +30,16 @@ enum Kind {
 }
 
 /// What the character begins.
-fn kind_at(c: char) -> Kind
+fn kind_at(c: char) -> ValueKind
     ensures { result ≡ kind_at c }
 {
     match c {
-        'n' => Kind::Null,
-        't' => Kind::True,
-        'f' => Kind::False,
-        '"' | '\'' => Kind::Text,
-        '+' | '-' | '.' | 'I' | 'N' | '0'..='9' => Kind::Number,
-        _ => Kind::Other,
+        'n' => ValueKind::Null,
+        't' => ValueKind::True,
+        'f' => ValueKind::False,
+        '"' | '\'' => ValueKind::Text,
+        '+' | '-' | '.' | 'I' | 'N' | '0'..='9' => ValueKind::Number,
+        _ => ValueKind::Other,
     }
 }
 
@@ -63,27 +63,27 @@ impl<I: Input> Deserializer<I> {
             return self.refuse(Error::new(ErrorCode::EofParsingValue));
         };
         match kind_at(c) {
-            Kind::Null => {
+            ValueKind::Null => {
                 self.word("null", ErrorCode::EofParsingNull, ErrorCode::ExpectedNull)?;
                 Ok(Value::Null)
             }
-            Kind::True => {
+            ValueKind::True => {
                 self.word("true", ErrorCode::EofParsingBool, ErrorCode::ExpectedBool)?;
                 Ok(Value::Bool(true))
             }
-            Kind::False => {
+            ValueKind::False => {
                 self.word("false", ErrorCode::EofParsingBool, ErrorCode::ExpectedBool)?;
                 Ok(Value::Bool(false))
             }
-            Kind::Text => {
+            ValueKind::Text => {
                 let text = self.characters()?;
                 Ok(Value::String(text))
             }
-            Kind::Number => {
+            ValueKind::Number => {
                 let number = self.number()?;
                 Ok(value_of_number(number))
             }
-            Kind::Other => {
+            ValueKind::Other => {
                 let error = self.fault_here(ErrorCode::ExpectedValue);
                 self.refuse(error)
             }

@@ -4,7 +4,7 @@ ghost use Rattle.std.specs.Prelude.{◌≡◌, ◌≤◌, Bool, ◌++◌, ℕ, L
 ghost use Rattle.std.specs.Prelude.{◌<◌, ◌+◌, ◌-◌, ◌==◌, ◌∷◌};
 ghost use Rattle.json5_grammar.specs.Positions.{position_behind};
 ghost use Rattle.std.specs.Str.{chars};
-ghost use Rattle.json5_text.specs.Errors.{Kind, code, kind_of, place_of};
+ghost use Rattle.json5_text.specs.Errors.{FaultKind, code, kind_of, place_of};
 ghost use Rattle.json5_text.specs.Cursor.{Refused, IsPlaced, IsPositionOf};
 ghost use Rattle.json5_text.specs.Tokens.{FaultyBlanks, FaultyWord, FaultyNumber, FaultyString};
 ghost use Rattle.json5_grammar.specs.Documents.{max_depth};
@@ -185,7 +185,7 @@ impl<I: Input> Deserializer<I> {
 
     /// A fault at the next character.
     pub(crate) fn fault_here(&self, code: ErrorCode) -> Error
-        ensures kind { kind_of result ≡ Kind.code code }
+        ensures kind { kind_of result ≡ FaultKind.code code }
         ensures placed { IsPlaced (cursor_of self.now) (Some []) result }
     {
         let offset = self.offset();
@@ -288,6 +288,6 @@ impl<I: Input> Deserializer<I> {
         ensures inside { IsPositionOf self.now.input offset result }
         ensures past { (IsOffset self.now.input offset → ⊥) → result ≡ position_behind self.now.input }
     {
-        self.scanner.position_at(offset)
+        self.scanner.position_of(offset)
     }
 }

@@ -6,19 +6,19 @@ use Rattle.std.specs.Io.KnownBytes.{Appends}
 use Rattle.std.proofs.KnownBytes.{Appends-trans}
 use Rattle.std.proofs.lemmas.List.{take_more}
 use Rattle.json5.specs.Pieces.{Pushes}
-use Rattle.json5_fmt.specs.Pieces.{joined}
+use Rattle.json5_fmt.specs.Pieces.{joined_texts}
 
 -- ---- texts in a row
 
-joined-append : (ts us : List (Bor (List ℕ))) → joined (ts ++ us) ≡ joined ts ++ joined us
-joined-append [] us = refl
-joined-append (t ∷ ts) us = ap (λ l. t.now ++ l) (joined-append ts us) ∙ sym (append_assoc t.now (joined ts) (joined us))
+joined_texts-append : (ts us : List (Bor (List ℕ))) → joined_texts (ts ++ us) ≡ joined_texts ts ++ joined_texts us
+joined_texts-append [] us = refl
+joined_texts-append (t ∷ ts) us = ap (λ l. t.now ++ l) (joined_texts-append ts us) ∙ sym (append_assoc t.now (joined_texts ts) (joined_texts us))
 
-pub joined_more : (ts : List (Bor (List ℕ))) (i : ℕ) (d : Bor (List ℕ)) → i < length ts → joined (take (i + 1) ts) ≡ joined (take i ts) ++ (get_or ts i d).now
-joined_more ts i d h = ap joined (take_more ts i d h) ∙ joined-append (take i ts) (get_or ts i d ∷ []) ∙ ap (λ l. joined (take i ts) ++ l) (append-nil (get_or ts i d).now)
+pub joined_more : (ts : List (Bor (List ℕ))) (i : ℕ) (d : Bor (List ℕ)) → i < length ts → joined_texts (take (i + 1) ts) ≡ joined_texts (take i ts) ++ (get_or ts i d).now
+joined_more ts i d h = ap joined_texts (take_more ts i d h) ∙ joined_texts-append (take i ts) (get_or ts i d ∷ []) ∙ ap (λ l. joined_texts (take i ts) ++ l) (append-nil (get_or ts i d).now)
 
-pub joined_split : (ts : List (Bor (List ℕ))) (i : ℕ) → joined ts ≡ joined (take i ts) ++ joined (drop i ts)
-joined_split ts i = ap joined (sym (take-append-drop i ts)) ∙ joined-append (take i ts) (drop i ts)
+pub joined_split : (ts : List (Bor (List ℕ))) (i : ℕ) → joined_texts ts ≡ joined_texts (take i ts) ++ joined_texts (drop i ts)
+joined_split ts i = ap joined_texts (sym (take-append-drop i ts)) ∙ joined_texts-append (take i ts) (drop i ts)
 
 -- ---- what a writer holds then
 

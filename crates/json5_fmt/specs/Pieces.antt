@@ -3,6 +3,6 @@ use Rattle.std.specs.Prelude.{ℕ, List, [], ◌∷◌, ◌++◌}
 use Rattle.std.specs.Borrow.{Bor}
 
 -- the texts, one after the other
-abbrev pub joined : List (Bor (List ℕ)) → List ℕ
-joined [] = []
-joined (t ∷ ts) = t.now ++ joined ts
+abbrev pub joined_texts : List (Bor (List ℕ)) → List ℕ
+joined_texts [] = []
+joined_texts (t ∷ ts) = t.now ++ joined_texts ts

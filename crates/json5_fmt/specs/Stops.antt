@@ -2,12 +2,12 @@
 use Rattle.std.specs.Prelude.{⊤}
 use Rattle.json5.specs.ErrorCode.TheVariants as codes
 use Rattle.json5.specs.Error.{Error}
-use Rattle.json5.specs.Errors.{Kind, code, custom, failed_write, kind_of}
+use Rattle.json5.specs.Errors.{FaultKind, code, custom, failed_write, kind_of}
 use Rattle.json5.specs.Cursor.{IsOutOfMemory}
 use Rattle.json5_fmt.specs.declared.stop.Stop.{Stop}
 use Rattle.json5_fmt.specs.declared.stop.Stop.TheVariants as stop
 
-abbrev pub stop_of_kind : Kind → Error → Stop
+abbrev pub stop_of_kind : FaultKind → Error → Stop
 stop_of_kind (code codes.OutOfMemory) e = stop.NoMemory
 stop_of_kind (code _) e = stop.Text e
 stop_of_kind (custom text) e = stop.Text e

@@ -1,6 +1,6 @@
 -- Tests, places, and texts that depend on the next character alone.
 use Rattle.std.proofs.Common.{◌≡◌, ℕ, ◌<◌, ◌≤◌, Bool, true, false, cond, ◌||◌, List, [], ◌∷◌, ◌++◌, refl, ap, sym, ◌∙◌, append_assoc, arith, ◌≢◌, subst, Option, Some, None}
-use Rattle.std.specs.Prelude.{◌==◌, ◌&&◌, ⊤}
+use Rattle.std.specs.Prelude.{◌==◌, ◌&&◌, ⊤, nat_lt}
 use Rattle.std.specs.Char.{digit_value}
 use Rattle.std.proofs.lemmas.Bool.Decides.{nat_tests}
 use Rattle.json5_grammar.specs.Characters.{NotBegun, is_digit, is_hex_digit}
@@ -36,14 +36,31 @@ rest_same c d x y e = cc
 pub cons_not_nil : (c : ℕ) (x : List ℕ) → c ∷ x ≢ []
 cons_not_nil c x e = cc
 
-pub both_true : (a b : Bool) → (a && b) ≡ true → (a ≡ true) × (b ≡ true)
-both_true true true e = (refl, refl)
-both_true true false e = absurd (cc)
-both_true false b e = absurd (cc)
+pub and_left : (a b : Bool) → (a && b) ≡ true → a ≡ true
+and_left true b h = refl
+and_left false b h = h
 
-pub either_false : (a b : Bool) → (a || b) ≡ false → (a ≡ false) × (b ≡ false)
-either_false true b e = absurd (cc)
-either_false false b e = (refl, e)
+pub and_right : (a b : Bool) → (a && b) ≡ true → b ≡ true
+and_right true b h = h
+and_right false b h = cc
+
+pub or_right : (a b : Bool) → (a || b) ≡ true → a ≡ false → b ≡ true
+or_right true b h k = cc
+or_right false b h k = h
+
+pub true_false : {A : Type 0} {b : Bool} → b ≡ true → b ≡ false → A
+true_false h k = let e : true ≡ false = sym h ∙ k in absurd (cc)
+
+pub none_some : {C : Type 0} {A : Type 0} (o : Option C) (v : C) → o ≡ None → o ≡ Some v → A
+none_some o v e h = absurd (cc)
+
+-- ---- bounds, from their tests
+
+pub lt_from : (a b : ℕ) → nat_lt a b ≡ true → a < b
+lt_from a b h = grind (arith, nat_tests)
+
+pub le_from : (a b : ℕ) → nat_lt a b ≡ false → b ≤ a
+le_from a b h = grind (arith, nat_tests)
 
 -- what is a hexadecimal digit has a value below 16
 pub hex_value : (c : ℕ) → digit_value c < 16 → is_hex_digit c ≡ true

@@ -209,7 +209,3 @@ number_others c h = (grind (arith, nat_tests), grind (arith, nat_tests), grind (
 -- a quote begins no word
 pub quote_others : (c : ℕ) → is_quote c ≡ true → ((c == 110) ≡ false) × ((c == 116) ≡ false) × ((c == 102) ≡ false)
 quote_others c h = (grind (arith, nat_tests), grind (arith, nat_tests), grind (arith, nat_tests))
-
--- what a character that begins no value isn't
-pub no_value_others : (c : ℕ) → begins_value c ≡ false → ((c == 110) ≡ false) × ((c == 116) ≡ false) × ((c == 102) ≡ false) × (is_quote c ≡ false) × ((is_sign c || begins_number c) ≡ false) × ((c == 91) ≡ false) × ((c == 123) ≡ false)
-no_value_others c h = (grind (arith, nat_tests), grind (arith, nat_tests), grind (arith, nat_tests), grind (arith, nat_tests), grind (arith, nat_tests), grind (arith, nat_tests), grind (arith, nat_tests))

@@ -17,7 +17,7 @@ use Rattle.json5_grammar.proofs.WholesWritten.{literal_alone}
 abbrev is_zero : ℕ → Bool
 is_zero c = c == 48
 
-each_zero : (n : ℕ) → Each is_zero (zeros n)
+pub each_zero : (n : ℕ) → Each is_zero (zeros n)
 each_zero zero = no_char
 each_zero (suc n) = char refl (each_zero n)
 
@@ -36,7 +36,7 @@ length_if : (b : Bool) (c : ℕ) (s t : List ℕ) → length t ≤ length s → 
 length_if true c s t h = omega arith
 length_if false c s t h = omega arith
 
-length-front : (s : List ℕ) → length (without_front_zeros s) ≤ length s
+pub length-front : (s : List ℕ) → length (without_front_zeros s) ≤ length s
 length-front [] = omega arith
 length-front (c ∷ s) = length_if (c == 48) c s (without_front_zeros s) (length-front s)
 

@@ -13,7 +13,7 @@ use Rattle.json5_grammar.specs.StringFaults.{StringFault, raw_terminator, string
 use Rattle.json5_grammar.specs.NameFaults.{NameFault, no_unicode_escape, escaped_no_start, escaped_no_part, name_ends, backslash_ends, Named, no_item_yet, some_items}
 use Rattle.json5_grammar.specs.Reading.{Read, got, bad}
 use Rattle.json5_grammar.specs.ReadTexts.{string, identifier, key}
-use Rattle.json5_grammar.proofs.Basics.{by_test}
+use Rattle.json5_grammar.proofs.Basics.{by_test, or_right}
 use Rattle.json5_grammar.proofs.Refusals.{Refuses, one_answer}
 use Rattle.json5_grammar.proofs.StringsRead.{string_complete, string_refused, fault_head}
 use Rattle.json5_grammar.proofs.StringsSound.{StringBlamed, StringSound, string_sound}
@@ -115,8 +115,4 @@ unfolding key
 key_sound c r begins =
     by_test (KeySound (c ∷ r)) (is_quote c) (string (c ∷ r)) (identifier (c ∷ r))
     (λ h. from_string (c ∷ r) (string (c ∷ r)) (string_sound c r h))
-    (λ h. from_name (c ∷ r) (identifier (c ∷ r)) (name_sound c r (behind (is_quote c) ((c == 92) || is_identifier_start c) begins h)))
-  where
-    behind : (a b : Bool) → (a || b) ≡ true → a ≡ false → b ≡ true
-    behind true b e f = absurd (cc)
-    behind false b e f = e
+    (λ h. from_name (c ∷ r) (identifier (c ∷ r)) (name_sound c r (or_right (is_quote c) ((c == 92) || is_identifier_start c) begins h)))

@@ -5,8 +5,8 @@ use Rattle.json5_grammar.specs.Characters.{is_digit, NotBegun, Each, no_char, ch
 use Rattle.json5_grammar.specs.Numbers.{Sign, no_sign, plus, minus, signed, spelled, Integer, lone_zero, nonzero, Mantissa, integer, with_point, point_first, Exponent, no_exponent, exponent, Literal, literal, is_empty}
 use Rattle.json5_grammar.specs.Stops.{in_run, begins_run}
 use Rattle.json5_grammar.specs.ReadNumbers.{Parts, front_of, rest_of, exponent_digits, exponent_sign, exponent_at, is_integer, with_exponent, no_point, at_point, point_or, literal_at}
-use Rattle.json5_grammar.proofs.Basics.{by_test, eq_from}
-use Rattle.json5_grammar.proofs.NumberTests.{point_or_e, and_left, and_right, digit_no_sign, digit_in_run, e_in_run, e_no_digit, e_no_point, nonzero_digit, nonzero_not_48, digit_nonzero, digit_begins_run, Each-append, each_weaken, front_all, rest_all, rest_each, front_each, front_rest, each_from_rest, front_none}
+use Rattle.json5_grammar.proofs.Basics.{by_test, eq_from, and_left, and_right, or_right}
+use Rattle.json5_grammar.proofs.NumberTests.{point_or_e, digit_no_sign, digit_in_run, e_in_run, e_no_digit, e_no_point, nonzero_digit, nonzero_not_48, digit_nonzero, digit_begins_run, Each-append, each_weaken, front_all, rest_all, rest_each, front_each, front_rest, each_from_rest, front_none}
 
 -- ---- found
 
@@ -107,10 +107,6 @@ integer_from (c ∷ d ∷ s) e h = more (c == 48) refl h
 no_point_is : (i y : List ℕ) → Each is_digit i → LiteralIs (i ++ y) (no_point i y)
 no_point_is i y e = by_test (LiteralIs (i ++ y)) (is_integer i) (with_exponent i None (exponent_at y)) None (λ h. with_is (integer (integer_from i e h)) y (exponent_at y) (exponent_is y)) (λ h. tt)
 
-or_left : (a b : Bool) → (a || b) ≡ true → a ≡ false → b ≡ true
-or_left true b h k = cc
-or_left false b h k = h
-
 point_first_from : (i f : List ℕ) → (is_empty i && not (is_empty f)) ≡ true → Each is_digit f → Mantissa (i ++ 46 ∷ f) i (Some f)
 point_first_from [] [] h e = cc
 point_first_from [] (c ∷ f) h e = point_first e
@@ -118,7 +114,7 @@ point_first_from (c ∷ i) f h e = cc
 
 mantissa_from : (i f : List ℕ) (b : Bool) → is_integer i ≡ b → (is_integer i || (is_empty i && not (is_empty f))) ≡ true → Each is_digit i → Each is_digit f → Mantissa (i ++ 46 ∷ f) i (Some f)
 mantissa_from i f true k h ei ef = with_point (integer_from i ei k) ef
-mantissa_from i f false k h ei ef = point_first_from i f (or_left (is_integer i) (is_empty i && not (is_empty f)) h k) ef
+mantissa_from i f false k h ei ef = point_first_from i f (or_right (is_integer i) (is_empty i && not (is_empty f)) h k) ef
 
 at_point_is : (i f y : List ℕ) → Each is_digit i → Each is_digit f → LiteralIs (i ++ 46 ∷ (f ++ y)) (at_point i f y)
 at_point_is i f y ei ef =

@@ -14,6 +14,7 @@ use Rattle.json5_grammar.proofs.KeysRead
 use Rattle.json5_grammar.proofs.ValueHeads.{key_head, key_begins, key_solid, key_before_blanks, key_spelling, stops_blanks}
 use Rattle.json5_grammar.proofs.Unique.{one_phrase}
 use Rattle.json5_grammar.proofs.MembersPassed.{same_sign, behind_comma, no_comma_end, one_end, sign_ends, sign_shorter, reads_shorter}
+use Rattle.json5_grammar.proofs.ValuesRead.{regroup_pair}
 
 -- ---- signs and keys
 
@@ -126,15 +127,12 @@ pairs_rest (pair v m u qs) (pair w n t ps) due now x y r (g, h, a, e, ok) (k, z,
 
 -- ---- objects from the front
 
-regroup : (a k b w s v y : List ℕ) → (a ++ (k ++ (b ++ 58 ∷ (w ++ (s ++ v))))) ++ y ≡ a ++ (k ++ (b ++ 58 ∷ (w ++ (s ++ (v ++ y)))))
-regroup a k b w s v y = simp append_assoc
-
 -- the key and the value of a pair, up to the character after it
 entry_read : {p u : List ℕ} {plain : Bool} {t : Tree} (c : ℕ) (y : List ℕ) → EndsValues c → Entry p u plain t → (k : List ℕ) × (v : List ℕ) × IsKey false (p ++ c ∷ y) u plain k × IsKeyValue k t (v ++ c ∷ y) × Blanks v
 entry_read c y ends (entry {a = a} {k = k} {b = b} {w = w} {s = s} {v = v} ba kt bb bw vs bv) = (
   b ++ 58 ∷ (w ++ (s ++ (v ++ c ∷ y))),
   v,
-  record { front = a; spelling = k; split = regroup a k b w s v (c ∷ y); blank = ba; key = key_before_blanks 58 (w ++ (s ++ (v ++ c ∷ y))) bb kt colon_no_name },
+  record { front = a; spelling = k; split = regroup_pair a k b w s v (c ∷ y); blank = ba; key = key_before_blanks 58 (w ++ (s ++ (v ++ c ∷ y))) bb kt colon_no_name },
   (w ++ (s ++ (v ++ c ∷ y)), record { front = b; split = refl; blank = bb }, record { front = w; phrase = s; split = refl; blank = bw; value = vs; stops = stops_blanks s c y bv ends }),
   bv,
 )
@@ -143,7 +141,7 @@ entry_read c y ends (entry {a = a} {k = k} {b = b} {w = w} {s = s} {v = v} ba kt
 entry_of : {x u y z v g : List ℕ} {plain : Bool} {t : Tree} → ReadsKey x u plain y → IsKeyValue y t z → z ≡ v ++ g → Blanks v → (p : List ℕ) × (x ≡ p ++ g) × Entry p u plain t
 entry_of {v = v} {g = g} key (q, s, e) k b = (
   key.front ++ (key.spelling ++ (s.front ++ 58 ∷ (e.front ++ (e.phrase ++ v)))),
-  key.split ∙ ap (λ i. key.front ++ (key.spelling ++ i)) (s.split ∙ ap (λ i. s.front ++ 58 ∷ i) (e.split ∙ ap (λ i. e.front ++ (e.phrase ++ i)) k)) ∙ sym (regroup key.front key.spelling s.front e.front e.phrase v g),
+  key.split ∙ ap (λ i. key.front ++ (key.spelling ++ i)) (s.split ∙ ap (λ i. s.front ++ 58 ∷ i) (e.split ∙ ap (λ i. e.front ++ (e.phrase ++ i)) k)) ∙ sym (regroup_pair key.front key.spelling s.front e.front e.phrase v g),
   entry key.blank (key_spelling key.key) s.blank e.blank e.value b,
 )
 

@@ -19,9 +19,6 @@ joint_parts (Some k) (Some v) c h = (ap (first_of k) h, ap (second_of v) h)
     second_of v None = None
     second_of v (Some c) = Some c.1
 
-joint_both : {K V : Type 0} (o : Option K) (p : Option V) (k : K) (v : V) → o ≡ Some k → p ≡ Some v → joint o p ≡ Some (k, v)
-joint_both o p k v a b = rw (a, b) refl
-
 -- one more pair's content
 pub pair_contents_snoc : {K V : Type 0} (g : List ℕ → Bool → Option K) (f : Tree → Option V) (ps : Pairs) (u : List ℕ) (p : Bool) (t : Tree) (cs : List (K × V)) (k : K) (v : V)
     → pair_contents g f ps ≡ Some cs → g u p ≡ Some k → f t ≡ Some v → pair_contents g f (snoc_pair ps u p t) ≡ Some (cs ++ (k, v) ∷ [])

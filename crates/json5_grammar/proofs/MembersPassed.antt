@@ -3,7 +3,7 @@ use Rattle.std.proofs.Common.{◌≡◌, ℕ, ◌+◌, ◌≤◌, ◌<◌, max, 
 use Rattle.std.specs.Prelude.{◌==◌}
 use Rattle.json5_grammar.specs.Trees.{Tree, Trees, array, no_more, more, depth, depths}
 use Rattle.json5_grammar.specs.Values.{Reads}
-use Rattle.json5_grammar.specs.Members.{IsSign, Opens, IsElement, IsEnd, IsClose, IsAtClose, Tail, Passed, GoesNowhere, joined, snoc}
+use Rattle.json5_grammar.specs.Members.{IsSign, Opens, IsElement, IsEnd, IsClose, IsAtClose, Tail, Passed, GoesNowhere, joined_trees, snoc}
 use Rattle.json5_grammar.specs.Blanks.{is_solid, Blanks}
 use Rattle.json5_grammar.proofs.Basics.{neq_from}
 use Rattle.json5_grammar.proofs.Unique.{one_phrase}
@@ -91,11 +91,11 @@ passed_more no_more due now x y z t (d, s) e = (z, subst (λ k. IsElement due k 
 passed_more (more u us) due now x y z t (w, f, p) e = (w, f, passed_more us true now w y z t p e)
 
 -- the members after them up to the closing bracket
-pub passed_tail : (ts us : Trees) (due now : Bool) (x y r : List ℕ) → Passed ts due x now y → Tail us now y r → Tail (joined ts us) due x r
+pub passed_tail : (ts us : Trees) (due now : Bool) (x y r : List ℕ) → Passed ts due x now y → Tail us now y r → Tail (joined_trees ts us) due x r
 passed_tail no_more us due now x y r (d, s) tl = subst (λ k. Tail us due k r) (sym s) (subst (λ b. Tail us b y r) (sym d) tl)
 passed_tail (more t ts) us due now x y r (w, f, p) tl = (w, f, passed_tail ts us true now w y r p tl)
 
-joined_none : (ts : Trees) → joined ts no_more ≡ ts
+joined_none : (ts : Trees) → joined_trees ts no_more ≡ ts
 joined_none no_more = refl
 joined_none (more t ts) = ap (more t) (joined_none ts)
 
@@ -104,13 +104,13 @@ pub passed_close : (ts : Trees) (due now : Bool) (x y r : List ℕ) → Passed t
 passed_close ts due now x y r p c = subst (λ us. Tail us due x r) (joined_none ts) (passed_tail ts no_more due now x y r p c)
 
 -- what a whole array has after the members that were passed
-pub passed_rest : (us ts : Trees) (due now : Bool) (x y r : List ℕ) → Passed us due x now y → Tail ts due x r → (vs : Trees) × (ts ≡ joined us vs) × Tail vs now y r
+pub passed_rest : (us ts : Trees) (due now : Bool) (x y r : List ℕ) → Passed us due x now y → Tail ts due x r → (vs : Trees) × (ts ≡ joined_trees us vs) × Tail vs now y r
 passed_rest no_more ts due now x y r (d, s) tl = (ts, refl, subst (λ k. Tail ts now k r) s (subst (λ b. Tail ts b x r) d tl))
 passed_rest (more u us) no_more due now x y r (w, e, p) c = absurd (element_or_close due x w r u e c)
 passed_rest (more u us) (more t ts) due now x y r (w, e, p) (z, f, tl) =
     let one = one_element due x z w t u f e in
     let (vs, k, rest) = passed_rest us ts true now w y r p (subst (λ k. Tail ts true k r) one.1 tl) in
-    (vs, more_same t u ts (joined us vs) one.0 k, rest)
+    (vs, more_same t u ts (joined_trees us vs) one.0 k, rest)
 
 -- ---- a member or the bracket, or nothing
 
@@ -139,7 +139,7 @@ pub array_closed : (x y z r : List ℕ) (ts : Trees) (due : Bool) → Opens x y 
 array_closed x y z r ts due o p c = array_reads x y r ts o (passed_close ts false due y z r p c)
 
 -- what is left of an array that was opened, after the members that were passed
-pub array_left : (x y z r : List ℕ) (us ts : Trees) (due : Bool) → Opens x y → Passed us false y due z → Reads x (array ts) r → (vs : Trees) × (ts ≡ joined us vs) × Tail vs due z r
+pub array_left : (x y z r : List ℕ) (us ts : Trees) (due : Bool) → Opens x y → Passed us false y due z → Reads x (array ts) r → (vs : Trees) × (ts ≡ joined_trees us vs) × Tail vs due z r
 array_left x y z r us ts due o p reads =
     let (q, b, tl) = array_front x r ts reads in
     passed_rest us ts false due y z r p (subst (λ k. Tail ts false k r) (one_opening x q y b o) tl)
@@ -172,7 +172,7 @@ element_shorter true x r t (y, c, p) = let a = sign_shorter 44 x y c in let b = 
 -- ---- depths
 
 -- the deepest of joined members
-pub depths_joined : (ts us : Trees) → depths (joined ts us) ≡ max (depths ts) (depths us)
+pub depths_joined : (ts us : Trees) → depths (joined_trees ts us) ≡ max (depths ts) (depths us)
 depths_joined no_more us = omega arith
 depths_joined (more t ts) us = let rest = depths_joined ts us in omega (arith, rest)
 

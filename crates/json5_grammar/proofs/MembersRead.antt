@@ -11,6 +11,7 @@ use Rattle.json5_grammar.proofs.BlanksRead.{begins_solid, printable_solid}
 use Rattle.json5_grammar.proofs.BlanksSound.{Blanks-append, one_gap, gap_blanks}
 use Rattle.json5_grammar.proofs.Classes.{comma_ends_values, bracket_ends_values}
 use Rattle.json5_grammar.proofs.ValueHeads.{val_head, value_solid, stops_blanks}
+use Rattle.json5_grammar.proofs.ValuesRead.{regroup}
 
 -- ---- signs
 
@@ -76,9 +77,6 @@ reads_found x w y r t e g s p = record {
 }
 
 -- ---- arrays from the front
-
-regroup : (w s v c r : List ℕ) → (w ++ (s ++ (v ++ c))) ++ r ≡ w ++ (s ++ (v ++ (c ++ r)))
-regroup w s v c r = simp append_assoc
 
 -- members may stand after the comma that is due
 pub tail_comma : (ts : Trees) (x y r : List ℕ) → IsSign 44 x y → Tail ts false y r → Tail ts true x r

@@ -14,10 +14,6 @@ use Rattle.json5_grammar.proofs.Refusals.{Refuses, one_refusal, not_both, one_an
 use Rattle.json5_grammar.proofs.EscapesRead.{escape_from, unicode_read, escape_refused}
 use Rattle.json5_grammar.proofs.StringsRead.{escape_head, fault_head, put_none, put_raw, put_escape, put_end}
 
-abbrev name_from : List ℕ → Read ℕ
-name_from [] = bad None inner
-name_from (a ∷ r) = name_escape (a ∷ r) r
-
 pub unicode_head : {e : List ℕ} {n : ℕ} → Unicode e n → (t : List ℕ) × (e ≡ 92 ∷ t)
 unicode_head {e = e} {n = n} u = head (unicode u)
   where

@@ -12,6 +12,7 @@ use Rattle.json5_grammar.specs.ReadTexts.{name_escape, unicode_at, fit, escaped_
 use Rattle.json5_grammar.proofs.Basics.{by_test, eq_from, neq_from, at_behind}
 use Rattle.json5_grammar.proofs.EscapesSound.{Blamed, UnicodeSound, unicode_sound}
 use Rattle.json5_grammar.proofs.NamesRead.{unicode_head}
+use Rattle.json5_grammar.proofs.StringsSound.{shorter}
 
 -- what is wrong with an escape in a name, whose character is to pass the test
 pub data NameItemFault (f : ℕ → Bool) : List ℕ → Option ErrorCode → Place → Type 0 where
@@ -54,9 +55,6 @@ PartsSound y (bad code p) = (s : List ℕ) × (t : List ℕ) × (u : List ℕ) �
 behind_item : {v : List ℕ} {c : ℕ} {p : Bool} (x y : List ℕ) (res : Read (List ℕ × Bool)) → x ≡ v ++ y → NameItem v c p → is_identifier_part c ≡ true → PartsSound y res → PartsSound x (put (c ∷ []) p res)
 behind_item {v = v} x y (got a r) e i h (s, g, k, st) = (v ++ s, e ∙ ap (λ z. v ++ z) g ∙ sym (append_assoc v s r), part i h k, st)
 behind_item {v = v} {c = c} {p = b} x y (bad code p) e i h (s, t, u, plain, g, k, f) = (v ++ s, t, c ∷ u, b && plain, e ∙ ap (λ z. v ++ z) g ∙ sym (append_assoc v s t), part i h k, f)
-
-pub shorter : (x e y : List ℕ) → x ≡ e ++ y → (t : List ℕ) × (e ≡ 92 ∷ t) → length y < length x
-shorter x e y f (t, h) = let k : x ≡ 92 ∷ (t ++ y) = f ∙ ap (λ z. z ++ y) h in omega (arith, ap length k, length-append t y)
 
 escape_more : (x : List ℕ) (res : Read ℕ) (k : List ℕ → Read (List ℕ × Bool)) → EscapedSound is_identifier_part x res → ((y : List ℕ) → length y < length x → PartsSound y (k y)) → PartsSound x (and_then res (λ n y. put (n ∷ []) false (k y)))
 escape_more x (got n y) k (e, f, u, h) i = behind_item x y (k y) f (escaped_name u) h (i y (shorter x e y f (unicode_head u)))

@@ -9,13 +9,9 @@ use Rattle.std.proofs.lemmas.Int.{ints}
 use Rattle.json5_grammar.specs.Numbers.{spelled, signed}
 use Rattle.json5_grammar.specs.ReadNumbers.{front_of, rest_of, in_exponents}
 use Rattle.json5_grammar.specs.NumberSteps.{capped, checked}
-use Rattle.json5_grammar.proofs.Basics.{by_test}
+use Rattle.json5_grammar.proofs.Basics.{by_test, lt_from, le_from}
 
 -- in std's words
-
-pub spelled_is : (base n : ℕ) (s : List ℕ) → spelled base n s ≡ digits_value_after base n s
-spelled_is base n [] = refl
-spelled_is base n (c ∷ s) = spelled_is base (n * base + digit_value c) s
 
 front_step : (b : Bool) (c : ℕ) (x : List ℕ) (k : ℕ) (f : List ℕ) → f ≡ take k x → cond b (c ∷ f) [] ≡ take (cond b (1 + k) 0) (c ∷ x)
 front_step true c x k f e = let i : 1 + k ≡ suc k = omega arith in rw i (ap (λ z. c ∷ z) e)
@@ -26,27 +22,12 @@ unfolding front_of
 front_is p [] = refl
 front_is p (c ∷ x) = front_step (p c) c x (prefix_len p x) (front_of p x) (front_is p x)
 
-rest_step : (b : Bool) (c : ℕ) (x : List ℕ) (k : ℕ) (f : List ℕ) → f ≡ drop k x → cond b f (c ∷ x) ≡ drop (cond b (1 + k) 0) (c ∷ x)
-rest_step true c x k f e = let i : 1 + k ≡ suc k = omega arith in rw i e
-rest_step false c x k f e = refl
-
-pub rest_is : (p : ℕ → Bool) (x : List ℕ) → rest_of p x ≡ drop (prefix_len p x) x
-unfolding rest_of
-rest_is p [] = refl
-rest_is p (c ∷ x) = rest_step (p c) c x (prefix_len p x) (rest_of p x) (rest_is p x)
-
 -- whole numbers
 
 grows : (base n : ℕ) (s : List ℕ) → 0 < base → n ≤ spelled base n s
 grows zero n s h = absurd (omega arith)
 grows (suc b) n [] h = omega arith
 grows (suc b) n (c ∷ s) h = let k = grows (suc b) (n * suc b + digit_value c) s h in grind (arith, nat_tests)
-
-lt_from : (a b : ℕ) → nat_lt a b ≡ true → a < b
-lt_from a b h = grind (arith, nat_tests)
-
-le_from : (a b : ℕ) → nat_lt a b ≡ false → b ≤ a
-le_from a b h = grind (arith, nat_tests)
 
 -- below the bound the number, else none
 abbrev pub IsChecked : ℕ → ℕ → Option ℕ → Type 0

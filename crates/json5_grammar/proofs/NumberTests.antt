@@ -9,14 +9,7 @@ use Rattle.json5_grammar.specs.Stops.{in_run, begins_run}
 use Rattle.json5_grammar.specs.NumberFaults.{is_sign}
 use Rattle.json5_grammar.specs.ReadNumbers.{front_of, rest_of, in_whole, in_exponents}
 pub use Rattle.json5_grammar.proofs.Basics.{by_test}
-
-pub and_left : (a b : Bool) → (a && b) ≡ true → a ≡ true
-and_left true b h = refl
-and_left false b h = h
-
-pub and_right : (a b : Bool) → (a && b) ≡ true → b ≡ true
-and_right true b h = h
-and_right false b h = cc
+use Rattle.json5_grammar.proofs.Basics.{and_left, and_right}
 
 -- ---- characters
 
@@ -25,9 +18,6 @@ digit_no_sign c h = (grind (arith, nat_tests), grind (arith, nat_tests))
 
 pub digit_in_run : (c : ℕ) → is_digit c ≡ true → in_run c ≡ true
 digit_in_run c h = rw h
-
-pub sign_in_run : (c : ℕ) → is_sign c ≡ true → in_run c ≡ true
-sign_in_run c h = grind (arith, nat_tests)
 
 pub e_in_run : (c : ℕ) → ((c == 101) || (c == 69)) ≡ true → in_run c ≡ true
 e_in_run c h = grind (arith, nat_tests)

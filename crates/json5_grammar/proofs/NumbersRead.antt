@@ -56,7 +56,7 @@ hex_bound : (m : Bool) (n : ℕ) → InWhole (signed m n) → n < 2 ^ 128
 hex_bound false n h = let a = h.1 in omega (arith, ints)
 hex_bound true n h = let a = h.0 in omega (arith, ints)
 
-hex_kept : (q : List ℕ) (m : Bool) (n : ℕ) (r : List ℕ) → InWhole (signed m n) → hex_judged q m (got n r) ≡ got (whole (signed m n)) r
+pub hex_kept : (q : List ℕ) (m : Bool) (n : ℕ) (r : List ℕ) → InWhole (signed m n) → hex_judged q m (got n r) ≡ got (whole (signed m n)) r
 hex_kept q false n r h = refl
 hex_kept q true n r h = let a = h.0 in let k : nat_le n (2 ^ 127) ≡ true = le_true n (2 ^ 127) (omega (arith, ints)) in rw k
 

@@ -12,7 +12,7 @@ use Rattle.json5_grammar.specs.Codes.{ErrorCode, Shown, by_char, by_end, Expecte
 use Rattle.json5_grammar.specs.NumberFaults.{is_sign, begins_number, NumberWord, Run, run, zero_run, Behind, behind_end, behind_char, NumberFault, number_word_differs, number_word_ends, sign_without_number, sign_ends, no_hexadecimal_digit, hexadecimal_ends, hexadecimal_overflows, negative_too_large, not_a_literal, literal_overflows, leading_zero}
 use Rattle.json5_grammar.specs.Reading.{Place, Read, got, bad, here, inner}
 use Rattle.json5_grammar.specs.ReadNumbers.{Parts, front_of, rest_of, literal_at, in_exponents, is_whole, judged, if_literal, decimal_run, at_zero, hex_judged, hexadecimal, hex_digits, word, unsigned, number}
-use Rattle.json5_grammar.proofs.Basics.{by_test, eq_from, neq_from, rest_same, cons_not_nil}
+use Rattle.json5_grammar.proofs.Basics.{by_test, eq_from, neq_from, rest_same, cons_not_nil, lt_from, le_from}
 use Rattle.json5_grammar.proofs.NumberTests.{in_whole_yes, in_whole_true, in_exponents_yes, begins_run_in_run, dot_or_e_in_run, front_each, rest_stops, front_rest}
 use Rattle.json5_grammar.proofs.Literals.{literal_found, literal_is, LiteralIs, literal_head, Longer, zero_more, begun}
 use Rattle.json5_grammar.proofs.NumbersRead.{number_bare, lengthens_bare, lengthens_longer, lengthens_hex, stops_same, signed_zero, run_read, Bare, bare, longer_bare, head_bare, complete}
@@ -94,12 +94,6 @@ HexIs n y (bad e p) = (h : List ℕ) × (c : ℕ) × (r : List ℕ) × (y ≡ h 
 hex_more : (n c : ℕ) (y : List ℕ) (res : Read ℕ) → is_hex_digit c ≡ true → HexIs (n * 16 + digit_value c) y res → HexIs n (c ∷ y) res
 hex_more n c y (got v r) k (h, e, a, b, st, l) = (c ∷ h, ap (λ z. c ∷ z) e, char k a, b, st, l)
 hex_more n c y (bad e p) k (h, d, r, f, a, b, l, g, i, j) = (c ∷ h, d, r, ap (λ z. c ∷ z) f, char k a, b, l, g, i, j)
-
-lt_from : (a b : ℕ) → nat_lt a b ≡ true → a < b
-lt_from a b h = grind (arith, nat_tests)
-
-le_from : (a b : ℕ) → nat_lt a b ≡ false → b ≤ a
-le_from a b h = grind (arith, nat_tests)
 
 hex_is : (n : ℕ) (y : List ℕ) → n < 2 ^ 128 → HexIs n y (hex_digits n y)
 unfolding hex_digits

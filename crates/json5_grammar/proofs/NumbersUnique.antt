@@ -18,6 +18,7 @@ use Rattle.json5_grammar.proofs.Hexadecimal.{spelled-append, hex_stop, hex_over}
 use Rattle.json5_grammar.proofs.Literals.{literal_is, LiteralIs, literal_head, Longer, zero_more, begun}
 use Rattle.json5_grammar.proofs.NumbersRead.{number_unsigned, number_bare, unsigned_hex, unsigned_run, run_read, longer_bare, head_bare, complete}
 use Rattle.json5_grammar.proofs.NumbersSound.{PlaceIs, unsigned_bad, unsigned_end, sign_split, whole_num, whole_true, judged_bad, got_not_bad, true_not_false}
+use Rattle.json5_grammar.proofs.Refusals.{same_bad}
 
 -- the reader answers this code at this place
 pub record Refused (x : List ℕ) (e : Option ErrorCode) (pl : Option (List ℕ)) : Type 0 where
@@ -105,7 +106,7 @@ hexadecimal_at : {h : List ℕ} (q : List ℕ) (m : Bool) (c : ℕ) (y : List �
 hexadecimal_at q m c y no_char n = rw n
 hexadecimal_at q m c y (char k e) n = rw k
 
-hex_judged_bad : (q : List ℕ) (m : Bool) (e : Option ErrorCode) (p : Place) → hex_judged q m (bad e p) ≡ bad e p
+pub hex_judged_bad : (q : List ℕ) (m : Bool) (e : Option ErrorCode) (p : Place) → hex_judged q m (bad e p) ≡ bad e p
 hex_judged_bad q true e p = refl
 hex_judged_bad q false e p = refl
 
@@ -224,14 +225,11 @@ one_place : (x : List ℕ) (p : Place) (a b : Option (List ℕ)) → PlaceIs x p
 one_place x (here q) a b (f, i, e) (g, j, h) = let same : f ≡ g = append_cancel_right f g q (sym e ∙ h) in i ∙ ap Some same ∙ sym j
 one_place x inner a b e h = e ∙ sym h
 
-same_answer : {e d : Option ErrorCode} {p q : Place} (a : Read Number) → a ≡ bad e p → a ≡ bad d q → (e ≡ d) × (p ≡ q)
-same_answer a h k = (cc, cc)
-
 pub one_fault : {x b c : List ℕ} {e d : Option ErrorCode} {p q : Option (List ℕ)} {h k : Shown} → NumberFault x e p b h → NumberFault x d q c k → (e ≡ d) × (p ≡ q)
-one_fault {x = x} {p = p} {q = q} f g =
+one_fault {x = x} {e = e} {d = d} {p = p} {q = q} f g =
     let a = refused f in
     let b = refused g in
-    let s = same_answer (number x) a.answer b.answer in
+    let s = same_bad (number x) e d a.place b.place a.answer b.answer in
     (s.0, one_place x a.place p q a.is_place (subst (λ z. PlaceIs x z q) (sym s.1) b.is_place))
 
 pub no_fault : {x s b : List ℕ} {n : Number} {e : Option ErrorCode} {p : Option (List ℕ)} {h : Shown} (r : List ℕ) → NumberFault x e p b h → x ≡ s ++ r → Num s n → NotBegun (lengthens s) r → ⊥

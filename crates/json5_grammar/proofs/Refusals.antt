@@ -9,6 +9,9 @@ use Rattle.json5_grammar.proofs.Basics.{at_behind}
 abbrev pub Refuses : {A : Type 0} → Read A → List ℕ → Option ErrorCode → Option (List ℕ) → Type 0
 Refuses res x code place = (p : Place) × (res ≡ bad code p) × IsAt x place p
 
+pub same_bad : {A : Type 0} (a : Read A) (e d : Option ErrorCode) (p q : Place) → a ≡ bad e p → a ≡ bad d q → (e ≡ d) × (p ≡ q)
+same_bad a e d p q h k = (cc, cc)
+
 same_place : (x : List ℕ) (a b : Option (List ℕ)) (p : Place) → IsAt x a p → IsAt x b p → a ≡ b
 same_place x (Some a) (Some b) (here q) e f = ap Some (append_cancel_right a b q (sym e ∙ f))
 same_place x (Some a) (Some b) inner e f = absurd e

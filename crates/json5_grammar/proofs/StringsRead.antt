@@ -45,10 +45,10 @@ fault_head (escape_ends lone_backslash) = ([], refl)
 fault_head {x = x} (escape_ends (digits_missing i)) = no_rest x (digits_head [] i)
 fault_head {x = x} (escape_ends (second_missing i)) = no_rest x (after_head [] i)
 
-raw_fails : (q c : ℕ) → is_raw q c ≡ true → ((c == q) ≡ false) × ((c == 92) ≡ false) × (((c == 10) || (c == 13)) ≡ false)
+pub raw_fails : (q c : ℕ) → is_raw q c ≡ true → ((c == q) ≡ false) × ((c == 92) ≡ false) × (((c == 10) || (c == 13)) ≡ false)
 raw_fails q c h = (grind (arith, nat_tests), grind (arith, nat_tests), grind (arith, nat_tests))
 
-quote_no_backslash : (q : ℕ) → is_quote q ≡ true → (92 == q) ≡ false
+pub quote_no_backslash : (q : ℕ) → is_quote q ≡ true → (92 == q) ≡ false
 quote_no_backslash q h = grind (arith, nat_tests)
 
 line_no_quote : (q c : ℕ) → is_quote q ≡ true → ((c == 10) || (c == 13)) ≡ true → ((c == q) ≡ false) × ((c == 92) ≡ false)

@@ -35,7 +35,7 @@ behind_escape q x y e v (got a r) f k (s, g, i) =
 behind_escape q x y e v (bad code p) f k (s, t, u, plain, g, i, h) =
     (e ++ s, t, v ++ u, false, f ∙ ap (λ z. e ++ z) g ∙ sym (append_assoc e s t), escape (subst (Escape e v) g k) i, h)
 
-shorter : (x e y : List ℕ) → x ≡ e ++ y → (t : List ℕ) × (e ≡ 92 ∷ t) → length y < length x
+pub shorter : (x e y : List ℕ) → x ≡ e ++ y → (t : List ℕ) × (e ≡ 92 ∷ t) → length y < length x
 shorter x e y f (t, h) = let k : x ≡ 92 ∷ (t ++ y) = f ∙ ap (λ z. z ++ y) h in omega (arith, ap length k, length-append t y)
 
 escape_more : (q : ℕ) (x : List ℕ) (res : Read (List ℕ)) (k : List ℕ → Read (List ℕ × Bool)) → EscapeSound x res → ((y : List ℕ) → length y < length x → ItemsSound q y (k y)) → ItemsSound q x (and_then res (λ v y. put v false (k y)))

@@ -10,7 +10,7 @@ use Rattle.json5_grammar.specs.StringFaults.{StringFault, raw_terminator, string
 use Rattle.json5_grammar.specs.NameFaults.{NameFault, no_unicode_escape, escaped_no_start, escaped_no_part, name_ends, backslash_ends, Named, no_item_yet, some_items}
 use Rattle.json5_grammar.proofs.StringsRead.{no_string_fault}
 use Rattle.json5_grammar.proofs.NamesRead.{no_name_fault}
-use Rattle.json5_grammar.proofs.TextFollows.{string_follows, name_follows}
+use Rattle.json5_grammar.proofs.TextFollows.{string_follows, name_follows, string_moved, name_moved}
 
 closed_not : (p : ℕ → Bool) (q : ℕ) (s r : List ℕ) → p q ≡ false → NotBegun p (s ++ r) → NotBegun p (s ++ q ∷ [])
 closed_not p q [] r h n = h
@@ -55,14 +55,8 @@ name_before (escaped_no_part {u = u} {plain = plain} r i v n) = inr (u, plain, i
 name_before (name_ends i) = inl refl
 name_before (backslash_ends k) = inl refl
 
-moved : {x b p : List ℕ} {e : Option ErrorCode} {pl : Option (List ℕ)} {how : Shown} (y : List ℕ) → x ≡ y → StringFault x e pl b p how → StringFault y e pl b p how
-moved {b = b} {p = p} {e = e} {pl = pl} {how = how} y h f = subst (λ z. StringFault z e pl b p how) h f
-
-name_moved : {x b p : List ℕ} {e : Option ErrorCode} {pl : Option (List ℕ)} {how : Shown} (y : List ℕ) → x ≡ y → NameFault x e pl b p how → NameFault y e pl b p how
-name_moved {b = b} {p = p} {e = e} {pl = pl} {how = how} y h f = subst (λ z. NameFault z e pl b p how) h f
-
 pub string_hopeless : {x b p s u : List ℕ} {plain : Bool} {e : Option ErrorCode} {pl : Option (List ℕ)} (z r : List ℕ) → StringFault x e pl b p by_char → Str s u plain → (b ++ p) ++ z ≡ s ++ r → ⊥
-string_hopeless z r f a e = no_string_fault r a (moved _ e (string_follows z f))
+string_hopeless z r f a e = no_string_fault r a (string_moved _ (string_follows z f) e)
 
 pub name_hopeless : {x b p s u : List ℕ} {plain : Bool} {e : Option ErrorCode} {pl : Option (List ℕ)} (z : List ℕ) (c : ℕ) (r : List ℕ) → NameFault x e pl b p by_char → Ident s u plain → goes_on_name c ≡ false → (b ++ p) ++ z ≡ s ++ c ∷ r → ⊥
-name_hopeless z c r f a g e = no_name_fault c r a g (name_moved _ e (name_follows z f))
+name_hopeless z c r f a g e = no_name_fault c r a g (name_moved _ (name_follows z f) e)

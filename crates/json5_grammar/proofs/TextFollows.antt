@@ -23,18 +23,14 @@ escape_follows z (unpaired r x y s h) = unpaired z x y s h
 pub escape_heads : {m : Bool} {x part : List ℕ} {code : Option ErrorCode} {place : Option (List ℕ)} (z : List ℕ) → EscapeFault m x code place part by_char → SameHead x (part ++ z)
 escape_heads {x = x} {part = part} z f = by_backslash x (part ++ z) (fault_head f) (fault_head (escape_follows z f))
 
-string_moved : {x b p : List ℕ} {e : Option ErrorCode} {pl : Option (List ℕ)} {how : Shown} (y : List ℕ) → StringFault x e pl b p how → x ≡ y → StringFault y e pl b p how
+pub string_moved : {x b p : List ℕ} {e : Option ErrorCode} {pl : Option (List ℕ)} {how : Shown} (y : List ℕ) → StringFault x e pl b p how → x ≡ y → StringFault y e pl b p how
 string_moved {b = b} {p = p} {e = e} {pl = pl} {how = how} y f h = subst (λ z. StringFault z e pl b p how) h f
 
 pub string_follows : {x b p : List ℕ} {e : Option ErrorCode} {pl : Option (List ℕ)} (z : List ℕ) → StringFault x e pl b p by_char → StringFault ((b ++ p) ++ z) e pl b p by_char
 string_follows z (raw_terminator {q = q} {c = c} {s = s} r k i h) = string_moved _ (raw_terminator z k (same_items (c ∷ z) refl i) h) (sym (append_assoc (q ∷ s) (c ∷ []) z))
 string_follows z (StringFault.in_escape {q = q} {s = s} {part = p} k i f) = string_moved _ (StringFault.in_escape k (same_items (p ++ z) (escape_heads z f) i) (escape_follows z f)) (sym (append_assoc (q ∷ s) p z))
 
-pub string_heads : {x b p : List ℕ} {e : Option ErrorCode} {pl : Option (List ℕ)} (z : List ℕ) → StringFault x e pl b p by_char → SameHead x ((b ++ p) ++ z)
-string_heads z (raw_terminator r k i h) = refl
-string_heads z (StringFault.in_escape k i f) = refl
-
-name_moved : {x b p : List ℕ} {e : Option ErrorCode} {pl : Option (List ℕ)} {how : Shown} (y : List ℕ) → NameFault x e pl b p how → x ≡ y → NameFault y e pl b p how
+pub name_moved : {x b p : List ℕ} {e : Option ErrorCode} {pl : Option (List ℕ)} {how : Shown} (y : List ℕ) → NameFault x e pl b p how → x ≡ y → NameFault y e pl b p how
 name_moved {b = b} {p = p} {e = e} {pl = pl} {how = how} y f h = subst (λ z. NameFault z e pl b p how) h f
 
 pub name_follows : {x b p : List ℕ} {e : Option ErrorCode} {pl : Option (List ℕ)} (z : List ℕ) → NameFault x e pl b p by_char → NameFault ((b ++ p) ++ z) e pl b p by_char
@@ -42,16 +38,3 @@ name_follows z (NameFault.in_escape {t = t} {part = p} k f) = name_moved _ (Name
 name_follows z (no_unicode_escape {t = t} c r k n) = name_moved _ (no_unicode_escape c z k n) (sym (append_assoc t (92 ∷ c ∷ []) z))
 name_follows z (escaped_no_start r u n) = escaped_no_start z u n
 name_follows z (escaped_no_part {t = t} {e = e} r i u n) = name_moved _ (escaped_no_part z i u n) (sym (append_assoc t e z))
-
-unicode_heads : {e : List ℕ} {n : ℕ} (r z : List ℕ) → Unicode e n → SameHead (e ++ r) (e ++ z)
-unicode_heads r z (single h s) = refl
-unicode_heads r z (surrogates h l a b) = refl
-
-two_heads : (t p x z : List ℕ) → SameHead x (p ++ z) → SameHead (t ++ x) ((t ++ p) ++ z)
-two_heads t p x z h = subst (SameHead (t ++ x)) (sym (append_assoc t p z)) (same_append t x (p ++ z) h)
-
-pub name_heads : {x b p : List ℕ} {e : Option ErrorCode} {pl : Option (List ℕ)} (z : List ℕ) → NameFault x e pl b p by_char → SameHead x ((b ++ p) ++ z)
-name_heads z (NameFault.in_escape {t = t} {x = x} {part = p} k f) = two_heads t p x z (escape_heads z f)
-name_heads z (no_unicode_escape {t = t} c r k n) = two_heads t (92 ∷ c ∷ []) (92 ∷ c ∷ r) z refl
-name_heads z (escaped_no_start r u n) = unicode_heads r z u
-name_heads z (escaped_no_part {t = t} {e = e} r i u n) = two_heads t e (e ++ r) z (unicode_heads r z u)

@@ -12,7 +12,7 @@ use Rattle.json5_grammar.specs.Names.{raw_name, escaped_name, NameParts, no_part
 use Rattle.json5_grammar.specs.Quoting.{escaped, escaped_all, quote_for, is_name, key_text, quoted_text}
 use Rattle.json5_grammar.specs.Reading.{got}
 use Rattle.json5_grammar.specs.ReadTexts.{string}
-use Rattle.json5_grammar.proofs.Basics.{by_test, eq_from, not_eq}
+use Rattle.json5_grammar.proofs.Basics.{by_test, eq_from, not_eq, and_left, and_right, same_char}
 use Rattle.json5_grammar.proofs.StringsRead.{escape_head, string_complete}
 use Rattle.json5_grammar.proofs.NamesRead.{unicode_head}
 
@@ -59,7 +59,7 @@ by_escape {e = e} {u = u} {s = s} {r = r} {c = c} {q = q} d h x (p, i) = (false,
 
 written_char : (q c : ℕ) (r u s : List ℕ) → is_quote q ≡ true → WrittenItems q r u s → WrittenItems q r (c ∷ u) (escaped q c ++ s)
 written_char q c r u s k w =
-    by_test P (c == q) _ _ (λ t. by_escape c (same c) (itself (self_quote q c k t)) w)
+    by_test P (c == q) _ _ (λ t. by_escape c (same_char c) (itself (self_quote q c k t)) w)
     (λ not_q. by_test P (c == 92) _ _ (λ t. by_escape c t (itself refl) w)
     (λ not_slash. by_test P (c == 10) _ _ (λ t. by_escape c t (short refl) w)
     (λ not_lf. by_test P (c == 13) _ _ (λ t. by_escape c t (short refl) w)
@@ -70,14 +70,11 @@ written_char q c r u s k w =
     P : List ℕ → Type 0
     P z = WrittenItems q r (c ∷ u) (z ++ s)
 
-    same : (c : ℕ) → (c == c) ≡ true
-    same c = grind arith
-
 written_all : (q : ℕ) (r u : List ℕ) → is_quote q ≡ true → WrittenItems q r u (escaped_all q u)
 written_all q r [] k = (true, no_item)
 written_all q r (c ∷ u) k = written_char q c r u (escaped_all q u) k (written_all q r u k)
 
-quote_is : (u : List ℕ) → is_quote (quote_for u) ≡ true
+pub quote_is : (u : List ℕ) → is_quote (quote_for u) ≡ true
 quote_is u = by_test (λ q. is_quote q ≡ true) (list_any (λ c. c == 34) u && not (list_any (λ c. c == 39) u)) 39 34 (λ h. refl) (λ h. refl)
 
 -- a written text is a string of that text, plain where it holds no backslash
@@ -86,9 +83,6 @@ quoted_is u =
     let w = written_all (quote_for u) (quote_for u ∷ []) u (quote_is u) in
     let s : Str (quoted_text u) u w.0 = quoted (quote_is u) w.1 in
     subst (Str (quoted_text u) u) (string_plain s) s
-
-pub quoted_read : (u r : List ℕ) → string (quoted_text u ++ r) ≡ got (u, not (holds_backslash (quoted_text u))) r
-quoted_read u r = string_complete r (quoted_is u)
 
 -- ---- names
 
@@ -107,26 +101,18 @@ colon_stops = refl
 not_backslash : (f : ℕ → Bool) (c : ℕ) → f 92 ≡ false → f c ≡ true → c ≢ 92
 not_backslash f c h k e = let a : true ≡ false = sym k ∙ ap f e ∙ h in absurd (cc)
 
-left : (a b : Bool) → (a && b) ≡ true → a ≡ true
-left true b h = refl
-left false b h = absurd (cc)
-
-right : (a b : Bool) → (a && b) ≡ true → b ≡ true
-right true b h = h
-right false b h = absurd (cc)
-
 written_parts : (u : List ℕ) → list_all is_identifier_part u ≡ true → NameParts u u true
 written_parts [] h = no_part
 written_parts (c ∷ u) h =
-    let k = left (is_identifier_part c) (list_all is_identifier_part u) h in
-    part (raw_name (not_backslash is_identifier_part c backslash_no_part k)) k (written_parts u (right (is_identifier_part c) (list_all is_identifier_part u) h))
+    let k = and_left (is_identifier_part c) (list_all is_identifier_part u) h in
+    part (raw_name (not_backslash is_identifier_part c backslash_no_part k)) k (written_parts u (and_right (is_identifier_part c) (list_all is_identifier_part u) h))
 
 -- a text that is an identifier is written bare
 pub name_is : (u : List ℕ) → is_name u ≡ true → Ident u u true
 name_is [] h = absurd (cc)
 name_is (c ∷ u) h =
-    let k = left (is_identifier_start c) (list_all is_identifier_part u) h in
-    name (raw_name (not_backslash is_identifier_start c backslash_no_start k)) k (written_parts u (right (is_identifier_start c) (list_all is_identifier_part u) h))
+    let k = and_left (is_identifier_start c) (list_all is_identifier_part u) h in
+    name (raw_name (not_backslash is_identifier_start c backslash_no_start k)) k (written_parts u (and_right (is_identifier_start c) (list_all is_identifier_part u) h))
 
 -- a written key is a key of that text, before a colon
 pub key_is : (u r : List ℕ) → (plain : Bool) × Key (key_text u) (58 ∷ r) u plain

@@ -9,7 +9,8 @@ use Rattle.json5_grammar.proofs.Basics.{eq_from}
 use Rattle.json5_grammar.proofs.EscapesSound.{EscapeSound, escape_sound}
 use Rattle.json5_grammar.proofs.StringsRead.{escape_head}
 use Rattle.json5_grammar.proofs.NamesRead.{unicode_head}
-use Rattle.json5_grammar.proofs.NamesSound.{EscapedSound, escaped_sound, shorter}
+use Rattle.json5_grammar.proofs.NamesSound.{EscapedSound, escaped_sound}
+use Rattle.json5_grammar.proofs.StringsSound.{shorter}
 
 same_cond : {A : Type 0} (b : Bool) (x y v w : A) → (b ≡ true → x ≡ v) → (b ≡ false → y ≡ w) → cond b x y ≡ cond b v w
 same_cond true x y v w f g = f refl

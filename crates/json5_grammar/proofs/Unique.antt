@@ -34,13 +34,6 @@ one_phrase x r q t u a b =
     let d : ℕ = max (depth t) (depth u) in
     got_same t u r q (sym (phrase_complete d x r t a (omega arith)) ∙ phrase_complete d x q u b (omega arith))
 
--- what is a document is read
-pub complete_document : (limit : ℕ) (x : List ℕ) (t : Tree) → Doc limit x t → document limit x ≡ got t []
-unfolding document
-complete_document limit x t d =
-    ap (document limit) d.whole
-    ∙ rw (skip_blanks (d.text ++ d.after) d.blank, skip_value d.after (val_head d.value), read_complete d.value d.after (stops_last d.text d.last) limit d.shallow, skip_last d.last) refl
-
 -- a document is a phrase with blanks after it
 pub document_phrase : (limit : ℕ) (x : List ℕ) (t : Tree) → Doc limit x t → (r : List ℕ) × Reads x t r × LastBlanks r × (depth t ≤ limit)
 document_phrase limit x t d = (d.after, record { front = d.before; phrase = d.text; split = d.whole; blank = d.blank; value = d.value; stops = stops_last d.text d.last }, d.last, d.shallow)
@@ -55,7 +48,3 @@ one_tree limit other x t u d e =
     let a = document_phrase limit x t d in
     let b = document_phrase other x u e in
     (one_phrase x a.0 b.0 t u a.1 b.1).0
-
--- a document's limit may be raised
-pub deeper : (limit other : ℕ) (x : List ℕ) (t : Tree) → Doc limit x t → limit ≤ other → Doc other x t
-deeper limit other x t d l = let s = d.shallow in record { before = d.before; text = d.text; after = d.after; whole = d.whole; blank = d.blank; value = d.value; last = d.last; shallow = omega arith }

@@ -19,12 +19,13 @@ use Rattle.json5_grammar.specs.ReadBlanks.{skip, between}
 use Rattle.json5_grammar.specs.ReadNumbers as numbers
 use Rattle.json5_grammar.specs.ReadTexts.{string}
 use Rattle.json5_grammar.specs.ReadValues.{word_at, items, entries, as_leaf, value_with, too_deep, read}
-use Rattle.json5_grammar.proofs.Basics.{eq_from, either_false}
+use Rattle.json5_grammar.proofs.Basics.{eq_from}
 use Rattle.json5_grammar.proofs.BlanksRead.{printable_no_blank, printable_solid, skip_rest, solid_from, begins_solid}
-use Rattle.json5_grammar.proofs.Classes.{EndsValues, blank_ends_values, slash_ends_values, blank_no_name, slash_no_name, start_no_blank, start_no_slash, start_no_brace, begins_printable, begins_others, number_begins, quote_begins, number_others, quote_others, no_value_others}
+use Rattle.json5_grammar.proofs.Classes.{EndsValues, blank_ends_values, slash_ends_values, blank_no_name, slash_no_name, start_no_blank, start_no_slash, start_no_brace, begins_printable, begins_others, number_begins, quote_begins, number_others, quote_others}
 use Rattle.json5_grammar.proofs.NamesRead.{unicode_head}
 use Rattle.json5_grammar.proofs.NumbersRead.{complete, number_unsigned}
 use Rattle.json5_grammar.proofs.NumbersSound.{unsigned_bad, got_not_bad}
+use Rattle.std.proofs.lemmas.Bool.{or_parts}
 
 -- ---- heads
 
@@ -49,7 +50,7 @@ number_head {s = s} {n = n} a = head s (ap numbers.number (sym (append-nil s)) �
       where
         split : (b : Bool) → (is_sign c || begins_number c) ≡ b → (d : ℕ) × (y : List ℕ) × (c ∷ t ≡ d ∷ y) × ((is_sign d || begins_number d) ≡ true)
         split true h = (c, t, refl, h)
-        split false h = let k = either_false (is_sign c) (begins_number c) h in absurd (got_not_bad (sym e ∙ number_unsigned c t no_sign k.0 ∙ unsigned_bad (c ∷ t) false c t k.1))
+        split false h = let k = or_parts (is_sign c) (begins_number c) h in absurd (got_not_bad (sym e ∙ number_unsigned c t no_sign k.0 ∙ unsigned_bad (c ∷ t) false c t k.1))
 
 -- a value begins with a character that begins a value
 pub val_head : {s : List ℕ} {t : Tree} → Val s t → ValueHead s
@@ -182,18 +183,6 @@ stops_last s (open_line {x = x} b n) = stops_blanks s 47 (47 ∷ x) b slash_ends
 abbrev pub Nested : Type 0
 Nested = List ℕ → List ℕ → Read Tree
 
--- `n` begins `null`
-pub value_null : (arrays objects : Nested) (c : ℕ) (r : List ℕ) → (c == 110) ≡ true → value_with arrays objects (c ∷ r) ≡ as_leaf (λ u. null) (word_at EofParsingNull ExpectedNull null_text (c ∷ r))
-value_null arrays objects c r h = rw h refl
-
--- `t` begins `true`
-pub value_true : (arrays objects : Nested) (c : ℕ) (r : List ℕ) → (c == 116) ≡ true → value_with arrays objects (c ∷ r) ≡ as_leaf (λ u. boolean true) (word_at EofParsingBool ExpectedBool true_text (c ∷ r))
-value_true arrays objects c r h = let e : c ≡ 116 = eq_from c 116 h in rw e refl
-
--- `f` begins `false`
-pub value_false : (arrays objects : Nested) (c : ℕ) (r : List ℕ) → (c == 102) ≡ true → value_with arrays objects (c ∷ r) ≡ as_leaf (λ u. boolean false) (word_at EofParsingBool ExpectedBool false_text (c ∷ r))
-value_false arrays objects c r h = let e : c ≡ 102 = eq_from c 102 h in rw e refl
-
 -- a quote begins a text
 pub value_text : (arrays objects : Nested) (c : ℕ) (r : List ℕ) → is_quote c ≡ true → value_with arrays objects (c ∷ r) ≡ as_leaf (λ a. text a.0 a.1) (string (c ∷ r))
 value_text arrays objects c r h = let k = quote_others c h in rw (h, k.0, k.1, k.2) refl
@@ -201,18 +190,6 @@ value_text arrays objects c r h = let k = quote_others c h in rw (h, k.0, k.1, k
 -- a sign, a digit, a point, `I` or `N` begins a number
 pub value_number : (arrays objects : Nested) (c : ℕ) (r : List ℕ) → (is_sign c || begins_number c) ≡ true → value_with arrays objects (c ∷ r) ≡ as_leaf Tree.number (numbers.number (c ∷ r))
 value_number arrays objects c r h = let k = number_others c h in rw (h, k.3, k.0, k.1, k.2) refl
-
--- `[` begins an array
-pub value_array : (arrays objects : Nested) (r : List ℕ) → value_with arrays objects (91 ∷ r) ≡ arrays (91 ∷ r) r
-value_array arrays objects r = refl
-
--- `{` begins an object
-pub value_object : (arrays objects : Nested) (r : List ℕ) → value_with arrays objects (123 ∷ r) ≡ objects (123 ∷ r) r
-value_object arrays objects r = refl
-
--- at another character a value is expected
-pub value_none : (arrays objects : Nested) (c : ℕ) (r : List ℕ) → begins_value c ≡ false → value_with arrays objects (c ∷ r) ≡ bad (Some ExpectedValue) (here (c ∷ r))
-value_none arrays objects c r h = let k = no_value_others c h in rw (k.4, k.3, k.0, k.1, k.2, k.5, k.6) refl
 
 -- what reads the arrays and the objects that are nested no deeper than the number
 abbrev pub array_reader : ℕ → Nested
@@ -228,7 +205,3 @@ pub read_step : (d : ℕ) (x : List ℕ) → read d x ≡ value_with (array_read
 unfolding read
 read_step zero x = refl
 read_step (suc d) x = refl
-
--- and at the end one is missing
-pub read_end : (d : ℕ) → read d [] ≡ bad (Some EofParsingValue) inner
-read_end d = read_step d []

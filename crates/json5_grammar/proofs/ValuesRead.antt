@@ -107,7 +107,7 @@ after_comma t ts d k x r e = rw (skip_comma x) (ap (λ q. and_then q (λ ts x. g
 at_close : (t : Tree) (d k : ℕ) (r : List ℕ) → behind_member (items (read d) k) t (93 ∷ r) ≡ got (more t no_more) r
 at_close t d k r = rw (skip_bracket r) refl
 
-regroup : (w s v c r : List ℕ) → (w ++ (s ++ (v ++ c))) ++ r ≡ w ++ (s ++ (v ++ (c ++ r)))
+pub regroup : (w s v c r : List ℕ) → (w ++ (s ++ (v ++ c))) ++ r ≡ w ++ (s ++ (v ++ (c ++ r)))
 regroup w s v c r = simp append_assoc
 
 shorter : (w s v m r : List ℕ) (k : ℕ) → length ((w ++ (s ++ (v ++ 44 ∷ m))) ++ r) < suc k → length (m ++ r) < k
@@ -143,7 +143,7 @@ after_pair_comma u plain t ps d k x r e = rw (skip_comma x) (ap (λ q. and_then 
 at_brace : (u : List ℕ) (plain : Bool) (t : Tree) (d k : ℕ) (r : List ℕ) → behind_pair (entries (read d) k) u plain t (125 ∷ r) ≡ got (pair u plain t no_pair) r
 at_brace u plain t d k r = rw (skip_brace r) refl
 
-regroup_pair : (a k b w s v y : List ℕ) → (a ++ (k ++ (b ++ 58 ∷ (w ++ (s ++ v))))) ++ y ≡ a ++ (k ++ (b ++ 58 ∷ (w ++ (s ++ (v ++ y)))))
+pub regroup_pair : (a k b w s v y : List ℕ) → (a ++ (k ++ (b ++ 58 ∷ (w ++ (s ++ v))))) ++ y ≡ a ++ (k ++ (b ++ 58 ∷ (w ++ (s ++ (v ++ y)))))
 regroup_pair a k b w s v y = simp append_assoc
 
 shorter_pair : (p m r : List ℕ) (k : ℕ) → length ((p ++ 44 ∷ m) ++ r) < suc k → length (m ++ r) < k

@@ -19,7 +19,7 @@ literal_alone {m = m} {i = i} {f = f} h = subst (λ z. Literal z i f None) (appe
 glyph_value : (d : ℕ) → d < 10 → digit_value (48 + d) ≡ d
 glyph_value d h = omega (arith, digit_value_digit (48 + d) (omega arith, omega arith))
 
-glyph_digit : (d : ℕ) → d < 10 → is_digit (48 + d) ≡ true
+pub glyph_digit : (d : ℕ) → d < 10 → is_digit (48 + d) ≡ true
 glyph_digit d h = grind (arith, nat_tests)
 
 glyph_nonzero : (d : ℕ) → 0 < d → d < 10 → is_in 49 57 (48 + d) ≡ true

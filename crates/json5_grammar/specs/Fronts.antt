@@ -6,13 +6,13 @@ use Rattle.json5_grammar.specs.Names.{Key}
 use Rattle.json5_grammar.specs.Trees.{Tree, depth}
 use Rattle.json5_grammar.specs.Values.{Val, Stops}
 
-pub data Kind : Type 0 where
-  of_array : Kind
-  of_object : Kind
+pub data BracketKind : Type 0 where
+  of_array : BracketKind
+  of_object : BracketKind
 
 -- an open bracket, and the text before it
 pub record Bracket : Type 0 where
-  pub kind : Kind
+  pub kind : BracketKind
   pub before : List ℕ
 
 pub data Awaits : Type 0 where
@@ -36,15 +36,15 @@ abbrev pub behind : List Bracket → Awaits
 behind [] = end
 behind (b ∷ o) = comma
 
-abbrev pub member_of : Kind → Awaits
+abbrev pub member_of : BracketKind → Awaits
 member_of of_array = element
 member_of of_object = key
 
-abbrev pub opening : Kind → ℕ
+abbrev pub opening : BracketKind → ℕ
 opening of_array = left_bracket
 opening of_object = left_brace
 
-abbrev pub closing : Kind → ℕ
+abbrev pub closing : BracketKind → ℕ
 closing of_array = right_bracket
 closing of_object = right_brace
 
@@ -52,7 +52,7 @@ closing of_object = right_brace
 pub data Front (limit : ℕ) : List ℕ → List ℕ → List Bracket → Awaits → Type 0 where
   start : {f r : List ℕ} → Gap f r → Front limit f r [] value
   after_value : {g s w r : List ℕ} {o : List Bracket} {a : Awaits} {t : Tree} → Front limit g (s ++ (w ++ r)) o a → takes_value a ≡ true → Val s t → Stops s (w ++ r) → length o + depth t ≤ limit → Gap w r → Front limit (g ++ (s ++ w)) r o (behind o)
-  after_bracket : {g w r : List ℕ} {o : List Bracket} {a : Awaits} (k : Kind) → Front limit g (opening k ∷ w ++ r) o a → takes_value a ≡ true → length o < limit → Gap w r → Front limit (g ++ opening k ∷ w) r (record { kind = k; before = g } ∷ o) (member_of k)
+  after_bracket : {g w r : List ℕ} {o : List Bracket} {a : Awaits} (k : BracketKind) → Front limit g (opening k ∷ w ++ r) o a → takes_value a ≡ true → length o < limit → Gap w r → Front limit (g ++ opening k ∷ w) r (record { kind = k; before = g } ∷ o) (member_of k)
   after_comma : {g w r : List ℕ} {b : Bracket} {o : List Bracket} → Front limit g (comma_sign ∷ w ++ r) (b ∷ o) comma → Gap w r → Front limit (g ++ comma_sign ∷ w) r (b ∷ o) (member_of b.kind)
   after_key : {g k w r u : List ℕ} {o : List Bracket} {plain : Bool} → Front limit g (k ++ (w ++ r)) o key → Key k (w ++ r) u plain → Gap w r → Front limit (g ++ (k ++ w)) r o colon
   after_colon : {g w r : List ℕ} {o : List Bracket} → Front limit g (colon_sign ∷ w ++ r) o colon → Gap w r → Front limit (g ++ colon_sign ∷ w) r o value

@@ -106,9 +106,9 @@ snoc no_more u = more u no_more
 snoc (more t ts) u = more t (snoc ts u)
 
 -- the trees, and others after them
-abbrev pub joined : Trees → Trees → Trees
-joined no_more us = us
-joined (more t ts) us = more t (joined ts us)
+abbrev pub joined_trees : Trees → Trees → Trees
+joined_trees no_more us = us
+joined_trees (more t ts) us = more t (joined_trees ts us)
 
 -- the pairs, and one more at their end
 abbrev pub snoc_pair : Pairs → List ℕ → Bool → Tree → Pairs

@@ -1,7 +1,7 @@
 -- What the laws of members say is left, and what doesn't stand there.
 use Rattle.std.specs.Prelude.{◌≡◌, ◌⊎◌, ◌==◌, ℕ, Bool, true, List}
 use Rattle.json5_grammar.specs.Characters.{NotBegun}
-use Rattle.json5_grammar.specs.Members.{IsElement, IsClose, Tail, IsKey, IsKeyValue, PairsTail, PairsPassed, joined, joined_pairs, snoc_pair}
+use Rattle.json5_grammar.specs.Members.{IsElement, IsClose, Tail, IsKey, IsKeyValue, PairsTail, PairsPassed, joined_trees, joined_pairs, snoc_pair}
 use Rattle.json5_grammar.specs.Trees.{Tree, Trees, Pairs, no_more, more, pair}
 use Rattle.json5_grammar.specs.Values.{Reads}
 
@@ -15,7 +15,7 @@ NoValue y = (t : Tree) (r : List ℕ) → Reads y t r → ⊥
 
 -- ts are us and more, which y goes on with up to the closing bracket
 abbrev pub RestOf : Trees → Trees → Bool → List ℕ → List ℕ → Type 0
-RestOf us ts now y r = (vs : Trees) × (ts ≡ joined us vs) × Tail vs now y r
+RestOf us ts now y r = (vs : Trees) × (ts ≡ joined_trees us vs) × Tail vs now y r
 
 -- there is no member and x is closed, or one more is there and then the others
 abbrev pub ClosesOrGoesOn : Trees → Bool → List ℕ → List ℕ → Type 0

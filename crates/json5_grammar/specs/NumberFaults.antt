@@ -67,8 +67,3 @@ pub data NumberFault : List ℕ → Option ErrorCode → Option (List ℕ) → L
   -- LeadingZero at the number's start: a digit after a first `0`
   leading_zero : (r s : List ℕ) {m : Bool} (c : ℕ) → Sign s m → is_digit c ≡ true
       → NumberFault (s ++ digit_zero ∷ c ∷ r) (Some LeadingZero) (Some []) (s ++ digit_zero ∷ c ∷ []) by_char
-
--- a number's place in the text that has f before the number; eof is the place of what the end shows
-abbrev pub place_behind : List ℕ → Option (List ℕ) → Option (List ℕ) → Option (List ℕ)
-place_behind f eof None = eof
-place_behind f eof (Some p) = Some (f ++ p)

@@ -3,7 +3,7 @@
 use Rattle.std.specs.Prelude.{◌≡◌, ℕ, ◌+◌, ◌-◌, ◌*◌, ◌^◌, Bool, true, false, if◌then◌else◌, ◌||◌, ◌==◌, List, [], ◌∷◌, ◌++◌, length, reverse, ℤ, pos, ◌+ℤ◌, ◌-ℤ◌, neg_ℤ, ◌≤ℤ◌, Option, Some, None}
 use Rattle.std.specs.Char.{digit_value}
 use lib.Chars.{codes}
-use Rattle.json5_grammar.specs.Characters.{capital_e, capital_x, letter_e, plus_sign, minus_sign, point_sign, digit_zero, letter_x, is_in, is_digit, is_hex_digit, Each}
+use Rattle.json5_grammar.specs.Characters.{capital_e, capital_x, letter_e, plus_sign, minus_sign, point_sign, digit_zero, digit_one, digit_nine, letter_x, is_in, is_digit, is_hex_digit, Each}
 
 -- a finite one means its digits times ten to the exponent
 pub data Decimal : Type 0 where
@@ -32,7 +32,7 @@ spelled base n (c ∷ s) = spelled base (n * base + digit_value c) s
 -- `0`, or digits that begin with 1 to 9
 pub data Integer : List ℕ → Type 0 where
   lone_zero : Integer (digit_zero ∷ [])
-  nonzero : {c : ℕ} {s : List ℕ} → is_in 49 57 c ≡ true → Each is_digit s → Integer (c ∷ s)
+  nonzero : {c : ℕ} {s : List ℕ} → is_in digit_one digit_nine c ≡ true → Each is_digit s → Integer (c ∷ s)
 
 -- digits before the point, and those after it (None: no point)
 pub data Mantissa : List ℕ → List ℕ → Option (List ℕ) → Type 0 where

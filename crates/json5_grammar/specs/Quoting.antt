@@ -2,11 +2,11 @@
 use Rattle.std.specs.Prelude.{ℕ, Bool, false, if◌then◌else◌, ◌&&◌, not, ◌==◌, List, [], ◌∷◌, ◌++◌}
 use Rattle.std.specs.List.{list_any, list_all}
 use lib.Chars.{codes}
-use Rattle.json5_grammar.specs.Characters.{line_feed, carriage_return, double_quote, single_quote, backslash, is_identifier_start, is_identifier_part}
+use Rattle.json5_grammar.specs.Characters.{line_feed, carriage_return, double_quote, single_quote, backslash, is_identifier_start, is_identifier_part, line_separator, paragraph_separator}
 
 -- `escape`
 abbrev pub escaped : ℕ → ℕ → List ℕ
-escaped q c = if c == q then backslash ∷ c ∷ [] else if c == backslash then codes "\\\\" else if c == line_feed then codes "\\n" else if c == carriage_return then codes "\\r" else if c == 0x2028 then codes "\\u2028" else if c == 0x2029 then codes "\\u2029" else c ∷ []
+escaped q c = if c == q then backslash ∷ c ∷ [] else if c == backslash then codes "\\\\" else if c == line_feed then codes "\\n" else if c == carriage_return then codes "\\r" else if c == line_separator then codes "\\u2028" else if c == paragraph_separator then codes "\\u2029" else c ∷ []
 
 abbrev pub escaped_all : ℕ → List ℕ → List ℕ
 escaped_all q [] = []

@@ -1,6 +1,6 @@
 -- Reading a value and a document as functions on lists.
 use Rattle.std.specs.Prelude.{ℕ, zero, suc, true, false, cond, ◌||◌, ◌==◌, List, [], ◌∷◌, length, Some}
-use Rattle.json5_grammar.specs.Characters.{comma_sign, colon_sign, left_bracket, right_bracket, left_brace, right_brace}
+use Rattle.json5_grammar.specs.Characters.{comma_sign, colon_sign, left_bracket, right_bracket, left_brace, right_brace, letter_f, letter_n, letter_t}
 use Rattle.json5_grammar.specs.Codes.{ErrorCode, EofParsingArray, EofParsingBool, EofParsingNull, EofParsingObject, EofParsingValue, ExpectedBool, ExpectedColon, ExpectedComma, ExpectedNull, ExpectedValue, TrailingCharacters, TooDeep}
 use Rattle.json5_grammar.specs.NumberFaults.{is_sign, begins_number}
 use Rattle.json5_grammar.specs.Strings.{is_quote}
@@ -68,9 +68,9 @@ as_leaf f m = and_then m (λ a r. got (f a) r)
 abbrev pub value_with : (List ℕ → List ℕ → Read Tree) → (List ℕ → List ℕ → Read Tree) → List ℕ → Read Tree
 value_with array_at object_at [] = bad (Some EofParsingValue) inner
 value_with array_at object_at (c ∷ r) =
-    cond (c == 0x6E) (as_leaf (λ u. null) (word_at EofParsingNull ExpectedNull null_text (c ∷ r)))
-    (cond (c == 0x74) (as_leaf (λ u. boolean true) (word_at EofParsingBool ExpectedBool true_text (c ∷ r)))
-    (cond (c == 0x66) (as_leaf (λ u. boolean false) (word_at EofParsingBool ExpectedBool false_text (c ∷ r)))
+    cond (c == letter_n) (as_leaf (λ u. null) (word_at EofParsingNull ExpectedNull null_text (c ∷ r)))
+    (cond (c == letter_t) (as_leaf (λ u. boolean true) (word_at EofParsingBool ExpectedBool true_text (c ∷ r)))
+    (cond (c == letter_f) (as_leaf (λ u. boolean false) (word_at EofParsingBool ExpectedBool false_text (c ∷ r)))
     (cond (is_quote c) (as_leaf (λ a. text a.0 a.1) (string (c ∷ r)))
     (cond (is_sign c || begins_number c) (as_leaf Tree.number (number (c ∷ r)))
     (cond (c == left_bracket) (array_at (c ∷ r) r)

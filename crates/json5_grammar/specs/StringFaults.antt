@@ -1,11 +1,11 @@
 -- The faults of an escape and of a string, from its first character on.
 use Rattle.std.specs.Prelude.{◌≡◌, ◌≢◌, ℕ, ◌<◌, Bool, true, false, ◌&&◌, ◌||◌, ◌==◌, List, [], ◌∷◌, ◌++◌, length, Option, Some, None}
-use Rattle.json5_grammar.specs.Characters.{line_feed, carriage_return, digit_zero, backslash, letter_u, letter_x, is_in, is_digit, is_hex_digit, Each}
+use Rattle.json5_grammar.specs.Characters.{line_feed, carriage_return, digit_zero, digit_one, digit_nine, backslash, letter_u, letter_x, is_in, is_digit, is_hex_digit, Each, first_high_surrogate, last_low_surrogate}
 use Rattle.json5_grammar.specs.Codes.{ErrorCode, EofParsingEscapeSequence, EofParsingString, InvalidEscapeSequence, LineTerminatorInString, Shown, by_char, by_end, behind_text}
 use Rattle.json5_grammar.specs.Strings.{Hex4, is_high, is_low, Items, is_quote}
 
 abbrev pub is_surrogate : ℕ → Bool
-is_surrogate n = is_in 0xD800 0xDFFF n
+is_surrogate n = is_in first_high_surrogate last_low_surrogate n
 
 -- an escape cut within its hexadecimal digits; true in a string
 pub data InDigits : Bool → List ℕ → Type 0 where
@@ -29,7 +29,7 @@ pub data EscapeFault : Bool → List ℕ → Option ErrorCode → Option (List �
   -- InvalidEscapeSequence at the backslash: a digit after `\0`
   digit_behind_nul : {c : ℕ} (r : List ℕ) → is_digit c ≡ true → EscapeFault true (backslash ∷ digit_zero ∷ c ∷ r) (Some InvalidEscapeSequence) (Some []) (backslash ∷ digit_zero ∷ c ∷ []) by_char
   -- InvalidEscapeSequence at the backslash: `\1` to `\9`
-  escaped_digit : {c : ℕ} (r : List ℕ) → is_in 49 57 c ≡ true → EscapeFault true (backslash ∷ c ∷ r) (Some InvalidEscapeSequence) (Some []) (backslash ∷ c ∷ []) by_char
+  escaped_digit : {c : ℕ} (r : List ℕ) → is_in digit_one digit_nine c ≡ true → EscapeFault true (backslash ∷ c ∷ r) (Some InvalidEscapeSequence) (Some []) (backslash ∷ c ∷ []) by_char
   -- InvalidEscapeSequence at the (first) backslash: no hexadecimal digit within `\x` or `\u`
   no_escape_digit : {e : List ℕ} {in_string : Bool} (c : ℕ) (r : List ℕ) → InDigits in_string e → is_hex_digit c ≡ false → EscapeFault in_string (e ++ c ∷ r) (Some InvalidEscapeSequence) (Some []) (e ++ c ∷ []) by_char
   -- InvalidEscapeSequence at the character where a surrogate's second `\u` must stand

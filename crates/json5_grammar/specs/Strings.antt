@@ -3,33 +3,33 @@
 use Rattle.std.specs.Prelude.{◌≡◌, ◌≢◌, ℕ, ◌+◌, ◌-◌, ◌*◌, Bool, true, false, if◌then◌else◌, ◌||◌, not, ◌==◌, List, [], ◌∷◌, ◌++◌, Option, Some, None}
 use Rattle.std.specs.Char.{digit_value}
 use Rattle.std.specs.List.{list_any}
-use Rattle.json5_grammar.specs.Characters.{line_feed, carriage_return, double_quote, single_quote, digit_zero, backslash, letter_u, letter_x, is_in, is_terminator, is_digit, is_hex_digit, NotBegun, Each}
+use Rattle.json5_grammar.specs.Characters.{line_feed, carriage_return, double_quote, single_quote, digit_zero, backslash, letter_u, letter_x, is_in, is_terminator, is_digit, is_hex_digit, NotBegun, Each, backspace, tab, vertical_tab, form_feed, letter_b, letter_f, letter_n, letter_r, letter_t, letter_v, first_high_surrogate, last_high_surrogate, first_low_surrogate, last_low_surrogate}
 
 -- `\b \t \n \v \f \r`
 abbrev pub short_escape : ℕ → Option ℕ
-short_escape c = if c == 0x62 then Some 0x08 else if c == 0x74 then Some 0x09 else if c == 0x6E then Some line_feed else if c == 0x76 then Some 0x0B else if c == 0x66 then Some 0x0C else if c == 0x72 then Some carriage_return else None
+short_escape c = if c == letter_b then Some backspace else if c == letter_t then Some tab else if c == letter_n then Some line_feed else if c == letter_v then Some vertical_tab else if c == letter_f then Some form_feed else if c == letter_r then Some carriage_return else None
 
 -- no short escape, digit, `x`, `u` or terminator
 abbrev pub stands_for_itself : ℕ → Bool
-stands_for_itself c = not ((c == 0x62) || ((c == 0x74) || ((c == 0x6E) || ((c == 0x76) || ((c == 0x66) || ((c == 0x72) || ((c == letter_x) || ((c == letter_u) || (is_digit c || is_terminator c)))))))))
+stands_for_itself c = not ((c == letter_b) || ((c == letter_t) || ((c == letter_n) || ((c == letter_v) || ((c == letter_f) || ((c == letter_r) || ((c == letter_x) || ((c == letter_u) || (is_digit c || is_terminator c)))))))))
 
 -- four hexadecimal digits and their value
 pub data Hex4 : List ℕ → ℕ → Type 0 where
   hex4 : {a b c d : ℕ} → Each is_hex_digit (a ∷ b ∷ c ∷ d ∷ []) → Hex4 (a ∷ b ∷ c ∷ d ∷ []) (((digit_value a * 16 + digit_value b) * 16 + digit_value c) * 16 + digit_value d)
 
 abbrev pub is_high : ℕ → Bool
-is_high n = is_in 0xD800 0xDBFF n
+is_high n = is_in first_high_surrogate last_high_surrogate n
 
 abbrev pub is_low : ℕ → Bool
-is_low n = is_in 0xDC00 0xDFFF n
+is_low n = is_in first_low_surrogate last_low_surrogate n
 
-abbrev pub joined : ℕ → ℕ → ℕ
-joined high low = 0x1_0000 + (high - 0xD800) * 0x400 + (low - 0xDC00)
+abbrev pub pair_value : ℕ → ℕ → ℕ
+pair_value high low = 0x1_0000 + (high - first_high_surrogate) * 0x400 + (low - first_low_surrogate)
 
 -- a `\u` escape, or two that form a pair, and its character
 pub data Unicode : List ℕ → ℕ → Type 0 where
-  single : {h : List ℕ} {n : ℕ} → Hex4 h n → is_in 0xD800 0xDFFF n ≡ false → Unicode (backslash ∷ letter_u ∷ h) n
-  surrogates : {h l : List ℕ} {n k : ℕ} → Hex4 h n → Hex4 l k → is_high n ≡ true → is_low k ≡ true → Unicode (backslash ∷ letter_u ∷ h ++ backslash ∷ letter_u ∷ l) (joined n k)
+  single : {h : List ℕ} {n : ℕ} → Hex4 h n → is_in first_high_surrogate last_low_surrogate n ≡ false → Unicode (backslash ∷ letter_u ∷ h) n
+  surrogates : {h l : List ℕ} {n k : ℕ} → Hex4 h n → Hex4 l k → is_high n ≡ true → is_low k ≡ true → Unicode (backslash ∷ letter_u ∷ h ++ backslash ∷ letter_u ∷ l) (pair_value n k)
 
 -- an escape, its text, and what follows it
 pub data Escape : List ℕ → List ℕ → List ℕ → Type 0 where

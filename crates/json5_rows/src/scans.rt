@@ -35,7 +35,7 @@ fn look(scanner: &mut Scanner<&str>, name: &str) -> Answer {
     match name {
         "peek" => shown(alloc, Ok(scanner.peek())),
         "offset" => shown(alloc, Ok(scanner.offset())),
-        "place" => Ok(place(alloc, scanner.position_at(scanner.offset()))?),
+        "place" => Ok(place(alloc, scanner.position_of(scanner.offset()))?),
         _ => match name.strip_prefix("eat") {
             Some(c) => shown(alloc, Ok(eat(scanner, c))),
             None => unknown(alloc),

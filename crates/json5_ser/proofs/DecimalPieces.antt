@@ -1,81 +1,159 @@
--- A decimal's text in its pieces.
-use Rattle.std.proofs.Common.{◌≡◌, ◌<◌, ◌≤◌, ℕ, ◌-◌, List, [], ◌∷◌, ◌++◌, true, false, nat_lt, cond, length, take, drop, refl, sym, ap, ◌∙◌, arith, append_assoc}
-use Rattle.std.specs.Prelude.{ℤ, pos, negsuc, ◌≤ℤ◌, ◌<ℤ◌, unsigned_abs}
-use Rattle.std.proofs.lemmas.Int.{ints}
-use lib.Signed.{lt_z}
+-- A decimal's text, which is ASCII, in its pieces.
+use Rattle.std.proofs.Common.{◌≡◌, ◌<◌, Result, ℕ, zero, suc, ◌-◌, List, [], ◌∷◌, ◌++◌, Bool, true, false, ◌&&◌, nat_lt, nat_le, cond, length, take, drop, refl, ap, ◌∙◌, subst, arith}
+use Rattle.std.specs.Prelude.{ℤ, pos, negsuc}
+use Rattle.std.specs.List.{list_all}
+use Rattle.std.specs.Str.{IsAscii, chars}
 use Rattle.std.specs.Fmt.{sign_text}
+use Rattle.std.proofs.KnownBytes.{Appends-nil}
+use Rattle.std.proofs.lemmas.Str.{chars-IsAscii}
 use lib.Chars.{codes}
-use Rattle.json5_grammar.specs.Characters.{is_digit, Each, no_char}
+use Rattle.json5_grammar.specs.Characters.{is_digit, Each, no_char, char}
 use Rattle.json5_grammar.specs.Numbers.{Decimal, infinite, nan, finite}
 use Rattle.json5_grammar.specs.NumberText.{zeros, pointed, digits_text, decimal_text, Normal}
-use Rattle.json5_text.specs.NumberDecimals.{is_minus, is_infinity, is_not_a_number, digits_in, exponent_in}
+use Rattle.json5_text.specs.NumberPieces.{IsFront}
 use Rattle.json5_ser.specs.Out.{piece, ◌then◌}
+use Rattle.std.specs.Result.{IsErrAnd}
+use Rattle.json5_text.specs.declared.error.Error.{Error}
+use Rattle.json5_ser.specs.Writes.{Seen, Wrote, Refuses, Writes}
+use Rattle.json5_ser.proofs.Joins.{Reaches, Reaches-none, Reaches-next, Reaches-exit}
 
-pub pointed_within : (ds before after : List ℕ) (j : ℕ) → j < length ds → before ≡ take (length ds - j) ds → after ≡ drop (length ds - j) ds
-    → piece (pointed ds j) ≡ piece before then (piece (46 ∷ []) then piece after)
-pointed_within ds before after j l e f =
-    let t : nat_lt j (length ds) ≡ true = grind arith in
-    ap (λ b. piece (cond b (take (length ds - j) ds ++ 46 ∷ drop (length ds - j) ds) (48 ∷ 46 ∷ (zeros (j - length ds) ++ ds)))) t
-    ∙ (ap (λ x. piece (x ++ 46 ∷ drop (length ds - j) ds)) (sym e) ∙ ap (λ x. piece (before ++ 46 ∷ x)) (sym f))
+first : (a b : Bool) → (a && b) ≡ true → a ≡ true
+first true b e = refl
+first false b e = absurd (cc)
 
-pub pointed_beyond : (ds : List ℕ) (j : ℕ) → length ds ≤ j → piece (pointed ds j) ≡ piece (48 ∷ 46 ∷ []) then (piece (zeros (j - length ds)) then piece ds)
-pointed_beyond ds j l =
-    let t : nat_lt j (length ds) ≡ false = grind arith in
-    ap (λ b. piece (cond b (take (length ds - j) ds ++ 46 ∷ drop (length ds - j) ds) (48 ∷ 46 ∷ (zeros (j - length ds) ++ ds)))) t
+second : (a b : Bool) → (a && b) ≡ true → b ≡ true
+second true b e = e
+second false b e = absurd (cc)
 
-pub finite_whole : (ds : List ℕ) (e : ℤ) (n : ℕ) → 0 < length ds → pos 0 ≤ℤ e → n ≡ unsigned_abs e → piece (digits_text ds e) ≡ piece ds then (piece (zeros n) then piece (codes ".0"))
-finite_whole [] e n l p h = absurd (omega (arith, l))
-finite_whole (d ∷ ds) (pos k) n l p h = ap piece (append_assoc (d ∷ ds) (zeros k) (codes ".0")) ∙ ap (λ m. piece (d ∷ (ds ++ (zeros m ++ codes ".0")))) (sym h)
-finite_whole (d ∷ ds) (negsuc k) n l p h = absurd (omega (arith, ints, p))
+both : (a b : Bool) → a ≡ true → b ≡ true → (a && b) ≡ true
+both a b e f = ap (λ x. x && b) e ∙ f
 
--- the same of a decimal's own digits and exponent
-pub whole_parts : (d : Decimal) (ds : List ℕ) (e : ℤ) (n : ℕ) → ds ≡ digits_in d → e ≡ exponent_in d → 0 < length ds → pos 0 ≤ℤ e → n ≡ unsigned_abs e
-    → piece (digits_text (digits_in d) (exponent_in d)) ≡ piece ds then (piece (zeros n) then piece (codes ".0"))
-whole_parts d ds e n h k l p m = ap (λ x. piece (digits_text x (exponent_in d))) (sym h) ∙ (ap (λ x. piece (digits_text ds x)) (sym k) ∙ finite_whole ds e n l p m)
+-- ---- ASCII
 
-pub finite_pointed : (ds : List ℕ) (e : ℤ) (n : ℕ) → 0 < length ds → e <ℤ pos 0 → n ≡ unsigned_abs e → piece (digits_text ds e) ≡ piece (pointed ds n)
-finite_pointed [] e n l p h = absurd (omega (arith, l))
-finite_pointed (d ∷ ds) (pos k) n l p h = absurd (omega (arith, ints, p))
-finite_pointed (d ∷ ds) (negsuc k) n l p h = ap (λ m. piece (pointed (d ∷ ds) m)) (sym h)
+abbrev pub is_ascii_text : List ℕ → Bool
+is_ascii_text t = list_all (λ c. nat_lt c 128) t
 
--- the sign, and then the rest
-abbrev pub decimal_rest : Decimal → List ℕ
-decimal_rest (infinite m) = codes "Infinity"
-decimal_rest (nan m) = codes "NaN"
-decimal_rest (finite m ds e) = digits_text ds e
+below : (b n : ℕ) → nat_lt b n ≡ true → b < n
+below b n e = grind arith
 
-pub decimal_sign : (d : Decimal) → piece (decimal_text d) ≡ piece (sign_text (is_minus d)) then piece (decimal_rest d)
-decimal_sign (infinite m) = refl
-decimal_sign (nan m) = refl
-decimal_sign (finite m ds e) = refl
+IsAscii-text : (t : List ℕ) → is_ascii_text t ≡ true → IsAscii t
+IsAscii-text [] e i = omega arith
+IsAscii-text (c ∷ t) e zero = below c 128 (first (nat_lt c 128) (is_ascii_text t) e)
+IsAscii-text (c ∷ t) e (suc i) = IsAscii-text t (second (nat_lt c 128) (is_ascii_text t) e) i
 
-pub infinite_rest : (d : Decimal) → is_infinity d ≡ true → decimal_rest d ≡ codes "Infinity"
-infinite_rest (infinite m) h = refl
-infinite_rest (nan m) h = absurd (cc)
-infinite_rest (finite m ds e) h = absurd (cc)
+pub ascii_chars : (t : List ℕ) → is_ascii_text t ≡ true → chars t ≡ t
+ascii_chars t e = chars-IsAscii t (IsAscii-text t e)
 
-pub nan_rest : (d : Decimal) → is_not_a_number d ≡ true → decimal_rest d ≡ codes "NaN"
-nan_rest (infinite m) h = absurd (cc)
-nan_rest (nan m) h = refl
-nan_rest (finite m ds e) h = absurd (cc)
+ascii_join : (s t : List ℕ) → is_ascii_text s ≡ true → is_ascii_text t ≡ true → is_ascii_text (s ++ t) ≡ true
+ascii_join [] t e f = f
+ascii_join (c ∷ s) t e f = both (nat_lt c 128) (is_ascii_text (s ++ t)) (first (nat_lt c 128) (is_ascii_text s) e) (ascii_join s t (second (nat_lt c 128) (is_ascii_text s) e) f)
 
-pub finite_rest : (d : Decimal) → is_infinity d ≡ false → is_not_a_number d ≡ false → decimal_rest d ≡ digits_text (digits_in d) (exponent_in d)
-finite_rest (infinite m) h k = absurd (cc)
-finite_rest (nan m) h k = absurd (cc)
-finite_rest (finite m ds e) h k = refl
+ascii_front : (s t : List ℕ) → is_ascii_text (s ++ t) ≡ true → is_ascii_text s ≡ true
+ascii_front [] t e = refl
+ascii_front (c ∷ s) t e = both (nat_lt c 128) (is_ascii_text s) (first (nat_lt c 128) (is_ascii_text (s ++ t)) e) (ascii_front s t (second (nat_lt c 128) (is_ascii_text (s ++ t)) e))
 
-pub not_below : (e : ℤ) → lt_z e (pos 0) ≡ false → pos 0 ≤ℤ e
-not_below e h = grind (arith, ints)
+ascii_back : (s t : List ℕ) → is_ascii_text (s ++ t) ≡ true → is_ascii_text t ≡ true
+ascii_back [] t e = e
+ascii_back (c ∷ s) t e = ascii_back s t (second (nat_lt c 128) (is_ascii_text (s ++ t)) e)
 
--- the sign's piece, and then that of the rest
-pub decimal_parts : (d : Decimal) (mark rest : List ℕ) → mark ≡ sign_text (is_minus d) → rest ≡ decimal_rest d → piece (decimal_text d) ≡ piece mark then piece rest
-decimal_parts d mark rest e f = decimal_sign d ∙ (ap (λ m. piece m then piece (decimal_rest d)) (sym e) ∙ ap (λ r. piece mark then piece r) (sym f))
+ascii_zeros : (n : ℕ) → is_ascii_text (zeros n) ≡ true
+ascii_zeros zero = refl
+ascii_zeros (suc n) = ascii_zeros n
 
-pub finite_parts : (d : Decimal) (mark : List ℕ) → is_infinity d ≡ false → is_not_a_number d ≡ false → mark ≡ sign_text (is_minus d)
-    → piece (decimal_text d) ≡ piece mark then piece (digits_text (digits_in d) (exponent_in d))
-finite_parts d mark h k m = decimal_parts d mark _ m (sym (finite_rest d h k))
+ascii_digits : {t : List ℕ} → Each is_digit t → is_ascii_text t ≡ true
+ascii_digits no_char = refl
+ascii_digits (char {c} {s} d e) =
+    let h : nat_le c 57 ≡ true = second (nat_le 48 c) (nat_le c 57) d in
+    let l : nat_lt c 128 ≡ true = grind arith in
+    both (nat_lt c 128) (is_ascii_text s) l (ascii_digits e)
 
-pub digits_each : (d : Decimal) → Normal d → Each is_digit (digits_in d)
-digits_each (infinite m) n = no_char
-digits_each (nan m) n = no_char
-digits_each (finite m ds e) n = n.digits
+ascii_take : (t : List ℕ) (n : ℕ) → is_ascii_text t ≡ true → is_ascii_text (take n t) ≡ true
+ascii_take t zero e = refl
+ascii_take [] (suc n) e = refl
+ascii_take (c ∷ t) (suc n) e = both (nat_lt c 128) (is_ascii_text (take n t)) (first (nat_lt c 128) (is_ascii_text t) e) (ascii_take t n (second (nat_lt c 128) (is_ascii_text t) e))
+
+ascii_drop : (t : List ℕ) (n : ℕ) → is_ascii_text t ≡ true → is_ascii_text (drop n t) ≡ true
+ascii_drop t zero e = e
+ascii_drop [] (suc n) e = refl
+ascii_drop (c ∷ t) (suc n) e = ascii_drop t n (second (nat_lt c 128) (is_ascii_text t) e)
+
+by_bool : (b : Bool) (s t : List ℕ) → is_ascii_text s ≡ true → is_ascii_text t ≡ true → is_ascii_text (cond b s t) ≡ true
+by_bool true s t e f = e
+by_bool false s t e f = f
+
+ascii_pointed : (ds : List ℕ) (j : ℕ) → is_ascii_text ds ≡ true → is_ascii_text (pointed ds j) ≡ true
+ascii_pointed ds j e =
+    by_bool (nat_lt j (length ds)) (take (length ds - j) ds ++ 46 ∷ drop (length ds - j) ds) (48 ∷ 46 ∷ (zeros (j - length ds) ++ ds))
+    (ascii_join (take (length ds - j) ds) (46 ∷ drop (length ds - j) ds) (ascii_take ds (length ds - j) e) (ascii_drop ds (length ds - j) e))
+    (ascii_join (zeros (j - length ds)) ds (ascii_zeros (j - length ds)) e)
+
+ascii_finite : (ds : List ℕ) (e : ℤ) → is_ascii_text ds ≡ true → is_ascii_text (digits_text ds e) ≡ true
+ascii_finite [] e h = refl
+ascii_finite (d ∷ ds) (pos k) h = ascii_join ((d ∷ ds) ++ zeros k) (codes ".0") (ascii_join (d ∷ ds) (zeros k) h (ascii_zeros k)) refl
+ascii_finite (d ∷ ds) (negsuc k) h = ascii_pointed (d ∷ ds) (suc k) h
+
+ascii_sign : (m : Bool) (t : List ℕ) → is_ascii_text t ≡ true → is_ascii_text (sign_text m ++ t) ≡ true
+ascii_sign true t e = e
+ascii_sign false t e = e
+
+pub ascii_decimal : (d : Decimal) → Normal d → is_ascii_text (decimal_text d) ≡ true
+ascii_decimal (infinite m) n = ascii_sign m (codes "Infinity") refl
+ascii_decimal (nan m) n = ascii_sign m (codes "NaN") refl
+ascii_decimal (finite m ds e) n = ascii_sign m (digits_text ds e) (ascii_finite ds e (ascii_digits n.digits))
+
+-- ---- something is written
+
+some_by : (b : Bool) (s t : List ℕ) → 0 < length s → 0 < length t → 0 < length (cond b s t)
+some_by true s t h k = h
+some_by false s t h k = k
+
+some_after : (s t : List ℕ) → 0 < length t → 0 < length (s ++ t)
+some_after [] t h = h
+some_after (c ∷ s) t h = omega arith
+
+some_finite : (ds : List ℕ) (e : ℤ) → 0 < length (digits_text ds e)
+some_finite [] e = omega arith
+some_finite (d ∷ ds) (pos k) = omega arith
+some_finite (d ∷ ds) (negsuc k) = some_by (nat_lt (suc k) (length (d ∷ ds))) (take (length (d ∷ ds) - suc k) (d ∷ ds) ++ 46 ∷ drop (length (d ∷ ds) - suc k) (d ∷ ds)) (48 ∷ 46 ∷ (zeros (suc k - length (d ∷ ds)) ++ (d ∷ ds))) (some_after (take (length (d ∷ ds) - suc k) (d ∷ ds)) (46 ∷ drop (length (d ∷ ds) - suc k) (d ∷ ds)) (omega arith)) (omega arith)
+
+pub some_decimal : (d : Decimal) → 0 < length (decimal_text d)
+some_decimal (infinite m) = some_after (sign_text m) (codes "Infinity") (omega arith)
+some_decimal (nan m) = some_after (sign_text m) (codes "NaN") (omega arith)
+some_decimal (finite m ds e) = some_after (sign_text m) (digits_text ds e) (some_finite ds e)
+
+-- ---- the pieces in a row
+
+-- what is left of a decimal's text; something was written once a part of it is gone
+pub record IsLeft (d : Decimal) (o m : Seen) (rest : List ℕ) : Type 0 where
+  pub reaches : Reaches (piece (decimal_text d)) o m (piece rest)
+  pub ascii : is_ascii_text rest ≡ true
+  pub started : length rest < length (decimal_text d) → m.failed ≡ false
+
+pub left_all : (d : Decimal) (o : Seen) (all : List ℕ) → Normal d → all ≡ decimal_text d → IsLeft d o o all
+left_all d o all n e = rw e (record { reaches = Reaches-none (piece (decimal_text d)) o; ascii = ascii_decimal d n; started = λ h. absurd (omega (arith, h)) })
+
+-- a piece that consists of its characters
+piece_plain : (rest p after : List ℕ) → is_ascii_text rest ≡ true → IsFront rest p after → chars p ≡ p
+piece_plain rest p after a f = ascii_chars p (ascii_front p after (subst (λ t. is_ascii_text t ≡ true) f.parts a))
+
+parted : (d : Decimal) (o m : Seen) (rest p after : List ℕ) → IsLeft d o m rest → IsFront rest p after → Reaches (piece (decimal_text d)) o m (piece p then piece after)
+parted d o m rest p after h f = subst (λ t. Reaches (piece (decimal_text d)) o m (piece t)) f.parts h.reaches
+
+pub left_next : (d : Decimal) (o m n : Seen) (rest p after : List ℕ) → IsLeft d o m rest → IsFront rest p after → Wrote (piece (chars p)) m n → IsLeft d o n after
+left_next d o m n rest p after h f w =
+    let wrote : Wrote (piece p) m n = subst (λ t. Wrote (piece t) m n) (piece_plain rest p after h.ascii f) w in
+    record {
+      reaches = Reaches-next (piece (decimal_text d)) (piece p) (piece after) o m n (parted d o m rest p after h f) wrote;
+      ascii = ascii_back p after (subst (λ t. is_ascii_text t ≡ true) f.parts h.ascii);
+      started = λ _. wrote.failed;
+    }
+
+pub left_exit : {A : Type 0} (d : Decimal) (o m n : Seen) (rest p after : List ℕ) (e : Error) (r : Result A Error) → IsLeft d o m rest → IsFront rest p after → IsErrAnd r (λ y. y ≡ e) → Refuses (piece (chars p)) m e n → Writes (piece (decimal_text d)) o r n
+left_exit d o m n rest p after e r h f q w =
+    Reaches-exit (piece (decimal_text d)) (piece p) (piece after) o m n e r (parted d o m rest p after h f) q (subst (λ t. Refuses (piece t) m e n) (piece_plain rest p after h.ascii f) w)
+
+pub left_none : (d : Decimal) (o m : Seen) (rest : List ℕ) → IsLeft d o m rest → rest ≡ [] → Wrote (piece (decimal_text d)) o m
+left_none d o m rest h e =
+    let none : Reaches (piece (decimal_text d)) o m (piece []) = subst (λ t. Reaches (piece (decimal_text d)) o m (piece t)) e h.reaches in
+    let ready : m.failed ≡ false = h.started (rw e (some_decimal d)) in
+    none.wrote m (record { was = ready; stop = refl; chars = refl; bytes = Appends-nil m.known; depth = refl; failed = ready })

@@ -11,6 +11,7 @@ use Rattle.json5_ser.specs.declared.quoting.Quote.TheVariants as quote
 use Rattle.json5_ser.specs.Quotes.{delimiter}
 use Rattle.json5_ser.specs.Escaping.{StartsWithScalar, SplitsAtEscape, StandsBefore}
 use Rattle.json5_ser.proofs.Joins.{scalars-append}
+use Rattle.json5_text.proofs.ScanBytes.{one_scalar}
 
 escaped-append : (q : ℕ) (s t : List ℕ) → escaped_all q (s ++ t) ≡ escaped_all q s ++ escaped_all q t
 escaped-append q [] t = refl
@@ -26,15 +27,9 @@ escape_is q c e = ap (λ b. if b then escaped q c else escaped 92 c) e
 pub one_char : (c : ℕ) → IsScalar c → chars (encode_utf8 c) ≡ c ∷ []
 one_char c s = chars_past_char (encode_utf8 c) [] c (IsUtf8-encode c s) (sym (append-nil (encode_utf8 c))) ∙ ap (λ l. c ∷ l) chars-nil
 
-one_scalar : (c : ℕ) → IsScalar c → all_scalars (c ∷ []) ≡ true
-one_scalar c s = subst (λ l. all_scalars l ≡ true) (one_char c s) (scalars-chars (encode_utf8 c) (IsUtf8-encode c s))
-
 chars_before : (q : ℕ) (t rest : List ℕ) → (h : StandsBefore q t rest) → chars t ≡ h.before ++ chars rest
 chars_before q t rest h =
     ap chars h.bytes ∙ (chars-append (encode_utf8_all h.before) rest (h.before, (h.scalars, refl)) ∙ ap (λ l. l ++ chars rest) (chars-encodes h.before h.scalars))
-
-pub stands_first : (q : ℕ) (t : List ℕ) → IsUtf8 t → StandsBefore q t t
-stands_first q t u = record { before = []; scalars = refl; bytes = refl; same = refl; utf8 = u }
 
 seam_at : (q : ℕ) (t rest : List ℕ) → (h : StandsBefore q t rest) → length (encode_utf8_all h.before) ≡ length t - length rest
 seam_at q t rest h =

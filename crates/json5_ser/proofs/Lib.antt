@@ -3,7 +3,6 @@ pub mod PiecesWritten
 pub mod TextsWhole
 pub mod QuotesFound
 pub mod EscapesSplit
-pub mod AsciiPieces
 pub mod DecimalPieces
 pub mod LoneRead
 pub mod Unmarked

@@ -11,6 +11,7 @@ use Rattle.json5_grammar.proofs.Basics.{by_test}
 use Rattle.json5_ser.specs.Out.{piece, ◌then◌}
 use Rattle.json5_ser.specs.Pieces.{AppendsFront}
 use Rattle.json5_ser.specs.Writes.{Seen, Wrote, Broke}
+use Rattle.json5_grammar.proofs.TextsWritten.{quote_is}
 
 pub wrote_piece : (t : List ℕ) (o n : Seen) → IsUtf8 t → o.failed ≡ false → n.failed ≡ false → n.depth ≡ o.depth → Appends o.known n.known t → Wrote (piece (chars t)) o n
 wrote_piece t o n u was failed depth p =
@@ -44,6 +45,3 @@ chars_single_quote = refl
 
 pub quoted_parts : (u mark : List ℕ) (q : ℕ) → q ≡ quote_for u → mark ≡ q ∷ [] → piece (quoted_text u) ≡ piece mark then (piece (escaped_all q u) then piece mark)
 quoted_parts u mark q e f = sym (ap (λ m. piece m then (piece (escaped_all q u) then piece m)) f ∙ ap (λ c. piece (c ∷ (escaped_all c u ++ c ∷ []))) e)
-
-pub quote_is : (u : List ℕ) → is_quote (quote_for u) ≡ true
-quote_is u = by_test (λ q. is_quote q ≡ true) (list_any (λ c. c == 34) u && not (list_any (λ c. c == 39) u)) 39 34 (λ h. refl) (λ h. refl)

@@ -7,6 +7,7 @@ use Rattle.std.specs.Str.Pattern.{HasMatch, FindsChar}
 use Rattle.std.proofs.lemmas.Str.{chars_from_encodes, chars-append, chars_past_char, IsUtf8-take, IsUtf8-drop, len_utf8_bounds, IsCharBoundary-before_ascii}
 use Rattle.std.proofs.lemmas.List.Folds.{list_any-append}
 use Rattle.json5_grammar.specs.Quoting.{quote_for}
+use Rattle.json5_grammar.proofs.Basics.{same_char}
 
 none_passes : (p : ℕ → Bool) (cs : List ℕ) → NonePass p cs → list_any p cs ≡ false
 none_passes p [] h = refl
@@ -19,9 +20,6 @@ or_true : (a b : Bool) → b ≡ true → (a || b) ≡ true
 or_true true b e = refl
 or_true false b e = e
 
-self : (c : ℕ) → (c == c) ≡ true
-self c = grind arith
-
 pub present : (c : ℕ) (t : List ℕ) → c < 128 → IsUtf8 t → HasMatch (FindsChar c) t → list_any (λ d. d == c) (chars t) ≡ true
 present c t l u h =
     let i = h.0 in
@@ -33,7 +31,7 @@ present c t l u h =
     let rest : chars (encode_utf8 c ++ drop j t) ≡ c ∷ chars (drop j t) = chars_past_char _ (drop j t) c (subst IsUtf8 at.split (IsUtf8-drop t i u cut)) refl in
     let all : chars t ≡ chars (take i t) ++ c ∷ chars (drop j t) =
     ap chars (sym bytes) ∙ (chars-append (take i t) (encode_utf8 c ++ drop j t) (IsUtf8-take t i u cut) ∙ ap (λ x. chars (take i t) ++ x) rest) in
-    ap (list_any (λ d. d == c)) all ∙ (list_any-append (λ d. d == c) (chars (take i t)) (c ∷ chars (drop j t)) ∙ or_true (list_any (λ d. d == c) (chars (take i t))) _ (ap (λ b. b || list_any (λ d. d == c) (chars (drop j t))) (self c)))
+    ap (list_any (λ d. d == c)) all ∙ (list_any-append (λ d. d == c) (chars (take i t)) (c ∷ chars (drop j t)) ∙ or_true (list_any (λ d. d == c) (chars (take i t))) _ (ap (λ b. b || list_any (λ d. d == c) (chars (drop j t))) (same_char c)))
 
 pub single_quotes : (u : List ℕ) → list_any (λ d. d == 34) u ≡ true → list_any (λ d. d == 39) u ≡ false → 39 ≡ quote_for u
 single_quotes u e f = sym (ap (λ b. if b && not (list_any (λ d. d == 39) u) then 39 else 34) e ∙ ap (λ b. if not b then 39 else 34) f)

@@ -14,14 +14,10 @@ use Rattle.json5_text.specs.declared.error.Error.{Error}
 use Rattle.json5_ser.specs.Writable.{is_within, is_normal, is_writable}
 use Rattle.json5_ser.specs.Out.{Out, whole as ended_whole, no_number, piece, stopped, number_out}
 use Rattle.json5_ser.specs.Writes.{Seen, Writes}
+use Rattle.std.proofs.lemmas.Bool.{and_parts}
 
-both : (a b : Bool) → (a && b) ≡ true → (a ≡ true) × (b ≡ true)
-both true true e = (refl, refl)
-both true false e = absurd (cc)
-both false b e = absurd (cc)
-
-joined : (a b : Bool) → a ≡ true → b ≡ true → (a && b) ≡ true
-joined a b e f = ap (λ x. x && b) e ∙ f
+both_from : (a b : Bool) → a ≡ true → b ≡ true → (a && b) ≡ true
+both_from a b e f = ap (λ x. x && b) e ∙ f
 
 le_from : (a b : ℤ) → le_z a b ≡ true → a ≤ℤ b
 le_from a b e = grind (arith, ints)
@@ -31,11 +27,11 @@ le_test a b e = grind (arith, ints)
 
 digits_from : (ds : List ℕ) → list_all is_digit ds ≡ true → Each is_digit ds
 digits_from [] e = no_char
-digits_from (c ∷ ds) e = let b = both (is_digit c) (list_all is_digit ds) e in char b.0 (digits_from ds b.1)
+digits_from (c ∷ ds) e = let b = and_parts (is_digit c) (list_all is_digit ds) e in char b.0 (digits_from ds b.1)
 
 digits_test : {ds : List ℕ} → Each is_digit ds → list_all is_digit ds ≡ true
 digits_test no_char = refl
-digits_test (char {c} {s} d e) = joined (is_digit c) (list_all is_digit s) d (digits_test e)
+digits_test (char {c} {s} d e) = both_from (is_digit c) (list_all is_digit s) d (digits_test e)
 
 zero_from : (ds : List ℕ) (e : ℤ) → (not (is_empty ds) || int_eq e (pos 0)) ≡ true → ds ≡ [] → e ≡ pos 0
 zero_from [] e h k = (signed_Decides e (pos 0)).0 h
@@ -46,21 +42,21 @@ zero_test [] e h = (signed_Decides e (pos 0)).1 (h refl)
 zero_test (c ∷ ds) e h = refl
 
 within : (low high z : ℤ) → is_within low high z ≡ true → (low ≤ℤ z) × (z ≤ℤ high)
-within low high z h = let b = both (le_z low z) (le_z z high) h in (le_from low z b.0, le_from z high b.1)
+within low high z h = let b = and_parts (le_z low z) (le_z z high) h in (le_from low z b.0, le_from z high b.1)
 
 within_test : (low high z : ℤ) → low ≤ℤ z → z ≤ℤ high → is_within low high z ≡ true
-within_test low high z l h = joined (le_z low z) (le_z z high) (le_test low z l) (le_test z high h)
+within_test low high z l h = both_from (le_z low z) (le_z z high) (le_test low z l) (le_test z high h)
 
 normal_from : (ds : List ℕ) (e : ℤ) → is_normal ds e ≡ true → IsNormal ds e
 normal_from ds e h =
-    let a = both _ _ h in
-    let b = both _ _ a.1 in
-    let c = both _ _ b.1 in
+    let a = and_parts _ _ h in
+    let b = and_parts _ _ a.1 in
+    let c = and_parts _ _ b.1 in
     record { digits = digits_from ds a.0; bare = (bytes_decides (without_zeros ds) ds).0 b.0; in_range = within _ _ e c.0; zero = zero_from ds e c.1 }
 
 normal_test : (ds : List ℕ) (e : ℤ) → IsNormal ds e → is_normal ds e ≡ true
 normal_test ds e n =
-    joined _ _ (digits_test n.digits) (joined _ _ ((bytes_decides (without_zeros ds) ds).1 n.bare) (joined _ _ (within_test _ _ e n.in_range.0 n.in_range.1) (zero_test ds e n.zero)))
+    both_from _ _ (digits_test n.digits) (both_from _ _ ((bytes_decides (without_zeros ds) ds).1 n.bare) (both_from _ _ (within_test _ _ e n.in_range.0 n.in_range.1) (zero_test ds e n.zero)))
 
 pub number_from : (n : Number) → is_writable n ≡ true → IsNumber n
 unfolding is_writable

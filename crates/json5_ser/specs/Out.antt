@@ -1,7 +1,7 @@
 -- The written text of a tree, and where it stops.
 -- Each member of a collection stands on a line of its own, two spaces a level, and a comma follows it.
 use Rattle.std.specs.Prelude.{ℕ, ◌+◌, ◌*◌, List, [], ◌∷◌, ◌++◌, Bool, true, false, replicate, nat_lt, cond}
-use Rattle.json5_grammar.specs.Characters.{line_feed, comma_sign, colon_sign, left_bracket, right_bracket, left_brace, right_brace}
+use Rattle.json5_grammar.specs.Characters.{line_feed, space, comma_sign, colon_sign, left_bracket, right_bracket, left_brace, right_brace}
 use Rattle.json5_grammar.specs.Numbers.{Number}
 use Rattle.json5_grammar.specs.NumberText.{number_text}
 use Rattle.json5_grammar.specs.Quoting.{quoted_text, key_text}
@@ -39,9 +39,6 @@ after s no_number o = record { text = s; stop = no_number }
 infixr 10 ◌then◌
 abbrev pub ◌then◌ : Out → Out → Out
 a then b = after a.text a.stop b
-
-abbrev pub space : ℕ
-space = 0x20
 
 -- a line feed, and the spaces of a level
 abbrev pub line : ℕ → List ℕ

@@ -3,7 +3,7 @@ use Rattle.std.specs.Prelude.{◌≡◌, ℕ, List, None, ⊤}
 use Rattle.std.specs.Str.{chars, encode_utf8_all}
 use Rattle.json5_grammar.specs.declared.code.ErrorCode.TheVariants as codes
 use Rattle.json5_text.specs.declared.error.Error.{Error}
-use Rattle.json5_text.specs.Errors.{Kind, code, custom, failed_write, kind_of, place_of}
+use Rattle.json5_text.specs.Errors.{FaultKind, code, custom, failed_write, kind_of, place_of}
 use Rattle.json5_ser.specs.Out.{Out, whole, invalid_key, too_deep}
 
 -- the bytes are the whole text
@@ -13,7 +13,7 @@ pub record IsText (o : Out) (bytes : List ℕ) : Type 0 where
   pub encoded : bytes ≡ encode_utf8_all o.text
 
 -- the text stops with this kind of fault, or memory was refused
-abbrev pub StopsAs : Out → Kind → Type 0
+abbrev pub StopsAs : Out → FaultKind → Type 0
 StopsAs o (code codes.InvalidKey) = o.stop ≡ invalid_key
 StopsAs o (code codes.TooDeep) = o.stop ≡ too_deep
 StopsAs o (code codes.OutOfMemory) = ⊤

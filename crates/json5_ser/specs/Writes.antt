@@ -4,7 +4,7 @@ use Rattle.std.specs.Str.{encode_utf8_all, all_scalars}
 use Rattle.std.specs.Io.KnownBytes.{Appends, Keeps}
 use Rattle.json5_grammar.specs.declared.code.ErrorCode.TheVariants as codes
 use Rattle.json5_text.specs.declared.error.Error.{Error}
-use Rattle.json5_text.specs.Errors.{Kind, code, custom, failed_write, kind_of, place_of}
+use Rattle.json5_text.specs.Errors.{FaultKind, code, custom, failed_write, kind_of, place_of}
 use Rattle.json5_grammar.specs.Documents.{max_depth}
 use Rattle.json5_ser.specs.WrittenTrees.{Written}
 use Rattle.json5_ser.specs.Out.{Out, Stop, whole, invalid_key, too_deep, out}
@@ -55,7 +55,7 @@ pub data Refusal : Type 0 where
   by_none : Refusal
 
 -- a refusal of this kind leaves the serializer so; no other kind is a refusal of writing
-abbrev pub refusal_of : Kind → Refusal
+abbrev pub refusal_of : FaultKind → Refusal
 refusal_of (code codes.InvalidKey) = by_key
 refusal_of (code codes.TooDeep) = by_depth
 refusal_of (code codes.Failed) = by_refusal

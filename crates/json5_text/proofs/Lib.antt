@@ -1,6 +1,7 @@
 pub mod NumberRuns
 pub mod NumberZeros
 pub mod NumberWritten
+pub mod NumberPieces
 pub mod ScanSteps
 pub mod ScanBytes
 pub mod ScanFaults

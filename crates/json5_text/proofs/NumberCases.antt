@@ -19,20 +19,11 @@ run_refused q m x f e h = ap (if_literal q m (rest_of in_run x)) (ap literal_at 
 
 -- ---- after a first `0`
 
-pub zero_ends : (q : List ℕ) (m : Bool) (x : List ℕ) → x ≡ [] → at_zero q m x ≡ got (whole (pos 0)) x
-zero_ends q m x e = rw e refl
-
 pub zero_leads : (q : List ℕ) (m : Bool) (x y : List ℕ) (c : ℕ) (b : Bool) → x ≡ c ∷ y → b ≡ is_digit c → b ≡ true → at_zero q m x ≡ bad (Some LeadingZero) (here q)
 zero_leads q m x y c b e f h = let k = sym f ∙ h in rw (e, k) refl
 
-pub zero_hexadecimal : (q : List ℕ) (m : Bool) (x y : List ℕ) (c : ℕ) (b d : Bool) → x ≡ c ∷ y → b ≡ is_digit c → b ≡ false → d ≡ hex_start c → d ≡ true → at_zero q m x ≡ hexadecimal q m y
-zero_hexadecimal q m x y c b d e f h g l = let k = sym f ∙ h in let n = sym g ∙ l in rw e (rw (k, n) refl)
-
 pub zero_run : (q : List ℕ) (m : Bool) (t x y : List ℕ) (c : ℕ) (b d a : Bool) → t ≡ 48 ∷ x → x ≡ c ∷ y → b ≡ is_digit c → b ≡ false → d ≡ hex_start c → d ≡ false → a ≡ ((c == 46) || ((c == 101) || (c == 69))) → a ≡ true → at_zero q m x ≡ decimal_run q m t
 zero_run q m t x y c b d a z e f h g l i j = let k = sym f ∙ h in let n = sym g ∙ l in let o = sym i ∙ j in rw (z, e) (rw (k, n, o) refl)
-
-pub zero_alone : (q : List ℕ) (m : Bool) (x y : List ℕ) (c : ℕ) (b d a : Bool) → x ≡ c ∷ y → b ≡ is_digit c → b ≡ false → d ≡ hex_start c → d ≡ false → a ≡ ((c == 46) || ((c == 101) || (c == 69))) → a ≡ false → at_zero q m x ≡ got (whole (pos 0)) x
-zero_alone q m x y c b d a e f h g l i j = let k = sym f ∙ h in let n = sym g ∙ l in let o = sym i ∙ j in rw e (rw (k, n, o) refl)
 
 -- ---- without a sign
 

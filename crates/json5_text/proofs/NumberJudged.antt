@@ -14,7 +14,7 @@ use Rattle.json5_grammar.proofs.NumberStepLaws.{IsChecked, checked_is, capped_ra
 use Rattle.json5_text.specs.declared.numbers.Exponent.{Exponent}
 use Rattle.json5_text.specs.declared.numbers.Literal.{Literal}
 use Rattle.json5_text.specs.NumberParts.{raised_of, parts_of, limited_exponent, is_whole_literal}
-use Rattle.json5_text.proofs.NumberZeros.{length-front}
+use Rattle.json5_grammar.proofs.DecimalsWritten.{length-front}
 
 -- ---- whole numbers
 
@@ -22,10 +22,6 @@ pub whole_at : {B E : Type 0} (m : Bool) (i : List ℕ) (g : B → List ℕ) (h 
 whole_at m i g h None None p q = refl
 whole_at m i g h None (Some e) p q = cc
 whole_at m i g h (Some b) e p q = cc
-
-pub no_whole_at : {B E : Type 0} (m : Bool) (i : List ℕ) (g : B → List ℕ) (h : E → ℤ) (b : Option B) (e : Option E) → is_some b ≡ true → is_whole m i (option_map g b) (option_map h e) ≡ false
-no_whole_at m i g h None e p = cc
-no_whole_at m i g h (Some b) e p = refl
 
 pub not_whole : (m : Bool) (l : Literal) → (is_whole_literal m l ≡ true → ⊥) → is_whole_literal m l ≡ false
 not_whole m l n = by (is_whole_literal m l) refl

@@ -3,7 +3,7 @@ use Rattle.std.proofs.Common.{◌≡◌, ℕ, ◌<◌, Bool, true, false, ◌&&�
 use Rattle.std.specs.Prelude.{◌==◌, not, ℤ}
 use Rattle.std.specs.Str.{IsUtf8, chars, encode_utf8_all}
 use Rattle.std.proofs.lemmas.Bool.Decides.{nat_tests}
-use Rattle.std.proofs.lemmas.List.{append-nil}
+use Rattle.std.proofs.lemmas.List.{append-nil, nil_from_length}
 use Rattle.std.proofs.lemmas.Str.{encodes-chars, chars-nil}
 use Rattle.json5_grammar.specs.Characters.{is_digit}
 use Rattle.json5_grammar.specs.Numbers.{is_empty, signed, spelled}
@@ -12,12 +12,8 @@ use Rattle.json5_grammar.proofs.NumberTests.{front_rest}
 
 -- ---- whether a text has characters
 
-empty_list : (s : List ℕ) → length s ≡ 0 → s ≡ []
-empty_list [] h = refl
-empty_list (c ∷ s) h = absurd (omega arith)
-
 pub no_chars : (s : List ℕ) (b : Bool) → b ≡ (length s == 0) → b ≡ true → chars s ≡ []
-no_chars s b e h = let k : length s ≡ 0 = grind (arith, nat_tests) in ap chars (empty_list s k) ∙ chars-nil
+no_chars s b e h = let k : length s ≡ 0 = grind (arith, nat_tests) in ap chars (nil_from_length s k) ∙ chars-nil
 
 pub some_chars : (s : List ℕ) (b : Bool) → IsUtf8 s → b ≡ (length s == 0) → b ≡ false → is_empty (chars s) ≡ false
 some_chars s b u e h = let k : 0 < length s = grind (arith, nat_tests) in by (chars s) (encodes-chars s u) k

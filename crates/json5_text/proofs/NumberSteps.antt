@@ -19,6 +19,8 @@ use Rattle.json5_text.specs.Refused.{Refuses, WantsForDigits}
 use Rattle.json5_text.specs.Scan.{HasCode}
 use lib.Chars.{codes}
 use Rattle.json5_text.specs.Outcome.{Outcome, bytes_in, outcome, gave, failed}
+use Rattle.json5_grammar.proofs.NumbersUnique.{hex_judged_bad}
+use Rattle.json5_grammar.proofs.NumbersRead.{hex_kept}
 
 -- a place by the bytes that are left
 pub left_is : (s : List ℕ) → IsUtf8 s → bytes_in (chars s) ≡ length s
@@ -58,19 +60,8 @@ hexadecimal_other q xs ys m c e h = rw e (rw (no_hex c h) refl)
 hexadecimal_read : (q xs ys : List ℕ) (m : Bool) (c : ℕ) (r : Read ℕ) → xs ≡ c ∷ ys → digit_value c < 16 → hex_digits 0 xs ≡ r → hexadecimal q m xs ≡ hex_judged q m r
 hexadecimal_read q xs ys m c r e h k = let f : hex_digits 0 (c ∷ ys) ≡ r = ap (hex_digits 0) (sym e) ∙ k in rw e (rw (hex_value c h, f) refl)
 
-judged_bad : (q : List ℕ) (m : Bool) (e : Option ErrorCode) (p : Place) → hex_judged q m (bad e p) ≡ bad e p
-judged_bad q true e p = refl
-judged_bad q false e p = refl
-
 pub hexadecimal_past : (q xs ys : List ℕ) (m : Bool) (c : ℕ) (e : Option ErrorCode) (p : Place) → xs ≡ c ∷ ys → digit_value c < 16 → hex_digits 0 xs ≡ bad e p → hexadecimal q m xs ≡ bad e p
-hexadecimal_past q xs ys m c e p f h k = hexadecimal_read q xs ys m c (bad e p) f h k ∙ judged_bad q m e p
-
-judged_whole : (q : List ℕ) (m : Bool) (n : ℕ) (r : List ℕ) → InWhole (signed m n) → hex_judged q m (got n r) ≡ got (whole (signed m n)) r
-judged_whole q false n r h = refl
-judged_whole q true n r h = let l = h.0 in let k : n ≤ 2 ^ 127 = omega (arith, ints) in let a : nat_le n (2 ^ 127) ≡ true = grind (arith, nat_tests) in rw a refl
-
-pub hexadecimal_whole : (q xs ys : List ℕ) (m : Bool) (c n : ℕ) (r : List ℕ) → xs ≡ c ∷ ys → digit_value c < 16 → hex_digits 0 xs ≡ got n r → InWhole (signed m n) → hexadecimal q m xs ≡ got (whole (signed m n)) r
-hexadecimal_whole q xs ys m c n r e h k i = hexadecimal_read q xs ys m c (got n r) e h k ∙ judged_whole q m n r i
+hexadecimal_past q xs ys m c e p f h k = hexadecimal_read q xs ys m c (bad e p) f h k ∙ hex_judged_bad q m e p
 
 judged_large : (q : List ℕ) (m : Bool) (n : ℕ) (r : List ℕ) → n < 2 ^ 128 → (InWhole (signed m n) → ⊥) → hex_judged q m (got n r) ≡ bad None (here q)
 judged_large q false n r l h = absurd (h (omega (arith, ints), omega (arith, ints)))

@@ -7,7 +7,7 @@ use Rattle.json5_grammar.specs.Characters.{is_digit, Each, char}
 use Rattle.json5_grammar.specs.Numbers.{spelled}
 use Rattle.json5_grammar.specs.NumberSteps.{capped, checked}
 use Rattle.json5_grammar.proofs.NumberStepLaws.{capped_is}
-use Rattle.json5_text.proofs.NumberZeros.{empty_is}
+use Rattle.std.proofs.lemmas.List.{nil_from_length}
 
 head_digit : (c : ℕ) (s : List ℕ) → Each is_digit (c ∷ s) → is_digit c ≡ true
 head_digit c s (char h e) = h
@@ -42,7 +42,7 @@ checked_past n k s i e h f l =
     sym (ap (checked (2 ^ 128) 10 n) (at_digit s i h) ∙ checked_next n k (slice_index_or s i 0) (drop (i + 1) s) (head_digit (slice_index_or s i 0) (drop (i + 1) s) (subst (Each is_digit) (at_digit s i h) e)) f l)
 
 none_left : (s : List ℕ) (i : ℕ) → length s ≤ i → drop i s ≡ []
-none_left s i h = empty_is (drop i s) (omega (arith, length-drop i s))
+none_left s i h = nil_from_length (drop i s) (omega (arith, length-drop i s))
 
 pub capped_done : (v i : ℕ) (s ds : List ℕ) → capped (2 ^ 100) v (drop i s) ≡ capped (2 ^ 100) 0 ds → length s ≤ i → v ≡ min (2 ^ 100) (spelled 10 0 ds)
 capped_done v i s ds e h = sym (ap (capped (2 ^ 100) v) (none_left s i h)) ∙ e ∙ capped_is (2 ^ 100) 0 ds

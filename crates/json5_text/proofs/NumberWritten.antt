@@ -7,10 +7,7 @@ use Rattle.std.proofs.lemmas.Str.{IsCharBoundary-from_ascii}
 use Rattle.json5_grammar.specs.Characters.{is_digit, Each, no_char, char}
 use Rattle.json5_grammar.specs.NumberText.{zeros}
 use Rattle.json5_text.proofs.NumberRuns.{is_zero, zero_is_ascii, digit_is_ascii, each_below}
-
-each_zero : (n : ℕ) → Each is_zero (zeros n)
-each_zero zero = no_char
-each_zero (suc n) = char refl (each_zero n)
+use Rattle.json5_grammar.proofs.DecimalsWritten.{each_zero}
 
 pub zeros_boundary : (s : List ℕ) (n i : ℕ) → s ≡ zeros n → i ≤ n → IsCharBoundary s i
 zeros_boundary s n i e h = rw e (IsCharBoundary-from_ascii (zeros n) i (λ j. each_below zero_is_ascii (each_zero n) j) (omega (arith, length-replicate {A = ℕ} n 48)))
@@ -21,9 +18,6 @@ zeros_cut s n i e h =
     let k : zeros n ≡ zeros i ++ zeros (n - i) = ap zeros (sym j) ∙ sym (replicate-append-replicate i (n - i) 48) in
     let l : i ≡ length (zeros i) = sym (length-replicate {A = ℕ} i 48) in
     ap (take i) (e ∙ k) ∙ ap (λ m. take m (zeros i ++ zeros (n - i))) l ∙ take-append_seam (zeros i) (zeros (n - i))
-
-pub zeros_more : (n piece total : ℕ) → n + piece ≡ total → zeros n ++ zeros piece ≡ zeros total
-zeros_more n piece total e = replicate-append-replicate n piece 48 ∙ ap zeros e
 
 pub digits_boundary : (s : List ℕ) (i : ℕ) → Each is_digit s → i ≤ length s → IsCharBoundary s i
 digits_boundary s i e h = IsCharBoundary-from_ascii s i (λ j. each_below digit_is_ascii e j) h

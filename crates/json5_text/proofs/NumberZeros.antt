@@ -1,7 +1,7 @@
 -- The zeros that go from digits in two parts.
 use Rattle.std.proofs.Common.{◌≡◌, ℕ, suc, ◌<◌, ◌≤◌, ◌+◌, ◌-◌, Bool, true, false, cond, List, [], ◌∷◌, ◌++◌, length, refl, ap, sym, ◌∙◌, arith}
 use Rattle.std.specs.Prelude.{◌==◌, reverse, ℤ, pos, ◌+ℤ◌}
-use Rattle.std.proofs.lemmas.List.{append-nil, reverse-append, reverse-reverse, length-reverse, length-append}
+use Rattle.std.proofs.lemmas.List.{append-nil, reverse-append, reverse-reverse, length-reverse, length-append, nil_from_length}
 use Rattle.std.proofs.lemmas.Bool.Decides.{nat_tests}
 use Rattle.std.proofs.lemmas.Int.{ints, to_z-of_z}
 use mir.Syntax.{w16, w64, w128}
@@ -11,7 +11,7 @@ use Rattle.json5_grammar.specs.Numbers.{finite, without_front_zeros, without_zer
 use Rattle.json5_grammar.specs.NumberText.{IsNormal}
 use Rattle.json5_text.specs.NumberSteps.{raised}
 use Rattle.json5_grammar.proofs.NumberTests.{by_test}
-use Rattle.json5_grammar.proofs.DecimalsWritten.{Each-reverse}
+use Rattle.json5_grammar.proofs.DecimalsWritten.{Each-reverse, length-front}
 use Rattle.json5_grammar.proofs.NormalForms.{bare_twice}
 
 -- ---- in front
@@ -25,16 +25,12 @@ front_parts : (a b : List ℕ) → without_front_zeros (a ++ b) ≡ cond (is_emp
 front_parts [] b = refl
 front_parts (c ∷ a) b = front_step c a b (front_parts a b) (c == 48) refl
 
-pub empty_is : (s : List ℕ) → length s ≡ 0 → s ≡ []
-empty_is [] h = refl
-empty_is (c ∷ s) h = absurd (omega arith)
-
 full_is : (s : List ℕ) → 0 < length s → is_empty s ≡ false
 full_is [] h = absurd (omega arith)
 full_is (c ∷ s) h = refl
 
 pub front_none : (a b : List ℕ) → length (without_front_zeros a) ≡ 0 → without_front_zeros a ++ without_front_zeros b ≡ without_front_zeros (a ++ b)
-front_none a b h = let e = empty_is (without_front_zeros a) h in rw e (sym (front_parts a b ∙ ap (λ z. cond (is_empty z) (without_front_zeros b) (z ++ b)) e))
+front_none a b h = let e = nil_from_length (without_front_zeros a) h in rw e (sym (front_parts a b ∙ ap (λ z. cond (is_empty z) (without_front_zeros b) (z ++ b)) e))
 
 pub front_some : (a b : List ℕ) → 0 < length (without_front_zeros a) → without_front_zeros a ++ b ≡ without_front_zeros (a ++ b)
 front_some a b h = sym (front_parts a b ∙ ap (λ z. cond z (without_front_zeros b) (without_front_zeros a ++ b)) (full_is (without_front_zeros a) h))
@@ -49,7 +45,7 @@ back_parts a b = ap reverse (ap without_front_zeros (reverse-append a b) ∙ fro
 
 pub back_none : (a b : List ℕ) → length (back b) ≡ 0 → back a ++ back b ≡ back (a ++ b)
 back_none a b h =
-    let e = empty_is (without_front_zeros (reverse b)) (omega (arith, length-reverse (without_front_zeros (reverse b)))) in
+    let e = nil_from_length (without_front_zeros (reverse b)) (omega (arith, length-reverse (without_front_zeros (reverse b)))) in
     ap (λ z. back a ++ reverse z) e ∙ append-nil (back a) ∙ sym (back_parts a b ∙ ap (λ z. reverse (cond (is_empty z) (without_front_zeros (reverse a)) (z ++ reverse a))) e)
 
 pub back_some : (a b : List ℕ) → 0 < length (back b) → a ++ back b ≡ back (a ++ b)
@@ -90,14 +86,6 @@ normal_exponent_is ds front rest first last e h k =
     exponent_step e (length (without_front_zeros ds)) (without_zeros ds)
     ∙ ap (λ n. raised e n (length (without_zeros ds))) (ap length (sym h) ∙ length-append front rest)
     ∙ ap (raised e (length front + length rest)) (ap length (sym k) ∙ length-append first last)
-
-length_if : (b : Bool) (c : ℕ) (s t : List ℕ) → length t ≤ length s → length (cond b t (c ∷ s)) ≤ suc (length s)
-length_if true c s t h = omega arith
-length_if false c s t h = omega arith
-
-pub length-front : (s : List ℕ) → length (without_front_zeros s) ≤ length s
-length-front [] = omega arith
-length-front (c ∷ s) = length_if (c == 48) c s (without_front_zeros s) (length-front s)
 
 pub fewer_digits : (ds front rest first last : List ℕ) → front ++ rest ≡ without_front_zeros ds → first ++ last ≡ without_zeros ds → length first + length last ≤ length front + length rest
 fewer_digits ds front rest first last h k = omega (arith, length-append front rest, length-append first last, ap length h, ap length k, length-reverse (without_front_zeros (reverse (without_front_zeros ds))), length-front (reverse (without_front_zeros ds)), length-reverse (without_front_zeros ds))

@@ -1,22 +1,26 @@
 -- A text is cut where its characters are.
 use Rattle.std.proofs.Common.{◌≡◌, ℕ, ◌+◌, ◌-◌, ◌≤◌, true, List, [], ◌∷◌, ◌++◌, length, take, drop, refl, ap, sym, ◌∙◌, subst, arith, append_assoc}
+use Rattle.std.specs.Char.{IsScalar}
 use Rattle.std.specs.List.{slice_range}
 use Rattle.std.proofs.lemmas.Grind.{common_steps}
 use Rattle.std.specs.Str.{IsUtf8, IsCharBoundary, chars, encode_utf8_all, all_scalars}
 use Rattle.std.proofs.Math.Seq.{take-append_seam, drop-append_seam}
 use Rattle.std.proofs.lemmas.List.{length-append, length-drop, length-take, take-append-drop}
 use Rattle.std.proofs.lemmas.Str.{encodes-chars, scalars-chars, chars-encodes, encodes-append, chars-append, IsUtf8-take, IsUtf8-drop, IsCharBoundary-at_seam}
-use Rattle.json5_grammar.proofs.Basics.{both_true}
 use Rattle.json5_text.specs.Outcome.{bytes_in}
 use Rattle.json5_text.specs.Cursor.{IsOffset}
 use Rattle.json5_text.specs.Scan.{InText}
+use Rattle.std.proofs.lemmas.Bool.{and_parts}
 
-scalar_halves : (x y : List ℕ) → all_scalars (x ++ y) ≡ true → (all_scalars x ≡ true) × (all_scalars y ≡ true)
+pub scalar_halves : (x y : List ℕ) → all_scalars (x ++ y) ≡ true → (all_scalars x ≡ true) × (all_scalars y ≡ true)
 scalar_halves [] y s = (refl, s)
 scalar_halves (c ∷ x) y s =
-    let k = both_true _ (all_scalars (x ++ y)) s in
+    let k = and_parts _ (all_scalars (x ++ y)) s in
     let l = scalar_halves x y k.1 in
     (rw (k.0, l.0) refl, l.1)
+
+pub one_scalar : (c : ℕ) → IsScalar c → all_scalars (c ∷ []) ≡ true
+one_scalar c h = rw h refl
 
 -- the characters of the text are x ++ y
 pub record Halves (text x y : List ℕ) : Type 0 where

@@ -11,17 +11,18 @@ use Rattle.json5_grammar.specs.declared.code.ErrorCode.TheVariants.{EofParsingId
 use Rattle.json5_grammar.specs.Reading.{Read, Place, got, bad, here, inner, and_then}
 use Rattle.json5_grammar.specs.ReadTexts.{unicode_at, name_escape, fit, put, identifier}
 use Rattle.json5_grammar.proofs.NamesRead.{unicode_head}
-use Rattle.json5_grammar.proofs.NamesSound.{EscapedSound, escaped_sound, shorter}
+use Rattle.json5_grammar.proofs.NamesSound.{EscapedSound, escaped_sound}
 use Rattle.json5_grammar.proofs.StringsRead.{put_none, put_raw, put_escape, put_end}
 use Rattle.json5_grammar.proofs.Turns.{name_rest, name_end, name_stops, name_raw, name_escaped, name_bad, start_raw, start_escaped, start_bad}
 use Rattle.json5_text.specs.declared.refusal.Refusal.{Refusal}
-use Rattle.json5_text.specs.declared.names.Stop.{Stop}
-use Rattle.json5_text.specs.declared.names.Stop.TheVariants as stop
+use Rattle.json5_text.specs.declared.names.NameStop.{NameStop}
+use Rattle.json5_text.specs.declared.names.NameStop.TheVariants as stop
 use Rattle.json5_text.specs.Outcome.{outcome}
 use Rattle.json5_text.specs.Refused.{Refuses}
 use Rattle.json5_text.specs.ScanNames.{fits, is_raw_part, name_at, item, item_then, NoPart, StopsAt, GoesOn, IsFurther, StopsText}
 use Rattle.json5_text.proofs.ScanEscapes.{refuses_as, then_refuses}
 use Rattle.json5_text.proofs.ScanStrings.{put_bad, plain_put}
+use Rattle.json5_grammar.proofs.StringsSound.{shorter}
 
 -- ---- characters that stand for themselves
 
@@ -103,7 +104,7 @@ item_run : (first : Bool) (x y z raw t : List ℕ) (n : ℕ) → item first x y 
 item_run first x y z raw t n g f k =
     after_item first x y z n g ∙ ap (λ s. put (n ∷ []) false (name_at false s)) f ∙ ap (put (n ∷ []) false) (run_read raw t k) ∙ put_escape (n ∷ []) raw true (name_at false t)
 
-pub goes_on : (first : Bool) (x y z raw t : List ℕ) (n : ℕ) (s : Stop) → item first x y ≡ got n z → z ≡ raw ++ t → Each is_raw_part raw → StopsAt t s → GoesOn (item_then first x y) (n ∷ raw) s
+pub goes_on : (first : Bool) (x y z raw t : List ℕ) (n : ℕ) (s : NameStop) → item first x y ≡ got n z → z ≡ raw ++ t → Each is_raw_part raw → StopsAt t s → GoesOn (item_then first x y) (n ∷ raw) s
 goes_on first x y z raw t n (stop.End rest) g f k a =
     item_run first x y z raw t n g f k ∙ ap (put (n ∷ raw) false) (stopped t a.1) ∙ put_end (n ∷ raw) false t ∙ ap (got (n ∷ raw, false)) a.0
 goes_on first x y z raw t n (stop.Escape escape behind) g f k a = (item_run first x y z raw t n g f k ∙ ap (λ s. put (n ∷ raw) false (name_at false s)) a.0, a.1)
@@ -115,7 +116,7 @@ item_shorter first x y z n e g =
     let m : length z < length (92 ∷ y) = shorter (92 ∷ y) k.0 z k.1 (unicode_head k.2) in
     omega arith
 
-pub is_further : (first : Bool) (x y z raw t : List ℕ) (n : ℕ) (s : Stop) → item first x y ≡ got n z → z ≡ raw ++ t → StopsAt t s → StopsText s → x ≡ 92 ∷ y → IsFurther x s
+pub is_further : (first : Bool) (x y z raw t : List ℕ) (n : ℕ) (s : NameStop) → item first x y ≡ got n z → z ≡ raw ++ t → StopsAt t s → StopsText s → x ≡ 92 ∷ y → IsFurther x s
 is_further first x y z raw t n (stop.End rest) g f a u e = u
 is_further first x y z raw t n (stop.Escape escape behind) g f a u e =
     let less = item_shorter first x y z n e g in
@@ -140,9 +141,6 @@ escape_other c b xs ys e n = let t : (c == 117) ≡ false = grind arith in rw e 
 pub escape_unicode : (c : ℕ) (b xs ys : List ℕ) → xs ≡ c ∷ ys → c ≡ 117 → name_escape b xs ≡ unicode_at b ys
 unfolding name_escape
 escape_unicode c b xs ys e h = rw (e, h) refl
-
-pub item_fits : (p : ℕ → Bool) (b xs ys : List ℕ) (n : ℕ) → name_escape b xs ≡ got n ys → p n ≡ true → and_then (name_escape b xs) (fit p b) ≡ got n ys
-item_fits p b xs ys n e h = ap (λ z. and_then z (fit p b)) e ∙ rw h refl
 
 pub item_misfits : (p : ℕ → Bool) (b xs ys : List ℕ) (n : ℕ) → name_escape b xs ≡ got n ys → p n ≡ false → and_then (name_escape b xs) (fit p b) ≡ bad (Some ExpectedIdentifier) (here b)
 item_misfits p b xs ys n e h = ap (λ z. and_then z (fit p b)) e ∙ rw h refl

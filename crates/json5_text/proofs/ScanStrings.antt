@@ -12,11 +12,11 @@ use Rattle.json5_grammar.specs.Strings.{is_raw, is_quote}
 use Rattle.json5_grammar.specs.Reading.{Read, Place, got, bad, here, inner, and_then}
 use Rattle.json5_grammar.specs.ReadTexts.{escape_at, put, string}
 use Rattle.json5_grammar.proofs.EscapesSound.{EscapeSound, escape_sound}
-use Rattle.json5_grammar.proofs.StringsRead.{escape_head, put_none, put_raw, put_escape, put_end}
+use Rattle.json5_grammar.proofs.StringsRead.{escape_head, put_none, put_raw, put_escape, put_end, raw_fails, quote_no_backslash}
 use Rattle.json5_grammar.proofs.Turns.{string_is, rest_end, rest_quote, rest_line, rest_raw, rest_bad, rest_escape}
 use Rattle.json5_text.specs.declared.refusal.Refusal.{Refusal}
-use Rattle.json5_text.specs.declared.strings.Stop.{Stop}
-use Rattle.json5_text.specs.declared.strings.Stop.TheVariants as stop
+use Rattle.json5_text.specs.declared.strings.StringStop.{StringStop}
+use Rattle.json5_text.specs.declared.strings.StringStop.TheVariants as stop
 use Rattle.json5_text.specs.Outcome.{outcome}
 use Rattle.json5_text.specs.Refused.{Refuses}
 use Rattle.json5_text.specs.ScanStrings.{string_at, escape_then, StopsAt, GoesOn, IsFurther, StopsText}
@@ -24,14 +24,8 @@ use Rattle.json5_text.proofs.ScanEscapes.{refuses_as, then_refuses}
 
 -- ---- characters that stand for themselves
 
-raw_fails : (q c : ℕ) → is_raw q c ≡ true → ((c == q) ≡ false) × ((c == 92) ≡ false) × (((c == 10) || (c == 13)) ≡ false)
-raw_fails q c h = (grind (arith, nat_tests), grind (arith, nat_tests), grind (arith, nat_tests))
-
 not_raw : (q c : ℕ) → is_raw q c ≡ false → (c == q) ≡ false → (c == 92) ≡ false → ((c == 10) || (c == 13)) ≡ true
 not_raw q c h i j = grind (arith, nat_tests)
-
-quote_no_backslash : (q : ℕ) → is_quote q ≡ true → (92 == q) ≡ false
-quote_no_backslash q h = grind (arith, nat_tests)
 
 -- one more character that passes the test
 pub one_more : (p : ℕ → Bool) (c : ℕ) (x y z : List ℕ) → p c ≡ true → (raw : List ℕ) × (x ≡ raw ++ y) × Each p raw → y ≡ c ∷ z → (raw : List ℕ) × (x ≡ raw ++ z) × Each p raw
@@ -94,7 +88,7 @@ escape_run : (q : ℕ) (x y v z raw t : List ℕ) → escape_at x y ≡ got v z 
 escape_run q x y v z raw t h f r =
     after_escape q x y v z h ∙ ap (λ s. put v false (string (q ∷ s))) f ∙ ap (put v false) (run_read q raw t r) ∙ put_escape v raw true (string (q ∷ t))
 
-pub goes_on : (q : ℕ) (x y v z raw t : List ℕ) (s : Stop) → escape_at x y ≡ got v z → z ≡ raw ++ t → Each (is_raw q) raw → StopsAt q t s → GoesOn q (escape_then q x y) (v ++ raw) s
+pub goes_on : (q : ℕ) (x y v z raw t : List ℕ) (s : StringStop) → escape_at x y ≡ got v z → z ≡ raw ++ t → Each (is_raw q) raw → StopsAt q t s → GoesOn q (escape_then q x y) (v ++ raw) s
 goes_on q x y v z raw t (stop.Quote rest) h f r a =
     escape_run q x y v z raw t h f r ∙ ap (λ s. put (v ++ raw) false (string (q ∷ s))) a
     ∙ ap (put (v ++ raw) false) (string_is q (q ∷ chars rest.now) ∙ rest_quote q q (chars rest.now) (grind arith)) ∙ put_end (v ++ raw) false (chars rest.now)
@@ -108,7 +102,7 @@ escape_shorter x y v z e h =
     let first : length k.0 ≡ suc (length head.0) = ap length head.1 in
     omega arith
 
-pub is_further : (q : ℕ) (x y v z raw t : List ℕ) (s : Stop) → escape_at x y ≡ got v z → z ≡ raw ++ t → StopsAt q t s → StopsText s → x ≡ 92 ∷ y → IsFurther x s
+pub is_further : (q : ℕ) (x y v z raw t : List ℕ) (s : StringStop) → escape_at x y ≡ got v z → z ≡ raw ++ t → StopsAt q t s → StopsText s → x ≡ 92 ∷ y → IsFurther x s
 is_further q x y v z raw t (stop.Quote rest) h f a u e = u
 is_further q x y v z raw t (stop.Escape escape behind) h f a u e =
     let shorter = escape_shorter x y v z e h in

@@ -10,24 +10,24 @@ use Rattle.json5_text.specs.declared.error.Content.{Content}
 use Rattle.json5_text.specs.declared.error.Content.TheVariants as content
 
 -- what a fault says: a code, a text of its own (its bytes), or that a write failed
-pub data Kind : Type 0 where
-  code : ErrorCode → Kind
-  custom : List ℕ → Kind
-  failed_write : Kind
+pub data FaultKind : Type 0 where
+  code : ErrorCode → FaultKind
+  custom : List ℕ → FaultKind
+  failed_write : FaultKind
 
-abbrev pub kind_of_content : Content → Kind
+abbrev pub kind_of_content : Content → FaultKind
 kind_of_content (content.Code c) = code c
 kind_of_content (content.Custom s) = custom (string_bytes s)
 kind_of_content content.FailedWrite = failed_write
 
-abbrev pub kind_of : Error → Kind
+abbrev pub kind_of : Error → FaultKind
 kind_of e = kind_of_content e.content
 
 -- the place of a fault
 abbrev pub place_of : Error → Option Position
 place_of e = e.position
 
-abbrev pub known_code : Kind → Option ErrorCode
+abbrev pub known_code : FaultKind → Option ErrorCode
 known_code (code c) = Some c
 known_code (custom s) = None
 known_code failed_write = None
@@ -38,7 +38,7 @@ or_place None p = Some p
 or_place (Some q) p = Some q
 
 -- the fault says this, at this place
-pub record SaysAt (what : Kind) (there : Option Position) (e : Error) : Type 0 where
+pub record SaysAt (what : FaultKind) (there : Option Position) (e : Error) : Type 0 where
   pub kind : kind_of e ≡ what
   pub place : place_of e ≡ there
 
@@ -54,7 +54,7 @@ pub record LacksMemory (e : Error) : Type 0 where
 
 -- ---- what is printed
 
-abbrev pub kind_text : Kind → List ℕ
+abbrev pub kind_text : FaultKind → List ℕ
 kind_text (code c) = code_text c
 kind_text (custom text) = text
 kind_text failed_write = codes "failed write"

@@ -5,6 +5,7 @@ pub mod Cursor
 pub mod Tokens
 pub mod Takes
 pub mod NumberViews
+pub mod NumberPieces
 pub mod NumberDecimals
 pub mod NumberSteps
 pub mod NumberEquality

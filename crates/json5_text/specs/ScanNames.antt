@@ -6,8 +6,8 @@ use Rattle.json5_grammar.specs.Characters.{backslash, Each, is_identifier_start,
 use Rattle.json5_grammar.specs.Reading.{Read, and_then, got}
 use Rattle.json5_grammar.specs.ReadTexts.{name_escape, fit, put, parts, identifier}
 use Rattle.json5_text.specs.declared.refusal.Refusal.{Refusal}
-use Rattle.json5_text.specs.declared.names.Stop.{Stop}
-use Rattle.json5_text.specs.declared.names.Stop.TheVariants as stop
+use Rattle.json5_text.specs.declared.names.NameStop.{NameStop}
+use Rattle.json5_text.specs.declared.names.NameStop.TheVariants as stop
 use Rattle.json5_text.specs.Outcome.{outcome}
 use Rattle.json5_text.specs.Refused.{Refuses}
 use Rattle.json5_text.specs.Answered.{RefusesByCode}
@@ -34,16 +34,16 @@ pub record NoPart (x : List ℕ) : Type 0 where
   pub no_part : is_identifier_part first ≡ false
 
 -- a run of a name ends before x
-abbrev pub StopsAt : List ℕ → Stop → Type 0
+abbrev pub StopsAt : List ℕ → NameStop → Type 0
 StopsAt x (stop.End rest) = (x ≡ chars rest.now) × NoPart x
 StopsAt x (stop.Escape escape behind) = (x ≡ chars escape.now) × (chars escape.now ≡ backslash ∷ chars behind.now)
 
-abbrev pub StopsText : Stop → Type 0
+abbrev pub StopsText : NameStop → Type 0
 StopsText (stop.End rest) = IsUtf8 rest.now
 StopsText (stop.Escape escape behind) = IsUtf8 escape.now × IsUtf8 behind.now
 
 -- the part in front stands for itself in a name, up to where it stops
-pub record IsRun (whole part : List ℕ) (end : Stop) : Type 0 where
+pub record IsRun (whole part : List ℕ) (end : NameStop) : Type 0 where
   pub rest : List ℕ
   pub split : chars whole ≡ chars part ++ rest
   pub raw : Each is_raw_part (chars part)
@@ -52,7 +52,7 @@ pub record IsRun (whole part : List ℕ) (end : Stop) : Type 0 where
   pub stop_text : StopsText end
 
 -- the run in front and where it stops; or the fault
-abbrev pub AnswersRun : List ℕ → Result (Bor (List ℕ) × Stop) Refusal → Type 0
+abbrev pub AnswersRun : List ℕ → Result (Bor (List ℕ) × NameStop) Refusal → Type 0
 AnswersRun whole (Ok p) = IsRun whole p.0.now p.1
 AnswersRun whole (Err e) = RefusesByCode e (name_at false (chars whole))
 
@@ -65,23 +65,23 @@ abbrev pub item_then : Bool → List ℕ → List ℕ → Read (List ℕ × Bool
 item_then first x y = and_then (item first x y) (λ c z. put (c ∷ []) false (name_at false z))
 
 -- reading spells u up to there
-abbrev pub GoesOn : Read (List ℕ × Bool) → List ℕ → Stop → Type 0
+abbrev pub GoesOn : Read (List ℕ × Bool) → List ℕ → NameStop → Type 0
 GoesOn reading u (stop.End rest) = reading ≡ got (u, false) (chars rest.now)
 GoesOn reading u (stop.Escape escape behind) = (reading ≡ put u false (name_at false (chars escape.now))) × (chars escape.now ≡ backslash ∷ chars behind.now)
 
 -- less is left there than x, and it is text
-abbrev pub IsFurther : List ℕ → Stop → Type 0
+abbrev pub IsFurther : List ℕ → NameStop → Type 0
 IsFurther x (stop.End rest) = IsUtf8 rest.now
 IsFurther x (stop.Escape escape behind) = (length (chars escape.now) < length x) × IsUtf8 escape.now × IsUtf8 behind.now
 
 -- the bytes gained what an escape and the run after it spell
-pub record PutEscape (first : Bool) (x y old new : List ℕ) (end : Stop) : Type 0 where
+pub record PutEscape (first : Bool) (x y old new : List ℕ) (end : NameStop) : Type 0 where
   pub spelled : List ℕ
   pub goes_on : GoesOn (item_then first x y) spelled end
   pub bytes : new ≡ old ++ encode_utf8_all spelled
   pub further : x ≡ backslash ∷ y → IsFurther x end
 
 -- that, and where the run stops; or the fault
-abbrev pub PutsEscape : Bool → List ℕ → List ℕ → List ℕ → List ℕ → Result Stop Refusal → Type 0
+abbrev pub PutsEscape : Bool → List ℕ → List ℕ → List ℕ → List ℕ → Result NameStop Refusal → Type 0
 PutsEscape first x y old new (Ok end) = PutEscape first x y old new end
 PutsEscape first x y old new (Err e) = Refuses e (outcome (item_then first x y))

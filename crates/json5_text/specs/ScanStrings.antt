@@ -8,8 +8,8 @@ use Rattle.json5_grammar.specs.Strings.{is_quote, is_raw}
 use Rattle.json5_grammar.specs.Reading.{Read, and_then, here, inner, got, bad}
 use Rattle.json5_grammar.specs.ReadTexts.{escape_at, put, string}
 use Rattle.json5_text.specs.declared.refusal.Refusal.{Refusal}
-use Rattle.json5_text.specs.declared.strings.Stop.{Stop}
-use Rattle.json5_text.specs.declared.strings.Stop.TheVariants as stop
+use Rattle.json5_text.specs.declared.strings.StringStop.{StringStop}
+use Rattle.json5_text.specs.declared.strings.StringStop.TheVariants as stop
 use Rattle.json5_text.specs.Outcome.{outcome}
 use Rattle.json5_text.specs.Refused.{Refuses}
 use Rattle.json5_text.specs.Answered.{RefusesByCode}
@@ -20,16 +20,16 @@ string_at [] = bad (Some EofParsingString) inner
 string_at (c ∷ r) = cond (is_quote c) (string (c ∷ r)) (bad (Some ExpectedString) (here (c ∷ r)))
 
 -- a run of a string in the quotes q ends before x
-abbrev pub StopsAt : ℕ → List ℕ → Stop → Type 0
+abbrev pub StopsAt : ℕ → List ℕ → StringStop → Type 0
 StopsAt q x (stop.Quote rest) = x ≡ q ∷ chars rest.now
 StopsAt q x (stop.Escape escape behind) = (x ≡ chars escape.now) × (chars escape.now ≡ backslash ∷ chars behind.now)
 
-abbrev pub StopsText : Stop → Type 0
+abbrev pub StopsText : StringStop → Type 0
 StopsText (stop.Quote rest) = IsUtf8 rest.now
 StopsText (stop.Escape escape behind) = IsUtf8 escape.now × IsUtf8 behind.now
 
 -- the part in front stands for itself between the quotes q, up to where it stops
-pub record IsRun (q : ℕ) (whole part : List ℕ) (end : Stop) : Type 0 where
+pub record IsRun (q : ℕ) (whole part : List ℕ) (end : StringStop) : Type 0 where
   pub rest : List ℕ
   pub split : chars whole ≡ chars part ++ rest
   pub raw : Each (is_raw q) (chars part)
@@ -38,7 +38,7 @@ pub record IsRun (q : ℕ) (whole part : List ℕ) (end : Stop) : Type 0 where
   pub stop_text : StopsText end
 
 -- the run in front and where it stops; or the fault
-abbrev pub AnswersRun : ℕ → List ℕ → Result (Bor (List ℕ) × Stop) Refusal → Type 0
+abbrev pub AnswersRun : ℕ → List ℕ → Result (Bor (List ℕ) × StringStop) Refusal → Type 0
 AnswersRun q whole (Ok p) = IsRun q whole p.0.now p.1
 AnswersRun q whole (Err e) = RefusesByCode e (string (q ∷ chars whole))
 
@@ -47,23 +47,23 @@ abbrev pub escape_then : ℕ → List ℕ → List ℕ → Read (List ℕ × Boo
 escape_then q x y = and_then (escape_at x y) (λ v z. put v false (string (q ∷ z)))
 
 -- reading spells u up to there, in the quotes q
-abbrev pub GoesOn : ℕ → Read (List ℕ × Bool) → List ℕ → Stop → Type 0
+abbrev pub GoesOn : ℕ → Read (List ℕ × Bool) → List ℕ → StringStop → Type 0
 GoesOn q reading u (stop.Quote rest) = reading ≡ got (u, false) (chars rest.now)
 GoesOn q reading u (stop.Escape escape behind) = (reading ≡ put u false (string (q ∷ chars escape.now))) × (chars escape.now ≡ backslash ∷ chars behind.now)
 
 -- less is left there than x, and it is text
-abbrev pub IsFurther : List ℕ → Stop → Type 0
+abbrev pub IsFurther : List ℕ → StringStop → Type 0
 IsFurther x (stop.Quote rest) = IsUtf8 rest.now
 IsFurther x (stop.Escape escape behind) = (length (chars escape.now) < length x) × IsUtf8 escape.now × IsUtf8 behind.now
 
 -- the bytes gained what an escape and the run after it spell
-pub record PutEscape (q : ℕ) (x y old new : List ℕ) (end : Stop) : Type 0 where
+pub record PutEscape (q : ℕ) (x y old new : List ℕ) (end : StringStop) : Type 0 where
   pub spelled : List ℕ
   pub goes_on : GoesOn q (escape_then q x y) spelled end
   pub bytes : new ≡ old ++ encode_utf8_all spelled
   pub further : x ≡ backslash ∷ y → IsFurther x end
 
 -- that, and where the run stops; or the fault
-abbrev pub PutsEscape : ℕ → List ℕ → List ℕ → List ℕ → List ℕ → Result Stop Refusal → Type 0
+abbrev pub PutsEscape : ℕ → List ℕ → List ℕ → List ℕ → List ℕ → Result StringStop Refusal → Type 0
 PutsEscape q x y old new (Ok end) = PutEscape q x y old new end
 PutsEscape q x y old new (Err e) = Refuses e (outcome (escape_then q x y))

@@ -2,16 +2,15 @@
 
 ghost use Rattle.std.specs.Prelude.{◌≡◌, ◌≤◌, ◌-◌, string_bytes, ◌++◌, ◌↔◌, pos, ◌+ℤ◌, reverse, length, IsSome, IfSome, IfOk, MatchResult, Some, FitsSigned};
 ghost use Rattle.std.specs.Int.{w128};
-ghost use Rattle.std.specs.Str.{IsCharBoundary};
-ghost use Rattle.std.specs.Fmt.{WritesOnOk};
 ghost use Rattle.json5_grammar.specs.Characters.{is_digit, Each};
 ghost use Rattle.json5_grammar.specs.Numbers as numbers;
-ghost use Rattle.json5_grammar.specs.NumberText.{zeros, pointed, digits_text, decimal_text};
+ghost use Rattle.json5_grammar.specs.NumberText.{decimal_text};
 ghost use Rattle.json5_text.specs.Errors.{LacksMemory};
 ghost use Rattle.json5_text.specs.NumberDecimals.{is_minus, is_infinity, is_not_a_number, digits_in, exponent_in, Shows, IsInRange, IsFiniteIfInRange, IsFiniteOf};
 ghost use Rattle.json5_text.specs.NumberSteps.{raised, IsSmallExponent};
 
 use crate::error::Result;
+use crate::pieces::Pieces;
 use crate::runs;
 use std::alloc::{AllocError, Global};
 use std::fmt;
@@ -212,6 +211,20 @@ impl Decimal {
         }
     }
 
+    /// Its text in plain notation with a point: the digits, as many zeros as the exponent says and `.0`, or
+    /// the point within the digits or before them. Zero is `0.0`; the others are `Infinity` and `NaN`. A minus
+    /// stands before where it is negative. Takes no memory.
+    pub fn pieces(&self) -> Pieces<'_>
+        ensures { Shows decimal_text self.now result }
+    {
+        let sign = if self.is_negative() { "-" } else { "" };
+        match &self.size {
+            Size::Infinite => Pieces::of_word(sign, "Infinity"),
+            Size::NotANumber => Pieces::of_word(sign, "NaN"),
+            Size::Finite(digits, exponent) => Pieces::of_digits(sign, digits.as_str(), *exponent),
+        }
+    }
+
     /// The same number. The only fault is `OutOfMemory`.
     pub fn clone(&self, alloc: Global) -> Result<Decimal>
         ensures { MatchResult result (λ d. d ≡ self.now) LacksMemory }
@@ -281,74 +294,6 @@ impl Hash for Decimal {
     }
 }
 
-/// 64 zeros.
-fn many_zeros() -> &'static str
-    ensures { result.now ≡ zeros 64 }
-{
-    "0000000000000000000000000000000000000000000000000000000000000000"
-}
-
-/// At most 64 zeros.
-fn few_zeros(count: usize) -> &'static str
-    requires { count ≤ 64 }
-    ensures { result.now ≡ zeros count }
-{
-    many_zeros().split_at(count).0
-}
-
-/// Writes zeros, many at a time.
-fn write_zeros<W: fmt::Write>(f: &mut fmt::Formatter<W>, count: usize) -> fmt::Result
-    ensures { WritesOnOk W.write_str_gives f.old result (zeros count) f.new }
-{
-    let mut left = count;
-    while left > 64 {
-        f.write_str(many_zeros())?;
-        left -= 64;
-    }
-    f.write_str(few_zeros(left))
-}
-
-/// Writes digits with a point before the last `moved` of them.
-fn write_pointed<W: fmt::Write>(
-    f: &mut fmt::Formatter<W>,
-    digits: &str,
-    moved: usize,
-) -> fmt::Result
-    requires { IsCharBoundary digits.now (length digits.now - moved) }
-    ensures { WritesOnOk W.write_str_gives f.old result (pointed digits.now moved) f.new }
-{
-    if moved < digits.len() {
-        let (before, behind) = digits.split_at(digits.len() - moved);
-        f.write_str(before)?;
-        f.write_str(".")?;
-        return f.write_str(behind);
-    }
-    f.write_str("0.")?;
-    write_zeros(f, moved - digits.len())?;
-    f.write_str(digits)
-}
-
-/// Writes a finite number without its sign.
-fn write_finite<W: fmt::Write>(
-    f: &mut fmt::Formatter<W>,
-    digits: &str,
-    exponent: i16,
-) -> fmt::Result
-    requires { Each is_digit digits.now }
-    ensures { WritesOnOk W.write_str_gives f.old result (digits_text digits.now exponent) f.new }
-{
-    if digits.is_empty() {
-        return f.write_str("0.0");
-    }
-    let places = usize::from(exponent.unsigned_abs());
-    if exponent < 0 {
-        return write_pointed(f, digits, places);
-    }
-    f.write_str(digits)?;
-    write_zeros(f, places)?;
-    f.write_str(".0")
-}
-
 impl fmt::Display for Decimal {
     ghost output = { λ d. Some (decimal_text d) };
 
@@ -356,13 +301,10 @@ impl fmt::Display for Decimal {
     /// within the digits or before them. Zero is `0.0`; the others are `Infinity` and `NaN`. A minus stands
     /// before where it is negative: `1.5`, `1500.0`, `-0.015`. It reads back as the same decimal.
     fn fmt<W: fmt::Write>(&self, f: &mut fmt::Formatter<W>) -> fmt::Result {
-        if self.is_negative() {
-            f.write_str("-")?;
+        let mut pieces = self.pieces();
+        while let Some(piece) = pieces.next_piece() {
+            f.write_str(piece)?;
         }
-        match &self.size {
-            Size::Infinite => f.write_str("Infinity"),
-            Size::NotANumber => f.write_str("NaN"),
-            Size::Finite(digits, exponent) => write_finite(f, digits.as_str(), *exponent),
-        }
+        Ok(())
     }
 }

@@ -1,7 +1,7 @@
 //! Faults.
 
 ghost use Rattle.std.specs.Prelude.{◌≡◌, ◌↔◌, Some, None, IsTrue, MatchResult, string_bytes};
-ghost use Rattle.json5_text.specs.Errors.{Kind, custom, failed_write, kind_of, place_of, known_code, or_place, kind_text, error_text, SaysAt, IsCustomAt, LacksMemory};
+ghost use Rattle.json5_text.specs.Errors.{FaultKind, custom, failed_write, kind_of, place_of, known_code, or_place, kind_text, error_text, SaysAt, IsCustomAt, LacksMemory};
 ghost use Rattle.json5_text.specs.Compared.{same_fault, same_fault_equiv};
 ghost use Rattle.std.specs.Cmp.{partial_equiv_from_equiv};
 
@@ -37,7 +37,7 @@ pub struct Error {
 impl Error {
     /// A fault with this code, without a place. Takes no memory.
     pub fn new(code: ErrorCode) -> Error
-        ensures { SaysAt (Kind.code code) None result }
+        ensures { SaysAt (FaultKind.code code) None result }
     {
         Error {
             content: Content::Code(code),
@@ -47,7 +47,7 @@ impl Error {
 
     /// A fault with this code at this place. Takes no memory.
     pub fn new_at(position: Position, code: ErrorCode) -> Error
-        ensures { SaysAt (Kind.code code) (Some position) result }
+        ensures { SaysAt (FaultKind.code code) (Some position) result }
     {
         Error::new(code).at(position)
     }

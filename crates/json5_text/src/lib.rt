@@ -12,6 +12,7 @@ pub mod input;
 mod names;
 pub mod number;
 mod numbers;
+pub mod pieces;
 mod refusal;
 mod runs;
 pub mod scanner;

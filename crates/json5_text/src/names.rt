@@ -18,7 +18,7 @@ use std::alloc::Global;
 
 /// Where a run of a name's characters that stand for themselves ends.
 #[derive(Drop)]
-enum Stop<'t> {
+enum NameStop<'t> {
     /// Before this, which goes on no name.
     End(&'t str),
     /// At the backslash of an escape: the text from the backslash on, and the text after it.
@@ -41,11 +41,11 @@ pub(crate) fn read_name<'t>(alloc: Global, text: &'t str) -> Result<(CowStr<'t>,
     }
     let (_, stop) = read_parts(rest)?;
     match stop {
-        Stop::End(end) => {
+        NameStop::End(end) => {
             let name = &text[..text.len() - end.len()];
             Ok((CowStr::Borrowed(name), end))
         }
-        Stop::Escape(escape, behind) => {
+        NameStop::Escape(escape, behind) => {
             let raw = &text[..text.len() - escape.len()];
             let (name, end) = read_escaped(alloc, raw, false, escape, behind)?;
             Ok((CowStr::Owned(name), end))
@@ -71,8 +71,8 @@ fn read_escaped<'t>(
     let mut behind = behind;
     loop {
         match put_escape(&mut name, is_first, escape, behind)? {
-            Stop::End(end) => return Ok((name, end)),
-            Stop::Escape(next, behind_next) => {
+            NameStop::End(end) => return Ok((name, end)),
+            NameStop::Escape(next, behind_next) => {
                 is_first = false;
                 escape = next;
                 behind = behind_next;
@@ -87,7 +87,7 @@ fn put_escape<'t>(
     is_first: bool,
     escape: &str,
     behind: &'t str,
-) -> Result<Stop<'t>, Refusal>
+) -> Result<NameStop<'t>, Refusal>
     ensures { PutsEscape is_first (chars escape.now) (chars behind.now) (string_bytes name.old) (string_bytes name.new) result }
 {
     let (c, rest) = read_item(is_first, escape, behind)?;
@@ -132,7 +132,7 @@ fn read_escape<'t>(escape: &str, behind: &'t str) -> Result<(char, &'t str), Ref
 }
 
 /// The characters in front that go on a name and stand for themselves, and where they end.
-fn read_parts(text: &str) -> Result<(&str, Stop<'_>), Refusal>
+fn read_parts(text: &str) -> Result<(&str, NameStop<'_>), Refusal>
     ensures { AnswersRun text.now result }
 {
     let rest = skip_parts(text);
@@ -141,9 +141,9 @@ fn read_parts(text: &str) -> Result<(&str, Stop<'_>), Refusal>
     };
     let parts = &text[..text.len() - rest.len()];
     if c == '\\' {
-        Ok((parts, Stop::Escape(rest, next)))
+        Ok((parts, NameStop::Escape(rest, next)))
     } else {
-        Ok((parts, Stop::End(rest)))
+        Ok((parts, NameStop::End(rest)))
     }
 }
 

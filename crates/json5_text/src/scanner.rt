@@ -18,7 +18,7 @@ use crate::names::read_name;
 use crate::number::Number;
 use crate::numbers::number;
 use crate::refusal::Refusal;
-use crate::strings::{read_owned, read_string};
+use crate::strings::{read_string_owned, read_string};
 use crate::words::skip_word;
 use json5_grammar::code::ErrorCode;
 use json5_grammar::position::Position;
@@ -97,7 +97,7 @@ impl<I: Input> Scanner<I> {
             return false;
         }
         let left = rest.len();
-        self.leave(left);
+        self.leave_unread(left);
         true
     }
 
@@ -112,7 +112,7 @@ impl<I: Input> Scanner<I> {
             Ok(rest) => rest.len(),
             Err(refusal) => return Err(self.fault(refusal)),
         };
-        self.leave(left);
+        self.leave_unread(left);
         Ok(())
     }
 
@@ -125,7 +125,7 @@ impl<I: Input> Scanner<I> {
             Ok(rest) => rest.len(),
             Err(refusal) => return Err(self.fault(refusal)),
         };
-        self.leave(left);
+        self.leave_unread(left);
         Ok(())
     }
 
@@ -148,7 +148,7 @@ impl<I: Input> Scanner<I> {
             Ok((number, rest)) => (number, rest.len()),
             Err(refusal) => return Err(self.fault(refusal)),
         };
-        self.leave(left);
+        self.leave_unread(left);
         Ok(number)
     }
 
@@ -157,26 +157,17 @@ impl<I: Input> Scanner<I> {
     pub fn string_owned(&mut self) -> Result<String>
         ensures { TakesOwned self.old self.new result }
     {
-        let (text, left) = match read_owned(self.alloc, self.rest(self.input.as_text())) {
+        let (text, left) = match read_string_owned(self.alloc, self.rest(self.input.as_text())) {
             Ok((text, rest)) => (text, rest.len()),
             Err(refusal) => return Err(self.fault(refusal)),
         };
-        self.leave(left);
+        self.leave_unread(left);
         Ok(text)
     }
 
-    /// The position of an offset in bytes, as `offset` gave it here or earlier. Line and column count from 0, the column in
-    /// characters.
+    /// The position of an offset in bytes, or that of the text's end where no character begins at the offset. Line and column
+    /// count from 0, the column in characters.
     pub fn position_of(&self, offset: usize) -> Position
-        requires { IsOffset self.now.input offset }
-        ensures { IsPositionOf self.now.input offset result }
-    {
-        let _end = self.end;
-        Position::from_offset(offset, self.input.as_text())
-    }
-
-    /// The position of an offset in bytes, or that of the text's end where no character begins at the offset.
-    pub fn position_at(&self, offset: usize) -> Position
         ensures inside { IsPositionOf self.now.input offset result }
         ensures past { (IsOffset self.now.input offset → ⊥) → result ≡ position_behind self.now.input }
     {
@@ -197,7 +188,7 @@ impl<I: Input> Scanner<I> {
     }
 
     /// Leaves so many bytes unread.
-    fn leave(&mut self, left: usize)
+    fn leave_unread(&mut self, left: usize)
         requires { Leaves self.old left }
         ensures { LeavesAt self.old left self.new }
     {
@@ -205,7 +196,7 @@ impl<I: Input> Scanner<I> {
     }
 
     /// The position where so many bytes are left.
-    fn position(&self, left: usize) -> Position
+    fn position_where_left(&self, left: usize) -> Position
         requires { Leaves self.now left }
         ensures { IsWhere self.now left result }
     {
@@ -219,17 +210,17 @@ impl<I: Input> Scanner<I> {
     {
         match refusal {
             Refusal::Code(code, None) => Error::new(code),
-            Refusal::Code(code, Some(left)) => Error::new_at(self.position(left), code),
-            Refusal::InvalidNumber(left) => self.custom(self.position(left), "invalid number"),
+            Refusal::Code(code, Some(left)) => Error::new_at(self.position_where_left(left), code),
+            Refusal::InvalidNumber(left) => self.custom(self.position_where_left(left), "invalid number"),
             Refusal::TooLarge(left) => {
                 self.custom(
-                    self.position(left),
+                    self.position_where_left(left),
                     "number too large to fit in target type",
                 )
             }
             Refusal::UnpairedSurrogate(escape, left) => {
                 self.custom(
-                    self.position(left),
+                    self.position_where_left(left),
                     format_args!("unpaired surrogate found: {escape:x}"),
                 )
             }
@@ -266,7 +257,7 @@ impl<'de, I: Borrows<'de>> Scanner<I> {
             Ok((text, rest)) => (text, rest.len()),
             Err(refusal) => return Err(self.fault(refusal)),
         };
-        self.leave(left);
+        self.leave_unread(left);
         Ok(text)
     }
 
@@ -286,7 +277,7 @@ impl<'de, I: Borrows<'de>> Scanner<I> {
             Ok((text, rest)) => (text, rest.len()),
             Err(refusal) => return Err(self.fault(refusal)),
         };
-        self.leave(left);
+        self.leave_unread(left);
         Ok(text)
     }
 }

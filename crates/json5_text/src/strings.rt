@@ -18,7 +18,7 @@ use std::alloc::{AllocError, Global};
 
 /// Where a run of characters that stand for themselves ends.
 #[derive(Drop)]
-enum Stop<'t> {
+enum StringStop<'t> {
     /// At the closing quote, which this follows.
     Quote(&'t str),
     /// At the backslash of an escape: the text from the backslash on, and the text after it.
@@ -40,8 +40,8 @@ pub(crate) fn read_string<'t>(
     }
     let (raw, stop) = read_run(quote, body)?;
     match stop {
-        Stop::Quote(rest) => Ok((CowStr::Borrowed(raw), rest)),
-        Stop::Escape(escape, behind) => {
+        StringStop::Quote(rest) => Ok((CowStr::Borrowed(raw), rest)),
+        StringStop::Escape(escape, behind) => {
             let (text, rest) = read_escaped(alloc, quote, raw, escape, behind)?;
             Ok((CowStr::Owned(text), rest))
         }
@@ -49,7 +49,7 @@ pub(crate) fn read_string<'t>(
 }
 
 /// The text of the string in front in a `String` of its own, and what follows the string.
-pub(crate) fn read_owned(alloc: Global, text: &str) -> Result<(String, &str), Refusal>
+pub(crate) fn read_string_owned(alloc: Global, text: &str) -> Result<(String, &str), Refusal>
     ensures { AnswersOwned (string_at (chars text.now)) result }
 {
     let (text, rest) = read_string(alloc, text)?;
@@ -82,8 +82,8 @@ fn read_escaped<'t>(
     let mut behind = behind;
     loop {
         match put_escape(&mut text, quote, escape, behind)? {
-            Stop::Quote(rest) => return Ok((text, rest)),
-            Stop::Escape(next, behind_next) => {
+            StringStop::Quote(rest) => return Ok((text, rest)),
+            StringStop::Escape(next, behind_next) => {
                 escape = next;
                 behind = behind_next;
             }
@@ -97,7 +97,7 @@ fn put_escape<'t>(
     quote: char,
     escape: &str,
     behind: &'t str,
-) -> Result<Stop<'t>, Refusal>
+) -> Result<StringStop<'t>, Refusal>
     ensures { PutsEscape quote (chars escape.now) (chars behind.now) (string_bytes text.old) (string_bytes text.new) result }
 {
     let (spelled, run) = read_escape(escape, behind)?;
@@ -117,7 +117,7 @@ fn push_spelled(text: &mut String, spelled: Option<char>) -> Result<(), AllocErr
 }
 
 /// The characters in front that stand for themselves between these quotes, and where they end.
-fn read_run(quote: char, text: &str) -> Result<(&str, Stop<'_>), Refusal>
+fn read_run(quote: char, text: &str) -> Result<(&str, StringStop<'_>), Refusal>
     ensures { AnswersRun quote text.now result }
 {
     let rest = skip_raw(quote, text);
@@ -126,9 +126,9 @@ fn read_run(quote: char, text: &str) -> Result<(&str, Stop<'_>), Refusal>
     };
     let raw = &text[..text.len() - rest.len()];
     if c == quote {
-        Ok((raw, Stop::Quote(next)))
+        Ok((raw, StringStop::Quote(next)))
     } else if c == '\\' {
-        Ok((raw, Stop::Escape(rest, next)))
+        Ok((raw, StringStop::Escape(rest, next)))
     } else {
         Err(Refusal::Code(ErrorCode::LineTerminatorInString, Some(rest.len())))
     }

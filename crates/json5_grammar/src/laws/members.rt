@@ -5,7 +5,7 @@ ghost use Rattle.json5_grammar.specs.Blanks.{Gap, Solid};
 ghost use Rattle.json5_grammar.specs.Blames.{Blame, BlankBlame};
 ghost use Rattle.json5_grammar.specs.Trees.{Tree, Trees, Pairs, array, object, depth, depths, pair_depths};
 ghost use Rattle.json5_grammar.specs.Values.{Reads};
-ghost use Rattle.json5_grammar.specs.Members.{Opens, IsElement, IsClose, IsAtClose, Tail, Passed, GoesNowhere, snoc, joined, OpensObject, IsKey, IsKeyValue, IsBrace, PairsTail, PairsPassed, NoPairGoes, snoc_pair, joined_pairs};
+ghost use Rattle.json5_grammar.specs.Members.{Opens, IsElement, IsClose, IsAtClose, Tail, Passed, GoesNowhere, snoc, joined_trees, OpensObject, IsKey, IsKeyValue, IsBrace, PairsTail, PairsPassed, NoPairGoes, snoc_pair, joined_pairs};
 ghost use Rattle.json5_grammar.specs.MembersLeft.{NotAt, NoValue, RestOf, ClosesOrGoesOn, OneMorePair, RestOfPairs, ValueAndRest};
 
 /// An array is what is opened and has its members and the closing bracket after it.
@@ -39,7 +39,7 @@ pub fn close_after_found()
 /// Members that were passed go on with one more, or with the rest of the array.
 pub fn passed_members()
     ensures next { (ts : Trees) (due now : Bool) (x y z : List ℕ) (t : Tree) → Passed ts due x now y → IsElement now y t z → Passed (snoc ts t) due x true z }
-    ensures tail { (ts us : Trees) (due now : Bool) (x y r : List ℕ) → Passed ts due x now y → Tail us now y r → Tail (joined ts us) due x r }
+    ensures tail { (ts us : Trees) (due now : Bool) (x y r : List ℕ) → Passed ts due x now y → Tail us now y r → Tail (joined_trees ts us) due x r }
     ensures close { (ts : Trees) (due now : Bool) (x y r : List ℕ) → Passed ts due x now y → IsClose now y r → Tail ts due x r }
 {}
 
@@ -52,7 +52,7 @@ pub fn rest_of_array()
 
 /// The depth of members that are put together is the greatest of theirs.
 pub fn depths_of_members()
-    ensures joined { (ts us : Trees) → depths (joined ts us) ≡ max (depths ts) (depths us) }
+    ensures joined { (ts us : Trees) → depths (joined_trees ts us) ≡ max (depths ts) (depths us) }
     ensures snoc { (ts : Trees) (t : Tree) → depths (snoc ts t) ≡ max (depths ts) (depth t) }
     ensures joined_pairs { (ps qs : Pairs) → pair_depths (joined_pairs ps qs) ≡ max (pair_depths ps) (pair_depths qs) }
     ensures snoc_pair { (ps : Pairs) (u : List ℕ) (p : Bool) (t : Tree) → pair_depths (snoc_pair ps u p t) ≡ max (pair_depths ps) (depth t) }

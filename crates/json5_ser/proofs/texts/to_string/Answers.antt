@@ -1,4 +1,4 @@
-use Rattle.std.proofs.Common.{string_bytes, ap, refl}
+use Rattle.std.proofs.Common.{rules, string_bytes, ap, refl}
 use Rattle.json5_ser.proofs.TextsWhole.{whole_text}
 use Rattle.json5_ser.proofs.texts.to_string.Goals as goal
 
@@ -7,3 +7,6 @@ returns-in-Ok-clause-whole g c =
     let wrote = rw c.new-ser.ensures at c.in-Ok.ensures in
     let same = rw c.unwrap.ensures at c.from_utf8-text.ensures.ok in
     whole_text _ _ _ c.into_inner-bytes.result.items (string_bytes c.unwrap.result) wrote (rw c.new.ensures.items refl) c.into_inner-bytes.ensures (ap (λ v. v.items) same)
+
+pub returns-in-Err-clause-refused : goal.returns-in-Err-clause-refused
+returns-in-Err-clause-refused g c = search rules

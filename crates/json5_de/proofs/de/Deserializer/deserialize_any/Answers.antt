@@ -7,7 +7,7 @@ use Rattle.json5_grammar.specs.Values.{is_null, is_true, is_false, is_number, is
 use Rattle.json5_text.specs.NumberViews.{number_of}
 use Rattle.json5_text.specs.Tokens.{FaultyWord}
 use Rattle.json5_text.specs.ValueViews.{value_of}
-use Rattle.json5_de.specs.declared.any.Kind.TheVariants as kind
+use Rattle.json5_de.specs.declared.any.ValueKind.TheVariants as kind
 use Rattle.json5_de.specs.Scalars.{in_null, in_true, in_false, in_text, in_number}
 use Rattle.json5_de.specs.Rows.{any_row}
 use Rattle.json5_de.specs.Steps.{TookText}

@@ -1,9 +1,9 @@
 use Rattle.std.proofs.Common.{ap, refl, ◌∙◌}
 use Rattle.std.proofs.lemmas.Result.{err_from_is_err_and}
 use Rattle.json5_de.specs.State.{State}
-use Rattle.json5_de.proofs.Arrays.{no_bool}
 use Rattle.json5_de.proofs.Taken.{input_of}
 use Rattle.json5_de.proofs.de.Deserializer.deserialize_newtype_struct.Goals as goal
+use Rattle.json5_grammar.proofs.Basics.{true_false}
 
 pub returns-in-Err : goal.returns-in-Err
 returns-in-Err g c = rw c.refuse.ensures.result (record {
@@ -14,7 +14,7 @@ returns-in-Err g c = rw c.refuse.ensures.result (record {
   unprompted = c.in-Err.ensures.unprompted;
   same_text = input_of c.refuse.ensures.state ∙ c.in-Err.ensures.same_text;
   failed = ap (λ (s : State). s.failed) c.refuse.ensures.state;
-  before = λ h. absurd (no_bool h c.in_ok-live.ensures.live.0);
+  before = λ h. absurd (true_false h c.in_ok-live.ensures.live.0);
 })
 
 pub returns-in-Ok : goal.returns-in-Ok
@@ -26,7 +26,7 @@ returns-in-Ok g c = record {
   unprompted = tt;
   same_text = c.in-Ok.ensures.same_text;
   failed = tt;
-  before = λ h. absurd (no_bool h c.in_ok-live.ensures.live.0);
+  before = λ h. absurd (true_false h c.in_ok-live.ensures.live.0);
 }
 
 pub returns-in_err-live : goal.returns-in_err-live
@@ -35,10 +35,10 @@ returns-in_err-live g c =
     let had = c.in_err-live.ensures.failed in
     rw (is, from) (record {
       sound = tt;
-      complete = λ t r v live reads shallow converts. absurd (no_bool had.0 live);
-      no_memory = λ t r v live reads shallow converts free. absurd (no_bool had.0 live);
-      refused = λ live. absurd (no_bool had.0 live);
-      unprompted = λ live. absurd (no_bool had.0 live);
+      complete = λ t r v live reads shallow converts. absurd (true_false had.0 live);
+      no_memory = λ t r v live reads shallow converts free. absurd (true_false had.0 live);
+      refused = λ live. absurd (true_false had.0 live);
+      unprompted = λ live. absurd (true_false had.0 live);
       same_text = refl;
       failed = had.0;
       before = λ h. ((had.1, had.2), refl);

@@ -11,10 +11,10 @@ use Rattle.json5_de.proofs.Awaited.{end_fault, wrongly_refused}
 use Rattle.json5_de.proofs.Awaits.{awaits_null}
 use Rattle.json5_de.proofs.Taken.{took_leaf, refused_blanks, refused_token, null_stops, chars_null}
 use Rattle.json5_de.proofs.Places.{none_next, some_next}
-use Rattle.json5_de.proofs.Arrays.{no_bool}
 use Rattle.json5_de.proofs.Rows.{given_up, gives_up}
 use Rattle.json5_de.proofs.Options.{awaits_nothing, blanks_no_value, end_next, value_no_end, null_next, null_not_next, option_some, null_unit, took_behind, reads_option, refuses_option, refuses_some, missing_there, null_there, other_sign}
 use Rattle.json5_de.proofs.de.Deserializer.deserialize_option.Goals as goal
+use Rattle.json5_grammar.proofs.Basics.{true_false}
 
 pub returns-in_err-begin-clause-reads : goal.returns-in_err-begin-clause-reads
 returns-in_err-begin-clause-reads g c =
@@ -35,7 +35,7 @@ returns-in_default-clause-reads g c =
     let passed = c.in_ok-begin.ensures.passed in
     let none = none_next c.begin.new.self.unread (sym c.in_default.ensures) in
     rw c.refuse.ensures.result (refuses_option g.T.Deserialize.content g.T.Deserialize.convert g.T.Deserialize.free g.T.Deserialize.refuses c.args.self.now c.refuse.new.self c.new.result
-    (missing_there c.args.self.now c.begin.new.self c.new.result passed none c.new.ensures.kind c.new.ensures.place) (given_up c.args.self.now c.begin.new.self c.refuse.new.self passed (gives_up c.begin.new.self c.refuse.new.self c.refuse.ensures.state)) (λ h. absurd (no_bool h passed.live))
+    (missing_there c.args.self.now c.begin.new.self c.new.result passed none c.new.ensures.kind c.new.ensures.place) (given_up c.args.self.now c.begin.new.self c.refuse.new.self passed (gives_up c.begin.new.self c.refuse.new.self c.refuse.ensures.state)) (λ h. absurd (true_false h passed.live))
     (λ t r live reads. value_no_end c.args.self.now c.begin.new.self t r passed none reads))
 
 pub returns-in_err-word-clause-reads : goal.returns-in_err-word-clause-reads
@@ -47,7 +47,7 @@ returns-in_err-word-clause-reads g c =
     let n = next ∙ ap (λ k. k ∷ m) c.if-next-eq110.true in
     let faulty = subst (λ s. Refused (FaultyWord s codes.EofParsingNull codes.ExpectedNull) (cursor_of c.begin.new.self) e) chars_null c.in_err-word.ensures.refused in
     rw (is, from) (refuses_option g.T.Deserialize.content g.T.Deserialize.convert g.T.Deserialize.free g.T.Deserialize.refuses c.args.self.now c.word.new.self e
-    (null_there c.args.self.now c.begin.new.self e m passed n faulty) (given_up c.args.self.now c.begin.new.self c.word.new.self passed c.in_err-word.ensures.failed) (λ h. absurd (no_bool h passed.live))
+    (null_there c.args.self.now c.begin.new.self e m passed n faulty) (given_up c.args.self.now c.begin.new.self c.word.new.self passed c.in_err-word.ensures.failed) (λ h. absurd (true_false h passed.live))
     (λ t r live reads. wrongly_refused awaits_null c.args.self.now e t r tt live reads (null_unit t (null_next c.args.self.now c.begin.new.self t m r passed n reads)) (refused_token c.args.self.now c.begin.new.self e passed faulty)))
 
 pub returns-in_err-word-clause-ends : goal.returns-in_err-word-clause-ends

@@ -7,4 +7,4 @@ use Rattle.json5_de.proofs.de.Deserializer.fault_here.Goals as goal
 pub returns-clause-placed : goal.returns-clause-placed
 returns-clause-placed g c = λ before whole.
     c.new_at.ensures.place
-    ∙ ap Some (c.position_of.ensures before c.args.self.now.unread (ap (λ (s : State). s.input) c.self.view_is ∙ whole) (c.offset-offset.ensures.counted before whole) ∙ ap position_behind (sym (append-nil before)))
+    ∙ ap Some (c.position_of.ensures.inside before c.args.self.now.unread (ap (λ (s : State). s.input) c.self.view_is ∙ whole) (c.offset-offset.ensures.counted before whole) ∙ ap position_behind (sym (append-nil before)))

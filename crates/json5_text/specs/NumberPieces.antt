@@ -1,0 +1,7 @@
+-- A text that is given out in pieces.
+use Rattle.std.specs.Prelude.{◌≡◌, ◌<◌, ℕ, List, ◌++◌, length}
+
+-- the text begins with this piece, which isn't empty, and rest follows it
+pub record IsFront (text piece rest : List ℕ) : Type 0 where
+  pub parts : text ≡ piece ++ rest
+  pub some : 0 < length piece
