@@ -63,16 +63,23 @@ fn others_are_refused(alloc: Global) -> Result<bool> {
     )
 }
 
-/// Whether one value too many is refused where it stands, and before it is known whether the rest can be read.
-fn one_too_many_is_refused(alloc: Global) -> Result<bool> {
+/// Whether a fourth value of at most three is refused where it stands, before what follows it, and three are read.
+fn fourth_is_refused(alloc: Global) -> Result<bool> {
+    let most = from_str::<AtMost<u8, 3>>(alloc, "[1, 2, 3, ]")?;
+    let empty = from_str::<AtMost<u8, 3>>(alloc, "[]")?;
     Ok(
-        refuses::<AtMost<u8, 2>>(
-            alloc,
-            "[1, 2,\n  3, x]",
-            "one value too many at line 2 column 3",
-        )? && refuses::<AtMost<u8, 0>>(alloc, "[0]", "one value too many at line 1 column 2")?
-            && from_str::<AtMost<u8, 2>>(alloc, "[1, 2,]")?.values.len() == 2
-            && from_str::<AtMost<u8, 0>>(alloc, "[]")?.values.is_empty(),
+        most.values.as_slice() == [1, 2, 3].as_slice()
+            && empty.values.is_empty()
+            && refuses::<AtMost<u8, 3>>(
+                alloc,
+                "[1, 2, 3,\n  4, nothing",
+                "one value too many at line 2 column 3",
+            )?
+            && refuses::<AtMost<OpenPort, 3>>(
+                alloc,
+                "[1, 2, 0]",
+                "port 0 can't be opened at line 1 column 8",
+            )?,
     )
 }
 
@@ -83,7 +90,7 @@ fn faults_of_own_types_stand_where_the_value_begins(
     assert!(rt; port_0_is_refused(rt.alloc())?);
     assert!(rt; bad_range_is_refused(rt.alloc())?);
     assert!(rt; others_are_refused(rt.alloc())?);
-    assert!(rt; one_too_many_is_refused(rt.alloc())?);
+    assert!(rt; fourth_is_refused(rt.alloc())?);
     Ok(())
 }
 

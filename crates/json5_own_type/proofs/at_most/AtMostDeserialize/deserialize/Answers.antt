@@ -1,4 +1,4 @@
-use Rattle.std.proofs.Common.{◌≡◌, ◌≤◌, ◌<◌, ◌∙◌, ◌++◌, ◌∷◌, [], ℕ, List, Option, Some, ap, length, map, subst, sym, refl, rules, arith}
+use Rattle.std.proofs.Common.{◌≡◌, ◌≤◌, ◌∙◌, ◌++◌, ◌∷◌, [], ℕ, List, Option, Some, ap, length, subst, sym, refl, rules, arith}
 use Rattle.std.proofs.lemmas.Result.{err_from_is_err_and}
 use Rattle.std.proofs.lemmas.List.{length-append, length-map}
 use Rattle.json5.specs.Trees.{Tree, Trees, array}
@@ -7,7 +7,7 @@ use Rattle.json5.specs.declared.Spanned.{Spanned}
 use Rattle.json5.specs.Law.{TookValue}
 use Rattle.json5.specs.Lending.{seen}
 use Rattle.json5.proofs.Loops.{HasContents, HasAtMost, begins, steps, stops, next_completes, past_completes, end_completes}
-use Rattle.json5_own_type.specs.Accepted.{at_most, if_at_most}
+use Rattle.json5_own_type.specs.Accepted.{at_most}
 use Rattle.json5_own_type.proofs.at_most.AtMostDeserialize.deserialize.Goals as goal
 
 at_most_contents : {C : Type 0} (f : Tree → Option C) (n : ℕ) → HasContents f (at_most n f)
