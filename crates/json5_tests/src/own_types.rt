@@ -1,7 +1,7 @@
 //! Types of one's own: what they accept, and where they refuse.
 
 use json5::{Deserialize, Result, Spanned, from_str};
-use json5_own_type::{Endpoint, Labels, Level, OpenPort, PortRange};
+use json5_own_type::{AtMost, Endpoint, Labels, Level, OpenPort, PortRange};
 use std::alloc::Global;
 use std::test::Fail;
 
@@ -63,6 +63,19 @@ fn others_are_refused(alloc: Global) -> Result<bool> {
     )
 }
 
+/// Whether one value too many is refused where it stands, and before it is known whether the rest can be read.
+fn one_too_many_is_refused(alloc: Global) -> Result<bool> {
+    Ok(
+        refuses::<AtMost<u8, 2>>(
+            alloc,
+            "[1, 2,\n  3, x]",
+            "one value too many at line 2 column 3",
+        )? && refuses::<AtMost<u8, 0>>(alloc, "[0]", "one value too many at line 1 column 2")?
+            && from_str::<AtMost<u8, 2>>(alloc, "[1, 2,]")?.values.len() == 2
+            && from_str::<AtMost<u8, 0>>(alloc, "[]")?.values.is_empty(),
+    )
+}
+
 #[test]
 fn faults_of_own_types_stand_where_the_value_begins(
     rt: HostRuntime,
@@ -70,6 +83,7 @@ fn faults_of_own_types_stand_where_the_value_begins(
     assert!(rt; port_0_is_refused(rt.alloc())?);
     assert!(rt; bad_range_is_refused(rt.alloc())?);
     assert!(rt; others_are_refused(rt.alloc())?);
+    assert!(rt; one_too_many_is_refused(rt.alloc())?);
     Ok(())
 }
 
