@@ -1,6 +1,6 @@
 -- What follows, for every kind of value, from what it gives and what it refuses.
 use Rattle.std.proofs.Common.{◌≡◌, ℕ, Bool, true, false, List, [], ◌∷◌, ◌++◌, refl, ap, sym, ◌∙◌, subst, inl, inr, Option, Some, None}
-use Rattle.std.specs.Prelude.{Result, Ok, Err, IsOk, IfOk, IfErr}
+use Rattle.std.specs.Prelude.{Result, Ok, Err, IfOk, IfErr}
 use Rattle.std.proofs.lemmas.List.{append-nil}
 use Rattle.json5_grammar.specs.declared.code.ErrorCode.{ErrorCode}
 use Rattle.json5_grammar.specs.Codes.{after_text}
@@ -14,7 +14,7 @@ use Rattle.json5_text.specs.declared.error.Error.{Error}
 use Rattle.json5_text.specs.Cursor.{Says, IsPlaced}
 use Rattle.json5_text.specs.Tokens.{FaultyBlanks}
 use Rattle.json5_de.specs.State.{State, cursor_of}
-use Rattle.json5_de.specs.Law.{Gives, Completes, IsOkOrMemory}
+use Rattle.json5_de.specs.Law.{Gives, Completes}
 use Rattle.json5_de.specs.Faults.{AfterBlanks, in_blanks, after_gap, RefusedBy, RefusedByOrMemory, IsUnplaced, IsAfter, AtEnd, AtOther, EndsWith, EndsWithOrMemory, DiffersWith, DiffersWithOrMemory}
 use Rattle.json5_grammar.proofs.Basics.{first_same, true_false}
 

@@ -4,7 +4,6 @@ use Rattle.std.specs.Prelude.{◌||◌, ◌==◌}
 use Rattle.json5_grammar.specs.declared.code.ErrorCode.{ErrorCode}
 use Rattle.json5_grammar.specs.declared.code.ErrorCode.TheVariants.{EofParsingString, ExpectedString}
 use Rattle.json5_grammar.specs.Codes.{Shown}
-use Rattle.json5_grammar.specs.Reading.{Read, Place, bad}
 use Rattle.json5_grammar.specs.Strings.{Str, quoted, is_quote}
 use Rattle.json5_grammar.specs.StringFaults.{StringFault, raw_terminator, string_ends, in_escape}
 use Rattle.json5_grammar.specs.Stops.{lengthens}
@@ -17,7 +16,6 @@ use Rattle.json5_text.specs.Tokens.{FaultyString, faulty, no_quote, string_missi
 use Rattle.json5_de.specs.Convert.{as_text}
 use Rattle.json5_de.specs.Faults.{NotText, faulty_text, other_text}
 use Rattle.json5_de.proofs.Expected.{Expected}
-use Rattle.json5_grammar.proofs.Refusals.{same_bad}
 
 -- x begins with a quote
 abbrev Quoted : List ℕ → Type 0

@@ -5,12 +5,11 @@ use Rattle.std.proofs.lemmas.Bool.{false≢true}
 use Rattle.json5_grammar.specs.declared.code.ErrorCode.TheVariants as codes
 use Rattle.json5_grammar.specs.Documents.{max_depth}
 use Rattle.json5_grammar.specs.declared.code.ErrorCode.{ErrorCode}
-use Rattle.json5_grammar.specs.Blanks.{Blanks, Gap, Solid, BlankFault}
+use Rattle.json5_grammar.specs.Blanks.{Blanks, Gap, Solid}
 use Rattle.json5_grammar.specs.Strings.{quoted}
 use Rattle.json5_grammar.specs.Trees.{Tree, null, boolean, number, text, array, object, depth}
 use Rattle.json5_grammar.specs.Values.{Val, Reads, is_null, is_true, is_false, is_number, is_text, is_empty_array, is_array, is_empty_object, is_object}
-use Rattle.json5_grammar.proofs.BlanksRead.{begins_solid}
-use Rattle.json5_grammar.proofs.BlanksSound.{no_blank_fault, gap_before, gap_last}
+use Rattle.json5_grammar.proofs.BlanksSound.{gap_last}
 use Rattle.json5_grammar.proofs.Classes.{number_others, quote_others}
 use Rattle.json5_grammar.proofs.ValueHeads.{val_head, number_head}
 use Rattle.json5_grammar.proofs.MembersRead.{phrase_found, reads_found}
@@ -24,7 +23,7 @@ use Rattle.json5_de.specs.Law.{TookValue, Gives, Completes, CompletesFree, Unpro
 use Rattle.json5_de.specs.Options.{PlacedAt, NoOption, option_missing, faulty_null, RefusesOption, option_free}
 use Rattle.json5_de.specs.Convert.{unit_of}
 use Rattle.json5_de.specs.ConvertLists.{option_of, if_some}
-use Rattle.json5_de.specs.Faults.{AtEnd, AtOther, RefusedBy, IsUnplaced, FaultyNull}
+use Rattle.json5_de.specs.Faults.{AtEnd, RefusedBy, IsUnplaced, FaultyNull}
 use Rattle.json5_de.specs.Steps.{PassedGap}
 use Rattle.json5_de.specs.Access.{Unexpected, at_end, at_char}
 use Rattle.json5_de.proofs.Expected.{Expected}

@@ -1,21 +1,18 @@
 -- Places of what is refused.
-use Rattle.std.proofs.Common.{◌≡◌, ℕ, ◌+◌, List, [], ◌∷◌, ◌++◌, length, refl, ap, sym, ◌∙◌, subst, arith, Option, Some, None}
+use Rattle.std.proofs.Common.{◌≡◌, ℕ, List, [], ◌∷◌, ◌++◌, refl, ap, sym, ◌∙◌, subst, Option, Some, None}
 use Rattle.std.specs.Prelude.{slice_get}
-use Rattle.std.specs.Str.{encode_utf8_all}
-use Rattle.std.proofs.lemmas.List.{length-append, append-nil}
-use Rattle.std.proofs.lemmas.Str.{encodes-append}
+use Rattle.std.proofs.lemmas.List.{append-nil}
 use Rattle.json5_grammar.specs.declared.code.ErrorCode.{ErrorCode}
 use Rattle.json5_grammar.specs.declared.position.Position.{Position}
 use Rattle.json5_grammar.specs.Positions.{position_after}
 use Rattle.json5_grammar.specs.Codes.{after_text}
 use Rattle.json5_text.specs.declared.error.Error.{Error}
 use Rattle.json5_text.specs.Errors.{code, kind_of, place_of}
-use Rattle.json5_text.specs.Cursor.{Cursor, offset_of, Refused}
+use Rattle.json5_text.specs.Cursor.{Refused}
 use Rattle.json5_de.specs.State.{State, cursor_of}
 use Rattle.json5_de.specs.Steps.{TookText}
 use Rattle.json5_de.specs.Access.{Unexpected, at_end, at_char}
 use Rattle.json5_de.proofs.Taken.{placed_after, input_of}
-use Rattle.json5_de.proofs.Offsets.{bytes_apart}
 
 pub none_next : (x : List ℕ) → slice_get x 0 ≡ None → x ≡ []
 none_next [] e = refl

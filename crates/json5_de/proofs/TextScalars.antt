@@ -1,6 +1,6 @@
 -- The text that a string of a text stands for is of scalar values.
 use Rattle.std.proofs.Common.{◌≡◌, ℕ, ◌+◌, ◌*◌, ◌<◌, ◌≤◌, Bool, true, false, List, [], ◌∷◌, ◌++◌, refl, ap, sym, ◌∙◌, subst, Option, Some, None, arith}
-use Rattle.std.specs.Prelude.{◌&&◌, ◌==◌}
+use Rattle.std.specs.Prelude.{◌==◌}
 use Rattle.std.specs.Char.{IsScalar, digit_value}
 use Rattle.std.specs.Str.{all_scalars, chars, encode_utf8_all}
 use Rattle.std.proofs.lemmas.Bool.Decides.{nat_tests}
@@ -14,7 +14,7 @@ use Rattle.json5_text.proofs.ScanBytes.{scalar_halves, one_scalar}
 use Rattle.std.specs.String.{string_bytes}
 use Rattle.std.specs.declared.string.String.{String}
 use Rattle.json5_de.specs.State.{State}
-use Rattle.json5_de.specs.Steps.{TookText, TookOwned, TookCharacters}
+use Rattle.json5_de.specs.Steps.{TookOwned, TookCharacters}
 
 one_more : (c : ℕ) (x : List ℕ) → all_scalars (c ∷ x) ≡ true → IsScalar c × (all_scalars x ≡ true)
 one_more c x e = and_parts _ (all_scalars x) e

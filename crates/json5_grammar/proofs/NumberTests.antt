@@ -1,5 +1,5 @@
 -- Tests on characters and numbers, and fronts by a test.
-use Rattle.std.proofs.Common.{◌≡◌, ℕ, ◌^◌, ◌<◌, Bool, true, false, cond, ◌&&◌, ◌||◌, List, [], ◌∷◌, ◌++◌, refl, ap, arith}
+use Rattle.std.proofs.Common.{◌≡◌, ℕ, ◌^◌, ◌<◌, Bool, true, false, cond, ◌||◌, List, [], ◌∷◌, ◌++◌, refl, ap, arith}
 use Rattle.std.specs.Prelude.{◌==◌, ℤ, pos, negsuc}
 use Rattle.std.proofs.lemmas.Bool.Decides.{nat_tests}
 use Rattle.std.proofs.lemmas.Int.{ints}
@@ -9,7 +9,6 @@ use Rattle.json5_grammar.specs.Stops.{in_run, begins_run}
 use Rattle.json5_grammar.specs.NumberFaults.{is_sign}
 use Rattle.json5_grammar.specs.ReadNumbers.{front_of, rest_of, in_whole, in_exponents}
 pub use Rattle.json5_grammar.proofs.Basics.{by_test}
-use Rattle.json5_grammar.proofs.Basics.{and_left, and_right}
 
 -- ---- characters
 

@@ -1,10 +1,9 @@
 -- A fault of a string or name that a character shows stands, whatever follows that character.
 use Rattle.std.proofs.Common.{◌≡◌, ℕ, Bool, List, [], ◌∷◌, ◌++◌, refl, sym, append_assoc, subst, Option}
-use Rattle.json5_grammar.specs.Strings.{Unicode, single, surrogates}
 use Rattle.json5_grammar.specs.Codes.{ErrorCode, Shown, by_char}
 use Rattle.json5_grammar.specs.StringFaults.{EscapeFault, digit_after_nul, escaped_digit, no_escape_digit, no_second_escape, unpaired, StringFault, raw_terminator}
 use Rattle.json5_grammar.specs.NameFaults.{NameFault, no_unicode_escape, escaped_no_start, escaped_no_part}
-use Rattle.json5_grammar.proofs.Basics.{SameHead, same_append, same_items}
+use Rattle.json5_grammar.proofs.Basics.{SameHead, same_items}
 use Rattle.json5_grammar.proofs.StringsRead.{fault_head}
 
 by_backslash : (x y : List ℕ) → (t : List ℕ) × (x ≡ 92 ∷ t) → (t : List ℕ) × (y ≡ 92 ∷ t) → SameHead x y

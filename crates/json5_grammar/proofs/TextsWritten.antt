@@ -10,10 +10,8 @@ use Rattle.json5_grammar.specs.Characters.{is_identifier_start, is_identifier_pa
 use Rattle.json5_grammar.specs.Strings.{Items, no_item, raw, escape, is_raw, is_quote, stands_for_itself, Str, quoted, Escape, short, unicode, itself, single, hex4, holds_backslash}
 use Rattle.json5_grammar.specs.Names.{raw_name, escaped_name, NameParts, no_part, part, Ident, name, Key, string_key, name_key, goes_on_name}
 use Rattle.json5_grammar.specs.Quoting.{escaped, escaped_all, quote_for, is_name, key_text, quoted_text}
-use Rattle.json5_grammar.specs.Reading.{got}
-use Rattle.json5_grammar.specs.ReadTexts.{string}
 use Rattle.json5_grammar.proofs.Basics.{by_test, eq_from, not_eq, and_left, and_right, same_char}
-use Rattle.json5_grammar.proofs.StringsRead.{escape_head, string_complete}
+use Rattle.json5_grammar.proofs.StringsRead.{escape_head}
 use Rattle.json5_grammar.proofs.NamesRead.{unicode_head}
 
 -- ---- plain: no backslash

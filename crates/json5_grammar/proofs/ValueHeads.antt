@@ -5,21 +5,20 @@ use lib.Chars.{codes}
 use Rattle.std.proofs.lemmas.Bool.Decides.{nat_tests}
 use Rattle.std.proofs.lemmas.List.{append-nil}
 use Rattle.json5_grammar.specs.Characters.{is_in, is_blank, is_identifier_start}
-use Rattle.json5_grammar.specs.Codes.{EofParsingBool, EofParsingNull, EofParsingNumber, EofParsingValue, ExpectedBool, ExpectedNull, ExpectedValue}
+use Rattle.json5_grammar.specs.Codes.{EofParsingNumber}
 use Rattle.json5_grammar.specs.Blanks.{is_solid, Blanks, empty, blank, line, block, LastBlanks, open_line, Solid}
 use Rattle.json5_grammar.specs.NumberFaults.{is_sign, begins_number}
 use Rattle.json5_grammar.specs.Numbers.{Num, Number, no_sign}
 use Rattle.json5_grammar.specs.Strings.{Str, quoted, is_quote}
 use Rattle.json5_grammar.specs.Names.{Ident, name, raw_name, escaped_name, Key, goes_on_name}
 use Rattle.json5_grammar.specs.Faults.{begins_value}
-use Rattle.json5_grammar.specs.Trees.{Tree, null, boolean, text, array, object}
-use Rattle.json5_grammar.specs.Values.{Val, is_null, is_true, is_false, is_number, is_text, is_empty_array, is_array, is_empty_object, is_object, KeyText, null_text, true_text, false_text, Stops}
-use Rattle.json5_grammar.specs.Reading.{Read, got, bad, here, inner, and_then, placed}
+use Rattle.json5_grammar.specs.Trees.{Tree, text, array, object}
+use Rattle.json5_grammar.specs.Values.{Val, is_null, is_true, is_false, is_number, is_text, is_empty_array, is_array, is_empty_object, is_object, KeyText, Stops}
+use Rattle.json5_grammar.specs.Reading.{Read, got, bad, inner, and_then, placed}
 use Rattle.json5_grammar.specs.ReadBlanks.{skip, between}
 use Rattle.json5_grammar.specs.ReadNumbers as numbers
 use Rattle.json5_grammar.specs.ReadTexts.{string}
-use Rattle.json5_grammar.specs.ReadValues.{word_at, items, entries, as_leaf, value_with, too_deep, read}
-use Rattle.json5_grammar.proofs.Basics.{eq_from}
+use Rattle.json5_grammar.specs.ReadValues.{items, entries, as_leaf, value_with, too_deep, read}
 use Rattle.json5_grammar.proofs.BlanksRead.{printable_no_blank, printable_solid, skip_rest, solid_from, begins_solid}
 use Rattle.json5_grammar.proofs.Classes.{EndsValues, blank_ends_values, slash_ends_values, blank_no_name, slash_no_name, start_no_blank, start_no_slash, start_no_brace, begins_printable, begins_others, number_begins, quote_begins, number_others, quote_others}
 use Rattle.json5_grammar.proofs.NamesRead.{unicode_head}

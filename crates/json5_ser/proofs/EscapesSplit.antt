@@ -1,8 +1,8 @@
 -- Taking a text apart at a character that is escaped.
 use Rattle.std.proofs.Common.{◌≡◌, ◌<◌, ℕ, ◌+◌, ◌-◌, List, [], ◌∷◌, ◌++◌, true, if◌then◌else◌, length, take, refl, sym, ap, ◌∙◌, subst, arith, length-append, append_assoc, append-nil}
 use Rattle.std.specs.Char.{encode_utf8, IsScalar}
-use Rattle.std.specs.Str.{IsUtf8, chars, encode_utf8_all, all_scalars, IsCharBoundary}
-use Rattle.std.proofs.lemmas.Str.{chars-nil, chars-encodes, chars-append, chars_past_char, scalars-chars, IsUtf8-encode, IsCharBoundary-at_seam, length-encode, len_utf8_bounds, encodes-append}
+use Rattle.std.specs.Str.{chars, encode_utf8_all, IsCharBoundary}
+use Rattle.std.proofs.lemmas.Str.{chars-nil, chars-encodes, chars-append, chars_past_char, IsUtf8-encode, IsCharBoundary-at_seam, length-encode, len_utf8_bounds, encodes-append}
 use Rattle.json5_grammar.specs.Quoting.{escaped, escaped_all}
 use Rattle.json5_grammar.specs.Strings.{is_quote}
 use Rattle.json5_text.specs.Escapes.{escape_of}

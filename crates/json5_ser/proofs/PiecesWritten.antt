@@ -1,17 +1,13 @@
 -- What is written by one piece.
-use Rattle.std.proofs.Common.{◌≡◌, ℕ, List, [], ◌∷◌, ◌++◌, true, false, ◌&&◌, not, ◌==◌, refl, sym, ap, ◌∙◌, subst}
-use Rattle.std.specs.List.{list_any}
+use Rattle.std.proofs.Common.{◌≡◌, ℕ, List, [], ◌∷◌, ◌++◌, true, false, refl, sym, ap, ◌∙◌, subst}
 use Rattle.std.specs.Str.{IsUtf8, IsAscii, chars}
 use Rattle.std.proofs.lemmas.Str.{encodes-chars, scalars-chars, chars-IsAscii}
 use Rattle.std.specs.Io.KnownBytes.{Appends}
 use Rattle.json5_grammar.specs.Values.{null_text, true_text, false_text}
-use Rattle.json5_grammar.specs.Strings.{is_quote}
 use Rattle.json5_grammar.specs.Quoting.{quote_for, escaped_all, quoted_text}
-use Rattle.json5_grammar.proofs.Basics.{by_test}
 use Rattle.json5_ser.specs.Out.{piece, ◌then◌}
 use Rattle.json5_ser.specs.Pieces.{AppendsFront}
 use Rattle.json5_ser.specs.Writes.{Seen, Wrote, Broke}
-use Rattle.json5_grammar.proofs.TextsWritten.{quote_is}
 
 pub wrote_piece : (t : List ℕ) (o n : Seen) → IsUtf8 t → o.failed ≡ false → n.failed ≡ false → n.depth ≡ o.depth → Appends o.known n.known t → Wrote (piece (chars t)) o n
 wrote_piece t o n u was failed depth p =

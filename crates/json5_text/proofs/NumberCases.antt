@@ -1,16 +1,16 @@
 -- Reading a number by its first characters.
 use Rattle.std.proofs.Common.{◌≡◌, ℕ, Bool, true, false, ◌||◌, List, [], ◌∷◌, refl, ap, sym, ◌∙◌, ◌≢◌, Some, None}
-use Rattle.std.specs.Prelude.{◌==◌, pos}
+use Rattle.std.specs.Prelude.{◌==◌}
 use lib.Chars.{codes}
 use Rattle.json5_grammar.specs.declared.code.ErrorCode.TheVariants.{EofParsingNumber, ExpectedNumber, LeadingZero}
 use Rattle.json5_grammar.specs.Characters.{is_digit}
-use Rattle.json5_grammar.specs.Numbers.{Decimal, whole, decimal, infinite, nan, hex_start}
+use Rattle.json5_grammar.specs.Numbers.{Decimal, decimal, infinite, nan, hex_start}
 use Rattle.json5_grammar.specs.Stops.{in_run, begins_run}
-use Rattle.json5_grammar.specs.Reading.{got, bad, here, inner}
+use Rattle.json5_grammar.specs.Reading.{bad, here, inner}
 use Rattle.std.specs.Str.{chars}
 use Rattle.json5_grammar.proofs.Basics.{not_eq}
 use Rattle.json5_text.proofs.NumberSteps.{infinity_rest, nan_rest}
-use Rattle.json5_grammar.specs.ReadNumbers.{word, hexadecimal, front_of, rest_of, literal_at, if_literal, decimal_run, at_zero, unsigned, number}
+use Rattle.json5_grammar.specs.ReadNumbers.{word, front_of, rest_of, literal_at, if_literal, decimal_run, at_zero, unsigned, number}
 
 -- ---- decimal runs
 

@@ -20,7 +20,6 @@ use Rattle.json5_text.specs.Scan.{HasCode}
 use lib.Chars.{codes}
 use Rattle.json5_text.specs.Outcome.{Outcome, bytes_in, outcome, gave, failed}
 use Rattle.json5_grammar.proofs.NumbersUnique.{hex_judged_bad}
-use Rattle.json5_grammar.proofs.NumbersRead.{hex_kept}
 
 -- a place by the bytes that are left
 pub left_is : (s : List ℕ) → IsUtf8 s → bytes_in (chars s) ≡ length s

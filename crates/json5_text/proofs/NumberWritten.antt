@@ -1,12 +1,12 @@
 -- Zeros in pieces, and digits that are cut.
-use Rattle.std.proofs.Common.{◌≡◌, ℕ, zero, suc, ◌+◌, ◌-◌, ◌≤◌, List, ◌++◌, length, take, refl, ap, sym, ◌∙◌, arith}
+use Rattle.std.proofs.Common.{◌≡◌, ℕ, ◌+◌, ◌-◌, ◌≤◌, List, ◌++◌, length, take, ap, sym, ◌∙◌, arith}
 use Rattle.std.specs.Str.{IsCharBoundary}
 use Rattle.std.proofs.Math.Seq.{take-append_seam}
 use Rattle.std.proofs.lemmas.List.{replicate-append-replicate, length-replicate}
 use Rattle.std.proofs.lemmas.Str.{IsCharBoundary-from_ascii}
-use Rattle.json5_grammar.specs.Characters.{is_digit, Each, no_char, char}
+use Rattle.json5_grammar.specs.Characters.{is_digit, Each}
 use Rattle.json5_grammar.specs.NumberText.{zeros}
-use Rattle.json5_text.proofs.NumberRuns.{is_zero, zero_is_ascii, digit_is_ascii, each_below}
+use Rattle.json5_text.proofs.NumberRuns.{zero_is_ascii, digit_is_ascii, each_below}
 use Rattle.json5_grammar.proofs.DecimalsWritten.{each_zero}
 
 pub zeros_boundary : (s : List ℕ) (n i : ℕ) → s ≡ zeros n → i ≤ n → IsCharBoundary s i
