@@ -2,7 +2,10 @@
 use Rattle.std.proofs.Common.{◌≡◌, ℕ, ◌+◌, ◌<◌, ◌≤◌, true, false, List, [], ◌∷◌, ◌++◌, length, map, refl, sym, ap, ◌∙◌, subst, arith, Option, Some, None, Ok, Err}
 use Rattle.std.proofs.lemmas.List.{length-append, map-append, length-map}
 use Rattle.std.proofs.lemmas.Bool.{false≢true}
-use Rattle.std.specs.Prelude.{IsOk}
+use Rattle.std.specs.Prelude.{Result, IsOk, IfErr, IsErrAnd}
+use Rattle.std.specs.Str.{encode_utf8_all}
+use Rattle.json5_grammar.specs.Characters.{left_bracket}
+use Rattle.json5_de.specs.Brackets.{square}
 use Rattle.json5_grammar.specs.Documents.{max_depth}
 use Rattle.json5_grammar.specs.Trees.{Tree, Trees, array, no_more, more, depth}
 use Rattle.json5_grammar.specs.Values.{Reads}
@@ -12,10 +15,10 @@ use Rattle.json5_text.specs.declared.error.Error.{Error}
 use Rattle.json5_text.specs.Cursor.{IsOutOfMemory}
 use Rattle.json5_de.specs.State.{State}
 use Rattle.json5_de.specs.Law.{TookValue, Completes}
-use Rattle.json5_de.specs.Access.{Seen, OpensArray, ClosesArray, ElementsRead, ElementsLeft, ReadsMore, LeavesFewer}
+use Rattle.json5_de.specs.Access.{Seen, Opened, OpensArray, ClosesArray, ElementsRead, ElementsLeft, ReadsMore, LeavesFewer}
 use Rattle.json5_de.specs.Seq.{RefusedAtBracket}
 use Rattle.json5_de.specs.Lists.{Elements, element, every, count, Within, any_number, array_of_size, at_element, too_many, LeavesRequired, RefusesRequired, RefusesList}
-use Rattle.json5_de.proofs.ListFaults.{within, every_accepted, count_values, refuses_list, required_fault, reading}
+use Rattle.json5_de.proofs.ListFaults.{every_accepted, count_values, refuses_list, required_fault, reading}
 
 -- elements that convert are left, of so many in all where so many were read
 pub record ManyLeft {C : Type 0} (f : Tree → Option C) (r : List ℕ) (all read : ℕ) (now : Seen) : Type 0 where
@@ -25,24 +28,28 @@ pub record ManyLeft {C : Type 0} (f : Tree → Option C) (r : List ℕ) (all rea
   pub left : ElementsLeft trees r now
   pub counted : read + length values ≡ all
 
--- the values stand for the elements that were read since the access began, and where all of its elements convert the others are left
-pub record Reading {V C : Type 0} (content : V → C) (f : Tree → Option C) (vs : List V) (first now : Seen) : Type 0 where
+-- an array in the midst of its elements: the values stand for those that were read, and where all of it converts the others are left
+pub record Reading {V C : Type 0} (content : V → C) (f : Tree → Option C) (old : State) (vs : List V) (now : Seen) : Type 0 where
+  pub first : State
+  pub opened : Opened square old first
+  pub start : (before : List ℕ) → old.input ≡ before ++ left_bracket ∷ first.unread → now.start ≡ length (encode_utf8_all before)
   pub trees : Trees
   pub are : contents f trees ≡ Some (map content vs)
-  pub read : (from : State) → ElementsRead from no_more first → ElementsRead from trees now
-  pub left : (ts : Trees) (r : List ℕ) (cs : List C) → contents f ts ≡ Some cs → ElementsLeft ts r first → ManyLeft f r (length cs) (length vs) now
-  pub start : now.start ≡ first.start
+  pub read : ElementsRead old trees now
+  pub left : (ts : Trees) (r : List ℕ) (cs : List C) → contents f ts ≡ Some cs → old.failed ≡ false → Reads old.unread (array ts) r → old.level + depth (array ts) ≤ max_depth → ManyLeft f r (length cs) (length vs) now
 
 -- ---- the loop's steps
 
 -- it begins, with no value
-pub begins : {V C : Type 0} (content : V → C) (f : Tree → Option C) (vs : List V) (first : Seen) → vs ≡ [] → Reading content f vs first first
-begins content f vs first e = record {
+pub begins : {A V C : Type 0} (content : V → C) (f : Tree → Option C) {old : State} {vs : List V} (seen : A → Seen) (a : A) → OpensArray seen old (Ok a) → vs ≡ [] → Reading content f old vs (seen a)
+begins content f seen a opens e = record {
+  first = (seen a).reader;
+  opened = opens.bracket.opened.0;
+  start = opens.bracket.start;
   trees = no_more;
   are = rw e refl;
-  read = λ from read. read;
-  left = λ ts r cs are left. let none = ap length e in record { trees = ts; values = cs; are = are; left = left; counted = omega (arith, none) };
-  start = refl;
+  read = opens.read;
+  left = λ ts r cs are live reads shallow. let none = ap length e in record { trees = ts; values = cs; are = are; left = opens.left ts r live reads shallow; counted = omega (arith, none) };
 }
 
 one_less : {V C : Type 0} (content : V → C) (f : Tree → Option C) (ts : Trees) (r : List ℕ) (all done more_done : ℕ) (new : Seen) (v : V) (cs : List C) → contents f ts ≡ Some cs → done + length cs ≡ all → more_done ≡ done + 1
@@ -54,23 +61,25 @@ one_less content f (more t ts) r all done more_done new v cs are counted one (is
     record { trees = ts; values = rest; are = others; left = left; counted = omega (arith, length_is, counted, one) }
 
 -- one value more, which may be kept in another form than it was read
-pub steps : {V W C : Type 0} (content : V → C) (given : W → C) (f : Tree → Option C) (vs ws : List V) (v : V) (w : W) (first s new : Seen) → given w ≡ content v → Reading content f vs first s → ws ≡ vs ++ v ∷ [] → new.start ≡ s.start
-    → ReadsMore given f s new (Some w) → ((ts : Trees) (r : List ℕ) → ElementsLeft ts r s → LeavesFewer given f ts r new (Ok (Some w))) → Reading content f ws first new
-steps content given f vs ws v w first s new same m e start (t, is, on) fewer = record {
+pub steps : {V W C : Type 0} (content : V → C) (given : W → C) {f : Tree → Option C} {old : State} {vs ws : List V} {s new : Seen} (v : V) (w : W) → given w ≡ content v → Reading content f old vs s → ws ≡ vs ++ v ∷ [] → new.start ≡ s.start
+    → ReadsMore given f s new (Some w) → ((ts : Trees) (r : List ℕ) → ElementsLeft ts r s → LeavesFewer given f ts r new (Ok (Some w))) → Reading content f old ws new
+steps content given {f = f} {old = old} {vs = vs} {ws = ws} {new = new} v w same m e start (t, is, on) fewer = record {
+  first = m.first;
+  opened = m.opened;
+  start = λ before split. start ∙ m.start before split;
   trees = snoc m.trees t;
   are = let all = ap (λ xs. map content xs) e ∙ map-append content vs (v ∷ []) in rw all (contents_snoc f m.trees t (map content vs) (content v) m.are (is ∙ ap Some same));
-  read = λ from read. on from m.trees (m.read from read);
-  left = λ ts r cs are left.
-      let l = m.left ts r cs are left in
+  read = on old m.trees m.read;
+  left = λ ts r cs are live reads shallow.
+      let l = m.left ts r cs are live reads shallow in
       let one = ap length e ∙ length-append vs (v ∷ []) in
       one_less given f l.trees r (length cs) (length vs) (length ws) new w l.values l.are l.counted one (fewer l.trees r l.left);
-  start = start ∙ m.start;
 }
 
--- it stops: what was read is the whole array
-pub stops : {V C : Type 0} (content : V → C) (f : Tree → Option C) (vs : List V) (old last : State) (first now : Seen) → Reading content f vs first now → ElementsRead old no_more first
-    → ((ts : Trees) → ElementsRead old ts now → TookValue old (array ts) last) → (ts : Trees) × TookValue old (array ts) last × (contents f ts ≡ Some (map content vs))
-stops content f vs old last first now m none ends = (m.trees, ends m.trees (m.read old none), m.are)
+-- it stops, and the bracket was taken: what was read is the whole array
+pub stops : {V C D : Type 0} {content : V → C} {f : Tree → Option C} {g : Trees → Option D} {d : D} {old last end : State} {vs : List V} {now : Seen} → Reading content f old vs now → end ≡ last
+    → ((ts : Trees) → ElementsRead old ts now → TookValue old (array ts) last) → ((ts : Trees) → contents f ts ≡ Some (map content vs) → g ts ≡ Some d) → (t : Tree) × TookValue old t end × (array_of g t ≡ Some d)
+stops {old = old} m same ends whole = (array m.trees, subst (λ n. TookValue old (array m.trees) n) (sym same) (ends m.trees m.read), whole m.trees m.are)
 
 -- ---- a tree that converts is read
 
@@ -97,10 +106,6 @@ all_taken f (more t ts) r s cs are none left =
     let length_is = ap length k in
     absurd (omega (arith, length_is, none))
 
--- the elements of an array that can be read are left, where it is opened
-abbrev pub OpensAll : State → Seen → Type 0
-OpensAll old first = (ts : Trees) (r : List ℕ) → old.failed ≡ false → Reads old.unread (array ts) r → old.level + depth (array ts) ≤ max_depth → ElementsLeft ts r first
-
 -- what converts has elements that do
 abbrev pub HasContents : {C D : Type 0} → (Tree → Option C) → (Trees → Option D) → Type 0
 HasContents {C = C} {D = D} f g = (ts : Trees) (d : D) → g ts ≡ Some d → (cs : List C) × (contents f ts ≡ Some cs)
@@ -113,74 +118,87 @@ HasSoMany {C = C} {D = D} f g n = (ts : Trees) (d : D) → g ts ≡ Some d → (
 abbrev pub HasAtMost : {C D : Type 0} → (Tree → Option C) → (Trees → Option D) → ℕ → Type 0
 HasAtMost {C = C} {D = D} f g n = (ts : Trees) (d : D) → g ts ≡ Some d → (cs : List C) × (contents f ts ≡ Some cs) × (length cs ≤ n)
 
-module _ {V W C D : Type 0} (content : V → C) (given : W → C) (f : Tree → Option C) (g : Trees → Option D) (vs : List V) (old : State) (first now : Seen) where
+-- a refusal was handed on
+handed_on : {T E : Type 0} (P : Result T E → Type 0) (e : E) (r : Result T E) → IsErrAnd r (λ y. y ≡ e) → P (Err e) → P r
+handed_on P e (Ok v) is p = absurd is
+handed_on P e (Err y) is p = subst (λ z. P (Err z)) (sym is) p
+
+completes_as : {V C : Type 0} (convert : Tree → Option C) (old : State) (e : Error) (result : Result V Error) → IsErrAnd result (λ y. y ≡ e)
+    → ((t : Tree) (r : List ℕ) (c : C) → old.failed ≡ false → Reads old.unread t r → old.level + depth t ≤ max_depth → convert t ≡ Some c → IsOutOfMemory e) → Completes convert old result
+completes_as convert old e result is k = handed_on (λ r. Completes convert old r) e result is k
+
+module _ {U V W C D : Type 0} {content : V → C} (given : W → C) {f : Tree → Option C} (g : Trees → Option D) {vs : List V} {old : State} {now new : Seen} (e : Error) (result : Result U Error) where
   -- an element was refused
-  pub next_completes : (new : Seen) (e : Error) → HasContents f g → OpensAll old first → Reading content f vs first now → ((ts : Trees) (r : List ℕ) → ElementsLeft ts r now → LeavesFewer given f ts r new (Err e))
-      → Completes {V = Unit {0}} (array_of g) old (Err e)
-  next_completes new e parts opens m fewer t r d live reads shallow converts =
+  pub next_completes : IsErrAnd result (λ y. y ≡ e) → HasContents f g → Reading content f old vs now → ((ts : Trees) (r : List ℕ) → ElementsLeft ts r now → LeavesFewer given f ts r new (Err e)) → Completes (array_of g) old result
+  next_completes is_err parts m fewer = completes_as (array_of g) old e result is_err (λ t r d live reads shallow converts.
       let (ts, is, list, deep) = is_array g old t r d reads shallow converts in
       let (cs, are) = parts ts d is in
-      let w = m.left ts r cs are (opens ts r live list deep) in
-      next_refused given f w.trees r new e w.values w.are (fewer w.trees r w.left)
+      let w = m.left ts r cs are live list deep in
+      next_refused given f w.trees r new e w.values w.are (fewer w.trees r w.left))
 
   -- an element that has to be there was refused
-  pub required_completes : (new : Seen) (e : Error) (n : ℕ) → HasSoMany f g n → length vs < n → OpensAll old first → Reading content f vs first now → ((ts : Trees) (r : List ℕ) → ElementsLeft ts r now → LeavesRequired given f ts r new (Err e))
-      → Completes {V = Unit {0}} (array_of g) old (Err e)
-  required_completes new e n parts few opens m fewer t r d live reads shallow converts =
+  pub required_completes : IsErrAnd result (λ y. y ≡ e) → (n : ℕ) → HasSoMany f g n → length vs < n → Reading content f old vs now → ((ts : Trees) (r : List ℕ) → ElementsLeft ts r now → LeavesRequired given f ts r new (Err e)) → Completes (array_of g) old result
+  required_completes is_err n parts few m fewer = completes_as (array_of g) old e result is_err (λ t r d live reads shallow converts.
       let (ts, is, list, deep) = is_array g old t r d reads shallow converts in
       let (cs, are, count) = parts ts d is in
-      let w = m.left ts r cs are (opens ts r live list deep) in
+      let w = m.left ts r cs are live list deep in
       let counted = w.counted in
-      required_refused given f w.trees r new e w.values w.are (omega (arith, few, count, counted)) (fewer w.trees r w.left)
-
-  -- one more was read than there may be, and is refused
-  pub past_completes : (e : Error) (n : ℕ) → HasAtMost f g n → n < length vs → OpensAll old first → Reading content f vs first now → Completes {V = Unit {0}} (array_of g) old (Err e)
-  past_completes e n parts past opens m t r d live reads shallow converts =
-      let (ts, is, list, deep) = is_array g old t r d reads shallow converts in
-      let (cs, are, few) = parts ts d is in
-      let w = m.left ts r cs are (opens ts r live list deep) in
-      let counted = w.counted in
-      absurd (omega (arith, past, few, counted))
+      required_refused given f w.trees r new e w.values w.are (omega (arith, few, count, counted)) (fewer w.trees r w.left))
 
   -- the bracket was refused where no element was given
-  pub end_completes : (new : Seen) (e : Error) → HasContents f g → OpensAll old first → Reading content f vs first now → ((ts : Trees) (r : List ℕ) → ElementsLeft ts r now → LeavesFewer given f ts r new (Ok None))
-      → ((r : List ℕ) → ElementsLeft no_more r new → IsOk {T = Unit {0}} {E = Error} (Err e)) → Completes {V = Unit {0}} (array_of g) old (Err e)
-  end_completes new e parts opens m fewer ends t r d live reads shallow converts =
+  pub end_completes : IsErrAnd result (λ y. y ≡ e) → HasContents f g → Reading content f old vs now → ((ts : Trees) (r : List ℕ) → ElementsLeft ts r now → LeavesFewer given f ts r new (Ok None))
+      → ((r : List ℕ) → ElementsLeft no_more r new → IsOk {T = Unit {0}} {E = Error} (Err e)) → Completes (array_of g) old result
+  end_completes is_err parts m fewer ends = completes_as (array_of g) old e result is_err (λ t r d live reads shallow converts.
       let (ts, is, list, deep) = is_array g old t r d reads shallow converts in
       let (cs, are) = parts ts d is in
-      let w = m.left ts r cs are (opens ts r live list deep) in
-      absurd (false≢true (ends r (none_left given f w.trees r new (fewer w.trees r w.left))))
+      let w = m.left ts r cs are live list deep in
+      absurd (false≢true (ends r (none_left given f w.trees r new (fewer w.trees r w.left)))))
 
+-- one more was read than there may be, and is refused
+pub past_completes : {V C D : Type 0} {content : V → C} {f : Tree → Option C} (g : Trees → Option D) {vs : List V} {old : State} {now : Seen} (e : Error) (n : ℕ) → HasAtMost f g n → n < length vs → Reading content f old vs now → Completes {V = Unit {0}} (array_of g) old (Err e)
+past_completes g {old = old} e n parts past m t r d live reads shallow converts =
+    let (ts, is, list, deep) = is_array g old t r d reads shallow converts in
+    let (cs, are, few) = parts ts d is in
+    let w = m.left ts r cs are live list deep in
+    let counted = w.counted in
+    absurd (omega (arith, past, few, counted))
+
+module _ {U V C D : Type 0} {content : V → C} {f : Tree → Option C} (g : Trees → Option D) {vs : List V} {old : State} {now : Seen} (e : Error) (result : Result U Error) where
   -- the bracket was refused where all elements were read
-  pub last_completes : (e : Error) (n : ℕ) → HasSoMany f g n → length vs ≡ n → OpensAll old first → Reading content f vs first now → ((r : List ℕ) → ElementsLeft no_more r now → IsOk {T = Unit {0}} {E = Error} (Err e))
-      → Completes {V = Unit {0}} (array_of g) old (Err e)
-  last_completes e n parts all opens m ends t r d live reads shallow converts =
+  pub last_completes : IsErrAnd result (λ y. y ≡ e) → (n : ℕ) → HasSoMany f g n → length vs ≡ n → Reading content f old vs now → ((r : List ℕ) → ElementsLeft no_more r now → IsOk {T = Unit {0}} {E = Error} (Err e)) → Completes (array_of g) old result
+  last_completes is_err n parts all m ends = completes_as (array_of g) old e result is_err (λ t r d live reads shallow converts.
       let (ts, is, list, deep) = is_array g old t r d reads shallow converts in
       let (cs, are, count) = parts ts d is in
-      let w = m.left ts r cs are (opens ts r live list deep) in
+      let w = m.left ts r cs are live list deep in
       let counted = w.counted in
-      absurd (false≢true (ends r (all_taken f w.trees r now w.values w.are (omega (arith, all, count, counted)) w.left)))
+      absurd (false≢true (ends r (all_taken f w.trees r now w.values w.are (omega (arith, all, count, counted)) w.left))))
 
 -- ---- where it is refused
 
-module _ {A V C : Type 0} (content : V → C) (f : Tree → Option C) (refuses : State → Error → State → Type 0) (seen : A → Seen) (old : State) (a : A) (opens : OpensArray seen old (Ok a)) (vs : List V) (now : Seen) (m : Reading content f vs (seen a) now) where
-  abbrev kinds : Elements
-  kinds = every (element f refuses)
+in_loop : {V C : Type 0} {content : V → C} {f : Tree → Option C} (refuses : State → Error → State → Type 0) {old : State} {vs : List V} {now : Seen} → Reading content f old vs now → Within (every (element f refuses)) old now (length vs)
+in_loop {content = content} {f = f} refuses {vs = vs} m = record {
+  first = m.first;
+  opened = m.opened;
+  start = m.start;
+  trees = m.trees;
+  counted = count_values f m.trees (map content vs) m.are ∙ length-map vs content;
+  read = m.read;
+  accepted = every_accepted f refuses m.trees (map content vs) m.are;
+}
 
-  in_loop : Within kinds old now (length vs)
-  in_loop = subst (λ n. Within kinds old now n) (count_values f m.trees (map content vs) m.are ∙ length-map vs content) (within kinds seen old a now m.trees opens m.start (m.read old opens.read) (every_accepted f refuses m.trees (map content vs) m.are))
-
-  live : old.failed ≡ false
-  live = opens.bracket.opened.0.live
-
+module _ {U V C : Type 0} {content : V → C} {f : Tree → Option C} (refuses : State → Error → State → Type 0) {old : State} {vs : List V} {now : Seen} (e : Error) (result : Result U Error) where
   -- an element was refused
-  pub next_faults : (e : Error) (new : State) → (now.reader.failed ≡ false → RefusedAtBracket refuses now e) → new.failed ≡ true → RefusesList kinds any_number old e new
-  next_faults e new fault failed = refuses_list kinds any_number old e new live failed (at_element now (length vs) in_loop tt (fault (reading kinds old now (length vs) in_loop)))
+  pub next_faults : (new : State) → IsErrAnd result (λ y. y ≡ e) → Reading content f old vs now → (now.reader.failed ≡ false → RefusedAtBracket refuses now e) → new.failed ≡ true → IfErr result (λ y. RefusesList (every (element f refuses)) any_number old y new)
+  next_faults new is_err m fault failed = handed_on (λ r. IfErr r (λ y. RefusesList (every (element f refuses)) any_number old y new)) e result is_err
+      (refuses_list (every (element f refuses)) any_number old e new m.opened.live failed (at_element now (length vs) (in_loop refuses m) tt (fault (reading (every (element f refuses)) old now (length vs) (in_loop refuses m)))))
 
   -- an element that has to be there was refused
-  pub required_faults : (e : Error) (new : State) (n : ℕ) → length vs < n → (now.reader.failed ≡ false → RefusesRequired refuses now e) → new.failed ≡ true → RefusesList kinds (array_of_size n) old e new
-  required_faults e new n few fault failed = refuses_list kinds (array_of_size n) old e new live failed (required_fault kinds (array_of_size n) old e now (length vs) n refl few in_loop (fault (reading kinds old now (length vs) in_loop)))
+  pub required_faults : (new : State) → IsErrAnd result (λ y. y ≡ e) → (n : ℕ) → length vs < n → Reading content f old vs now → (now.reader.failed ≡ false → RefusesRequired refuses now e) → new.failed ≡ true
+      → IfErr result (λ y. RefusesList (every (element f refuses)) (array_of_size n) old y new)
+  required_faults new is_err n few m fault failed = handed_on (λ r. IfErr r (λ y. RefusesList (every (element f refuses)) (array_of_size n) old y new)) e result is_err
+      (refuses_list (every (element f refuses)) (array_of_size n) old e new m.opened.live failed (required_fault (every (element f refuses)) (array_of_size n) old e now (length vs) n refl few (in_loop refuses m) (fault (reading (every (element f refuses)) old now (length vs) (in_loop refuses m)))))
 
   -- the bracket was refused where all elements were read
-  pub last_faults : (e : Error) (new last : State) (n : ℕ) → length vs ≡ n → ClosesArray now last (Err e) → new.failed ≡ true → RefusesList kinds (array_of_size n) old e new
-  last_faults e new last n all closes failed = refuses_list kinds (array_of_size n) old e new live failed (too_many now (length vs) in_loop (ap Some (sym all)) closes.bracket.refused)
+  pub last_faults : (new : State) {last : State} → IsErrAnd result (λ y. y ≡ e) → (n : ℕ) → length vs ≡ n → Reading content f old vs now → ClosesArray now last (Err e) → new.failed ≡ true → IfErr result (λ y. RefusesList (every (element f refuses)) (array_of_size n) old y new)
+  last_faults new is_err n all m closes failed = handed_on (λ r. IfErr r (λ y. RefusesList (every (element f refuses)) (array_of_size n) old y new)) e result is_err
+      (refuses_list (every (element f refuses)) (array_of_size n) old e new m.opened.live failed (too_many now (length vs) (in_loop refuses m) (ap Some (sym all)) closes.bracket.refused))

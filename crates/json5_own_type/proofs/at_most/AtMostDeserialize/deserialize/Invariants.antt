@@ -6,7 +6,7 @@ use Rattle.json5_own_type.proofs.at_most.AtMostDeserialize.deserialize.Given as 
 abbrev pub invariant-loop-seq : goal.invariant-loop-seq
 invariant-loop-seq g l = record {
   same_reference : HoldsTheSame l.initial.seq l.seq;
-  reading : Reading g.T.Deserialize.content g.T.Deserialize.convert l.values.items (seen l.initial.seq) (seen l.seq);
+  reading : Reading g.T.Deserialize.content g.T.Deserialize.convert l.fn.de l.values.items (seen l.seq);
   few : length l.values.items ≤ g.row.N;
 }
 
