@@ -17,7 +17,7 @@ use Rattle.json5_de.specs.State.{State}
 use Rattle.json5_de.specs.Law.{TookValue, Completes}
 use Rattle.json5_de.specs.Access.{Seen, Opened, OpensArray, ClosesArray, ElementsRead, ElementsLeft, ReadsMore, LeavesFewer}
 use Rattle.json5_de.specs.Seq.{RefusedAtBracket}
-use Rattle.json5_de.specs.Lists.{Elements, element, every, count, Within, any_number, array_of_size, at_element, too_many, LeavesRequired, RefusesRequired, RefusesList}
+use Rattle.json5_de.specs.Lists.{element, every, count, Within, any_number, array_of_size, at_element, too_many, LeavesRequired, RefusesRequired, RefusesList}
 use Rattle.json5_de.proofs.ListFaults.{every_accepted, count_values, refuses_list, required_fault, reading}
 
 -- elements that convert are left, of so many in all where so many were read

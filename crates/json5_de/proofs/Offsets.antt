@@ -5,7 +5,7 @@ use Rattle.std.proofs.lemmas.List.{length-append}
 use Rattle.std.proofs.lemmas.Str.{encodes-append}
 use Rattle.json5_text.specs.Cursor.{Cursor, offset_of}
 use Rattle.json5_de.specs.State.{State}
-use Rattle.json5_de.specs.Steps.{IsOffset}
+use Rattle.json5_text.specs.Cursor.{IsOffset}
 
 pub bytes_apart : (x y : List ℕ) → length (encode_utf8_all (x ++ y)) ≡ length (encode_utf8_all x) + length (encode_utf8_all y)
 bytes_apart x y = ap length (encodes-append x y) ∙ length-append (encode_utf8_all x) (encode_utf8_all y)

@@ -3,7 +3,7 @@ use Rattle.std.specs.Prelude.{◌≡◌, ℕ, ◌-◌, Bool, true, false, List, 
 use Rattle.json5_grammar.specs.declared.code.ErrorCode.{ErrorCode}
 use Rattle.json5_grammar.specs.declared.code.ErrorCode.TheVariants as codes
 use Rattle.json5_grammar.specs.Codes.{after_text}
-use Rattle.json5_grammar.specs.Characters.{NotBegun}
+use Rattle.json5_grammar.specs.Characters.{NotBegun, comma_sign, right_bracket}
 use Rattle.json5_grammar.specs.Blanks.{Gap, Solid}
 use Rattle.json5_grammar.specs.Members.{IsSign}
 use Rattle.json5_text.specs.Cursor.{Refused}
@@ -26,7 +26,7 @@ pub record IsAfterGap (x y : List ℕ) : Type 0 where
 -- y is where an element of x may begin, after the comma that is due
 abbrev pub Begun : Bool → List ℕ → List ℕ → Type 0
 Begun false x y = IsAfterGap x y
-Begun true x y = (z : List ℕ) × IsSign 0x2C x z × IsAfterGap z y
+Begun true x y = (z : List ℕ) × IsSign comma_sign x z × IsAfterGap z y
 
 -- the closing bracket in front was taken
 abbrev pub TookClosing : Brackets → State → State → Type 0
@@ -40,7 +40,7 @@ RefusesClosing b old e = Refused (Unexpected b.ends b.not_closed) (cursor_of old
 pub record AtElement (due : Bool) (old new : State) : Type 0 where
   pub live : old.failed ≡ false
   pub begun : Begun due old.unread new.unread
-  pub inside : NotBegun (λ c. c == 0x5D) new.unread
+  pub inside : NotBegun (λ c. c == right_bracket) new.unread
   pub rest : OnlyRead old new
 
 abbrev pub GoesOn : Bool → State → State → Bool → Type 0
@@ -49,9 +49,9 @@ GoesOn due old new false = AtClose due old new
 
 -- what is refused where the next element is expected
 pub data NoNext (due : Bool) : List ℕ → Option ErrorCode → Option (List ℕ) → Type 0 where
-  no_comma : (c : ℕ) (r : List ℕ) → due ≡ true → (c == 0x2C) ≡ false → (c == 0x5D) ≡ false → NoNext due (c ∷ r) (Some codes.ExpectedComma) (Some [])
+  no_comma : (c : ℕ) (r : List ℕ) → due ≡ true → (c == comma_sign) ≡ false → (c == right_bracket) ≡ false → NoNext due (c ∷ r) (Some codes.ExpectedComma) (Some [])
   list_ends : due ≡ true → NoNext due [] (Some codes.EofParsingArray) None
-  in_blanks_after : {x : List ℕ} {reason : Option ErrorCode} {place : Option (List ℕ)} → due ≡ true → FaultyBlanks x reason place → NoNext due (0x2C ∷ x) reason (after_text (0x2C ∷ []) place)
+  in_blanks_after : {x : List ℕ} {reason : Option ErrorCode} {place : Option (List ℕ)} → due ≡ true → FaultyBlanks x reason place → NoNext due (comma_sign ∷ x) reason (after_text (comma_sign ∷ []) place)
 
 -- the fault of a call for an element: none was reached, or the element's own
 pub data RefusesElement (refuses : State → Error → State → Type 0) (due : Bool) (old : State) (e : Error) (after : State) : Type 0 where

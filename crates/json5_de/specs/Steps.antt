@@ -11,7 +11,7 @@ use Rattle.json5_text.specs.NumberViews.{number_of}
 use Rattle.json5_grammar.specs.Positions.{position_after}
 use Rattle.json5_text.specs.declared.error.Error.{Error}
 use Rattle.json5_text.specs.Errors.{place_of}
-use Rattle.json5_text.specs.Cursor.{Says, Refused, IsOutOfMemory}
+use Rattle.json5_text.specs.Cursor.{Says, Refused, IsOutOfMemory, IsOffset}
 use Rattle.json5_grammar.specs.Blanks.{Gap, Solid}
 use Rattle.json5_grammar.specs.Documents.{max_depth}
 use Rattle.json5_grammar.specs.Numbers.{Num, whole}
@@ -53,10 +53,6 @@ TookCharacters old new t = (s : List ℕ) × (plain : Bool) × TookText old s ne
 -- the token in front is refused with one of its faults, or memory ran out
 abbrev pub RefusesToken : FaultRelation → State → Error → Type 0
 RefusesToken IsFault old e = IsOutOfMemory e ⊎ Refused IsFault (cursor_of old) e
-
--- so many bytes stand before a place of the text
-abbrev pub IsOffset : List ℕ → ℕ → Type 0
-IsOffset input offset = (before : List ℕ) × (rest : List ℕ) × (input ≡ before ++ rest) × (offset ≡ length (encode_utf8_all before))
 
 -- a text of its own at this offset, or memory ran out
 abbrev pub IsMismatch : List ℕ → ℕ → Error → Type 0

@@ -5,7 +5,7 @@ ghost use Rattle.std.specs.Prelude.{◌<◌, ◌+◌, ◌-◌, ◌==◌, ◌∷�
 ghost use Rattle.json5_grammar.specs.Positions.{position_after};
 ghost use Rattle.std.specs.Str.{chars};
 ghost use Rattle.json5_text.specs.Errors.{FaultKind, code, kind_of, place_of};
-ghost use Rattle.json5_text.specs.Cursor.{Refused, IsPlaced, IsPositionOf};
+ghost use Rattle.json5_text.specs.Cursor.{Refused, IsPlaced, IsPositionOf, IsOffset};
 ghost use Rattle.json5_text.specs.Tokens.{FaultyBlanks, FaultyWord, FaultyNumber, FaultyString};
 ghost use Rattle.json5_grammar.specs.Documents.{max_depth};
 ghost use Rattle.json5_grammar.specs.declared.code.ErrorCode.TheVariants as codes;
@@ -19,7 +19,7 @@ ghost use Rattle.json5_grammar.specs.Numbers.{Num};
 ghost use Rattle.json5_grammar.specs.Stops.{lengthens};
 ghost use Rattle.json5_grammar.specs.Strings.{Str};
 ghost use Rattle.json5_text.specs.NumberViews.{keeps_digits};
-ghost use Rattle.json5_de.specs.Steps.{PassedGap, TookText, TookNumber, TookOwned, TookCharacters, TookCow, RefusesToken, IsOffset, IsMismatch};
+ghost use Rattle.json5_de.specs.Steps.{PassedGap, TookText, TookNumber, TookOwned, TookCharacters, TookCow, RefusesToken, IsMismatch};
 
 use crate::mismatch::Mismatch;
 use json5_text::cow_str::CowStr;
