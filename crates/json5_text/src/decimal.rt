@@ -52,22 +52,22 @@ impl Model for Decimal {
 }
 
 /// Digits in two parts, without the zeros in front.
-fn without_front_zeros<'a>(before: &'a str, behind: &'a str) -> (&'a str, &'a str)
-    ensures { result.0.now ++ result.1.now ≡ numbers.without_front_zeros (before.now ++ behind.now) }
+fn without_front_zeros<'a>(before: &'a str, after: &'a str) -> (&'a str, &'a str)
+    ensures { result.0.now ++ result.1.now ≡ numbers.without_front_zeros (before.now ++ after.now) }
 {
     let first = runs::without_front_zeros(before);
     if first.is_empty() {
-        (first, runs::without_front_zeros(behind))
+        (first, runs::without_front_zeros(after))
     } else {
-        (first, behind)
+        (first, after)
     }
 }
 
 /// Digits in two parts, without the zeros at the end.
-fn without_back_zeros<'a>(before: &'a str, behind: &'a str) -> (&'a str, &'a str)
-    ensures { result.0.now ++ result.1.now ≡ reverse (numbers.without_front_zeros (reverse (before.now ++ behind.now))) }
+fn without_back_zeros<'a>(before: &'a str, after: &'a str) -> (&'a str, &'a str)
+    ensures { result.0.now ++ result.1.now ≡ reverse (numbers.without_front_zeros (reverse (before.now ++ after.now))) }
 {
-    let last = runs::without_back_zeros(behind);
+    let last = runs::without_back_zeros(after);
     if last.is_empty() {
         (runs::without_back_zeros(before), last)
     } else {
@@ -126,15 +126,15 @@ impl Decimal {
         alloc: Global,
         negative: bool,
         before: &str,
-        behind: &str,
+        after: &str,
         exponent: i128,
     ) -> std::result::Result<Option<Decimal>, AllocError>
         requires before_digits { Each is_digit before.now }
-        requires behind_digits { Each is_digit behind.now }
+        requires after_digits { Each is_digit after.now }
         requires small { IsSmallExponent exponent }
-        ensures { MatchResult result (IsFiniteIfInRange negative (before.now ++ behind.now) exponent) (λ _. IsInRange (before.now ++ behind.now) exponent) }
+        ensures { MatchResult result (IsFiniteIfInRange negative (before.now ++ after.now) exponent) (λ _. IsInRange (before.now ++ after.now) exponent) }
     {
-        let (front, back) = without_front_zeros(before, behind);
+        let (front, back) = without_front_zeros(before, after);
         let (first, last) = without_back_zeros(front, back);
         let count = front.len() + back.len();
         let Some(exponent) = bare_exponent(exponent, count, first.len() + last.len()) else {

@@ -14,8 +14,8 @@ returns-then-not-is_empty c =
 pub normal-requires-clause-before_digits : goal.normal-requires-clause-before_digits
 normal-requires-clause-before_digits c = rw c.split_digits.ensures.front_bytes (front_each is_digit c.args.digits.now)
 
-pub normal-requires-clause-behind_digits : goal.normal-requires-clause-behind_digits
-normal-requires-clause-behind_digits c = no_char
+pub normal-requires-clause-after_digits : goal.normal-requires-clause-after_digits
+normal-requires-clause-after_digits c = no_char
 
 pub returns : goal.returns
 returns c =

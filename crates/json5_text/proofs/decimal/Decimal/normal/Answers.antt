@@ -7,24 +7,24 @@ use Rattle.json5_text.proofs.decimal.Decimal.normal.Goals as goal
 
 pub bare_exponent-requires-clause-fewer : goal.bare_exponent-requires-clause-fewer
 bare_exponent-requires-clause-fewer c =
-    fewer_digits (c.args.before.now ++ c.args.behind.now) c.without_front_zeros.result.0.now c.without_front_zeros.result.1.now c.without_back_zeros.result.0.now c.without_back_zeros.result.1.now
+    fewer_digits (c.args.before.now ++ c.args.after.now) c.without_front_zeros.result.0.now c.without_front_zeros.result.1.now c.without_back_zeros.result.0.now c.without_back_zeros.result.1.now
     c.without_front_zeros.ensures (c.without_back_zeros.ensures ∙ ap back c.without_front_zeros.ensures)
 
 pub invariant_of-result : goal.invariant_of-result
 invariant_of-result c =
     let s = to_z-of_z w128 c.args.exponent c.ranges.exponent in
-    normal_parts (c.args.before.now ++ c.args.behind.now) c.without_front_zeros.result.0.now c.without_front_zeros.result.1.now c.without_back_zeros.result.0.now c.without_back_zeros.result.1.now _ c.args.exponent _
-    (Each-append c.requires.before_digits c.requires.behind_digits) c.without_front_zeros.ensures (c.without_back_zeros.ensures ∙ ap back c.without_front_zeros.ensures) c.in_ok-digits.ensures (rw s at c.in-Some.ensures.value) (rw s at (c.in-Some.ensures.in_range.0 refl))
+    normal_parts (c.args.before.now ++ c.args.after.now) c.without_front_zeros.result.0.now c.without_front_zeros.result.1.now c.without_back_zeros.result.0.now c.without_back_zeros.result.1.now _ c.args.exponent _
+    (Each-append c.requires.before_digits c.requires.after_digits) c.without_front_zeros.ensures (c.without_back_zeros.ensures ∙ ap back c.without_front_zeros.ensures) c.in_ok-digits.ensures (rw s at c.in-Some.ensures.value) (rw s at (c.in-Some.ensures.in_range.0 refl))
 
 pub returns : goal.returns
 returns c = record {
   in_range =
       let s = to_z-of_z w128 c.args.exponent c.ranges.exponent in
-      rw (normal_exponent_is (c.args.before.now ++ c.args.behind.now) c.without_front_zeros.result.0.now c.without_front_zeros.result.1.now c.without_back_zeros.result.0.now c.without_back_zeros.result.1.now c.args.exponent
+      rw (normal_exponent_is (c.args.before.now ++ c.args.after.now) c.without_front_zeros.result.0.now c.without_front_zeros.result.1.now c.without_back_zeros.result.0.now c.without_back_zeros.result.1.now c.args.exponent
       c.without_front_zeros.ensures (c.without_back_zeros.ensures ∙ ap back c.without_front_zeros.ensures))
       (rw s at c.in-Some.ensures.in_range);
   value =
       let s = to_z-of_z w128 c.args.exponent c.ranges.exponent in
-      normal_value c.args.negative (c.args.before.now ++ c.args.behind.now) c.without_front_zeros.result.0.now c.without_front_zeros.result.1.now c.without_back_zeros.result.0.now c.without_back_zeros.result.1.now _ c.args.exponent _
+      normal_value c.args.negative (c.args.before.now ++ c.args.after.now) c.without_front_zeros.result.0.now c.without_front_zeros.result.1.now c.without_back_zeros.result.0.now c.without_back_zeros.result.1.now _ c.args.exponent _
       c.without_front_zeros.ensures (c.without_back_zeros.ensures ∙ ap back c.without_front_zeros.ensures) c.in_ok-digits.ensures (rw s at c.in-Some.ensures.value) (rw s at (c.in-Some.ensures.in_range.0 refl));
 }
