@@ -96,7 +96,7 @@ refuses_next refuses old new after own e cause other before p failed = record {
   differs = λ d w o. at_other cause d w o;
   unprompted = λ live k. other live (sym p.kind ∙ k);
   failed = failed;
-  before = λ h. p.kind ∙ (before h).0;
+  before = λ h. let (says, none) = before h in (p.kind ∙ says, λ b s. p.place ∙ ap (λ o. or_place o p.there) none ∙ ap Some (p.is_there b s));
 }
   where
     at_end : RefusesElement refuses old.due old.reader own after → old.due ≡ true → AtEnd old.reader → (kind_of e ≡ code codes.EofParsingArray) × IsAtBracket old e

@@ -73,4 +73,4 @@ pub record RefusesNext {V : Type 0} (refuses : State → Error → State → Typ
   pub differs : old.due ≡ true → DiffersWith is_comma_or_closing codes.ExpectedComma old.reader result
   pub unprompted : Unprompted old.reader result
   pub failed : OnErr result (new.reader.failed ≡ true)
-  pub before : old.reader.failed ≡ true → IsErrAnd result (λ e. kind_of e ≡ code codes.Failed)
+  pub before : old.reader.failed ≡ true → IsErrAnd result (λ e. (kind_of e ≡ code codes.Failed) × IsAtBracket old e)

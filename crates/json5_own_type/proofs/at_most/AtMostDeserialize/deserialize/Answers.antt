@@ -45,5 +45,5 @@ returns-in_err-end-clause-complete g c =
 
 pub returns-clause-sound : goal.returns-clause-sound
 returns-clause-sound g c =
-    stops c.loop-seq.invariant.reading (c.de-2-1.given.1 (search rules)) (λ ts k. c.in_ok-end.ensures.read c.args.de.now ts (rw c.in_default.is at c.in_ok-next.ensures.read c.args.de.now ts k))
+    stops c.loop-seq.invariant.reading (search rules) (λ ts k. c.in_ok-end.ensures.read c.args.de.now ts (rw c.in_default.is at c.in_ok-next.ensures.read c.args.de.now ts k))
     (λ ts are. few_values g.T.Deserialize.convert g.row.N ts _ are (rw (length-map c.loop-seq.values.items g.T.Deserialize.content) c.loop-seq.invariant.few))
