@@ -2,7 +2,7 @@
 use Rattle.std.specs.Prelude.{◌≡◌, true, Result}
 use Rattle.std.specs.Borrow.{Fml, RattleType, MutBor, RestsIfErr}
 use Rattle.json5_text.specs.declared.input.Input as input
-use Rattle.json5_de.specs.State.{State, GivesUp}
+use Rattle.json5_de.specs.State.{State, SameText, GivesUp}
 use Rattle.json5_de.specs.Access.{Seen}
 use Rattle.json5_de.specs.declared.seq.SeqAccess.{SeqAccess}
 use Rattle.json5_de.specs.contracts.de.Deserializer.{the_row}
@@ -22,6 +22,13 @@ module _ {I : Type 0} where
   -- the reader itself stands as failed while the access holds it
   abbrev pub BlocksReader : SeqAccess I → Type 0
   BlocksReader s = s.de.now.failed ≡ true
+
+-- a call of the access keeps its reference, blocks the reader, and leaves the bracket and the text where they were
+pub record KeepsAccess {I : Type 0} (old new : SeqAccess I) : Type 0 where
+  pub same_reference : HoldsTheSame old new
+  pub blocks : BlocksReader new
+  pub start : (seen new).start ≡ (seen old).start
+  pub same_text : SameText (seen old).reader (seen new).reader
 
 module _ (I : RattleType) (g : input.Ghosts I.Denot) where
   -- the reader ends as the access leaves it, and after a refusal it has given up

@@ -208,7 +208,7 @@ impl<I: Input> Deserializer<I> {
 }
 
 impl<'a, I: Input> SeqAccess<'a, I> {
-    ghost use Rattle.json5_de.specs.Lending.{seen, HoldsTheSame, BlocksReader};
+    ghost use Rattle.json5_de.specs.Lending.{seen, HoldsTheSame, BlocksReader, KeepsAccess};
 
     /// The next element; none where the closing bracket is next, which stays unread. After an element `ExpectedComma` stands at
     /// what is neither a comma nor the bracket, and `EofParsingArray` says that the text ends; else the element's own faults come.
@@ -251,10 +251,7 @@ impl<'a, I: Input> SeqAccess<'a, I> {
         expected: &str,
         size: usize,
     ) -> Result<T>
-        ensures same_reference { HoldsTheSame self.old self.new }
-        ensures blocks { BlocksReader self.new }
-        ensures start { (seen self.new).start ≡ (seen self.old).start }
-        ensures same_text { SameText (seen self.old).reader (seen self.new).reader }
+        ensures access { KeepsAccess self.old self.new }
         ensures read { IfOk result (λ v. ReadsMore T.content T.convert (seen self.old) (seen self.new) (Some v)) }
         ensures left { (ts : Trees) (r : List ℕ) → ElementsLeft ts r (seen self.old) → LeavesRequired T.content T.convert ts r (seen self.new) result }
         ensures refused { IfErr result (λ e. (seen self.old).reader.failed ≡ false → RefusesRequired T.refuses (seen self.old) e) }
