@@ -1,18 +1,28 @@
 -- Types of a user's own: a value is read, and then accepted or refused.
-use Rattle.std.specs.Prelude.{◌≡◌, ◌⊎◌, ℕ, ◌+◌, ◌≤◌, false, List, [], ◌++◌, Option, Some, None, Result, MatchResult}
+use Rattle.std.specs.Prelude.{◌≡◌, ◌⊎◌, ℕ, ◌+◌, ◌≤◌, Bool, false, List, [], ◌++◌, Option, Some, None, Result, MatchResult, IfOk, IfErr}
 use Rattle.json5_grammar.specs.declared.code.ErrorCode.{ErrorCode}
 use Rattle.json5_grammar.specs.Trees.{Tree, depth}
 use Rattle.json5_grammar.specs.Values.{Val, Reads, Stops}
 use Rattle.json5_grammar.specs.Documents.{max_depth}
 use Rattle.json5_text.specs.declared.error.Error.{Error}
 use Rattle.json5_text.specs.Cursor.{IsOutOfMemory}
-use Rattle.json5_de.specs.State.{State}
+use Rattle.json5_de.specs.State.{State, SameText}
+use Rattle.json5_de.specs.Law.{Gives, CompletesFree, Unprompted}
 use Rattle.json5_de.specs.Faults.{RefusedByOrMemory}
 
 -- where a tree that converts to c stands in front, the answer is Ok of a value whose content is c, unless memory runs out
 abbrev pub ReadsContent : {V C : Type 0} → (V → C) → (Tree → Option C) → State → Result V Error → Type 0
 ReadsContent {C = C} content convert old result =
     (t : Tree) (r : List ℕ) (c : C) → old.failed ≡ false → Reads old.unread t r → old.level + depth t ≤ max_depth → convert t ≡ Some c → MatchResult result (λ v. content v ≡ c) IsOutOfMemory
+
+-- one value is read from the front: the law of a type, and which content is answered
+pub record ReadsExactly {V C : Type 0} (content : V → C) (convert : Tree → Option C) (free : Tree → Bool) (refuses : State → Error → State → Type 0) (old new : State) (result : Result V Error) : Type 0 where
+  pub sound : IfOk result (λ v. Gives content convert old new v)
+  pub complete : ReadsContent content convert old result
+  pub no_memory : CompletesFree free convert old result
+  pub refused : IfErr result (λ e. refuses old e new)
+  pub unprompted : Unprompted old result
+  pub same_text : SameText old new
 
 -- what is made of what there is
 abbrev pub if_more : {A B : Type 0} → (A → Option B) → Option A → Option B

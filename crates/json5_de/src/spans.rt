@@ -1,9 +1,7 @@
 //! Values and where they stand.
 
-ghost use Rattle.std.specs.Prelude.{IfOk, IfErr};
-ghost use Rattle.json5_de.specs.Law.{Gives, CompletesFree, Unprompted};
-ghost use Rattle.json5_de.specs.Own.{ReadsContent};
-ghost use Rattle.json5_de.specs.State.{SameText};
+ghost use Rattle.std.specs.Prelude.{IfOk};
+ghost use Rattle.json5_de.specs.Own.{ReadsExactly};
 ghost use Rattle.json5_de.specs.Spans.{SpansValue, RefusesSpanned};
 
 use crate::de::{Deserialize, Deserializer};
@@ -38,12 +36,7 @@ impl<I: Input, T: Deserialize<I>> Deserialize<I> for Spanned<T> {
     ghost refuses = { RefusesSpanned T.refuses };
 
     fn deserialize(de: &mut Deserializer<I>) -> Result<Spanned<T>>
-        ensures sound { IfOk result (λ s. Gives (λ v. T.content v.value) T.convert de.old de.new s) }
-        ensures complete { ReadsContent (λ v. T.content v.value) T.convert de.old result }
-        ensures no_memory { CompletesFree T.free T.convert de.old result }
-        ensures refused { IfErr result (λ e. RefusesSpanned T.refuses de.old e de.new) }
-        ensures unprompted { Unprompted de.old result }
-        ensures same_text { SameText de.old de.new }
+        ensures reads { ReadsExactly (λ s. T.content s.value) T.convert T.free (RefusesSpanned T.refuses) de.old de.new result }
         ensures spans { IfOk result (λ s. SpansValue de.old s.start s.end de.new) }
     {
         de.begin()?;

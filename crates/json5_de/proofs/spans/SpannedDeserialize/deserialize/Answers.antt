@@ -1,4 +1,4 @@
-use Rattle.std.proofs.Common.{◌∙◌, ◌≡◌, ◌+◌, ◌≤◌, ℕ, List, false, arith, Ok}
+use Rattle.std.proofs.Common.{◌∙◌, ◌≡◌, ◌+◌, ◌≤◌, ℕ, List, false, arith, Ok, refl, inl, inr}
 use Rattle.std.proofs.lemmas.Result.{err_from_is_err_and}
 use Rattle.json5_grammar.specs.Documents.{max_depth}
 use Rattle.json5_grammar.specs.Trees.{Tree, depth}
@@ -7,6 +7,7 @@ use Rattle.json5_de.specs.State.{State}
 use Rattle.json5_de.specs.Steps.{PassedGap}
 use Rattle.json5_de.proofs.Arrays.{level_of, failed_of}
 use Rattle.json5_de.proofs.Options.{blanks_no_value, value_next, took_after}
+use Rattle.json5_de.proofs.Taken.{input_of}
 use Rattle.json5_de.proofs.Own.{reads_content}
 use Rattle.json5_de.proofs.spans.SpannedDeserialize.deserialize.Goals as goal
 
@@ -14,28 +15,45 @@ use Rattle.json5_de.proofs.spans.SpannedDeserialize.deserialize.Goals as goal
 stands_after : (old at : State) (t : Tree) (r : List ℕ) → PassedGap old at → old.failed ≡ false → Reads old.unread t r → old.level + depth t ≤ max_depth → (at.failed ≡ false) × Reads at.unread t r × (at.level + depth t ≤ max_depth)
 stands_after old at t r p live reads shallow = let level = level_of p.rest in (failed_of p.rest ∙ live, value_next old at t r p reads, omega (arith, shallow, level))
 
-pub returns-in_err-begin-clause-complete : goal.returns-in_err-begin-clause-complete
-returns-in_err-begin-clause-complete g c t r v live reads shallow converts = absurd (blanks_no_value c.args.de.now c.in_err-begin.field-0.0 t r (c.in_err-begin.ensures.refused live) reads)
+pub returns-in_err-begin-clause-reads : goal.returns-in_err-begin-clause-reads
+returns-in_err-begin-clause-reads g c =
+    let (y, is, from) = err_from_is_err_and c.from_residual.result c.from_residual.ensures.1 in
+    rw (is, from) (record {
+      sound = tt;
+      complete = λ t r v live reads shallow converts. absurd (blanks_no_value c.args.de.now c.in_err-begin.field-0.0 t r (c.in_err-begin.ensures.refused live) reads);
+      no_memory = λ t r v live reads shallow converts free. absurd (blanks_no_value c.args.de.now c.in_err-begin.field-0.0 t r (c.in_err-begin.ensures.refused live) reads);
+      refused = λ live. inl (c.in_err-begin.ensures.refused live);
+      unprompted = c.in_err-begin.ensures.unprompted;
+      same_text = c.in_err-begin.ensures.failed.same_text;
+    })
 
-pub returns-in_err-begin-clause-no_memory : goal.returns-in_err-begin-clause-no_memory
-returns-in_err-begin-clause-no_memory g c t r v live reads shallow converts free = absurd (blanks_no_value c.args.de.now c.in_err-begin.field-0.0 t r (c.in_err-begin.ensures.refused live) reads)
-
-pub returns-in_err-value-clause-complete : goal.returns-in_err-value-clause-complete
-returns-in_err-value-clause-complete g c t r v live reads shallow converts =
-    let (still, here, room) = stands_after c.args.de.now c.begin.new.self t r c.in_ok-begin.ensures.passed live reads shallow in
+pub returns-in_err-value-clause-reads : goal.returns-in_err-value-clause-reads
+returns-in_err-value-clause-reads g c =
+    let passed = c.in_ok-begin.ensures.passed in
     let (y, is, from) = err_from_is_err_and c.from_residual-in_err-value.result c.from_residual-in_err-value.ensures.1 in
-    rw (is, from) (c.in_err-value.ensures.complete t r v still here room converts)
+    rw (is, from) (record {
+      sound = tt;
+      complete = λ t r v live reads shallow converts.
+          let (still, here, room) = stands_after c.args.de.now c.begin.new.self t r passed live reads shallow in
+          c.in_err-value.ensures.complete t r v still here room converts;
+      no_memory = λ t r v live reads shallow converts free.
+          let (still, here, room) = stands_after c.args.de.now c.begin.new.self t r passed live reads shallow in
+          c.in_err-value.ensures.no_memory t r v still here room converts free;
+      refused = λ live. inr (c.begin.new.self, passed, c.in_err-value.ensures.refused);
+      unprompted = λ live. c.in_err-value.ensures.unprompted (failed_of passed.rest ∙ live);
+      same_text = c.in_err-value.ensures.same_text ∙ input_of passed.rest;
+    })
 
-pub returns-in_err-value-clause-no_memory : goal.returns-in_err-value-clause-no_memory
-returns-in_err-value-clause-no_memory g c t r v live reads shallow converts free =
-    let (still, here, room) = stands_after c.args.de.now c.begin.new.self t r c.in_ok-begin.ensures.passed live reads shallow in
-    absurd (cc (c.in_err-value.ensures.no_memory t r v still here room converts free))
-
-pub returns-clause-sound : goal.returns-clause-sound
-returns-clause-sound g c =
+pub returns-clause-reads : goal.returns-clause-reads
+returns-clause-reads g c =
     let (t, took, is) = c.in_ok-value.ensures.sound in
-    (t, took_after c.args.de.now c.begin.new.self c.deserialize.new.de t c.in_ok-begin.ensures.passed took, is)
-
-pub returns-clause-complete : goal.returns-clause-complete
-returns-clause-complete g c =
-    reads_content g.T.Deserialize.content g.T.Deserialize.convert c.args.de.now c.deserialize.new.de (Ok c.in_ok-value.value) (returns-clause-sound g c) (λ t r v live reads shallow converts. tt)
+    let passed = c.in_ok-begin.ensures.passed in
+    let whole = took_after c.args.de.now c.begin.new.self c.deserialize.new.de t passed took in
+    record {
+      sound = (t, whole, is);
+      complete = reads_content g.T.Deserialize.content g.T.Deserialize.convert c.args.de.now c.deserialize.new.de (Ok c.in_ok-value.value) (t, whole, is) (λ t r v live reads shallow converts. tt);
+      no_memory = λ t r v live reads shallow converts free. refl;
+      refused = tt;
+      unprompted = tt;
+      same_text = c.in_ok-value.ensures.same_text ∙ input_of passed.rest;
+    }

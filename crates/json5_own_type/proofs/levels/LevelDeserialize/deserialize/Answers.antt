@@ -12,14 +12,14 @@ no_name s low middle high = let not_it : (w : List ℕ) → s ≢ w → _ = λ w
 pub returns-in_err-name-clause-complete : goal.returns-in_err-name-clause-complete
 returns-in_err-name-clause-complete g c t r v live reads shallow converts =
     let (s, is, accepted) = parts level_named (text_of t) v converts in
-    search (rules, c.in_err-name.ensures.complete t r s live reads shallow is)
+    search (rules, c.in_err-name.ensures.reads.complete t r s live reads shallow is)
 
 pub returns-clause-complete : goal.returns-clause-complete
 returns-clause-complete g c t r v live reads shallow converts =
     let none = no_name c.as_str.result.now c.in_default.not-low c.in_default.not-middle c.in_default.not-high in
-    absurd (no_content text_of level_named t _ v (λ s is. c.in_ok-name.ensures.complete t r s live reads shallow is) (ap level_named (sym c.as_str.ensures.value) ∙ none) converts)
+    absurd (no_content text_of level_named t _ v (λ s is. c.in_ok-name.ensures.reads.complete t r s live reads shallow is) (ap level_named (sym c.as_str.ensures.value) ∙ none) converts)
 
 pub returns-clause-refused : goal.returns-clause-refused
 returns-clause-refused g c =
     let none = no_name c.as_str.result.now c.in_default.not-low c.in_default.not-middle c.in_default.not-high in
-    inr (inr (refused_at _ level_named c.args.de.now c.deserialize.new.de _ _ _ _ _ c.in_ok-name.ensures.sound c.in_ok-name.ensures.spans (ap level_named (sym c.as_str.ensures.value) ∙ none) c.position_of-place.ensures.inside c.in_ok-custom_at-in_default.ensures))
+    inr (inr (refused_at _ level_named c.args.de.now c.deserialize.new.de _ _ _ _ _ c.in_ok-name.ensures.reads.sound c.in_ok-name.ensures.spans (ap level_named (sym c.as_str.ensures.value) ∙ none) c.position_of-place.ensures.inside c.in_ok-custom_at-in_default.ensures))

@@ -7,13 +7,13 @@ use Rattle.json5_own_type.proofs.ports.OpenPortDeserialize.deserialize.Goals as 
 pub returns-in_err-port-clause-complete : goal.returns-in_err-port-clause-complete
 returns-in_err-port-clause-complete g c t r v live reads shallow converts =
     let (n, is, accepted) = parts above_zero (unsigned_below (2 ^ 16) t) v converts in
-    search (rules, c.in_err-port.ensures.complete t r n live reads shallow is)
+    search (rules, c.in_err-port.ensures.reads.complete t r n live reads shallow is)
 
 pub returns-then-port-eq0-clause-complete : goal.returns-then-port-eq0-clause-complete
 returns-then-port-eq0-clause-complete g c t r v live reads shallow converts =
-    absurd (no_content (unsigned_below (2 ^ 16)) above_zero t c.in_ok-port.port.value v (λ n is. c.in_ok-port.ensures.complete t r n live reads shallow is) (ap above_zero c.if-port-eq0.true) converts)
+    absurd (no_content (unsigned_below (2 ^ 16)) above_zero t c.in_ok-port.port.value v (λ n is. c.in_ok-port.ensures.reads.complete t r n live reads shallow is) (ap above_zero c.if-port-eq0.true) converts)
 
 pub returns-then-port-eq0-clause-refused : goal.returns-then-port-eq0-clause-refused
 returns-then-port-eq0-clause-refused g c =
     let port = c.in_ok-port.ensures in
-    inr (inr (refused_at _ above_zero c.args.de.now c.deserialize.new.de _ _ _ _ _ port.sound port.spans (ap above_zero c.if-port-eq0.true) c.position_of-place.ensures.inside c.in_ok-custom_at.ensures))
+    inr (inr (refused_at _ above_zero c.args.de.now c.deserialize.new.de _ _ _ _ _ port.reads.sound port.spans (ap above_zero c.if-port-eq0.true) c.position_of-place.ensures.inside c.in_ok-custom_at.ensures))
