@@ -37,6 +37,11 @@ pub mod WordsRead
 pub mod Classes
 pub mod ValueHeads
 pub mod ValuesRead
+pub mod Found
+pub mod ValuesSound
+pub mod ValueTurns
+pub mod ValueSteps
+pub mod TreeSteps
 pub mod Unique
 pub mod ScalarsWritten
 pub mod MembersRead

@@ -145,7 +145,7 @@ entry_of {v = v} {g = g} key (q, s, e) k b = (
   entry key.blank (key_spelling key.key) s.blank e.blank e.value b,
 )
 
-pairs_comma : (ps : Pairs) (x y r : List ℕ) → IsSign 44 x y → PairsTail ps false y r → PairsTail ps true x r
+pub pairs_comma : (ps : Pairs) (x y r : List ℕ) → IsSign 44 x y → PairsTail ps false y r → PairsTail ps true x r
 pairs_comma no_pair x y r s c = inr (y, s, c)
 pairs_comma (pair u p t ps) x y r s (k, z, a, e, tl) = (k, z, (y, s, a), e, tl)
 

@@ -90,12 +90,12 @@ pub record WordRefused (x : List ℕ) (code : Option ErrorCode) (place : Option 
   pub first : SameFirst the_word x
   pub refuses : Refuses (word_at eof wrong the_word x) x code place
 
-differs_at : (eof wrong : ErrorCode) (p q r : List ℕ) (d c : ℕ) → c ≢ d → word_at eof wrong (p ++ d ∷ q) (p ++ c ∷ r) ≡ bad (Some wrong) (here (c ∷ r))
+pub differs_at : (eof wrong : ErrorCode) (p q r : List ℕ) (d c : ℕ) → c ≢ d → word_at eof wrong (p ++ d ∷ q) (p ++ c ∷ r) ≡ bad (Some wrong) (here (c ∷ r))
 unfolding word_at
 differs_at eof wrong [] q r d c n = rw (not_eq c d n) refl
 differs_at eof wrong (k ∷ p) q r d c n = rw (same_char k) (differs_at eof wrong p q r d c n)
 
-ends_in : (eof wrong : ErrorCode) (p q : List ℕ) (d : ℕ) → word_at eof wrong (p ++ d ∷ q) p ≡ bad (Some eof) inner
+pub ends_in : (eof wrong : ErrorCode) (p q : List ℕ) (d : ℕ) → word_at eof wrong (p ++ d ∷ q) p ≡ bad (Some eof) inner
 unfolding word_at
 ends_in eof wrong [] q d = refl
 ends_in eof wrong (k ∷ p) q d = rw (same_char k) (ends_in eof wrong p q d)

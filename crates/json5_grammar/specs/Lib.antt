@@ -28,4 +28,5 @@ pub mod ReadBlanks
 pub mod ReadNumbers
 pub mod ReadTexts
 pub mod ReadValues
+pub mod ReadSteps
 pub mod NumberSteps
