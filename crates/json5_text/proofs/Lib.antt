@@ -11,6 +11,9 @@ pub mod FaultsCompared
 pub mod TextsCompared
 pub mod ScanEscapes
 pub mod ScanStrings
+pub mod Copied
+pub mod DeepestInside
+pub mod LookedUp
 pub mod ValuesCompared
 pub mod ScanNames
 pub mod NumberSteps
@@ -19,3 +22,4 @@ pub mod NumberValues
 pub mod NumberJudged
 pub mod NumberCases
 pub mod ScanNumbers
+pub mod ScanKeys

@@ -4,7 +4,7 @@ use Rattle.std.specs.Prelude.{◌==◌}
 use lib.Chars.{codes}
 use Rattle.json5_grammar.specs.declared.code.ErrorCode.TheVariants.{EofParsingNumber, ExpectedNumber, LeadingZero}
 use Rattle.json5_grammar.specs.Characters.{is_digit}
-use Rattle.json5_grammar.specs.Numbers.{Decimal, decimal, infinite, nan, hex_start}
+use Rattle.json5_grammar.specs.Numbers.{decimal, infinite, nan, hex_start}
 use Rattle.json5_grammar.specs.Stops.{in_run, begins_run}
 use Rattle.json5_grammar.specs.Reading.{bad, here, inner}
 use Rattle.std.specs.Str.{chars}
@@ -35,15 +35,15 @@ infinity_at : (q : List ℕ) (m : Bool) (x y : List ℕ) (c : ℕ) → x ≡ c �
 unfolding unsigned
 infinity_at q m x y c e h = rw (e, h) refl
 
-pub unsigned_infinity : (q : List ℕ) (m : Bool) (x y : List ℕ) (c : ℕ) (d : Decimal) → x ≡ c ∷ y → c ≡ 73 → d ≡ infinite m → unsigned q m x ≡ word (decimal d) (chars (codes "nfinity")) y
-unsigned_infinity q m x y c d e h f = infinity_at q m x y c e h ∙ ap (λ z. word (decimal (infinite m)) z y) (sym infinity_rest) ∙ ap (λ z. word (decimal z) (chars (codes "nfinity")) y) (sym f)
+pub unsigned_infinity : (q : List ℕ) (m : Bool) (x y : List ℕ) (c : ℕ) → x ≡ c ∷ y → c ≡ 73 → unsigned q m x ≡ word (decimal (infinite m)) (chars (codes "nfinity")) y
+unsigned_infinity q m x y c e h = infinity_at q m x y c e h ∙ ap (λ z. word (decimal (infinite m)) z y) (sym infinity_rest)
 
 nan_at : (q : List ℕ) (m : Bool) (x y : List ℕ) (c : ℕ) → x ≡ c ∷ y → c ≡ 78 → unsigned q m x ≡ word (decimal (nan m)) (codes "aN") y
 unfolding unsigned
 nan_at q m x y c e h = rw (e, h) refl
 
-pub unsigned_nan : (q : List ℕ) (m : Bool) (x y : List ℕ) (c : ℕ) (d : Decimal) → x ≡ c ∷ y → c ≡ 78 → d ≡ nan m → unsigned q m x ≡ word (decimal d) (chars (codes "aN")) y
-unsigned_nan q m x y c d e h f = nan_at q m x y c e h ∙ ap (λ z. word (decimal (nan m)) z y) (sym nan_rest) ∙ ap (λ z. word (decimal z) (chars (codes "aN")) y) (sym f)
+pub unsigned_nan : (q : List ℕ) (m : Bool) (x y : List ℕ) (c : ℕ) → x ≡ c ∷ y → c ≡ 78 → unsigned q m x ≡ word (decimal (nan m)) (chars (codes "aN")) y
+unsigned_nan q m x y c e h = nan_at q m x y c e h ∙ ap (λ z. word (decimal (nan m)) z y) (sym nan_rest)
 
 pub unsigned_zero : (q : List ℕ) (m : Bool) (x y : List ℕ) (c : ℕ) → x ≡ c ∷ y → c ≡ 48 → unsigned q m x ≡ at_zero q m y
 unfolding unsigned

@@ -15,8 +15,9 @@ use Rattle.json5_grammar.specs.ReadValues.{word_at}
 use Rattle.json5_grammar.proofs.Basics.{hex_value, no_hex}
 use Rattle.json5_text.specs.declared.refusal.Refusal.{Refusal}
 use Rattle.json5_text.specs.declared.refusal.Refusal.TheVariants as refusal
-use Rattle.json5_text.specs.Refused.{Refuses, WantsForDigits}
-use Rattle.json5_text.specs.Scan.{HasCode}
+use Rattle.json5_text.specs.NumberViews.{keeps_digits}
+use Rattle.json5_text.specs.Refused.{Refuses, KeepsDigits, WantsForDigits}
+use Rattle.json5_text.specs.Scan.{HasFault}
 use lib.Chars.{codes}
 use Rattle.json5_text.specs.Outcome.{Outcome, bytes_in, outcome, gave, failed}
 use Rattle.json5_grammar.proofs.NumbersUnique.{hex_judged_bad}
@@ -122,10 +123,14 @@ pub nan_rest : chars (codes "aN") ≡ codes "aN"
 unfolding chars
 nan_rest = refl
 
--- a code doesn't say that memory ran out
-pub known_wants : (r : Refusal) (m : Read Number) → HasCode r → WantsForDigits r m
-known_wants (refusal.Code c left) m h = tt
-known_wants (refusal.InvalidNumber left) m h = absurd h
-known_wants (refusal.TooLarge left) m h = absurd h
-known_wants (refusal.UnpairedSurrogate u left) m h = absurd h
-known_wants refusal.OutOfMemory m h = absurd h
+-- a fault doesn't say that memory ran out
+pub fault_wants : (r : Refusal) (m : Read Number) → HasFault r → WantsForDigits r m
+fault_wants (refusal.Code c left) m h = tt
+fault_wants (refusal.InvalidNumber left) m h = tt
+fault_wants (refusal.TooLarge left) m h = tt
+fault_wants (refusal.UnpairedSurrogate u left) m h = tt
+fault_wants refusal.OutOfMemory m h = absurd h
+
+-- memory ran out at a number whose digits are kept
+pub kept_wants : (m : Read Number) (n : Number) (r : List ℕ) → m ≡ got n r → keeps_digits n ≡ true → KeepsDigits m
+kept_wants m n r e h = subst KeepsDigits (sym e) h

@@ -94,20 +94,20 @@ fewer_digits ds front rest first last h k = omega (arith, length-append front re
 pub held : (e : ℤ) → InExponents e → to_z w16 (of_z w16 e) ≡ e
 held e h = to_z-of_z w16 e (omega (arith, ints, h.0, h.1))
 
-pub normal_parts : (ds front rest first last bytes : List ℕ) (e x : ℤ) → Each is_digit ds → front ++ rest ≡ without_front_zeros ds → first ++ last ≡ without_zeros ds → bytes ≡ first ++ last
-    → x ≡ raised e (length front + length rest) (length first + length last) → InExponents (raised e (length front + length rest) (length first + length last)) → IsNormal bytes (to_z w16 (of_z w16 x))
-normal_parts ds front rest first last bytes e x d h k b y r =
+pub normal_parts : (ds front rest first last : List ℕ) (e x : ℤ) → Each is_digit ds → front ++ rest ≡ without_front_zeros ds → first ++ last ≡ without_zeros ds
+    → x ≡ raised e (length front + length rest) (length first + length last) → InExponents (raised e (length front + length rest) (length first + length last)) → IsNormal (first ++ last) (to_z w16 (of_z w16 x))
+normal_parts ds front rest first last e x d h k y r =
     let n = normal_exponent_is ds front rest first last e h k in
     let i : InExponents (normal_exponent ds e) = rw n r in
     let f : x ≡ normal_exponent ds e = y ∙ sym n in
-    rw (b ∙ k, f) (rw (held (normal_exponent ds e) i) (normal_is ds e d i))
+    rw (k, f) (rw (held (normal_exponent ds e) i) (normal_is ds e d i))
 
-pub normal_value : (m : Bool) (ds front rest first last bytes : List ℕ) (e x : ℤ) → front ++ rest ≡ without_front_zeros ds → first ++ last ≡ without_zeros ds → bytes ≡ first ++ last
-    → x ≡ raised e (length front + length rest) (length first + length last) → InExponents (raised e (length front + length rest) (length first + length last)) → finite m bytes (to_z w16 (of_z w16 x)) ≡ finite m (without_zeros ds) (normal_exponent ds e)
-normal_value m ds front rest first last bytes e x h k b y r =
+pub normal_value : (m : Bool) (ds front rest first last : List ℕ) (e x : ℤ) → front ++ rest ≡ without_front_zeros ds → first ++ last ≡ without_zeros ds
+    → x ≡ raised e (length front + length rest) (length first + length last) → InExponents (raised e (length front + length rest) (length first + length last)) → finite m (first ++ last) (to_z w16 (of_z w16 x)) ≡ finite m (without_zeros ds) (normal_exponent ds e)
+normal_value m ds front rest first last e x h k y r =
     let n = normal_exponent_is ds front rest first last e h k in
     let i : InExponents (normal_exponent ds e) = rw n r in
-    ap (λ z. finite m z (to_z w16 (of_z w16 x))) (b ∙ k) ∙ ap (finite m (without_zeros ds)) (ap (λ z. to_z w16 (of_z w16 z)) (y ∙ sym n) ∙ held (normal_exponent ds e) i)
+    ap (λ z. finite m z (to_z w16 (of_z w16 x))) k ∙ ap (finite m (without_zeros ds)) (ap (λ z. to_z w16 (of_z w16 z)) (y ∙ sym n) ∙ held (normal_exponent ds e) i)
 
 pub widened : (e r : ℤ) → SFits w64 e → r ≡ to_z w64 (of_z w64 e) → to_z w128 (of_z w128 r) ≡ e
 widened e r h k = let f : r ≡ e = k ∙ to_z-of_z w64 e h in rw f (to_z-of_z w128 e (omega (arith, ints, h.sfits)))

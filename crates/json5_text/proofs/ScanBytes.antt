@@ -122,3 +122,22 @@ pub take_before : {text : List ℕ} {offset end cut : ℕ} (x y : List ℕ) → 
 take_before {text = text} {cut = cut} x y k e l =
     let h : Halves text x y = record { is_text = k.is_text; split = e } in
     subst (λ n. chars (take n text) ≡ x) (offset_at h ∙ sym l) (take_half h)
+
+-- ---- a part of a text
+
+pub cut_at : {text x y : List ℕ} → Halves text x y → IsCharBoundary text (bytes_in x)
+cut_at {text = text} h = subst (IsCharBoundary text) (offset_at h) (cut_half h)
+
+pub bytes_append : (x y : List ℕ) → bytes_in (x ++ y) ≡ bytes_in x + bytes_in y
+bytes_append x y = ap length (encodes-append x y) ∙ length-append (encode_utf8_all x) (encode_utf8_all y)
+
+less_front : (m n : ℕ) → (m + n) - m ≡ n
+less_front m n = omega arith
+
+pub part_between : {text x : List ℕ} (u y : List ℕ) → Halves text x (u ++ y) → slice_range text (bytes_in x) (bytes_in x + bytes_in u) ≡ encode_utf8_all u
+part_between {text = text} {x = x} u y h =
+    let whole : text ≡ encode_utf8_all x ++ (encode_utf8_all u ++ encode_utf8_all y) = whole_bytes h ∙ ap (λ z. encode_utf8_all x ++ z) (encodes-append u y) in
+    ap (λ n. take n (drop (bytes_in x) text)) (less_front (bytes_in x) (bytes_in u))
+    ∙ ap (λ z. take (bytes_in u) (drop (bytes_in x) z)) whole
+    ∙ ap (take (bytes_in u)) (drop-append_seam (encode_utf8_all x) (encode_utf8_all u ++ encode_utf8_all y))
+    ∙ take-append_seam (encode_utf8_all u) (encode_utf8_all y)

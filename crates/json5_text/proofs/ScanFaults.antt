@@ -10,7 +10,7 @@ use Rattle.json5_text.specs.Errors.{place_of}
 use Rattle.json5_text.specs.Outcome.{Outcome, gave, failed, outcome, bytes_in, left_at}
 use Rattle.json5_text.specs.Cursor.{Cursor, Says, IsPlaced, IsOutOfMemory, Refused}
 use Rattle.json5_text.specs.Refused.{Refuses}
-use Rattle.json5_text.specs.Scan.{HasCode, Leaves, InUnread, IsThere, MadeOf}
+use Rattle.json5_text.specs.Scan.{HasCode, HasFault, Leaves, InUnread, IsThere, MadeOf}
 
 -- reading x is refused with a fault of x
 pub record FaultAt (IsFault : List ℕ → Option ErrorCode → Option (List ℕ) → Type 0) (x : List ℕ) (reason : Option ErrorCode) (p : Place) : Type 0 where
@@ -111,10 +111,14 @@ refused {A = A} IsFault s err (refusal.TooLarge left) res k e m = custom_refused
 refused {A = A} IsFault s err (refusal.UnpairedSurrogate u left) res k e m = custom_refused A IsFault s err res left k e m
 refused IsFault s err refusal.OutOfMemory res k e m = inl m
 
--- a code doesn't say that memory ran out
-pub no_memory : (r : Refusal) → HasCode r → r ≡ refusal.OutOfMemory → ⊥
-no_memory (refusal.Code c left) h e = cc
-no_memory (refusal.InvalidNumber left) h e = h
-no_memory (refusal.TooLarge left) h e = h
-no_memory (refusal.UnpairedSurrogate u left) h e = h
-no_memory refusal.OutOfMemory h e = h
+-- a code is a fault
+pub code_known : (r : Refusal) → HasCode r → HasFault r
+code_known (refusal.Code c left) h = tt
+code_known (refusal.InvalidNumber left) h = tt
+code_known (refusal.TooLarge left) h = tt
+code_known (refusal.UnpairedSurrogate u left) h = tt
+code_known refusal.OutOfMemory h = h
+
+-- a fault doesn't say that memory ran out
+pub no_memory : (r : Refusal) → HasFault r → r ≡ refusal.OutOfMemory → ⊥
+no_memory r h e = subst HasFault e h

@@ -21,7 +21,7 @@ use Rattle.json5_text.specs.Outcome.{outcome}
 use Rattle.json5_text.specs.Refused.{Refuses}
 use Rattle.json5_text.specs.ScanNames.{fits, is_raw_part, name_at, item, item_then, NoPart, StopsAt, GoesOn, IsFurther, StopsText}
 use Rattle.json5_text.proofs.ScanEscapes.{refuses_as, then_refuses}
-use Rattle.json5_text.proofs.ScanStrings.{put_bad, plain_put}
+use Rattle.json5_text.proofs.ScanStrings.{put_bad, plain_put, Onward, onward_refused}
 use Rattle.json5_grammar.proofs.StringsSound.{shorter}
 
 -- ---- characters that stand for themselves
@@ -165,6 +165,9 @@ first_run : (c : ℕ) (x r raw t : List ℕ) → x ≡ c ∷ r → (c ≡ 92 →
 first_run c x r raw t e n h f k =
     name_raw_first c x r e n h ∙ ap (λ s. put (c ∷ []) true (name_at false s)) f ∙ ap (put (c ∷ []) true) (run_read raw t k) ∙ put_raw c raw true (name_at false t)
 
+pub first_onward : (c : ℕ) (x r raw t : List ℕ) → x ≡ c ∷ r → (c ≡ 92 → ⊥) → is_identifier_start c ≡ true → r ≡ raw ++ t → Each is_raw_part raw → Onward (identifier x) (name_at false t)
+first_onward c x r raw t e n h f k = (c ∷ raw, true, first_run c x r raw t e n h f k)
+
 pub plain_name : (c : ℕ) (x r raw t : List ℕ) → x ≡ c ∷ r → (c ≡ 92 → ⊥) → is_identifier_start c ≡ true → r ≡ raw ++ t → Each is_raw_part raw → NoPart t → identifier x ≡ got (c ∷ raw, true) t
 plain_name c x r raw t e n h f k s = first_run c x r raw t e n h f k ∙ ap (put (c ∷ raw) true) (stopped t s) ∙ put_end (c ∷ raw) true t
 
@@ -172,7 +175,7 @@ pub escaped_name : (c : ℕ) (x r raw t u y : List ℕ) → x ≡ c ∷ r → (c
 escaped_name c x r raw t u y e n h f k g = first_run c x r raw t e n h f k ∙ ap (put (c ∷ raw) true) g
 
 pub escaped_refused : (c : ℕ) (w : Refusal) (x r raw t : List ℕ) → x ≡ c ∷ r → (c ≡ 92 → ⊥) → is_identifier_start c ≡ true → r ≡ raw ++ t → Each is_raw_part raw → Refuses w (outcome (name_at false t)) → Refuses w (outcome (identifier x))
-escaped_refused c w x r raw t e n h f k = refuses_as w (name_at false t) (identifier x) (λ d z g. first_run c x r raw t e n h f k ∙ put_bad (c ∷ raw) true (name_at false t) d z g)
+escaped_refused c w x r raw t e n h f k = onward_refused w (identifier x) (name_at false t) (first_onward c x r raw t e n h f k)
 
 -- where a run ends within the whole text
 pub split_whole : (c : ℕ) (x r raw t y : List ℕ) → x ≡ c ∷ r → r ≡ raw ++ t → t ≡ y → x ≡ (c ∷ raw) ++ y

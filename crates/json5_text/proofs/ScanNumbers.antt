@@ -17,8 +17,9 @@ use Rattle.json5_text.specs.declared.refusal.Refusal.{Refusal}
 use Rattle.json5_text.specs.NumberViews.{keeps_digits}
 use Rattle.json5_text.specs.Outcome.{outcome}
 use Rattle.json5_text.specs.Refused.{Refuses, WantsForDigits}
+use Rattle.json5_text.specs.Scan.{HasFault}
 use Rattle.json5_text.proofs.ScanFaults.{FaultAt, FaultyIn}
-use Rattle.json5_text.proofs.ScanTokens.{of_memory}
+use Rattle.json5_text.proofs.ScanTokens.{of_memory, never_refused}
 
 abbrev NumberAtSound : List ℕ → Read Number → Type 0
 NumberAtSound x (got n r) = (s : List ℕ) × (x ≡ s ++ r) × Num s n × NotBegun (lengthens s) r
@@ -82,3 +83,7 @@ number_memory x y s t n r f h k e num stops free =
     let memory = of_memory r n t (subst (λ z. Refuses r (outcome z)) read h) in
     let kept : keeps_digits n ≡ true = subst (λ z. WantsForDigits z (got n t)) memory (subst (WantsForDigits r) read k) in
     true≢false (sym kept ∙ free)
+
+-- a number in front isn't refused with a fault
+pub number_never : (x y s t : List ℕ) (n : Number) (r : Refusal) → x ≡ y → Refuses r (outcome (number x)) → HasFault r → y ≡ s ++ t → Num s n → NotBegun (lengthens s) t → ⊥
+number_never x y s t n r f h k e num stops = never_refused r (number x) n t (ap number (f ∙ e) ∙ complete num t stops) h k

@@ -1,6 +1,7 @@
 -- Steps of reading strings, between the quotes q.
 use Rattle.std.proofs.Common.{◌≡◌, ℕ, suc, ◌+◌, ◌<◌, Bool, true, false, List, [], ◌∷◌, ◌++◌, length, refl, ap, sym, ◌∙◌, append_assoc, subst, arith, Option, Some}
-use Rattle.std.specs.Prelude.{◌==◌, ◌||◌}
+use Rattle.std.specs.Prelude.{◌==◌, ◌||◌, ◌&&◌, Result, Ok, Err}
+use denote.Ref.{Bor}
 use Rattle.std.specs.Str.{IsUtf8, chars, encode_utf8_all}
 use Rattle.std.proofs.lemmas.Bool.Decides.{nat_tests}
 use Rattle.std.proofs.lemmas.List.{length-append, append-nil}
@@ -17,6 +18,7 @@ use Rattle.json5_grammar.proofs.Turns.{string_is, rest_end, rest_quote, rest_lin
 use Rattle.json5_text.specs.declared.refusal.Refusal.{Refusal}
 use Rattle.json5_text.specs.declared.strings.StringStop.{StringStop}
 use Rattle.json5_text.specs.declared.strings.StringStop.TheVariants as stop
+use Rattle.json5_text.specs.Answered.{Passes}
 use Rattle.json5_text.specs.Outcome.{outcome}
 use Rattle.json5_text.specs.Refused.{Refuses}
 use Rattle.json5_text.specs.ScanStrings.{string_at, escape_then, StopsAt, GoesOn, IsFurther, StopsText}
@@ -129,6 +131,27 @@ pub put_whole : (u v r : List ℕ) (p : Bool) → put u p (got (v, false) r) ≡
 put_whole u v r true = refl
 put_whole u v r false = refl
 
+-- reading the whole goes on with reading the rest
+abbrev pub Onward : Read (List ℕ × Bool) → Read (List ℕ × Bool) → Type 0
+Onward whole rest = (u : List ℕ) × (plain : Bool) × (whole ≡ put u plain rest)
+
+pub onward_start : (whole : Read (List ℕ × Bool)) → Onward whole whole
+onward_start whole = ([], true, put_none whole)
+
+pub onward_more : (whole rest next : Read (List ℕ × Bool)) (v : List ℕ) → Onward whole rest → rest ≡ put v false next → Onward whole next
+onward_more whole rest next v (u, p, e) h = (u ++ v, false, e ∙ ap (put u p) h ∙ put_both u v p next)
+
+pub onward_end : (whole rest : Read (List ℕ × Bool)) (v r : List ℕ) → Onward whole rest → rest ≡ got (v, false) r → (u : List ℕ) × (whole ≡ got (u, false) r)
+onward_end whole rest v r (u, p, e) h = (u ++ v, e ∙ ap (put u p) h ∙ put_whole u v r p)
+
+pub onward_refused : (r : Refusal) (whole rest : Read (List ℕ × Bool)) → Onward whole rest → Refuses r (outcome rest) → Refuses r (outcome whole)
+onward_refused r whole rest (u, p, e) = refuses_as r rest whole (λ c z g. e ∙ put_bad u p rest c z g)
+
+pub passes_onward : (whole rest : Read (List ℕ × Bool)) (result : Result (Bor (List ℕ)) Refusal) → Onward whole rest → Passes rest result → Passes whole result
+passes_onward whole rest (Ok r) (u, p, e) h = record { value = (u ++ h.value.0, p && h.value.1); read = e ∙ ap (put u p) h.read; text = h.text }
+passes_onward whole rest (Err x) k h = record { refused = onward_refused x whole rest k h.refused; known = h.known }
+
+-- and the bytes of what was read follow those in front
 abbrev pub Reached : Read (List ℕ × Bool) → Read (List ℕ × Bool) → List ℕ → List ℕ → Type 0
 Reached whole rest front text = (u : List ℕ) × (plain : Bool) × (whole ≡ put u plain rest) × (text ≡ front ++ encode_utf8_all u)
 
@@ -143,7 +166,7 @@ pub reached_end : (whole rest : Read (List ℕ × Bool)) (front a b v r : List �
 reached_end whole rest front a b v r (u, p, e, f) h i = (u ++ v, e ∙ ap (put u p) h ∙ put_whole u v r p, both_bytes front a b u v f i)
 
 pub reached_refused : (r : Refusal) (whole rest : Read (List ℕ × Bool)) (front a : List ℕ) → Reached whole rest front a → Refuses r (outcome rest) → Refuses r (outcome whole)
-reached_refused r whole rest front a (u, p, e, f) = refuses_as r rest whole (λ c z g. e ∙ put_bad u p rest c z g)
+reached_refused r whole rest front a (u, p, e, f) = onward_refused r whole rest (u, p, e)
 
 -- ---- where a string is expected
 
@@ -168,8 +191,11 @@ plain_read q x raw y r e k f =
 pub escaped_read : (q : ℕ) (x raw y u r : List ℕ) → x ≡ raw ++ y → Each (is_raw q) raw → string (q ∷ y) ≡ got (u, false) r → string (q ∷ x) ≡ got (raw ++ u, false) r
 escaped_read q x raw y u r e k f = ap (λ t. string (q ∷ t)) e ∙ run_read q raw y k ∙ ap (put raw true) f
 
+pub run_onward : (q : ℕ) (x raw y : List ℕ) → x ≡ raw ++ y → Each (is_raw q) raw → Onward (string (q ∷ x)) (string (q ∷ y))
+run_onward q x raw y e k = (raw, true, ap (λ t. string (q ∷ t)) e ∙ run_read q raw y k)
+
 pub run_refused : (q : ℕ) (r : Refusal) (x raw y : List ℕ) → x ≡ raw ++ y → Each (is_raw q) raw → Refuses r (outcome (string (q ∷ y))) → Refuses r (outcome (string (q ∷ x)))
-run_refused q r x raw y e k = refuses_as r (string (q ∷ y)) (string (q ∷ x)) (λ c z g. ap (λ t. string (q ∷ t)) e ∙ run_read q raw y k ∙ put_bad raw true (string (q ∷ y)) c z g)
+run_refused q r x raw y e k = onward_refused r (string (q ∷ x)) (string (q ∷ y)) (run_onward q x raw y e k)
 
 pub both_parts : (r u : List ℕ) → IsUtf8 r → r ++ encode_utf8_all u ≡ encode_utf8_all (chars r ++ u)
 both_parts r u k = ap (λ t. t ++ encode_utf8_all u) (sym (encodes-chars r k)) ∙ sym (encodes-append (chars r) u)

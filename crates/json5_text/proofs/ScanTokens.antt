@@ -26,9 +26,9 @@ use Rattle.json5_text.specs.Outcome.{gave, outcome, bytes_in}
 use Rattle.json5_text.specs.Refused.{Refuses}
 use Rattle.json5_text.specs.Cursor.{Cursor}
 use Rattle.json5_text.specs.Tokens.{FaultyBlanks, FaultyWord, word_differs, word_ends, FaultyString, faulty, no_quote, string_missing, FaultyName, no_name, name_missing}
-use Rattle.json5_text.specs.Scan.{Leaves}
+use Rattle.json5_text.specs.Scan.{HasFault, Leaves}
 use Rattle.json5_text.specs.ScanStrings.{string_at}
-use Rattle.json5_text.proofs.ScanFaults.{FaultAt, FaultyIn, gave_failed}
+use Rattle.json5_text.proofs.ScanFaults.{FaultAt, FaultyIn, gave_failed, no_memory}
 
 pub left_counted : (r : List ℕ) → IsUtf8 r → length r ≡ bytes_in (chars r)
 left_counted r u = sym (ap length (encodes-chars r u))
@@ -77,7 +77,7 @@ word_faulty ends differs w x y e = subst (λ z. FaultyIn (FaultyWord w ends diff
 
 -- ---- strings
 
-abbrev AtSound : List ℕ → Read (List ℕ × Bool) → Type 0
+abbrev pub AtSound : List ℕ → Read (List ℕ × Bool) → Type 0
 AtSound x (got a r) = (s : List ℕ) × (x ≡ s ++ r) × Str s a.0 a.1
 AtSound x (bad e p) = FaultAt FaultyString x e p
 
@@ -85,7 +85,7 @@ from_string : (x : List ℕ) (res : Read (List ℕ × Bool)) → StringSound x r
 from_string x (got a r) k = k
 from_string x (bad e p) k = record { place = k.place; fault = faulty k.fault; is_at = k.is_at }
 
-at_sound : (x : List ℕ) → AtSound x (string_at x)
+pub at_sound : (x : List ℕ) → AtSound x (string_at x)
 unfolding string_at
 at_sound [] = record { place = None; fault = string_missing; is_at = tt }
 at_sound (c ∷ r) =
@@ -125,6 +125,13 @@ of_memory {A = A} (refusal.TooLarge left) a x h = absurd (gave_failed A a x None
 of_memory {A = A} (refusal.UnpairedSurrogate k left) a x h = absurd (gave_failed A a x None (Some left) h)
 of_memory refusal.OutOfMemory a x h = refl
 
+-- what can be read isn't refused with a fault
+pub never_refused : {A : Type 0} (r : Refusal) (m : Read A) (a : A) (x : List ℕ) → m ≡ got a x → Refuses r (outcome m) → HasFault r → ⊥
+never_refused r m a x e h k = no_memory r k (of_memory r a x (subst (λ z. Refuses r (outcome z)) e h))
+
+pub string_never : (x y s u t : List ℕ) (plain : Bool) (r : Refusal) → x ≡ y → Refuses r (outcome (string_at x)) → HasFault r → y ≡ s ++ t → Str s u plain → ⊥
+string_never x y s u t plain r f h k e p = never_refused r (string_at x) (u, plain) t (ap string_at (f ∙ e) ∙ string_in_front t p) h k
+
 -- memory doesn't run out at a plain string in front
 pub plain_memory : (x y s u t : List ℕ) (r : Refusal) → x ≡ y → Refuses r (outcome (string_at x)) → (r ≡ refusal.OutOfMemory → (u t : List ℕ) → string_at x ≡ got (u, true) t → ⊥) → y ≡ s ++ t → Str s u true → ⊥
 plain_memory x y s u t r f h k e p =
@@ -133,7 +140,7 @@ plain_memory x y s u t r f h k e p =
 
 -- ---- names
 
-abbrev NameAtSound : List ℕ → Read (List ℕ × Bool) → Type 0
+abbrev pub NameAtSound : List ℕ → Read (List ℕ × Bool) → Type 0
 NameAtSound x (got a r) = (s : List ℕ) × (x ≡ s ++ r) × Ident s a.0 a.1 × Stopped r
 NameAtSound x (bad e p) = FaultAt FaultyName x e p
 
@@ -154,7 +161,7 @@ name_end_at : identifier [] ≡ bad (Some EofParsingIdentifier) inner
 unfolding identifier
 name_end_at = refl
 
-name_at_sound : (x : List ℕ) → NameAtSound x (identifier x)
+pub name_at_sound : (x : List ℕ) → NameAtSound x (identifier x)
 name_at_sound [] = subst (NameAtSound []) (sym name_end_at) (record { place = None; fault = name_missing; is_at = tt })
 name_at_sound (c ∷ r) = by_flag ((c == 92) || is_identifier_start c) refl
   where
@@ -186,3 +193,6 @@ pub plain_name_memory : (x y s u t : List ℕ) (c : ℕ) (r : Refusal) → x ≡
 plain_name_memory x y s u t c r f h k e p stops =
     let read : identifier x ≡ got (u, true) (c ∷ t) = ap identifier (f ∙ e) ∙ name_complete c t p stops in
     k (of_memory r (u, true) (c ∷ t) (subst (λ z. Refuses r (outcome z)) read h)) u (c ∷ t) read
+
+pub name_never : (x y s u t : List ℕ) (c : ℕ) (plain : Bool) (r : Refusal) → x ≡ y → Refuses r (outcome (identifier x)) → HasFault r → y ≡ s ++ c ∷ t → Ident s u plain → goes_on_name c ≡ false → ⊥
+name_never x y s u t c plain r f h k e p stops = never_refused r (identifier x) (u, plain) (c ∷ t) (ap identifier (f ∙ e) ∙ name_complete c t p stops) h k

@@ -1,18 +1,19 @@
 -- What functions below the scanner answer: what reading on lists gives, or a refusal with its fault. Private clauses and proofs alone cite it.
-use Rattle.std.specs.Prelude.{◌≡◌, ℕ, Bool, true, false, List, ◌++◌, Result, Ok, Err, String, string_bytes}
+use Rattle.std.specs.Prelude.{◌≡◌, ℕ, Bool, true, false, List, ◌++◌, ℤ, Option, Result, Ok, Err, String, string_bytes}
 use denote.Ref.{Bor}
 use Rattle.std.specs.Str.{IsUtf8, chars, encode_utf8_all}
 use Rattle.json5_grammar.specs.Numbers.{Number}
 use Rattle.json5_grammar.specs.Reading.{Read, got}
 use Rattle.json5_text.specs.declared.cow_str.CowStr.{CowStr}
-use Rattle.json5_text.specs.declared.number.Number.{Number as Found}
+use Rattle.json5_text.specs.declared.numbers.Scanned.{Scanned}
 use Rattle.json5_text.specs.declared.refusal.Refusal.{Refusal}
 use Rattle.json5_text.specs.declared.refusal.Refusal.TheVariants as refusal
 use Rattle.json5_text.specs.Cows.{cow_bytes, is_borrowed}
-use Rattle.json5_text.specs.NumberViews.{number_of}
+use Rattle.json5_text.specs.NumberParts.{scanned_of}
+use Rattle.json5_text.specs.NumberViews.{whole_in}
 use Rattle.json5_text.specs.Outcome.{outcome}
 use Rattle.json5_text.specs.Refused.{Refuses, WantsForDigits}
-use Rattle.json5_text.specs.Scan.{HasCode}
+use Rattle.json5_text.specs.Scan.{HasCode, HasFault}
 
 -- reading gives this value and leaves this rest
 pub record Gives {V : Type 0} (reading : Read V) (value : V) (rest : List ℕ) : Type 0 where
@@ -21,10 +22,15 @@ pub record Gives {V : Type 0} (reading : Read V) (value : V) (rest : List ℕ) :
 
 -- ---- values
 
+-- the fault, and not that memory ran out
+pub record RefusesByFault {V : Type 0} (e : Refusal) (reading : Read V) : Type 0 where
+  pub refused : Refuses e (outcome reading)
+  pub known : HasFault e
+
 -- the value in front, seen by the view, and what follows it; or the fault
 abbrev pub AnswersAs : {A V : Type 0} → (A → V) → Read V → Result (A × Bor (List ℕ)) Refusal → Type 0
 AnswersAs view reading (Ok p) = Gives reading (view p.0) p.1.now
-AnswersAs view reading (Err e) = Refuses e (outcome reading)
+AnswersAs view reading (Err e) = RefusesByFault e reading
 
 abbrev pub Answers : {A : Type 0} → Read A → Result (A × Bor (List ℕ)) Refusal → Type 0
 Answers reading result = AnswersAs (λ value. value) reading result
@@ -41,6 +47,17 @@ abbrev pub Skips : Read (Unit {0}) → Result (Bor (List ℕ)) Refusal → Type 
 Skips reading (Ok rest) = Gives reading tt rest.now
 Skips reading (Err e) = RefusesByCode e reading
 
+-- reading gives some value and leaves this rest
+pub record GivesRest {V : Type 0} (reading : Read V) (rest : List ℕ) : Type 0 where
+  pub value : V
+  pub read : reading ≡ got value (chars rest)
+  pub text : IsUtf8 rest
+
+-- what follows the value in front; or the fault
+abbrev pub Passes : {V : Type 0} → Read V → Result (Bor (List ℕ)) Refusal → Type 0
+Passes reading (Ok rest) = GivesRest reading rest.now
+Passes reading (Err e) = RefusesByFault e reading
+
 -- ---- numbers
 
 -- the fault; memory is taken for digits alone
@@ -54,9 +71,21 @@ AnswersNumber view reading (Ok p) = Gives reading (view p.0) p.1.now
 AnswersNumber view reading (Err e) = RefusesNumber e reading
 
 -- reading gives this number and leaves the rest; or the fault
-abbrev pub Judges : Read Number → List ℕ → Result Found Refusal → Type 0
-Judges reading rest (Ok number) = reading ≡ got (number_of number) rest
-Judges reading rest (Err e) = RefusesNumber e reading
+abbrev pub Judges : Read Number → List ℕ → Result Scanned Refusal → Type 0
+Judges reading rest (Ok number) = reading ≡ got (scanned_of number) rest
+Judges reading rest (Err e) = RefusesByFault e reading
+
+-- reading gives a number, of which this is the whole one if it is whole, and leaves this rest
+pub record GivesWhole (reading : Read Number) (found : Option ℤ) (rest : List ℕ) : Type 0 where
+  pub number : Number
+  pub read : reading ≡ got number (chars rest)
+  pub same : found ≡ whole_in number
+  pub text : IsUtf8 rest
+
+-- the number in front if it is whole, and what follows the number; or the fault
+abbrev pub AnswersWhole : Read Number → Result (Option ℤ × Bor (List ℕ)) Refusal → Type 0
+AnswersWhole reading (Ok p) = GivesWhole reading p.0 p.1.now
+AnswersWhole reading (Err e) = RefusesByFault e reading
 
 -- ---- texts
 

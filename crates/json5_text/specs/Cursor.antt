@@ -51,3 +51,8 @@ IsOffset input offset = (before rest : List ℕ) × (input ≡ before ++ rest) �
 -- the position at the offset
 abbrev pub IsPositionOf : List ℕ → ℕ → Position → Type 0
 IsPositionOf input offset position = (before rest : List ℕ) → input ≡ before ++ rest → offset ≡ length (encode_utf8_all before) → position ≡ position_after before
+
+-- the position at the offset, or that of the text's end where no character begins there
+pub record Locates (input : List ℕ) (offset : ℕ) (position : Position) : Type 0 where
+  pub inside : IsPositionOf input offset position
+  pub past : (IsOffset input offset → ⊥) → position ≡ position_after input

@@ -3,6 +3,7 @@ pub mod Outcome
 pub mod Refused
 pub mod Cursor
 pub mod Tokens
+pub mod Keys
 pub mod Takes
 pub mod NumberViews
 pub mod NumberPieces
@@ -15,9 +16,12 @@ pub mod Scan
 pub mod Answered
 pub mod Escapes
 pub mod Cows
+pub mod Bytes
 pub mod Compared
 pub mod NumberParts
 pub mod ValueViews
+pub mod ValueLookups
 pub mod ScanNames
 pub mod ScanNumbers
+pub mod ScanKeys
 pub mod ScanBlanks

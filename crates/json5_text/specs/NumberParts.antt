@@ -1,11 +1,22 @@
--- A decimal literal as code holds it. Private clauses and proofs alone cite it.
+-- A number in front of a text as code holds it. Private clauses and proofs alone cite it.
 use Rattle.std.specs.Prelude.{◌≡◌, ℕ, min, Bool, ℤ, pos, Option, Some, None, IfSome}
 use Rattle.std.specs.Option.{option_map}
 use Rattle.json5_grammar.specs.Characters.{is_digit, Each}
+use Rattle.json5_grammar.specs.Numbers as numbers
 use Rattle.json5_grammar.specs.Numbers.{signed, spelled}
 use Rattle.json5_grammar.specs.ReadNumbers.{Parts, is_whole}
 use Rattle.json5_text.specs.declared.numbers.Exponent.{Exponent}
 use Rattle.json5_text.specs.declared.numbers.Literal.{Literal}
+use Rattle.json5_text.specs.declared.numbers.Scanned.{Scanned}
+use Rattle.json5_text.specs.declared.numbers.Scanned.TheVariants as scanned
+
+abbrev pub scanned_of : Scanned → numbers.Number
+scanned_of (scanned.Whole z) = numbers.whole z
+scanned_of (scanned.Infinite m) = numbers.decimal (numbers.infinite m)
+scanned_of (scanned.NotANumber m) = numbers.decimal (numbers.nan m)
+scanned_of (scanned.Finite d) = numbers.decimal d
+
+-- ---- a decimal literal
 
 abbrev pub raised_of : Exponent → ℤ
 raised_of e = signed e.negative (spelled 10 0 e.digits.now)

@@ -1,5 +1,5 @@
 -- A number as the grammar has it.
-use Rattle.std.specs.Prelude.{Bool, true, false}
+use Rattle.std.specs.Prelude.{Bool, true, false, ℤ, Option, Some, None}
 use Rattle.json5_grammar.specs.Numbers as numbers
 use Rattle.json5_text.specs.declared.number.Number.{Number}
 use Rattle.json5_text.specs.declared.number.Number.TheVariants.{Whole, Decimal}
@@ -14,3 +14,8 @@ keeps_digits (numbers.whole z) = false
 keeps_digits (numbers.decimal (numbers.infinite m)) = false
 keeps_digits (numbers.decimal (numbers.nan m)) = false
 keeps_digits (numbers.decimal (numbers.finite m ds e)) = true
+
+-- the number, if it is whole
+abbrev pub whole_in : numbers.Number → Option ℤ
+whole_in (numbers.whole z) = Some z
+whole_in (numbers.decimal d) = None

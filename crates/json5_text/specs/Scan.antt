@@ -25,6 +25,14 @@ HasCode (refusal.TooLarge left) = ⊥
 HasCode (refusal.UnpairedSurrogate escape left) = ⊥
 HasCode refusal.OutOfMemory = ⊥
 
+-- a fault of the text, and not that memory ran out
+abbrev pub HasFault : Refusal → Type 0
+HasFault (refusal.Code c left) = ⊤
+HasFault (refusal.InvalidNumber left) = ⊤
+HasFault (refusal.TooLarge left) = ⊤
+HasFault (refusal.UnpairedSurrogate escape left) = ⊤
+HasFault refusal.OutOfMemory = ⊥
+
 -- so many bytes are left somewhere in what is unread
 pub record Leaves (s : Cursor) (left : ℕ) : Type 0 where
   pub passed : List ℕ

@@ -1,5 +1,5 @@
 -- What private clauses say of strings.
-use Rattle.std.specs.Prelude.{◌≡◌, ℕ, Bool, false, cond, ◌<◌, List, [], ◌∷◌, ◌++◌, length, Some, Result, Ok, Err}
+use Rattle.std.specs.Prelude.{◌≡◌, ℕ, Bool, true, false, cond, ◌<◌, List, [], ◌∷◌, ◌++◌, length, Some, Result, Ok, Err}
 use denote.Ref.{Bor}
 use Rattle.std.specs.Str.{IsUtf8, chars, encode_utf8_all}
 use Rattle.json5_grammar.specs.Characters.{backslash, Each}
@@ -18,6 +18,17 @@ use Rattle.json5_text.specs.Answered.{RefusesByCode}
 unfoldable pub string_at : List ℕ → Read (List ℕ × Bool)
 string_at [] = bad (Some EofParsingString) inner
 string_at (c ∷ r) = cond (is_quote c) (string (c ∷ r)) (bad (Some ExpectedString) (here (c ∷ r)))
+
+-- the quote q opens a string at the front of x, and the body follows it
+pub record IsOpened (x : List ℕ) (q : ℕ) (body : List ℕ) : Type 0 where
+  pub quote : is_quote q ≡ true
+  pub read : string_at x ≡ string (q ∷ chars body)
+  pub text : IsUtf8 body
+
+-- the quote in front and what follows it; or the fault
+abbrev pub AnswersQuote : List ℕ → Result (ℕ × Bor (List ℕ)) Refusal → Type 0
+AnswersQuote x (Ok p) = IsOpened x p.0 p.1.now
+AnswersQuote x (Err e) = RefusesByCode e (string_at x)
 
 -- a run of a string in the quotes q ends before x
 abbrev pub StopsAt : ℕ → List ℕ → StringStop → Type 0

@@ -1,21 +1,23 @@
 -- What each call of the scanner promises: a token in front is taken whole, or refused with one of its faults, and then nothing is taken.
-use Rattle.std.specs.Prelude.{◌≡◌, ℕ, Bool, true, false, List, ◌∷◌, ◌++◌, ◌⊎◌, Result, String, string_bytes, IfOk, IfErr, OnOk, OnErr, IsOk}
+use Rattle.std.specs.Prelude.{◌≡◌, ℕ, Bool, true, false, List, ◌∷◌, ◌++◌, ◌⊎◌, ℤ, Option, Result, String, string_bytes, IfOk, IfErr, OnOk, OnErr, IsOk}
 use Rattle.std.specs.Str.{encode_utf8_all}
 use Rattle.json5_grammar.specs.declared.code.ErrorCode.{ErrorCode}
 use Rattle.json5_grammar.specs.Characters.{NotBegun}
 use Rattle.json5_grammar.specs.Blanks.{Gap, Solid}
-use Rattle.json5_grammar.specs.Names.{Ident, goes_on_name}
+use Rattle.json5_grammar.specs.Names.{Ident, Key, goes_on_name}
 use Rattle.json5_grammar.specs.Numbers as numbers
 use Rattle.json5_grammar.specs.Numbers.{Num}
 use Rattle.json5_grammar.specs.Stops.{lengthens}
 use Rattle.json5_grammar.specs.Strings.{Str}
 use Rattle.json5_text.specs.declared.cow_str.CowStr.{CowStr}
 use Rattle.json5_text.specs.declared.error.Error.{Error}
+use Rattle.json5_text.specs.declared.key_text.KeyText.{KeyText}
 use Rattle.json5_text.specs.declared.number.Number.{Number}
 use Rattle.json5_text.specs.Cows.{cow_bytes, is_borrowed}
 use Rattle.json5_text.specs.Cursor.{Cursor, Refused, Took, IsOutOfMemory}
-use Rattle.json5_text.specs.NumberViews.{number_of, keeps_digits}
-use Rattle.json5_text.specs.Tokens.{FaultyBlanks, FaultyWord, FaultyNumber, FaultyString, FaultyName}
+use Rattle.json5_text.specs.Keys.{KeyIs}
+use Rattle.json5_text.specs.NumberViews.{number_of, keeps_digits, whole_in}
+use Rattle.json5_text.specs.Tokens.{FaultyBlanks, FaultyWord, FaultyNumber, FaultyString, FaultyName, FaultyKey}
 
 -- blanks are passed over, up to what is none
 pub record PassesBlanks (old new : Cursor) (result : Result (Unit {0}) Error) : Type 0 where
@@ -56,3 +58,35 @@ pub record TakesName (old new : Cursor) (result : Result CowStr Error) : Type 0 
   pub refused : IfErr result (λ e. IsOutOfMemory e ⊎ Refused FaultyName old e)
   pub kept : OnErr result (new ≡ old)
   pub plain : (s u r : List ℕ) (c : ℕ) → old.unread ≡ s ++ c ∷ r → Ident s u true → goes_on_name c ≡ false → IsOk result
+
+-- a key is taken; memory is taken where its text isn't plain, and at a refusal
+pub record TakesKey (old new : Cursor) (result : Result KeyText Error) : Type 0 where
+  pub taken : IfOk result (λ k. (s u : List ℕ) × (plain : Bool) × Took old s new × Key s new.unread u plain × KeyIs old.input u plain k)
+  pub refused : IfErr result (λ e. IsOutOfMemory e ⊎ Refused FaultyKey old e)
+  pub kept : OnErr result (new ≡ old)
+  pub complete : (s u r : List ℕ) (plain : Bool) → old.unread ≡ s ++ r → Key s r u plain → IfErr result IsOutOfMemory
+  pub plain : (s u r : List ℕ) → old.unread ≡ s ++ r → Key s r u true → IsOk result
+
+-- ---- tokens that are passed over; memory is taken at a refusal alone
+
+-- a string is passed over
+pub record PassesString (old new : Cursor) (result : Result (Unit {0}) Error) : Type 0 where
+  pub taken : OnOk result ((s u : List ℕ) × (plain : Bool) × Took old s new × Str s u plain)
+  pub refused : IfErr result (λ e. IsOutOfMemory e ⊎ Refused FaultyString old e)
+  pub kept : OnErr result (new ≡ old)
+  pub memory : (s u r : List ℕ) (plain : Bool) → old.unread ≡ s ++ r → Str s u plain → IsOk result
+
+-- a name is passed over as far as it goes
+pub record PassesName (old new : Cursor) (result : Result (Unit {0}) Error) : Type 0 where
+  pub taken : OnOk result ((s u : List ℕ) × (plain : Bool) × Took old s new × Ident s u plain)
+  pub stops : OnOk result ((c : ℕ) × (r : List ℕ) × (new.unread ≡ c ∷ r) × (goes_on_name c ≡ false))
+  pub refused : IfErr result (λ e. IsOutOfMemory e ⊎ Refused FaultyName old e)
+  pub kept : OnErr result (new ≡ old)
+  pub memory : (s u r : List ℕ) (c : ℕ) (plain : Bool) → old.unread ≡ s ++ c ∷ r → Ident s u plain → goes_on_name c ≡ false → IsOk result
+
+-- a number is passed over, and the answer is the number if it is whole
+pub record PassesNumber (old new : Cursor) (result : Result (Option ℤ) Error) : Type 0 where
+  pub taken : IfOk result (λ found. (s : List ℕ) × (n : numbers.Number) × Took old s new × Num s n × NotBegun (lengthens s) new.unread × (found ≡ whole_in n))
+  pub refused : IfErr result (λ e. IsOutOfMemory e ⊎ Refused FaultyNumber old e)
+  pub kept : OnErr result (new ≡ old)
+  pub memory : (s r : List ℕ) (n : numbers.Number) → old.unread ≡ s ++ r → Num s n → NotBegun (lengthens s) r → IsOk result

@@ -1,8 +1,8 @@
 -- What is refused where a token is expected: the token's own faults, and what begins no such token.
-use Rattle.std.specs.Prelude.{◌≡◌, ◌≢◌, ℕ, false, ◌||◌, ◌==◌, List, [], ◌∷◌, ◌++◌, Option, Some, None}
+use Rattle.std.specs.Prelude.{◌≡◌, ◌≢◌, ℕ, true, false, ◌||◌, ◌==◌, List, [], ◌∷◌, ◌++◌, Option, Some, None}
 use Rattle.json5_grammar.specs.declared.code.ErrorCode.{ErrorCode}
 use Rattle.json5_grammar.specs.declared.code.ErrorCode.TheVariants.{EofParsingIdentifier, EofParsingNumber, EofParsingString, ExpectedIdentifier, ExpectedNumber, ExpectedString}
-use Rattle.json5_grammar.specs.Characters.{backslash, is_identifier_start}
+use Rattle.json5_grammar.specs.Characters.{backslash, is_identifier_start, NotBegun}
 use Rattle.json5_grammar.specs.Codes.{Shown}
 use Rattle.json5_grammar.specs.Blanks.{BlankFault}
 use Rattle.json5_grammar.specs.NumberFaults.{NumberFault, is_sign, begins_number}
@@ -39,3 +39,8 @@ pub data FaultyName : List ℕ → Option ErrorCode → Option (List ℕ) → Ty
   no_name : (c : ℕ) (r : List ℕ) → ((c == backslash) || is_identifier_start c) ≡ false → FaultyName (c ∷ r) (Some ExpectedIdentifier) (Some [])
   -- EofParsingIdentifier at the end
   name_missing : FaultyName [] (Some EofParsingIdentifier) None
+
+-- at a quote the faults of a string, else those of an identifier
+pub data FaultyKey (x : List ℕ) (reason : Option ErrorCode) (place : Option (List ℕ)) : Type 0 where
+  at_quote : (q : ℕ) (r : List ℕ) → x ≡ q ∷ r → is_quote q ≡ true → FaultyString x reason place → FaultyKey x reason place
+  at_name : NotBegun is_quote x → FaultyName x reason place → FaultyKey x reason place

@@ -1,13 +1,14 @@
 //! Numbers of any count of decimal digits, kept as these digits.
 
-ghost use Rattle.std.specs.Prelude.{◌≡◌, ◌≤◌, ◌-◌, string_bytes, ◌++◌, ◌↔◌, pos, ◌+ℤ◌, reverse, length, IsSome, IfSome, IfOk, MatchResult, Some, FitsSigned};
+ghost use Rattle.std.specs.Prelude.{◌≡◌, ◌≤◌, ◌-◌, string_bytes, ◌++◌, ◌↔◌, pos, ◌+ℤ◌, reverse, length, IsSome, IfSome, IfOk, MatchResult, Some, true, FitsSigned};
 ghost use Rattle.std.specs.Int.{w128};
 ghost use Rattle.json5_grammar.specs.Characters.{is_digit, Each};
 ghost use Rattle.json5_grammar.specs.Numbers as numbers;
 ghost use Rattle.json5_grammar.specs.NumberText.{decimal_text};
 ghost use Rattle.json5_text.specs.Errors.{LacksMemory};
-ghost use Rattle.json5_text.specs.NumberDecimals.{is_minus, is_infinity, is_not_a_number, digits_in, exponent_in, Shows, IsInRange, IsFiniteIfInRange, IsFiniteOf};
+ghost use Rattle.json5_text.specs.NumberDecimals.{is_minus, is_infinity, is_not_a_number, digits_in, exponent_in, Shows, IsFiniteIfInRange, IsFiniteOf};
 ghost use Rattle.json5_text.specs.NumberSteps.{raised, IsSmallExponent};
+ghost use Rattle.json5_text.specs.NumberViews.{keeps_digits};
 
 use crate::error::Result;
 use crate::pieces::Pieces;
@@ -99,6 +100,65 @@ fn joined(alloc: Global, first: &str, last: &str) -> std::result::Result<String,
     Ok(text)
 }
 
+/// A finite decimal in normal form whose digits stand in two texts, one after the other.
+#[derive(Drop)]
+pub(crate) struct DecimalRef<'a> {
+    negative: bool,
+    first: &'a str,
+    last: &'a str,
+    exponent: i16,
+}
+
+impl<'a> Model for DecimalRef<'a> {
+    ghost use Rattle.std.specs.Prelude.{◌++◌};
+    ghost use Rattle.json5_grammar.specs.Numbers as numbers;
+    ghost use Rattle.json5_grammar.specs.NumberText.{IsNormal};
+
+    ghost Value = { numbers.Decimal };
+
+    ghost view = { λ d. numbers.finite d.negative (d.first.now ++ d.last.now) d.exponent };
+
+    ghost invariant = { λ d. IsNormal (d.first.now ++ d.last.now) d.exponent };
+}
+
+impl<'a> DecimalRef<'a> {
+    /// The finite number with these digits, the first part before the second, times ten to the exponent;
+    /// none where the exponent is out of range once the outer zeros are gone.
+    pub(crate) fn new(
+        negative: bool,
+        before: &'a str,
+        after: &'a str,
+        exponent: i128,
+    ) -> Option<DecimalRef<'a>>
+        requires before_digits { Each is_digit before.now }
+        requires after_digits { Each is_digit after.now }
+        requires small { IsSmallExponent exponent }
+        ensures { IsFiniteIfInRange negative (before.now ++ after.now) exponent result }
+    {
+        let (front, back) = without_front_zeros(before, after);
+        let (first, last) = without_back_zeros(front, back);
+        let count = front.len() + back.len();
+        let exponent = bare_exponent(exponent, count, first.len() + last.len())?;
+        Some(DecimalRef {
+            negative,
+            first,
+            last,
+            exponent,
+        })
+    }
+
+    /// The same number with its digits in memory of its own.
+    pub(crate) fn to_decimal(&self, alloc: Global) -> std::result::Result<Decimal, AllocError>
+        ensures { MatchResult result (λ d. d ≡ self.now) (λ _. keeps_digits (numbers.decimal self.now) ≡ true) }
+    {
+        let digits = joined(alloc, self.first, self.last)?;
+        Ok(Decimal {
+            negative: self.negative,
+            size: Size::Finite(digits, self.exponent),
+        })
+    }
+}
+
 impl Decimal {
     /// Infinity, after a minus where `negative`. Takes no memory.
     pub fn infinity(negative: bool) -> Decimal
@@ -120,33 +180,6 @@ impl Decimal {
         }
     }
 
-    /// The finite number with these digits, the first part before the second, times ten to the exponent;
-    /// none where the exponent is out of range once the outer zeros are gone.
-    pub(crate) fn normal(
-        alloc: Global,
-        negative: bool,
-        before: &str,
-        after: &str,
-        exponent: i128,
-    ) -> std::result::Result<Option<Decimal>, AllocError>
-        requires before_digits { Each is_digit before.now }
-        requires after_digits { Each is_digit after.now }
-        requires small { IsSmallExponent exponent }
-        ensures { MatchResult result (IsFiniteIfInRange negative (before.now ++ after.now) exponent) (λ _. IsInRange (before.now ++ after.now) exponent) }
-    {
-        let (front, back) = without_front_zeros(before, after);
-        let (first, last) = without_back_zeros(front, back);
-        let count = front.len() + back.len();
-        let Some(exponent) = bare_exponent(exponent, count, first.len() + last.len()) else {
-            return Ok(None);
-        };
-        let digits = joined(alloc, first, last)?;
-        Ok(Some(Decimal {
-            negative,
-            size: Size::Finite(digits, exponent),
-        }))
-    }
-
     /// The finite number with these digits times ten to the exponent. None where `digits` holds anything but
     /// ASCII digits, or where the exponent is outside -32768 to 32767 once the outer zeros are gone: each zero
     /// that goes at the end raises it by one, and zero has the exponent 0. The only fault is `OutOfMemory`.
@@ -166,8 +199,10 @@ impl Decimal {
         if !rest.is_empty() {
             return Ok(None);
         }
-        let found = Decimal::normal(alloc, negative, digits, "", i128::from(exponent))?;
-        Ok(found)
+        let Some(found) = DecimalRef::new(negative, digits, "", i128::from(exponent)) else {
+            return Ok(None);
+        };
+        Ok(Some(found.to_decimal(alloc)?))
     }
 
     /// Whether it has a minus, which zero and not-a-number may have too.

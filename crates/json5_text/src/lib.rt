@@ -2,14 +2,20 @@
 #![tactic(auto)]
 
 mod blanks;
+pub mod byte_buf;
 pub mod char;
+mod copies;
 pub mod cow_str;
 pub mod decimal;
 pub mod error;
 mod escapes;
 mod front;
 pub mod input;
+pub mod key_text;
+mod keys;
+pub mod lookup;
 mod names;
+mod nesting;
 pub mod number;
 mod numbers;
 pub mod pieces;

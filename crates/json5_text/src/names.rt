@@ -4,7 +4,7 @@ ghost use Rattle.std.specs.Prelude.{◌≡◌, ◌∷◌, string_bytes};
 ghost use Rattle.std.specs.Str.{chars};
 ghost use Rattle.json5_grammar.specs.Characters.{backslash};
 ghost use Rattle.json5_grammar.specs.ReadTexts.{name_escape, identifier};
-ghost use Rattle.json5_text.specs.Answered.{Answers, AnswersCow, AnswersMore};
+ghost use Rattle.json5_text.specs.Answered.{Answers, AnswersCow, AnswersMore, Passes};
 ghost use Rattle.json5_text.specs.Scan.{SkipsAll};
 ghost use Rattle.json5_text.specs.ScanNames.{fits, is_raw_part, name_at, item, AnswersRun, PutsEscape};
 
@@ -53,6 +53,26 @@ pub(crate) fn read_name<'t>(alloc: Global, text: &'t str) -> Result<(CowStr<'t>,
     }
 }
 
+/// What follows the name in front.
+pub(crate) fn skip_name(text: &str) -> Result<&str, Refusal>
+    ensures { Passes (identifier (chars text.now)) result }
+{
+    let Some((c, rest)) = front(text) else {
+        return Err(Refusal::Code(ErrorCode::EofParsingIdentifier, None));
+    };
+    if c == '\\' {
+        return skip_escaped(true, text, rest);
+    }
+    if !is_json5_identifier_start(c) {
+        return Err(Refusal::Code(ErrorCode::ExpectedIdentifier, Some(text.len())));
+    }
+    let (_, stop) = read_parts(rest)?;
+    match stop {
+        NameStop::End(end) => Ok(end),
+        NameStop::Escape(escape, after) => skip_escaped(false, escape, after),
+    }
+}
+
 /// The rest of a name from its first escape on, whose text begins with `raw`: the name, and what follows it. `is_first` says
 /// that the name begins with the escape.
 fn read_escaped<'t>(
@@ -72,6 +92,28 @@ fn read_escaped<'t>(
     loop {
         match put_escape(&mut name, is_first, escape, after)? {
             NameStop::End(end) => return Ok((name, end)),
+            NameStop::Escape(next, after_next) => {
+                is_first = false;
+                escape = next;
+                after = after_next;
+            }
+        }
+    }
+}
+
+/// What follows a name, from its first escape on. `is_first` says that the name begins with the escape.
+fn skip_escaped<'t>(is_first: bool, escape: &'t str, after: &'t str) -> Result<&'t str, Refusal>
+    requires { chars escape.now ≡ backslash ∷ chars after.now }
+    ensures { Passes (name_at is_first (chars escape.now)) result }
+{
+    let mut is_first = is_first;
+    let mut escape = escape;
+    let mut after = after;
+    loop {
+        let (_, rest) = read_item(is_first, escape, after)?;
+        let (_, stop) = read_parts(rest)?;
+        match stop {
+            NameStop::End(end) => return Ok(end),
             NameStop::Escape(next, after_next) => {
                 is_first = false;
                 escape = next;

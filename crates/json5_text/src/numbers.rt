@@ -9,13 +9,13 @@ ghost use Rattle.json5_grammar.specs.Stops as stops;
 ghost use Rattle.json5_grammar.specs.Reading.{got, bad, here};
 ghost use Rattle.json5_grammar.specs.ReadNumbers as model;
 ghost use Rattle.json5_grammar.specs.NumberSteps.{checked};
-ghost use Rattle.json5_text.specs.Answered.{AnswersNumber, Judges};
-ghost use Rattle.json5_text.specs.NumberViews.{number_of};
-ghost use Rattle.json5_text.specs.NumberParts.{raised_of, parts_of, signed_limited, limited_exponent, is_whole_literal, HasExponentDigits, HasDigits, ReadsLiteral};
+ghost use Rattle.json5_text.specs.Answered.{AnswersAs, AnswersNumber, AnswersWhole, Judges};
+ghost use Rattle.json5_text.specs.NumberViews.{number_of, keeps_digits, whole_in};
+ghost use Rattle.json5_text.specs.NumberParts.{scanned_of, raised_of, parts_of, signed_limited, limited_exponent, is_whole_literal, HasExponentDigits, HasDigits, ReadsLiteral};
 ghost use Rattle.json5_text.specs.NumberSteps.{IsSmallExponent};
 ghost use Rattle.json5_text.specs.ScanNumbers.{GivesHex, Overflows};
 
-use crate::decimal::Decimal;
+use crate::decimal::{Decimal, DecimalRef};
 use crate::front::front;
 use crate::number::Number;
 use crate::refusal::Refusal;
@@ -23,7 +23,42 @@ use crate::runs::{split_digits, split_run};
 use crate::whole::Whole;
 use crate::words::skip_word;
 use json5_grammar::code::ErrorCode;
-use std::alloc::Global;
+use std::alloc::{AllocError, Global};
+
+/// A number in front of a text, in which a finite decimal's digits stand.
+#[derive(Drop)]
+enum Scanned<'t> {
+    Whole(Whole),
+    /// Infinity, after a minus or not.
+    Infinite(bool),
+    /// Not-a-number, after a minus or not.
+    NotANumber(bool),
+    Finite(DecimalRef<'t>),
+}
+
+impl<'t> Scanned<'t> {
+    /// The same number in memory of its own.
+    fn to_number(&self, alloc: Global) -> Result<Number, AllocError>
+        ensures { MatchResult result (λ n. number_of n ≡ scanned_of self.now) (λ _. keeps_digits (scanned_of self.now) ≡ true) }
+    {
+        match self {
+            Scanned::Whole(whole) => Ok(Number::Whole(*whole)),
+            Scanned::Infinite(negative) => Ok(Number::Decimal(Decimal::infinity(*negative))),
+            Scanned::NotANumber(negative) => Ok(Number::Decimal(Decimal::nan(*negative))),
+            Scanned::Finite(decimal) => Ok(Number::Decimal(decimal.to_decimal(alloc)?)),
+        }
+    }
+
+    /// The number, if it is whole.
+    fn whole(&self) -> Option<Whole>
+        ensures { result ≡ whole_in (scanned_of self.now) }
+    {
+        match self {
+            Scanned::Whole(whole) => Some(*whole),
+            Scanned::Infinite(_) | Scanned::NotANumber(_) | Scanned::Finite(_) => None,
+        }
+    }
+}
 
 // ---- hexadecimal numbers
 
@@ -56,7 +91,7 @@ fn hexadecimal_digits(text: &str) -> Result<(u128, &str), &str>
 
 /// What stands after `0x`; `start` is the text from the number's start.
 fn hexadecimal<'t>(start: &str, negative: bool, text: &'t str) -> Result<(Whole, &'t str), Refusal>
-    ensures { AnswersNumber numbers.whole (model.hexadecimal (chars start.now) negative (chars text.now)) result }
+    ensures { AnswersAs numbers.whole (model.hexadecimal (chars start.now) negative (chars text.now)) result }
 {
     let Some((first, _)) = front(text) else {
         return Err(Refusal::Code(ErrorCode::EofParsingNumber, None));
@@ -277,38 +312,34 @@ fn whole_number(negative: bool, literal: &Literal) -> Option<Whole>
 }
 
 /// The number that a literal means; `start` is the text from the number's start.
-fn judge(alloc: Global, start: &str, negative: bool, literal: &Literal) -> Result<Number, Refusal>
+fn judge<'t>(start: &str, negative: bool, literal: &Literal<'t>) -> Result<Scanned<'t>, Refusal>
     requires { HasDigits literal.now }
     ensures { (rest : List ℕ) → Judges (model.if_literal (chars start.now) negative rest (Some (parts_of literal.now))) rest result }
 {
     if let Some(whole) = whole_number(negative, literal) {
-        return Ok(Number::Whole(whole));
+        return Ok(Scanned::Whole(whole));
     }
     let after = digits_after(literal);
     let exponent = lowered_exponent(literal, after.len());
-    let Ok(found) = Decimal::normal(alloc, negative, literal.before, after, exponent) else {
-        return Err(Refusal::OutOfMemory);
-    };
-    let Some(decimal) = found else {
+    let Some(decimal) = DecimalRef::new(negative, literal.before, after, exponent) else {
         return Err(Refusal::Code(ErrorCode::OverflowParsingNumber, Some(start.len())));
     };
-    Ok(Number::Decimal(decimal))
+    Ok(Scanned::Finite(decimal))
 }
 
 /// The decimal run in front, which begins a number, and what follows it.
 fn decimal_run<'t>(
-    alloc: Global,
     start: &str,
     negative: bool,
     text: &'t str,
-) -> Result<(Number, &'t str), Refusal>
-    ensures { AnswersNumber number_of (model.decimal_run (chars start.now) negative (chars text.now)) result }
+) -> Result<(Scanned<'t>, &'t str), Refusal>
+    ensures { AnswersAs scanned_of (model.decimal_run (chars start.now) negative (chars text.now)) result }
 {
     let (run, rest) = split_run(text);
     let Some(literal) = read_literal(run) else {
         return Err(Refusal::InvalidNumber(start.len()));
     };
-    let number = judge(alloc, start, negative, &literal)?;
+    let number = judge(start, negative, &literal)?;
     Ok((number, rest))
 }
 
@@ -336,37 +367,40 @@ fn is_decimal_digit(c: char) -> bool
 
 /// What begins with `0`; `rest` is what follows it.
 fn after_zero<'t>(
-    alloc: Global,
     start: &str,
     negative: bool,
     text: &'t str,
     rest: &'t str,
-) -> Result<(Number, &'t str), Refusal>
+) -> Result<(Scanned<'t>, &'t str), Refusal>
     requires zero { chars text.now ≡ digit_zero ∷ chars rest.now }
     requires text { IsUtf8 rest.now }
-    ensures { AnswersNumber number_of (model.at_zero (chars start.now) negative (chars rest.now)) result }
+    ensures { AnswersAs scanned_of (model.at_zero (chars start.now) negative (chars rest.now)) result }
 {
     let Some((c, after)) = front(rest) else {
-        return Ok((Number::Whole(Whole::from_u128(0)), rest));
+        return Ok((Scanned::Whole(Whole::from_u128(0)), rest));
     };
     if is_decimal_digit(c) {
         return Err(Refusal::Code(ErrorCode::LeadingZero, Some(start.len())));
     }
     if begins_hexadecimal(c) {
         return match hexadecimal(start, negative, after) {
-            Ok((number, rest)) => Ok((Number::Whole(number), rest)),
+            Ok((number, rest)) => Ok((Scanned::Whole(number), rest)),
             Err(refusal) => Err(refusal),
         };
     }
     if continues_zero(c) {
-        return decimal_run(alloc, start, negative, text);
+        return decimal_run(start, negative, text);
     }
-    Ok((Number::Whole(Whole::from_u128(0)), rest))
+    Ok((Scanned::Whole(Whole::from_u128(0)), rest))
 }
 
 /// The number that is a word, and what follows the word's other letters.
-fn word<'t>(number: Decimal, letters: &str, text: &'t str) -> Result<(Number, &'t str), Refusal>
-    ensures { AnswersNumber number_of (model.word (numbers.decimal number) (chars letters.now) (chars text.now)) result }
+fn word<'t>(
+    number: Scanned<'t>,
+    letters: &str,
+    text: &'t str,
+) -> Result<(Scanned<'t>, &'t str), Refusal>
+    ensures { AnswersAs scanned_of (model.word (scanned_of number.entry) (chars letters.now) (chars text.now)) result }
 {
     match skip_word(
         letters,
@@ -374,7 +408,7 @@ fn word<'t>(number: Decimal, letters: &str, text: &'t str) -> Result<(Number, &'
         ErrorCode::EofParsingNumber,
         ErrorCode::ExpectedNumber,
     ) {
-        Ok(rest) => Ok((Number::Decimal(number), rest)),
+        Ok(rest) => Ok((number, rest)),
         Err(refusal) => Err(refusal),
     }
 }
@@ -388,43 +422,59 @@ fn begins_run(c: char) -> bool
 
 /// A number without its sign; `start` is the text from the sign on, if there is one.
 fn unsigned<'t>(
-    alloc: Global,
     start: &str,
     negative: bool,
     text: &'t str,
-) -> Result<(Number, &'t str), Refusal>
-    ensures { AnswersNumber number_of (model.unsigned (chars start.now) negative (chars text.now)) result }
+) -> Result<(Scanned<'t>, &'t str), Refusal>
+    ensures { AnswersAs scanned_of (model.unsigned (chars start.now) negative (chars text.now)) result }
 {
     let Some((first, rest)) = front(text) else {
         return Err(Refusal::Code(ErrorCode::EofParsingNumber, None));
     };
     if first == 'I' {
-        return word(Decimal::infinity(negative), "nfinity", rest);
+        return word(Scanned::Infinite(negative), "nfinity", rest);
     }
     if first == 'N' {
-        return word(Decimal::nan(negative), "aN", rest);
+        return word(Scanned::NotANumber(negative), "aN", rest);
     }
     if first == '0' {
-        return after_zero(alloc, start, negative, text, rest);
+        return after_zero(start, negative, text, rest);
     }
     if begins_run(first) {
-        return decimal_run(alloc, start, negative, text);
+        return decimal_run(start, negative, text);
     }
     Err(Refusal::Code(ErrorCode::ExpectedNumber, Some(text.len())))
+}
+
+/// The number in front with its digits where they stand, and what follows it.
+fn scan(text: &str) -> Result<(Scanned<'_>, &str), Refusal>
+    ensures { AnswersAs scanned_of (model.number (chars text.now)) result }
+{
+    let Some((sign, rest)) = front(text) else {
+        return Err(Refusal::Code(ErrorCode::EofParsingNumber, None));
+    };
+    if sign == '+' {
+        return unsigned(text, false, rest);
+    }
+    if sign == '-' {
+        return unsigned(text, true, rest);
+    }
+    unsigned(text, false, text)
 }
 
 /// The number in front, and what follows it. Whole numbers, infinity and not-a-number take no memory.
 pub(crate) fn number(alloc: Global, text: &str) -> Result<(Number, &str), Refusal>
     ensures { AnswersNumber number_of (model.number (chars text.now)) result }
 {
-    let Some((sign, rest)) = front(text) else {
-        return Err(Refusal::Code(ErrorCode::EofParsingNumber, None));
-    };
-    if sign == '+' {
-        return unsigned(alloc, text, false, rest);
-    }
-    if sign == '-' {
-        return unsigned(alloc, text, true, rest);
-    }
-    unsigned(alloc, text, false, text)
+    let (scanned, rest) = scan(text)?;
+    let number = scanned.to_number(alloc)?;
+    Ok((number, rest))
+}
+
+/// The number in front if it is whole, and what follows the number, whole or not.
+pub(crate) fn skip_number(text: &str) -> Result<(Option<Whole>, &str), Refusal>
+    ensures { AnswersWhole (model.number (chars text.now)) result }
+{
+    let (scanned, rest) = scan(text)?;
+    Ok((scanned.whole(), rest))
 }

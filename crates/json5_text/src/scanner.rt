@@ -1,24 +1,28 @@
 //! The scanner: the tokens of a text, one after another.
 
-ghost use Rattle.std.specs.Prelude.{◌≡◌, ℕ, List, [], ◌∷◌, ◌++◌, true, false, ◌==◌, ◌⊎◌, length, drop, Some, slice_get, IsTrue};
+ghost use Rattle.std.specs.Prelude.{◌≡◌, ℕ, Bool, List, [], ◌∷◌, ◌++◌, true, false, ◌==◌, ◌⊎◌, length, drop, Some, slice_get, IsTrue};
 ghost use Rattle.std.specs.Str.{all_scalars, chars, encode_utf8_all};
 ghost use Rattle.json5_grammar.specs.Characters.{NotBegun};
-ghost use Rattle.json5_grammar.specs.Positions.{position_after};
-ghost use Rattle.json5_text.specs.Cursor.{Cursor, offset_of, Took, IsOutOfMemory, IsOffset, IsPositionOf};
+ghost use Rattle.json5_text.specs.Cursor.{Cursor, offset_of, Took, IsOutOfMemory, Locates};
+ghost use Rattle.json5_text.specs.Cows.{cow_bytes, is_borrowed};
 ghost use Rattle.json5_text.specs.Errors.{IsCustomAt};
+ghost use Rattle.json5_text.specs.Keys.{StandsAt, KeyIs};
 ghost use Rattle.json5_text.specs.Scan.{InText, Leaves, LeavesAt, InUnread, IsWhere, MadeOf};
-ghost use Rattle.json5_text.specs.Takes.{PassesBlanks, TakesWord, TakesNumber, TakesOwned, TakesString, TakesName};
+ghost use Rattle.json5_text.specs.Takes.{PassesBlanks, TakesWord, TakesNumber, TakesOwned, TakesString, TakesName, TakesKey, PassesString, PassesName, PassesNumber};
 
 use crate::blanks::skip_blank;
 use crate::cow_str::CowStr;
 use crate::error::{Error, Result};
 use crate::front::front;
 use crate::input::{Borrows, Input};
-use crate::names::read_name;
+use crate::key_text::KeyText;
+use crate::keys::read_key;
+use crate::names::{read_name, skip_name};
 use crate::number::Number;
-use crate::numbers::number;
+use crate::numbers::{number, skip_number};
 use crate::refusal::Refusal;
-use crate::strings::{read_string, read_string_owned};
+use crate::strings::{read_string, read_string_owned, skip_string};
+use crate::whole::Whole;
 use crate::words::skip_word;
 use json5_grammar::code::ErrorCode;
 use json5_grammar::position::Position;
@@ -30,7 +34,8 @@ use std::marker::Model;
 /// followed by any other. No call passes over blanks but `skip_blank`.
 ///
 /// Memory is taken for a finite decimal, for a text or a name with an escape, for the text of `string_owned`, and for a custom
-/// fault; where it runs out, the fault is `OutOfMemory` without a place.
+/// fault; `skip_string`, `skip_identifier` and `skip_number` take it for a custom fault alone. Where it runs out, the fault is
+/// `OutOfMemory` without a place.
 #[derive(Drop)]
 pub struct Scanner<I: Input> {
     input: I,
@@ -165,11 +170,75 @@ impl<I: Input> Scanner<I> {
         Ok(text)
     }
 
+    /// Takes a key: a string or an identifier (JSON5 section 3). A text without a backslash takes no memory. A character must
+    /// follow an identifier.
+    ///
+    /// The faults are those of `string` where a quote begins the key, else those of `identifier`.
+    pub fn key(&mut self) -> Result<KeyText>
+        ensures { TakesKey self.old self.new result }
+    {
+        let (key, left) = match read_key(self.alloc, self.end, self.rest(self.input.as_text())) {
+            Ok((key, rest)) => (key, rest.len()),
+            Err(refusal) => return Err(self.fault(refusal)),
+        };
+        self.leave_unread(left);
+        Ok(key)
+    }
+
+    /// The text of a key that this scanner took. Of another scanner's key it may be any part of the text that is read, or empty
+    /// where the key's offsets are no places between characters.
+    pub fn text_of<'t>(&'t self, key: &'t KeyText) -> &'t str
+        ensures { (u : List ℕ) (plain : Bool) → KeyIs self.now.input u plain key.now → result.now ≡ encode_utf8_all u }
+    {
+        match key {
+            KeyText::Plain { start, end } => between(self.input.as_text(), *start, *end),
+            KeyText::Escaped(text) => text.as_str(),
+        }
+    }
+
+    /// Takes a string as `string` does, and makes no text of it: only a custom fault takes memory. The faults are those of
+    /// `string`.
+    pub fn skip_string(&mut self) -> Result<()>
+        ensures { PassesString self.old self.new result }
+    {
+        let left = match skip_string(self.rest(self.input.as_text())) {
+            Ok(rest) => rest.len(),
+            Err(refusal) => return Err(self.fault(refusal)),
+        };
+        self.leave_unread(left);
+        Ok(())
+    }
+
+    /// Takes an identifier as `identifier` does, and makes no text of it: only a custom fault takes memory. The faults are
+    /// those of `identifier`.
+    pub fn skip_identifier(&mut self) -> Result<()>
+        ensures { PassesName self.old self.new result }
+    {
+        let left = match skip_name(self.rest(self.input.as_text())) {
+            Ok(rest) => rest.len(),
+            Err(refusal) => return Err(self.fault(refusal)),
+        };
+        self.leave_unread(left);
+        Ok(())
+    }
+
+    /// Takes a number as `number` does, and gives it if it is whole, None for a decimal. No digits are kept: only a custom
+    /// fault takes memory. The faults are those of `number`.
+    pub fn skip_number(&mut self) -> Result<Option<Whole>>
+        ensures { PassesNumber self.old self.new result }
+    {
+        let (whole, left) = match skip_number(self.rest(self.input.as_text())) {
+            Ok((whole, rest)) => (whole, rest.len()),
+            Err(refusal) => return Err(self.fault(refusal)),
+        };
+        self.leave_unread(left);
+        Ok(whole)
+    }
+
     /// The position of an offset in bytes, or that of the text's end where no character begins at the offset. Line and column
     /// count from 0, the column in characters.
     pub fn position_of(&self, offset: usize) -> Position
-        ensures inside { IsPositionOf self.now.input offset result }
-        ensures past { (IsOffset self.now.input offset → ⊥) → result ≡ position_after self.now.input }
+        ensures { Locates self.now.input offset result }
     {
         let _end = self.end;
         let text = self.input.as_text();
@@ -242,6 +311,13 @@ impl<I: Input> Scanner<I> {
     }
 }
 
+/// The part of a text between two offsets in bytes; the empty text where they are no places between characters, in order.
+fn between(text: &str, start: usize, end: usize) -> &str
+    ensures { (u : List ℕ) → StandsAt (chars text.now) u start end → result.now ≡ encode_utf8_all u }
+{
+    text.get(start..end).unwrap_or("")
+}
+
 // What is borrowed from the text.
 impl<'de, I: Borrows<'de>> Scanner<I> {
     /// Takes a string and gives its text, borrowed where the string holds no backslash, which then takes no memory (JSON5
@@ -283,5 +359,20 @@ impl<'de, I: Borrows<'de>> Scanner<I> {
         };
         self.leave_unread(left);
         Ok(text)
+    }
+
+    /// The text of a key that this scanner took, borrowed where the key holds no backslash; of another scanner's key as in
+    /// `text_of`.
+    pub fn borrowed_text_of(&self, key: KeyText) -> CowStr<'de>
+        ensures { (u : List ℕ) (plain : Bool) → KeyIs self.now.input u plain key → (is_borrowed result ≡ plain) × (cow_bytes result ≡ encode_utf8_all u) }
+    {
+        match key {
+            KeyText::Plain { start, end } => CowStr::Borrowed(between(
+                self.input.as_borrowed(),
+                start,
+                end,
+            )),
+            KeyText::Escaped(text) => CowStr::Owned(text),
+        }
     }
 }

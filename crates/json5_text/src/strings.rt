@@ -5,9 +5,9 @@ ghost use Rattle.std.specs.Str.{chars, encode_utf8_all};
 ghost use Rattle.json5_grammar.specs.Characters.{backslash};
 ghost use Rattle.json5_grammar.specs.Strings.{is_raw, is_quote};
 ghost use Rattle.json5_grammar.specs.ReadTexts.{string};
-ghost use Rattle.json5_text.specs.Answered.{AnswersCow, AnswersOwned, AnswersMore};
+ghost use Rattle.json5_text.specs.Answered.{AnswersCow, AnswersOwned, AnswersMore, Passes};
 ghost use Rattle.json5_text.specs.Scan.{SkipsAll, in_list};
-ghost use Rattle.json5_text.specs.ScanStrings.{string_at, AnswersRun, PutsEscape};
+ghost use Rattle.json5_text.specs.ScanStrings.{string_at, AnswersQuote, AnswersRun, PutsEscape};
 
 use crate::cow_str::CowStr;
 use crate::escapes::read_escape;
@@ -32,12 +32,7 @@ pub(crate) fn read_string<'t>(
 ) -> Result<(CowStr<'t>, &'t str), Refusal>
     ensures { AnswersCow (string_at (chars text.now)) result }
 {
-    let Some((quote, body)) = front(text) else {
-        return Err(Refusal::Code(ErrorCode::EofParsingString, None));
-    };
-    if !is_quote(quote) {
-        return Err(Refusal::Code(ErrorCode::ExpectedString, Some(text.len())));
-    }
+    let (quote, body) = read_quote(text)?;
     let (raw, stop) = read_run(quote, body)?;
     match stop {
         StringStop::Quote(rest) => Ok((CowStr::Borrowed(raw), rest)),
@@ -59,7 +54,32 @@ pub(crate) fn read_string_owned(alloc: Global, text: &str) -> Result<(String, &s
     }
 }
 
-fn is_quote(c: char) -> bool
+/// What follows the string in front.
+pub(crate) fn skip_string(text: &str) -> Result<&str, Refusal>
+    ensures { Passes (string_at (chars text.now)) result }
+{
+    let (quote, body) = read_quote(text)?;
+    let (_, stop) = read_run(quote, body)?;
+    match stop {
+        StringStop::Quote(rest) => Ok(rest),
+        StringStop::Escape(escape, after) => skip_escaped(quote, escape, after),
+    }
+}
+
+/// The quote in front, and what follows it.
+fn read_quote(text: &str) -> Result<(char, &str), Refusal>
+    ensures { AnswersQuote (chars text.now) result }
+{
+    let Some((quote, body)) = front(text) else {
+        return Err(Refusal::Code(ErrorCode::EofParsingString, None));
+    };
+    if !is_quote(quote) {
+        return Err(Refusal::Code(ErrorCode::ExpectedString, Some(text.len())));
+    }
+    Ok((quote, body))
+}
+
+pub(crate) fn is_quote(c: char) -> bool
     ensures { result ≡ is_quote c }
 {
     matches!(c, '"' | '\'')
@@ -83,6 +103,27 @@ fn read_escaped<'t>(
     loop {
         match put_escape(&mut text, quote, escape, after)? {
             StringStop::Quote(rest) => return Ok((text, rest)),
+            StringStop::Escape(next, after_next) => {
+                escape = next;
+                after = after_next;
+            }
+        }
+    }
+}
+
+/// What follows a string, from its first escape on.
+fn skip_escaped<'t>(quote: char, escape: &'t str, after: &'t str) -> Result<&'t str, Refusal>
+    requires quote { is_quote quote ≡ true }
+    requires escape { chars escape.now ≡ backslash ∷ chars after.now }
+    ensures { Passes (string (quote ∷ chars escape.now)) result }
+{
+    let mut escape = escape;
+    let mut after = after;
+    loop {
+        let (_, run) = read_escape(escape, after)?;
+        let (_, stop) = read_run(quote, run)?;
+        match stop {
+            StringStop::Quote(rest) => return Ok(rest),
             StringStop::Escape(next, after_next) => {
                 escape = next;
                 after = after_next;

@@ -2,11 +2,12 @@
 
 ghost use Rattle.std.specs.Prelude.{◌≡◌, ◌↔◌, IsTrue};
 ghost use Rattle.std.specs.Cmp.{on_equiv, partial_equiv_from_equiv};
+ghost use Rattle.json5_text.specs.ValueViews.{value_of, items_view, fields_view, datum_eq, items_eq, fields_eq};
 
 use crate::decimal::Decimal;
 use crate::whole::Whole;
 
-/// What a text of JSON5 holds (JSON5 section 2); arrays and objects are still to come. Two values are equal when they stand for
+/// What a text of JSON5 holds (JSON5 section 2); equal keys of an object are kept. Two values are equal when they stand for
 /// the same: whole numbers and decimals are never equal, not-a-number equals itself, and two texts are equal when their
 /// characters are, however they were spelled.
 #[derive(Debug, Drop)]
@@ -21,6 +22,10 @@ pub enum Value {
     Decimal(Decimal),
     /// A text, without the quotes and with its escapes replaced.
     String(String),
+    /// The elements of an array, in their order.
+    Array(Vec<Value>),
+    /// The pairs of an object, in their order; equal keys are kept.
+    Object(Vec<(String, Value)>),
 }
 
 impl PartialEq for Value {
@@ -35,15 +40,58 @@ impl PartialEq for Value {
         ensures gives { result ≡ datum_eq (value_of self.now) (value_of other.now) }
         ensures same { IsTrue result ↔ (value_of self.now ≡ value_of other.now) }
     {
-        match (self, other) {
-            (Value::Null, Value::Null) => true,
-            (Value::Bool(truth), Value::Bool(other)) => truth == other,
-            (Value::Whole(number), Value::Whole(other)) => number == other,
-            (Value::Decimal(number), Value::Decimal(other)) => number == other,
-            (Value::String(text), Value::String(other)) => text.as_str() == other.as_str(),
-            _ => false,
+        equal(self, other)
+    }
+}
+
+#[cycle(equal)]
+#[tactic(auto, using(crate::proofs::ValuesCompared::values_compared))]
+fn equal(value: &Value, other: &Value) -> bool
+    ensures { result ≡ datum_eq (value_of value.now) (value_of other.now) }
+{
+    match (value, other) {
+        (Value::Null, Value::Null) => true,
+        (Value::Bool(truth), Value::Bool(other)) => truth == other,
+        (Value::Whole(number), Value::Whole(other)) => number == other,
+        (Value::Decimal(number), Value::Decimal(other)) => number == other,
+        (Value::String(text), Value::String(other)) => text.as_str() == other.as_str(),
+        (Value::Array(items), Value::Array(others)) => equal_items(items, others),
+        (Value::Object(fields), Value::Object(others)) => equal_fields(fields, others),
+        _ => false,
+    }
+}
+
+#[cycle(equal)]
+fn equal_items(items: &[Value], others: &[Value]) -> bool
+    ensures { result ≡ items_eq (items_view items.now) (items_view others.now) }
+{
+    if items.len() != others.len() {
+        return false;
+    }
+    for (item, other) in items.iter().zip(others) {
+        if !equal(item, other) {
+            return false;
         }
     }
+    true
+}
+
+#[cycle(equal)]
+fn equal_fields(fields: &[(String, Value)], others: &[(String, Value)]) -> bool
+    ensures { result ≡ fields_eq (fields_view fields.now) (fields_view others.now) }
+{
+    if fields.len() != others.len() {
+        return false;
+    }
+    for (field, other) in fields.iter().zip(others) {
+        if field.0.as_str() != other.0.as_str() {
+            return false;
+        }
+        if !equal(&field.1, &other.1) {
+            return false;
+        }
+    }
+    true
 }
 
 impl Eq for Value {

@@ -6,13 +6,19 @@ use Rattle.json5_text.proofs.ScanEscapes.{refused_here, hex_done, hex_ends, hex_
 use Rattle.json5_text.proofs.escapes.hexadecimal.Goals as goal
 
 pub returns-in_default-clause-read : goal.returns-in_default-clause-read
-returns-in_default-clause-read c = ap outcome (sym c.loop-wanted.invariant.read ∙ hex_ends c.loop-wanted.wanted c.loop-wanted.value _ _ c.loop-wanted-test.true c.in_default.ensures.chars)
+returns-in_default-clause-read c = record {
+  refused = ap outcome (sym c.loop-wanted.invariant.read ∙ hex_ends c.loop-wanted.wanted c.loop-wanted.value _ _ c.loop-wanted-test.true c.in_default.ensures.chars);
+  known = tt;
+}
 
 pub returns-in_default-to_digit-clause-read : goal.returns-in_default-to_digit-clause-read
 returns-in_default-to_digit-clause-read c =
     let h : 16 ≤ digit_value c.in-Some.c = grind (arith, c.in_default-to_digit.ensures.value) in
     rw c.invalid.ensures
-    (refused_here _ InvalidEscapeSequence c.args.escape.now c.utf8.escape (sym c.loop-wanted.invariant.read ∙ hex_wrong c.loop-wanted.wanted c.loop-wanted.value c.in-Some.c _ _ _ c.loop-wanted-test.true c.in-Some.ensures.chars h))
+    (record {
+      refused = refused_here _ InvalidEscapeSequence c.args.escape.now c.utf8.escape (sym c.loop-wanted.invariant.read ∙ hex_wrong c.loop-wanted.wanted c.loop-wanted.value c.in-Some.c _ _ _ c.loop-wanted-test.true c.in-Some.ensures.chars h);
+      known = tt;
+    })
 
 pub overflow_mul-value : goal.overflow_mul-value
 overflow_mul-value c =

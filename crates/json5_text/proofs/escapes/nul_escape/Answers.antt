@@ -8,4 +8,4 @@ use Rattle.json5_text.proofs.escapes.nul_escape.Goals as goal
 pub returns-then-is_ascii_digit : goal.returns-then-is_ascii_digit
 returns-then-is_ascii_digit c =
     let d : is_digit c.in-Some.c ≡ true = grind (arith, nat_tests) in
-    rw c.invalid.ensures (refused_here _ InvalidEscapeSequence c.args.escape.now c.utf8.escape (nul_digit c.in-Some.c _ _ _ c.in-Some.ensures.chars d))
+    rw c.invalid.ensures (record { refused = refused_here _ InvalidEscapeSequence c.args.escape.now c.utf8.escape (nul_digit c.in-Some.c _ _ _ c.in-Some.ensures.chars d); known = tt })

@@ -5,17 +5,29 @@ use Rattle.json5_grammar.specs.Reading.{got}
 use Rattle.json5_grammar.specs.ReadTexts.{second, paired}
 use Rattle.json5_text.specs.Outcome.{failed, outcome}
 use Rattle.std.proofs.lemmas.Result.{err_from_is_err_and}
+use Rattle.json5_text.proofs.ScanFaults.{code_known}
 use Rattle.json5_text.proofs.ScanEscapes.{then_refuses, other_half, second_word, second_digits, second_pair, second_unpaired}
 use Rattle.json5_text.proofs.escapes.second_escape.Goals as goal
 
 pub returns-in_err-digits : goal.returns-in_err-digits
 returns-in_err-digits c =
-    let p = err_from_is_err_and c.from_residual.result c.from_residual.ensures.1 in rw (p.1, p.2) (then_refuses c.in_err-digits.field-0.0 _ (second c.args.unit (chars c.args.escape.now) (chars c.args.text.now)) (other_half c.args.unit (chars c.args.escape.now)) (second_word c.args.unit (chars c.args.escape.now) (chars c.args.text.now)) c.in_err-digits.ensures.refused)
+    let p = err_from_is_err_and c.from_residual.result c.from_residual.ensures.1 in
+    let refusal = c.in_err-digits.ensures in
+    rw (p.1, p.2)
+    (record {
+      refused = then_refuses c.in_err-digits.field-0.0 _ (second c.args.unit (chars c.args.escape.now) (chars c.args.text.now)) (other_half c.args.unit (chars c.args.escape.now)) (second_word c.args.unit (chars c.args.escape.now) (chars c.args.text.now)) refusal.refused;
+      known = code_known c.in_err-digits.field-0.0 refusal.known;
+    })
 
 pub returns-in_err-second : goal.returns-in_err-second
 returns-in_err-second c =
-    let p = err_from_is_err_and c.from_residual-in_err-second.result c.from_residual-in_err-second.ensures.1 in rw (p.1, p.2)
-    (then_refuses c.in_err-second.field-0.0 _ (second c.args.unit (chars c.args.escape.now) (chars c.args.text.now)) (paired c.args.unit (chars c.args.escape.now)) (second_digits c.args.unit _ _ _ c.in_ok-digits.ensures.read) c.in_err-second.ensures.read)
+    let p = err_from_is_err_and c.from_residual-in_err-second.result c.from_residual-in_err-second.ensures.1 in
+    let refusal = c.in_err-second.ensures.read in
+    rw (p.1, p.2)
+    (record {
+      refused = then_refuses c.in_err-second.field-0.0 _ (second c.args.unit (chars c.args.escape.now) (chars c.args.text.now)) (paired c.args.unit (chars c.args.escape.now)) (second_digits c.args.unit _ _ _ c.in_ok-digits.ensures.read) refusal.refused;
+      known = refusal.known;
+    })
 
 pub returns-in-Some : goal.returns-in-Some
 returns-in-Some c = record {
@@ -25,6 +37,8 @@ returns-in-Some c = record {
 }
 
 pub returns-in-None : goal.returns-in-None
-returns-in-None c =
-    ap outcome (second_unpaired c.args.unit c.in_ok-second.second _ _ _ _ c.in_ok-digits.ensures.read c.in_ok-second.ensures.read.read c.in-None.ensures)
-    ∙ ap (λ z. failed None (Some (length z))) (encodes-chars c.args.escape.now c.utf8.escape)
+returns-in-None c = record {
+  refused = ap outcome (second_unpaired c.args.unit c.in_ok-second.second _ _ _ _ c.in_ok-digits.ensures.read c.in_ok-second.ensures.read.read c.in-None.ensures)
+      ∙ ap (λ z. failed None (Some (length z))) (encodes-chars c.args.escape.now c.utf8.escape);
+  known = tt;
+}

@@ -8,8 +8,13 @@ use Rattle.json5_text.proofs.escapes.unicode_escape.Goals as goal
 
 pub returns-in_err-unit : goal.returns-in_err-unit
 returns-in_err-unit c =
-    let p = err_from_is_err_and c.from_residual.result c.from_residual.ensures.1 in rw (p.1, p.2)
-    (then_refuses c.in_err-unit.field-0.0 (hex 4 0 (chars c.args.escape.now) (chars c.args.text.now)) (unicode_at (chars c.args.escape.now) (chars c.args.text.now)) (first (chars c.args.escape.now)) (unicode_then _ _) c.in_err-unit.ensures.read)
+    let p = err_from_is_err_and c.from_residual.result c.from_residual.ensures.1 in
+    let refusal = c.in_err-unit.ensures.read in
+    rw (p.1, p.2)
+    (record {
+      refused = then_refuses c.in_err-unit.field-0.0 (hex 4 0 (chars c.args.escape.now) (chars c.args.text.now)) (unicode_at (chars c.args.escape.now) (chars c.args.text.now)) (first (chars c.args.escape.now)) (unicode_then _ _) refusal.refused;
+      known = refusal.known;
+    })
 
 pub returns-in-Some : goal.returns-in-Some
 returns-in-Some c = record {

@@ -7,7 +7,7 @@ use Rattle.json5_text.proofs.names.put_escape.Goals as goal
 pub returns-in_err-c : goal.returns-in_err-c
 returns-in_err-c c =
     let p = err_from_is_err_and c.from_residual.result c.from_residual.ensures.1 in
-    rw (p.1, p.2) (item_bad c.args.is_first c.in_err-c.field-0.0 _ _ c.in_err-c.ensures)
+    rw (p.1, p.2) (item_bad c.args.is_first c.in_err-c.field-0.0 _ _ c.in_err-c.ensures.refused)
 
 pub returns-in_err-parts : goal.returns-in_err-parts
 returns-in_err-parts c =

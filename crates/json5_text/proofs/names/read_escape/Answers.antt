@@ -7,10 +7,10 @@ use Rattle.json5_text.proofs.ScanNames.{escape_none, escape_other, escape_unicod
 use Rattle.json5_text.proofs.names.read_escape.Goals as goal
 
 pub returns-in_default : goal.returns-in_default
-returns-in_default c = ap outcome (escape_none _ _ c.in_default.ensures.chars)
+returns-in_default c = record { refused = ap outcome (escape_none _ _ c.in_default.ensures.chars); known = tt }
 
 pub returns-then-c-ne117 : goal.returns-then-c-ne117
-returns-then-c-ne117 c = refused_here _ InvalidEscapeSequence c.args.after.now c.utf8.after (escape_other c.in-Some.c _ _ _ c.in-Some.ensures.chars c.if-c-ne117.true)
+returns-then-c-ne117 c = record { refused = refused_here _ InvalidEscapeSequence c.args.after.now c.utf8.after (escape_other c.in-Some.c _ _ _ c.in-Some.ensures.chars c.if-c-ne117.true); known = tt }
 
 pub returns : goal.returns
 returns c = rw (escape_unicode c.in-Some.c (chars c.args.escape.now) (chars c.args.after.now) (chars c.in-Some.digits.now) c.in-Some.ensures.chars c.if-c-ne117.false) c.unicode_escape.ensures

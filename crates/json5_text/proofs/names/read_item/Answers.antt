@@ -6,5 +6,7 @@ use Rattle.json5_text.proofs.ScanNames.{item_misfits}
 use Rattle.json5_text.proofs.names.read_item.Goals as goal
 
 pub returns-then-not-fits : goal.returns-then-not-fits
-returns-then-not-fits c =
-    refused_here _ ExpectedIdentifier c.args.escape.now c.utf8.escape (item_misfits (fits c.args.is_first) _ _ _ c.in_ok-c.c c.in_ok-c.ensures.read (sym c.if-not-fits.ensures))
+returns-then-not-fits c = record {
+  refused = refused_here _ ExpectedIdentifier c.args.escape.now c.utf8.escape (item_misfits (fits c.args.is_first) _ _ _ c.in_ok-c.c c.in_ok-c.ensures.read (sym c.if-not-fits.ensures));
+  known = tt;
+}

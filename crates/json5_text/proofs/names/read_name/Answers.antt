@@ -7,7 +7,7 @@ use Rattle.json5_grammar.specs.declared.code.ErrorCode.TheVariants.{ExpectedIden
 use Rattle.json5_text.specs.Outcome.{outcome}
 use Rattle.json5_text.specs.ScanNames.{StopsAt, StopsText}
 use Rattle.json5_text.proofs.ScanBytes.{left_fits, cut_half, before_rest}
-use Rattle.json5_text.proofs.ScanFaults.{no_memory}
+use Rattle.json5_text.proofs.ScanFaults.{code_known, no_memory}
 use Rattle.json5_text.proofs.ScanTokens.{left_counted}
 use Rattle.json5_text.proofs.ScanEscapes.{refused_here}
 use Rattle.json5_text.proofs.ScanStrings.{both_parts}
@@ -43,7 +43,7 @@ returns-in_err-stop c =
     rw (p.1, p.2)
     (record {
       refused = first_refused c.in-Some.c c.in_err-stop.field-0.0 _ _ c.in-Some.ensures.chars c.if-c-eq92.false (sym c.if-not-is_json5_identifier_start.ensures) c.in_err-stop.ensures.refused;
-      memory = λ e u r read. no_memory c.in_err-stop.field-0.0 c.in_err-stop.ensures.known e;
+      memory = λ e u r read. no_memory c.in_err-stop.field-0.0 (code_known c.in_err-stop.field-0.0 c.in_err-stop.ensures.known) e;
     })
 
 pub overflow_sub-text : goal.overflow_sub-text

@@ -1,23 +1,9 @@
-use Rattle.std.proofs.Common.{ap}
-use Rattle.std.specs.Str.{chars}
-use Rattle.json5_text.specs.Outcome.{outcome}
-use Rattle.json5_text.proofs.NumberCases.{number_ends, number_plus, number_minus, number_bare}
+use Rattle.std.proofs.lemmas.Result.{err_from_is_err_and}
+use Rattle.json5_text.proofs.NumberSteps.{fault_wants}
 use Rattle.json5_text.proofs.numbers.number.Goals as goal
 
-pub returns-in_default : goal.returns-in_default
-returns-in_default c = record { refused = ap outcome (number_ends (chars c.args.text.now) c.in_default.ensures.chars); memory = tt }
-
-pub returns-then-sign-eq43 : goal.returns-then-sign-eq43
-returns-then-sign-eq43 c =
-    let e = number_plus (chars c.args.text.now) _ c.in-Some.sign c.in-Some.ensures.chars c.if-sign-eq43.true in
-    rw e c.unsigned.ensures
-
-pub returns-then-sign-eq45 : goal.returns-then-sign-eq45
-returns-then-sign-eq45 c =
-    let e = number_minus (chars c.args.text.now) _ c.in-Some.sign c.in-Some.ensures.chars c.if-sign-eq45.true in
-    rw e c.unsigned-then-sign-eq45.ensures
-
-pub returns : goal.returns
-returns c =
-    let e = number_bare (chars c.args.text.now) _ c.in-Some.sign c.in-Some.ensures.chars c.if-sign-eq43.false c.if-sign-eq45.false in
-    rw e c.unsigned-2.ensures
+pub returns-in_err-scanned : goal.returns-in_err-scanned
+returns-in_err-scanned c =
+    let p = err_from_is_err_and c.from_residual.result c.from_residual.ensures.1 in
+    let refusal = c.in_err-scanned.ensures in
+    rw (p.1, p.2) (record { refused = refusal.refused; memory = fault_wants c.in_err-scanned.field-0.0 _ refusal.known })

@@ -6,16 +6,16 @@ use Rattle.json5_text.proofs.NumberCases.{unsigned_ends, unsigned_infinity, unsi
 use Rattle.json5_text.proofs.numbers.unsigned.Goals as goal
 
 pub returns-in_default : goal.returns-in_default
-returns-in_default c = record { refused = ap outcome (unsigned_ends (chars c.args.start.now) c.args.negative (chars c.args.text.now) c.in_default.ensures.chars); memory = tt }
+returns-in_default c = record { refused = ap outcome (unsigned_ends (chars c.args.start.now) c.args.negative (chars c.args.text.now) c.in_default.ensures.chars); known = tt }
 
 pub returns-then-first-eq73 : goal.returns-then-first-eq73
 returns-then-first-eq73 c =
-    let e = unsigned_infinity (chars c.args.start.now) c.args.negative (chars c.args.text.now) _ c.in-Some.first c.infinity.result c.in-Some.ensures.chars c.if-first-eq73.true c.infinity.ensures in
+    let e = unsigned_infinity (chars c.args.start.now) c.args.negative (chars c.args.text.now) _ c.in-Some.first c.in-Some.ensures.chars c.if-first-eq73.true in
     rw e c.word.ensures
 
 pub returns-then-first-eq78 : goal.returns-then-first-eq78
 returns-then-first-eq78 c =
-    let e = unsigned_nan (chars c.args.start.now) c.args.negative (chars c.args.text.now) _ c.in-Some.first c.nan.result c.in-Some.ensures.chars c.if-first-eq78.true c.nan.ensures in
+    let e = unsigned_nan (chars c.args.start.now) c.args.negative (chars c.args.text.now) _ c.in-Some.first c.in-Some.ensures.chars c.if-first-eq78.true in
     rw e c.word-then-first-eq78.ensures
 
 pub returns-then-first-eq48 : goal.returns-then-first-eq48
@@ -31,5 +31,5 @@ returns-then-begins_run c =
 pub returns : goal.returns
 returns c = record {
   refused = failed_here _ _ c.args.text.now c.utf8.text (unsigned_other (chars c.args.start.now) c.args.negative (chars c.args.text.now) _ c.in-Some.first _ c.in-Some.ensures.chars c.if-first-eq73.false c.if-first-eq78.false c.if-first-eq48.false c.begins_run.ensures c.if-begins_run.false);
-  memory = tt;
+  known = tt;
 }

@@ -8,7 +8,7 @@ use Rattle.json5_text.proofs.strings.put_escape.Goals as goal
 pub returns-in_err-spelled : goal.returns-in_err-spelled
 returns-in_err-spelled c =
     let p = err_from_is_err_and c.from_residual.result c.from_residual.ensures.1 in
-    rw (p.1, p.2) (escape_refused c.args.quote c.in_err-spelled.field-0.0 _ _ c.in_err-spelled.ensures)
+    rw (p.1, p.2) (escape_refused c.args.quote c.in_err-spelled.field-0.0 _ _ c.in_err-spelled.ensures.refused)
 
 pub returns-in_err-raw : goal.returns-in_err-raw
 returns-in_err-raw c =

@@ -1,0 +1,112 @@
+//! What a value is, and what is found in it.
+
+ghost use Rattle.std.specs.Prelude.{◌≡◌, option_map};
+ghost use Rattle.std.specs.Str.{chars};
+ghost use Rattle.json5_text.specs.ValueViews.{value_of, items_view, fields_view};
+ghost use Rattle.json5_text.specs.ValueLookups.{is_null, boolean_of, text_of, items_in, fields_in, item_at, element_of, last_named, named_of};
+
+use crate::decimal::Decimal;
+use crate::value::Value;
+use crate::whole::Whole;
+
+/// What is looked for in a value: an element of an array by its place, counted from 0, or the value of a pair of an object by
+/// its key, the last where a key stands more than once.
+pub trait Index {
+    ghost use Rattle.std.specs.Prelude.{Option};
+    ghost use Rattle.json5_text.specs.ValueViews.{Datum};
+
+    ghost finds: { Self → Datum → Option Datum };
+
+    /// What is found, if anything.
+    fn find_in<'v>(&self, value: &'v Value) -> Option<&'v Value>
+        ensures { option_map (λ v. value_of v.now) result ≡ finds self.now (value_of value.now) };
+}
+
+impl Index for usize {
+    ghost finds = { element_of };
+
+    fn find_in<'v>(&self, value: &'v Value) -> Option<&'v Value> {
+        value.as_array()?.get(*self)
+    }
+}
+
+impl Index for &str {
+    ghost finds = { λ key. named_of (chars key.now) };
+
+    fn find_in<'v>(&self, value: &'v Value) -> Option<&'v Value> {
+        last_named(value.as_object()?, self)
+    }
+}
+
+/// The value of the last pair with this key.
+fn last_named<'v>(fields: &'v [(String, Value)], key: &str) -> Option<&'v Value>
+    ensures { option_map (λ v. value_of v.now) result ≡ last_named (chars key.now) (fields_view fields.now) }
+{
+    let mut found = None;
+    for (name, value) in fields {
+        if name.as_str() == key {
+            found = Some(value);
+        }
+    }
+    found
+}
+
+impl Value {
+    /// What stands at this place of an array, or what an object has under this key; none where there is no such thing.
+    ///
+    /// ```text
+    /// let port = settings.get("server")?.get("ports")?.get(0usize)?;
+    /// ```
+    pub fn get<I: Index + Drop>(&self, index: I) -> Option<&Value>
+        ensures { option_map (λ v. value_of v.now) result ≡ I.finds index (value_of self.now) }
+    {
+        index.find_in(self)
+    }
+
+    /// Whether it is `null`.
+    pub fn is_null(&self) -> bool
+        ensures { result ≡ is_null (value_of self.now) }
+    {
+        matches!(self, Value::Null)
+    }
+
+    /// The boolean, if it is one.
+    pub fn as_bool(&self) -> Option<bool>
+        ensures { result ≡ boolean_of (value_of self.now) }
+    {
+        match self {
+            Value::Bool(truth) => Some(*truth),
+            _ => None,
+        }
+    }
+
+    /// The text, if it is one.
+    pub fn as_str(&self) -> Option<&str>
+        ensures { option_map (λ s. chars s.now) result ≡ text_of (value_of self.now) }
+    {
+        match self {
+            Value::String(text) => Some(text.as_str()),
+            _ => None,
+        }
+    }
+
+    /// The elements, if it is an array.
+    pub fn as_array(&self) -> Option<&[Value]>
+        ensures { option_map (λ items. items_view items.now) result ≡ items_in (value_of self.now) }
+    {
+        match self {
+            Value::Array(items) => Some(items.as_slice()),
+            _ => None,
+        }
+    }
+
+    /// The pairs in their order, if it is an object.
+    pub fn as_object(&self) -> Option<&[(String, Value)]>
+        ensures { option_map (λ fields. fields_view fields.now) result ≡ fields_in (value_of self.now) }
+    {
+        match self {
+            Value::Object(fields) => Some(fields.as_slice()),
+            _ => None,
+        }
+    }
+}
