@@ -4,14 +4,16 @@ use Rattle.std.specs.Prelude.{◌==◌, slice_get, Result, Ok, Err, IfErr, IsOk}
 use Rattle.json5_grammar.specs.declared.code.ErrorCode.{ErrorCode}
 use Rattle.json5_grammar.specs.declared.code.ErrorCode.TheVariants as codes
 use Rattle.json5_grammar.specs.Characters.{NotBegun}
-use Rattle.json5_grammar.specs.Blanks.{Gap, is_solid}
+use Rattle.json5_grammar.specs.Blanks.{Gap, is_solid, BlankFault}
+use Rattle.json5_grammar.proofs.BlanksSound.{no_blank_fault}
+use Rattle.json5_grammar.proofs.ValueHeads.{val_head, value_solid}
 use Rattle.json5_grammar.specs.Trees.{Tree}
 use Rattle.json5_grammar.specs.Values.{Reads}
 use Rattle.json5_grammar.specs.Documents.{max_depth}
-use Rattle.json5_grammar.specs.Members.{IsSign, IsEnd, IsElement, IsClose, GoesNowhere}
+use Rattle.json5_grammar.specs.Members.{IsSign, IsEnd, IsElement}
 use Rattle.json5_grammar.proofs.MembersRead.{comma_solid, bracket_solid, opening_solid, sign_here, sign_found, reads_found}
 use Rattle.json5_grammar.proofs.MembersPassed.{after_same_comma, no_comma_end}
-use Rattle.json5_grammar.proofs.MembersNowhere.{reads_here, no_sign, no_sign_in_blanks, nowhere_blanks, nowhere_other, nowhere_comma}
+use Rattle.json5_grammar.proofs.MembersNowhere.{reads_here, no_sign, no_sign_in_blanks}
 use Rattle.json5_text.specs.declared.error.Error.{Error}
 use Rattle.json5_text.specs.Cursor.{Refused}
 use Rattle.json5_text.specs.Tokens.{FaultyBlanks}
@@ -25,7 +27,7 @@ use Rattle.json5_de.specs.Steps.{PassedGap, TookText}
 use Rattle.json5_de.specs.declared.brackets.Brackets.{Brackets}
 use Rattle.json5_de.specs.Brackets.{AreSigns, square}
 use Rattle.json5_de.specs.Access.{TookElement, Unexpected, at_end, at_char, NotOpened, no_bracket, text_ends, too_deep, NoBracket, other_sign, bracket_missing, NotClosed, not_here, after_comma as comma_before}
-use Rattle.json5_de.specs.Seq.{IsAfterGap, Begun, AtElement, GoesOn, NoNext, no_comma, list_ends}
+use Rattle.json5_de.specs.Seq.{IsAfterGap, Begun, AtMember, GoesOn, NothingNext, NoNext, no_comma, comma_missing}
 use Rattle.json5_de.specs.Faults.{AfterBlanks, in_blanks, after_gap, RefusedBy}
 use Rattle.json5_de.proofs.Taken.{refused_token}
 use Rattle.json5_de.proofs.Places.{some_next, refused_as, refused_after}
@@ -45,9 +47,9 @@ after_gap_of old mid p = record { gap = p.gap; split = p.split; is_gap = p.is_ga
 
 -- ---- what is refused
 
-pub no_next : (due : Bool) (x : List ℕ) (reason : Option ErrorCode) (place : Option (List ℕ)) → due ≡ true → NotBegun (λ c. c == 0x2C) x → NotBegun (λ c. c == 0x5D) x → Unexpected codes.EofParsingArray codes.ExpectedComma x reason place → NoNext due x reason place
-no_next due x reason place d m n at_end = list_ends d
-no_next due x reason place d m n (at_char c r) = no_comma c r d m n
+pub no_next : (b : Brackets) (due : Bool) (x : List ℕ) (reason : Option ErrorCode) (place : Option (List ℕ)) → due ≡ true → NotBegun (λ c. c == 0x2C) x → NotBegun (λ c. c == b.closing) x → Unexpected b.ends codes.ExpectedComma x reason place → NoNext b due x reason place
+no_next b due x reason place d m n at_end = comma_missing d
+no_next b due x reason place d m n (at_char c r) = no_comma c r d m n
 
 pub not_opened_here : (b : Brackets) (level : ℕ) (x : List ℕ) (reason : Option ErrorCode) (place : Option (List ℕ)) → NotBegun (λ c. c == b.opening) x → Unexpected b.ends b.not_opened x reason place → NotOpened b level x reason place
 not_opened_here b level x reason place n at_end = text_ends
@@ -67,41 +69,69 @@ sign_next sign x y z g e = sign_here sign x g.gap z (g.split ∙ ap (λ k. g.gap
 pub no_sign_next : (sign : ℕ) (x y r : List ℕ) → is_solid sign ≡ true → IsAfterGap x y → NotBegun (λ c. c == sign) y → IsSign sign x r → ⊥
 no_sign_next sign x y r h g n s = no_sign sign x g.gap y r h g.split g.is_gap g.solid n s
 
+-- where a comment is at fault no sign and no gap goes on
+pub no_sign_faulty : (sign : ℕ) (s : State) (e : Error) (r : List ℕ) → is_solid sign ≡ true → Refused FaultyBlanks (cursor_of s) e → IsSign sign s.unread r → ⊥
+no_sign_faulty sign s e r h f c = let (w, p, shown, fault) = f.fault in no_sign_in_blanks sign s.unread w p r f.reason f.place shown h fault c
+
+no_gap_faulty : (s : State) (e : Error) (y : List ℕ) → Refused FaultyBlanks (cursor_of s) e → IsAfterGap s.unread y → ⊥
+no_gap_faulty s e y f g = let (w, p, shown, fault) = f.fault in no_blank_fault g.is_gap g.solid (subst (λ z. BlankFault z f.reason f.place w p shown) g.split fault)
+
+-- neither a comma nor the bracket where a comma is due
+nothing_due : (b : Brackets) (x : List ℕ) → ((y : List ℕ) → IsSign 0x2C x y → ⊥) → ((r : List ℕ) → IsSign b.closing x r → ⊥) → NothingNext b true x
+nothing_due b x m n = record { no_member = λ y g. m g.0 g.1; no_close = λ r c. close r c }
+  where
+    close : (r : List ℕ) → IsEnd b.closing true x r → ⊥
+    close r (inl c) = n r c
+    close r (inr (y, comma, c)) = m y comma
+
 -- neither the comma that is due nor the bracket
-pub nowhere_next : (due : Bool) (x y : List ℕ) → due ≡ true → IsAfterGap x y → NotBegun (λ c. c == 0x2C) y → NotBegun (λ c. c == 0x5D) y → GoesNowhere due x
-nowhere_next due x y is g m n = subst (λ b. GoesNowhere b x) (sym is) (nowhere_other x g.gap y g.split g.is_gap g.solid m n)
+pub nowhere_next : (b : Brackets) → AreSigns b → (due : Bool) (x y : List ℕ) → due ≡ true → IsAfterGap x y → NotBegun (λ c. c == 0x2C) y → NotBegun (λ c. c == b.closing) y → NothingNext b due x
+nowhere_next b k due x y is g m n = subst (λ d. NothingNext b d x) (sym is)
+    (nothing_due b x (λ z c. no_sign_next 0x2C x y z comma_solid g m c) (λ r c. no_sign_next b.closing x y r k.closing g n c))
 
 -- a comment in front is at fault
-pub nowhere_faulty : (due : Bool) (s : State) (e : Error) → Refused FaultyBlanks (cursor_of s) e → GoesNowhere due s.unread
-nowhere_faulty due s e f = let (b, p, shown, fault) = f.fault in nowhere_blanks due s.unread b p f.reason f.place shown fault
+pub nowhere_faulty : (b : Brackets) → AreSigns b → (due : Bool) (s : State) (e : Error) → Refused FaultyBlanks (cursor_of s) e → NothingNext b due s.unread
+nowhere_faulty b k false s e f = record { no_member = λ y g. no_gap_faulty s e y f g; no_close = λ r c. no_sign_faulty b.closing s e r k.closing f c }
+nowhere_faulty b k true s e f = nothing_due b s.unread (λ y c. no_sign_faulty 0x2C s e y comma_solid f c) (λ r c. no_sign_faulty b.closing s e r k.closing f c)
 
 -- a comment after the comma is at fault
-pub nowhere_after : (due : Bool) (s mid next : State) (e : Error) → due ≡ true → PassedGap s mid → NotBegun (λ c. c == 0x5D) mid.unread → TookText mid (0x2C ∷ []) next → Refused FaultyBlanks (cursor_of next) e → GoesNowhere due s.unread
-nowhere_after due s mid next e is p n took f =
-    let g = after_gap_of s mid p in
-    subst (λ b. GoesNowhere b s.unread) (sym is)
-    (nowhere_comma s.unread next.unread (sign_next 0x2C s.unread mid.unread next.unread g took.split) (nowhere_faulty false next e f) (λ r c. no_sign_next 0x5D s.unread mid.unread r bracket_solid g n c))
+pub nowhere_after : (b : Brackets) → AreSigns b → (due : Bool) (s mid next : State) (e : Error) → due ≡ true → PassedGap s mid → NotBegun (λ c. c == b.closing) mid.unread → TookText mid (0x2C ∷ []) next → Refused FaultyBlanks (cursor_of next) e
+    → NothingNext b due s.unread
+nowhere_after b k due s mid next e is p n took f = subst (λ d. NothingNext b d s.unread) (sym is) (record { no_member = λ y begun. member y begun; no_close = λ r c. close r c })
+  where
+    g : IsAfterGap s.unread mid.unread
+    g = after_gap_of s mid p
+
+    comma : IsSign 0x2C s.unread next.unread
+    comma = sign_next 0x2C s.unread mid.unread next.unread g took.split
+
+    member : (y : List ℕ) → Begun true s.unread y → ⊥
+    member y (z, other, gap) = no_gap_faulty next e y f (after_same_comma (λ q. IsAfterGap q y) s.unread next.unread z comma other gap)
+
+    close : (r : List ℕ) → IsEnd b.closing true s.unread r → ⊥
+    close r (inl c) = no_sign_next b.closing s.unread mid.unread r k.closing g n c
+    close r (inr (z, other, c)) = no_sign_faulty b.closing next e r k.closing f (after_same_comma (λ q. IsSign b.closing q r) s.unread next.unread z comma other c)
 
 pub only_read : (s t u : State) → OnlyRead s t → OnlyRead t u → OnlyRead s u
 only_read s t u a b = b ∙ ap (λ (m : State). record m { unread = u.unread }) a
 
 -- the bracket or an element after the comma
-pub goes_after : (due is : Bool) (s mid next last : State) → due ≡ true → PassedGap s mid → TookText mid (0x2C ∷ []) next → PassedGap next last
-    → (is ≡ true → slice_get last.unread 0 ≡ Some 0x5D) → (is ≡ false → NotBegun (λ c. c == 0x5D) last.unread) → GoesOn due s last (not is)
-goes_after due true s mid next last d p took q found other =
-    let (r, split) = some_next last.unread 0x5D (found refl) in
+pub goes_after : (b : Brackets) (due is : Bool) (s mid next last : State) → due ≡ true → PassedGap s mid → TookText mid (0x2C ∷ []) next → PassedGap next last
+    → (is ≡ true → slice_get last.unread 0 ≡ Some b.closing) → (is ≡ false → NotBegun (λ c. c == b.closing) last.unread) → GoesOn b due s last (not is)
+goes_after b due true s mid next last d p took q found other =
+    let (r, split) = some_next last.unread b.closing (found refl) in
     let comma = sign_next 0x2C s.unread mid.unread next.unread (after_gap_of s mid p) took.split in
-    let bracket = sign_next 0x5D next.unread last.unread r (after_gap_of next last q) split in
+    let bracket = sign_next b.closing next.unread last.unread r (after_gap_of next last q) split in
     record {
       live = p.live;
-      close = (r, subst (λ b. IsClose b s.unread r) (sym d) (inr (next.unread, comma, bracket)), split);
+      close = (r, subst (λ w. IsEnd b.closing w s.unread r) (sym d) (inr (next.unread, comma, bracket)), split);
       rest = only_read s mid last p.rest (only_read mid next last took.rest q.rest);
     }
-goes_after due false s mid next last d p took q found other =
+goes_after b due false s mid next last d p took q found other =
     let comma = sign_next 0x2C s.unread mid.unread next.unread (after_gap_of s mid p) took.split in
     record {
       live = p.live;
-      begun = subst (λ b. Begun b s.unread last.unread) (sym d) (next.unread, comma, after_gap_of next last q);
+      begun = subst (λ w. Begun w s.unread last.unread) (sym d) (next.unread, comma, after_gap_of next last q);
       inside = other refl;
       rest = only_read s mid last p.rest (only_read mid next last took.rest q.rest);
     }
@@ -112,6 +142,15 @@ goes_after due false s mid next last d p took q found other =
 pub element_read : (due : Bool) (x y r : List ℕ) (t : Tree) → Begun due x y → Reads y t r → IsElement due x t r
 element_read false x y r t g p = reads_here x g.gap y r t g.split g.is_gap p
 element_read true x y r t (z, comma, g) p = (z, comma, reads_here z g.gap y r t g.split g.is_gap p)
+
+-- an element stands after blanks, where it begins
+reads_gap : (x r : List ℕ) (t : Tree) → Reads x t r → (y : List ℕ) × IsAfterGap x y
+reads_gap x r t p = (p.phrase ++ r, record { gap = p.front; split = p.split; is_gap = Gap.blanks p.blank; solid = value_solid r (val_head p.value) })
+
+-- where no member may begin no element stands
+pub no_element_next : (b : Brackets) (due : Bool) (x r : List ℕ) (t : Tree) → NothingNext b due x → IsElement due x t r → ⊥
+no_element_next b false x r t n e = let (y, g) = reads_gap x r t e in n.no_member y g
+no_element_next b true x r t n (z, comma, e) = let (y, g) = reads_gap z r t e in n.no_member y (z, comma, g)
 
 -- and what stands there
 pub element_found : (due : Bool) (x y r : List ℕ) (t : Tree) → Begun due x y → IsElement due x t r → Reads y t r
@@ -124,7 +163,7 @@ no_close_found b k false x y r g n c = no_sign_next b.closing x y r k.closing g 
 no_close_found b k true x y r (z, comma, g) n (inl c) = no_comma_end b.closing x z r k.closing k.no_comma comma c
 no_close_found b k true x y r (z, comma, g) n (inr (w, other, c)) = no_sign_next b.closing z y r k.closing g n (after_same_comma (λ q. IsSign b.closing q r) x z w comma other c)
 
-pub took_element : (due : Bool) (s mid last : State) (t : Tree) → AtElement due s mid → TookValue mid t last → TookElement due s t last
+pub took_element : (due : Bool) (s mid last : State) (t : Tree) → AtMember square due s mid → TookValue mid t last → TookElement due s t last
 took_element due s mid last t at took = record {
   live = at.live;
   element = element_read due s.unread mid.unread last.unread t at.begun took.reads;
@@ -163,9 +202,7 @@ no_close_next b k true s mid r p m n (inr (y, comma, c)) = no_sign_next 0x2C s.u
 
 -- a comment in front is at fault
 pub no_close_faulty : (b : Brackets) → AreSigns b → (due : Bool) (s : State) (e : Error) (r : List ℕ) → Refused FaultyBlanks (cursor_of s) e → IsEnd b.closing due s.unread r → ⊥
-no_close_faulty b k false s e r f c = let (w, p, shown, fault) = f.fault in no_sign_in_blanks b.closing s.unread w p r f.reason f.place shown k.closing fault c
-no_close_faulty b k true s e r f (inl c) = let (w, p, shown, fault) = f.fault in no_sign_in_blanks b.closing s.unread w p r f.reason f.place shown k.closing fault c
-no_close_faulty b k true s e r f (inr (y, comma, c)) = let (w, p, shown, fault) = f.fault in no_sign_in_blanks 0x2C s.unread w p y f.reason f.place shown comma_solid fault comma
+no_close_faulty b k due s e r f c = (nowhere_faulty b k due s e f).no_close r c
 
 -- after the comma
 pub no_close_after : (b : Brackets) → AreSigns b → (due : Bool) (s mid next : State) (r : List ℕ) → due ≡ true → PassedGap s mid → TookText mid (0x2C ∷ []) next → (IsSign b.closing next.unread r → ⊥) → IsEnd b.closing due s.unread r → ⊥

@@ -66,26 +66,26 @@ text_phrase f v e (is_array m) = absurd (cc)
 text_phrase f v e (is_empty_object b) = absurd (cc)
 text_phrase f v e (is_object m) = absurd (cc)
 
-end_text : {C : Type 0} (f : List ℕ → Bool → Option C) (x : List ℕ) (reason : Option ErrorCode) (place : Option (List ℕ)) → x ≡ [] → NotText f x reason place → (reason ≡ Some EofParsingString) × (place ≡ None)
-end_text f x reason place e (faulty_text k) = end_faulty x reason place e k
-end_text f x reason place e (other_text r k none) = quoted_none x e (quoted_more r (text_quote k))
+end_text : {C : Type 0} (other : Option ErrorCode) (f : List ℕ → Bool → Option C) (x : List ℕ) (reason : Option ErrorCode) (place : Option (List ℕ)) → x ≡ [] → NotText other f x reason place → (reason ≡ Some EofParsingString) × (place ≡ None)
+end_text other f x reason place e (faulty_text k) = end_faulty x reason place e k
+end_text other f x reason place e (other_text r k none) = quoted_none x e (quoted_more r (text_quote k))
 
-other_begin : {C : Type 0} (f : List ℕ → Bool → Option C) (x : List ℕ) (c : ℕ) (r : List ℕ) (reason : Option ErrorCode) (place : Option (List ℕ)) → x ≡ c ∷ r → is_quote c ≡ false → NotText f x reason place
+other_begin : {C : Type 0} (other : Option ErrorCode) (f : List ℕ → Bool → Option C) (x : List ℕ) (c : ℕ) (r : List ℕ) (reason : Option ErrorCode) (place : Option (List ℕ)) → x ≡ c ∷ r → is_quote c ≡ false → NotText other f x reason place
     → (reason ≡ Some ExpectedString) × (place ≡ Some [])
-other_begin f x c r reason place e h (faulty_text k) = other_faulty x c r reason place e h k
-other_begin f x c r reason place e h (other_text y k none) = quoted_other x c r e h (quoted_more y (text_quote k))
+other_begin other f x c r reason place e h (faulty_text k) = other_faulty x c r reason place e h k
+other_begin other f x c r reason place e h (other_text y k none) = quoted_other x c r e h (quoted_more y (text_quote k))
 
-not_text : {C : Type 0} (f : List ℕ → Bool → Option C) {s u : List ℕ} {plain : Bool} (v : C) (x r : List ℕ) (reason : Option ErrorCode) (place : Option (List ℕ)) → x ≡ s ++ r → Str s u plain → f u plain ≡ Some v → NotText f x reason place → ⊥
-not_text f v x r reason place e k is (faulty_text g) = not_faulty x r reason place e k g
-not_text f {u = u} {plain = plain} v x r reason place e k is (other_text {u = w} {plain = p} y l none) =
+not_text : {C : Type 0} (other : Option ErrorCode) (f : List ℕ → Bool → Option C) {s u : List ℕ} {plain : Bool} (v : C) (x r : List ℕ) (reason : Option ErrorCode) (place : Option (List ℕ)) → x ≡ s ++ r → Str s u plain → f u plain ≡ Some v → NotText other f x reason place → ⊥
+not_text other f v x r reason place e k is (faulty_text g) = not_faulty x r reason place e k g
+not_text other f {u = u} {plain = plain} v x r reason place e k is (other_text {u = w} {plain = p} y l none) =
     let one = one_string y r l k e in
     none_some (f u plain) v (subst (λ z. f u z ≡ None) one.2 (subst (λ z. f z p ≡ None) one.1 none)) is
 
-pub expects_text : {C : Type 0} (f : List ℕ → Bool → Option C) → Expected (NotText f) (as_text f) is_quote EofParsingString ExpectedString
-expects_text f = record {
-  at_end = λ reason place k. end_text f [] reason place refl k;
-  at_other = λ c r reason place h k. other_begin f (c ∷ r) c r reason place refl h k;
-  no_fault = λ s r t v reason place e k stops g. let (u, plain, str, is) = text_phrase f v e k in not_text f v (s ++ r) r reason place refl str is g;
+pub expects_text : {C : Type 0} (other : Option ErrorCode) (f : List ℕ → Bool → Option C) → Expected (NotText other f) (as_text f) is_quote EofParsingString ExpectedString
+expects_text other f = record {
+  at_end = λ reason place k. end_text other f [] reason place refl k;
+  at_other = λ c r reason place h k. other_begin other f (c ∷ r) c r reason place refl h k;
+  no_fault = λ s r t v reason place e k stops g. let (u, plain, str, is) = text_phrase f v e k in not_text other f v (s ++ r) r reason place refl str is g;
   first = λ s t v e k. text_quote (text_phrase f v e k).2;
 }
 

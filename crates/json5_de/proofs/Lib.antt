@@ -13,6 +13,8 @@ pub mod Mismatches
 pub mod Ends
 pub mod ExpectsTexts
 pub mod Documents
+pub mod WholeTexts
+pub mod FoundKeys
 pub mod TextScalars
 pub mod WholeDecimals
 pub mod ScalarsExpected
@@ -26,3 +28,16 @@ pub mod Required
 pub mod ListFaults
 pub mod Loops
 pub mod Own
+pub mod PassingSteps
+pub mod PassingMembers
+pub mod PassingValues
+pub mod PassingBrackets
+pub mod PassingTrees
+pub mod BytesDecoded
+pub mod Pairs
+pub mod PairCodes
+pub mod MapContents
+pub mod MapsHashed
+pub mod MapsRead
+pub mod Gathering
+pub mod Fields

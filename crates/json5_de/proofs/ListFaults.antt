@@ -7,6 +7,7 @@ use Rattle.json5_grammar.proofs.MembersConverted.{both_parts}
 use Rattle.json5_grammar.proofs.MembersPassed.{bracket_closes}
 use Rattle.json5_text.specs.declared.error.Error.{Error}
 use Rattle.json5_de.specs.State.{State}
+use Rattle.json5_de.specs.Brackets.{square}
 use Rattle.json5_de.specs.Access.{Seen, OpensArray, ClosesArray, AtClose, ElementsRead, ReadsMore}
 use Rattle.json5_de.specs.Lists.{Element, Elements, element, every, count, Accepted, Within, Shape, HasPlace, ListFault, at_element, too_few, RefusesRequired, at_fault, missing, RefusesList}
 use Rattle.json5_grammar.proofs.Basics.{true_false}
@@ -77,7 +78,7 @@ required_fault es shape old e now n size is few w (at_fault f) = at_element now 
 required_fault es shape old e now n size is few w (missing at close short) = too_few now n size w is few at close short
 
 -- where its bracket is next it is closed
-pub closes_there : (old now : Seen) (new : State) (e : Error) → AtClose old.due old.reader now.reader → now.due ≡ old.due → ClosesArray now new (Err e) → {A : Type 0} → A
+pub closes_there : (old now : Seen) (new : State) (e : Error) → AtClose square old.due old.reader now.reader → now.due ≡ old.due → ClosesArray now new (Err e) → {A : Type 0} → A
 closes_there old now new e at due closes =
     let (r, close, next) = at.close in
     let live = ap (λ (s : State). s.failed) at.rest ∙ at.live in

@@ -119,7 +119,7 @@ abbrev pub HasAtMost : {C D : Type 0} → (Tree → Option C) → (Trees → Opt
 HasAtMost {C = C} {D = D} f g n = (ts : Trees) (d : D) → g ts ≡ Some d → (cs : List C) × (contents f ts ≡ Some cs) × (length cs ≤ n)
 
 -- a refusal was handed on
-handed_on : {T E : Type 0} (P : Result T E → Type 0) (e : E) (r : Result T E) → IsErrAnd r (λ y. y ≡ e) → P (Err e) → P r
+pub handed_on : {T E : Type 0} (P : Result T E → Type 0) (e : E) (r : Result T E) → IsErrAnd r (λ y. y ≡ e) → P (Err e) → P r
 handed_on P e (Ok v) is p = absurd is
 handed_on P e (Err y) is p = subst (λ z. P (Err z)) (sym is) p
 

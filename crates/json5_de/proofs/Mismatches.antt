@@ -12,19 +12,19 @@ use Rattle.json5_text.specs.declared.error.Error.{Error}
 use Rattle.json5_text.specs.Errors.{place_of}
 use Rattle.json5_de.specs.State.{State}
 use Rattle.json5_de.specs.Faults.{RefusedByOrMemory, NotNumber, other_number, NotText, other_text}
-use Rattle.json5_de.specs.Steps.{PassedGap, TookText, IsMismatch}
+use Rattle.json5_de.specs.Steps.{PassedGap, TookText, IsMismatch, IsMismatchOf}
 use Rattle.json5_de.proofs.Taken.{refused_token, input_of}
 
 -- the offset is that of what is unread
 abbrev pub StartsAt : State → ℕ → Type 0
 StartsAt s start = (before : List ℕ) → s.input ≡ before ++ s.unread → start ≡ length (encode_utf8_all before)
 
-mismatched : {F : List ℕ → Option ErrorCode → Option (List ℕ) → Type 0} (old mid new : State) (e : Error) (start : ℕ) (s : List ℕ) → PassedGap old mid → TookText mid s new → StartsAt mid start → F mid.unread None (Some [])
-    → IsMismatch new.input start e → RefusedByOrMemory F old e
-mismatched old mid new e start s p k at fault (inl m) = inl m
-mismatched old mid new e start s p k at fault (inr (says, placed)) =
+mismatched : {F : List ℕ → Option ErrorCode → Option (List ℕ) → Type 0} (other : Option ErrorCode) (old mid new : State) (e : Error) (start : ℕ) (s : List ℕ) → PassedGap old mid → TookText mid s new → StartsAt mid start → F mid.unread other (Some [])
+    → IsMismatchOf other new.input start e → RefusedByOrMemory F old e
+mismatched other old mid new e start s p k at fault (inl m) = inl m
+mismatched other old mid new e start s p k at fault (inr (says, placed)) =
     inr (refused_token old mid e p (record {
-      reason = None;
+      reason = other;
       place = Some [];
       fault = fault;
       says = says;
@@ -35,10 +35,10 @@ pub refused_number : {V C : Type 0} (f : Number → Option C) (old mid new : Sta
     → StartsAt mid start → IsErrAnd result (IsMismatch new.input start) → IfErr result (RefusedByOrMemory (NotNumber f) old)
 refused_number f old mid new (Ok v) start s n p k num stops none at is = tt
 refused_number f old mid new (Err e) start s n p k num stops none at is =
-    mismatched old mid new e start s p k at (subst (λ x. NotNumber f x None (Some [])) (sym k.split) (other_number new.unread num stops none)) is
+    mismatched None old mid new e start s p k at (subst (λ x. NotNumber f x None (Some [])) (sym k.split) (other_number new.unread num stops none)) is
 
-pub refused_text : {V C : Type 0} (f : List ℕ → Bool → Option C) (old mid new : State) (result : Result V Error) (start : ℕ) (s u : List ℕ) (plain : Bool) → PassedGap old mid → TookText mid s new → Str s u plain → f u plain ≡ None
-    → StartsAt mid start → IsErrAnd result (IsMismatch new.input start) → IfErr result (RefusedByOrMemory (NotText f) old)
-refused_text f old mid new (Ok v) start s u plain p k str none at is = tt
-refused_text f old mid new (Err e) start s u plain p k str none at is =
-    mismatched old mid new e start s p k at (subst (λ x. NotText f x None (Some [])) (sym k.split) (other_text new.unread str none)) is
+pub refused_text : {V C : Type 0} (other : Option ErrorCode) (f : List ℕ → Bool → Option C) (old mid new : State) (result : Result V Error) (start : ℕ) (s u : List ℕ) (plain : Bool) → PassedGap old mid → TookText mid s new → Str s u plain → f u plain ≡ None
+    → StartsAt mid start → IsErrAnd result (IsMismatchOf other new.input start) → IfErr result (RefusedByOrMemory (NotText other f) old)
+refused_text other f old mid new (Ok v) start s u plain p k str none at is = tt
+refused_text other f old mid new (Err e) start s u plain p k str none at is =
+    mismatched other old mid new e start s p k at (subst (λ x. NotText other f x other (Some [])) (sym k.split) (other_text new.unread str none)) is

@@ -1,6 +1,7 @@
--- What a call for an element means, from what it gives or refuses.
+-- What a call of an access means, from what it gives or refuses.
 use Rattle.std.proofs.Common.{◌≡◌, ◌≢◌, Bool, true, false, ap, sym, ◌∙◌, subst, Option, Some, None}
 use Rattle.std.specs.Prelude.{◌==◌, ◌||◌, is_some, Ok, Err, ℕ, List}
+use Rattle.json5_grammar.specs.declared.code.ErrorCode.{ErrorCode}
 use Rattle.json5_grammar.specs.declared.code.ErrorCode.TheVariants as codes
 use Rattle.json5_grammar.specs.declared.position.Position.{Position}
 use Rattle.json5_grammar.specs.Members.{IsElement}
@@ -11,9 +12,11 @@ use Rattle.json5_text.specs.Errors.{code, kind_of, place_of, or_place}
 use Rattle.json5_de.specs.State.{State, OnlyRead, SameText}
 use Rattle.json5_de.specs.Faults.{AtEnd, AtOther, IsUnplaced, IsAfter}
 use Rattle.json5_de.specs.Access.{Seen, bare, Opened, TookElement, AtClose, GivesElement, StartsAfter, PlacedAtBracket, IsAtBracket, is_comma_or_closing}
+use Rattle.json5_de.specs.declared.brackets.Brackets.{Brackets}
 use Rattle.json5_de.specs.Brackets.{square}
-use Rattle.json5_de.specs.Seq.{RefusesElement, not_reached, in_element, RefusesNext}
+use Rattle.json5_de.specs.Seq.{Cause, RefusesCall, RefusesElement, not_reached, in_element, RefusesNext}
 use Rattle.json5_de.proofs.Expected.{end_fault, other_fault}
+use Rattle.json5_de.proofs.Arrays.{square_signs}
 use Rattle.json5_de.proofs.ArrayCodes.{expects_more, end_no_sign, other_no_sign, end_goes_nowhere, other_goes_nowhere}
 use Rattle.std.proofs.lemmas.Bool.{or_parts}
 use Rattle.json5_grammar.proofs.Basics.{true_false}
@@ -21,7 +24,7 @@ use Rattle.json5_grammar.proofs.Basics.{true_false}
 -- ---- the flag that blocks the reader
 
 -- the reader as the access sees it, which only read
-lent_back : (old new : State) → OnlyRead old new → record new { failed = old.failed } ≡ new
+pub lent_back : (old new : State) → OnlyRead old new → record new { failed = old.failed } ≡ new
 lent_back old new rest = ap (λ f. record new { failed = f }) (sym (ap (λ (s : State). s.failed) rest))
 
 -- what stood as failed is seen as the access says
@@ -38,47 +41,18 @@ gives_seen content convert old new a b (Some v) same lent due (t, took, is_due, 
 gives_seen content convert old new a b None same lent due (at, is_due) =
     let rest = subst (λ s. OnlyRead s b) same at.rest in
     let back : b ≡ new.reader = sym (lent ∙ lent_back old.reader b rest) in
-    (subst (λ s. AtClose old.due old.reader s) back (subst (λ s. AtClose old.due s b) same at), due ∙ is_due)
+    (subst (λ s. AtClose square old.due old.reader s) back (subst (λ s. AtClose square old.due s b) same at), due ∙ is_due)
 
 abbrev seen_from : State → ℕ → Seen
 seen_from s start = record { reader = s; start = start; due = false }
 
 -- what was opened is blocked, and seen as it was
-pub opened_seen : (old first last : State) (start : ℕ) → Opened square old first → last ≡ record first { failed = true } → seen_from first start ≡ seen_from (record last { failed = false }) start
-opened_seen old first last start o blocked =
+pub opened_seen : (b : Brackets) (old first last : State) (start : ℕ) → Opened b old first → last ≡ record first { failed = true } → seen_from first start ≡ seen_from (record last { failed = false }) start
+opened_seen b old first last start o blocked =
     let live : first.failed ≡ false = ap (λ (s : State). s.failed) o.rest ∙ o.live in
     ap (λ s. seen_from s start) (ap (λ f. record first { failed = f }) live ∙ ap (λ (s : State). record s { failed = false }) (sym blocked))
 
--- ---- an element or the bracket
-
-starts_with_comma : (due : Bool) (x r : List ℕ) (t : Tree) → due ≡ true → IsElement due x t r → IsElement true x t r
-starts_with_comma due x r t d e = subst (λ b. IsElement b x t r) d e
-
-end_no_element : {V C : Type 0} {A : Type 0} (content : V → C) (convert : Tree → Option C) (old new : Seen) (o : Option V) → old.due ≡ true → AtEnd old.reader → GivesElement content convert old new o → A
-end_no_element content convert old new (Some v) d at (t, took, due, is) = absurd (let (z, comma, reads) = starts_with_comma old.due old.reader.unread new.reader.unread t d took.element in end_no_sign 0x2C old.reader z comma_solid at comma)
-end_no_element content convert old new None d at (close, due) = absurd (end_goes_nowhere old.due false old.reader new.reader d at close)
-
-other_no_element : {V C : Type 0} {A : Type 0} (content : V → C) (convert : Tree → Option C) (old new : Seen) (o : Option V) (w : List ℕ) → old.due ≡ true → AtOther is_comma_or_closing old.reader w → GivesElement content convert old new o → A
-other_no_element content convert old new (Some v) w d at (t, took, due, is) =
-    absurd (let (z, comma, reads) = starts_with_comma old.due old.reader.unread new.reader.unread t d took.element in other_no_sign 0x2C old.reader w z comma_solid at (or_parts (at.char == 0x2C) (at.char == 0x5D) at.other).0 comma)
-other_no_element content convert old new None w d at (close, due) = absurd (other_goes_nowhere old.due false old.reader new.reader w d at close)
-
-gives_live : {V C : Type 0} {A : Type 0} (content : V → C) (convert : Tree → Option C) (old new : Seen) (o : Option V) → old.reader.failed ≡ true → GivesElement content convert old new o → A
-gives_live content convert old new (Some v) h (t, took, due, is) = absurd (true_false h took.live)
-gives_live content convert old new None h (close, due) = absurd (true_false h close.live)
-
-pub gives_next : {V C : Type 0} (content : V → C) (convert : Tree → Option C) (refuses : State → Error → State → Type 0) (old new : Seen) (o : Option V) → GivesElement content convert old new o → RefusesNext refuses old new (Ok o)
-gives_next content convert refuses old new o gives = record {
-  cause = tt;
-  placed = tt;
-  ends = λ d at. end_no_element content convert old new o d at gives;
-  differs = λ d w at. other_no_element content convert old new o w d at gives;
-  unprompted = tt;
-  failed = tt;
-  before = λ h. gives_live content convert old new o h gives;
-}
-
--- ---- a refusal
+-- ---- how a call refuses
 
 or_some : (o : Option Position) (p : Position) → or_place o p ≢ None
 or_some None p e = absurd (cc)
@@ -87,25 +61,71 @@ or_some (Some q) p e = absurd (cc)
 place_kept : (own e : Error) (p q : Position) → place_of e ≡ or_place (place_of own) p → place_of own ≡ Some q → place_of e ≡ Some q
 place_kept own e p q is k = is ∙ ap (λ o. or_place o p) k
 
-pub refuses_next : {V : Type 0} (refuses : State → Error → State → Type 0) (old new : Seen) (after : State) (own e : Error) → RefusesElement refuses old.due old.reader own after → (old.reader.failed ≡ false → kind_of own ≢ code codes.Failed)
-    → (old.reader.failed ≡ true → IsUnplaced codes.Failed own) → PlacedAtBracket old own e → new.reader.failed ≡ true → RefusesNext {V = V} refuses old new (Err e)
-refuses_next refuses old new after own e cause other before p failed = record {
+-- a fault without a place got the bracket's
+at_bracket : (old : Seen) (own e : Error) → PlacedAtBracket old own e → place_of own ≡ None → IsAtBracket old e
+at_bracket old own e p none before starts = p.place ∙ ap (λ o. or_place o p.there) none ∙ ap Some (p.is_there before starts)
+
+-- a call that was answered
+pub answers_call : {V : Type 0} (IsCause : Cause) (asked : Bool) (begins : ℕ → Bool) (ends differs : ErrorCode) (old : Seen) (new : State) (v : V) → (asked ≡ true → AtEnd old.reader → ⊥) → (asked ≡ true → (w : List ℕ) → AtOther begins old.reader w → ⊥)
+    → (old.reader.failed ≡ true → ⊥) → RefusesCall IsCause asked begins ends differs old new (Ok v)
+answers_call IsCause asked begins ends differs old new v no_end no_other live = record {
+  cause = tt;
+  placed = tt;
+  ends = λ a at. absurd (no_end a at);
+  differs = λ a w at. absurd (no_other a w at);
+  unprompted = tt;
+  failed = tt;
+  before = λ h. absurd (live h);
+}
+
+-- a call that was refused
+pub refuses_call : {V : Type 0} (IsCause : Cause) (asked : Bool) (begins : ℕ → Bool) (ends differs : ErrorCode) (old : Seen) (new after : State) (own e : Error) → IsCause own after → (asked ≡ true → AtEnd old.reader → IsUnplaced ends own)
+    → (asked ≡ true → (w : List ℕ) → AtOther begins old.reader w → IsAfter differs old.reader w own) → (old.reader.failed ≡ false → kind_of own ≢ code codes.Failed) → (old.reader.failed ≡ true → IsUnplaced codes.Failed own) → PlacedAtBracket old own e
+    → new.failed ≡ true → RefusesCall {V = V} IsCause asked begins ends differs old new (Err e)
+refuses_call IsCause asked begins ends differs old new after own e cause at_end at_other other before p failed = record {
   cause = λ live. record { own = own; after = after; cause = cause; placed = p };
   placed = λ none. or_some (place_of own) p.there (sym p.place ∙ none);
-  ends = λ d at. at_end cause d at;
-  differs = λ d w o. at_other cause d w o;
+  ends = λ a at. let (says, none) = at_end a at in (p.kind ∙ says, at_bracket old own e p none);
+  differs = λ a w o. let (says, placed) = at_other a w o in (p.kind ∙ says, λ b split. place_kept own e p.there _ p.place (placed b split));
   unprompted = λ live k. other live (sym p.kind ∙ k);
   failed = failed;
-  before = λ h. let (says, none) = before h in (p.kind ∙ says, λ b s. p.place ∙ ap (λ o. or_place o p.there) none ∙ ap Some (p.is_there b s));
+  before = λ h. let (says, none) = before h in (p.kind ∙ says, at_bracket old own e p none);
 }
-  where
-    at_end : RefusesElement refuses old.due old.reader own after → old.due ≡ true → AtEnd old.reader → (kind_of e ≡ code codes.EofParsingArray) × IsAtBracket old e
-    at_end (not_reached f) d at = let (says, none) = end_fault (expects_more old.due) old.reader own at f in (p.kind ∙ says, λ b s. p.place ∙ ap (λ o. or_place o p.there) none ∙ ap Some (p.is_there b s))
-    at_end (in_element start there k) d at = absurd (end_goes_nowhere old.due true old.reader start d at there)
 
-    at_other : RefusesElement refuses old.due old.reader own after → old.due ≡ true → (w : List ℕ) → AtOther is_comma_or_closing old.reader w → IsAfter codes.ExpectedComma old.reader w e
-    at_other (not_reached f) d w o = let (says, placed) = other_fault (expects_more old.due) old.reader own w o f in (p.kind ∙ says, λ b split. place_kept own e p.there _ p.place (placed b split))
-    at_other (in_element start there k) d w o = absurd (other_goes_nowhere old.due true old.reader start w d o there)
+-- ---- an element or the bracket
+
+starts_with_comma : (due : Bool) (x r : List ℕ) (t : Tree) → due ≡ true → IsElement due x t r → IsElement true x t r
+starts_with_comma due x r t d e = subst (λ b. IsElement b x t r) d e
+
+end_no_element : {V C : Type 0} (content : V → C) (convert : Tree → Option C) (old new : Seen) (o : Option V) → old.due ≡ true → AtEnd old.reader → GivesElement content convert old new o → ⊥
+end_no_element content convert old new (Some v) d at (t, took, due, is) = let (z, comma, reads) = starts_with_comma old.due old.reader.unread new.reader.unread t d took.element in end_no_sign 0x2C old.reader z comma_solid at comma
+end_no_element content convert old new None d at (close, due) = end_goes_nowhere square square_signs old.due false old.reader new.reader d at close
+
+other_no_element : {V C : Type 0} (content : V → C) (convert : Tree → Option C) (old new : Seen) (o : Option V) (w : List ℕ) → old.due ≡ true → AtOther (is_comma_or_closing square) old.reader w → GivesElement content convert old new o → ⊥
+other_no_element content convert old new (Some v) w d at (t, took, due, is) =
+    let (z, comma, reads) = starts_with_comma old.due old.reader.unread new.reader.unread t d took.element in other_no_sign 0x2C old.reader w z comma_solid at (or_parts (at.char == 0x2C) (at.char == 0x5D) at.other).0 comma
+other_no_element content convert old new None w d at (close, due) = other_goes_nowhere square square_signs old.due false old.reader new.reader w d at close
+
+gives_live : {V C : Type 0} (content : V → C) (convert : Tree → Option C) (old new : Seen) (o : Option V) → old.reader.failed ≡ true → GivesElement content convert old new o → ⊥
+gives_live content convert old new (Some v) h (t, took, due, is) = true_false h took.live
+gives_live content convert old new None h (close, due) = true_false h close.live
+
+pub gives_next : {V C : Type 0} (content : V → C) (convert : Tree → Option C) (refuses : State → Error → State → Type 0) (old new : Seen) (o : Option V) → GivesElement content convert old new o → RefusesNext refuses old new.reader (Ok o)
+gives_next content convert refuses old new o gives =
+    answers_call _ old.due _ _ _ old new.reader o (λ d at. end_no_element content convert old new o d at gives) (λ d w at. other_no_element content convert old new o w d at gives) (λ h. gives_live content convert old new o h gives)
+
+pub refuses_next : {V : Type 0} (refuses : State → Error → State → Type 0) (old : Seen) (new after : State) (own e : Error) → RefusesElement refuses old.due old.reader own after → (old.reader.failed ≡ false → kind_of own ≢ code codes.Failed)
+    → (old.reader.failed ≡ true → IsUnplaced codes.Failed own) → PlacedAtBracket old own e → new.failed ≡ true → RefusesNext {V = V} refuses old new (Err e)
+refuses_next refuses old new after own e cause other before p failed =
+    refuses_call (RefusesElement refuses old.due old.reader) old.due (is_comma_or_closing square) codes.EofParsingArray codes.ExpectedComma old new after own e cause (λ d at. at_end cause d at) (λ d w o. at_other cause d w o) other before p failed
+  where
+    at_end : RefusesElement refuses old.due old.reader own after → old.due ≡ true → AtEnd old.reader → IsUnplaced codes.EofParsingArray own
+    at_end (not_reached f) d at = end_fault (expects_more square old.due) old.reader own at f
+    at_end (in_element start there k) d at = absurd (end_goes_nowhere square square_signs old.due true old.reader start d at there)
+
+    at_other : RefusesElement refuses old.due old.reader own after → old.due ≡ true → (w : List ℕ) → AtOther (is_comma_or_closing square) old.reader w → IsAfter codes.ExpectedComma old.reader w own
+    at_other (not_reached f) d w o = other_fault (expects_more square old.due) old.reader own w o f
+    at_other (in_element start there k) d w o = absurd (other_goes_nowhere square square_signs old.due true old.reader start w d o there)
 
 -- the bracket stands where it stood, since the text is the same
 pub at_same_text : (old after last : State) {start : ℕ} {before : List ℕ} → SameText old after → last ≡ record after { failed = true } → StartsAfter old.input start before → StartsAfter last.input start before

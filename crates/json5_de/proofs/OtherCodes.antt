@@ -5,15 +5,16 @@ use Rattle.json5_grammar.specs.declared.code.ErrorCode.TheVariants as codes
 use Rattle.json5_grammar.specs.Blanks.{BlankFault, CommentFault, in_comment, no_comment, slash_ends, block_ends}
 use Rattle.json5_grammar.specs.Codes.{Shown}
 use Rattle.json5_grammar.specs.NumberFaults.{NumberFault, number_word_differs, number_word_ends, sign_without_number, sign_ends, no_hexadecimal_digit, hexadecimal_ends, hexadecimal_overflows, negative_too_large, not_a_literal, literal_overflows, leading_zero}
+use Rattle.json5_grammar.specs.NameFaults.{NameFault, no_unicode_escape, escaped_no_start, escaped_no_part, name_ends, backslash_ends}
 use Rattle.json5_grammar.specs.Numbers.{Number}
 use Rattle.json5_grammar.specs.StringFaults.{StringFault, EscapeFault, raw_terminator, string_ends, in_escape, digit_after_nul, escaped_digit, no_escape_digit, no_second_escape, unpaired, escape_ends}
-use Rattle.json5_text.specs.Tokens.{FaultyString, no_quote, string_missing, FaultyWord, word_differs, word_ends, FaultyNumber, faulty, no_number, number_missing}
+use Rattle.json5_text.specs.Tokens.{FaultyString, no_quote, string_missing, FaultyName, no_name, name_missing, FaultyKey, at_quote, at_name, FaultyWord, word_differs, word_ends, FaultyNumber, faulty, no_number, number_missing}
 use Rattle.json5_de.specs.Faults.{AfterBlanks, in_blanks, after_gap, NotNumber, faulty_number, other_number, NotText, faulty_text, other_text, Trailing, trailing}
 use Rattle.json5_de.specs.Scalars.{FaultyScalar, scalar_missing, no_scalar, in_null, in_true, in_false, in_text, in_number}
 use Rattle.json5_de.specs.declared.brackets.Brackets.{Brackets}
 use Rattle.json5_de.specs.Brackets.{AreSigns}
 use Rattle.json5_de.specs.Access.{NotClosed, NoBracket, other_sign, bracket_missing, not_here, after_comma, NotOpened, no_bracket, text_ends, too_deep}
-use Rattle.json5_de.specs.Seq.{NoNext, no_comma, list_ends, in_blanks_after}
+use Rattle.json5_de.specs.Seq.{NoNext, no_comma, comma_missing, in_blanks_after}
 use Rattle.json5_de.specs.Options.{NoOption, option_missing, faulty_null}
 use Rattle.json5_grammar.specs.Values.{null_text, true_text, false_text}
 
@@ -50,7 +51,7 @@ in_number_other (not_a_literal r n c h i j) e = absurd (cc)
 in_number_other (literal_overflows r s l i c h j k m n) e = absurd (cc)
 in_number_other (leading_zero r s c h i) e = absurd (cc)
 
-faulty_number_lacks : Lacks FaultyNumber
+pub faulty_number_lacks : Lacks FaultyNumber
 faulty_number_lacks x reason place (faulty f) = in_number_other f
 faulty_number_lacks x reason place (no_number c r h) = λ e. absurd (cc)
 faulty_number_lacks x reason place number_missing = λ e. absurd (cc)
@@ -61,7 +62,7 @@ number_lacks f x reason place (other_number r k stops none) = λ e. absurd (cc)
 
 -- ---- texts
 
-in_escape_other : {in_string : Bool} {x part : List ℕ} {reason : Option ErrorCode} {place : Option (List ℕ)} {shown : Shown} → EscapeFault in_string x reason place part shown → reason ≢ Some codes.Failed
+pub in_escape_other : {in_string : Bool} {x part : List ℕ} {reason : Option ErrorCode} {place : Option (List ℕ)} {shown : Shown} → EscapeFault in_string x reason place part shown → reason ≢ Some codes.Failed
 in_escape_other (digit_after_nul r h) e = absurd (cc)
 in_escape_other (escaped_digit r h) e = absurd (cc)
 in_escape_other (no_escape_digit c r i h) e = absurd (cc)
@@ -74,14 +75,33 @@ in_string_other (raw_terminator r q i h) e = absurd (cc)
 in_string_other (string_ends q i) e = absurd (cc)
 in_string_other (in_escape q i f) e = in_escape_other f e
 
-faulty_string_lacks : Lacks FaultyString
+pub faulty_string_lacks : Lacks FaultyString
 faulty_string_lacks x reason place (faulty f) = in_string_other f
 faulty_string_lacks x reason place (no_quote c r h) = λ e. absurd (cc)
 faulty_string_lacks x reason place string_missing = λ e. absurd (cc)
 
-pub text_lacks : {C : Type 0} (f : List ℕ → Bool → Option C) → Lacks (NotText f)
-text_lacks f x reason place (faulty_text k) = faulty_string_lacks x reason place k
-text_lacks f x reason place (other_text r str none) = λ e. absurd (cc)
+pub text_lacks : {C : Type 0} (other : Option ErrorCode) → other ≢ Some codes.Failed → (f : List ℕ → Bool → Option C) → Lacks (NotText other f)
+text_lacks other h f x reason place (faulty_text k) = faulty_string_lacks x reason place k
+text_lacks other h f x reason place (other_text r str none) = h
+
+-- ---- keys
+
+in_name_other : {x before part : List ℕ} {reason : Option ErrorCode} {place : Option (List ℕ)} {shown : Shown} → NameFault x reason place before part shown → reason ≢ Some codes.Failed
+in_name_other (NameFault.in_escape n f) e = in_escape_other f e
+in_name_other (no_unicode_escape c r n h) e = absurd (cc)
+in_name_other (escaped_no_start r u h) e = absurd (cc)
+in_name_other (escaped_no_part r i u h) e = absurd (cc)
+in_name_other (name_ends i) e = absurd (cc)
+in_name_other (backslash_ends n) e = absurd (cc)
+
+faulty_name_lacks : Lacks FaultyName
+faulty_name_lacks x reason place (faulty f) = in_name_other f
+faulty_name_lacks x reason place (no_name c r h) = λ e. absurd (cc)
+faulty_name_lacks x reason place name_missing = λ e. absurd (cc)
+
+pub key_lacks : Lacks FaultyKey
+key_lacks x reason place (at_quote q r split h f) = faulty_string_lacks x reason place f
+key_lacks x reason place (at_name h f) = faulty_name_lacks x reason place f
 
 -- ---- values of any kind
 
@@ -112,12 +132,12 @@ opening_lacks b k level x reason place (no_bracket c r h) = some_other b.not_ope
 opening_lacks b k level x reason place text_ends = some_other b.ends k.other_ends
 opening_lacks b k level x reason place (too_deep r full) = λ e. absurd (cc)
 
--- ---- where the next element is expected
+-- ---- where the next member is expected
 
-pub next_lacks : (due : Bool) → Lacks (NoNext due)
-next_lacks due x reason place (no_comma c r d h k) = λ e. absurd (cc)
-next_lacks due x reason place (list_ends d) = λ e. absurd (cc)
-next_lacks due x reason place (in_blanks_after d (before, part, shown, fault)) = in_blanks_other fault
+pub next_lacks : (b : Brackets) → AreSigns b → (due : Bool) → Lacks (NoNext b due)
+next_lacks b w due x reason place (no_comma c r d h k) = λ e. absurd (cc)
+next_lacks b w due x reason place (comma_missing d) = some_other b.ends w.other_ends
+next_lacks b w due x reason place (in_blanks_after d (before, part, shown, fault)) = in_blanks_other fault
 
 -- ---- where an option or the end is expected
 

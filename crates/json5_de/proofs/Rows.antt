@@ -12,13 +12,13 @@ use Rattle.json5_text.specs.Cursor.{Refused}
 use Rattle.json5_text.specs.Tokens.{FaultyBlanks, FaultyNumber, FaultyString}
 use Rattle.json5_grammar.specs.Strings.{Str}
 use Rattle.json5_de.specs.State.{cursor_of}
-use Rattle.json5_de.specs.Steps.{PassedGap, TookText, IsMismatch, WholeAt}
+use Rattle.json5_de.specs.Steps.{PassedGap, TookText, IsMismatch, IsMismatchOf, WholeAt}
 use Rattle.json5_de.specs.Law.{Gives, CompletesFree, StaysFailed, Unprompted}
 use Rattle.json5_grammar.specs.Numbers.{Number, whole, decimal, Num}
 use Rattle.json5_grammar.specs.Trees.{Tree, null, boolean, number, text, array, object}
-use Rattle.json5_de.specs.Convert.{as_whole, as_number, every_decimal, as_text, if_plain}
+use Rattle.json5_de.specs.Convert.{as_whole, as_number, every_decimal, as_text, if_plain, digits_bytes}
 use Rattle.json5_de.specs.Faults.{FaultRelation, AfterBlanks, in_blanks, after_gap, RefusedBy, RefusedByOrMemory, NotNumber, faulty_number, other_number, faulty_text, begins_with}
-use Rattle.json5_de.specs.Rows.{Row, RefusedWith, ReadsAs, EndsWhere, DiffersWhere, TellsApart, every_tree, plain_text, null_row, bool_row, whole_row, decimal_row, text_row, plain_row, any_row}
+use Rattle.json5_de.specs.Rows.{Row, RefusedWith, ReadsAs, EndsWhere, DiffersWhere, TellsApart, every_tree, no_tree, plain_text, null_row, bool_row, whole_row, decimal_row, coded_text_row, text_row, plain_row, bytes_row, any_row}
 use Rattle.json5_de.proofs.Expected.{Expected, wrongly_refused, completes_or_memory, ends_from, ends_or_memory, differs_from, differs_or_memory}
 use Rattle.json5_de.proofs.Expects.{expects_null, expects_bool}
 use Rattle.json5_de.proofs.ExpectsNumbers.{expects_number}
@@ -39,14 +39,14 @@ pub record IsLawful {C : Type 0} (row : Row C) : Type 0 where
   pub expected : Expected row.IsFault row.convert row.begins row.ends row.differs
   pub lacks : Lacks row.IsFault
 
-other_says : (reason : Option ErrorCode) (e : Error) → reason ≢ Some codes.Failed → Says reason e → kind_of e ≢ code codes.Failed
+pub other_says : (reason : Option ErrorCode) (e : Error) → reason ≢ Some codes.Failed → Says reason e → kind_of e ≢ code codes.Failed
 other_says (Some c) e h s k = h (let same : code c ≡ code codes.Failed = sym s ∙ k in cc)
 other_says None e h (own, s) k = let same : custom own ≡ code codes.Failed = sym s ∙ k in absurd (cc)
 
 pub refused_other : {F : List ℕ → Option ErrorCode → Option (List ℕ) → Type 0} → Lacks F → (old : State) (e : Error) → RefusedBy F old e → old.failed ≡ false → kind_of e ≢ code codes.Failed
 refused_other l old e k live = let f = k live in other_says f.reason e (after_lacks l _ f.reason f.place f.fault) f.says
 
-memory_other : (e : Error) → IsOutOfMemory e → kind_of e ≢ code codes.Failed
+pub memory_other : (e : Error) → IsOutOfMemory e → kind_of e ≢ code codes.Failed
 memory_other e m k = let same : code codes.OutOfMemory ≡ code codes.Failed = sym m ∙ k in absurd (cc)
 
 pub unprompted_from : {V : Type 0} {F : List ℕ → Option ErrorCode → Option (List ℕ) → Type 0} → Lacks F → (m : Bool) (old : State) (result : Result V Error) → IfErr result (RefusedWith m F old) → Unprompted old result
@@ -61,7 +61,7 @@ blanks_other e f = let (before, part, shown, fault) = f.fault in other_says f.re
 
 -- ---- the law of a read, from its steps
 
-or_memory_as : (m : Bool) {F : List ℕ → Option ErrorCode → Option (List ℕ) → Type 0} (old : State) (e : Error) → RefusedWith m F old e → RefusedByOrMemory F old e
+pub or_memory_as : (m : Bool) {F : List ℕ → Option ErrorCode → Option (List ℕ) → Type 0} (old : State) (e : Error) → RefusedWith m F old e → RefusedByOrMemory F old e
 or_memory_as false old e k = inr k
 or_memory_as true old e k = k
 
@@ -127,6 +127,15 @@ refuses_value {V = V} {row = row} l m none content old mid new e p k failed = re
     (λ t r c live reads shallow is free. absurd (let both : false ≡ true = sym (none t) ∙ free in cc))
     (subst (λ z. RefusedWith z row.IsFault old e) (sym m) k)
     (given_up old mid new p failed)
+    (λ h. true_false h p.live)
+
+-- memory ran out after the token was taken, where no tree is free
+pub refuses_memory : {V C : Type 0} {row : Row C} → IsLawful row → row.may_lack_memory ≡ true → ((t : Tree) → row.free t ≡ false) → (content : V → C) (old mid new last : State) (e : Error) (s : List ℕ) → PassedGap old mid → TookText mid s new → IsOutOfMemory e
+    → GivesUp new last → ReadsAs row content old last (Err e)
+refuses_memory {V = V} {row = row} l m none content old mid new last e s p k is failed = reads_err l content old last e
+    (λ t r c live reads shallow converts free. absurd (let both : false ≡ true = sym (none t) ∙ free in cc))
+    (subst (λ z. RefusedWith z row.IsFault old e) (sym m) (inl is))
+    (given_up_after old mid new last s p k failed)
     (λ h. true_false h p.live)
 
 -- ---- the kinds
@@ -215,8 +224,14 @@ out_of_range f content old new last result start z w none is failed = not_whole 
 
 -- ---- texts
 
+pub lawful_coded : {C : Type 0} (other : Option ErrorCode) → other ≢ Some codes.Failed → (f : List ℕ → Bool → Option C) (free : Tree → Bool) → IsLawful (coded_text_row other f free)
+lawful_coded other h f free = record { expected = expects_text other f; lacks = text_lacks other h f }
+
 pub lawful_text : {C : Type 0} (f : List ℕ → Bool → Option C) (free : Tree → Bool) → IsLawful (text_row f free)
-lawful_text f free = record { expected = expects_text f; lacks = text_lacks f }
+lawful_text = lawful_coded None (λ e. absurd (cc))
+
+pub lawful_bytes : IsLawful bytes_row
+lawful_bytes = lawful_coded (Some codes.InvalidBytes) (λ e. absurd (cc)) digits_bytes no_tree
 
 -- the string in front was taken or refused
 pub reads_text : {V C : Type 0} (f : List ℕ → Bool → Option C) (free : Tree → Bool) (content : V → C) (old mid new : State) (result : Result V Error) → PassedGap old mid → IfOk result (Gives content (as_text f) old new)
@@ -226,15 +241,19 @@ reads_text f free content old mid new (Err e) p gives k failed complete =
     reads_err (lawful_text f free) content old new e complete (refused_or_memory old mid e (λ x reason place g. faulty_text g) p k) (given_up old mid new p failed) (λ h. true_false h p.live)
 
 -- it isn't of the type
-pub not_text : {V C : Type 0} (f : List ℕ → Bool → Option C) (free : Tree → Bool) (content : V → C) (old mid new last : State) (result : Result V Error) (start : ℕ) (s u : List ℕ) (plain : Bool) → PassedGap old mid → TookText mid s new → Str s u plain
-    → f u plain ≡ None → StartsAt mid start → IsErrAnd result (IsMismatch new.input start) → GivesUp new last → ReadsAs (text_row f free) content old last result
-not_text f free content old mid new last (Ok v) start s u plain p k str none at is failed = absurd is
-not_text f free content old mid new last (Err e) start s u plain p k str none at is failed =
-    reads_err (lawful_text f free) content old last e
+pub not_coded : {V C : Type 0} (other : Option ErrorCode) → other ≢ Some codes.Failed → (f : List ℕ → Bool → Option C) (free : Tree → Bool) (content : V → C) (old mid new last : State) (result : Result V Error) (start : ℕ) (s u : List ℕ) (plain : Bool)
+    → PassedGap old mid → TookText mid s new → Str s u plain → f u plain ≡ None → StartsAt mid start → IsErrAnd result (IsMismatchOf other new.input start) → GivesUp new last → ReadsAs (coded_text_row other f free) content old last result
+not_coded other h f free content old mid new last (Ok v) start s u plain p k str none at is failed = absurd is
+not_coded other h f free content old mid new last (Err e) start s u plain p k str none at is failed =
+    reads_err (lawful_coded other h f free) content old last e
     (λ t r v live reads shallow converts free. absurd (no_other_text f old mid new s u plain t r v p k str none reads converts))
-    (refused_text {V = Unit {0}} f old mid new (Err e) start s u plain p k str none at is)
+    (refused_text {V = Unit {0}} other f old mid new (Err e) start s u plain p k str none at is)
     (given_up_after old mid new last s p k failed)
     (λ h. true_false h p.live)
+
+pub not_text : {V C : Type 0} (f : List ℕ → Bool → Option C) (free : Tree → Bool) (content : V → C) (old mid new last : State) (result : Result V Error) (start : ℕ) (s u : List ℕ) (plain : Bool) → PassedGap old mid → TookText mid s new → Str s u plain
+    → f u plain ≡ None → StartsAt mid start → IsErrAnd result (IsMismatch new.input start) → GivesUp new last → ReadsAs (text_row f free) content old last result
+not_text = not_coded None (λ e. absurd (cc))
 
 plain_converts : (t : Tree) → plain_text t ≡ true → (v : List ℕ) × (as_text if_plain t ≡ Some v)
 plain_converts null e = absurd (cc)

@@ -112,7 +112,7 @@ no_text_fault s r null reason place e v stops f = absurd (cc)
 no_text_fault s r (boolean true) reason place e v stops f = absurd (cc)
 no_text_fault s r (boolean false) reason place e v stops f = absurd (cc)
 no_text_fault s r (number n) reason place e v stops f = absurd (cc)
-no_text_fault s r (text u plain) reason place e v stops f = (expects_text every_text).no_fault s r (text u plain) _ reason place refl v stops (faulty_text f)
+no_text_fault s r (text u plain) reason place e v stops f = (expects_text None every_text).no_fault s r (text u plain) _ reason place refl v stops (faulty_text f)
 no_text_fault s r (array ts) reason place e v stops f = absurd (cc)
 no_text_fault s r (object ps) reason place e v stops f = absurd (cc)
 

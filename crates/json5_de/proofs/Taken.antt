@@ -22,7 +22,7 @@ use Rattle.json5_de.specs.Faults.{AfterBlanks, in_blanks, after_gap, RefusedBy, 
 use Rattle.json5_de.specs.Steps.{PassedGap, TookText}
 
 -- a gap before a value is of blanks
-value_gap : {s : List ℕ} {t : Tree} (w x r : List ℕ) → Val s t → Gap w x → x ≡ s ++ r → Blanks w
+pub value_gap : {s : List ℕ} {t : Tree} (w x r : List ℕ) → Val s t → Gap w x → x ≡ s ++ r → Blanks w
 value_gap w x r v g e =
     let head = val_head v in
     gap_blanks head.char (head.more ++ r) (subst (Gap w) (e ∙ ap (λ z. z ++ r) head.is) g)
@@ -105,7 +105,7 @@ refused_bool s e w b is next test equal peeked word f =
       placed = f.placed;
     }
 
-refused_by : {F G : List ℕ → Option ErrorCode → Option (List ℕ) → Type 0} (s : State) (e : Error) → ((x : List ℕ) (reason : Option ErrorCode) (place : Option (List ℕ)) → F x reason place → G x reason place)
+pub refused_by : {F G : List ℕ → Option ErrorCode → Option (List ℕ) → Type 0} (s : State) (e : Error) → ((x : List ℕ) (reason : Option ErrorCode) (place : Option (List ℕ)) → F x reason place → G x reason place)
     → Refused F (cursor_of s) e → Refused G (cursor_of s) e
 refused_by s e wider f = record { reason = f.reason; place = f.place; fault = wider s.unread f.reason f.place f.fault; says = f.says; placed = f.placed }
 

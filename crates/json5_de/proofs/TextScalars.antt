@@ -7,6 +7,7 @@ use Rattle.std.proofs.lemmas.Bool.Decides.{nat_tests}
 use Rattle.std.proofs.lemmas.Str.{chars-encodes}
 use Rattle.json5_grammar.specs.Characters.{is_in, is_hex_digit, char, no_char}
 use Rattle.json5_grammar.specs.Strings.{short_escape, Hex4, hex4, is_high, is_low, pair_value, Unicode, single, surrogates, Escape, short, nul, byte, unicode, line_end, cr_lf, lone_cr, itself, Items, no_item, raw, escape, Str, quoted}
+use Rattle.json5_grammar.specs.Names.{NameItem, raw_name, escaped_name, NameParts, no_part, part, Ident, name, Key, string_key, name_key}
 use Rattle.json5_grammar.proofs.Basics.{by_test}
 use Rattle.json5_de.specs.Convert.{one_character}
 use Rattle.std.proofs.lemmas.Bool.{and_parts}
@@ -99,6 +100,27 @@ items_scalars (escape {e = e} {v = v} {s = s} {u = u} x i) k = let l = scalar_ha
 
 pub text_scalars : {s u : List ℕ} {plain : Bool} → Str s u plain → all_scalars s ≡ true → all_scalars u ≡ true
 text_scalars (quoted {q = q} {s = s} h i) k = items_scalars i (scalar_halves s (q ∷ []) (one_more q (s ++ q ∷ []) k).1).0
+
+-- ---- keys
+
+item_scalar : {v : List ℕ} {c : ℕ} {p : Bool} → NameItem v c p → all_scalars v ≡ true → IsScalar c
+item_scalar (raw_name {c = c} n) k = (one_more c [] k).0
+item_scalar (escaped_name u) k = unicode_scalar u
+
+parts_scalars : {s u : List ℕ} {plain : Bool} → NameParts s u plain → all_scalars s ≡ true → all_scalars u ≡ true
+parts_scalars no_part k = refl
+parts_scalars (part {s = s} {v = v} {u = u} {c = c} i h n) k = let l = scalar_halves v s k in more_scalars c u (item_scalar i l.0) (parts_scalars n l.1)
+
+name_scalars : {s u : List ℕ} {plain : Bool} → Ident s u plain → all_scalars s ≡ true → all_scalars u ≡ true
+name_scalars (name {v = v} {s = s} {u = u} {c = c} i h n) k = let l = scalar_halves v s k in more_scalars c u (item_scalar i l.0) (parts_scalars n l.1)
+
+key_spelled : {s r u : List ℕ} {plain : Bool} → Key s r u plain → all_scalars s ≡ true → all_scalars u ≡ true
+key_spelled (string_key k) h = text_scalars k h
+key_spelled (name_key i e) h = name_scalars i h
+
+-- a key in front has a text of scalar values
+pub key_scalars : {s u : List ℕ} {plain : Bool} (x r : List ℕ) → x ≡ s ++ r → all_scalars x ≡ true → Key s r u plain → all_scalars u ≡ true
+key_scalars {s = s} x r split h k = key_spelled k (scalar_halves s r (subst (λ z. all_scalars z ≡ true) split h)).0
 
 -- the characters of the bytes of a text in front
 pub text_characters : {s u : List ℕ} {plain : Bool} (x r bytes : List ℕ) → x ≡ s ++ r → all_scalars x ≡ true → Str s u plain → bytes ≡ encode_utf8_all u → chars bytes ≡ u

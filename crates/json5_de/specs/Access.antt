@@ -1,7 +1,7 @@
 -- What contracts see of an access to an array.
 use Rattle.std.specs.Prelude.{◌≡◌, ◌≢◌, ◌⊎◌, ℕ, ◌+◌, ◌-◌, ◌<◌, ◌≤◌, Bool, true, false, List, [], ◌∷◌, ◌++◌, length, Option, Some, None, Result, Ok, Err, IfOk, IfErr, OnOk, OnErr, IsOk, IsOkAnd, IsErrAnd, MatchResult, ◌==◌, ◌||◌, ◌&&◌}
 use Rattle.std.specs.Str.{encode_utf8_all}
-use Rattle.json5_grammar.specs.Characters.{comma_sign, right_bracket}
+use Rattle.json5_grammar.specs.Characters.{comma_sign}
 use Rattle.json5_grammar.specs.declared.code.ErrorCode.{ErrorCode}
 use Rattle.json5_grammar.specs.declared.code.ErrorCode.TheVariants as codes
 use Rattle.json5_grammar.specs.Codes.{after_text}
@@ -10,7 +10,7 @@ use Rattle.json5_grammar.specs.Positions.{position_after}
 use Rattle.json5_grammar.specs.Trees.{Tree, Trees, array, more, no_more, depth, depths}
 use Rattle.json5_grammar.specs.Documents.{max_depth}
 use Rattle.json5_grammar.specs.Values.{Reads}
-use Rattle.json5_grammar.specs.Members.{IsSign, IsEnd, Opens, IsElement, IsClose, IsAtClose, Passed, Tail, snoc}
+use Rattle.json5_grammar.specs.Members.{IsSign, IsEnd, Opens, IsElement, IsAtClose, Passed, Tail, snoc}
 use Rattle.json5_text.specs.declared.error.Error.{Error}
 use Rattle.json5_text.specs.Errors.{place_of}
 use Rattle.json5_de.specs.State.{State, OnlyRead, SameText}
@@ -48,6 +48,16 @@ pub record Closed (b : Brackets) (due : Bool) (old new : State) : Type 0 where
   pub close : IsEnd b.closing due old.unread new.unread
   pub rest : new ≡ record old { unread = new.unread; level = old.level - 1 }
 
+-- the closing bracket is next, after the comma that may stand there
+pub record AtClose (b : Brackets) (due : Bool) (old new : State) : Type 0 where
+  pub live : old.failed ≡ false
+  pub close : (r : List ℕ) × IsEnd b.closing due old.unread r × (new.unread ≡ b.closing ∷ r)
+  pub rest : OnlyRead old new
+
+-- nothing is refused where the closing bracket goes on
+abbrev pub CompletesClose : {V : Type 0} → Brackets → Seen → Result V Error → Type 0
+CompletesClose b old result = (r : List ℕ) → old.reader.failed ≡ false → IsEnd b.closing old.due old.reader.unread r → IsOk result
+
 -- ---- an array
 
 -- an element of the tree t was read, after the comma that was due
@@ -57,16 +67,10 @@ pub record TookElement (due : Bool) (old : State) (t : Tree) (new : State) : Typ
   pub shallow : old.level + depth t ≤ max_depth
   pub rest : OnlyRead old new
 
--- the closing bracket is next, after the comma that may stand there
-pub record AtClose (due : Bool) (old new : State) : Type 0 where
-  pub live : old.failed ≡ false
-  pub close : IsAtClose due old.unread new.unread
-  pub rest : OnlyRead old new
-
 -- an element was read and stands for v, or the closing bracket is next
 abbrev pub GivesElement : {V C : Type 0} → (V → C) → (Tree → Option C) → Seen → Seen → Option V → Type 0
 GivesElement content convert old new (Some v) = (t : Tree) × TookElement old.due old.reader t new.reader × (new.due ≡ true) × (convert t ≡ Some (content v))
-GivesElement content convert old new None = AtClose old.due old.reader new.reader × (new.due ≡ old.due)
+GivesElement content convert old new None = AtClose square old.due old.reader new.reader × (new.due ≡ old.due)
 
 -- an element that can be read is read, unless memory runs out
 abbrev pub CompletesElement : {V C : Type 0} → (Tree → Option C) → Seen → Result V Error → Type 0
@@ -78,10 +82,6 @@ abbrev pub ReadsElement : {V C : Type 0} → (V → C) → (Tree → Option C) �
 ReadsElement {C = C} content convert old result =
     (t : Tree) (r : List ℕ) (c : C) → old.reader.failed ≡ false → IsElement old.due old.reader.unread t r → old.reader.level + depth t ≤ max_depth → convert t ≡ Some c
     → MatchResult result (λ o. if_some content o ≡ Some c) IsOutOfMemory
-
--- nothing is refused where the array ends
-abbrev pub CompletesClose : {V : Type 0} → Seen → Result V Error → Type 0
-CompletesClose old result = (r : List ℕ) → old.reader.failed ≡ false → IsClose old.due old.reader.unread r → IsOk result
 
 -- ---- an array as a whole: what was read of it, and what is left
 
@@ -153,9 +153,9 @@ TooDeepAt b old result = (w : List ℕ) → AtFull b old w → IsErrAnd result (
 abbrev pub is_opening : Brackets → ℕ → Bool
 is_opening b c = c == b.opening
 
--- after an element
-abbrev pub is_comma_or_closing : ℕ → Bool
-is_comma_or_closing c = (c == comma_sign) || (c == right_bracket)
+-- after a member
+abbrev pub is_comma_or_closing : Brackets → ℕ → Bool
+is_comma_or_closing b c = (c == comma_sign) || (c == b.closing)
 
 -- the closing bracket, and before it the comma that may stand there
 abbrev pub begins_close : Brackets → Bool → ℕ → Bool

@@ -3,7 +3,9 @@ use Rattle.std.specs.Prelude.{ℕ, Bool, true, false, if◌then◌else◌, nat_l
 use Rattle.std.specs.Fmt as numerals
 use Rattle.std.specs.Borrow.{Bor}
 use Rattle.std.specs.List.{position}
+use Rattle.std.specs.Result.{result_ok}
 use Rattle.std.specs.Str.{bytes_eq, encode_utf8_all}
+use Rattle.hex.specs.Hex.{decode_of}
 use Rattle.json5_grammar.specs.Numbers.{Number, Decimal, whole, decimal, finite, without_zeros, normal_exponent}
 use Rattle.json5_grammar.specs.Trees.{Tree, null, boolean, number, text}
 use Rattle.json5_text.specs.ValueViews.{Datum}
@@ -106,6 +108,13 @@ variant_of names = as_text (place_among names)
 
 abbrev pub char_of : Tree → Option ℕ
 char_of = as_text one_character
+
+-- the bytes of a text of hexadecimal digits in either case, two a byte; any other text converts to none
+abbrev pub digits_bytes : List ℕ → Bool → Option (List ℕ)
+digits_bytes u plain = result_ok (decode_of (encode_utf8_all u))
+
+abbrev pub byte_buf_of : Tree → Option (List ℕ)
+byte_buf_of = as_text digits_bytes
 
 -- ---- values of any kind
 

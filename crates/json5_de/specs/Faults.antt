@@ -28,10 +28,10 @@ pub data NotNumber {C : Type 0} (convert : Number → Option C) : List ℕ → O
   faulty_number : {x : List ℕ} {reason : Option ErrorCode} {place : Option (List ℕ)} → FaultyNumber x reason place → NotNumber convert x reason place
   other_number : {s : List ℕ} {n : Number} (r : List ℕ) → Num s n → Stops s r → convert n ≡ None → NotNumber convert (s ++ r) None (Some [])
 
--- a string in front is faulty, or it is whole and isn't the type's: a text of its own, at the quote
-pub data NotText {C : Type 0} (convert : List ℕ → Bool → Option C) : List ℕ → Option ErrorCode → Option (List ℕ) → Type 0 where
-  faulty_text : {x : List ℕ} {reason : Option ErrorCode} {place : Option (List ℕ)} → FaultyString x reason place → NotText convert x reason place
-  other_text : {s u : List ℕ} {plain : Bool} (r : List ℕ) → Str s u plain → convert u plain ≡ None → NotText convert (s ++ r) None (Some [])
+-- a string in front is faulty, or it is whole and isn't the type's: this code, None for a text of its own, at the quote
+pub data NotText {C : Type 0} (other : Option ErrorCode) (convert : List ℕ → Bool → Option C) : List ℕ → Option ErrorCode → Option (List ℕ) → Type 0 where
+  faulty_text : {x : List ℕ} {reason : Option ErrorCode} {place : Option (List ℕ)} → FaultyString x reason place → NotText other convert x reason place
+  other_text : {s u : List ℕ} {plain : Bool} (r : List ℕ) → Str s u plain → convert u plain ≡ None → NotText other convert (s ++ r) other (Some [])
 
 -- a reader that hasn't failed refuses with a fault that the relation gives what is after the blanks, at its place
 abbrev pub RefusedBy : FaultRelation → State → Error → Type 0

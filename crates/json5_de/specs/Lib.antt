@@ -11,7 +11,17 @@ pub mod Brackets
 pub mod Access
 pub mod Seq
 pub mod Lists
+pub mod Keys
+pub mod KeyRows
+pub mod KeySteps
+pub mod Objects
+pub mod ObjectFaults
+pub mod Maps
+pub mod Fields
+pub mod MapFaults
 pub mod Lending
 pub mod Texts
 pub mod Own
 pub mod Spans
+pub mod AnyTree
+pub mod Passing

@@ -53,7 +53,7 @@ IsTooShort old e = IsOutOfMemory e ⊎ (Says None e × IsAtBracket old e)
 -- the element's fault, or the list ends before it
 pub data RefusesRequired (refuses : State → Error → State → Type 0) (old : Seen) (e : Error) : Type 0 where
   at_fault : RefusedAtBracket refuses old e → RefusesRequired refuses old e
-  missing : (at : State) → AtClose old.due old.reader at → IsTooShort old e → RefusesRequired refuses old e
+  missing : (at : State) → AtClose square old.due old.reader at → IsTooShort old e → RefusesRequired refuses old e
 
 -- where elements are left and the first converts, it was read, unless memory ran out, and the others are left; where none is left, none was read
 abbrev pub LeavesRequired : {V C : Type 0} → (V → C) → (Tree → Option C) → Trees → List ℕ → Seen → Result V Error → Type 0
@@ -96,7 +96,7 @@ HasPlace (Some n) place = place < n
 pub data ListFault (es : Elements) (shape : Shape) (old : State) (e : Error) : Type 0 where
   not_opened : RefusedBy (NotOpened square old.level) old e → ListFault es shape old e
   at_element : (now : Seen) (n : ℕ) → Within es old now n → HasPlace shape.size n → RefusedAtBracket (es n).refuses now e → ListFault es shape old e
-  too_few : (now : Seen) (n size : ℕ) → Within es old now n → shape.size ≡ Some size → n < size → (at : State) → AtClose now.due now.reader at → IsTooShort now e → ListFault es shape old e
+  too_few : (now : Seen) (n size : ℕ) → Within es old now n → shape.size ≡ Some size → n < size → (at : State) → AtClose square now.due now.reader at → IsTooShort now e → ListFault es shape old e
   too_many : (now : Seen) (n : ℕ) → Within es old now n → shape.size ≡ Some n → RefusedBy (NotClosed square now.due) now.reader e → ListFault es shape old e
   no_memory : shape.gathers ≡ true → IsOutOfMemory e → ListFault es shape old e
 

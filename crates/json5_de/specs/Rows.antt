@@ -1,5 +1,5 @@
 -- The kinds of values that one token makes, and the law of a method that reads one.
-use Rattle.std.specs.Prelude.{Bool, true, false, ℕ, ◌==◌, ◌||◌, List, ℤ, Option, Result}
+use Rattle.std.specs.Prelude.{Bool, true, false, ℕ, ◌==◌, ◌||◌, List, ℤ, Option, Some, None, Result}
 use Rattle.std.specs.String.{string_bytes}
 use Rattle.std.specs.Borrow.{Bor}
 use Rattle.std.specs.declared.string.String.{String}
@@ -15,7 +15,7 @@ use Rattle.json5_text.specs.declared.error.Error.{Error}
 use Rattle.json5_text.specs.ValueViews.{Datum}
 use Rattle.json5_de.specs.State.{State}
 use Rattle.json5_de.specs.Law.{ReadsValue}
-use Rattle.json5_de.specs.Convert.{unit_of, bool_of, as_number, as_whole, natural_below, integer_below, every_decimal, as_text, every_text, if_plain, every_cow, one_character, place_among, datum_of}
+use Rattle.json5_de.specs.Convert.{unit_of, bool_of, as_number, as_whole, natural_below, integer_below, every_decimal, as_text, every_text, if_plain, every_cow, one_character, place_among, digits_bytes, datum_of}
 use Rattle.json5_de.specs.Faults.{FaultRelation, RefusedBy, RefusedByOrMemory, FaultyNull, FaultyBool, NotNumber, NotText, EndsWith, EndsWithOrMemory, DiffersWith, DiffersWithOrMemory}
 use Rattle.json5_de.specs.Scalars.{FaultyScalar, begins_scalar}
 
@@ -93,9 +93,13 @@ integer_row bound = whole_row (integer_below bound)
 abbrev pub decimal_row : Row Decimal
 decimal_row = record { IsFault = NotNumber every_decimal; convert = as_number every_decimal; free = no_tree; begins = λ c. is_sign c || begins_number c; ends = codes.EofParsingNumber; differs = codes.ExpectedNumber; may_lack_memory = true }
 
--- a text that converts
+-- a text that converts; else this code at the quote, None for a text of its own
+abbrev pub coded_text_row : {C : Type 0} → Option ErrorCode → (List ℕ → Bool → Option C) → (Tree → Bool) → Row C
+coded_text_row other f free = record { IsFault = NotText other f; convert = as_text f; free = free; begins = is_quote; ends = codes.EofParsingString; differs = codes.ExpectedString; may_lack_memory = true }
+
+-- a text that converts; else a text of its own
 abbrev pub text_row : {C : Type 0} → (List ℕ → Bool → Option C) → (Tree → Bool) → Row C
-text_row f free = record { IsFault = NotText f; convert = as_text f; free = free; begins = is_quote; ends = codes.EofParsingString; differs = codes.ExpectedString; may_lack_memory = true }
+text_row = coded_text_row None
 
 abbrev pub string_row : Row (List ℕ)
 string_row = text_row every_text no_tree
@@ -115,6 +119,10 @@ cow_row = text_row every_cow plain_text
 -- one of these names, by its first place among them
 abbrev pub variant_row : List (Bor (List ℕ)) → Row ℕ
 variant_row names = text_row (place_among names) no_tree
+
+-- bytes, as a text of hexadecimal digits
+abbrev pub bytes_row : Row (List ℕ)
+bytes_row = coded_text_row (Some codes.InvalidBytes) digits_bytes no_tree
 
 -- a value of any kind that is no collection
 abbrev pub any_row : Row Datum

@@ -1,17 +1,18 @@
--- The steps of an access to an array, and how a call for an element refuses.
+-- The steps of an access, and how its calls refuse.
 use Rattle.std.specs.Prelude.{◌≡◌, ℕ, ◌-◌, Bool, true, false, List, [], ◌∷◌, ◌++◌, Option, Some, None, ◌==◌, Result, IfErr, OnErr, IsErrAnd}
 use Rattle.json5_grammar.specs.declared.code.ErrorCode.{ErrorCode}
 use Rattle.json5_grammar.specs.declared.code.ErrorCode.TheVariants as codes
 use Rattle.json5_grammar.specs.Codes.{after_text}
-use Rattle.json5_grammar.specs.Characters.{NotBegun, comma_sign, right_bracket}
+use Rattle.json5_grammar.specs.Characters.{NotBegun, comma_sign}
 use Rattle.json5_grammar.specs.Blanks.{Gap, Solid}
-use Rattle.json5_grammar.specs.Members.{IsSign}
+use Rattle.json5_grammar.specs.Members.{IsSign, IsEnd}
 use Rattle.json5_text.specs.Cursor.{Refused}
 use Rattle.json5_text.specs.Tokens.{FaultyBlanks}
 use Rattle.json5_text.specs.declared.error.Error.{Error}
 use Rattle.json5_text.specs.Errors.{code, kind_of}
 use Rattle.json5_de.specs.State.{State, OnlyRead, cursor_of}
 use Rattle.json5_de.specs.declared.brackets.Brackets.{Brackets}
+use Rattle.json5_de.specs.Brackets.{square}
 use Rattle.json5_de.specs.Law.{Unprompted}
 use Rattle.json5_de.specs.Faults.{RefusedBy, AtEnd, DiffersWith}
 use Rattle.json5_de.specs.Access.{Seen, AtClose, Unexpected, HasPlace, PlacedAtBracket, IsAtBracket, is_comma_or_closing}
@@ -23,7 +24,7 @@ pub record IsAfterGap (x y : List ℕ) : Type 0 where
   pub is_gap : Gap gap y
   pub solid : Solid y
 
--- y is where an element of x may begin, after the comma that is due
+-- y is where a member of x may begin, after the comma that is due
 abbrev pub Begun : Bool → List ℕ → List ℕ → Type 0
 Begun false x y = IsAfterGap x y
 Begun true x y = (z : List ℕ) × IsSign comma_sign x z × IsAfterGap z y
@@ -36,41 +37,63 @@ TookClosing b old new = (old.unread ≡ b.closing ∷ new.unread) × (new ≡ re
 abbrev pub RefusesClosing : Brackets → State → Error → Type 0
 RefusesClosing b old e = Refused (Unexpected b.ends b.not_closed) (cursor_of old) e × NotBegun (λ c. c == b.closing) old.unread
 
--- no closing bracket is next
-pub record AtElement (due : Bool) (old new : State) : Type 0 where
+-- a member may begin here: no closing bracket is next
+pub record AtMember (b : Brackets) (due : Bool) (old new : State) : Type 0 where
   pub live : old.failed ≡ false
   pub begun : Begun due old.unread new.unread
-  pub inside : NotBegun (λ c. c == right_bracket) new.unread
+  pub inside : NotBegun (λ c. c == b.closing) new.unread
   pub rest : OnlyRead old new
 
-abbrev pub GoesOn : Bool → State → State → Bool → Type 0
-GoesOn due old new true = AtElement due old new
-GoesOn due old new false = AtClose due old new
+abbrev pub GoesOn : Brackets → Bool → State → State → Bool → Type 0
+GoesOn b due old new true = AtMember b due old new
+GoesOn b due old new false = AtClose b due old new
 
--- what is refused where the next element is expected
-pub data NoNext (due : Bool) : List ℕ → Option ErrorCode → Option (List ℕ) → Type 0 where
-  no_comma : (c : ℕ) (r : List ℕ) → due ≡ true → (c == comma_sign) ≡ false → (c == right_bracket) ≡ false → NoNext due (c ∷ r) (Some codes.ExpectedComma) (Some [])
-  list_ends : due ≡ true → NoNext due [] (Some codes.EofParsingArray) None
-  in_blanks_after : {x : List ℕ} {reason : Option ErrorCode} {place : Option (List ℕ)} → due ≡ true → FaultyBlanks x reason place → NoNext due (comma_sign ∷ x) reason (after_text (comma_sign ∷ []) place)
+-- x goes on with no place where a member may begin, and with no closing bracket
+pub record NothingNext (b : Brackets) (due : Bool) (x : List ℕ) : Type 0 where
+  pub no_member : (y : List ℕ) → Begun due x y → ⊥
+  pub no_close : (r : List ℕ) → IsEnd b.closing due x r → ⊥
+
+-- what is refused where the next member is expected
+pub data NoNext (b : Brackets) (due : Bool) : List ℕ → Option ErrorCode → Option (List ℕ) → Type 0 where
+  no_comma : (c : ℕ) (r : List ℕ) → due ≡ true → (c == comma_sign) ≡ false → (c == b.closing) ≡ false → NoNext b due (c ∷ r) (Some codes.ExpectedComma) (Some [])
+  comma_missing : due ≡ true → NoNext b due [] (Some b.ends) None
+  in_blanks_after : {x : List ℕ} {reason : Option ErrorCode} {place : Option (List ℕ)} → due ≡ true → FaultyBlanks x reason place → NoNext b due (comma_sign ∷ x) reason (after_text (comma_sign ∷ []) place)
+
+-- ---- how a call of an access refuses
+
+-- why a call is refused: its own fault, and how it leaves the reader
+abbrev pub Cause : Type 1
+Cause = Error → State → Type 0
+
+-- the fault, at the opening bracket where it had no place
+pub record PlacedFault (IsCause : Cause) (old : Seen) (e : Error) : Type 0 where
+  pub own : Error
+  pub after : State
+  pub cause : IsCause own after
+  pub placed : PlacedAtBracket old own e
+
+-- how a call is refused: a fault without a place gets the opening bracket's. Where something is asked for, `end_code` comes
+-- at the end, and `other_code` at a character that begins nothing of it.
+pub record RefusesCall {V : Type 0} (IsCause : Cause) (asked : Bool) (begins : ℕ → Bool) (end_code other_code : ErrorCode) (old : Seen) (new : State) (result : Result V Error) : Type 0 where
+  pub cause : IfErr result (λ e. old.reader.failed ≡ false → PlacedFault IsCause old e)
+  pub placed : IfErr result HasPlace
+  pub ends : asked ≡ true → AtEnd old.reader → IsErrAnd result (λ e. (kind_of e ≡ code end_code) × IsAtBracket old e)
+  pub differs : asked ≡ true → DiffersWith begins other_code old.reader result
+  pub unprompted : Unprompted old.reader result
+  pub failed : OnErr result (new.failed ≡ true)
+  pub before : old.reader.failed ≡ true → IsErrAnd result (λ e. (kind_of e ≡ code codes.Failed) × IsAtBracket old e)
+
+-- ---- elements
 
 -- the fault of a call for an element: none was reached, or the element's own
 pub data RefusesElement (refuses : State → Error → State → Type 0) (due : Bool) (old : State) (e : Error) (after : State) : Type 0 where
-  not_reached : RefusedBy (NoNext due) old e → RefusesElement refuses due old e after
-  in_element : (start : State) → AtElement due old start → refuses start e after → RefusesElement refuses due old e after
+  not_reached : RefusedBy (NoNext square due) old e → RefusesElement refuses due old e after
+  in_element : (start : State) → AtMember square due old start → refuses start e after → RefusesElement refuses due old e after
 
 -- the element's fault, at the opening bracket where it had no place
-pub record RefusedAtBracket (refuses : State → Error → State → Type 0) (old : Seen) (e : Error) : Type 0 where
-  pub own : Error
-  pub after : State
-  pub cause : RefusesElement refuses old.due old.reader own after
-  pub placed : PlacedAtBracket old own e
+abbrev pub RefusedAtBracket : (State → Error → State → Type 0) → Seen → Error → Type 0
+RefusedAtBracket refuses old e = PlacedFault (RefusesElement refuses old.due old.reader) old e
 
--- how a call for an element refuses: a fault without a place gets the opening bracket's
-pub record RefusesNext {V : Type 0} (refuses : State → Error → State → Type 0) (old new : Seen) (result : Result V Error) : Type 0 where
-  pub cause : IfErr result (λ e. old.reader.failed ≡ false → RefusedAtBracket refuses old e)
-  pub placed : IfErr result HasPlace
-  pub ends : old.due ≡ true → AtEnd old.reader → IsErrAnd result (λ e. (kind_of e ≡ code codes.EofParsingArray) × IsAtBracket old e)
-  pub differs : old.due ≡ true → DiffersWith is_comma_or_closing codes.ExpectedComma old.reader result
-  pub unprompted : Unprompted old.reader result
-  pub failed : OnErr result (new.reader.failed ≡ true)
-  pub before : old.reader.failed ≡ true → IsErrAnd result (λ e. (kind_of e ≡ code codes.Failed) × IsAtBracket old e)
+-- how a call for an element refuses, which asks for a comma or the bracket after the first
+abbrev pub RefusesNext : {V : Type 0} → (State → Error → State → Type 0) → Seen → State → Result V Error → Type 0
+RefusesNext refuses old new result = RefusesCall (RefusesElement refuses old.due old.reader) old.due (is_comma_or_closing square) codes.EofParsingArray codes.ExpectedComma old new result

@@ -1,8 +1,13 @@
 -- The steps of a typed read.
-use Rattle.std.specs.Prelude.{◌≡◌, ◌≤◌, ℕ, ℤ, Bool, false, List, ◌++◌, length, Some, None, ◌⊎◌, String, string_bytes}
+use Rattle.std.specs.Prelude.{◌≡◌, ◌≤◌, ℕ, ℤ, Bool, false, List, ◌∷◌, ◌++◌, length, Option, Some, None, ◌⊎◌, String, string_bytes}
 use Rattle.std.specs.Str.{chars, encode_utf8_all}
+use Rattle.hex.specs.declared.error.FromHexError.{FromHexError}
+use Rattle.hex.specs.declared.error.FromHexError.TheVariants as hex
 use Rattle.json5_grammar.specs.Characters.{NotBegun}
+use Rattle.json5_grammar.specs.declared.code.ErrorCode.{ErrorCode}
+use Rattle.json5_grammar.specs.declared.code.ErrorCode.TheVariants.{InvalidBytes}
 use Rattle.json5_grammar.specs.Stops.{lengthens}
+use Rattle.json5_grammar.specs.Names.{Ident, goes_on_name}
 use Rattle.json5_grammar.specs.Strings.{Str}
 use Rattle.json5_text.specs.declared.cow_str.CowStr.{CowStr}
 use Rattle.json5_text.specs.declared.number.Number as token
@@ -14,7 +19,7 @@ use Rattle.json5_text.specs.Errors.{place_of}
 use Rattle.json5_text.specs.Cursor.{Says, Refused, IsOutOfMemory, IsOffset}
 use Rattle.json5_grammar.specs.Blanks.{Gap, Solid}
 use Rattle.json5_grammar.specs.Documents.{max_depth}
-use Rattle.json5_grammar.specs.Numbers.{Num, whole}
+use Rattle.json5_grammar.specs.Numbers.{Number, Num, whole}
 use Rattle.json5_grammar.specs.Values.{Stops}
 use Rattle.json5_de.specs.State.{State, OnlyRead, cursor_of}
 use Rattle.json5_de.specs.Faults.{FaultRelation}
@@ -50,14 +55,37 @@ TookCow old new t = (s u : List ℕ) × (plain : Bool) × TookText old s new × 
 abbrev pub TookCharacters : {A : Type 0} → State → State → String A → Type 0
 TookCharacters old new t = (s : List ℕ) × (plain : Bool) × TookText old s new × Str s (chars (string_bytes t)) plain
 
+-- a string, a name or a number was taken, and nothing is kept of it
+abbrev pub PassedString : State → State → Type 0
+PassedString old new = (s u : List ℕ) × (plain : Bool) × TookText old s new × Str s u plain
+
+abbrev pub PassedName : State → State → Type 0
+PassedName old new = (s u : List ℕ) × (plain : Bool) × TookText old s new × Ident s u plain × (c : ℕ) × (r : List ℕ) × (new.unread ≡ c ∷ r) × (goes_on_name c ≡ false)
+
+abbrev pub PassedNumber : State → State → Type 0
+PassedNumber old new = (s : List ℕ) × (n : Number) × TookText old s new × Num s n × NotBegun (lengthens s) new.unread
+
 -- the token in front is refused with one of its faults, or memory ran out
 abbrev pub RefusesToken : FaultRelation → State → Error → Type 0
 RefusesToken IsFault old e = IsOutOfMemory e ⊎ Refused IsFault (cursor_of old) e
 
+-- this code, None for a text of its own, at this offset
+abbrev pub IsFaultAt : Option ErrorCode → List ℕ → ℕ → Error → Type 0
+IsFaultAt reason input offset e =
+    Says reason e × ((before rest : List ℕ) → input ≡ before ++ rest → offset ≡ length (encode_utf8_all before) → place_of e ≡ Some (position_after before))
+
+-- the same, or memory ran out
+abbrev pub IsMismatchOf : Option ErrorCode → List ℕ → ℕ → Error → Type 0
+IsMismatchOf reason input offset e = IsOutOfMemory e ⊎ IsFaultAt reason input offset e
+
 -- a text of its own at this offset, or memory ran out
 abbrev pub IsMismatch : List ℕ → ℕ → Error → Type 0
-IsMismatch input offset e =
-    IsOutOfMemory e ⊎ (Says None e × ((before rest : List ℕ) → input ≡ before ++ rest → offset ≡ length (encode_utf8_all before) → place_of e ≡ Some (position_after before)))
+IsMismatch = IsMismatchOf None
+
+-- memory ran out in decoding, or the text isn't of bytes: InvalidBytes at this offset
+abbrev pub IsUndecoded : FromHexError → List ℕ → ℕ → Error → Type 0
+IsUndecoded hex.OutOfMemory input offset e = IsOutOfMemory e
+IsUndecoded _ input offset e = IsFaultAt (Some InvalidBytes) input offset e
 
 -- a whole number was taken after a gap, and so many bytes stand before it
 pub record WholeAt (old new : State) (start : ℕ) (z : ℤ) : Type 0 where

@@ -19,7 +19,7 @@ use json5_text::value::Value;
 
 /// What a character begins.
 #[derive(Clone, Copy)]
-enum ValueKind {
+pub(crate) enum ValueKind {
     Null,
     True,
     False,
@@ -29,7 +29,7 @@ enum ValueKind {
 }
 
 /// What the character begins.
-fn kind_at(c: char) -> ValueKind
+pub(crate) fn kind_at(c: char) -> ValueKind
     ensures { result ≡ kind_at c }
 {
     match c {

@@ -2,11 +2,10 @@
 
 ghost use Rattle.std.specs.Prelude.{◌≡◌, ◌≤◌, Bool, ◌++◌, ℕ, List, [], length, Some, None, IfOk, IfErr, OnOk, OnErr, IsOk, IsErrAnd, true, false, slice_get};
 ghost use Rattle.std.specs.Prelude.{◌<◌, ◌+◌, ◌-◌, ◌==◌, ◌∷◌};
-ghost use Rattle.json5_grammar.specs.Positions.{position_after};
 ghost use Rattle.std.specs.Str.{chars};
 ghost use Rattle.json5_text.specs.Errors.{FaultKind, code, kind_of, place_of};
-ghost use Rattle.json5_text.specs.Cursor.{Refused, IsPlaced, IsPositionOf, IsOffset};
-ghost use Rattle.json5_text.specs.Tokens.{FaultyBlanks, FaultyWord, FaultyNumber, FaultyString};
+ghost use Rattle.json5_text.specs.Cursor.{IsOutOfMemory, Refused, IsPlaced, IsOffset, Locates};
+ghost use Rattle.json5_text.specs.Tokens.{FaultyBlanks, FaultyWord, FaultyNumber, FaultyString, FaultyName, FaultyKey};
 ghost use Rattle.json5_grammar.specs.Documents.{max_depth};
 ghost use Rattle.json5_grammar.specs.declared.code.ErrorCode.TheVariants as codes;
 ghost use Rattle.json5_de.specs.State.{State, SameText, GivesUp, cursor_of};
@@ -17,14 +16,19 @@ ghost use Rattle.json5_grammar.specs.Characters.{NotBegun};
 ghost use Rattle.json5_grammar.specs.Numbers as numbers;
 ghost use Rattle.json5_grammar.specs.Numbers.{Num};
 ghost use Rattle.json5_grammar.specs.Stops.{lengthens};
+ghost use Rattle.json5_grammar.specs.Names.{Ident, Key, goes_on_name};
 ghost use Rattle.json5_grammar.specs.Strings.{Str};
 ghost use Rattle.json5_text.specs.NumberViews.{keeps_digits};
-ghost use Rattle.json5_de.specs.Steps.{PassedGap, TookText, TookNumber, TookOwned, TookCharacters, TookCow, RefusesToken, IsMismatch};
+ghost use Rattle.json5_de.specs.Steps.{PassedGap, TookText, TookNumber, TookOwned, TookCharacters, TookCow, PassedString, PassedName, PassedNumber, RefusesToken, IsMismatch};
+ghost use Rattle.json5_text.specs.Cows.{cow_bytes, is_borrowed};
+ghost use Rattle.json5_text.specs.Keys.{KeyIs};
+ghost use Rattle.json5_de.specs.KeySteps.{TookKeyText};
 
 use crate::mismatch::Mismatch;
 use json5_text::cow_str::CowStr;
 use json5_text::error::{Error, Result};
 use json5_text::input::{Borrows, Input};
+use json5_text::key_text::KeyText;
 use json5_text::number::Number;
 use json5_text::scanner::Scanner;
 use json5_text::{ErrorCode, Position};
@@ -185,6 +189,65 @@ impl<I: Input> Deserializer<I> {
         }
     }
 
+    /// Takes the string in front, without its text. Only a custom fault takes memory.
+    pub(crate) fn skip_string(&mut self) -> Result<()>
+        ensures taken { OnOk result (PassedString self.old self.new) }
+        ensures refused { IfErr result (RefusesToken FaultyString self.old) }
+        ensures failed { OnErr result (GivesUp self.old self.new) }
+        ensures memory { (s u r : List ℕ) (plain : Bool) → self.old.unread ≡ s ++ r → Str s u plain → IsOk result }
+    {
+        match self.scanner.skip_string() {
+            Ok(()) => Ok(()),
+            Err(e) => self.refuse(e),
+        }
+    }
+
+    /// Takes the name in front, without its text. Only a custom fault takes memory.
+    pub(crate) fn skip_identifier(&mut self) -> Result<()>
+        ensures taken { OnOk result (PassedName self.old self.new) }
+        ensures refused { IfErr result (RefusesToken FaultyName self.old) }
+        ensures failed { OnErr result (GivesUp self.old self.new) }
+        ensures memory { (s u r : List ℕ) (c : ℕ) (plain : Bool) → self.old.unread ≡ s ++ c ∷ r → Ident s u plain → goes_on_name c ≡ false → IsOk result }
+    {
+        match self.scanner.skip_identifier() {
+            Ok(()) => Ok(()),
+            Err(e) => self.refuse(e),
+        }
+    }
+
+    /// Takes the number in front, without its digits. Only a custom fault takes memory.
+    pub(crate) fn skip_number(&mut self) -> Result<()>
+        ensures taken { OnOk result (PassedNumber self.old self.new) }
+        ensures refused { IfErr result (RefusesToken FaultyNumber self.old) }
+        ensures failed { OnErr result (GivesUp self.old self.new) }
+        ensures memory { (s r : List ℕ) (n : numbers.Number) → self.old.unread ≡ s ++ r → Num s n → NotBegun (lengthens s) r → IsOk result }
+    {
+        match self.scanner.skip_number() {
+            Ok(_) => Ok(()),
+            Err(e) => self.refuse(e),
+        }
+    }
+
+    /// Takes the key in front.
+    pub(crate) fn key(&mut self) -> Result<KeyText>
+        ensures taken { IfOk result (TookKeyText self.old self.new) }
+        ensures refused { IfErr result (RefusesToken FaultyKey self.old) }
+        ensures complete { (s u r : List ℕ) (plain : Bool) → self.old.unread ≡ s ++ r → Key s r u plain → IfErr result IsOutOfMemory }
+        ensures failed { OnErr result (GivesUp self.old self.new) }
+    {
+        match self.scanner.key() {
+            Ok(key) => Ok(key),
+            Err(e) => self.refuse(e),
+        }
+    }
+
+    /// The text of a key that was taken.
+    pub(crate) fn key_text<'t>(&'t self, key: &'t KeyText) -> &'t str
+        ensures { (u : List ℕ) (plain : Bool) → KeyIs self.now.input u plain key.now → result.now ≡ encode_utf8_all u }
+    {
+        self.scanner.text_of(key)
+    }
+
     /// A fault at the next character.
     pub(crate) fn fault_here(&self, code: ErrorCode) -> Error
         ensures kind { kind_of result ≡ FaultKind.code code }
@@ -215,9 +278,22 @@ impl<I: Input> Deserializer<I> {
     pub(crate) fn offset(&self) -> usize
         ensures offset { IsOffset self.now.input result }
         ensures counted { (before : List ℕ) → self.now.input ≡ before ++ self.now.unread → result ≡ length (encode_utf8_all before) }
+        ensures suffix { (before : List ℕ) × (self.now.input ≡ before ++ self.now.unread) }
         ensures scalars { all_scalars self.now.unread ≡ true }
     {
         self.scanner.offset()
+    }
+
+    /// The fault of a value that isn't of the type that is expected: a text of its own, at the offset.
+    pub(crate) fn mismatch_at(&self, offset: usize, mismatch: &Mismatch<'_>) -> Error
+        requires { IsOffset self.now.input offset }
+        ensures { IsMismatch self.now.input offset result }
+    {
+        let position = self.scanner.position_of(offset);
+        match Error::custom_at(self.scanner.allocator(), position, mismatch) {
+            Ok(error) => error,
+            Err(error) => error,
+        }
     }
 
     /// Refuses a value that isn't of the type that is expected: a text of its own, at the offset.
@@ -226,11 +302,8 @@ impl<I: Input> Deserializer<I> {
         ensures refused { IsErrAnd result (IsMismatch self.old.input offset) }
         ensures failed { GivesUp self.old self.new }
     {
-        let position = self.scanner.position_of(offset);
-        match Error::custom_at(self.scanner.allocator(), position, mismatch) {
-            Ok(error) => self.refuse(error),
-            Err(error) => self.refuse(error),
-        }
+        let error = self.mismatch_at(offset, mismatch);
+        self.refuse(error)
     }
 
     /// Sets the flag that blocks the reader while an access holds it.
@@ -270,8 +343,7 @@ impl<I: Input> Deserializer<I> {
 
     /// The position of an offset in bytes, as that of a value which `Spanned` gives; the end's, where no character begins there.
     pub fn position_of(&self, offset: usize) -> Position
-        ensures inside { IsPositionOf self.now.input offset result }
-        ensures past { (IsOffset self.now.input offset → ⊥) → result ≡ position_after self.now.input }
+        ensures { Locates self.now.input offset result }
     {
         self.scanner.position_of(offset)
     }
@@ -290,5 +362,12 @@ impl<'de, I: Borrows<'de>> Deserializer<I> {
             Ok(text) => Ok(text),
             Err(e) => self.refuse(e),
         }
+    }
+
+    /// The text of a key that was taken, borrowed where no escape is used.
+    pub(crate) fn borrowed_key_text(&self, key: KeyText) -> CowStr<'de>
+        ensures { (u : List ℕ) (plain : Bool) → KeyIs self.now.input u plain key → (is_borrowed result ≡ plain) × (cow_bytes result ≡ encode_utf8_all u) }
+    {
+        self.scanner.borrowed_text_of(key)
     }
 }

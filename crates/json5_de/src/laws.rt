@@ -2,13 +2,22 @@
 
 ghost use Rattle.std.specs.Borrow.{Bor};
 ghost use Rattle.std.specs.Prelude.{ℕ, List};
+ghost use Rattle.json5_text.specs.Bytes.{bytes_of};
 ghost use Rattle.json5_text.specs.Cows.{cow_bytes, is_borrowed};
 ghost use Rattle.json5_text.specs.ValueViews.{value_of};
+ghost use Rattle.json5_de.specs.Convert.{unit_of, bool_of, unsigned_below, signed_below, decimal_of};
 ghost use Rattle.json5_de.specs.Law.{OneAnswer};
-ghost use Rattle.json5_de.specs.Rows.{TellsApart, null_row, bool_row, natural_row, integer_row, decimal_row, string_row, char_row, plain_row, variant_row, cow_row, any_row, text_bytes, slice_bytes};
+ghost use Rattle.json5_de.specs.Keys.{OneKeyAnswer};
+ghost use Rattle.json5_de.specs.KeyRows.{ConvertsDocuments};
+ghost use Rattle.json5_de.specs.Maps.{HoldsInOrder, HoldsInTurn, HoldsAtKeys};
+ghost use Rattle.json5_de.specs.Rows.{TellsApart, null_row, bool_row, natural_row, integer_row, decimal_row, string_row, char_row, plain_row, variant_row, cow_row, bytes_row, any_row, text_bytes, slice_bytes};
 
 use crate::de::Deserialize;
+use crate::key::DeserializeKey;
+use indexmap::IndexMap;
 use json5_text::input::Input;
+use std::collections::{BTreeMap, HashMap};
+use std::hash::Hash;
 
 /// The codes at the end of the text and at another character, as they follow from the law of a read, for each kind of value.
 pub fn value_codes()
@@ -22,10 +31,34 @@ pub fn value_codes()
     ensures plain { TellsApart plain_row slice_bytes }
     ensures variant { (names : List (Bor (List ℕ))) → TellsApart (variant_row names) (λ n. n) }
     ensures cow { TellsApart cow_row (λ t. (cow_bytes t, is_borrowed t)) }
+    ensures bytes { TellsApart bytes_row bytes_of }
     ensures any { TellsApart any_row value_of }
 {}
 
 /// A read has one answer: two values that a lawful type may give for one text have the same content, and the same text is left.
 pub fn one_answer<I: Input, T: Deserialize<I>>()
     ensures { OneAnswer T.content T.convert }
+{}
+
+/// The same of a key: two values that a lawful type may give for one key have the same content, and the same text is left.
+pub fn one_key_answer<I: Input, K: DeserializeKey<I>>()
+    ensures { OneKeyAnswer K.content K.convert }
+{}
+
+/// The text of a key that is read as null, a boolean or a number converts exactly where it is a document (JSON5 section 2) whose
+/// tree converts.
+pub fn document_keys()
+    ensures null { ConvertsDocuments unit_of }
+    ensures boolean { ConvertsDocuments bool_of }
+    ensures natural { (bound : ℕ) → ConvertsDocuments (unsigned_below bound) }
+    ensures integer { (bound : ℕ) → ConvertsDocuments (signed_below bound) }
+    ensures decimal { ConvertsDocuments decimal_of }
+{}
+
+/// What maps hold that were read, where keys are told apart by what counts of them: the pairs of the object, each key once, the
+/// first, with the last value.
+pub fn map_contents<I: Input, K: DeserializeKey<I> + Ord + Hash, V: Deserialize<I>>()
+    ensures ordered { HoldsInOrder K.content V.content K.cmp K.convert V.convert ⟦<BTreeMap<K, V> as Deserialize<I>>⟧.content ⟦<BTreeMap<K, V> as Deserialize<I>>⟧.convert }
+    ensures indexed { HoldsInTurn K.content V.content K.eq K.convert V.convert ⟦<IndexMap<K, V> as Deserialize<I>>⟧.content ⟦<IndexMap<K, V> as Deserialize<I>>⟧.convert }
+    ensures hashed { HoldsAtKeys K.content V.content K.eq K.convert V.convert ⟦<HashMap<K, V> as Deserialize<I>>⟧.content ⟦<HashMap<K, V> as Deserialize<I>>⟧.convert }
 {}

@@ -3,11 +3,22 @@
 
 mod any;
 mod brackets;
+mod btree_map;
+mod bytes;
 mod de;
 mod decimals;
+mod gather;
+mod hash_map;
+mod ignored;
+mod index_map;
 mod integers;
+mod key;
+mod key_documents;
+mod key_reads;
+mod key_types;
 mod laws;
 mod lists;
+mod map;
 mod mismatch;
 mod option;
 mod reading;
@@ -21,7 +32,10 @@ mod types;
 mod variants;
 
 pub use de::{Deserialize, Deserializer};
-pub use laws::{one_answer, value_codes};
+pub use ignored::IgnoredAny;
+pub use key::{DeserializeKey, MapKey};
+pub use laws::{document_keys, map_contents, one_answer, one_key_answer, value_codes};
+pub use map::MapAccess;
 pub use reading::read;
 pub use seq::SeqAccess;
 pub use spans::Spanned;

@@ -6,11 +6,10 @@ ghost use Rattle.json5_grammar.specs.declared.code.ErrorCode.TheVariants as code
 ghost use Rattle.json5_grammar.specs.Characters.{NotBegun};
 ghost use Rattle.json5_grammar.specs.Trees.{Trees};
 ghost use Rattle.json5_grammar.specs.Members.{IsEnd, GoesNowhere};
-ghost use Rattle.json5_text.specs.Cursor.{Refused, IsOffset, IsPositionOf};
-ghost use Rattle.json5_grammar.specs.Positions.{position_after};
+ghost use Rattle.json5_text.specs.Cursor.{Refused, Locates};
 ghost use Rattle.json5_de.specs.State.{SameText, GivesUp, cursor_of};
 ghost use Rattle.json5_de.specs.Faults.{RefusedBy, IsUnplaced};
-ghost use Rattle.json5_de.specs.Brackets.{AreSigns};
+ghost use Rattle.json5_de.specs.Brackets.{square};
 ghost use Rattle.json5_de.specs.Law.{Unprompted};
 ghost use Rattle.json5_de.specs.Access.{bare, Closed, OpensAs, OpensArray, ClosesArray, GivesElement, CompletesElement, ReadsElement, CompletesClose, PlacedAtBracket, Unexpected, NotClosed, ElementsLeft, ReadsMore, LeavesFewer};
 ghost use Rattle.json5_de.specs.Lists.{IsTooShort, LeavesRequired, RefusesRequired};
@@ -52,116 +51,21 @@ impl<I: Input> Drop for SeqAccess<'_, I> {
 impl<I: Input> Deserializer<I> {
     ghost use Rattle.json5_de.specs.Lending.{seen, Holds, BlocksReader, lends_reader};
 
-    /// Refuses what is next: `differs` at the character, or `ends` at the end, without a place.
-    fn unexpected(&mut self, ends: ErrorCode, differs: ErrorCode) -> Error
-        ensures fault { Refused (Unexpected ends differs) (cursor_of self.old) result }
-        ensures state { self.new ≡ record self.old { failed = true } }
-    {
-        let error = match self.peek() {
-            Some(_) => Error::new_at(self.position_of(self.offset()), differs),
-            None => Error::new(ends),
-        };
-        self.set_failed(true);
-        error
-    }
-
-    /// Takes an opening bracket, and gives the count of bytes before it.
-    fn open(&mut self, brackets: Brackets) -> Result<usize>
-        requires { AreSigns brackets }
-        ensures opens { OpensAs brackets (λ start. record { reader = self.new; start = start; due = false }) self.old result }
-        ensures failed { OnErr result (GivesUp self.old self.new) }
-    {
-        self.begin()?;
-        let start = self.offset();
-        if !self.eat(brackets.opening) {
-            return Err(self.unexpected(brackets.ends, brackets.not_opened));
-        }
-        if !self.enter() {
-            let error = Error::new_at(self.position_of(start), ErrorCode::TooDeep);
-            return self.refuse(error);
-        }
-        Ok(start)
-    }
-
-    /// Whether the closing bracket is next.
-    fn at_bracket(&self) -> bool
-        ensures found { result ≡ true → slice_get self.now.unread 0 ≡ Some 0x5D }
-        ensures other { result ≡ false → NotBegun (λ c. c == 0x5D) self.now.unread }
-    {
-        self.peek() == Some(']')
-    }
-
-    /// Goes to the next element of an array and says true, or to the closing bracket and says false.
-    fn goes_on(&mut self, due: bool) -> Result<bool>
-        ensures sound { IfOk result (λ more. GoesOn due self.old self.new more) }
-        ensures refused { IfErr result (RefusedBy (NoNext due) self.old) }
-        ensures same_text { SameText self.old self.new }
-        ensures nowhere { OnErr result (self.old.failed ≡ false → GoesNowhere due self.old.unread) }
-        ensures unprompted { Unprompted self.old result }
-        ensures before { self.old.failed ≡ true → IsErrAnd result (IsUnplaced codes.Failed) }
-    {
-        self.begin()?;
-        if self.at_bracket() {
-            return Ok(false);
-        }
-        if !due {
-            return Ok(true);
-        }
-        if !self.eat(',') {
-            return Err(self.unexpected(ErrorCode::EofParsingArray, ErrorCode::ExpectedComma));
-        }
-        self.begin()?;
-        Ok(!self.at_bracket())
-    }
-
     /// The next element of an array, or none where the closing bracket is next.
     fn element<T: Deserialize<I>>(&mut self, due: bool) -> Result<Option<T>>
         ensures sound { IfOk result (λ o. GivesElement T.content T.convert (bare self.old due) (bare self.new (due || is_some o)) o) }
         ensures complete { CompletesElement T.convert (bare self.old due) result }
-        ensures closing { CompletesClose (bare self.old due) result }
+        ensures closing { CompletesClose square (bare self.old due) result }
         ensures cause { IfErr result (λ e. RefusesElement T.refuses due self.old e self.new) }
         ensures same_text { SameText self.old self.new }
         ensures unprompted { Unprompted self.old result }
         ensures before { self.old.failed ≡ true → IsErrAnd result (IsUnplaced codes.Failed) }
     {
-        if self.goes_on(due)? {
+        if self.goes_on(Brackets::square(), due)? {
             Ok(Some(T::deserialize(self)?))
         } else {
             Ok(None)
         }
-    }
-
-    /// Takes the closing bracket in front.
-    fn bracket(&mut self, brackets: Brackets) -> Result<()>
-        ensures taken { OnOk result (TookClosing brackets self.old self.new) }
-        ensures refused { IfErr result (RefusesClosing brackets self.old) }
-        ensures same_text { SameText self.old self.new }
-    {
-        if !self.eat(brackets.closing) {
-            return Err(self.unexpected(brackets.ends, brackets.not_closed));
-        }
-        self.leave();
-        Ok(())
-    }
-
-    /// Takes a closing bracket, and before it the comma that may stand there.
-    fn close(&mut self, brackets: Brackets, due: bool) -> Result<()>
-        requires { AreSigns brackets }
-        ensures closed { OnOk result (Closed brackets due self.old self.new) }
-        ensures refused { IfErr result (RefusedBy (NotClosed brackets due) self.old) }
-        ensures same_text { SameText self.old self.new }
-        ensures complete { (r : List ℕ) → self.old.failed ≡ false → IsEnd brackets.closing due self.old.unread r → IsOk result }
-        ensures before { self.old.failed ≡ true → IsErrAnd result (IsUnplaced codes.Failed) }
-    {
-        self.begin()?;
-        if !due {
-            return self.bracket(brackets);
-        }
-        if !self.eat(',') {
-            return self.bracket(brackets);
-        }
-        self.begin()?;
-        self.bracket(brackets)
     }
 
     /// Opens an array, and blocks the reader while the access reads its elements. `ExpectedOpeningBracket` stands at another
@@ -218,11 +122,11 @@ impl<'a, I: Input> SeqAccess<'a, I> {
         ensures blocks { BlocksReader self.new }
         ensures sound { IfOk result (GivesElement T.content T.convert (seen self.old) (seen self.new)) }
         ensures complete { ReadsElement T.content T.convert (seen self.old) result }
-        ensures closing { CompletesClose (seen self.old) result }
+        ensures closing { CompletesClose square (seen self.old) result }
         ensures start { (seen self.new).start ≡ (seen self.old).start }
         ensures same_text { SameText (seen self.old).reader (seen self.new).reader }
         ensures shorter { IfOk result (λ o. IfSome o (λ v. length (seen self.new).reader.unread < length (seen self.old).reader.unread)) }
-        ensures refused { RefusesNext T.refuses (seen self.old) (seen self.new) result }
+        ensures refused { RefusesNext T.refuses (seen self.old) (seen self.new).reader result }
         ensures read { IfOk result (ReadsMore T.content T.convert (seen self.old) (seen self.new)) }
         ensures left { (ts : Trees) (r : List ℕ) → ElementsLeft ts r (seen self.old) → LeavesFewer T.content T.convert ts r (seen self.new) result }
     {
@@ -283,8 +187,7 @@ impl<'a, I: Input> SeqAccess<'a, I> {
 
     /// The position of an offset in bytes, as that of an element which `Spanned` gives; the end's, where no character begins there.
     pub fn position_of(&self, offset: usize) -> Position
-        ensures inside { IsPositionOf (seen self.now).reader.input offset result }
-        ensures past { (IsOffset (seen self.now).reader.input offset → ⊥) → result ≡ position_after (seen self.now).reader.input }
+        ensures { Locates (seen self.now).reader.input offset result }
     {
         self.de.position_of(offset)
     }

@@ -13,7 +13,7 @@ use json5_text::error::Result;
 use json5_text::input::{Borrows, Input};
 
 /// The text's character, where it is one.
-fn only_character(text: &str) -> Option<char>
+pub(crate) fn only_character(text: &str) -> Option<char>
     ensures { MatchOption result (one_character (chars text.now) false ≡ None) (λ c. one_character (chars text.now) false ≡ Some c) }
 {
     let mut rest = text.chars();

@@ -1,11 +1,13 @@
 //! The types that can be read.
 
 ghost use Rattle.std.specs.Prelude.{◌^◌, string_bytes};
+ghost use Rattle.json5_text.specs.Bytes.{bytes_of};
 ghost use Rattle.json5_text.specs.Cows.{cow_bytes, is_borrowed};
 ghost use Rattle.json5_text.specs.ValueViews.{value_of};
-ghost use Rattle.json5_de.specs.Rows.{ReadsAs, null_row, bool_row, natural_row, integer_row, decimal_row, string_row, char_row, plain_row, cow_row, any_row};
+ghost use Rattle.json5_de.specs.Rows.{ReadsAs, null_row, bool_row, natural_row, integer_row, decimal_row, string_row, char_row, plain_row, cow_row, bytes_row, any_row};
 
 use crate::de::{Deserialize, Deserializer};
+use json5_text::byte_buf::ByteBuf;
 use json5_text::cow_str::CowStr;
 use json5_text::decimal::Decimal;
 use json5_text::error::Result;
@@ -377,6 +379,27 @@ impl<'de, I: Borrows<'de>> Deserialize<I> for CowStr<'de> {
         ensures { ReadsAs cow_row (λ t. (cow_bytes t, is_borrowed t)) de.old de.new result }
     {
         de.deserialize_identifier()
+    }
+}
+
+impl<I: Input> Deserialize<I> for ByteBuf {
+    ghost use Rattle.std.specs.Prelude.{ℕ, List};
+    ghost use Rattle.json5_text.specs.Bytes.{bytes_of};
+    ghost use Rattle.json5_de.specs.Convert.{byte_buf_of};
+    ghost use Rattle.json5_de.specs.Rows.{bytes_row, RefusedAs};
+
+    ghost Content = { List ℕ };
+
+    ghost content = { bytes_of };
+
+    ghost convert = { byte_buf_of };
+
+    ghost refuses = { RefusedAs bytes_row };
+
+    fn deserialize(de: &mut Deserializer<I>) -> Result<ByteBuf>
+        ensures { ReadsAs bytes_row bytes_of de.old de.new result }
+    {
+        de.deserialize_byte_buf()
     }
 }
 

@@ -11,7 +11,7 @@ use json5_text::error::Result;
 use json5_text::input::Input;
 
 /// The first place of the name among these, counted from 0.
-fn place_among(names: &[&str], name: &str) -> Option<usize>
+pub(crate) fn place_among(names: &[&str], name: &str) -> Option<usize>
     ensures { result ≡ position (λ n. bytes_eq n.now name.now) names.now }
 {
     names.iter().position(|other| *other == name)

@@ -1,8 +1,9 @@
+use Rattle.json5_text.specs.Bytes.{bytes_of}
 use Rattle.json5_text.specs.Cows.{cow_bytes, is_borrowed}
 use Rattle.json5_text.specs.ValueViews.{value_of}
 use Rattle.json5_de.specs.Convert.{natural_below, integer_below, every_text, one_character, if_plain, place_among, every_cow}
 use Rattle.json5_de.specs.Rows.{every_tree, no_tree, plain_text, text_bytes, slice_bytes}
-use Rattle.json5_de.proofs.Rows.{tells_apart, lawful_null, lawful_bool, lawful_whole, lawful_decimal, lawful_text, lawful_any}
+use Rattle.json5_de.proofs.Rows.{tells_apart, lawful_null, lawful_bool, lawful_whole, lawful_decimal, lawful_text, lawful_bytes, lawful_any}
 use Rattle.json5_de.proofs.laws.value_codes.Goals as goal
 
 pub returns-clause-null : goal.returns-clause-null
@@ -34,6 +35,9 @@ returns-clause-variant c names = tells_apart (lawful_text (place_among names) no
 
 pub returns-clause-cow : goal.returns-clause-cow
 returns-clause-cow c = tells_apart (lawful_text every_cow plain_text) (λ t. (cow_bytes t, is_borrowed t))
+
+pub returns-clause-bytes : goal.returns-clause-bytes
+returns-clause-bytes c = tells_apart lawful_bytes bytes_of
 
 pub returns-clause-any : goal.returns-clause-any
 returns-clause-any c = tells_apart lawful_any value_of

@@ -16,6 +16,7 @@ use Rattle.json5_de.proofs.ExpectsTexts.{text_stops}
 use Rattle.json5_de.proofs.ScalarsExpected.{kind_there, none_left, in_token, or_memory_in, value_missing, no_value_there}
 use Rattle.json5_de.proofs.Rows.{lawful_any, not_begun, refuses_value, reads_ok, gives_up}
 use Rattle.json5_de.proofs.de.Deserializer.deserialize_any.Goals as goal
+use Rattle.json5_text.proofs.ValuesCompared.{view-Null, view-Bool, view-String}
 
 pub returns-in_err-begin : goal.returns-in_err-begin
 returns-in_err-begin g c =
@@ -45,7 +46,7 @@ returns-in_err-word-in-Null g c =
 pub returns-in_ok-word-in-Null : goal.returns-in_ok-word-in-Null
 returns-in_ok-word-in-Null g c =
     let there = subst (λ s. TookText c.begin.new.self s c.word.new.self) chars_null c.in_ok-word-in-Null.ensures.taken in
-    reads_ok any_row value_of c.args.self.now c.word.new.self _ (trees.null, took_leaf c.args.self.now c.begin.new.self c.word.new.self null_text trees.null refl c.in_ok-begin.ensures.passed there is_null (null_stops c.word.new.self.unread), refl)
+    reads_ok any_row value_of c.args.self.now c.word.new.self _ (trees.null, took_leaf c.args.self.now c.begin.new.self c.word.new.self null_text trees.null refl c.in_ok-begin.ensures.passed there is_null (null_stops c.word.new.self.unread), ap Some (sym view-Null))
 
 pub returns-in_err-word-in-True : goal.returns-in_err-word-in-True
 returns-in_err-word-in-True g c =
@@ -61,7 +62,7 @@ returns-in_err-word-in-True g c =
 pub returns-in_ok-word-in-True : goal.returns-in_ok-word-in-True
 returns-in_ok-word-in-True g c =
     let there = subst (λ s. TookText c.begin.new.self s c.word-in-True.new.self) chars_true c.in_ok-word-in-True.ensures.taken in
-    reads_ok any_row value_of c.args.self.now c.word-in-True.new.self _ (trees.boolean true, took_leaf c.args.self.now c.begin.new.self c.word-in-True.new.self true_text (trees.boolean true) refl c.in_ok-begin.ensures.passed there is_true (true_stops c.word-in-True.new.self.unread), refl)
+    reads_ok any_row value_of c.args.self.now c.word-in-True.new.self _ (trees.boolean true, took_leaf c.args.self.now c.begin.new.self c.word-in-True.new.self true_text (trees.boolean true) refl c.in_ok-begin.ensures.passed there is_true (true_stops c.word-in-True.new.self.unread), ap Some (sym (view-Bool true)))
 
 pub returns-in_err-word-in-False : goal.returns-in_err-word-in-False
 returns-in_err-word-in-False g c =
@@ -77,7 +78,7 @@ returns-in_err-word-in-False g c =
 pub returns-in_ok-word-in-False : goal.returns-in_ok-word-in-False
 returns-in_ok-word-in-False g c =
     let there = subst (λ s. TookText c.begin.new.self s c.word-in-False.new.self) chars_false c.in_ok-word-in-False.ensures.taken in
-    reads_ok any_row value_of c.args.self.now c.word-in-False.new.self _ (trees.boolean false, took_leaf c.args.self.now c.begin.new.self c.word-in-False.new.self false_text (trees.boolean false) refl c.in_ok-begin.ensures.passed there is_false (false_stops c.word-in-False.new.self.unread), refl)
+    reads_ok any_row value_of c.args.self.now c.word-in-False.new.self _ (trees.boolean false, took_leaf c.args.self.now c.begin.new.self c.word-in-False.new.self false_text (trees.boolean false) refl c.in_ok-begin.ensures.passed there is_false (false_stops c.word-in-False.new.self.unread), ap Some (sym (view-Bool false)))
 
 pub returns-in_err-text-in-Text : goal.returns-in_err-text-in-Text
 returns-in_err-text-in-Text g c =
@@ -103,7 +104,7 @@ pub returns-in_ok-text-in-Text : goal.returns-in_ok-text-in-Text
 returns-in_ok-text-in-Text g c =
     let (s, plain, took, str) = c.in_ok-text-in-Text.ensures.characters in
     let u = chars (string_bytes c.in_ok-text-in-Text.text) in
-    reads_ok any_row value_of c.args.self.now c.string_owned.new.self _ (trees.text u plain, took_leaf c.args.self.now c.begin.new.self c.string_owned.new.self s (trees.text u plain) refl c.in_ok-begin.ensures.passed took (is_text str) (text_stops c.string_owned.new.self.unread str), refl)
+    reads_ok any_row value_of c.args.self.now c.string_owned.new.self _ (trees.text u plain, took_leaf c.args.self.now c.begin.new.self c.string_owned.new.self s (trees.text u plain) refl c.in_ok-begin.ensures.passed took (is_text str) (text_stops c.string_owned.new.self.unread str), ap Some (sym (view-String c.in_ok-text-in-Text.text)))
 
 pub returns-in_ok-number-in-Number : goal.returns-in_ok-number-in-Number
 returns-in_ok-number-in-Number g c =

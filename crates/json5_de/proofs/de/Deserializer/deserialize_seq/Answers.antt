@@ -1,6 +1,6 @@
 use Rattle.std.proofs.Common.{refl, subst, sym}
 use Rattle.std.proofs.lemmas.Result.{err_from_is_err_and}
-use Rattle.json5_de.specs.Brackets.{AreSigns}
+use Rattle.json5_de.specs.Brackets.{AreSigns, square}
 use Rattle.json5_de.specs.Lending.{seen}
 use Rattle.json5_de.proofs.Arrays.{square_signs, failed_of}
 use Rattle.json5_de.proofs.Next.{opened_seen}
@@ -27,6 +27,6 @@ returns g c =
         lends = tt;
         same_reference = refl;
         blocks = failed_of c.set_failed.ensures;
-        opens = opens_array _ seen c.args.self.now c.in_ok-start.start _ (opened_seen c.args.self.now c.open.new.self c.set_failed.new.self c.in_ok-start.start opened c.set_failed.ensures) opens;
+        opens = opens_array _ seen c.args.self.now c.in_ok-start.start _ (opened_seen square c.args.self.now c.open.new.self c.set_failed.new.self c.in_ok-start.start opened c.set_failed.ensures) opens;
       },
     )

@@ -16,18 +16,18 @@ returns-in_err-begin-clause-refused g c =
 pub returns-in_err-begin-clause-nowhere : goal.returns-in_err-begin-clause-nowhere
 returns-in_err-begin-clause-nowhere g c =
     let (y, is, from) = err_from_is_err_and c.from_residual.result c.from_residual.ensures.1 in
-    rw is (λ live. nowhere_faulty c.args.due c.args.self.now c.in_err-begin.field-0.0 (c.in_err-begin.ensures.refused live))
+    rw is (λ live. nowhere_faulty c.args.brackets c.requires c.args.due c.args.self.now c.in_err-begin.field-0.0 (c.in_err-begin.ensures.refused live))
 
 pub returns-then-not-eat-clause-refused : goal.returns-then-not-eat-clause-refused
 returns-then-not-eat-clause-refused g c =
     let kept = c.if-not-eat.ensures.kept refl in
     refused_token c.args.self.now c.begin.new.self c.unexpected.result c.in_ok-begin.ensures.passed
-    (refused_as c.eat.new.self c.begin.new.self c.unexpected.result kept.0 (λ reason place f. no_next c.args.due c.begin.new.self.unread reason place c.if-not-due.false kept.1 (c.if-at_bracket.ensures.other refl) f) c.unexpected.ensures.fault)
+    (refused_as c.eat.new.self c.begin.new.self c.unexpected.result kept.0 (λ reason place f. no_next c.args.brackets c.args.due c.begin.new.self.unread reason place c.if-not-due.false kept.1 (c.if-at_closing.ensures.other refl) f) c.unexpected.ensures.fault)
 
 pub returns-then-not-eat-clause-nowhere : goal.returns-then-not-eat-clause-nowhere
 returns-then-not-eat-clause-nowhere g c = λ live.
-    nowhere_next c.args.due c.args.self.now.unread c.begin.new.self.unread c.if-not-due.false (after_gap_of c.args.self.now c.begin.new.self c.in_ok-begin.ensures.passed)
-    (c.if-not-eat.ensures.kept refl).1 (c.if-at_bracket.ensures.other refl)
+    nowhere_next c.args.brackets c.requires c.args.due c.args.self.now.unread c.begin.new.self.unread c.if-not-due.false (after_gap_of c.args.self.now c.begin.new.self c.in_ok-begin.ensures.passed)
+    (c.if-not-eat.ensures.kept refl).1 (c.if-at_closing.ensures.other refl)
 
 pub returns-in_err-begin-2-clause-refused : goal.returns-in_err-begin-2-clause-refused
 returns-in_err-begin-2-clause-refused g c =
@@ -43,16 +43,16 @@ returns-in_err-begin-2-clause-nowhere g c =
     let (y, is, from) = err_from_is_err_and c.from_residual-in_err-begin-2.result c.from_residual-in_err-begin-2.ensures.1 in
     let passed = c.in_ok-begin.ensures.passed in
     let took = c.if-not-eat.ensures.taken refl in
-    rw is (λ live. nowhere_after c.args.due c.args.self.now c.begin.new.self c.eat.new.self c.in_err-begin-2.field-0.0 c.if-not-due.false passed (c.if-at_bracket.ensures.other refl) took
+    rw is (λ live. nowhere_after c.args.brackets c.requires c.args.due c.args.self.now c.begin.new.self c.eat.new.self c.in_err-begin-2.field-0.0 c.if-not-due.false passed (c.if-at_closing.ensures.other refl) took
     (c.in_err-begin-2.ensures.refused (failed_of took.rest ∙ failed_of passed.rest ∙ passed.live)))
 
 pub returns-clause-sound : goal.returns-clause-sound
 returns-clause-sound g c =
-    goes_after c.args.due c.at_bracket-2.result c.args.self.now c.begin.new.self c.eat.new.self c.begin-2.new.self c.if-not-due.false c.in_ok-begin.ensures.passed (c.if-not-eat.ensures.taken refl)
-    c.in_ok-begin-2.ensures.passed c.at_bracket-2.ensures.found c.at_bracket-2.ensures.other
+    goes_after c.args.brackets c.args.due c.at_closing-2.result c.args.self.now c.begin.new.self c.eat.new.self c.begin-2.new.self c.if-not-due.false c.in_ok-begin.ensures.passed (c.if-not-eat.ensures.taken refl)
+    c.in_ok-begin-2.ensures.passed c.at_closing-2.ensures.found c.at_closing-2.ensures.other
 
 pub returns-then-not-eat-clause-unprompted : goal.returns-then-not-eat-clause-unprompted
-returns-then-not-eat-clause-unprompted g c = refused_other (next_lacks c.args.due) c.args.self.now c.unexpected.result (returns-then-not-eat-clause-refused g c)
+returns-then-not-eat-clause-unprompted g c = refused_other (next_lacks c.args.brackets c.requires c.args.due) c.args.self.now c.unexpected.result (returns-then-not-eat-clause-refused g c)
 
 pub returns-in_err-begin-2-clause-unprompted : goal.returns-in_err-begin-2-clause-unprompted
 returns-in_err-begin-2-clause-unprompted g c =

@@ -23,7 +23,9 @@ returns-in-Ok-Some-clause-complete g c =
     reads_element g.T.Deserialize.content g.T.Deserialize.convert (seen c.args.self.now) new (Some c.in-Ok-Some.item) (returns-in-Ok-Some-clause-sound g c)
 
 pub returns-in-Ok-Some-clause-refused : goal.returns-in-Ok-Some-clause-refused
-returns-in-Ok-Some-clause-refused g c = gives_next g.T.Deserialize.content g.T.Deserialize.convert _ (seen c.args.self.now) _ (Some c.in-Ok-Some.item) (returns-in-Ok-Some-clause-sound g c)
+returns-in-Ok-Some-clause-refused g c =
+    let new : Seen = record { reader = record c.set_failed-2.new.self { failed = c.args.self.now.failed }; start = c.args.self.now.start; due = true } in
+    gives_next g.T.Deserialize.content g.T.Deserialize.convert _ (seen c.args.self.now) new (Some c.in-Ok-Some.item) (returns-in-Ok-Some-clause-sound g c)
 
 pub returns-in-Ok-Some-clause-read : goal.returns-in-Ok-Some-clause-read
 returns-in-Ok-Some-clause-read g c = reads_more g.T.Deserialize.content g.T.Deserialize.convert (seen c.args.self.now) _ (Some c.in-Ok-Some.item) (returns-in-Ok-Some-clause-sound g c)
@@ -43,7 +45,9 @@ returns-in-Ok-None-clause-complete g c =
     reads_element g.T.Deserialize.content g.T.Deserialize.convert (seen c.args.self.now) new None (returns-in-Ok-None-clause-sound g c)
 
 pub returns-in-Ok-None-clause-refused : goal.returns-in-Ok-None-clause-refused
-returns-in-Ok-None-clause-refused g c = gives_next g.T.Deserialize.content g.T.Deserialize.convert _ (seen c.args.self.now) _ None (returns-in-Ok-None-clause-sound g c)
+returns-in-Ok-None-clause-refused g c =
+    let new : Seen = record { reader = record c.set_failed-2.new.self { failed = c.args.self.now.failed }; start = c.args.self.now.start; due = c.args.self.now.due } in
+    gives_next g.T.Deserialize.content g.T.Deserialize.convert _ (seen c.args.self.now) new None (returns-in-Ok-None-clause-sound g c)
 
 pub returns-in-Ok-None-clause-read : goal.returns-in-Ok-None-clause-read
 returns-in-Ok-None-clause-read g c = reads_more g.T.Deserialize.content g.T.Deserialize.convert (seen c.args.self.now) _ None (returns-in-Ok-None-clause-sound g c)

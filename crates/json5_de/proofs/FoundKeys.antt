@@ -1,0 +1,259 @@
+-- What a read of a key means, from its steps.
+use Rattle.std.proofs.Common.{◌≡◌, ℕ, Bool, false, List, [], ◌∷◌, ◌++◌, refl, ap, sym, ◌∙◌, subst, ◌⊎◌, inl, inr, Option, Some, None}
+use Rattle.std.specs.Prelude.{Result, Ok, Err, IsErrAnd, length}
+use Rattle.std.specs.Str.{encode_utf8_all, chars}
+use Rattle.std.proofs.lemmas.List.{append-nil}
+use Rattle.std.proofs.lemmas.Option.{same_Some}
+use Rattle.std.proofs.lemmas.Str.{chars-encodes}
+use Rattle.json5_grammar.specs.declared.code.ErrorCode.{ErrorCode}
+use Rattle.json5_grammar.specs.declared.code.ErrorCode.TheVariants as codes
+use Rattle.json5_grammar.specs.declared.position.Position.{Position}
+use Rattle.json5_grammar.specs.Blanks.{Blanks, Gap, BlankFault}
+use Rattle.json5_grammar.specs.Documents.{Doc, max_depth}
+use Rattle.json5_grammar.specs.Members.{ReadsKey}
+use Rattle.json5_grammar.specs.Names.{Key}
+use Rattle.json5_grammar.specs.Positions.{position_after}
+use Rattle.json5_grammar.specs.Trees.{Tree}
+use Rattle.json5_grammar.proofs.Basics.{none_some, true_false}
+use Rattle.json5_grammar.proofs.BlanksSound.{gap_blanks, no_blank_fault, one_gap}
+use Rattle.json5_grammar.proofs.MembersPairs.{one_reads_key}
+use Rattle.json5_grammar.proofs.ValueHeads.{key_head, key_solid}
+use Rattle.hex.specs.Hex.{decode_of}
+use Rattle.hex.specs.declared.error.FromHexError.{FromHexError}
+use Rattle.hex.specs.declared.error.FromHexError.TheVariants as hex
+use Rattle.std.specs.Result.{result_ok}
+use Rattle.json5_text.specs.Bytes.{bytes_of}
+use Rattle.json5_text.specs.declared.byte_buf.ByteBuf.{ByteBuf}
+use Rattle.json5_text.specs.declared.error.Error.{Error}
+use Rattle.json5_text.specs.Errors.{code, custom, kind_of, place_of, SaysAt}
+use Rattle.json5_text.specs.Cursor.{Refused, Says, IsOutOfMemory, IsPositionOf}
+use Rattle.json5_text.specs.Tokens.{FaultyBlanks, FaultyKey}
+use Rattle.json5_de.specs.declared.key_reads.FoundKey.{FoundKey}
+use Rattle.json5_de.specs.State.{State, GivesUp, cursor_of}
+use Rattle.json5_de.specs.Law.{StaysFailed, IsUnprompted}
+use Rattle.json5_de.specs.ConvertLists.{if_some}
+use Rattle.json5_de.specs.Faults.{AfterBlanks, in_blanks, after_gap, RefusedBy, RefusedByOrMemory}
+use Rattle.json5_de.specs.Keys.{TookKey, KeyConversion, GivesKey, CompletesKey, OneKeyAnswer, ReadsOneKey}
+use Rattle.json5_de.specs.KeyRows.{KeyFault, KeyRow, NotKey, no_key, other_key, ReadsKeyAs, not_converted, coded_text_key, text_key, bytes_key, document_key, document_of, NotDocument, some_of}
+use Rattle.json5_de.specs.KeySteps.{TookKeyAt, every_key}
+use Rattle.json5_de.specs.Rows.{Row, RefusedAs}
+use Rattle.json5_de.specs.Steps.{PassedGap, TookText, IsMismatch, IsMismatchOf, IsUndecoded}
+use Rattle.json5_de.specs.Texts.{ReadsDocument, RefusesReading}
+use Rattle.json5_de.specs.Convert.{digits_bytes}
+use Rattle.json5_de.proofs.BytesDecoded.{undecoded}
+use Rattle.json5_de.proofs.OtherCodes.{key_lacks}
+use Rattle.json5_de.proofs.Rows.{refused_other, memory_other, given_up_after}
+use Rattle.json5_de.proofs.Taken.{input_of, refused_token}
+use Rattle.json5_de.proofs.WholeTexts.{converts, is_document, IsRefusedText, refused_text}
+
+-- ---- what stands in front
+
+key_gap : {s u : List ℕ} {plain : Bool} (w x r : List ℕ) → Key s r u plain → Gap w x → x ≡ s ++ r → Blanks w
+key_gap w x r k g e = let head = key_head k in gap_blanks head.char (head.more ++ r) (subst (Gap w) (e ∙ ap (λ z. z ++ r) head.is) g)
+
+-- the key that was taken was read from the front
+pub took_key : (old new : State) (key : FoundKey) → (k : TookKeyAt old new key) → TookKey old k.text k.plain new
+took_key old new key k = record {
+  live = k.passed.live;
+  reads = record {
+    front = k.passed.gap;
+    spelling = k.spelling;
+    split = k.passed.split ∙ ap (λ y. k.passed.gap ++ y) k.took.split;
+    blank = key_gap k.passed.gap k.between.unread new.unread k.is_key k.passed.is_gap k.took.split;
+    key = k.is_key;
+  };
+  rest = k.took.rest ∙ ap (λ (m : State). record m { unread = new.unread }) k.passed.rest;
+}
+
+-- what can be read as a key stands after the gap
+pub key_after : (old mid : State) (u : List ℕ) (plain : Bool) (r : List ℕ) → PassedGap old mid → (h : ReadsKey old.unread u plain r) → mid.unread ≡ h.spelling ++ r
+key_after old mid u plain r p h = (one_gap h.front (h.spelling ++ r) p.gap mid.unread (Gap.blanks h.blank) (key_solid r (key_head h.key)) p.is_gap p.solid (sym h.split ∙ p.split)).1
+
+-- no comment is at fault before a key
+pub no_fault_before : (old : State) (e : Error) (u : List ℕ) (plain : Bool) (r : List ℕ) → ReadsKey old.unread u plain r → Refused FaultyBlanks (cursor_of old) e → ⊥
+no_fault_before old e u plain r h f =
+    let (before, part, shown, fault) = f.fault in
+    no_blank_fault (Gap.blanks h.blank) (key_solid r (key_head h.key)) (subst (λ x. BlankFault x f.reason f.place before part shown) h.split fault)
+
+-- it is the key that was taken
+the_key : (old new : State) (key : FoundKey) (u : List ℕ) (plain : Bool) (r : List ℕ) → (k : TookKeyAt old new key) → ReadsKey old.unread u plain r → (k.text ≡ u) × (k.plain ≡ plain)
+the_key old new key u plain r k h = let one = one_reads_key old.unread new.unread r k.text u k.plain plain (took_key old new key k).reads h in (one.0, one.1)
+
+-- ---- the law of a key, from its steps
+
+-- a key was read
+pub key_ok : {V C : Type 0} (content : V → C) (convert : KeyConversion C) (refuses : State → Error → State → Type 0) (old new : State) (v : V) → GivesKey content convert old new v → ReadsOneKey content convert refuses old new (Ok v)
+key_ok content convert refuses old new v (u, plain, took, is) = record {
+  sound = (u, plain, took, is);
+  complete = λ u plain r c live reads is. tt;
+  refused = tt;
+  unprompted = tt;
+  same_text = input_of took.rest;
+  failed = tt;
+  before = λ f. true_false f took.live;
+}
+
+after_key : {IsFault : KeyFault} (x : List ℕ) (reason : Option ErrorCode) (place : Option (List ℕ)) → AfterBlanks FaultyKey x reason place → AfterBlanks (NotKey IsFault) x reason place
+after_key x reason place (in_blanks f) = in_blanks f
+after_key x reason place (after_gap g s f) = after_gap g s (no_key f)
+
+no_key_there : {IsFault : KeyFault} (old : State) (e : Error) → RefusedByOrMemory FaultyKey old e → RefusedByOrMemory (NotKey IsFault) old e
+no_key_there old e (inl m) = inl m
+no_key_there old e (inr k) = inr (λ live. let f = k live in record { reason = f.reason; place = f.place; fault = after_key old.unread f.reason f.place f.fault; says = f.says; placed = f.placed })
+
+key_other : (old : State) (e : Error) → RefusedByOrMemory FaultyKey old e → old.failed ≡ false → IsUnprompted e
+key_other old e (inl m) live = memory_other e m
+key_other old e (inr k) live = refused_other key_lacks old e k live
+
+-- no key was found
+pub not_found : {V C : Type 0} (row : KeyRow C) (content : V → C) (old new : State) (e : Error) → RefusedByOrMemory FaultyKey old e → CompletesKey {V = FoundKey} every_key old (Err e) → GivesUp old new → StaysFailed {V = FoundKey} old new (Err e)
+    → ReadsKeyAs row content old new (Err e)
+not_found row content old new e k complete failed before = record {
+  sound = tt;
+  complete = λ u plain r c live reads is. complete u plain r tt live reads refl;
+  refused = no_key_there old e k;
+  unprompted = key_other old e k;
+  same_text = failed.same_text;
+  failed = failed.failed;
+  before = before;
+}
+
+-- a key was found, and refused
+refuses_found : {V C : Type 0} (row : KeyRow C) (content : V → C) (old new last : State) (key : FoundKey) (e : Error) → (k : TookKeyAt old new key) → (row.convert k.text k.plain ≡ None) ⊎ IsOutOfMemory e → RefusedByOrMemory (NotKey row.IsFault) old e → IsUnprompted e → GivesUp new last
+    → ReadsKeyAs row content old last (Err e)
+refuses_found {C = C} row content old new last key e k not refused other gives_up = let failed = given_up_after old k.between new last k.spelling k.passed k.took gives_up in record {
+  sound = tt;
+  complete = completes not;
+  refused = refused;
+  unprompted = λ live. other;
+  same_text = failed.same_text;
+  failed = failed.failed;
+  before = λ h. true_false h k.passed.live;
+}
+  where
+    completes : (row.convert k.text k.plain ≡ None) ⊎ IsOutOfMemory e → (u : List ℕ) (plain : Bool) (r : List ℕ) (c : C) → old.failed ≡ false → ReadsKey old.unread u plain r → row.convert u plain ≡ Some c → IsOutOfMemory e
+    completes (inl none) u plain r c live reads is =
+        let (text, mark) = the_key old new key u plain r k reads in
+        absurd (none_some (row.convert u plain) c (subst (λ z. row.convert u z ≡ None) mark (subst (λ z. row.convert z k.plain ≡ None) text none)) is)
+    completes (inr m) u plain r c live reads is = m
+
+-- a fault of its text, at the key
+refused_key : {IsFault : KeyFault} (old new : State) (key : FoundKey) (e : Error) (reason : Option ErrorCode) → (k : TookKeyAt old new key) → IsFault k.text k.plain reason → Says reason e
+    → ((before rest : List ℕ) → new.input ≡ before ++ rest → key.start ≡ length (encode_utf8_all before) → place_of e ≡ Some (position_after before)) → RefusedBy (NotKey IsFault) old e
+refused_key {IsFault = IsFault} old new key e reason k fault says placed = refused_token old k.between e k.passed (record {
+  reason = reason;
+  place = Some [];
+  fault = subst (λ x. NotKey IsFault x reason (Some [])) (sym k.took.split) (other_key new.unread k.is_key fault);
+  says = says;
+  placed = λ before whole. subst (λ z. place_of e ≡ Some (position_after z)) (sym (append-nil before)) (placed before k.between.unread (input_of k.took.rest ∙ whole) (k.counted before whole));
+})
+
+-- memory ran out
+pub key_lacks_memory : {V C : Type 0} (row : KeyRow C) (content : V → C) (old new last : State) (key : FoundKey) (e : Error) → TookKeyAt old new key → IsOutOfMemory e → GivesUp new last → ReadsKeyAs row content old last (Err e)
+key_lacks_memory row content old new last key e k m failed = refuses_found row content old new last key e k (inr m) (inl m) (memory_other e m) failed
+
+-- ---- texts
+
+-- the text converts
+pub key_is_text : {V C : Type 0} {of_other : Option ErrorCode} (f : KeyConversion C) (content : V → C) (old new : State) (key : FoundKey) (v : V) → (k : TookKeyAt old new key) → f k.text k.plain ≡ Some (content v) → ReadsKeyAs (coded_text_key of_other f) content old new (Ok v)
+key_is_text f content old new key v k is = key_ok content f _ old new v (k.text, k.plain, took_key old new key k, is)
+
+mismatch_other : (of_other : Option ErrorCode) (input : List ℕ) (start : ℕ) (e : Error) → (of_other ≡ Some codes.Failed → ⊥) → IsMismatchOf of_other input start e → IsUnprompted e
+mismatch_other of_other input start e unlike (inl m) = memory_other e m
+mismatch_other None input start e unlike (inr ((own, says), placed)) = λ k. let same : custom own ≡ code codes.Failed = sym says ∙ k in absurd (cc)
+mismatch_other (Some c) input start e unlike (inr (says, placed)) = λ k. let same : code c ≡ code codes.Failed = sym says ∙ k in unlike (ap Some (cc))
+
+-- it doesn't
+pub key_not_coded : {V C : Type 0} (of_other : Option ErrorCode) (f : KeyConversion C) (content : V → C) (old new last : State) (key : FoundKey) (e : Error) → (of_other ≡ Some codes.Failed → ⊥) → (k : TookKeyAt old new key) → f k.text k.plain ≡ None
+    → IsMismatchOf of_other new.input key.start e → GivesUp new last → ReadsKeyAs (coded_text_key of_other f) content old last (Err e)
+key_not_coded of_other f content old new last key e unlike k none is failed =
+    refuses_found (coded_text_key of_other f) content old new last key e k (inl none) (refused is) (mismatch_other of_other new.input key.start e unlike is) failed
+  where
+    refused : IsMismatchOf of_other new.input key.start e → RefusedByOrMemory (NotKey (not_converted of_other f)) old e
+    refused (inl m) = inl m
+    refused (inr (says, placed)) = inr (refused_key old new key e of_other k (refl, none) says placed)
+
+pub key_not_text : {V C : Type 0} (f : KeyConversion C) (content : V → C) (old new last : State) (key : FoundKey) (e : Error) → (k : TookKeyAt old new key) → f k.text k.plain ≡ None → IsMismatch new.input key.start e → GivesUp new last
+    → ReadsKeyAs (text_key f) content old last (Err e)
+key_not_text f content old new last key e k none is failed = key_not_coded None f content old new last key e (λ e. absurd (cc)) k none is failed
+
+-- the bytes of a text that isn't of bytes
+pub key_undecoded : (old new last : State) (key : FoundKey) (result : Result ByteBuf Error) (h : FromHexError) → (k : TookKeyAt old new key) → (h ≡ hex.OutOfMemory) ⊎ (decode_of (encode_utf8_all k.text) ≡ Err h)
+    → IsErrAnd result (IsUndecoded h new.input key.start) → GivesUp new last → ReadsKeyAs bytes_key bytes_of old last result
+key_undecoded old new last key (Ok v) h k why is failed = absurd is
+key_undecoded old new last key (Err e) h k (inl memory) is failed = key_lacks_memory bytes_key bytes_of old new last key e k (subst (λ z. IsUndecoded z new.input key.start e) memory is) failed
+key_undecoded old new last key (Err e) h k (inr none) is failed =
+    key_not_coded (Some codes.InvalidBytes) digits_bytes bytes_of old new last key e (λ e. absurd (cc)) k (ap result_ok none) (undecoded h new.input key.start e is) failed
+
+-- the characters of the bytes of its text
+pub key_characters : (old new : State) (key : FoundKey) (bytes : List ℕ) → (k : TookKeyAt old new key) → bytes ≡ encode_utf8_all k.text → chars bytes ≡ k.text
+key_characters old new key bytes k same = ap chars same ∙ chars-encodes k.text k.scalars
+
+-- ---- documents
+
+-- the text is a document that converts
+pub key_is_document : {V C : Type 0} (row : Row C) (content : V → C) (old new : State) (key : FoundKey) (v : V) (x : List ℕ) → (k : TookKeyAt old new key) → x ≡ k.text → ((t : Tree) × Doc max_depth x t × (row.convert t ≡ Some (content v)))
+    → ReadsKeyAs (document_key row) content old new (Ok v)
+key_is_document row content old new key v x k same (t, doc, is) =
+    key_ok content (document_of row.convert) _ old new v (k.text, k.plain, took_key old new key k, converts row.convert k.text k.plain t (content v) (subst (λ z. Doc max_depth z t) same doc) is)
+
+-- it isn't
+pub key_no_document : {V C : Type 0} (row : Row C) (content : V → C) (old new last : State) (key : FoundKey) (x : List ℕ) (own e : Error) (position : Position) → (k : TookKeyAt old new key) → x ≡ k.text → ReadsDocument content row.convert x (Err own)
+    → RefusesReading row.convert (RefusedAs row) x own → IsUnprompted own → IsPositionOf new.input key.start position → SaysAt (kind_of own) (Some position) e → GivesUp new last → ReadsKeyAs (document_key row) content old last (Err e)
+key_no_document {C = C} row content old new last key x own e position k same complete refuses other there says failed = let gives_up = given_up_after old k.between new last k.spelling k.passed k.took failed in record {
+  sound = tt;
+  complete = completes;
+  refused = refused (refused_text row k.text k.plain own (subst (λ z. RefusesReading row.convert (RefusedAs row) z own) same refuses));
+  unprompted = λ live is. other (sym says.kind ∙ is);
+  same_text = gives_up.same_text;
+  failed = gives_up.failed;
+  before = λ h. true_false h k.passed.live;
+}
+  where
+    completes : (u : List ℕ) (plain : Bool) (r : List ℕ) (c : C) → old.failed ≡ false → ReadsKey old.unread u plain r → document_of row.convert u plain ≡ Some c → IsOutOfMemory e
+    completes u plain r c live reads is =
+        let (text, mark) = the_key old new key u plain r k reads in
+        let (t, doc, found) = is_document row.convert u plain c is in
+        says.kind ∙ complete t c (subst (λ z. Doc max_depth z t) (sym (same ∙ text)) doc) found
+
+    same_words : (reason : Option ErrorCode) → Says reason own → Says reason e
+    same_words None (words, is) = (words, says.kind ∙ is)
+    same_words (Some c) is = says.kind ∙ is
+
+    refused : IsRefusedText row k.text k.plain own → RefusedByOrMemory (NotKey (NotDocument row)) old e
+    refused (inl m) = inl (says.kind ∙ m)
+    refused (inr (reason, fault, is)) = inr (refused_key old new key e reason k fault (same_words reason is) (λ before rest split counted. says.place ∙ ap Some (there before rest split counted)))
+
+-- ---- one answer
+
+-- two values that may be given for one key have the same content, and leave the same
+pub same_key : {V C : Type 0} (content : V → C) (convert : KeyConversion C) → OneKeyAnswer content convert
+same_key content convert old new last v w (u, p, a, is) (x, q, b, other) =
+    let (text, mark, rest) = one_reads_key old.unread new.unread last.unread u x p q a.reads b.reads in (
+      same_Some (content v) (content w) (sym is ∙ ap (λ z. convert z p) text ∙ ap (convert x) mark ∙ other),
+      a.rest ∙ ap (λ z. record old { unread = z }) rest ∙ sym b.rest,
+    )
+
+-- ---- keys that are always there
+
+-- what K gives
+pub some_key : {V C : Type 0} (content : V → C) (convert : KeyConversion C) (refuses : State → Error → State → Type 0) (old new : State) (v : V) → ReadsOneKey content convert refuses old new (Ok v)
+    → ReadsOneKey (if_some content) (some_of convert) refuses old new (Ok (Some v))
+some_key content convert refuses old new v k = let (u, plain, took, is) = k.sound in key_ok (if_some content) (some_of convert) refuses old new (Some v) (u, plain, took, ap (if_some Some) is)
+
+some_there : {C : Type 0} (o : Option C) (c : Option C) → if_some Some o ≡ Some c → (d : C) × (o ≡ Some d)
+some_there None c e = absurd (cc)
+some_there (Some d) c e = (d, refl)
+
+-- what K refuses
+pub no_some_key : {V C : Type 0} (content : V → C) (convert : KeyConversion C) (refuses : State → Error → State → Type 0) (old new : State) (e : Error) → ReadsOneKey content convert refuses old new (Err e)
+    → ReadsOneKey {V = Option V} (if_some content) (some_of convert) refuses old new (Err e)
+no_some_key content convert refuses old new e k = record {
+  sound = tt;
+  complete = λ u plain r c live reads is. let (d, there) = some_there (convert u plain) c is in k.complete u plain r d live reads there;
+  refused = k.refused;
+  unprompted = k.unprompted;
+  same_text = k.same_text;
+  failed = k.failed;
+  before = k.before;
+}

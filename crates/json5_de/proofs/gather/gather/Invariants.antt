@@ -1,0 +1,15 @@
+use Rattle.std.proofs.Common.{List, length, None}
+use Rattle.json5_de.specs.Lending.{seen_map, HoldsTheSameMap}
+use Rattle.json5_de.proofs.Gathering.{ReadingPairs}
+use Rattle.json5_de.proofs.gather.gather.Given as goal
+
+abbrev pub invariant-loop-map : goal.invariant-loop-map
+invariant-loop-map g l = record {
+  same_reference : HoldsTheSameMap l.initial.map l.map;
+  pairs : List (g.row.K.Denot × g.row.V.Denot);
+  gathered : g.M.Gathers.gathered l.items pairs;
+  reading : ReadingPairs g.K.DeserializeKey.content g.V.Deserialize.content g.K.DeserializeKey.convert g.V.Deserialize.convert l.fn.de pairs None (seen_map l.map);
+}
+
+abbrev pub decreases-loop-map : goal.decreases-loop-map
+decreases-loop-map g l = length (seen_map l.map).at.reader.unread

@@ -1,0 +1,107 @@
+-- The kinds of keys, and the law of a method that reads one.
+use Rattle.std.specs.Prelude.{◌≡◌, ◌≤◌, ◌↔◌, ℕ, Bool, List, [], ◌++◌, Option, Some, None, Result}
+use Rattle.std.specs.Borrow.{Bor}
+use Rattle.json5_grammar.specs.declared.code.ErrorCode.{ErrorCode}
+use Rattle.json5_grammar.specs.declared.code.ErrorCode.TheVariants as codes
+use Rattle.json5_grammar.specs.Documents.{Doc, max_depth}
+use Rattle.json5_grammar.specs.Names.{Key}
+use Rattle.json5_grammar.specs.Reading.{Read, got, bad}
+use Rattle.json5_grammar.specs.ReadValues.{document}
+use Rattle.json5_grammar.specs.Trees.{Tree, depth}
+use Rattle.json5_grammar.specs.Values.{Reads}
+use Rattle.json5_text.specs.declared.error.Error.{Error}
+use Rattle.json5_text.specs.Tokens.{FaultyKey}
+use Rattle.json5_de.specs.State.{State}
+use Rattle.json5_de.specs.Convert.{every_text, if_plain, every_cow, one_character, place_among, digits_bytes}
+use Rattle.json5_de.specs.ConvertLists.{if_some}
+use Rattle.json5_de.specs.Faults.{FaultRelation, AfterBlanks, RefusedByOrMemory, Trailing}
+use Rattle.json5_de.specs.Keys.{KeyConversion, ReadsOneKey}
+use Rattle.json5_de.specs.Rows.{Row}
+
+-- with which code the text of a key is refused, None for a fault with a text of its own; true where the key is plain
+abbrev pub KeyFault : Type 1
+KeyFault = List ℕ → Bool → Option ErrorCode → Type 0
+
+-- a kind of key: what each text gives, and what is refused
+pub record KeyRow (C : Type 0) : Type 1 where
+  pub convert : KeyConversion C
+  pub IsFault : KeyFault
+
+-- no whole key stands in front, or its text is refused, at the key's first character
+pub data NotKey (IsFault : KeyFault) : List ℕ → Option ErrorCode → Option (List ℕ) → Type 0 where
+  no_key : {x : List ℕ} {reason : Option ErrorCode} {place : Option (List ℕ)} → FaultyKey x reason place → NotKey IsFault x reason place
+  other_key : {s u : List ℕ} {plain : Bool} {reason : Option ErrorCode} (r : List ℕ) → Key s r u plain → IsFault u plain reason → NotKey IsFault (s ++ r) reason (Some [])
+
+-- refused with a fault of the kind, or memory ran out
+abbrev pub RefusedAsKey : {C : Type 0} → KeyRow C → State → Error → State → Type 0
+RefusedAsKey row old e new = RefusedByOrMemory (NotKey row.IsFault) old e
+
+-- one key of the kind is read from the front
+abbrev pub ReadsKeyAs : {V C : Type 0} → KeyRow C → (V → C) → State → State → Result V Error → Type 0
+ReadsKeyAs row content old new result = ReadsOneKey content row.convert (RefusedAsKey row) old new result
+
+-- ---- texts
+
+-- a text that doesn't convert is refused with this code, None for a text of its own
+abbrev pub not_converted : {C : Type 0} → Option ErrorCode → KeyConversion C → KeyFault
+not_converted of_other f u plain reason = (reason ≡ of_other) × (f u plain ≡ None)
+
+-- a text that converts, and the code of any other
+abbrev pub coded_text_key : {C : Type 0} → Option ErrorCode → KeyConversion C → KeyRow C
+coded_text_key of_other f = record { convert = f; IsFault = not_converted of_other f }
+
+abbrev pub text_key : {C : Type 0} → KeyConversion C → KeyRow C
+text_key = coded_text_key None
+
+abbrev pub string_key : KeyRow (List ℕ)
+string_key = text_key every_text
+
+-- one character
+abbrev pub char_key : KeyRow ℕ
+char_key = text_key one_character
+
+-- a text without an escape
+abbrev pub plain_key : KeyRow (List ℕ)
+plain_key = text_key if_plain
+
+-- a text, and whether it is plain
+abbrev pub cow_key : KeyRow (List ℕ × Bool)
+cow_key = text_key every_cow
+
+-- one of these names, by its first place among them
+abbrev pub variant_key : List (Bor (List ℕ)) → KeyRow ℕ
+variant_key names = text_key (place_among names)
+
+-- bytes, as a text of hexadecimal digits
+abbrev pub bytes_key : KeyRow (List ℕ)
+bytes_key = coded_text_key (Some codes.InvalidBytes) digits_bytes
+
+-- ---- documents
+
+abbrev pub converted : {C : Type 0} → (Tree → Option C) → Read Tree → Option C
+converted convert (got t r) = convert t
+converted convert (bad e p) = None
+
+-- what a text converts to that is read as a document of its own, where its tree converts; `document_keys` says which texts do
+abbrev pub document_of : {C : Type 0} → (Tree → Option C) → KeyConversion C
+document_of convert u plain = converted convert (document max_depth u)
+
+-- the text isn't a document whose tree converts: the value in front is refused, or what stands after one that converts
+pub data NotDocument {C : Type 0} (row : Row C) : List ℕ → Bool → Option ErrorCode → Type 0 where
+  no_value : {u : List ℕ} {plain : Bool} {reason : Option ErrorCode} {place : Option (List ℕ)} → AfterBlanks row.IsFault u reason place → NotDocument row u plain reason
+  more_follows : {u r : List ℕ} {plain : Bool} {t : Tree} {c : C} {reason : Option ErrorCode} {place : Option (List ℕ)} → Reads u t r → depth t ≤ max_depth → row.convert t ≡ Some c
+      → AfterBlanks Trailing r reason place → NotDocument row u plain reason
+
+-- a text that is a document of the kind, blanks round it included; its faults keep their codes
+abbrev pub document_key : {C : Type 0} → Row C → KeyRow C
+document_key row = record { convert = document_of row.convert; IsFault = NotDocument row }
+
+-- such a text converts exactly where it is a document whose tree converts
+abbrev pub ConvertsDocuments : {C : Type 0} → (Tree → Option C) → Type 0
+ConvertsDocuments {C = C} convert = (u : List ℕ) (plain : Bool) (c : C) → (document_of convert u plain ≡ Some c) ↔ ((t : Tree) × Doc max_depth u t × (convert t ≡ Some c))
+
+-- ---- options
+
+-- some of what there is
+abbrev pub some_of : {C : Type 0} → KeyConversion C → KeyConversion (Option C)
+some_of f u plain = if_some Some (f u plain)

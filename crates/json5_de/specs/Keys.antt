@@ -1,0 +1,40 @@
+-- Keys, and the law of a type that is read from one.
+-- JSON5 section 3 (a key is a string or an identifier).
+use Rattle.std.specs.Prelude.{◌≡◌, ℕ, Bool, true, false, List, Option, Some, Result, IfOk, IfErr, OnErr}
+use Rattle.json5_grammar.specs.Members.{ReadsKey}
+use Rattle.json5_text.specs.declared.error.Error.{Error}
+use Rattle.json5_de.specs.State.{State, OnlyRead, SameText}
+use Rattle.json5_de.specs.Law.{IsOkOrMemory, StaysFailed, Unprompted}
+
+-- a key that stands for u was read, blanks before it included, and nothing else happened; plain says that no escape is used
+pub record TookKey (old : State) (u : List ℕ) (plain : Bool) (new : State) : Type 0 where
+  pub live : old.failed ≡ false
+  pub reads : ReadsKey old.unread u plain new.unread
+  pub rest : OnlyRead old new
+
+-- what a key's text converts to, where it does; true where it is plain
+abbrev pub KeyConversion : Type 0 → Type 0
+KeyConversion C = List ℕ → Bool → Option C
+
+-- v stands for a key that was read
+abbrev pub GivesKey : {V C : Type 0} → (V → C) → KeyConversion C → State → State → V → Type 0
+GivesKey content convert old new v = (u : List ℕ) × (plain : Bool) × TookKey old u plain new × (convert u plain ≡ Some (content v))
+
+-- two values that may be given for one key have the same content, and leave the same
+abbrev pub OneKeyAnswer : {V C : Type 0} → (V → C) → KeyConversion C → Type 0
+OneKeyAnswer {V = V} content convert = (old new last : State) (v w : V) → GivesKey content convert old new v → GivesKey content convert old last w → (content v ≡ content w) × (new ≡ last)
+
+-- a key that converts is read, unless memory runs out
+abbrev pub CompletesKey : {V C : Type 0} → KeyConversion C → State → Result V Error → Type 0
+CompletesKey {C = C} convert old result =
+    (u : List ℕ) (plain : Bool) (r : List ℕ) (c : C) → old.failed ≡ false → ReadsKey old.unread u plain r → convert u plain ≡ Some c → IsOkOrMemory result
+
+-- one key is read from the front: the law of a key type, and after a refusal the reader has failed for good
+pub record ReadsOneKey {V C : Type 0} (content : V → C) (convert : KeyConversion C) (refuses : State → Error → State → Type 0) (old new : State) (result : Result V Error) : Type 0 where
+  pub sound : IfOk result (λ v. GivesKey content convert old new v)
+  pub complete : CompletesKey convert old result
+  pub refused : IfErr result (λ e. refuses old e new)
+  pub unprompted : Unprompted old result
+  pub same_text : SameText old new
+  pub failed : OnErr result (new.failed ≡ true)
+  pub before : StaysFailed old new result

@@ -1,0 +1,121 @@
+-- How the calls of an access to an object refuse.
+use Rattle.std.specs.Prelude.{◌≡◌, ℕ, Bool, true, false, ◌==◌, ◌||◌, List, [], ◌∷◌, ◌++◌, Option, Some, None, Result}
+use Rattle.json5_grammar.specs.declared.code.ErrorCode.{ErrorCode}
+use Rattle.json5_grammar.specs.declared.code.ErrorCode.TheVariants as codes
+use Rattle.json5_grammar.specs.Codes.{after_text}
+use Rattle.json5_grammar.specs.Characters.{comma_sign, colon_sign, right_brace, backslash, is_identifier_start}
+use Rattle.json5_grammar.specs.Strings.{is_quote}
+use Rattle.json5_text.specs.declared.error.Error.{Error}
+use Rattle.json5_text.specs.Errors.{FaultKind, code, custom, failed_write, kind_of, place_of}
+use Rattle.json5_de.specs.State.{State}
+use Rattle.json5_de.specs.Options.{PlacedAt}
+use Rattle.json5_de.specs.Brackets.{curly}
+use Rattle.json5_de.specs.Faults.{AfterBlanks, RefusedBy}
+use Rattle.json5_de.specs.Access.{AtClose, is_comma_or_closing}
+use Rattle.json5_de.specs.Seq.{AtMember, NoNext, PlacedFault, RefusesCall}
+use Rattle.json5_de.specs.Objects.{SeenMap, AfterColon}
+
+-- a quote, a backslash or an identifier start
+abbrev pub begins_key : ℕ → Bool
+begins_key c = is_quote c || ((c == backslash) || is_identifier_start c)
+
+-- a key begins x
+pub record BeginsKey (x : List ℕ) : Type 0 where
+  pub char : ℕ
+  pub more : List ℕ
+  pub split : x ≡ char ∷ more
+  pub is_first : begins_key char ≡ true
+
+-- ---- keys
+
+-- a key is next, after the comma that is due
+pub record AtKey (due : Bool) (old new : State) : Type 0 where
+  pub member : AtMember curly due old new
+  pub begins : BeginsKey new.unread
+
+abbrev pub GoesToKey : Bool → State → State → Bool → Type 0
+GoesToKey due old new true = AtKey due old new
+GoesToKey due old new false = AtClose curly due old new
+
+-- what is refused where a key may begin
+pub data NoKeyHere : List ℕ → Option ErrorCode → Option (List ℕ) → Type 0 where
+  no_key : (c : ℕ) (r : List ℕ) → begins_key c ≡ false → (c == right_brace) ≡ false → NoKeyHere (c ∷ r) (Some codes.ExpectedIdentifier) (Some [])
+  key_missing : NoKeyHere [] (Some codes.EofParsingObject) None
+
+-- what is refused where the next key is expected, after a comma where one is due
+pub data NoKey (due : Bool) : List ℕ → Option ErrorCode → Option (List ℕ) → Type 0 where
+  no_next : {x : List ℕ} {reason : Option ErrorCode} {place : Option (List ℕ)} → NoNext curly due x reason place → NoKey due x reason place
+  not_here : {x : List ℕ} {reason : Option ErrorCode} {place : Option (List ℕ)} → due ≡ false → NoKeyHere x reason place → NoKey due x reason place
+  not_after_comma : {x : List ℕ} {reason : Option ErrorCode} {place : Option (List ℕ)} → due ≡ true → AfterBlanks NoKeyHere x reason place → NoKey due (comma_sign ∷ x) reason (after_text (comma_sign ∷ []) place)
+
+-- the codes of a text that ended, of memory that ran out, and of a reader that had failed
+abbrev pub is_unplaced_code : ErrorCode → Bool
+is_unplaced_code codes.EofParsingArray = true
+is_unplaced_code codes.EofParsingBool = true
+is_unplaced_code codes.EofParsingComment = true
+is_unplaced_code codes.EofParsingEscapeSequence = true
+is_unplaced_code codes.EofParsingIdentifier = true
+is_unplaced_code codes.EofParsingNull = true
+is_unplaced_code codes.EofParsingNumber = true
+is_unplaced_code codes.EofParsingObject = true
+is_unplaced_code codes.EofParsingString = true
+is_unplaced_code codes.EofParsingValue = true
+is_unplaced_code codes.OutOfMemory = true
+is_unplaced_code codes.Failed = true
+is_unplaced_code _ = false
+
+abbrev pub is_unplaced : FaultKind → Bool
+is_unplaced (code c) = is_unplaced_code c
+is_unplaced (custom text) = false
+is_unplaced failed_write = false
+
+-- a fault of a key that has no place gets the key's, but for the codes that have none
+pub data PlacedAtKey (IsBefore : List ℕ → Type 0) (own e : Error) : Type 0 where
+  at_key : is_unplaced (kind_of own) ≡ false → PlacedAt IsBefore own e → PlacedAtKey IsBefore own e
+  as_it_is : is_unplaced (kind_of own) ≡ true → kind_of e ≡ kind_of own → place_of e ≡ place_of own → PlacedAtKey IsBefore own e
+
+-- the fault of a call for a key: none was reached, or the key's own
+pub data RefusesPairKey (refuses : State → Error → State → Type 0) (due : Bool) (old : State) (e : Error) (after : State) : Type 0 where
+  not_reached : RefusedBy (NoKey due) old e → RefusesPairKey refuses due old e after
+  in_key : (start : State) (own : Error) → AtKey due old start → refuses start own after → PlacedAtKey (λ before. start.input ≡ before ++ start.unread) own e → RefusesPairKey refuses due old e after
+
+-- what is next at a key: after a pair the comma or the brace, else a key or the brace
+abbrev pub begins_next_key : Bool → ℕ → Bool
+begins_next_key true c = is_comma_or_closing curly c
+begins_next_key false c = begins_key c || (c == right_brace)
+
+-- and what is said of anything else
+abbrev pub no_key_code : Bool → ErrorCode
+no_key_code true = codes.ExpectedComma
+no_key_code false = codes.ExpectedIdentifier
+
+-- the fault of a call for a key, at the opening brace where it has no place
+abbrev pub KeyRefusedAtBrace : (State → Error → State → Type 0) → SeenMap → Error → Type 0
+KeyRefusedAtBrace refuses old e = PlacedFault (RefusesPairKey refuses old.at.due old.at.reader) old.at e
+
+-- how a call for a key refuses
+abbrev pub RefusesNextKey : {V : Type 0} → (State → Error → State → Type 0) → SeenMap → State → Result V Error → Type 0
+RefusesNextKey refuses old new result = RefusesCall (RefusesPairKey refuses old.at.due old.at.reader) true (begins_next_key old.at.due) codes.EofParsingObject (no_key_code old.at.due) old.at new result
+
+-- ---- values
+
+-- what is refused where the colon after a key is expected
+pub data NoColon : List ℕ → Option ErrorCode → Option (List ℕ) → Type 0 where
+  no_colon : (c : ℕ) (r : List ℕ) → (c == colon_sign) ≡ false → NoColon (c ∷ r) (Some codes.ExpectedColon) (Some [])
+  colon_missing : NoColon [] (Some codes.EofParsingObject) None
+
+abbrev pub is_colon : ℕ → Bool
+is_colon c = c == colon_sign
+
+-- the fault of a call for a value: its colon was not reached, or the value's own
+pub data RefusesPairValue (refuses : State → Error → State → Type 0) (old : State) (e : Error) (after : State) : Type 0 where
+  no_value : RefusedBy NoColon old e → RefusesPairValue refuses old e after
+  in_value : (start : State) → AfterColon old start → refuses start e after → RefusesPairValue refuses old e after
+
+-- the fault of a call for a value, at the opening brace where it has no place
+abbrev pub ValueRefusedAtBrace : (State → Error → State → Type 0) → SeenMap → Error → Type 0
+ValueRefusedAtBrace refuses old e = PlacedFault (RefusesPairValue refuses old.at.reader) old.at e
+
+-- how a call for a value refuses
+abbrev pub RefusesNextValue : {V : Type 0} → (State → Error → State → Type 0) → SeenMap → State → Result V Error → Type 0
+RefusesNextValue refuses old new result = RefusesCall (RefusesPairValue refuses old.at.reader) true is_colon codes.EofParsingObject codes.ExpectedColon old.at new result

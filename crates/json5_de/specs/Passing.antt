@@ -1,0 +1,141 @@
+-- How a value is passed over: step by step as reading on lists does, and what the open brackets make of what is to come.
+use Rattle.std.specs.Prelude.{◌≡◌, ◌⊎◌, ℕ, suc, ◌+◌, ◌-◌, ◌<◌, ◌≤◌, Bool, true, false, cond, List, [], ◌∷◌, ◌++◌, length, Option, Some, None, Result, IfOk, IfErr, OnErr}
+use Rattle.std.specs.Str.{encode_utf8_all}
+use Rattle.json5_grammar.specs.declared.code.ErrorCode.{ErrorCode}
+use Rattle.json5_grammar.specs.Documents.{max_depth}
+use Rattle.json5_grammar.specs.Fronts.{of_array, of_object, opening}
+use Rattle.json5_grammar.specs.Fronts as fronts
+use Rattle.json5_grammar.specs.Positions.{position_after}
+use Rattle.json5_grammar.specs.Reading.{Read, Place, here, inner, got, bad, and_then, placed}
+use Rattle.json5_grammar.specs.ReadSteps.{forget, rest_of}
+use Rattle.json5_grammar.specs.ReadValues.{read}
+use Rattle.json5_text.specs.declared.error.Error.{Error}
+use Rattle.json5_text.specs.Errors.{place_of}
+use Rattle.json5_text.specs.Cursor.{Says, IsOutOfMemory}
+use Rattle.json5_de.specs.declared.ignored.BracketKind.{BracketKind}
+use Rattle.json5_de.specs.declared.ignored.BracketKind.TheVariants as kind
+use Rattle.json5_de.specs.declared.ignored.OpenBracket.{OpenBracket}
+use Rattle.json5_de.specs.Access.{StartsAfter}
+use Rattle.json5_de.specs.Options.{PlacedAt}
+use Rattle.json5_de.specs.State.{State, GivesUp}
+use Rattle.json5_de.specs.Law.{IsUnprompted}
+use Rattle.json5_de.specs.Steps.{TookText}
+
+abbrev pub kind_of : BracketKind → fronts.BracketKind
+kind_of kind.Array = of_array
+kind_of kind.Object = of_object
+
+-- ---- steps
+
+-- a reader that hasn't failed, at a place of its text
+pub record IsReady (s : State) : Type 0 where
+  pub live : s.failed ≡ false
+  pub shallow : s.level ≤ max_depth
+  pub before : List ℕ
+  pub inside : s.input ≡ before ++ s.unread
+
+-- the fault's place is where this rest of the text begins, or it has none
+abbrev pub StandsAt : List ℕ → Place → Error → Type 0
+StandsAt input (here q) e = (before : List ℕ) × (input ≡ before ++ q) × (place_of e ≡ Some (position_after before))
+StandsAt input inner e = place_of e ≡ None
+
+-- reading gives this fault, or memory ran out for its text
+pub record Blames {A : Type 0} (input : List ℕ) (reading : Read A) (e : Error) : Type 0 where
+  pub reason : Option ErrorCode
+  pub place : Place
+  pub is_bad : reading ≡ bad reason place
+  pub says : IsOutOfMemory e ⊎ (Says reason e × StandsAt input place e)
+  pub unprompted : IsUnprompted e
+
+-- what reading gives was taken
+pub record Gave {A : Type 0} (reading : Read A) (a : A) (old new : State) : Type 0 where
+  pub reads : reading ≡ got a new.unread
+  pub taken : List ℕ
+  pub took : TookText old taken new
+
+-- a step does what reading on lists does
+pub record Steps {A : Type 0} (reading : Read A) (old new : State) (result : Result A Error) : Type 0 where
+  pub given : IfOk result (λ a. Gave reading a old new)
+  pub refused : IfErr result (Blames old.input reading)
+  pub failed : OnErr result (GivesUp old new)
+
+-- the same where such a character stands in front; what was read isn't kept
+abbrev pub StepsFrom : {A : Type 0} → (ℕ → Bool) → (List ℕ → Read A) → State → State → Result (Unit {0}) Error → Type 0
+StepsFrom begins reading old new result = (c : ℕ) (r : List ℕ) → old.unread ≡ c ∷ r → begins c ≡ true → Steps (forget (reading old.unread)) old new result
+
+-- ---- a value's beginning
+
+-- so many bytes stand before this rest of the text
+abbrev pub CountsTo : List ℕ → ℕ → List ℕ → Type 0
+CountsTo input start q = (before : List ℕ) × (input ≡ before ++ q) × (start ≡ length (encode_utf8_all before))
+
+-- what the value in front is read as
+abbrev pub value_at : State → Read (Unit {0})
+value_at s = forget (read (max_depth - s.level) s.unread)
+
+-- an opening bracket was taken
+pub record OpenedAt (bracket : OpenBracket) (old new : State) : Type 0 where
+  pub sign : old.unread ≡ opening (kind_of bracket.kind) ∷ new.unread
+  pub counted : CountsTo old.input bracket.start old.unread
+  pub room : old.level < max_depth
+  pub rest : new ≡ record old { unread = new.unread; level = old.level + 1 }
+
+-- a value that is no collection was taken, or an opening bracket
+abbrev pub BeganValue : State → State → Option OpenBracket → Type 0
+BeganValue old new None = Gave (value_at old) tt old new
+BeganValue old new (Some bracket) = OpenedAt bracket old new
+
+pub record BeginsValue (old new : State) (result : Result (Option OpenBracket) Error) : Type 0 where
+  pub begun : IfOk result (BeganValue old new)
+  pub refused : IfErr result (Blames old.input (value_at old))
+  pub failed : OnErr result (GivesUp old new)
+  pub shorter : IfOk result (λ o. length new.unread < length old.unread)
+
+-- ---- open brackets, the outermost first
+
+-- where these brackets are open, nested so deep at most, what is read of a value makes w of the whole
+abbrev pub Nested : List ℕ → ℕ → List OpenBracket → Read (Unit {0}) → Read (Unit {0}) → Type 0
+Nested input d [] m w = w ≡ m
+Nested input d (f ∷ fs) m w =
+    (q : List ℕ) × (v : Read (Unit {0})) × CountsTo input f.start q × Nested input (d - 1) fs m v × (w ≡ placed q (and_then v (λ u y. rest_of (kind_of f.kind) true (d - 1) y)))
+
+-- a value is next, or one has ended
+abbrev pub stands : Bool → State → Read (Unit {0})
+stands at_value now = cond at_value (value_at now) (got tt now.unread)
+
+-- since `from` these brackets were opened, and what is next makes w of the whole
+pub record Passing (from : State) (w : Read (Unit {0})) (brackets : List OpenBracket) (at_value : Bool) (now : State) : Type 0 where
+  pub ready : IsReady now
+  pub rest : now ≡ record from { unread = now.unread; level = from.level + length brackets }
+  pub nested : Nested now.input (max_depth - from.level) brackets (stands at_value now) w
+
+-- the same, within one bracket more, which is open before q
+pub record Inside (from : State) (w : Read (Unit {0})) (brackets : List OpenBracket) (bracket : OpenBracket) (due : Bool) (q : List ℕ) (now : State) : Type 0 where
+  pub ready : IsReady now
+  pub rest : now ≡ record from { unread = now.unread; level = suc (from.level + length brackets) }
+  pub counted : CountsTo now.input bracket.start q
+  pub nested : Nested now.input (max_depth - from.level) brackets (placed q (rest_of (kind_of bracket.kind) due (max_depth - now.level) now.unread)) w
+
+-- the fault gets the innermost bracket's place where it has none and one is open
+abbrev pub PlacedWithin : List ℕ → List OpenBracket → Error → Error → Type 0
+PlacedWithin input brackets own e = ((brackets ≡ []) × (e ≡ own)) ⊎ ((fs : List OpenBracket) × (f : OpenBracket) × (brackets ≡ fs ++ f ∷ []) × PlacedAt (StartsAfter input f.start) own e)
+
+-- a turn goes on, and says whether a value is next; or what is refused makes a fault of the whole
+pub record Turns (was : Bool) (brackets after : List OpenBracket) (old new : State) (result : Result Bool Error) : Type 0 where
+  pub goes : IfOk result (λ at_value. (from : State) (w : Read (Unit {0})) → Passing from w brackets was old → Passing from w after at_value new)
+  pub refused : IfErr result (λ e. (from : State) (w : Read (Unit {0})) → Passing from w brackets was old → Blames from.input w e)
+  pub failed : OnErr result (GivesUp old new)
+  pub shorter : IfOk result (λ at_value. length new.unread < length old.unread)
+
+pub record TurnsInside (due : Bool) (bracket : OpenBracket) (brackets after : List OpenBracket) (old new : State) (result : Result Bool Error) : Type 0 where
+  pub goes : IfOk result (λ at_value. (from : State) (w : Read (Unit {0})) (q : List ℕ) → Inside from w brackets bracket due q old → Passing from w after at_value new)
+  pub refused : IfErr result (λ e. (from : State) (w : Read (Unit {0})) (q : List ℕ) → Inside from w brackets bracket due q old → Blames from.input w e)
+  pub failed : OnErr result (GivesUp old new)
+  pub shorter : IfOk result (λ at_value. due ≡ true → length new.unread < length old.unread)
+  pub no_longer : IfOk result (λ at_value. length new.unread ≤ length old.unread)
+
+-- the whole was passed over
+pub record Whole (old new : State) (result : Result (Unit {0}) Error) : Type 0 where
+  pub given : IfOk result (λ u. Gave (value_at old) tt old new)
+  pub refused : IfErr result (Blames old.input (value_at old))
+  pub failed : OnErr result (GivesUp old new)

@@ -1,0 +1,59 @@
+//! Reading of bytes.
+
+ghost use Rattle.std.specs.Prelude.{Some, IsErrAnd};
+ghost use Rattle.json5_text.specs.Bytes.{bytes_of};
+ghost use Rattle.json5_de.specs.Rows.{ReadsAs, bytes_row};
+ghost use Rattle.json5_de.specs.State.{GivesUp};
+ghost use Rattle.json5_de.specs.Steps.{IsFaultAt, IsUndecoded};
+
+use crate::de::Deserializer;
+use hex::FromHexError;
+use json5_text::ErrorCode;
+use json5_text::byte_buf::ByteBuf;
+use json5_text::error::{Error, Result};
+use json5_text::input::Input;
+
+impl<I: Input> Deserializer<I> {
+    /// Reads bytes: a text of an even number of ASCII hexadecimal digits, in either case, two a byte. `InvalidBytes` at the quote
+    /// of any other text; what is no text is refused as by `deserialize_string`.
+    pub fn deserialize_bytes(&mut self) -> Result<ByteBuf>
+        ensures { ReadsAs bytes_row bytes_of self.old self.new result }
+    {
+        self.begin()?;
+        let start = self.offset();
+        let text = self.string_owned()?;
+        match hex::decode(self.allocator(), text.as_str()) {
+            Ok(bytes) => Ok(ByteBuf::from_vec(bytes)),
+            Err(error) => self.undecoded(start, error),
+        }
+    }
+
+    /// As `deserialize_bytes`.
+    pub fn deserialize_byte_buf(&mut self) -> Result<ByteBuf>
+        ensures { ReadsAs bytes_row bytes_of self.old self.new result }
+    {
+        self.deserialize_bytes()
+    }
+
+    /// Refuses a text at the offset that was decoded with this fault.
+    pub(crate) fn undecoded<T>(&mut self, offset: usize, error: FromHexError) -> Result<T>
+        ensures refused { IsErrAnd result (IsUndecoded error self.old.input offset) }
+        ensures failed { GivesUp self.old self.new }
+    {
+        match error {
+            FromHexError::OutOfMemory => self.refuse(Error::new(ErrorCode::OutOfMemory)),
+            FromHexError::InvalidHexCharacter { .. }
+            | FromHexError::OddLength
+            | FromHexError::InvalidStringLength => self.refuse_at(offset, ErrorCode::InvalidBytes),
+        }
+    }
+
+    /// Refuses with this code at the offset.
+    fn refuse_at<T>(&mut self, offset: usize, code: ErrorCode) -> Result<T>
+        ensures refused { IsErrAnd result (IsFaultAt (Some code) self.old.input offset) }
+        ensures failed { GivesUp self.old self.new }
+    {
+        let error = Error::new_at(self.position_of(offset), code);
+        self.refuse(error)
+    }
+}

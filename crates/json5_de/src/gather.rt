@@ -1,0 +1,47 @@
+//! Gathering the pairs of an object into a map.
+
+ghost use Rattle.std.specs.Prelude.{◌≡◌, List, [], ◌∷◌, ◌++◌, OnOk, IfOk, IfErr};
+ghost use Rattle.json5_text.specs.Cursor.{IsOutOfMemory};
+ghost use Rattle.json5_de.specs.State.{SameText};
+ghost use Rattle.json5_de.specs.Law.{Completes, Unprompted};
+ghost use Rattle.json5_de.specs.Maps.{pairs_of, GivesPairs};
+ghost use Rattle.json5_de.specs.MapFaults.{sides, RefusesMap};
+
+use crate::de::{Deserialize, Deserializer};
+use crate::key::DeserializeKey;
+use json5_text::error::Result;
+use json5_text::input::Input;
+
+/// A map that pairs are put into, one after another.
+pub(crate) trait Gathers<K, V>: Sized + Drop {
+    ghost use Rattle.std.specs.Prelude.{List};
+
+    // It is what an empty map becomes by these pairs, put into it in turn.
+    ghost gathered: { Self → List (K × V) → Type 0 };
+
+    /// Puts a pair. Where an equal key is there, it stays and takes the value.
+    fn put(&mut self, key: K, value: V) -> Result<()>
+        ensures put { OnOk result ((ps : List (K × V)) → gathered self.old ps → gathered self.new (ps ++ (key, value) ∷ [])) }
+        ensures refused { IfErr result IsOutOfMemory };
+}
+
+/// Reads an object's pairs into an empty map.
+pub(crate) fn gather<I: Input, K: DeserializeKey<I>, V: Deserialize<I>, M: Gathers<K, V>>(
+    de: &mut Deserializer<I>,
+    mut items: M,
+) -> Result<M>
+    requires { M.gathered items [] }
+    ensures sound { IfOk result (GivesPairs K.content V.content K.convert V.convert M.gathered de.old de.new) }
+    ensures complete { Completes (pairs_of K.convert V.convert) de.old result }
+    ensures refused { IfErr result (λ e. RefusesMap (sides K.convert V.convert K.refuses V.refuses) de.old e de.new) }
+    ensures unprompted { Unprompted de.old result }
+    ensures same_text { SameText de.old de.new }
+{
+    let mut map = de.deserialize_map()?;
+    while let Some(key) = map.next_key::<K>()? {
+        let value = map.next_value::<V>()?;
+        items.put(key, value)?;
+    }
+    map.end()?;
+    Ok(items)
+}

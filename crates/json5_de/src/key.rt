@@ -1,0 +1,308 @@
+//! Keys of objects, and the law of a type that is read from one.
+
+ghost use Rattle.std.specs.Prelude.{◌≡◌, ◌^◌, ◌≤◌, ℕ, List, string_bytes, IfOk, IfErr};
+ghost use Rattle.json5_grammar.specs.Documents.{max_depth};
+ghost use Rattle.json5_text.specs.Bytes.{bytes_of};
+ghost use Rattle.json5_text.specs.Cows.{cow_bytes, is_borrowed};
+ghost use Rattle.json5_de.specs.State.{State, SameText};
+ghost use Rattle.json5_de.specs.ConvertLists.{if_some};
+ghost use Rattle.json5_de.specs.Law.{Unprompted};
+ghost use Rattle.json5_de.specs.Options.{RefusesLive};
+ghost use Rattle.json5_de.specs.Rows.{null_row, bool_row, natural_row, integer_row, decimal_row};
+ghost use Rattle.json5_de.specs.Keys.{GivesKey, CompletesKey, ReadsOneKey};
+ghost use Rattle.json5_de.specs.KeyRows.{ReadsKeyAs, string_key, char_key, plain_key, cow_key, variant_key, bytes_key, document_key, some_of};
+
+use crate::de::Deserializer;
+use json5_text::byte_buf::ByteBuf;
+use json5_text::cow_str::CowStr;
+use json5_text::decimal::Decimal;
+use json5_text::error::Result;
+use json5_text::input::{Borrows, Input};
+use std::alloc::Global;
+
+/// A key that is to be read: each of its methods reads it whole, a string or an identifier (JSON5 section 3).
+///
+/// A type calls one of them, once. Where it is dropped unread, the access that lent it refuses from then on.
+pub struct MapKey<'a, I: Input> {
+    de: &'a mut Deserializer<I>,
+}
+
+/// Dropped unread, it leaves the reader before the key.
+impl<I: Input> Drop for MapKey<'_, I> {
+    fn drop(self)
+        ensures { self.exit.0.now ≡ self.entry.de.now }
+    {
+        let MapKey { de: _ } = self;
+    }
+}
+
+/// A type that is read from a key.
+///
+/// Its law is the contract of `deserialize_key`: one key is read from the front, blanks and comments before it included, and
+/// exactly what follows it is left unread.
+pub trait DeserializeKey<I: Input>: Sized + Drop {
+    ghost use Rattle.std.specs.Prelude.{⊤};
+    ghost use Rattle.json5_text.specs.declared.error.Error.{Error};
+    ghost use Rattle.json5_de.specs.State.{State};
+    ghost use Rattle.json5_de.specs.Keys.{KeyConversion};
+    ghost use Rattle.json5_de.specs.Lending.{waiting, HoldsTheSameKey};
+
+    // What of a key counts.
+    ghost Content: { Type 0 };
+
+    ghost content: { Self → Content };
+
+    // What a key's text converts to, where it does; true where no escape is used.
+    ghost convert: { KeyConversion Content };
+
+    // What is known of a refusal, beside what the law says.
+    ghost refuses: { State → Error → State → Type 0 } = { λ _ _ _. ⊤ };
+
+    /// Reads one key from the front.
+    fn deserialize_key(key: &mut MapKey<'_, I>) -> Result<Self>
+        ensures sound { IfOk result (λ v. GivesKey content convert (waiting key.old) (waiting key.new) v) }
+        ensures complete { CompletesKey convert (waiting key.old) result }
+        ensures refused { IfErr result (λ e. refuses (waiting key.old) e (waiting key.new)) }
+        ensures unprompted { Unprompted (waiting key.old) result }
+        ensures same_text { SameText (waiting key.old) (waiting key.new) }
+        ensures same_reference { HoldsTheSameKey key.old key.new };
+}
+
+impl<I: Input> Deserializer<I> {
+    /// Reads a K from the key that is next.
+    pub(crate) fn read_key<K: DeserializeKey<I>>(&mut self) -> Result<K>
+        ensures sound { IfOk result (λ v. GivesKey K.content K.convert self.old self.new v) }
+        ensures complete { CompletesKey K.convert self.old result }
+        ensures refused { IfErr result (λ e. K.refuses self.old e self.new) }
+        ensures unprompted { Unprompted self.old result }
+        ensures same_text { SameText self.old self.new }
+    {
+        K::deserialize_key(&mut MapKey { de: &mut *self })
+    }
+
+    /// Reads a K, with its faults; after a refusal the reader has failed.
+    fn key_as<K: DeserializeKey<I>>(&mut self) -> Result<K>
+        ensures { ReadsOneKey K.content K.convert (RefusesLive K.refuses) self.old self.new result }
+    {
+        self.live()?;
+        match self.read_key::<K>() {
+            Ok(key) => Ok(key),
+            Err(e) => self.refuse(e),
+        }
+    }
+}
+
+impl<I: Input> MapKey<'_, I> {
+    ghost use Rattle.json5_de.specs.Lending.{waiting, HoldsTheSameKey};
+
+    /// The allocator of what is read.
+    pub fn allocator(&self) -> Global {
+        self.de.allocator()
+    }
+
+    /// Reads the key as a text.
+    pub fn deserialize_string(&mut self) -> Result<String>
+        ensures reads { ReadsKeyAs string_key string_bytes (waiting self.old) (waiting self.new) result }
+        ensures same_reference { HoldsTheSameKey self.old self.new }
+    {
+        self.de.key_string()
+    }
+
+    /// Reads a key of one character; another text is a custom fault at the key.
+    pub fn deserialize_char(&mut self) -> Result<char>
+        ensures reads { ReadsKeyAs char_key (λ c. c) (waiting self.old) (waiting self.new) result }
+        ensures same_reference { HoldsTheSameKey self.old self.new }
+    {
+        self.de.key_char()
+    }
+
+    /// Reads a key that is one of the variants, and returns its first place among them, counted from 0. Another text is a custom
+    /// fault at the key, which names the variants.
+    pub fn deserialize_variant(&mut self, variants: &[&str]) -> Result<usize>
+        ensures reads { ReadsKeyAs (variant_key variants.now) (λ n. n) (waiting self.old) (waiting self.new) result }
+        ensures same_reference { HoldsTheSameKey self.old self.new }
+    {
+        self.de.key_variant(variants)
+    }
+
+    /// Reads a key as bytes: a text of an even number of ASCII hexadecimal digits, in either case, two a byte. `InvalidBytes` at
+    /// the key for any other text.
+    pub fn deserialize_bytes(&mut self) -> Result<ByteBuf>
+        ensures reads { ReadsKeyAs bytes_key bytes_of (waiting self.old) (waiting self.new) result }
+        ensures same_reference { HoldsTheSameKey self.old self.new }
+    {
+        self.de.key_bytes()
+    }
+
+    /// As `deserialize_bytes`.
+    pub fn deserialize_byte_buf(&mut self) -> Result<ByteBuf>
+        ensures reads { ReadsKeyAs bytes_key bytes_of (waiting self.old) (waiting self.new) result }
+        ensures same_reference { HoldsTheSameKey self.old self.new }
+    {
+        self.deserialize_bytes()
+    }
+
+    /// Reads the key's text as a document, which is `null`. Its faults have their codes and the key's place, as those of the other
+    /// calls that read a document have.
+    pub fn deserialize_unit(&mut self) -> Result<()>
+        ensures reads { ReadsKeyAs (document_key null_row) (λ _. tt) (waiting self.old) (waiting self.new) result }
+        ensures same_reference { HoldsTheSameKey self.old self.new }
+    {
+        self.de.key_document()
+    }
+
+    /// Reads the key's text as a document, which is `null`, as a struct without fields. The name changes nothing.
+    pub fn deserialize_unit_struct(&mut self, _name: &'static str) -> Result<()>
+        ensures reads { ReadsKeyAs (document_key null_row) (λ _. tt) (waiting self.old) (waiting self.new) result }
+        ensures same_reference { HoldsTheSameKey self.old self.new }
+    {
+        self.deserialize_unit()
+    }
+
+    /// Reads the key's text as a document, which is `true` or `false`.
+    pub fn deserialize_bool(&mut self) -> Result<bool>
+        ensures reads { ReadsKeyAs (document_key bool_row) (λ b. b) (waiting self.old) (waiting self.new) result }
+        ensures same_reference { HoldsTheSameKey self.old self.new }
+    {
+        self.de.key_document()
+    }
+
+    /// Reads the key's text as a document, which is a whole number in the range of `u8`.
+    pub fn deserialize_u8(&mut self) -> Result<u8>
+        ensures reads { ReadsKeyAs (document_key (natural_row (2 ^ 8))) (λ n. n) (waiting self.old) (waiting self.new) result }
+        ensures same_reference { HoldsTheSameKey self.old self.new }
+    {
+        self.de.key_document()
+    }
+
+    /// Reads the key's text as a document, which is a whole number in the range of `u16`.
+    pub fn deserialize_u16(&mut self) -> Result<u16>
+        ensures reads { ReadsKeyAs (document_key (natural_row (2 ^ 16))) (λ n. n) (waiting self.old) (waiting self.new) result }
+        ensures same_reference { HoldsTheSameKey self.old self.new }
+    {
+        self.de.key_document()
+    }
+
+    /// Reads the key's text as a document, which is a whole number in the range of `u32`.
+    pub fn deserialize_u32(&mut self) -> Result<u32>
+        ensures reads { ReadsKeyAs (document_key (natural_row (2 ^ 32))) (λ n. n) (waiting self.old) (waiting self.new) result }
+        ensures same_reference { HoldsTheSameKey self.old self.new }
+    {
+        self.de.key_document()
+    }
+
+    /// Reads the key's text as a document, which is a whole number in the range of `u64`.
+    pub fn deserialize_u64(&mut self) -> Result<u64>
+        ensures reads { ReadsKeyAs (document_key (natural_row (2 ^ 64))) (λ n. n) (waiting self.old) (waiting self.new) result }
+        ensures same_reference { HoldsTheSameKey self.old self.new }
+    {
+        self.de.key_document()
+    }
+
+    /// Reads the key's text as a document, which is a whole number in the range of `u128`.
+    pub fn deserialize_u128(&mut self) -> Result<u128>
+        ensures reads { ReadsKeyAs (document_key (natural_row (2 ^ 128))) (λ n. n) (waiting self.old) (waiting self.new) result }
+        ensures same_reference { HoldsTheSameKey self.old self.new }
+    {
+        self.de.key_document()
+    }
+
+    /// Reads the key's text as a document, which is a whole number in the range of `i8`.
+    pub fn deserialize_i8(&mut self) -> Result<i8>
+        ensures reads { ReadsKeyAs (document_key (integer_row (2 ^ 7))) (λ n. n) (waiting self.old) (waiting self.new) result }
+        ensures same_reference { HoldsTheSameKey self.old self.new }
+    {
+        self.de.key_document()
+    }
+
+    /// Reads the key's text as a document, which is a whole number in the range of `i16`.
+    pub fn deserialize_i16(&mut self) -> Result<i16>
+        ensures reads { ReadsKeyAs (document_key (integer_row (2 ^ 15))) (λ n. n) (waiting self.old) (waiting self.new) result }
+        ensures same_reference { HoldsTheSameKey self.old self.new }
+    {
+        self.de.key_document()
+    }
+
+    /// Reads the key's text as a document, which is a whole number in the range of `i32`.
+    pub fn deserialize_i32(&mut self) -> Result<i32>
+        ensures reads { ReadsKeyAs (document_key (integer_row (2 ^ 31))) (λ n. n) (waiting self.old) (waiting self.new) result }
+        ensures same_reference { HoldsTheSameKey self.old self.new }
+    {
+        self.de.key_document()
+    }
+
+    /// Reads the key's text as a document, which is a whole number in the range of `i64`.
+    pub fn deserialize_i64(&mut self) -> Result<i64>
+        ensures reads { ReadsKeyAs (document_key (integer_row (2 ^ 63))) (λ n. n) (waiting self.old) (waiting self.new) result }
+        ensures same_reference { HoldsTheSameKey self.old self.new }
+    {
+        self.de.key_document()
+    }
+
+    /// Reads the key's text as a document, which is a whole number in the range of `i128`.
+    pub fn deserialize_i128(&mut self) -> Result<i128>
+        ensures reads { ReadsKeyAs (document_key (integer_row (2 ^ 127))) (λ n. n) (waiting self.old) (waiting self.new) result }
+        ensures same_reference { HoldsTheSameKey self.old self.new }
+    {
+        self.de.key_document()
+    }
+
+    /// Reads the key's text as a document, which is a number.
+    pub fn deserialize_decimal(&mut self) -> Result<Decimal>
+        ensures reads { ReadsKeyAs (document_key decimal_row) (λ d. d) (waiting self.old) (waiting self.new) result }
+        ensures same_reference { HoldsTheSameKey self.old self.new }
+    {
+        self.de.key_document()
+    }
+
+    /// Reads the K that a struct of one field holds, with the faults of K. The name changes nothing. After a refusal every later
+    /// call on the reader answers `Failed`.
+    pub fn deserialize_newtype_struct<K: DeserializeKey<I>>(
+        &mut self,
+        _name: &'static str,
+    ) -> Result<K>
+        ensures reads { ReadsOneKey K.content K.convert (RefusesLive K.refuses) (waiting self.old) (waiting self.new) result }
+        ensures same_reference { HoldsTheSameKey self.old self.new }
+    {
+        self.de.key_as()
+    }
+
+    /// Reads a K, which is always Some, with the faults of K: a key is never None. After a refusal every later call on the reader
+    /// answers `Failed`.
+    pub fn deserialize_option<K: DeserializeKey<I>>(&mut self) -> Result<Option<K>>
+        ensures reads { ReadsOneKey (if_some K.content) (some_of K.convert) (RefusesLive K.refuses) (waiting self.old) (waiting self.new) result }
+        ensures same_reference { HoldsTheSameKey self.old self.new }
+    {
+        let key = self.de.key_as::<K>()?;
+        Ok(Some(key))
+    }
+}
+
+// What is borrowed from the text.
+impl<'de, I: Borrows<'de>> MapKey<'_, I> {
+    ghost use Rattle.json5_de.specs.Lending.{waiting, HoldsTheSameKey};
+
+    /// Reads a key without an escape; another one is a custom fault at the key.
+    pub fn deserialize_str(&mut self) -> Result<&'de str>
+        ensures reads { ReadsKeyAs plain_key (λ t. t.now) (waiting self.old) (waiting self.new) result }
+        ensures same_reference { HoldsTheSameKey self.old self.new }
+    {
+        self.de.key_str()
+    }
+
+    /// Reads the key as a text, borrowed where no escape is used.
+    pub fn deserialize_identifier(&mut self) -> Result<CowStr<'de>>
+        ensures reads { ReadsKeyAs cow_key (λ t. (cow_bytes t, is_borrowed t)) (waiting self.old) (waiting self.new) result }
+        ensures same_reference { HoldsTheSameKey self.old self.new }
+    {
+        self.de.key_cow()
+    }
+
+    /// Reads a key of any kind, which is its text, borrowed where no escape is used.
+    pub fn deserialize_any(&mut self) -> Result<CowStr<'de>>
+        ensures reads { ReadsKeyAs cow_key (λ t. (cow_bytes t, is_borrowed t)) (waiting self.old) (waiting self.new) result }
+        ensures same_reference { HoldsTheSameKey self.old self.new }
+    {
+        self.deserialize_identifier()
+    }
+}

@@ -1,0 +1,153 @@
+//! Reading of keys.
+
+ghost use Rattle.std.specs.Prelude.{◌≡◌, ℕ, Bool, List, string_bytes, IfOk, IfErr, OnErr, MatchResult};
+ghost use Rattle.std.specs.Str.{encode_utf8_all};
+ghost use Rattle.json5_text.specs.Bytes.{bytes_of};
+ghost use Rattle.json5_text.specs.Cows.{cow_bytes, is_borrowed};
+ghost use Rattle.json5_text.specs.Cursor.{IsOutOfMemory, IsOffset};
+ghost use Rattle.json5_de.specs.Steps.{IsMismatch};
+ghost use Rattle.json5_text.specs.Keys.{KeyIs};
+ghost use Rattle.json5_text.specs.Tokens.{FaultyKey};
+ghost use Rattle.json5_de.specs.State.{GivesUp};
+ghost use Rattle.json5_de.specs.Law.{StaysFailed};
+ghost use Rattle.json5_de.specs.Faults.{RefusedByOrMemory};
+ghost use Rattle.json5_de.specs.Keys.{CompletesKey};
+ghost use Rattle.json5_de.specs.KeyRows.{ReadsKeyAs, string_key, char_key, plain_key, cow_key, variant_key, bytes_key, document_key};
+ghost use Rattle.json5_de.specs.KeySteps.{TookKeyAt, every_key};
+
+use crate::de::Deserializer;
+use crate::key_documents::FromText;
+use crate::mismatch::Mismatch;
+use crate::texts::only_character;
+use crate::variants::place_among;
+use json5_text::byte_buf::ByteBuf;
+use json5_text::cow_str::CowStr;
+use json5_text::error::{Error, Result};
+use json5_text::input::{Borrows, Input};
+use json5_text::key_text::KeyText;
+
+/// A key that was taken.
+#[derive(Drop)]
+struct FoundKey {
+    /// The count of bytes before it.
+    start: usize,
+    text: KeyText,
+}
+
+impl<I: Input> Deserializer<I> {
+    /// Takes a key, blanks before it included.
+    fn found_key(&mut self) -> Result<FoundKey>
+        ensures taken { IfOk result (TookKeyAt self.old self.new) }
+        ensures refused { IfErr result (RefusedByOrMemory FaultyKey self.old) }
+        ensures complete { CompletesKey every_key self.old result }
+        ensures failed { OnErr result (GivesUp self.old self.new) }
+        ensures before { StaysFailed self.old self.new result }
+    {
+        self.begin()?;
+        let start = self.offset();
+        let text = self.key()?;
+        Ok(FoundKey { start, text })
+    }
+
+    /// The text of a key in memory of its own.
+    fn own_key_text(&self, key: KeyText) -> Result<String>
+        ensures { (u : List ℕ) (plain : Bool) → KeyIs self.now.input u plain key → MatchResult result (λ t. string_bytes t ≡ encode_utf8_all u) IsOutOfMemory }
+    {
+        if let KeyText::Escaped(text) = key {
+            return Ok(text);
+        }
+        let text = String::from_str(self.allocator(), self.key_text(&key))?;
+        Ok(text)
+    }
+
+    /// Reads a key as a text.
+    pub(crate) fn key_string(&mut self) -> Result<String>
+        ensures { ReadsKeyAs string_key string_bytes self.old self.new result }
+    {
+        let key = self.found_key()?;
+        match self.own_key_text(key.text) {
+            Ok(text) => Ok(text),
+            Err(e) => self.refuse(e),
+        }
+    }
+
+    /// Reads a key of one character.
+    pub(crate) fn key_char(&mut self) -> Result<char>
+        ensures { ReadsKeyAs char_key (λ c. c) self.old self.new result }
+    {
+        let key = self.found_key()?;
+        let text = self.key_text(&key.text);
+        let Some(c) = only_character(text) else {
+            let error = self.mismatch_at(key.start, &Mismatch::NotCharacter(text));
+            return self.refuse(error);
+        };
+        Ok(c)
+    }
+
+    /// Reads a key that is one of the variants, as its first place among them.
+    pub(crate) fn key_variant(&mut self, variants: &[&str]) -> Result<usize>
+        ensures { ReadsKeyAs (variant_key variants.now) (λ n. n) self.old self.new result }
+    {
+        let key = self.found_key()?;
+        let name = self.key_text(&key.text);
+        let Some(place) = place_among(variants, name) else {
+            let error = self.unknown_variant(key.start, name, variants);
+            return self.refuse(error);
+        };
+        Ok(place)
+    }
+
+    fn unknown_variant(&self, offset: usize, name: &str, variants: &[&str]) -> Error
+        requires { IsOffset self.now.input offset }
+        ensures { IsMismatch self.now.input offset result }
+    {
+        self.mismatch_at(offset, &Mismatch::UnknownVariant(name, variants))
+    }
+
+    /// Reads a key as bytes.
+    pub(crate) fn key_bytes(&mut self) -> Result<ByteBuf>
+        ensures { ReadsKeyAs bytes_key bytes_of self.old self.new result }
+    {
+        let key = self.found_key()?;
+        match hex::decode(self.allocator(), self.key_text(&key.text)) {
+            Ok(bytes) => Ok(ByteBuf::from_vec(bytes)),
+            Err(error) => self.undecoded(key.start, error),
+        }
+    }
+
+    /// Reads a key as a document of its own.
+    pub(crate) fn key_document<T: FromText>(&mut self) -> Result<T>
+        ensures { ReadsKeyAs (document_key T.kind) T.content self.old self.new result }
+    {
+        let key = self.found_key()?;
+        match T::from_text(self.allocator(), self.key_text(&key.text)) {
+            Ok(value) => Ok(value),
+            Err(e) => {
+                let error = e.at(self.position_of(key.start));
+                self.refuse(error)
+            }
+        }
+    }
+}
+
+// What is borrowed from the text.
+impl<'de, I: Borrows<'de>> Deserializer<I> {
+    /// Reads a key as a text, borrowed where no escape is used.
+    pub(crate) fn key_cow(&mut self) -> Result<CowStr<'de>>
+        ensures { ReadsKeyAs cow_key (λ t. (cow_bytes t, is_borrowed t)) self.old self.new result }
+    {
+        let key = self.found_key()?;
+        Ok(self.borrowed_key_text(key.text))
+    }
+
+    /// Reads a key without an escape.
+    pub(crate) fn key_str(&mut self) -> Result<&'de str>
+        ensures { ReadsKeyAs plain_key (λ t. t.now) self.old self.new result }
+    {
+        let key = self.found_key()?;
+        match self.borrowed_key_text(key.text) {
+            CowStr::Borrowed(text) => Ok(text),
+            CowStr::Owned(text) => self.mismatch(key.start, &Mismatch::Escaped(text.as_str())),
+        }
+    }
+}

@@ -1,0 +1,310 @@
+//! Reading of objects, one pair after another.
+
+ghost use Rattle.std.specs.Prelude.{◌≡◌, ◌<◌, true, false, ℕ, List, length, is_some, IfOk, IfErr, OnErr, IsErrAnd, IfSome};
+ghost use Rattle.std.specs.Borrow.{sem};
+ghost use Rattle.json5_grammar.specs.declared.code.ErrorCode.TheVariants as codes;
+ghost use Rattle.json5_grammar.specs.Trees.{Pairs};
+ghost use Rattle.json5_grammar.specs.Members.{NoPairGoes};
+ghost use Rattle.json5_text.specs.Cursor.{Locates};
+ghost use Rattle.json5_text.specs.Errors.{kind_of};
+ghost use Rattle.json5_de.specs.State.{SameText};
+ghost use Rattle.json5_de.specs.Law.{Unprompted};
+ghost use Rattle.json5_de.specs.Faults.{RefusedBy, IsUnplaced};
+ghost use Rattle.json5_de.specs.Brackets.{curly};
+ghost use Rattle.json5_de.specs.Access.{bare, StartsAfter, PlacedAtBracket, CompletesClose};
+ghost use Rattle.json5_de.specs.Objects.{bare_map, OpensMap, ClosesMap, GivesPairKey, GivesPairValue, CompletesPairKey, CompletesPairValue, ReadsPairKey, ReadsPairValue, PairsLeft, ReadsAKey, ReadsAPair, LeavesAValue, LeavesOthers};
+ghost use Rattle.json5_de.specs.ObjectFaults as faults;
+ghost use Rattle.json5_de.specs.ObjectFaults.{BeginsKey, GoesToKey, NoKey, PlacedAtKey, is_unplaced, RefusesPairKey, RefusesPairValue, RefusesNextKey, RefusesNextValue};
+
+use crate::brackets::Brackets;
+use crate::de::{Deserialize, Deserializer};
+use crate::key::DeserializeKey;
+use json5_text::char::is_json5_identifier_start;
+use json5_text::error::{Error, Result};
+use json5_text::input::Input;
+use json5_text::{ErrorCode, Position};
+
+/// The pairs of an object, one after another: a key, then its value. The reader answers `Failed` until `end`, and for good where
+/// the access is dropped or leaked before.
+pub struct MapAccess<'a, I: Input> {
+    de: &'a mut Deserializer<I>,
+    /// The count of bytes before the opening brace.
+    start: usize,
+    /// Whether a pair was read, so that a comma stands before the next one.
+    due: bool,
+    /// Whether a key was read whose value wasn't.
+    pending: bool,
+    /// Whether a call of the access was refused.
+    failed: bool,
+}
+
+/// Dropped before its end, it leaves the reader blocked.
+impl<I: Input> Drop for MapAccess<'_, I> {
+    fn drop(self)
+        ensures { self.exit.0.now ≡ self.entry.de.now }
+    {
+        let MapAccess {
+            de: _,
+            start: _,
+            due: _,
+            pending: _,
+            failed: _,
+        } = self;
+    }
+}
+
+/// Whether a key may begin with this character: a quote, a backslash or an identifier start.
+fn begins_key(c: char) -> bool
+    ensures { result ≡ faults.begins_key c }
+{
+    matches!(c, '"' | '\'' | '\\') || is_json5_identifier_start(c)
+}
+
+/// Whether the fault is one that gets no place of a key: the text ended, memory ran out or the reader had failed.
+fn is_unplaced(error: &Error) -> bool
+    ensures { result ≡ is_unplaced (kind_of error.now) }
+{
+    match error.code() {
+        Some(code) => matches!(
+            code,
+            ErrorCode::EofParsingArray
+                | ErrorCode::EofParsingBool
+                | ErrorCode::EofParsingComment
+                | ErrorCode::EofParsingEscapeSequence
+                | ErrorCode::EofParsingIdentifier
+                | ErrorCode::EofParsingNull
+                | ErrorCode::EofParsingNumber
+                | ErrorCode::EofParsingObject
+                | ErrorCode::EofParsingString
+                | ErrorCode::EofParsingValue
+                | ErrorCode::OutOfMemory
+                | ErrorCode::Failed
+        ),
+        None => false,
+    }
+}
+
+impl<I: Input> Deserializer<I> {
+    ghost use Rattle.json5_grammar.specs.Characters.{NotBegun};
+    ghost use Rattle.json5_de.specs.Lending.{seen_map, HoldsMap, BlocksMapReader, lends_to_map};
+
+    /// Opens an object, and blocks the reader while the access reads its pairs. `ExpectedOpeningBrace` stands at another
+    /// character, `TooDeep` at the 129th open bracket; `EofParsingObject` at the end has no place.
+    pub fn deserialize_map(&mut self) -> Result<MapAccess<'_, I>>
+        ensures* lends { sem 𝓛 (lends_to_map I.row I.Input self.entry result) }
+        ensures same_reference { IfOk result (HoldsMap self.entry) }
+        ensures blocks { IfOk result BlocksMapReader }
+        ensures opens { OpensMap seen_map self.old result }
+    {
+        let start = self.open(Brackets::curly())?;
+        self.set_failed(true);
+        Ok(MapAccess {
+            de: self,
+            start,
+            due: false,
+            pending: false,
+            failed: false,
+        })
+    }
+
+    /// As `deserialize_map`. The name and the fields change nothing.
+    pub fn deserialize_struct(
+        &mut self,
+        _name: &'static str,
+        _fields: &'static [&'static str],
+    ) -> Result<MapAccess<'_, I>>
+        ensures* lends { sem 𝓛 (lends_to_map I.row I.Input self.entry result) }
+        ensures same_reference { IfOk result (HoldsMap self.entry) }
+        ensures blocks { IfOk result BlocksMapReader }
+        ensures opens { OpensMap seen_map self.old result }
+    {
+        self.deserialize_map()
+    }
+
+    /// Whether a key may begin with what is next.
+    fn at_key(&self) -> bool
+        ensures found { result ≡ true → BeginsKey self.now.unread }
+        ensures other { result ≡ false → NotBegun faults.begins_key self.now.unread }
+    {
+        match self.peek() {
+            Some(c) => begins_key(c),
+            None => false,
+        }
+    }
+
+    /// Goes to the next key and says true, or to the closing brace and says false.
+    fn goes_to_key(&mut self, due: bool) -> Result<bool>
+        ensures sound { IfOk result (λ more. GoesToKey due self.old self.new more) }
+        ensures refused { IfErr result (RefusedBy (NoKey due) self.old) }
+        ensures same_text { SameText self.old self.new }
+        ensures nowhere { OnErr result (self.old.failed ≡ false → NoPairGoes due self.old.unread) }
+        ensures unprompted { Unprompted self.old result }
+        ensures before { self.old.failed ≡ true → IsErrAnd result (IsUnplaced codes.Failed) }
+    {
+        if !self.goes_on(Brackets::curly(), due)? {
+            return Ok(false);
+        }
+        if !self.at_key() {
+            return Err(self.unexpected(ErrorCode::EofParsingObject, ErrorCode::ExpectedIdentifier));
+        }
+        Ok(true)
+    }
+
+    /// A key's fault, at the key where it has no place and may have one.
+    fn key_fault(&self, error: Error, start: usize) -> Error
+        ensures { PlacedAtKey (StartsAfter self.now.input start) error result }
+    {
+        if is_unplaced(&error) {
+            error
+        } else {
+            error.with_position(self.position_of(start))
+        }
+    }
+
+    /// The next key of an object, or none where the closing brace is next.
+    fn pair_key<K: DeserializeKey<I>>(&mut self, due: bool) -> Result<Option<K>>
+        ensures sound { IfOk result (λ o. GivesPairKey K.content K.convert (bare_map self.old due false) (bare_map self.new due (is_some o)) o) }
+        ensures complete { CompletesPairKey K.convert (bare_map self.old due false) result }
+        ensures closing { CompletesClose curly (bare self.old due) result }
+        ensures cause { IfErr result (λ e. RefusesPairKey K.refuses due self.old e self.new) }
+        ensures same_text { SameText self.old self.new }
+        ensures unprompted { Unprompted self.old result }
+        ensures before { self.old.failed ≡ true → IsErrAnd result (IsUnplaced codes.Failed) }
+    {
+        if !self.goes_to_key(due)? {
+            return Ok(None);
+        }
+        let start = self.offset();
+        match self.read_key::<K>() {
+            Ok(key) => Ok(Some(key)),
+            Err(e) => Err(self.key_fault(e, start)),
+        }
+    }
+
+    /// A colon and the value after a key.
+    fn pair_value<V: Deserialize<I>>(&mut self) -> Result<V>
+        ensures sound { IfOk result (GivesPairValue V.content V.convert (bare_map self.old false true) (bare_map self.new true false)) }
+        ensures complete { CompletesPairValue V.convert (bare_map self.old false true) result }
+        ensures cause { IfErr result (λ e. RefusesPairValue V.refuses self.old e self.new) }
+        ensures same_text { SameText self.old self.new }
+        ensures unprompted { Unprompted self.old result }
+        ensures before { self.old.failed ≡ true → IsErrAnd result (IsUnplaced codes.Failed) }
+    {
+        self.begin()?;
+        if !self.eat(':') {
+            return Err(self.unexpected(ErrorCode::EofParsingObject, ErrorCode::ExpectedColon));
+        }
+        V::deserialize(self)
+    }
+}
+
+impl<'a, I: Input> MapAccess<'a, I> {
+    ghost use Rattle.json5_de.specs.Lending.{seen_map, KeepsMap};
+
+    /// The next key; none where the closing brace is next, which stays unread. Its value has to be read next. After a pair
+    /// `ExpectedComma` stands at what is neither a comma nor the brace, else `ExpectedIdentifier` at what begins no key, and
+    /// `EofParsingObject` says that the text ends; else the key's own faults come. A key's fault without a place gets the key's
+    /// place, but for `EofParsing..`, `OutOfMemory` and `Failed`, which get the opening brace's. After a refusal every later call
+    /// answers `Failed`.
+    pub fn next_key<K: DeserializeKey<I>>(&mut self) -> Result<Option<K>>
+        requires no_key { (seen_map self.old).pending ≡ false }
+        ensures access { KeepsMap self.old self.new }
+        ensures pending { IfOk result (λ o. (seen_map self.new).pending ≡ is_some o) }
+        ensures sound { IfOk result (GivesPairKey K.content K.convert (seen_map self.old) (seen_map self.new)) }
+        ensures complete { ReadsPairKey K.content K.convert (seen_map self.old) result }
+        ensures closing { CompletesClose curly (seen_map self.old).at result }
+        ensures shorter { IfOk result (λ o. IfSome o (λ k. length (seen_map self.new).at.reader.unread < length (seen_map self.old).at.reader.unread)) }
+        ensures refused { RefusesNextKey K.refuses (seen_map self.old) (seen_map self.new).at.reader result }
+        ensures read { IfOk result (ReadsAKey K.content K.convert (seen_map self.old) (seen_map self.new)) }
+        ensures left { (ps : Pairs) (r : List ℕ) → PairsLeft ps r (seen_map self.old) → LeavesAValue K.content K.convert ps r (seen_map self.new) result }
+    {
+        self.de.set_failed(self.failed);
+        let next = self.de.pair_key(self.due);
+        self.de.set_failed(true);
+        match next {
+            Ok(Some(key)) => {
+                self.pending = true;
+                Ok(Some(key))
+            }
+            Ok(None) => Ok(None),
+            Err(e) => {
+                self.failed = true;
+                Err(self.place(e))
+            }
+        }
+    }
+
+    /// The value of the key that was read last. `ExpectedColon` stands at what is no colon, and `EofParsingObject` says that the
+    /// text ends before it; else the value's own faults come. A fault without a place gets the opening brace's. After a refusal
+    /// every later call answers `Failed`.
+    pub fn next_value<V: Deserialize<I>>(&mut self) -> Result<V>
+        requires key { (seen_map self.old).pending ≡ true }
+        ensures access { KeepsMap self.old self.new }
+        ensures pending { IfOk result (λ _. (seen_map self.new).pending ≡ false) }
+        ensures sound { IfOk result (GivesPairValue V.content V.convert (seen_map self.old) (seen_map self.new)) }
+        ensures complete { ReadsPairValue V.content V.convert (seen_map self.old) result }
+        ensures shorter { IfOk result (λ _. length (seen_map self.new).at.reader.unread < length (seen_map self.old).at.reader.unread) }
+        ensures refused { RefusesNextValue V.refuses (seen_map self.old) (seen_map self.new).at.reader result }
+        ensures read { IfOk result (ReadsAPair V.content V.convert (seen_map self.old) (seen_map self.new)) }
+        ensures left { LeavesOthers V.content V.convert (seen_map self.old) (seen_map self.new) result }
+    {
+        self.de.set_failed(self.failed);
+        let value = self.de.pair_value::<V>();
+        self.de.set_failed(true);
+        match value {
+            Ok(value) => {
+                self.due = true;
+                self.pending = false;
+                Ok(value)
+            }
+            Err(e) => {
+                self.failed = true;
+                Err(self.place(e))
+            }
+        }
+    }
+
+    /// Whether a key was read whose value wasn't.
+    pub fn key_pending(&self) -> bool
+        ensures { result ≡ (seen_map self.now).pending }
+    {
+        self.pending
+    }
+
+    /// The fault, at the opening brace where it has no place.
+    pub fn place(&self, error: Error) -> Error
+        ensures { PlacedAtBracket (seen_map self.now).at error result }
+    {
+        error.with_position(self.de.position_of(self.start))
+    }
+
+    /// The position of an offset in bytes, as that of a value which `Spanned` gives; the end's, where no character begins there.
+    pub fn position_of(&self, offset: usize) -> Position
+        ensures { Locates (seen_map self.now).at.reader.input offset result }
+    {
+        self.de.position_of(offset)
+    }
+
+    /// Takes the closing brace, and before it one comma where a pair was read and its comma wasn't taken. Then the reader goes on
+    /// after it. `ExpectedClosingBrace` stands at another character; `EofParsingObject` at the end has no place.
+    pub fn end(self) -> Result<()>
+        requires no_key { (seen_map self).pending ≡ false }
+        ensures { ClosesMap (seen_map self.entry) self.exit.0.now result }
+    {
+        let MapAccess {
+            de,
+            start: _,
+            due,
+            pending: _,
+            failed,
+        } = self;
+        de.set_failed(failed);
+        match de.close(Brackets::curly(), due) {
+            Ok(()) => Ok(()),
+            Err(e) => {
+                de.set_failed(true);
+                Err(e)
+            }
+        }
+    }
+}
