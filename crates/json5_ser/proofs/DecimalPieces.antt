@@ -1,5 +1,5 @@
 -- A decimal's text, which is ASCII, in its pieces.
-use Rattle.std.proofs.Common.{◌≡◌, ◌<◌, Result, ℕ, zero, suc, ◌-◌, List, [], ◌∷◌, ◌++◌, Bool, true, false, ◌&&◌, nat_lt, nat_le, cond, length, take, drop, refl, ap, ◌∙◌, subst, arith}
+use Rattle.std.proofs.Common.{◌≡◌, ◌<◌, Result, ℕ, zero, suc, ◌-◌, List, [], ◌∷◌, ◌++◌, Bool, true, false, ◌&&◌, ◌||◌, nat_lt, nat_le, cond, length, take, drop, refl, ap, ◌∙◌, subst, arith}
 use Rattle.std.specs.Prelude.{ℤ, pos, negsuc}
 use Rattle.std.specs.List.{list_all}
 use Rattle.std.specs.Str.{IsAscii, chars}
@@ -28,75 +28,80 @@ second false b e = absurd (cc)
 both : (a b : Bool) → a ≡ true → b ≡ true → (a && b) ≡ true
 both a b e f = ap (λ x. x && b) e ∙ f
 
--- ---- ASCII
+-- ---- letters, digits, points and minus
 
-abbrev pub is_ascii_text : List ℕ → Bool
-is_ascii_text t = list_all (λ c. nat_lt c 128) t
+-- the characters of numbers: letters, digits, point and minus
+abbrev pub is_spelling : ℕ → Bool
+is_spelling c = (nat_le 45 c && nat_le c 57) || ((nat_le 65 c && nat_le c 90) || (nat_le 97 c && nat_le c 122))
 
-below : (b n : ℕ) → nat_lt b n ≡ true → b < n
-below b n e = grind arith
+abbrev pub is_spelled : List ℕ → Bool
+is_spelled t = list_all is_spelling t
 
-IsAscii-text : (t : List ℕ) → is_ascii_text t ≡ true → IsAscii t
+below : (c : ℕ) → is_spelling c ≡ true → c < 128
+below c e = grind arith
+
+pub IsAscii-text : (t : List ℕ) → is_spelled t ≡ true → IsAscii t
 IsAscii-text [] e i = omega arith
-IsAscii-text (c ∷ t) e zero = below c 128 (first (nat_lt c 128) (is_ascii_text t) e)
-IsAscii-text (c ∷ t) e (suc i) = IsAscii-text t (second (nat_lt c 128) (is_ascii_text t) e) i
+IsAscii-text (c ∷ t) e zero = below c (first (is_spelling c) (is_spelled t) e)
+IsAscii-text (c ∷ t) e (suc i) = IsAscii-text t (second (is_spelling c) (is_spelled t) e) i
 
-pub ascii_chars : (t : List ℕ) → is_ascii_text t ≡ true → chars t ≡ t
+pub ascii_chars : (t : List ℕ) → is_spelled t ≡ true → chars t ≡ t
 ascii_chars t e = chars-IsAscii t (IsAscii-text t e)
 
-ascii_join : (s t : List ℕ) → is_ascii_text s ≡ true → is_ascii_text t ≡ true → is_ascii_text (s ++ t) ≡ true
+ascii_join : (s t : List ℕ) → is_spelled s ≡ true → is_spelled t ≡ true → is_spelled (s ++ t) ≡ true
 ascii_join [] t e f = f
-ascii_join (c ∷ s) t e f = both (nat_lt c 128) (is_ascii_text (s ++ t)) (first (nat_lt c 128) (is_ascii_text s) e) (ascii_join s t (second (nat_lt c 128) (is_ascii_text s) e) f)
+ascii_join (c ∷ s) t e f = both (is_spelling c) (is_spelled (s ++ t)) (first (is_spelling c) (is_spelled s) e) (ascii_join s t (second (is_spelling c) (is_spelled s) e) f)
 
-ascii_front : (s t : List ℕ) → is_ascii_text (s ++ t) ≡ true → is_ascii_text s ≡ true
+ascii_front : (s t : List ℕ) → is_spelled (s ++ t) ≡ true → is_spelled s ≡ true
 ascii_front [] t e = refl
-ascii_front (c ∷ s) t e = both (nat_lt c 128) (is_ascii_text s) (first (nat_lt c 128) (is_ascii_text (s ++ t)) e) (ascii_front s t (second (nat_lt c 128) (is_ascii_text (s ++ t)) e))
+ascii_front (c ∷ s) t e = both (is_spelling c) (is_spelled s) (first (is_spelling c) (is_spelled (s ++ t)) e) (ascii_front s t (second (is_spelling c) (is_spelled (s ++ t)) e))
 
-ascii_back : (s t : List ℕ) → is_ascii_text (s ++ t) ≡ true → is_ascii_text t ≡ true
+ascii_back : (s t : List ℕ) → is_spelled (s ++ t) ≡ true → is_spelled t ≡ true
 ascii_back [] t e = e
-ascii_back (c ∷ s) t e = ascii_back s t (second (nat_lt c 128) (is_ascii_text (s ++ t)) e)
+ascii_back (c ∷ s) t e = ascii_back s t (second (is_spelling c) (is_spelled (s ++ t)) e)
 
-ascii_zeros : (n : ℕ) → is_ascii_text (zeros n) ≡ true
+ascii_zeros : (n : ℕ) → is_spelled (zeros n) ≡ true
 ascii_zeros zero = refl
 ascii_zeros (suc n) = ascii_zeros n
 
-ascii_digits : {t : List ℕ} → Each is_digit t → is_ascii_text t ≡ true
+ascii_digits : {t : List ℕ} → Each is_digit t → is_spelled t ≡ true
 ascii_digits no_char = refl
 ascii_digits (char {c} {s} d e) =
-    let h : nat_le c 57 ≡ true = second (nat_le 48 c) (nat_le c 57) d in
-    let l : nat_lt c 128 ≡ true = grind arith in
-    both (nat_lt c 128) (is_ascii_text s) l (ascii_digits e)
+    let low : nat_le 48 c ≡ true = first (nat_le 48 c) (nat_le c 57) d in
+    let high : nat_le c 57 ≡ true = second (nat_le 48 c) (nat_le c 57) d in
+    let l : is_spelling c ≡ true = grind arith in
+    both (is_spelling c) (is_spelled s) l (ascii_digits e)
 
-ascii_take : (t : List ℕ) (n : ℕ) → is_ascii_text t ≡ true → is_ascii_text (take n t) ≡ true
+ascii_take : (t : List ℕ) (n : ℕ) → is_spelled t ≡ true → is_spelled (take n t) ≡ true
 ascii_take t zero e = refl
 ascii_take [] (suc n) e = refl
-ascii_take (c ∷ t) (suc n) e = both (nat_lt c 128) (is_ascii_text (take n t)) (first (nat_lt c 128) (is_ascii_text t) e) (ascii_take t n (second (nat_lt c 128) (is_ascii_text t) e))
+ascii_take (c ∷ t) (suc n) e = both (is_spelling c) (is_spelled (take n t)) (first (is_spelling c) (is_spelled t) e) (ascii_take t n (second (is_spelling c) (is_spelled t) e))
 
-ascii_drop : (t : List ℕ) (n : ℕ) → is_ascii_text t ≡ true → is_ascii_text (drop n t) ≡ true
+ascii_drop : (t : List ℕ) (n : ℕ) → is_spelled t ≡ true → is_spelled (drop n t) ≡ true
 ascii_drop t zero e = e
 ascii_drop [] (suc n) e = refl
-ascii_drop (c ∷ t) (suc n) e = ascii_drop t n (second (nat_lt c 128) (is_ascii_text t) e)
+ascii_drop (c ∷ t) (suc n) e = ascii_drop t n (second (is_spelling c) (is_spelled t) e)
 
-by_bool : (b : Bool) (s t : List ℕ) → is_ascii_text s ≡ true → is_ascii_text t ≡ true → is_ascii_text (cond b s t) ≡ true
+by_bool : (b : Bool) (s t : List ℕ) → is_spelled s ≡ true → is_spelled t ≡ true → is_spelled (cond b s t) ≡ true
 by_bool true s t e f = e
 by_bool false s t e f = f
 
-ascii_pointed : (ds : List ℕ) (j : ℕ) → is_ascii_text ds ≡ true → is_ascii_text (pointed ds j) ≡ true
+ascii_pointed : (ds : List ℕ) (j : ℕ) → is_spelled ds ≡ true → is_spelled (pointed ds j) ≡ true
 ascii_pointed ds j e =
     by_bool (nat_lt j (length ds)) (take (length ds - j) ds ++ 46 ∷ drop (length ds - j) ds) (48 ∷ 46 ∷ (zeros (j - length ds) ++ ds))
     (ascii_join (take (length ds - j) ds) (46 ∷ drop (length ds - j) ds) (ascii_take ds (length ds - j) e) (ascii_drop ds (length ds - j) e))
     (ascii_join (zeros (j - length ds)) ds (ascii_zeros (j - length ds)) e)
 
-ascii_finite : (ds : List ℕ) (e : ℤ) → is_ascii_text ds ≡ true → is_ascii_text (digits_text ds e) ≡ true
+ascii_finite : (ds : List ℕ) (e : ℤ) → is_spelled ds ≡ true → is_spelled (digits_text ds e) ≡ true
 ascii_finite [] e h = refl
 ascii_finite (d ∷ ds) (pos k) h = ascii_join ((d ∷ ds) ++ zeros k) (codes ".0") (ascii_join (d ∷ ds) (zeros k) h (ascii_zeros k)) refl
 ascii_finite (d ∷ ds) (negsuc k) h = ascii_pointed (d ∷ ds) (suc k) h
 
-ascii_sign : (m : Bool) (t : List ℕ) → is_ascii_text t ≡ true → is_ascii_text (sign_text m ++ t) ≡ true
+ascii_sign : (m : Bool) (t : List ℕ) → is_spelled t ≡ true → is_spelled (sign_text m ++ t) ≡ true
 ascii_sign true t e = e
 ascii_sign false t e = e
 
-pub ascii_decimal : (d : Decimal) → Normal d → is_ascii_text (decimal_text d) ≡ true
+pub ascii_decimal : (d : Decimal) → Normal d → is_spelled (decimal_text d) ≡ true
 ascii_decimal (infinite m) n = ascii_sign m (codes "Infinity") refl
 ascii_decimal (nan m) n = ascii_sign m (codes "NaN") refl
 ascii_decimal (finite m ds e) n = ascii_sign m (digits_text ds e) (ascii_finite ds e (ascii_digits n.digits))
@@ -126,15 +131,15 @@ some_decimal (finite m ds e) = some_after (sign_text m) (digits_text ds e) (some
 -- what is left of a decimal's text; something was written once a part of it is gone
 pub record IsLeft (d : Decimal) (o m : Seen) (rest : List ℕ) : Type 0 where
   pub reaches : Reaches (piece (decimal_text d)) o m (piece rest)
-  pub ascii : is_ascii_text rest ≡ true
+  pub ascii : is_spelled rest ≡ true
   pub started : length rest < length (decimal_text d) → m.failed ≡ false
 
 pub left_all : (d : Decimal) (o : Seen) (all : List ℕ) → Normal d → all ≡ decimal_text d → IsLeft d o o all
 left_all d o all n e = rw e (record { reaches = Reaches-none (piece (decimal_text d)) o; ascii = ascii_decimal d n; started = λ h. absurd (omega (arith, h)) })
 
 -- a piece that consists of its characters
-piece_plain : (rest p after : List ℕ) → is_ascii_text rest ≡ true → IsFront rest p after → chars p ≡ p
-piece_plain rest p after a f = ascii_chars p (ascii_front p after (subst (λ t. is_ascii_text t ≡ true) f.parts a))
+piece_plain : (rest p after : List ℕ) → is_spelled rest ≡ true → IsFront rest p after → chars p ≡ p
+piece_plain rest p after a f = ascii_chars p (ascii_front p after (subst (λ t. is_spelled t ≡ true) f.parts a))
 
 parted : (d : Decimal) (o m : Seen) (rest p after : List ℕ) → IsLeft d o m rest → IsFront rest p after → Reaches (piece (decimal_text d)) o m (piece p then piece after)
 parted d o m rest p after h f = subst (λ t. Reaches (piece (decimal_text d)) o m (piece t)) f.parts h.reaches
@@ -144,7 +149,7 @@ left_next d o m n rest p after h f w =
     let wrote : Wrote (piece p) m n = subst (λ t. Wrote (piece t) m n) (piece_plain rest p after h.ascii f) w in
     record {
       reaches = Reaches-next (piece (decimal_text d)) (piece p) (piece after) o m n (parted d o m rest p after h f) wrote;
-      ascii = ascii_back p after (subst (λ t. is_ascii_text t ≡ true) f.parts h.ascii);
+      ascii = ascii_back p after (subst (λ t. is_spelled t ≡ true) f.parts h.ascii);
       started = λ _. wrote.failed;
     }
 

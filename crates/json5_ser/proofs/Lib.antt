@@ -7,3 +7,10 @@ pub mod DecimalPieces
 pub mod LoneRead
 pub mod Unmarked
 pub mod Writables
+pub mod LineStarts
+pub mod Remains
+pub mod NamesFound
+pub mod VariantOpened
+pub mod Members
+pub mod ValuesInside
+pub mod SpelledKeys

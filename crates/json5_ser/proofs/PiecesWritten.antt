@@ -41,3 +41,27 @@ chars_single_quote = refl
 
 pub quoted_parts : (u mark : List ℕ) (q : ℕ) → q ≡ quote_for u → mark ≡ q ∷ [] → piece (quoted_text u) ≡ piece mark then (piece (escaped_all q u) then piece mark)
 quoted_parts u mark q e f = sym (ap (λ m. piece m then (piece (escaped_all q u) then piece m)) f ∙ ap (λ c. piece (c ∷ (escaped_all c u ++ c ∷ []))) e)
+
+pub chars_left_bracket : chars (91 ∷ []) ≡ 91 ∷ []
+unfolding chars
+chars_left_bracket = refl
+
+pub chars_right_bracket : chars (93 ∷ []) ≡ 93 ∷ []
+unfolding chars
+chars_right_bracket = refl
+
+pub chars_left_brace : chars (123 ∷ []) ≡ 123 ∷ []
+unfolding chars
+chars_left_brace = refl
+
+pub chars_right_brace : chars (125 ∷ []) ≡ 125 ∷ []
+unfolding chars
+chars_right_brace = refl
+
+pub chars_comma : chars (44 ∷ []) ≡ 44 ∷ []
+unfolding chars
+chars_comma = refl
+
+pub chars_colon_space : chars (58 ∷ 32 ∷ []) ≡ 58 ∷ 32 ∷ []
+unfolding chars
+chars_colon_space = refl

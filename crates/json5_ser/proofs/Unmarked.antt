@@ -32,7 +32,7 @@ mutual
   pub elements_again : (limit : ℕ) (ts : Elements) (d : ℕ) (started : Bool) → (elements_out limit ts d started).stop ≡ whole → unmarked_elements (element_marks ts) ≡ ts
   elements_again limit no_element d started h = refl
   elements_again limit (element t ts) d started h =
-      let p = parts (element_out d (out limit t (d + 1))) (elements_out limit ts d true) h in
+      let p = parts (element_out (d + 1) (out limit t (d + 1))) (elements_out limit ts d true) h in
       let q = parts (out limit t (d + 1)) (piece (44 ∷ [])) p.first in
       ap (λ x. element x (unmarked_elements (element_marks ts))) (tree_again limit t (d + 1) q.first) ∙ ap (element t) (elements_again limit ts d true p.second)
 

@@ -7,6 +7,11 @@ pub mod Pieces
 pub mod Named
 pub mod Texts
 pub mod Quotes
+pub mod Brackets
+pub mod Stages
+pub mod Lending
+pub mod Keys
+pub mod Waiting
 pub mod Escaping
 pub mod ValueTrees
 pub mod Lone

@@ -64,13 +64,13 @@ abbrev pub closing : ℕ → Bool → ℕ → Out
 closing d true bracket = piece (line d ++ bracket ∷ [])
 closing d false bracket = piece (bracket ∷ [])
 
--- a member of a list within d others
+-- a member of a list, within d brackets
 abbrev pub element_out : ℕ → Out → Out
-element_out d o = piece (line (d + 1)) then (o then piece (comma_sign ∷ []))
+element_out d o = piece (line d) then (o then piece (comma_sign ∷ []))
 
--- a key of an object within d others, and what follows it
+-- a key of an object, within d brackets, and what follows it
 abbrev pub key_part : ℕ → Key → Out
-key_part d k = piece (line (d + 1)) then key_out k
+key_part d k = piece (line d) then key_out k
 
 abbrev pub value_part : Out → Out
 value_part o = piece (colon_sign ∷ space ∷ []) then (o then piece (comma_sign ∷ []))
@@ -88,12 +88,20 @@ abbrev mutual
   -- what follows the bracket that opens a list; the test says that something stands in it already
   pub elements_out : ℕ → Elements → ℕ → Bool → Out
   elements_out limit no_element d started = closing d started right_bracket
-  elements_out limit (element t ts) d started = element_out d (out limit t (d + 1)) then elements_out limit ts d true
+  elements_out limit (element t ts) d started = element_out (d + 1) (out limit t (d + 1)) then elements_out limit ts d true
 
   pub fields_out : ℕ → Fields → ℕ → Bool → Out
   fields_out limit no_field d started = closing d started right_brace
-  fields_out limit (field k t fs) d started = key_part d k then (value_part (out limit t (d + 1)) then fields_out limit fs d true)
+  fields_out limit (field k t fs) d started = key_part (d + 1) k then (value_part (out limit t (d + 1)) then fields_out limit fs d true)
 
 -- the text of a whole tree
 abbrev pub text_of : Written → Out
 text_of t = out max_depth t 0
+
+-- a key of an object within d brackets, and its value
+abbrev pub entry_out : ℕ → Key → Written → Out
+entry_out d k t = key_part d k then value_part (out max_depth t d)
+
+-- within d others, the object of a variant up to the bracket that opens what the variant holds
+abbrev pub variant_opening : List ℕ → ℕ → ℕ → Out
+variant_opening name bracket d = opening max_depth d left_brace then (key_part (d + 1) (named name) then (piece (colon_sign ∷ space ∷ []) then opening max_depth (d + 1) bracket))

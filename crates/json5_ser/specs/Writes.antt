@@ -92,3 +92,7 @@ fresh known = record { known = known; depth = 0; failed = false }
 abbrev pub ended : {A : Type 0} → Option (List ℕ) → Result A Error → Seen
 ended known (Ok x) = record { known = known; depth = 0; failed = false }
 ended known (Err e) = record { known = known; depth = 0; failed = true }
+
+-- the same with so many brackets open
+abbrev pub at_depth : ℕ → Seen → Seen
+at_depth d s = record s { depth = d }

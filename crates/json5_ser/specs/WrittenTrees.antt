@@ -1,6 +1,7 @@
 -- What is written: a tree, with the keys of an object in order.
-use Rattle.std.specs.Prelude.{ℕ, List, [], ◌∷◌, Bool, ℤ, pos}
+use Rattle.std.specs.Prelude.{ℕ, List, [], ◌∷◌, Bool, ℤ, pos, Option, None, Some}
 use Rattle.json5_grammar.specs.Numbers.{Number, whole}
+use Rattle.json5_grammar.specs.NumberText.{number_text}
 
 -- a key is a text, or what can't be a key
 pub data Key : Type 0 where
@@ -35,3 +36,24 @@ natural n = integer (pos n)
 abbrev pub elements_of : {A : Type 0} → (A → Written) → List A → Elements
 elements_of tree [] = no_element
 elements_of tree (x ∷ xs) = element (tree x) (elements_of tree xs)
+
+abbrev pub option_tree : {A : Type 0} → (A → Written) → Option A → Written
+option_tree tree None = null
+option_tree tree (Some x) = tree x
+
+-- the fields of the entries of a map
+abbrev pub fields_of : {K V : Type 0} → (K → Key) → (V → Written) → List (K × V) → Fields
+fields_of key tree [] = no_field
+fields_of key tree (e ∷ es) = field (key e.0) (tree e.1) (fields_of key tree es)
+
+-- the decimal digits
+abbrev pub integer_key : ℤ → Key
+integer_key z = named (number_text (whole z))
+
+abbrev pub natural_key : ℕ → Key
+natural_key n = integer_key (pos n)
+
+-- none is no key
+abbrev pub option_key : {A : Type 0} → (A → Key) → Option A → Key
+option_key key None = bad
+option_key key (Some x) = key x

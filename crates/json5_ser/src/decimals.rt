@@ -1,24 +1,60 @@
 //! Decimals in plain notation.
 
+ghost use Rattle.std.specs.Prelude.{◌≡◌};
 ghost use Rattle.json5_grammar.specs.Numbers as numbers;
-ghost use Rattle.json5_ser.specs.WrittenTrees.{number};
-ghost use Rattle.json5_ser.specs.Writes.{WritesTree};
+ghost use Rattle.json5_grammar.specs.NumberText.{decimal_text, Normal};
+ghost use Rattle.json5_grammar.specs.Quoting.{is_name};
+ghost use Rattle.json5_ser.specs.WrittenTrees.{number, named};
+ghost use Rattle.json5_ser.specs.Writes.{Writes, WritesTree};
+ghost use Rattle.json5_ser.specs.Keys.{WritesKey};
+ghost use Rattle.json5_ser.specs.Out.{piece};
 
 use crate::Serializer;
 use json5_text::decimal::Decimal;
 use json5_text::error::Result;
 use std::io::Write;
 
+/// Whether the text of the number is an identifier: infinity and not-a-number without a minus.
+fn is_word(value: &Decimal) -> bool
+    ensures name { result ≡ is_name (decimal_text value.now) }
+    ensures normal { Normal value.now }
+{
+    if value.is_negative() {
+        return false;
+    }
+    value.is_infinite() || value.is_nan()
+}
+
 impl<W: Write + Drop> Serializer<W> {
-    /// Writes the number in plain notation, always with a point; else `Infinity` or `NaN` (JSON5 section 6). A minus
-    /// stands before what is negative, zero too: `1.5`, `1000.0`, `-0.0`.
-    pub fn serialize_decimal(&mut self, value: &Decimal) -> Result<()>
-        ensures { WritesTree (number (numbers.decimal value.now)) self.old result self.new }
+    /// Writes the number's pieces one after another.
+    fn put_pieces(&mut self, value: &Decimal) -> Result<()>
+        ensures text { Writes (piece (decimal_text value.now)) self.old result self.new }
+        ensures normal { Normal value.now }
     {
         let mut pieces = value.pieces();
         while let Some(piece) = pieces.next_piece() {
             self.put(piece)?;
         }
         Ok(())
+    }
+
+    /// Writes the number in plain notation, always with a point; else `Infinity` or `NaN` (JSON5 section 6). A minus
+    /// stands before what is negative, zero too: `1.5`, `1000.0`, `-0.0`.
+    pub fn serialize_decimal(&mut self, value: &Decimal) -> Result<()>
+        ensures { WritesTree (number (numbers.decimal value.now)) self.old result self.new }
+    {
+        self.put_pieces(value)
+    }
+
+    /// Writes the number's text as a key.
+    pub(crate) fn put_decimal_name(&mut self, value: &Decimal) -> Result<()>
+        ensures { WritesKey (named (decimal_text value.now)) self.old result self.new }
+    {
+        if is_word(value) {
+            return self.put_pieces(value);
+        }
+        self.put("\"")?;
+        self.put_pieces(value)?;
+        self.put("\"")
     }
 }

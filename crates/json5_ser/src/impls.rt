@@ -4,7 +4,7 @@ ghost use Rattle.std.specs.Prelude.{[], ◌∷◌, string_bytes};
 ghost use Rattle.std.specs.Str.{chars};
 ghost use Rattle.json5_text.specs.Cows.{cow_bytes};
 ghost use Rattle.json5_grammar.specs.Numbers.{decimal};
-ghost use Rattle.json5_ser.specs.WrittenTrees.{null, boolean, number, natural, integer, text};
+ghost use Rattle.json5_ser.specs.WrittenTrees.{null, boolean, number, natural, integer, text, option_tree};
 
 use crate::{Serialize, Serializer};
 use json5_text::cow_str::CowStr;
@@ -153,5 +153,17 @@ impl<T: Serialize> Serialize for &T {
 
     fn serialize<W: Write + Drop>(&self, ser: &mut Serializer<W>) -> Result<()> {
         Serialize::serialize(*self, ser)
+    }
+}
+
+/// What stands inside, or `null`.
+impl<T: Serialize> Serialize for Option<T> {
+    ghost tree = { option_tree T.tree };
+
+    fn serialize<W: Write + Drop>(&self, ser: &mut Serializer<W>) -> Result<()> {
+        match self {
+            Some(value) => ser.serialize_some(value),
+            None => ser.serialize_none(),
+        }
     }
 }

@@ -1,16 +1,29 @@
 //! Typed writing of JSON5.
 #![tactic(auto)]
 
+mod brackets;
+mod collection;
+mod contents;
 mod decimals;
 mod impls;
+mod key;
+mod key_impls;
 pub mod laws;
+mod lines;
+mod lists;
+mod maps;
+mod names;
 pub mod output;
 mod quoting;
 mod serialize;
 mod serializer;
+mod stage;
 mod texts;
+mod tuples;
 mod value;
 
+pub use collection::SerializeCollection;
+pub use key::{MapKey, SerializeKey};
 pub use serialize::Serialize;
 pub use serializer::Serializer;
 pub use texts::{to_string, to_writer};

@@ -50,7 +50,7 @@ impl Quote {
 }
 
 /// The first character, and what follows it.
-fn front(text: &str) -> Option<(char, &str)>
+pub(crate) fn front(text: &str) -> Option<(char, &str)>
     ensures { MatchOption result (text.now ≡ []) (λ p. StartsWithScalar text.now p.0 p.1.now) }
 {
     let mut rest = text.chars();

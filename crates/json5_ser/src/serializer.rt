@@ -1,17 +1,25 @@
 //! Writing values to a writer.
 
-ghost use Rattle.std.specs.Prelude.{◌≡◌, ◌≤◌, [], ◌∷◌};
+ghost use Rattle.std.specs.Prelude.{◌≡◌, ◌≤◌, ◌+◌, ◌-◌, [], ◌∷◌, true, false, None, IsErr, IfErr, OnOk};
 ghost use Rattle.std.specs.Str.{chars};
 ghost use Rattle.json5_ser.specs.Quotes.{delimiter};
 ghost use Rattle.json5_grammar.specs.Quoting.{escaped_all};
 ghost use Rattle.json5_ser.specs.WrittenTrees.{null, boolean, text};
 ghost use Rattle.json5_grammar.specs.Documents.{max_depth};
-ghost use Rattle.json5_ser.specs.Out.{piece};
-ghost use Rattle.json5_ser.specs.Writes.{Seen, Writes, WritesTree, fresh};
+ghost use Rattle.json5_ser.specs.Out.{piece, ◌then◌, stopped, line, opening, closing, invalid_key, too_deep};
+ghost use Rattle.json5_grammar.specs.declared.code.ErrorCode.TheVariants as codes;
+ghost use Rattle.json5_text.specs.Errors.{code, kind_of, place_of};
+ghost use Rattle.json5_grammar.specs.Characters.{comma_sign, right_brace};
+ghost use Rattle.json5_ser.specs.Brackets.{opening_sign, closing_sign};
+ghost use Rattle.json5_ser.specs.Stages.{is_started};
+ghost use Rattle.json5_ser.specs.Writes.{Seen, Writes, WritesTree, fresh, at_depth};
 
 use crate::Serialize;
+use crate::brackets::Brackets;
+use crate::lines::line;
 use crate::output::write_whole;
 use crate::quoting::{Quote, split_at_escape};
+use crate::stage::Stage;
 use itoa::{Buffer, Integer};
 use json5_text::ErrorCode;
 use json5_text::error::{Error, Result};
@@ -58,6 +66,35 @@ impl<W: Write + Drop> Serializer<W> {
             failed: _,
         } = self;
         writer
+    }
+
+    /// Whether it stands as failed.
+    pub(crate) fn set_failed(&mut self, failed: bool)
+        ensures { self.new ≡ record self.old { failed = failed } }
+    {
+        self.failed = failed;
+    }
+
+    /// Answers `Failed` where a call was refused before, or a collection holds the serializer.
+    fn live(&self) -> Result<()>
+        ensures live { OnOk result (self.now.failed ≡ false) }
+        ensures failed { IfErr result (λ e. (self.now.failed ≡ true) × (kind_of e ≡ code codes.Failed) × (place_of e ≡ None)) }
+    {
+        if !self.failed {
+            return Ok(());
+        }
+        Err(Error::new(ErrorCode::Failed))
+    }
+
+    /// Refuses with this code, now and with `Failed` from now on.
+    pub(crate) fn refuse<T>(&mut self, code: ErrorCode) -> Result<T>
+        ensures invalid_key { code ≡ codes.InvalidKey → Writes (stopped invalid_key) self.old result self.new }
+        ensures too_deep { code ≡ codes.TooDeep → Writes (stopped too_deep) self.old result self.new }
+        ensures refused { IsErr result }
+    {
+        self.live()?;
+        self.failed = true;
+        Err(Error::new(code))
     }
 
     /// Writes a piece; `Failed` where a call was refused before.
@@ -204,5 +241,52 @@ impl<W: Write + Drop> Serializer<W> {
     {
         let mut buffer = [0u8; 4];
         self.serialize_str(value.encode_utf8(&mut buffer))
+    }
+
+    /// Starts the line of a member, or of the bracket that closes.
+    pub(crate) fn start_line(&mut self) -> Result<()>
+        ensures { Writes (piece (line self.old.depth)) self.old result self.new }
+    {
+        self.put(line(self.depth))
+    }
+
+    /// Opens a collection.
+    pub(crate) fn open(&mut self, brackets: Brackets) -> Result<()>
+        ensures opens { Writes (opening max_depth self.old.depth (opening_sign brackets)) self.old result (at_depth self.old.depth self.new) }
+        ensures deeper { OnOk result (self.new.depth ≡ self.old.depth + 1) }
+    {
+        if self.depth >= 128 {
+            return self.refuse(ErrorCode::TooDeep);
+        }
+        self.put(brackets.opening())?;
+        self.depth += 1;
+        Ok(())
+    }
+
+    /// Counts one open bracket less.
+    fn leave(&mut self)
+        ensures { self.new ≡ at_depth (self.old.depth - 1) self.old }
+    {
+        self.depth = self.depth.saturating_sub(1);
+    }
+
+    /// Closes a collection; its bracket stands on a line of its own where something stands in it.
+    pub(crate) fn close(&mut self, brackets: Brackets, stage: Stage) -> Result<()>
+        ensures { Writes (closing (self.old.depth - 1) (is_started stage) (closing_sign brackets)) (at_depth (self.old.depth - 1) self.old) result self.new }
+    {
+        self.leave();
+        if !stage.is_started() {
+            return self.put(brackets.closing());
+        }
+        self.start_line()?;
+        self.put(brackets.closing())
+    }
+
+    /// Ends the only field of a variant's object, and closes the object.
+    pub(crate) fn close_variant(&mut self) -> Result<()>
+        ensures { Writes (piece (comma_sign ∷ []) then closing (self.old.depth - 1) true right_brace) (at_depth (self.old.depth - 1) self.old) result self.new }
+    {
+        self.put(",")?;
+        self.close(Brackets::Curly, Stage::Started)
     }
 }

@@ -1,7 +1,7 @@
 //! Values of any kind, written.
 
-ghost use Rattle.json5_ser.specs.WrittenTrees.{integer};
-ghost use Rattle.json5_ser.specs.ValueTrees.{value_tree};
+ghost use Rattle.json5_ser.specs.WrittenTrees.{integer, object, fields_of};
+ghost use Rattle.json5_ser.specs.ValueTrees.{value_tree, text_key};
 ghost use Rattle.json5_ser.specs.Writes.{WritesTree};
 
 use crate::{Serialize, Serializer};
@@ -13,6 +13,7 @@ use std::io::Write;
 impl Serialize for Value {
     ghost tree = { value_tree };
 
+    #[cycle(tree)]
     fn serialize<W: Write + Drop>(&self, ser: &mut Serializer<W>) -> Result<()> {
         match self {
             Value::Null => ser.serialize_unit(),
@@ -20,8 +21,22 @@ impl Serialize for Value {
             Value::Whole(number) => write_whole(*number, ser),
             Value::Decimal(number) => ser.serialize_decimal(number),
             Value::String(text) => ser.serialize_str(text.as_str()),
+            Value::Array(items) => items.serialize(ser),
+            Value::Object(fields) => write_fields(fields, ser),
         }
     }
+}
+
+/// An object of the pairs, in their order.
+#[cycle(tree)]
+fn write_fields<W: Write + Drop>(fields: &[(String, Value)], ser: &mut Serializer<W>) -> Result<()>
+    ensures { WritesTree (object (fields_of text_key value_tree fields.now)) ser.old result ser.new }
+{
+    let mut object = ser.serialize_map(Some(fields.len()))?;
+    for (key, value) in fields {
+        object.serialize_entry(key, value)?;
+    }
+    object.end()
 }
 
 fn write_whole<W: Write + Drop>(value: Whole, ser: &mut Serializer<W>) -> Result<()>

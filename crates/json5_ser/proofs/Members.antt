@@ -1,0 +1,135 @@
+-- Collections written member after member: what an impl of `Serialize` cites. Each law takes what remained before the call.
+use Rattle.std.proofs.Common.{◌≡◌, ◌<◌, ◌≤◌, ℕ, suc, ◌+◌, length, get_or, drop, drop-cons, drop_of_length-le, add-one, List, [], ◌∷◌, Bool, true, false, Result, Ok, Err, refl, sym, ap, ◌∙◌, subst}
+use Rattle.std.specs.Prelude.{⊤}
+use Rattle.std.specs.Result.{IsErrAnd}
+use Rattle.json5_text.specs.declared.error.Error.{Error}
+use Rattle.json5_grammar.specs.Characters.{comma_sign, colon_sign, space, left_bracket, right_bracket, left_brace, right_brace}
+use Rattle.json5_grammar.specs.Documents.{max_depth}
+use Rattle.json5_ser.specs.WrittenTrees.{Written, array, object, Elements, no_element, element, elements_of, Fields, no_field, field, fields_of, Key, named}
+use Rattle.json5_ser.specs.Out.{Out, piece, ◌then◌, opening, closing, out, elements_out, fields_out, element_out, key_part, value_part, entry_out, variant_opening}
+use Rattle.json5_ser.specs.Writes.{Seen, Refuses, Writes, WritesTree}
+use Rattle.json5_ser.specs.Lending.{inner, seen, has_member, in_variant, Opened, Steps, outside, ending}
+use Rattle.json5_ser.specs.declared.collection.SerializeCollection.{SerializeCollection}
+use Rattle.json5_ser.proofs.Joins.{Refuses-before, Writes-handed}
+use Rattle.json5_ser.proofs.Remains.{Remains, elements, fields, value, BeginsWith, then_assoc, remains_on, remains_refused, remains_all, ends_whole, closes_list, closes_object}
+
+-- ---- what a call writes is what remains first
+
+first_element : (t : Written) (ts : Elements) (d e : ℕ) (started : Bool) → e ≡ d + 1 → BeginsWith (element_out e (out max_depth t e)) (elements ts) (elements (element t ts)) d started
+first_element t ts d e started same = ap (λ k. element_out k (out max_depth t k) then elements_out max_depth ts d true) (sym same)
+
+first_key : (k : Key) (t : Written) (fs : Fields) (d e : ℕ) (started : Bool) → e ≡ d + 1 → BeginsWith (key_part e k) (value t fs) (fields (field k t fs)) d started
+first_key k t fs d e started same = ap (λ j. key_part j k then (value_part (out max_depth t (d + 1)) then fields_out max_depth fs d true)) (sym same)
+
+first_value : (t : Written) (fs : Fields) (d e : ℕ) (started : Bool) → e ≡ d + 1 → BeginsWith (value_part (out max_depth t e)) (fields fs) (value t fs) d started
+first_value t fs d e started same = ap (λ k. value_part (out max_depth t k) then fields_out max_depth fs d true) (sym same)
+
+first_entry : (k : Key) (t : Written) (fs : Fields) (d e : ℕ) (started : Bool) → e ≡ d + 1 → BeginsWith (entry_out e k t) (fields fs) (fields (field k t fs)) d started
+first_entry k t fs d e started same =
+    sym (then_assoc (key_part (d + 1) k) (value_part (out max_depth t (d + 1))) (fields_out max_depth fs d true)) ∙ ap (λ j. entry_out j k t then fields_out max_depth fs d true) (sym same)
+
+-- the parts of a variant's object
+variant_parts : (a b c d e f g : Out) → a then (b then ((c then ((d then e) then f)) then g)) ≡ (a then (b then (c then d))) then (e then (f then g))
+variant_parts a b c d e f g =
+    let x = e then (f then g) in
+    let inside = then_assoc c ((d then e) then f) g ∙ ap (λ o. c then o) (then_assoc (d then e) f g ∙ then_assoc d e (f then g)) in
+    ap (λ o. a then (b then o)) inside ∙ sym (then_assoc a (b then (c then d)) x ∙ ap (λ o. a then o) (then_assoc b (c then d) x ∙ ap (λ o. b then o) (then_assoc c d x)))
+
+variant_list : (u : List ℕ) (ts : Elements) (d : ℕ) → out max_depth (object (field (named u) (array ts) no_field)) d ≡ variant_opening u left_bracket d then (elements_out max_depth ts (d + 1) false then (piece (comma_sign ∷ []) then closing d true right_brace))
+variant_list u ts d =
+    variant_parts (opening max_depth d left_brace) (key_part (d + 1) (named u)) (piece (colon_sign ∷ space ∷ [])) (opening max_depth (d + 1) left_bracket) (elements_out max_depth ts (d + 1) false) (piece (comma_sign ∷ [])) (closing d true right_brace)
+
+variant_object : (u : List ℕ) (fs : Fields) (d : ℕ) → out max_depth (object (field (named u) (object fs) no_field)) d ≡ variant_opening u left_brace d then (fields_out max_depth fs (d + 1) false then (piece (comma_sign ∷ []) then closing d true right_brace))
+variant_object u fs d =
+    variant_parts (opening max_depth d left_brace) (key_part (d + 1) (named u)) (piece (colon_sign ∷ space ∷ [])) (opening max_depth (d + 1) left_brace) (fields_out max_depth fs (d + 1) false) (piece (comma_sign ∷ [])) (closing d true right_brace)
+
+-- ---- no collection was begun
+
+refused_first : {A : Type 0} (all o rest : Out) (at last : Seen) (e : Error) (result : Result A Error) → all ≡ o then rest → Refuses o at e last → IsErrAnd result (λ y. y ≡ e) → Writes all at result last
+refused_first all o rest at last e result same p is = Writes-handed all at last e result is (subst (λ x. Refuses x at e last) (sym same) (Refuses-before o rest at last e p))
+
+pub list_refused : {A : Type 0} (ts : Elements) (at last : Seen) (e : Error) (result : Result A Error) → Refuses (opening max_depth at.depth left_bracket) at e last → IsErrAnd result (λ y. y ≡ e) → WritesTree (array ts) at result last
+list_refused ts at last e result p is = refused_first _ (opening max_depth at.depth left_bracket) (elements_out max_depth ts at.depth false) at last e result refl p is
+
+pub object_refused : {A : Type 0} (fs : Fields) (at last : Seen) (e : Error) (result : Result A Error) → Refuses (opening max_depth at.depth left_brace) at e last → IsErrAnd result (λ y. y ≡ e) → WritesTree (object fs) at result last
+object_refused fs at last e result p is = refused_first _ (opening max_depth at.depth left_brace) (fields_out max_depth fs at.depth false) at last e result refl p is
+
+pub variant_list_refused : {A : Type 0} (u : List ℕ) (ts : Elements) (at last : Seen) (e : Error) (result : Result A Error) → Refuses (variant_opening u left_bracket at.depth) at e last → IsErrAnd result (λ y. y ≡ e) → WritesTree (object (field (named u) (array ts) no_field)) at result last
+variant_list_refused u ts at last e result p is = refused_first _ (variant_opening u left_bracket at.depth) _ at last e result (variant_list u ts at.depth) p is
+
+pub variant_object_refused : {A : Type 0} (u : List ℕ) (fs : Fields) (at last : Seen) (e : Error) (result : Result A Error) → Refuses (variant_opening u left_brace at.depth) at e last → IsErrAnd result (λ y. y ≡ e) → WritesTree (object (field (named u) (object fs) no_field)) at result last
+variant_object_refused u fs at last e result p is = refused_first _ (variant_opening u left_brace at.depth) _ at last e result (variant_object u fs at.depth) p is
+
+item_first : {A : Type 0} (xs : List A) (i : ℕ) (x : A) → i < length xs → x ≡ get_or xs i x → drop i xs ≡ x ∷ drop (i + 1) xs
+item_first xs i x h e = rw add-one (drop-cons xs i x h ∙ ap (λ y. y ∷ drop (suc i) xs) (sym e))
+
+module _ {W : Type 0} where
+  -- ---- a collection was begun, and all its members remain
+
+  pub list_begun : (ts : Elements) {at : Seen} {c : SerializeCollection W} → Opened (opening max_depth at.depth left_bracket) true false at c → Remains (array ts) at c (elements ts)
+  list_begun ts {at} {c} o = remains_all (array ts) at c (elements ts) (opening max_depth at.depth left_bracket) false refl o refl
+
+  pub object_begun : (fs : Fields) {at : Seen} {c : SerializeCollection W} → Opened (opening max_depth at.depth left_brace) false false at c → Remains (object fs) at c (fields fs)
+  object_begun fs {at} {c} o = remains_all (object fs) at c (fields fs) (opening max_depth at.depth left_brace) false refl o refl
+
+  pub variant_list_begun : (u : List ℕ) (ts : Elements) {at : Seen} {c : SerializeCollection W} → Opened (variant_opening u left_bracket at.depth) true true at c → Remains (object (field (named u) (array ts) no_field)) at c (elements ts)
+  variant_list_begun u ts {at} {c} o = remains_all _ at c (elements ts) (variant_opening u left_bracket at.depth) true (variant_list u ts at.depth) o refl
+
+  pub variant_object_begun : (u : List ℕ) (fs : Fields) {at : Seen} {c : SerializeCollection W} → Opened (variant_opening u left_brace at.depth) false true at c → Remains (object (field (named u) (object fs) no_field)) at c (fields fs)
+  variant_object_begun u fs {at} {c} o = remains_all _ at c (fields fs) (variant_opening u left_brace at.depth) true (variant_object u fs at.depth) o refl
+
+  -- ---- elements
+
+  pub element_on : {t u : Written} {at : Seen} {c n : SerializeCollection W} {ts : Elements} {x : ⊤} → Remains t at c (elements (element u ts)) → Steps (element_out (seen c).depth (out max_depth u (seen c).depth)) false c (Ok x) n → Remains t at n (elements ts)
+  element_on {t} {u} {at} {c} {n} {ts} {x} h s =
+      remains_on t at c n (elements (element u ts)) (elements ts) (element_out (seen c).depth (out max_depth u (seen c).depth)) x (first_element u ts (inner (in_variant c) at.depth) (seen c).depth (has_member c) h.depth) refl h s
+
+  pub element_refused : {A : Type 0} {t u : Written} {at : Seen} {c n : SerializeCollection W} {ts : Elements} {e : Error} (result : Result A Error) → Remains t at c (elements (element u ts))
+      → Steps (element_out (seen c).depth (out max_depth u (seen c).depth)) false c (Err e) n → IsErrAnd result (λ y. y ≡ e) → WritesTree t at result n.ser.now
+  element_refused {A} {t} {u} {at} {c} {n} {ts} {e} result h s is =
+      remains_refused t at c n (elements (element u ts)) (elements ts) (element_out (seen c).depth (out max_depth u (seen c).depth)) false e result (first_element u ts (inner (in_variant c) at.depth) (seen c).depth (has_member c) h.depth) h s is
+
+  pub list_ended : {A : Type 0} {t : Written} {at : Seen} {c : SerializeCollection W} (n : Seen) (r : Result A Error) → Remains t at c (elements no_element) → Writes (ending c) (outside c) r n → WritesTree t at r n
+  list_ended {A} {t} {at} {c} n r h w = ends_whole (in_variant c) (has_member c) c.brackets right_bracket (out max_depth t at.depth) at (seen c) n r h.depth (closes_list c.brackets h.list) h.reaches w
+
+  pub next_item : {A : Type 0} (tree : A → Written) (xs : List A) (i : ℕ) (x : A) {t : Written} {at : Seen} {c : SerializeCollection W} → i < length xs → x ≡ get_or xs i x → Remains t at c (elements (elements_of tree (drop i xs)))
+      → Remains t at c (elements (element (tree x) (elements_of tree (drop (i + 1) xs))))
+  next_item tree xs i x {t} {at} {c} l e h = subst (λ ys. Remains t at c (elements (elements_of tree ys))) (item_first xs i x l e) h
+
+  pub no_item : {A : Type 0} (tree : A → Written) (xs : List A) (i : ℕ) {t : Written} {at : Seen} {c : SerializeCollection W} → length xs ≤ i → Remains t at c (elements (elements_of tree (drop i xs))) → Remains t at c (elements no_element)
+  no_item tree xs i {t} {at} {c} l h = subst (λ ys. Remains t at c (elements (elements_of tree ys))) (drop_of_length-le xs l) h
+
+  -- ---- keys and values
+
+  pub key_on : {t u : Written} {k : Key} {at : Seen} {c n : SerializeCollection W} {fs : Fields} {x : ⊤} → Remains t at c (fields (field k u fs)) → Steps (key_part (seen c).depth k) true c (Ok x) n → Remains t at n (value u fs)
+  key_on {t} {u} {k} {at} {c} {n} {fs} {x} h s =
+      remains_on t at c n (fields (field k u fs)) (value u fs) (key_part (seen c).depth k) x (first_key k u fs (inner (in_variant c) at.depth) (seen c).depth (has_member c) h.depth) refl h s
+
+  pub key_refused : {A : Type 0} {t u : Written} {k : Key} {at : Seen} {c n : SerializeCollection W} {fs : Fields} {e : Error} (result : Result A Error) → Remains t at c (fields (field k u fs))
+      → Steps (key_part (seen c).depth k) true c (Err e) n → IsErrAnd result (λ y. y ≡ e) → WritesTree t at result n.ser.now
+  key_refused {A} {t} {u} {k} {at} {c} {n} {fs} {e} result h s is =
+      remains_refused t at c n (fields (field k u fs)) (value u fs) (key_part (seen c).depth k) true e result (first_key k u fs (inner (in_variant c) at.depth) (seen c).depth (has_member c) h.depth) h s is
+
+  pub value_on : {t u : Written} {at : Seen} {c n : SerializeCollection W} {fs : Fields} {x : ⊤} → Remains t at c (value u fs) → Steps (value_part (out max_depth u (seen c).depth)) false c (Ok x) n → Remains t at n (fields fs)
+  value_on {t} {u} {at} {c} {n} {fs} {x} h s =
+      remains_on t at c n (value u fs) (fields fs) (value_part (out max_depth u (seen c).depth)) x (first_value u fs (inner (in_variant c) at.depth) (seen c).depth (has_member c) h.depth) refl h s
+
+  pub value_refused : {A : Type 0} {t u : Written} {at : Seen} {c n : SerializeCollection W} {fs : Fields} {e : Error} (result : Result A Error) → Remains t at c (value u fs)
+      → Steps (value_part (out max_depth u (seen c).depth)) false c (Err e) n → IsErrAnd result (λ y. y ≡ e) → WritesTree t at result n.ser.now
+  value_refused {A} {t} {u} {at} {c} {n} {fs} {e} result h s is =
+      remains_refused t at c n (value u fs) (fields fs) (value_part (out max_depth u (seen c).depth)) false e result (first_value u fs (inner (in_variant c) at.depth) (seen c).depth (has_member c) h.depth) h s is
+
+  pub field_on : {t u : Written} {k : Key} {at : Seen} {c n : SerializeCollection W} {fs : Fields} {x : ⊤} → Remains t at c (fields (field k u fs)) → Steps (entry_out (seen c).depth k u) false c (Ok x) n → Remains t at n (fields fs)
+  field_on {t} {u} {k} {at} {c} {n} {fs} {x} h s =
+      remains_on t at c n (fields (field k u fs)) (fields fs) (entry_out (seen c).depth k u) x (first_entry k u fs (inner (in_variant c) at.depth) (seen c).depth (has_member c) h.depth) refl h s
+
+  pub field_refused : {A : Type 0} {t u : Written} {k : Key} {at : Seen} {c n : SerializeCollection W} {fs : Fields} {e : Error} (result : Result A Error) → Remains t at c (fields (field k u fs))
+      → Steps (entry_out (seen c).depth k u) false c (Err e) n → IsErrAnd result (λ y. y ≡ e) → WritesTree t at result n.ser.now
+  field_refused {A} {t} {u} {k} {at} {c} {n} {fs} {e} result h s is =
+      remains_refused t at c n (fields (field k u fs)) (fields fs) (entry_out (seen c).depth k u) false e result (first_entry k u fs (inner (in_variant c) at.depth) (seen c).depth (has_member c) h.depth) h s is
+
+  pub same_entries : {K V : Type 0} (key : K → Key) (tree : V → Written) (es rest : List (K × V)) {t : Written} {at : Seen} {c : SerializeCollection W} → es ≡ rest → Remains t at c (fields (fields_of key tree es)) → Remains t at c (fields (fields_of key tree rest))
+  same_entries key tree es rest {t} {at} {c} e h = subst (λ l. Remains t at c (fields (fields_of key tree l))) e h
+
+  pub object_ended : {A : Type 0} {t : Written} {at : Seen} {c : SerializeCollection W} (n : Seen) (r : Result A Error) → Remains t at c (fields no_field) → Writes (ending c) (outside c) r n → WritesTree t at r n
+  object_ended {A} {t} {at} {c} n r h w = ends_whole (in_variant c) (has_member c) c.brackets right_brace (out max_depth t at.depth) at (seen c) n r h.depth (closes_object c.brackets h.list) h.reaches w

@@ -1,0 +1,10 @@
+use Rattle.std.proofs.Common.{◌≡◌}
+use Rattle.json5_ser.specs.WrittenTrees.{object, fields_of}
+use Rattle.json5_ser.proofs.Remains.{Remains, fields}
+use Rattle.json5_ser.proofs.maps.BTreeMapSerialize.serialize.Given as goal
+
+abbrev pub invariant-loop-key : goal.invariant-loop-key
+invariant-loop-key g l = record {
+  same_reference : l.fields.ser.ghost_name ≡ l.initial.fields.ser.ghost_name;
+  remains : Remains (object (fields_of g.K.SerializeKey.as_key g.V.Serialize.tree l.self.entries)) l.fn.ser l.fields (fields (fields_of g.K.SerializeKey.as_key g.V.Serialize.tree l.key-iterator));
+}

@@ -1,0 +1,17 @@
+use Rattle.std.proofs.Common.{[], ◌∷◌, ◌-◌}
+use Rattle.json5_ser.specs.Brackets.{closing_sign}
+use Rattle.json5_ser.specs.Out.{line, piece}
+use Rattle.json5_ser.proofs.Joins.{Writes-exit, Reaches-first, Reaches-last}
+use Rattle.json5_ser.proofs.serializer.Serializer.close.Goals as goal
+
+pub returns-in_err-start_line : goal.returns-in_err-start_line
+returns-in_err-start_line g c =
+    let starts = rw c.leave.ensures at c.in_err-start_line.ensures in
+    let bracket = closing_sign c.args.brackets in
+    rw (← c.if-not-is_started.ensures) (Writes-exit (piece (line (c.args.self.now.depth - 1))) (piece (bracket ∷ [])) _ _ _ _ c.from_residual.ensures.1 starts)
+
+pub returns : goal.returns
+returns g c =
+    let starts = rw c.leave.ensures at c.in_ok-start_line.ensures in
+    let bracket = rw c.closing-2.ensures at c.put-2.ensures in
+    rw (← c.if-not-is_started.ensures) (Reaches-last _ (piece (closing_sign c.args.brackets ∷ [])) _ _ _ _ (Reaches-first (piece (line (c.args.self.now.depth - 1))) _ _ _ starts) bracket)

@@ -1,0 +1,32 @@
+use Rattle.std.proofs.Common.{[], ◌∷◌, ap, ◌∙◌, sym}
+use Rattle.json5_grammar.specs.NumberText.{decimal_text}
+use Rattle.json5_ser.specs.Out.{piece, ◌then◌}
+use Rattle.json5_ser.proofs.Joins.{Writes-as, Writes-exit, Reaches-first, Reaches-next, Reaches-exit, Reaches-last}
+use Rattle.json5_ser.proofs.PiecesWritten.{chars_double_quote}
+use Rattle.json5_ser.proofs.SpelledKeys.{bare_key, quoted_key}
+use Rattle.json5_ser.proofs.serializer.Serializer.put_decimal_name.Goals as goal
+
+pub returns-then-is_word : goal.returns-then-is_word
+returns-then-is_word g c = Writes-as _ _ _ _ _ (ap piece (bare_key c.args.value.now (sym c.is_word.ensures.name ∙ c.if-is_word.true))) c.put_pieces.ensures.text
+
+pub returns-in_err-put : goal.returns-in_err-put
+returns-in_err-put g c =
+    let t = decimal_text c.args.value.now in
+    let quoted = quoted_key c.args.value.now c.is_word.ensures.normal (sym c.is_word.ensures.name ∙ c.if-is_word.false) in
+    let quote = rw chars_double_quote at c.in_err-put.ensures in
+    Writes-as _ _ _ _ _ (ap piece quoted) (Writes-exit (piece (34 ∷ [])) (piece t then piece (34 ∷ [])) _ _ _ _ c.from_residual.ensures.1 quote)
+
+pub returns-in_err-put_pieces : goal.returns-in_err-put_pieces
+returns-in_err-put_pieces g c =
+    let t = decimal_text c.args.value.now in
+    let quoted = quoted_key c.args.value.now c.is_word.ensures.normal (sym c.is_word.ensures.name ∙ c.if-is_word.false) in
+    let quote = rw chars_double_quote at c.in_ok-put.ensures in
+    Writes-as _ _ _ _ _ (ap piece quoted) (Reaches-exit _ (piece t) (piece (34 ∷ [])) _ _ _ _ _ (Reaches-first (piece (34 ∷ [])) (piece t then piece (34 ∷ [])) _ _ quote) c.from_residual-in_err-put_pieces.ensures.1 c.in_err-put_pieces.ensures.text)
+
+pub returns : goal.returns
+returns g c =
+    let t = decimal_text c.args.value.now in
+    let quoted = quoted_key c.args.value.now c.is_word.ensures.normal (sym c.is_word.ensures.name ∙ c.if-is_word.false) in
+    let quote = rw chars_double_quote at c.in_ok-put.ensures in
+    let last = rw chars_double_quote at c.put-2.ensures in
+    Writes-as _ _ _ _ _ (ap piece quoted) (Reaches-last _ (piece (34 ∷ [])) _ _ _ _ (Reaches-next _ (piece t) (piece (34 ∷ [])) _ _ _ (Reaches-first (piece (34 ∷ [])) (piece t then piece (34 ∷ [])) _ _ quote) c.in_ok-put_pieces.ensures.text) last)

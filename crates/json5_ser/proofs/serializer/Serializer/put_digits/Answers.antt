@@ -1,0 +1,9 @@
+use Rattle.std.proofs.Common.{◌∙◌, subst}
+use Rattle.json5_ser.specs.WrittenTrees.{named}
+use Rattle.json5_ser.specs.Keys.{WritesKey}
+use Rattle.json5_ser.proofs.PiecesWritten.{chars_number}
+use Rattle.json5_ser.proofs.serializer.Serializer.put_digits.Goals as goal
+
+pub returns : goal.returns
+returns g c =
+    subst (λ u. WritesKey (named u) c.args.self.now c.put_name.result c.put_name.new.self) (chars_number _ c.format-digits.ensures.ascii ∙ c.format-digits.ensures.text) c.put_name.ensures

@@ -1,0 +1,94 @@
+-- A collection, and the serializer that is lent to it.
+use Rattle.std.specs.Prelude.{◌≡◌, ℕ, ◌+◌, ◌-◌, [], ◌∷◌, Bool, true, false, Result, OnOk, OnErr, IfErr, MatchResult, ⊤}
+use Rattle.std.specs.Borrow.{Fml, RattleType, MutBor, RestsIfErr}
+use Rattle.std.specs.declared.io.Write as write
+use Rattle.json5_grammar.specs.Characters.{comma_sign, right_brace}
+use Rattle.json5_text.specs.declared.error.Error.{Error}
+use Rattle.json5_ser.specs.Out.{Out, piece, ◌then◌, closing}
+use Rattle.json5_ser.specs.Writes.{Seen, Wrote, Refuses, Writes, at_depth}
+use Rattle.json5_ser.specs.Brackets.{closing_sign, is_square}
+use Rattle.json5_ser.specs.Stages.{is_started, is_pending}
+use Rattle.json5_ser.specs.declared.stage.Stage.{Stage}
+use Rattle.json5_ser.specs.declared.collection.SerializeCollection.{SerializeCollection}
+use Rattle.json5_ser.specs.contracts.serializer.Serializer.{the_row}
+
+-- what follows the text of a collection within d brackets: the end of the variant's object, where it is what a variant holds
+abbrev pub within_variant : Bool → ℕ → Out → Out
+within_variant true d o = o then (piece (comma_sign ∷ []) then closing d true right_brace)
+within_variant false d o = o
+
+-- how many brackets stand round a collection that was begun within d
+abbrev pub inner : Bool → ℕ → ℕ
+inner true d = d + 1
+inner false d = d
+
+module _ {W : Type 0} where
+  -- the serializer as the calls of the collection see it: failed where one of them was refused
+  abbrev pub seen : SerializeCollection W → Seen
+  seen c = record c.ser.now { failed = c.failed }
+
+  abbrev pub is_list : SerializeCollection W → Bool
+  is_list c = is_square c.brackets
+
+  -- whether a key waits for its value
+  abbrev pub key_pending : SerializeCollection W → Bool
+  key_pending c = is_pending c.stage
+
+  -- whether something stands in it
+  abbrev pub has_member : SerializeCollection W → Bool
+  has_member c = is_started c.stage
+
+  -- whether it is what a variant holds
+  abbrev pub in_variant : SerializeCollection W → Bool
+  in_variant c = c.in_variant
+
+  -- the collection holds this serializer
+  abbrev pub Holds : MutBor Seen → SerializeCollection W → Type 0
+  Holds ser c = c.ser.ghost_name ≡ ser.ghost_name
+
+  -- a new collection, of which this was written
+  pub record Opened (o : Out) (of_list of_variant : Bool) (old : Seen) (c : SerializeCollection W) : Type 0 where
+    pub wrote : Wrote o old (at_depth old.depth (seen c))
+    pub depth : (seen c).depth ≡ inner of_variant old.depth + 1
+    pub blocks : c.ser.now.failed ≡ true
+    pub list : is_list c ≡ of_list
+    pub variant : in_variant c ≡ of_variant
+    pub empty : has_member c ≡ false
+    pub pending : key_pending c ≡ false
+
+  -- a call that has this text to write, after which a key waits for its value or none does. It blocks the serializer again
+  pub record Steps (o : Out) (pending_next : Bool) (old : SerializeCollection W) (result : Result ⊤ Error) (new : SerializeCollection W) : Type 0 where
+    pub same_reference : new.ser.ghost_name ≡ old.ser.ghost_name
+    pub writes : Writes o (seen old) result (seen new)
+    pub blocks : new.ser.now.failed ≡ true
+    pub list : is_list new ≡ is_list old
+    pub variant : in_variant new ≡ in_variant old
+    pub started : OnOk result (has_member new ≡ true)
+    pub pending : MatchResult result (λ _. key_pending new ≡ pending_next) (λ _. key_pending new ≡ key_pending old)
+
+  -- the brackets round what `end` closes
+  abbrev pub outer : SerializeCollection W → ℕ
+  outer c = (seen c).depth - inner (in_variant c) 1
+
+  -- the serializer with these brackets alone
+  abbrev pub outside : SerializeCollection W → Seen
+  outside c = at_depth (outer c) (seen c)
+
+  -- what closes the collection, and a variant's object round it
+  abbrev pub ending : SerializeCollection W → Out
+  ending c = within_variant (in_variant c) (outer c) (closing ((seen c).depth - 1) (has_member c) (closing_sign c.brackets))
+
+  -- the serializer is blocked again, and the collection goes on to a stage where nothing was refused
+  pub record Settles (old : SerializeCollection W) (written : Result ⊤ Error) (next : Stage) (new : SerializeCollection W) (result : Result ⊤ Error) : Type 0 where
+    pub same : result ≡ written
+    pub same_reference : new.ser.ghost_name ≡ old.ser.ghost_name
+    pub blocks : new.ser.now ≡ record old.ser.now { failed = true }
+    pub brackets : new.brackets ≡ old.brackets
+    pub variant : new.in_variant ≡ old.in_variant
+    pub goes_on : OnOk written ((new.failed ≡ old.failed) × (new.stage ≡ next))
+    pub refused : OnErr written ((new.failed ≡ true) × (new.stage ≡ old.stage))
+
+module _ (W : RattleType) (g : write.Ghosts W.Denot) where
+  -- where it refuses the text o, the serializer ends so, and else as the collection leaves it
+  abbrev pub lends_serializer : Out → MutBor Seen → Result (SerializeCollection W.Denot) Error → Fml
+  lends_serializer o ser result = RestsIfErr (the_row W g) ser (λ c. c.ser.ghost_name) result (λ last. IfErr result (λ e. Refuses o ser.now e last))

@@ -1,0 +1,38 @@
+//! The two kinds of brackets.
+
+ghost use Rattle.std.specs.Prelude.{◌≡◌, [], ◌∷◌};
+ghost use Rattle.std.specs.Str.{chars};
+ghost use Rattle.json5_ser.specs.Brackets.{opening_sign, closing_sign};
+
+/// What stands round a collection.
+#[derive(Clone, Copy)]
+pub(crate) enum Brackets {
+    /// Round the elements of a list.
+    Square,
+    /// Round the fields of an object.
+    Curly,
+}
+
+impl Brackets {
+    /// The bracket that opens.
+    #[tactic(auto, using(crate::proofs::PiecesWritten::chars_left_bracket, crate::proofs::PiecesWritten::chars_left_brace))]
+    pub(crate) fn opening(self) -> &'static str
+        ensures { chars result.now ≡ opening_sign self ∷ [] }
+    {
+        match self {
+            Brackets::Square => "[",
+            Brackets::Curly => "{",
+        }
+    }
+
+    /// The bracket that closes.
+    #[tactic(auto, using(crate::proofs::PiecesWritten::chars_right_bracket, crate::proofs::PiecesWritten::chars_right_brace))]
+    pub(crate) fn closing(self) -> &'static str
+        ensures { chars result.now ≡ closing_sign self ∷ [] }
+    {
+        match self {
+            Brackets::Square => "]",
+            Brackets::Curly => "}",
+        }
+    }
+}

@@ -1,0 +1,287 @@
+//! Lists and objects, written one member after another.
+
+ghost use Rattle.std.specs.Prelude.{◌≡◌, true, false, IfOk};
+ghost use Rattle.std.specs.Borrow.{sem};
+ghost use Rattle.json5_grammar.specs.Documents.{max_depth};
+ghost use Rattle.std.specs.Str.{chars};
+ghost use Rattle.json5_grammar.specs.Characters.{left_bracket, left_brace};
+ghost use Rattle.json5_ser.specs.Brackets.{opening_sign};
+ghost use Rattle.json5_ser.specs.WrittenTrees.{named};
+ghost use Rattle.json5_ser.specs.Out.{out, opening, element_out, key_part, value_part, entry_out, variant_opening};
+ghost use Rattle.json5_ser.specs.Writes.{Writes};
+
+use crate::brackets::Brackets;
+use crate::stage::Stage;
+use crate::{Serialize, SerializeKey, Serializer};
+use json5_text::error::Result;
+use std::io::Write;
+
+/// A list or an object that is written one member after another. The serializer answers `Failed` until `end`, and for good
+/// where the collection is dropped or leaked before.
+pub struct SerializeCollection<'a, W: Write + Drop> {
+    ser: &'a mut Serializer<W>,
+    brackets: Brackets,
+    stage: Stage,
+    /// Whether it is what a variant holds, so that its end closes the variant's object too.
+    in_variant: bool,
+    /// Whether a call of the collection was refused.
+    failed: bool,
+}
+
+/// Dropped before its end, it leaves the serializer blocked.
+impl<W: Write + Drop> Drop for SerializeCollection<'_, W> {
+    fn drop(self)
+        ensures { self.exit.0.now ≡ self.entry.ser.now }
+    {
+        let SerializeCollection {
+            ser: _,
+            brackets: _,
+            stage: _,
+            in_variant: _,
+            failed: _,
+        } = self;
+    }
+}
+
+impl<W: Write + Drop> Serializer<W> {
+    ghost use Rattle.json5_ser.specs.Lending.{Holds, Opened, lends_serializer};
+
+    /// A member of a list.
+    fn element<T: Serialize>(&mut self, value: &T) -> Result<()>
+        ensures { Writes (element_out self.old.depth (out max_depth (T.tree value.now) self.old.depth)) self.old result self.new }
+    {
+        self.start_line()?;
+        value.serialize(self)?;
+        self.put(",")
+    }
+
+    /// Begins a list, and blocks the serializer while the collection writes its elements. It refuses with `TooDeep` where 128
+    /// brackets are open. The length changes nothing.
+    pub fn serialize_seq(&mut self, _len: Option<usize>) -> Result<SerializeCollection<'_, W>>
+        ensures* lends { sem 𝓛 (lends_serializer W.row W.Write (opening max_depth self.old.depth left_bracket) self.entry result) }
+        ensures same_reference { IfOk result (Holds self.entry) }
+        ensures opens { IfOk result (Opened (opening max_depth self.old.depth left_bracket) true false self.old) }
+    {
+        self.open(Brackets::Square)?;
+        self.set_failed(true);
+        Ok(SerializeCollection {
+            ser: self,
+            brackets: Brackets::Square,
+            stage: Stage::Empty,
+            in_variant: false,
+            failed: false,
+        })
+    }
+
+    /// As `serialize_seq`.
+    pub fn serialize_tuple(&mut self, _len: usize) -> Result<SerializeCollection<'_, W>>
+        ensures* lends { sem 𝓛 (lends_serializer W.row W.Write (opening max_depth self.old.depth left_bracket) self.entry result) }
+        ensures same_reference { IfOk result (Holds self.entry) }
+        ensures opens { IfOk result (Opened (opening max_depth self.old.depth left_bracket) true false self.old) }
+    {
+        self.serialize_seq(None)
+    }
+
+    /// As `serialize_seq`. The name and the length change nothing.
+    pub fn serialize_tuple_struct(
+        &mut self,
+        _name: &'static str,
+        _len: usize,
+    ) -> Result<SerializeCollection<'_, W>>
+        ensures* lends { sem 𝓛 (lends_serializer W.row W.Write (opening max_depth self.old.depth left_bracket) self.entry result) }
+        ensures same_reference { IfOk result (Holds self.entry) }
+        ensures opens { IfOk result (Opened (opening max_depth self.old.depth left_bracket) true false self.old) }
+    {
+        self.serialize_seq(None)
+    }
+
+    /// Begins an object, and blocks the serializer while the collection writes its keys and values. It refuses with `TooDeep`
+    /// where 128 brackets are open. The length changes nothing.
+    pub fn serialize_map(&mut self, _len: Option<usize>) -> Result<SerializeCollection<'_, W>>
+        ensures* lends { sem 𝓛 (lends_serializer W.row W.Write (opening max_depth self.old.depth left_brace) self.entry result) }
+        ensures same_reference { IfOk result (Holds self.entry) }
+        ensures opens { IfOk result (Opened (opening max_depth self.old.depth left_brace) false false self.old) }
+    {
+        self.open(Brackets::Curly)?;
+        self.set_failed(true);
+        Ok(SerializeCollection {
+            ser: self,
+            brackets: Brackets::Curly,
+            stage: Stage::Empty,
+            in_variant: false,
+            failed: false,
+        })
+    }
+
+    /// As `serialize_map`. The name and the length change nothing.
+    pub fn serialize_struct(
+        &mut self,
+        _name: &'static str,
+        _len: usize,
+    ) -> Result<SerializeCollection<'_, W>>
+        ensures* lends { sem 𝓛 (lends_serializer W.row W.Write (opening max_depth self.old.depth left_brace) self.entry result) }
+        ensures same_reference { IfOk result (Holds self.entry) }
+        ensures opens { IfOk result (Opened (opening max_depth self.old.depth left_brace) false false self.old) }
+    {
+        self.serialize_map(None)
+    }
+
+    /// Begins an object with one key, the variant's name, whose value is the list. `end` of the list closes the object too. It
+    /// refuses with `TooDeep` where 127 brackets are open, after the key. The type's name, the index and the length change nothing.
+    pub fn serialize_tuple_variant(
+        &mut self,
+        _name: &'static str,
+        _index: u32,
+        variant: &'static str,
+        _len: usize,
+    ) -> Result<SerializeCollection<'_, W>>
+        ensures* lends { sem 𝓛 (lends_serializer W.row W.Write (variant_opening (chars variant.now) left_bracket self.old.depth) self.entry result) }
+        ensures same_reference { IfOk result (Holds self.entry) }
+        ensures opens { IfOk result (Opened (variant_opening (chars variant.now) left_bracket self.old.depth) true true self.old) }
+    {
+        self.open_variant(variant, Brackets::Square)?;
+        self.set_failed(true);
+        Ok(SerializeCollection {
+            ser: self,
+            brackets: Brackets::Square,
+            stage: Stage::Empty,
+            in_variant: true,
+            failed: false,
+        })
+    }
+
+    /// As `serialize_tuple_variant`, with an object in place of the list.
+    pub fn serialize_struct_variant(
+        &mut self,
+        _name: &'static str,
+        _index: u32,
+        variant: &'static str,
+        _len: usize,
+    ) -> Result<SerializeCollection<'_, W>>
+        ensures* lends { sem 𝓛 (lends_serializer W.row W.Write (variant_opening (chars variant.now) left_brace self.old.depth) self.entry result) }
+        ensures same_reference { IfOk result (Holds self.entry) }
+        ensures opens { IfOk result (Opened (variant_opening (chars variant.now) left_brace self.old.depth) false true self.old) }
+    {
+        self.open_variant(variant, Brackets::Curly)?;
+        self.set_failed(true);
+        Ok(SerializeCollection {
+            ser: self,
+            brackets: Brackets::Curly,
+            stage: Stage::Empty,
+            in_variant: true,
+            failed: false,
+        })
+    }
+}
+
+impl<W: Write + Drop> SerializeCollection<'_, W> {
+    ghost use Rattle.json5_ser.specs.Lending.{seen, is_list, key_pending, Steps, Settles, ending, outside};
+
+    /// Whether it is a list. It still answers after a refusal.
+    pub fn is_list(&self) -> bool
+        ensures { result ≡ is_list self.now }
+    {
+        matches!(self.brackets, Brackets::Square)
+    }
+
+    /// Whether a key waits for its value. After a refusal it answers as before the refused call.
+    pub fn key_pending(&self) -> bool
+        ensures { result ≡ key_pending self.now }
+    {
+        self.stage.is_pending()
+    }
+
+    /// Blocks the serializer again after a call, and goes on to a stage where nothing was refused.
+    fn settle(&mut self, written: Result<()>, next: Stage) -> Result<()>
+        ensures { Settles self.old written next self.new result }
+    {
+        self.ser.set_failed(true);
+        match written {
+            Ok(()) => {
+                self.stage = next;
+                Ok(())
+            }
+            Err(e) => {
+                self.failed = true;
+                Err(e)
+            }
+        }
+    }
+
+    /// Writes the next element, on a line of its own and with a comma after it. The collection must be a list. After a refusal
+    /// every later call answers `Failed`.
+    pub fn serialize_element<T: Serialize>(&mut self, value: &T) -> Result<()>
+        requires list { is_list self.old ≡ true }
+        ensures { Steps (element_out (seen self.old).depth (out max_depth (T.tree value.now) (seen self.old).depth)) false self.old result self.new }
+    {
+        self.ser.set_failed(self.failed);
+        let written = self.ser.element(value);
+        self.settle(written, Stage::Started)
+    }
+
+    /// Writes the next key, on a line of its own. The collection must be an object, and no key may wait for its value. After a
+    /// refusal every later call answers `Failed`.
+    pub fn serialize_key<K: SerializeKey>(&mut self, key: &K) -> Result<()>
+        requires object { is_list self.old ≡ false }
+        requires no_key { key_pending self.old ≡ false }
+        ensures { Steps (key_part (seen self.old).depth (K.as_key key.now)) true self.old result self.new }
+    {
+        self.ser.set_failed(self.failed);
+        let written = self.ser.key(key);
+        self.settle(written, Stage::KeyPending)
+    }
+
+    /// Writes the value of the key that waits for it, after `: ` and with a comma after it.
+    pub fn serialize_value<T: Serialize>(&mut self, value: &T) -> Result<()>
+        requires { key_pending self.old ≡ true }
+        ensures { Steps (value_part (out max_depth (T.tree value.now) (seen self.old).depth)) false self.old result self.new }
+    {
+        self.ser.set_failed(self.failed);
+        let written = self.ser.value(value);
+        self.settle(written, Stage::Started)
+    }
+
+    /// Writes a key and its value.
+    pub fn serialize_entry<K: SerializeKey, T: Serialize>(
+        &mut self,
+        key: &K,
+        value: &T,
+    ) -> Result<()>
+        requires object { is_list self.old ≡ false }
+        requires no_key { key_pending self.old ≡ false }
+        ensures { Steps (entry_out (seen self.old).depth (K.as_key key.now) (T.tree value.now)) false self.old result self.new }
+    {
+        self.ser.set_failed(self.failed);
+        let written = self.ser.entry(key, value);
+        self.settle(written, Stage::Started)
+    }
+
+    /// Writes a field, as `serialize_entry`.
+    pub fn serialize_field<T: Serialize>(&mut self, key: &'static str, value: &T) -> Result<()>
+        requires object { is_list self.old ≡ false }
+        requires no_key { key_pending self.old ≡ false }
+        ensures { Steps (entry_out (seen self.old).depth (named (chars key.now)) (T.tree value.now)) false self.old result self.new }
+    {
+        self.serialize_entry(&key, value)
+    }
+
+    /// Closes the list or the object, and a variant's object round it. The serializer goes on after it. No key may wait for its value.
+    pub fn end(self) -> Result<()>
+        requires { key_pending self ≡ false }
+        ensures { Writes (ending self.entry) (outside self.entry) result self.exit.0.now }
+    {
+        let SerializeCollection {
+            ser,
+            brackets,
+            stage,
+            in_variant,
+            failed,
+        } = self;
+        ser.set_failed(failed);
+        ser.close(brackets, stage)?;
+        if !in_variant {
+            return Ok(());
+        }
+        ser.close_variant()
+    }
+}

@@ -1,0 +1,71 @@
+//! What types of one's own write that are no collections.
+
+ghost use Rattle.std.specs.Str.{chars};
+ghost use Rattle.json5_ser.specs.WrittenTrees.{null, text, object, field, no_field, named};
+ghost use Rattle.json5_ser.specs.Writes.{WritesTree};
+
+use crate::{Serialize, Serializer};
+use json5_text::error::Result;
+use std::io::Write;
+
+impl<W: Write + Drop> Serializer<W> {
+    /// Writes `null`.
+    pub fn serialize_none(&mut self) -> Result<()>
+        ensures { WritesTree null self.old result self.new }
+    {
+        self.serialize_unit()
+    }
+
+    /// Writes the value.
+    pub fn serialize_some<T: Serialize>(&mut self, value: &T) -> Result<()>
+        ensures { WritesTree (T.tree value.now) self.old result self.new }
+    {
+        value.serialize(self)
+    }
+
+    /// Writes `null`. The name changes nothing.
+    pub fn serialize_unit_struct(&mut self, _name: &'static str) -> Result<()>
+        ensures { WritesTree null self.old result self.new }
+    {
+        self.serialize_unit()
+    }
+
+    /// Writes the variant's name as a text. The type's name and the index change nothing.
+    pub fn serialize_unit_variant(
+        &mut self,
+        _name: &'static str,
+        _index: u32,
+        variant: &'static str,
+    ) -> Result<()>
+        ensures { WritesTree (text (chars variant.now)) self.old result self.new }
+    {
+        self.serialize_str(variant)
+    }
+
+    /// Writes the value inside. The name changes nothing.
+    pub fn serialize_newtype_struct<T: Serialize>(
+        &mut self,
+        _name: &'static str,
+        value: &T,
+    ) -> Result<()>
+        ensures { WritesTree (T.tree value.now) self.old result self.new }
+    {
+        value.serialize(self)
+    }
+
+    /// Writes an object with one key, the variant's name, and the value. It refuses with `TooDeep` where 128 brackets are open. The
+    /// type's name and the index change nothing.
+    pub fn serialize_newtype_variant<T: Serialize>(
+        &mut self,
+        _name: &'static str,
+        _index: u32,
+        variant: &'static str,
+        value: &T,
+    ) -> Result<()>
+        ensures { WritesTree (object (field (named (chars variant.now)) (T.tree value.now) no_field)) self.old result self.new }
+    {
+        let mut fields = self.serialize_map(Some(1))?;
+        fields.serialize_field(variant, value)?;
+        fields.end()
+    }
+}

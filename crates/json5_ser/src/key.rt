@@ -1,0 +1,363 @@
+//! Keys of objects, and what can be written as one.
+
+ghost use Rattle.std.specs.Prelude.{◌≡◌, ◌+◌, [], ◌∷◌, OnOk};
+ghost use Rattle.std.specs.Str.{chars};
+ghost use Rattle.json5_grammar.specs.Values.{null_text};
+ghost use Rattle.json5_grammar.specs.NumberText.{decimal_text};
+ghost use Rattle.json5_ser.specs.WrittenTrees.{Key, named, bad};
+ghost use Rattle.json5_ser.specs.Out.{out, key_part, value_part, entry_out, variant_opening, bool_text};
+ghost use Rattle.json5_grammar.specs.Documents.{max_depth};
+ghost use Rattle.json5_ser.specs.Brackets.{opening_sign};
+ghost use Rattle.json5_ser.specs.Writes.{Writes, at_depth};
+ghost use Rattle.json5_ser.specs.Keys.{WritesKey};
+
+use crate::brackets::Brackets;
+use crate::names::is_identifier;
+use crate::{Serialize, Serializer};
+use itoa::{Buffer, Integer};
+use json5_text::ErrorCode;
+use json5_text::decimal::Decimal;
+use json5_text::error::Result;
+use std::io::Write;
+
+/// A key that is to be written. Each of its methods writes it whole: bare where its text is an identifier, else between quotes
+/// as `serialize_str` does (JSON5 section 3). No call takes memory, and no refusal has a place.
+pub struct MapKey<'a, W: Write + Drop> {
+    ser: &'a mut Serializer<W>,
+}
+
+/// Dropped unused, it leaves the serializer before the key.
+impl<W: Write + Drop> Drop for MapKey<'_, W> {
+    fn drop(self)
+        ensures { self.exit.0.now ≡ self.entry.ser.now }
+    {
+        let MapKey { ser: _ } = self;
+    }
+}
+
+/// A value that can be written as a key. Each type says by `as_key` what is written of its values. An impl hands on what the
+/// methods of the key answer, and makes no refusal of its own.
+pub trait SerializeKey {
+    ghost use Rattle.json5_ser.specs.Waiting.{waiting};
+
+    ghost as_key: { Self → Key };
+
+    /// Writes the key. It refuses with `InvalidKey` where the value is no key, and then nothing was written of it; with a failed
+    /// write where the writer failed, which then holds a prefix of the key's text.
+    fn serialize_key<W: Write + Drop>(&self, key: MapKey<'_, W>) -> Result<()>
+        ensures { WritesKey (as_key self.now) (waiting key.entry) result key.exit.0.now };
+}
+
+#[tactic(auto, using(crate::proofs::PiecesWritten::chars_true, crate::proofs::PiecesWritten::chars_false))]
+fn bool_name(value: bool) -> &'static str
+    ensures { chars result.now ≡ bool_text value }
+{
+    if value { "true" } else { "false" }
+}
+
+impl<W: Write + Drop> Serializer<W> {
+    /// Writes a key's text, between quotes where it is no identifier.
+    fn put_name(&mut self, text: &str) -> Result<()>
+        ensures { WritesKey (named (chars text.now)) self.old result self.new }
+    {
+        if is_identifier(text) {
+            self.put(text)
+        } else {
+            self.serialize_str(text)
+        }
+    }
+
+    fn put_digits<I: Integer>(&mut self, value: I) -> Result<()>
+        ensures { WritesKey (named (I.text value)) self.old result self.new }
+    {
+        let mut buffer = Buffer::new();
+        let digits = buffer.format(value);
+        self.put_name(digits)
+    }
+
+    /// A key on a line of its own.
+    pub(crate) fn key<K: SerializeKey>(&mut self, key: &K) -> Result<()>
+        ensures { Writes (key_part self.old.depth (K.as_key key.now)) self.old result self.new }
+    {
+        self.start_line()?;
+        key.serialize_key(MapKey { ser: self })
+    }
+
+    /// A key, and its value.
+    pub(crate) fn entry<K: SerializeKey, T: Serialize>(&mut self, key: &K, value: &T) -> Result<()>
+        ensures { Writes (entry_out self.old.depth (K.as_key key.now) (T.tree value.now)) self.old result self.new }
+    {
+        self.key(key)?;
+        self.value(value)
+    }
+
+    /// Opens the object of a variant, and what the variant holds.
+    pub(crate) fn open_variant(&mut self, variant: &'static str, brackets: Brackets) -> Result<()>
+        ensures opens { Writes (variant_opening (chars variant.now) (opening_sign brackets) self.old.depth) self.old result (at_depth self.old.depth self.new) }
+        ensures deeper { OnOk result (self.new.depth ≡ self.old.depth + 1 + 1) }
+    {
+        self.open(Brackets::Curly)?;
+        self.key(&variant)?;
+        self.put(": ")?;
+        self.open(brackets)
+    }
+
+    /// The value after a key.
+    pub(crate) fn value<T: Serialize>(&mut self, value: &T) -> Result<()>
+        ensures { Writes (value_part (out max_depth (T.tree value.now) self.old.depth)) self.old result self.new }
+    {
+        self.put(": ")?;
+        value.serialize(self)?;
+        self.put(",")
+    }
+}
+
+impl<W: Write + Drop> MapKey<'_, W> {
+    ghost use Rattle.json5_ser.specs.Waiting.{waiting};
+
+    /// `true` or `false`.
+    pub fn serialize_bool(self, value: bool) -> Result<()>
+        ensures { WritesKey (named (bool_text value)) (waiting self.entry) result self.exit.0.now }
+    {
+        let MapKey { ser } = self;
+        ser.put_name(bool_name(value))
+    }
+
+    /// The decimal digits.
+    pub fn serialize_u8(self, value: u8) -> Result<()>
+        ensures { WritesKey (⟦<u8 as SerializeKey>⟧.as_key value) (waiting self.entry) result self.exit.0.now }
+    {
+        let MapKey { ser } = self;
+        ser.put_digits(value)
+    }
+
+    /// The decimal digits.
+    pub fn serialize_u16(self, value: u16) -> Result<()>
+        ensures { WritesKey (⟦<u16 as SerializeKey>⟧.as_key value) (waiting self.entry) result self.exit.0.now }
+    {
+        let MapKey { ser } = self;
+        ser.put_digits(value)
+    }
+
+    /// The decimal digits.
+    pub fn serialize_u32(self, value: u32) -> Result<()>
+        ensures { WritesKey (⟦<u32 as SerializeKey>⟧.as_key value) (waiting self.entry) result self.exit.0.now }
+    {
+        let MapKey { ser } = self;
+        ser.put_digits(value)
+    }
+
+    /// The decimal digits.
+    pub fn serialize_u64(self, value: u64) -> Result<()>
+        ensures { WritesKey (⟦<u64 as SerializeKey>⟧.as_key value) (waiting self.entry) result self.exit.0.now }
+    {
+        let MapKey { ser } = self;
+        ser.put_digits(value)
+    }
+
+    /// The decimal digits.
+    pub fn serialize_u128(self, value: u128) -> Result<()>
+        ensures { WritesKey (⟦<u128 as SerializeKey>⟧.as_key value) (waiting self.entry) result self.exit.0.now }
+    {
+        let MapKey { ser } = self;
+        ser.put_digits(value)
+    }
+
+    /// The decimal digits, after a minus where the number is negative.
+    pub fn serialize_i8(self, value: i8) -> Result<()>
+        ensures { WritesKey (⟦<i8 as SerializeKey>⟧.as_key value) (waiting self.entry) result self.exit.0.now }
+    {
+        let MapKey { ser } = self;
+        ser.put_digits(value)
+    }
+
+    /// The decimal digits, after a minus where the number is negative.
+    pub fn serialize_i16(self, value: i16) -> Result<()>
+        ensures { WritesKey (⟦<i16 as SerializeKey>⟧.as_key value) (waiting self.entry) result self.exit.0.now }
+    {
+        let MapKey { ser } = self;
+        ser.put_digits(value)
+    }
+
+    /// The decimal digits, after a minus where the number is negative.
+    pub fn serialize_i32(self, value: i32) -> Result<()>
+        ensures { WritesKey (⟦<i32 as SerializeKey>⟧.as_key value) (waiting self.entry) result self.exit.0.now }
+    {
+        let MapKey { ser } = self;
+        ser.put_digits(value)
+    }
+
+    /// The decimal digits, after a minus where the number is negative.
+    pub fn serialize_i64(self, value: i64) -> Result<()>
+        ensures { WritesKey (⟦<i64 as SerializeKey>⟧.as_key value) (waiting self.entry) result self.exit.0.now }
+    {
+        let MapKey { ser } = self;
+        ser.put_digits(value)
+    }
+
+    /// The decimal digits, after a minus where the number is negative.
+    pub fn serialize_i128(self, value: i128) -> Result<()>
+        ensures { WritesKey (⟦<i128 as SerializeKey>⟧.as_key value) (waiting self.entry) result self.exit.0.now }
+    {
+        let MapKey { ser } = self;
+        ser.put_digits(value)
+    }
+
+    /// The text.
+    pub fn serialize_str(self, value: &str) -> Result<()>
+        ensures { WritesKey (named (chars value.now)) (waiting self.entry) result self.exit.0.now }
+    {
+        let MapKey { ser } = self;
+        ser.put_name(value)
+    }
+
+    /// The text of one character.
+    pub fn serialize_char(self, value: char) -> Result<()>
+        ensures { WritesKey (named (value ∷ [])) (waiting self.entry) result self.exit.0.now }
+    {
+        let mut buffer = [0u8; 4];
+        self.serialize_str(value.encode_utf8(&mut buffer))
+    }
+
+    /// The text that `serialize_decimal` of the serializer writes, `Infinity` and `NaN` bare.
+    pub fn serialize_decimal(self, value: &Decimal) -> Result<()>
+        ensures { WritesKey (named (decimal_text value.now)) (waiting self.entry) result self.exit.0.now }
+    {
+        let MapKey { ser } = self;
+        ser.put_decimal_name(value)
+    }
+
+    /// `null`.
+    pub fn serialize_unit(self) -> Result<()>
+        ensures { WritesKey (named null_text) (waiting self.entry) result self.exit.0.now }
+    {
+        let MapKey { ser } = self;
+        ser.put_name("null")
+    }
+
+    /// `null`. The name changes nothing.
+    pub fn serialize_unit_struct(self, _name: &'static str) -> Result<()>
+        ensures { WritesKey (named null_text) (waiting self.entry) result self.exit.0.now }
+    {
+        self.serialize_unit()
+    }
+
+    /// The name of the variant. The type's name and the index change nothing.
+    pub fn serialize_unit_variant(
+        self,
+        _name: &'static str,
+        _index: u32,
+        variant: &'static str,
+    ) -> Result<()>
+        ensures { WritesKey (named (chars variant.now)) (waiting self.entry) result self.exit.0.now }
+    {
+        self.serialize_str(variant)
+    }
+
+    /// The key itself.
+    pub fn serialize_some<K: SerializeKey>(self, key: &K) -> Result<()>
+        ensures { WritesKey (K.as_key key.now) (waiting self.entry) result self.exit.0.now }
+    {
+        key.serialize_key(self)
+    }
+
+    /// The key inside. The name changes nothing.
+    pub fn serialize_newtype_struct<K: SerializeKey>(
+        self,
+        _name: &'static str,
+        key: &K,
+    ) -> Result<()>
+        ensures { WritesKey (K.as_key key.now) (waiting self.entry) result self.exit.0.now }
+    {
+        key.serialize_key(self)
+    }
+
+    /// It is no key.
+    pub fn serialize_none(self) -> Result<()>
+        ensures { WritesKey bad (waiting self.entry) result self.exit.0.now }
+    {
+        let MapKey { ser } = self;
+        ser.refuse(ErrorCode::InvalidKey)
+    }
+
+    /// It is no key.
+    pub fn serialize_seq(self, _len: Option<usize>) -> Result<()>
+        ensures { WritesKey bad (waiting self.entry) result self.exit.0.now }
+    {
+        let MapKey { ser } = self;
+        ser.refuse(ErrorCode::InvalidKey)
+    }
+
+    /// It is no key.
+    pub fn serialize_tuple(self, _len: usize) -> Result<()>
+        ensures { WritesKey bad (waiting self.entry) result self.exit.0.now }
+    {
+        let MapKey { ser } = self;
+        ser.refuse(ErrorCode::InvalidKey)
+    }
+
+    /// It is no key.
+    pub fn serialize_tuple_struct(self, _name: &'static str, _len: usize) -> Result<()>
+        ensures { WritesKey bad (waiting self.entry) result self.exit.0.now }
+    {
+        let MapKey { ser } = self;
+        ser.refuse(ErrorCode::InvalidKey)
+    }
+
+    /// It is no key.
+    pub fn serialize_newtype_variant(
+        self,
+        _name: &'static str,
+        _index: u32,
+        _variant: &'static str,
+    ) -> Result<()>
+        ensures { WritesKey bad (waiting self.entry) result self.exit.0.now }
+    {
+        let MapKey { ser } = self;
+        ser.refuse(ErrorCode::InvalidKey)
+    }
+
+    /// It is no key.
+    pub fn serialize_tuple_variant(
+        self,
+        _name: &'static str,
+        _index: u32,
+        _variant: &'static str,
+        _len: usize,
+    ) -> Result<()>
+        ensures { WritesKey bad (waiting self.entry) result self.exit.0.now }
+    {
+        let MapKey { ser } = self;
+        ser.refuse(ErrorCode::InvalidKey)
+    }
+
+    /// It is no key.
+    pub fn serialize_map(self, _len: Option<usize>) -> Result<()>
+        ensures { WritesKey bad (waiting self.entry) result self.exit.0.now }
+    {
+        let MapKey { ser } = self;
+        ser.refuse(ErrorCode::InvalidKey)
+    }
+
+    /// It is no key.
+    pub fn serialize_struct(self, _name: &'static str, _len: usize) -> Result<()>
+        ensures { WritesKey bad (waiting self.entry) result self.exit.0.now }
+    {
+        let MapKey { ser } = self;
+        ser.refuse(ErrorCode::InvalidKey)
+    }
+
+    /// It is no key.
+    pub fn serialize_struct_variant(
+        self,
+        _name: &'static str,
+        _index: u32,
+        _variant: &'static str,
+        _len: usize,
+    ) -> Result<()>
+        ensures { WritesKey bad (waiting self.entry) result self.exit.0.now }
+    {
+        let MapKey { ser } = self;
+        ser.refuse(ErrorCode::InvalidKey)
+    }
+}

@@ -1,0 +1,37 @@
+//! Lists.
+
+ghost use Rattle.json5_ser.specs.WrittenTrees.{array, elements_of};
+ghost use Rattle.json5_ser.specs.Writes.{WritesTree};
+
+use crate::{Serialize, Serializer};
+use json5_text::error::Result;
+use std::io::Write;
+
+/// A list of the items.
+fn write_items<T: Serialize, W: Write + Drop>(items: &[T], ser: &mut Serializer<W>) -> Result<()>
+    ensures { WritesTree (array (elements_of T.tree items.now)) ser.old result ser.new }
+{
+    let mut list = ser.serialize_seq(Some(items.len()))?;
+    for item in items {
+        list.serialize_element(item)?;
+    }
+    list.end()
+}
+
+/// A list of its items.
+impl<T: Serialize> Serialize for Vec<T> {
+    ghost tree = { λ v. array (elements_of T.tree v.items) };
+
+    fn serialize<W: Write + Drop>(&self, ser: &mut Serializer<W>) -> Result<()> {
+        write_items(self, ser)
+    }
+}
+
+/// A list of its items.
+impl<T: Serialize, const N: usize> Serialize for [T; N] {
+    ghost tree = { λ v. array (elements_of T.tree v) };
+
+    fn serialize<W: Write + Drop>(&self, ser: &mut Serializer<W>) -> Result<()> {
+        write_items(self, ser)
+    }
+}
