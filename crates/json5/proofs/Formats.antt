@@ -33,11 +33,27 @@ same_tree (text u plain) d e = cc
 same_tree (array ts) d e = cc
 same_tree (object ps) d e = cc
 
-pub is_lone : (d : Datum) → IsLone (datum_tree d)
-is_lone datum.null = tt
-is_lone (datum.boolean b) = tt
-is_lone (datum.number n) = tt
-is_lone (datum.text u) = tt
+-- an array and an object aren't read yet
+abbrev pub IsLoneDatum : Datum → Type 0
+IsLoneDatum (datum.array xs) = ⊥
+IsLoneDatum (datum.object fs) = ⊥
+IsLoneDatum _ = Unit {0}
+
+pub read_alone : (t : Tree) (d : Datum) → datum_of t ≡ Some d → IsLoneDatum d
+read_alone null d e = let same : datum.null ≡ d = cc in subst IsLoneDatum same tt
+read_alone (boolean b) d e = let same : datum.boolean b ≡ d = cc in subst IsLoneDatum same tt
+read_alone (number n) d e = let same : datum.number n ≡ d = cc in subst IsLoneDatum same tt
+read_alone (text u plain) d e = let same : datum.text u ≡ d = cc in subst IsLoneDatum same tt
+read_alone (array ts) d e = absurd (cc)
+read_alone (object ps) d e = absurd (cc)
+
+pub is_lone : (d : Datum) → IsLoneDatum d → IsLone (datum_tree d)
+is_lone datum.null h = tt
+is_lone (datum.boolean b) h = tt
+is_lone (datum.number n) h = tt
+is_lone (datum.text u) h = tt
+is_lone (datum.array xs) h = absurd h
+is_lone (datum.object fs) h = absurd h
 
 -- a scalar has a value
 pub scalar_datum : (t : Tree) → IsScalar t → (d : Datum) × (datum_of t ≡ Some d)
@@ -54,7 +70,7 @@ formatted x bytes t d doc e w = record {
   document = doc;
   written = subst (λ z. IsText (out 128 z 0) bytes) (same_tree t d e) w;
   again = marks (datum_tree d);
-  reads_back = subst (λ z. Doc 128 z (marks (datum_tree d))) (sym w.characters) (lone_document 128 0 (datum_tree d) (is_lone d) w.stop);
+  reads_back = subst (λ z. Doc 128 z (marks (datum_tree d))) (sym w.characters) (lone_document 128 0 (datum_tree d) (is_lone d (read_alone t d e)) w.stop);
   same = tree_again 128 (datum_tree d) 0 w.stop ∙ same_tree t d e;
 }
 
@@ -69,18 +85,20 @@ number_stop b s failed_write h = absurd h
 number_stop b s (custom _) h = absurd h
 
 -- writing a scalar is refused only where memory runs out
-pub only_memory : (d : Datum) (e : Error) → RefusesText (out 128 (datum_tree d) 0) e → IsOutOfMemory e
-only_memory datum.null e h = number_stop true null_text (kind_of e) h.stops
-only_memory (datum.boolean b) e h = number_stop true (bool_text b) (kind_of e) h.stops
-only_memory (datum.number n) e h = number_stop (is_writable n) (number_text n) (kind_of e) h.stops
-only_memory (datum.text u) e h = number_stop true (quoted_text u) (kind_of e) h.stops
+pub only_memory : (d : Datum) (e : Error) → IsLoneDatum d → RefusesText (out 128 (datum_tree d) 0) e → IsOutOfMemory e
+only_memory datum.null e lone h = number_stop true null_text (kind_of e) h.stops
+only_memory (datum.boolean b) e lone h = number_stop true (bool_text b) (kind_of e) h.stops
+only_memory (datum.number n) e lone h = number_stop (is_writable n) (number_text n) (kind_of e) h.stops
+only_memory (datum.text u) e lone h = number_stop true (quoted_text u) (kind_of e) h.stops
+only_memory (datum.array xs) e lone h = absurd lone
+only_memory (datum.object fs) e lone h = absurd lone
 
 -- what is written of a document's value
 pub completed : {S : Type 0} (bytes : S → List ℕ) (x : List ℕ) (t u : Tree) (d : Datum) (r : Result S Error) → Doc 128 x t → Doc 128 x u → datum_of t ≡ Some d
     → IfOk r (λ s. IsText (out 128 (datum_tree d) 0) (bytes s)) → IfErr r (λ e. RefusesText (out 128 (datum_tree d) 0) e)
     → MatchResult r (λ s. IsText (out 128 (unmarked u) 0) (bytes s)) IsOutOfMemory
 completed bytes x t u d (Ok s) a b is w k = subst (λ z. IsText (out 128 z 0) (bytes s)) (same_tree t d is ∙ ap unmarked (one_tree 128 128 x t u a b)) w
-completed bytes x t u d (Err e) a b is w k = only_memory d e k
+completed bytes x t u d (Err e) a b is w k = only_memory d e (read_alone t d is) k
 
 -- that memory ran out is a cause of its own
 pub memory_refused : (x : List ℕ) (e : Error) → IsOutOfMemory e → IsRefused x e

@@ -5,3 +5,6 @@ pub use Rattle.json5_de.proofs.Own
 pub use Rattle.json5_de.proofs.Loops
 pub use Rattle.json5_de.proofs.SoMany
 pub use Rattle.json5_de.proofs.ListFaults
+pub use Rattle.json5_de.proofs.Fields
+pub use Rattle.json5_ser.proofs.Remains
+pub use Rattle.json5_ser.proofs.Members

@@ -24,10 +24,18 @@ pub use Rattle.json5_de.specs.Spans
 pub use Rattle.json5_de.specs.Steps
 pub use Rattle.json5_de.specs.Faults
 pub use Rattle.json5_de.specs.Rows
+pub use Rattle.json5_de.specs.AnyTree
 pub use Rattle.json5_de.specs.Options
 pub use Rattle.json5_de.specs.Access
 pub use Rattle.json5_de.specs.Seq
 pub use Rattle.json5_de.specs.Lists
+pub use Rattle.json5_de.specs.Keys
+pub use Rattle.json5_de.specs.KeyRows
+pub use Rattle.json5_de.specs.Objects
+pub use Rattle.json5_de.specs.ObjectFaults
+pub use Rattle.json5_de.specs.Maps
+pub use Rattle.json5_de.specs.MapFaults
+pub use Rattle.json5_de.specs.Fields
 pub use Rattle.json5_de.specs.Lending
 pub use Rattle.json5_de.specs.Texts
 -- Writing.
@@ -36,3 +44,6 @@ pub use Rattle.json5_ser.specs.Out
 pub use Rattle.json5_ser.specs.Writes
 pub use Rattle.json5_ser.specs.Pieces
 pub use Rattle.json5_ser.specs.Texts as WrittenTexts
+pub use Rattle.json5_ser.specs.Lending as Collections
+pub use Rattle.json5_ser.specs.Keys as WrittenKeys
+pub use Rattle.json5_ser.specs.Waiting

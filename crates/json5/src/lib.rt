@@ -20,10 +20,16 @@ ghost use Rattle.json5_ser.specs.Out.{out};
 ghost use Rattle.json5.specs.Formatted.{IsScalar, WritesTree, IsFormatted, IsRefused};
 
 pub use json5_de as de;
-pub use json5_de::{Deserialize, Deserializer, SeqAccess, Spanned, from_str, read};
+pub use json5_de::{
+    Deserialize, DeserializeKey, Deserializer, IgnoredAny, MapAccess, SeqAccess, Spanned, from_str,
+    read,
+};
 pub use json5_grammar::code::ErrorCode;
 pub use json5_grammar::position::Position;
-pub use json5_ser::{Serialize, Serializer, to_string, to_writer};
+pub use json5_ser::{
+    Serialize, SerializeCollection, SerializeKey, Serializer, to_string, to_writer,
+};
+pub use json5_text::byte_buf::ByteBuf;
 pub use json5_text::char;
 pub use json5_text::cow_str::CowStr;
 pub use json5_text::decimal::Decimal;

@@ -1,4 +1,6 @@
 //! Writing.
 
 pub use json5_ser::output::write_whole;
-pub use json5_ser::{Serialize, Serializer, to_string, to_writer};
+pub use json5_ser::{
+    MapKey, Serialize, SerializeCollection, SerializeKey, Serializer, to_string, to_writer,
+};

@@ -1,7 +1,9 @@
 //! Types of one's own that are read from JSON5, proved lawful by what json5_de promises alone.
 #![tactic(auto)]
 
+mod articles;
 mod at_most;
+mod ids;
 mod levels;
 mod ports;
 mod tags;
@@ -11,7 +13,9 @@ ghost use Rattle.json5.specs.ErrorCode.TheVariants as codes;
 ghost use Rattle.json5.specs.Law.{IsUnprompted};
 ghost use Rattle.json5.specs.Faults.{EndsWithOrMemory};
 
+pub use articles::Article;
 pub use at_most::AtMost;
+pub use ids::Id;
 use json5::de::value_codes;
 use json5::{Deserialize, Deserializer, Error, Input, Result, SeqAccess};
 pub use levels::Level;

@@ -99,7 +99,8 @@ fn write_digits<W: fmt::Write>(decimal: &Decimal, f: &mut fmt::Formatter<W>) -> 
     write!(f, "{sign}{digits}e{exponent}")
 }
 
-/// A value of any kind: `null`, a boolean, a whole number, a decimal by its digits, or a text in quotes.
+/// A value of any kind: `null`, a boolean, a whole number, a decimal by its digits, a text in quotes, or how many values are
+/// inside.
 #[derive(Drop)]
 pub struct Any(pub Value);
 
@@ -111,6 +112,8 @@ impl Debug for Any {
             Value::Whole(number) => write!(f, "{number}"),
             Value::Decimal(decimal) => write_digits(decimal, f),
             Value::String(text) => write!(f, "{text:?}"),
+            Value::Array(items) => write!(f, "an array of {}", items.len()),
+            Value::Object(fields) => write!(f, "an object of {}", fields.len()),
         }
     }
 }

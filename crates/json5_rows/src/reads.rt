@@ -1,9 +1,11 @@
 //! Reading a text as a type.
 
 use crate::answers::{Answer, Any, Digits, shown, unknown};
-use json5::{CowStr, Deserialize, Deserializer, from_str};
+use indexmap::IndexMap;
+use json5::{ByteBuf, CowStr, Decimal, Deserialize, Deserializer, IgnoredAny, from_str};
 use json5_own_type::{Bounds, Point, Port};
 use std::alloc::Global;
+use std::collections::{BTreeMap, HashMap};
 use std::fmt::Debug;
 
 /// Reads as the type of this list that has the name, and returns; does nothing where none has it.
@@ -35,7 +37,7 @@ fn read_integer(alloc: Global, name: &str, text: &str) -> Answer {
 }
 
 fn read_scalar(alloc: Global, name: &str, text: &str) -> Answer {
-    read_as!(name, alloc, text; (), bool, char, &str, CowStr, String);
+    read_as!(name, alloc, text; (), bool, char, &str, CowStr, String, ByteBuf, IgnoredAny);
     read_list(alloc, name, text)
 }
 
@@ -64,8 +66,27 @@ fn read_pair(alloc: Global, name: &str, text: &str) -> Answer {
     match name {
         "Bounds<i32>" => read_bounds(alloc, text),
         "Point<&str>" => read_point(alloc, text),
-        _ => unknown(alloc),
+        _ => read_sorted(alloc, name, text),
     }
+}
+
+fn read_sorted(alloc: Global, name: &str, text: &str) -> Answer {
+    read_as!(name, alloc, text; BTreeMap<String, u8>, BTreeMap<String, i32>, BTreeMap<u8, String>);
+    read_as!(name, alloc, text; BTreeMap<&str, u8>, BTreeMap<CowStr, u8>, BTreeMap<bool, u8>);
+    read_hashed(alloc, name, text)
+}
+
+fn read_hashed(alloc: Global, name: &str, text: &str) -> Answer {
+    read_as!(name, alloc, text; IndexMap<String, u8>, IndexMap<CowStr, u8>, HashMap<CowStr, u8>);
+    read_as!(name, alloc, text; HashMap<String, u32>, HashMap<i32, i32>, HashMap<bool, i32>);
+    read_as!(name, alloc, text; HashMap<(), i32>, HashMap<Option<char>, i32>);
+    read_by_others(alloc, name, text)
+}
+
+fn read_by_others(alloc: Global, name: &str, text: &str) -> Answer {
+    read_as!(name, alloc, text; BTreeMap<ByteBuf, u8>, HashMap<ByteBuf, i32>);
+    read_as!(name, alloc, text; BTreeMap<char, u8>, IndexMap<Decimal, u8>);
+    unknown(alloc)
 }
 
 fn read_port(alloc: Global, text: &str) -> Answer {

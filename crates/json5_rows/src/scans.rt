@@ -1,9 +1,10 @@
-//! Calls of one scanner, one after another: `scan blank eat[ number peek|TEXT`.
+//! Calls of one scanner, one after another: `scan blank eat[ number skip_string peek|TEXT`.
 
 use crate::answers::{Answer, Any, place, push_answer, shown, unknown};
 use json5::{ErrorCode, Result, Value};
 use json5_text::number::Number;
 use json5_text::scanner::Scanner;
+use json5_text::whole::Whole;
 use std::alloc::Global;
 
 /// What each call answers.
@@ -25,6 +26,19 @@ fn call(scanner: &mut Scanner<&str>, name: &str) -> Answer {
         "string" => shown(alloc, scanner.string()),
         "string_owned" => shown(alloc, scanner.string_owned()),
         "identifier" => shown(alloc, scanner.identifier()),
+        "key" => key(scanner),
+        "key_borrowed" => key_borrowed(scanner),
+        _ => skip(scanner, name),
+    }
+}
+
+/// Calls that pass over a token.
+fn skip(scanner: &mut Scanner<&str>, name: &str) -> Answer {
+    let alloc = scanner.allocator();
+    match name {
+        "skip_string" => shown(alloc, scanner.skip_string()),
+        "skip_identifier" => shown(alloc, scanner.skip_identifier()),
+        "skip_number" => shown(alloc, scanner.skip_number().map(any_whole)),
         _ => look(scanner, name),
     }
 }
@@ -43,6 +57,22 @@ fn look(scanner: &mut Scanner<&str>, name: &str) -> Answer {
     }
 }
 
+/// The key's text, found again after the next character was eaten.
+fn key(scanner: &mut Scanner<&str>) -> Answer {
+    let alloc = scanner.allocator();
+    let key = scanner.key()?;
+    let _ = scanner.eat(':');
+    let text = scanner.text_of(&key);
+    Ok(format!(in alloc; "{text:?}")?)
+}
+
+/// The key's text as it may be borrowed.
+fn key_borrowed(scanner: &mut Scanner<&str>) -> Answer {
+    let alloc = scanner.allocator();
+    let key = scanner.key()?;
+    shown(alloc, Ok(scanner.borrowed_text_of(key)))
+}
+
 fn eat(scanner: &mut Scanner<&str>, text: &str) -> bool {
     match text.chars().next() {
         Some(c) => scanner.eat(c),
@@ -59,4 +89,8 @@ fn any(number: Number) -> Any {
         Number::Whole(whole) => Any(Value::Whole(whole)),
         Number::Decimal(decimal) => Any(Value::Decimal(decimal)),
     }
+}
+
+fn any_whole(number: Option<Whole>) -> Option<Any> {
+    Some(Any(Value::Whole(number?)))
 }

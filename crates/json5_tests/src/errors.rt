@@ -123,23 +123,49 @@ const FIRST: Position = Position { line: 2, column: 5 };
 
 const SECOND: Position = Position { line: 0, column: 1 };
 
+/// Appends what the fault prints, on a line.
+fn push_fault(fault: &Error, lines: &mut String) -> Result<(), AllocError> {
+    writeln!(lines, "{fault}")
+}
+
+/// Faults that are made without memory.
+fn push_bare_faults(lines: &mut String) -> Result<(), AllocError> {
+    push_fault(&Error::new(ErrorCode::EofParsingValue), lines)?;
+    push_fault(&Error::new_at(FIRST, ErrorCode::ExpectedComma), lines)?;
+    push_fault(&Error::from(io::Error::from(ErrorKind::Interrupted)), lines)
+}
+
+/// Faults with a text of their own.
+fn push_custom_faults(alloc: Global, lines: &mut String) -> json5::Result<()> {
+    push_fault(&Error::custom(alloc, "missing field `a`")?, lines)?;
+    push_fault(&Error::custom_at(alloc, SECOND, 17u8)?, lines)?;
+    push_fault(&Error::custom(alloc, Broken)?, lines)?;
+    push_fault(
+        &Error::from_text(String::from_str(alloc, "of mine")?),
+        lines,
+    )?;
+    Ok(())
+}
+
 /// A fault of each kind, as it is printed.
 fn printed_faults(alloc: Global) -> json5::Result<String> {
-    let bare = Error::new(ErrorCode::EofParsingValue);
-    let placed = Error::new_at(FIRST, ErrorCode::ExpectedComma);
-    let text = Error::custom(alloc, "missing field `a`")?;
-    let number = Error::custom_at(alloc, SECOND, 17u8)?;
-    let broken = Error::custom(alloc, Broken)?;
-    let owned = Error::from_text(String::from_str(alloc, "of mine")?);
-    let write = Error::from(io::Error::from(ErrorKind::Interrupted));
-    Ok(format!(in alloc; "{bare}; {placed}; {text}; {number}; {broken}; {owned}; {write}")?)
+    let mut lines = String::new(alloc);
+    push_bare_faults(&mut lines)?;
+    push_custom_faults(alloc, &mut lines)?;
+    Ok(lines)
 }
 
 #[test]
 fn faults_are_printed_with_their_places(rt: HostRuntime) -> Result<(), Fail> {
     assert_eq!(rt;
         printed_faults(rt.alloc())?.as_str(),
-        "EOF parsing value; expected comma at line 3 column 6; missing field `a`; 17 at line 1 column 2; half of; of mine; failed write"
+        "EOF parsing value\n\
+        expected comma at line 3 column 6\n\
+        failed write\n\
+        missing field `a`\n\
+        17 at line 1 column 2\n\
+        half of\n\
+        of mine\n"
     );
     Ok(())
 }
@@ -153,21 +179,28 @@ fn places_hold() -> bool {
     was_kept && moved == Error::new_at(SECOND, ErrorCode::LeadingZero)
 }
 
+/// Whether the clone of a fault is equal to it.
+fn is_cloned(alloc: Global, fault: &Error) -> json5::Result<bool> {
+    Ok(fault.clone(alloc)? == *fault)
+}
+
 /// Whether clones are equal to what they were made of.
 fn clones_are_equal(alloc: Global) -> json5::Result<bool> {
-    let code = Error::new_at(FIRST, ErrorCode::Failed);
-    let text = Error::custom_at(alloc, SECOND, "out of memory")?;
-    let write = Error::from(io::Error::from(ErrorKind::WriteZero));
-    Ok(code.clone(alloc)? == code && text.clone(alloc)? == text && write.clone(alloc)? == write)
+    Ok(
+        is_cloned(alloc, &Error::new_at(FIRST, ErrorCode::Failed))?
+            && is_cloned(alloc, &Error::custom_at(alloc, SECOND, "out of memory")?)?
+            && is_cloned(alloc, &Error::from(io::Error::from(ErrorKind::WriteZero)))?,
+    )
 }
 
 /// Whether faults differ that say another thing or have another place.
 fn others_differ(alloc: Global) -> json5::Result<bool> {
     let text = Error::custom(alloc, "out of memory")?;
-    let code = Error::new(ErrorCode::OutOfMemory);
-    let shorter = Error::custom(alloc, "out of")?;
-    let placed = Error::new_at(FIRST, ErrorCode::OutOfMemory);
-    Ok(text != code && text != shorter && code != placed)
+    Ok(
+        text != Error::new(ErrorCode::OutOfMemory)
+            && text != Error::custom(alloc, "out of")?
+            && Error::new(ErrorCode::OutOfMemory) != Error::new_at(FIRST, ErrorCode::OutOfMemory),
+    )
 }
 
 #[test]

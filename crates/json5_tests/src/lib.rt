@@ -6,6 +6,8 @@ mod brackets;
 #[cfg(test)]
 mod errors;
 #[cfg(test)]
+mod maps;
+#[cfg(test)]
 mod own_types;
 #[cfg(test)]
 mod readers;

@@ -104,18 +104,20 @@ fn other_faults_stay(alloc: Global) -> Result<bool> {
     )
 }
 
-/// Whether each type reads a text of its kind.
-fn own_types_are_read(alloc: Global) -> Result<bool> {
+/// Whether ports are read, alone and with a host.
+fn ports_are_read(alloc: Global) -> Result<bool> {
     let port = from_str::<OpenPort>(alloc, "/* secure */ 443")?;
     let endpoint = from_str::<Endpoint>(alloc, "['localhost', 8080]")?;
+    Ok(port.number == 443 && endpoint.host.as_str() == "localhost" && endpoint.port.number == 8080)
+}
+
+/// Whether ranges, labels and levels are read.
+fn lists_are_read(alloc: Global) -> Result<bool> {
     let range = from_str::<PortRange>(alloc, "[8000, 8080]")?;
-    let labels = from_str::<Labels>(alloc, "['new', 'red']")?;
     let levels = from_str::<[Level; 3]>(alloc, "['high', 'low', \"middle\"]")?;
+    let labels = from_str::<Labels>(alloc, "['new', 'red']")?;
     Ok(
-        port.number == 443
-            && endpoint.host.as_str() == "localhost"
-            && endpoint.port.number == 8080
-            && range.first == 8000
+        range.first == 8000
             && range.last == 8080
             && labels.texts.len() == 2
             && levels == [Level::High, Level::Low, Level::Middle],
@@ -124,7 +126,8 @@ fn own_types_are_read(alloc: Global) -> Result<bool> {
 
 #[test]
 fn own_types_read_what_they_accept(rt: HostRuntime) -> std::result::Result<(), Fail> {
-    assert!(rt; own_types_are_read(rt.alloc())?);
+    assert!(rt; ports_are_read(rt.alloc())?);
+    assert!(rt; lists_are_read(rt.alloc())?);
     assert!(rt; other_faults_stay(rt.alloc())?);
     Ok(())
 }

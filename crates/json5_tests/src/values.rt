@@ -38,17 +38,31 @@ fn clones_alike(alloc: Global, text: &str) -> Result<bool> {
     Ok(copy == decimal && hash_of(&copy) == hash_of(&decimal))
 }
 
+/// Whether the decimals of each line are alike.
+fn all_are_alike(alloc: Global, lines: &str) -> Result<bool> {
+    for line in lines.lines() {
+        let (first, second) = line.split_once(' ').unwrap_or((line, ""));
+        if !are_alike(alloc, first, second)? {
+            return Ok(false);
+        }
+    }
+    Ok(true)
+}
+
+/// Whether the clone of each line's decimal is equal to it.
+fn all_clones_are_alike(alloc: Global, lines: &str) -> Result<bool> {
+    for line in lines.lines() {
+        if !clones_alike(alloc, line)? {
+            return Ok(false);
+        }
+    }
+    Ok(true)
+}
+
 #[test]
 fn equal_decimals_hash_alike(rt: HostRuntime) -> std::result::Result<(), Fail> {
-    for (first, second) in [("1.50", "15e-1"), ("0e9", "0.0"), ("+NaN", "NaN")] {
-        assert!(rt;
-            are_alike(rt.alloc(), first, second)?,
-            "{first} and {second}"
-        );
-    }
-    for text in ["-1.50", "-Infinity", "-NaN", "-0."] {
-        assert!(rt; clones_alike(rt.alloc(), text)?, "{text}");
-    }
+    assert!(rt; all_are_alike(rt.alloc(), "1.50 15e-1\n0e9 0.0\n+NaN NaN")?);
+    assert!(rt; all_clones_are_alike(rt.alloc(), "-1.50\n-Infinity\n-NaN\n-0.")?);
     Ok(())
 }
 

@@ -2,7 +2,7 @@ use Rattle.std.proofs.Common.{string_bytes, inr}
 use Rattle.std.specs.Str.{chars}
 use Rattle.std.proofs.lemmas.Result.{err_from_is_err_and, IfOk-weaker, IfErr-weaker}
 use Rattle.json5_text.specs.ValueViews.{value_of}
-use Rattle.json5.proofs.Formats.{scalar_datum, formatted, completed, only_memory, memory_refused}
+use Rattle.json5.proofs.Formats.{scalar_datum, read_alone, formatted, completed, only_memory, memory_refused}
 use Rattle.json5.proofs.format.Goals as goal
 
 pub returns-in_err-value-clause-complete : goal.returns-in_err-value-clause-complete
@@ -22,7 +22,10 @@ returns-in_err-value-clause-refused c =
     })
 
 pub returns-clause-refused : goal.returns-clause-refused
-returns-clause-refused c = IfErr-weaker c.to_string.result _ _ (λ e k. memory_refused (chars c.args.text.now) e (only_memory (value_of c.in_ok-value.value) e k)) c.to_string.ensures.refused
+returns-clause-refused c =
+    let (t, document, converts) = c.in_ok-value.ensures.sound in
+    let lone = read_alone t (value_of c.in_ok-value.value) converts in
+    IfErr-weaker c.to_string.result _ _ (λ e k. memory_refused (chars c.args.text.now) e (only_memory (value_of c.in_ok-value.value) e lone k)) c.to_string.ensures.refused
 
 pub returns-clause-formatted : goal.returns-clause-formatted
 returns-clause-formatted c =

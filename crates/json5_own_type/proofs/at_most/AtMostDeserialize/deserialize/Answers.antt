@@ -1,4 +1,4 @@
-use Rattle.std.proofs.Common.{◌≡◌, ◌≤◌, ◌∙◌, ◌++◌, ◌∷◌, [], ℕ, List, Option, Some, ap, length, refl, rules, arith}
+use Rattle.std.proofs.Common.{◌≡◌, ◌≤◌, ◌∙◌, ◌∷◌, [], ℕ, List, Option, Some, ap, length, refl, rules, arith}
 use Rattle.std.proofs.lemmas.List.{length-append, length-map}
 use Rattle.json5.specs.Trees.{Tree, Trees}
 use Rattle.json5.specs.Members.{contents}

@@ -1,0 +1,29 @@
+//! Numbers by which things are known.
+
+use json5::de::MapKey;
+use json5::{DeserializeKey, Input, Result};
+
+/// The number of a thing, which is the key of its entry.
+#[derive(Clone, Copy, Debug, PartialEq, Eq)]
+pub struct Id {
+    /// From 0 to 4294967295.
+    pub number: u32,
+}
+
+/// A key whose text is a number: `'7'`.
+impl<I: Input> DeserializeKey<I> for Id {
+    ghost use Rattle.std.specs.Prelude.{ℕ, ◌^◌};
+    ghost use Rattle.json5.specs.Rows.{natural_row};
+    ghost use Rattle.json5.specs.KeyRows.{document_key};
+
+    ghost Content = { ℕ };
+
+    ghost content = { λ i. i.number };
+
+    ghost convert = { (document_key (natural_row (2 ^ 32))).convert };
+
+    fn deserialize_key(key: &mut MapKey<'_, I>) -> Result<Id> {
+        let number = key.deserialize_u32()?;
+        Ok(Id { number })
+    }
+}
