@@ -1,5 +1,5 @@
 -- What a read of a key means, from its steps.
-use Rattle.std.proofs.Common.{◌≡◌, ℕ, Bool, false, List, [], ◌∷◌, ◌++◌, refl, ap, sym, ◌∙◌, subst, ◌⊎◌, inl, inr, Option, Some, None}
+use Rattle.std.proofs.Common.{◌≡◌, ℕ, Bool, false, List, [], ◌++◌, refl, ap, sym, ◌∙◌, subst, ◌⊎◌, inl, inr, Option, Some, None}
 use Rattle.std.specs.Prelude.{Result, Ok, Err, IsErrAnd, length}
 use Rattle.std.specs.Str.{encode_utf8_all, chars}
 use Rattle.std.proofs.lemmas.List.{append-nil}
@@ -37,7 +37,7 @@ use Rattle.json5_de.specs.Keys.{TookKey, KeyConversion, GivesKey, CompletesKey, 
 use Rattle.json5_de.specs.KeyRows.{KeyFault, KeyRow, NotKey, no_key, other_key, ReadsKeyAs, not_converted, coded_text_key, text_key, bytes_key, document_key, document_of, NotDocument, some_of}
 use Rattle.json5_de.specs.KeySteps.{TookKeyAt, every_key}
 use Rattle.json5_de.specs.Rows.{Row, RefusedAs}
-use Rattle.json5_de.specs.Steps.{PassedGap, TookText, IsMismatch, IsMismatchOf, IsUndecoded}
+use Rattle.json5_de.specs.Steps.{PassedGap, IsMismatch, IsMismatchOf, IsUndecoded}
 use Rattle.json5_de.specs.Texts.{ReadsDocument, RefusesReading}
 use Rattle.json5_de.specs.Convert.{digits_bytes}
 use Rattle.json5_de.proofs.BytesDecoded.{undecoded}

@@ -14,7 +14,7 @@ use Rattle.json5_text.specs.Tokens.{FaultyKey}
 use Rattle.json5_de.specs.State.{State}
 use Rattle.json5_de.specs.Convert.{every_text, if_plain, every_cow, one_character, place_among, digits_bytes}
 use Rattle.json5_de.specs.ConvertLists.{if_some}
-use Rattle.json5_de.specs.Faults.{FaultRelation, AfterBlanks, RefusedByOrMemory, Trailing}
+use Rattle.json5_de.specs.Faults.{AfterBlanks, RefusedByOrMemory, Trailing}
 use Rattle.json5_de.specs.Keys.{KeyConversion, ReadsOneKey}
 use Rattle.json5_de.specs.Rows.{Row}
 

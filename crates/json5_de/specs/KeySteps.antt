@@ -1,5 +1,5 @@
 -- The steps of a read of a key.
-use Rattle.std.specs.Prelude.{◌≡◌, ℕ, Bool, true, List, ◌++◌, length, Option, Some}
+use Rattle.std.specs.Prelude.{◌≡◌, ℕ, Bool, true, List, ◌++◌, length, Some}
 use Rattle.std.specs.Str.{all_scalars, encode_utf8_all}
 use Rattle.json5_grammar.specs.Names.{Key}
 use Rattle.json5_text.specs.declared.key_text.KeyText.{KeyText}

@@ -1,9 +1,12 @@
 -- An access and the reader that is lent to it.
 use Rattle.std.specs.Prelude.{◌≡◌, true, Result}
 use Rattle.std.specs.Borrow.{Fml, RattleType, MutBor, RestsIfErr}
+use Rattle.json5_text.specs.declared.error.Error.{Error}
 use Rattle.json5_text.specs.declared.input.Input as input
 use Rattle.json5_de.specs.State.{State, SameText, GivesUp}
 use Rattle.json5_de.specs.Access.{Seen}
+use Rattle.json5_de.specs.Keys.{KeyConversion, ReadsOneKey}
+use Rattle.json5_de.specs.KeyRows.{KeyRow, RefusedAsKey}
 use Rattle.json5_de.specs.Objects.{SeenMap}
 use Rattle.json5_de.specs.declared.key.MapKey.{MapKey}
 use Rattle.json5_de.specs.declared.map.MapAccess.{MapAccess}
@@ -46,6 +49,15 @@ waiting key = key.de.now
 -- it still holds the same one
 abbrev pub HoldsTheSameKey : {I : Type 0} → MapKey I → MapKey I → Type 0
 HoldsTheSameKey old new = new.de.ghost_name ≡ old.de.ghost_name
+
+-- a call reads the key that waits, and the reader stays lent to it
+pub record KeyReadsBy {I V C : Type 0} (content : V → C) (convert : KeyConversion C) (refuses : State → Error → State → Type 0) (old new : MapKey I) (result : Result V Error) : Type 0 where
+  pub reads : ReadsOneKey content convert refuses (waiting old) (waiting new) result
+  pub same_reference : HoldsTheSameKey old new
+
+-- the same of a kind of keys
+abbrev pub KeyReads : {I V C : Type 0} → KeyRow C → (V → C) → MapKey I → MapKey I → Result V Error → Type 0
+KeyReads row content old new result = KeyReadsBy content row.convert (RefusedAsKey row) old new result
 
 -- a call of the access keeps its reference, blocks the reader, and leaves the bracket and the text where they were
 pub record KeepsAccess {I : Type 0} (old new : SeqAccess I) : Type 0 where

@@ -10,7 +10,7 @@ ghost use Rattle.json5_de.specs.Law.{Unprompted};
 ghost use Rattle.json5_de.specs.Options.{RefusesLive};
 ghost use Rattle.json5_de.specs.Rows.{null_row, bool_row, natural_row, integer_row, decimal_row};
 ghost use Rattle.json5_de.specs.Keys.{GivesKey, CompletesKey, ReadsOneKey};
-ghost use Rattle.json5_de.specs.KeyRows.{ReadsKeyAs, string_key, char_key, plain_key, cow_key, variant_key, bytes_key, document_key, some_of};
+ghost use Rattle.json5_de.specs.KeyRows.{string_key, char_key, plain_key, cow_key, variant_key, bytes_key, document_key, some_of};
 
 use crate::de::Deserializer;
 use json5_text::byte_buf::ByteBuf;
@@ -93,7 +93,7 @@ impl<I: Input> Deserializer<I> {
 }
 
 impl<I: Input> MapKey<'_, I> {
-    ghost use Rattle.json5_de.specs.Lending.{waiting, HoldsTheSameKey};
+    ghost use Rattle.json5_de.specs.Lending.{KeyReads, KeyReadsBy};
 
     /// The allocator of what is read.
     pub fn allocator(&self) -> Global {
@@ -102,16 +102,14 @@ impl<I: Input> MapKey<'_, I> {
 
     /// Reads the key as a text.
     pub fn deserialize_string(&mut self) -> Result<String>
-        ensures reads { ReadsKeyAs string_key string_bytes (waiting self.old) (waiting self.new) result }
-        ensures same_reference { HoldsTheSameKey self.old self.new }
+        ensures { KeyReads string_key string_bytes self.old self.new result }
     {
         self.de.key_string()
     }
 
     /// Reads a key of one character; another text is a custom fault at the key.
     pub fn deserialize_char(&mut self) -> Result<char>
-        ensures reads { ReadsKeyAs char_key (λ c. c) (waiting self.old) (waiting self.new) result }
-        ensures same_reference { HoldsTheSameKey self.old self.new }
+        ensures { KeyReads char_key (λ c. c) self.old self.new result }
     {
         self.de.key_char()
     }
@@ -119,8 +117,7 @@ impl<I: Input> MapKey<'_, I> {
     /// Reads a key that is one of the variants, and returns its first place among them, counted from 0. Another text is a custom
     /// fault at the key, which names the variants.
     pub fn deserialize_variant(&mut self, variants: &[&str]) -> Result<usize>
-        ensures reads { ReadsKeyAs (variant_key variants.now) (λ n. n) (waiting self.old) (waiting self.new) result }
-        ensures same_reference { HoldsTheSameKey self.old self.new }
+        ensures { KeyReads (variant_key variants.now) (λ n. n) self.old self.new result }
     {
         self.de.key_variant(variants)
     }
@@ -128,16 +125,14 @@ impl<I: Input> MapKey<'_, I> {
     /// Reads a key as bytes: a text of an even number of ASCII hexadecimal digits, in either case, two a byte. `InvalidBytes` at
     /// the key for any other text.
     pub fn deserialize_bytes(&mut self) -> Result<ByteBuf>
-        ensures reads { ReadsKeyAs bytes_key bytes_of (waiting self.old) (waiting self.new) result }
-        ensures same_reference { HoldsTheSameKey self.old self.new }
+        ensures { KeyReads bytes_key bytes_of self.old self.new result }
     {
         self.de.key_bytes()
     }
 
     /// As `deserialize_bytes`.
     pub fn deserialize_byte_buf(&mut self) -> Result<ByteBuf>
-        ensures reads { ReadsKeyAs bytes_key bytes_of (waiting self.old) (waiting self.new) result }
-        ensures same_reference { HoldsTheSameKey self.old self.new }
+        ensures { KeyReads bytes_key bytes_of self.old self.new result }
     {
         self.deserialize_bytes()
     }
@@ -145,112 +140,98 @@ impl<I: Input> MapKey<'_, I> {
     /// Reads the key's text as a document, which is `null`. Its faults have their codes and the key's place, as those of the other
     /// calls that read a document have.
     pub fn deserialize_unit(&mut self) -> Result<()>
-        ensures reads { ReadsKeyAs (document_key null_row) (λ _. tt) (waiting self.old) (waiting self.new) result }
-        ensures same_reference { HoldsTheSameKey self.old self.new }
+        ensures { KeyReads (document_key null_row) (λ _. tt) self.old self.new result }
     {
         self.de.key_document()
     }
 
     /// Reads the key's text as a document, which is `null`, as a struct without fields. The name changes nothing.
     pub fn deserialize_unit_struct(&mut self, _name: &'static str) -> Result<()>
-        ensures reads { ReadsKeyAs (document_key null_row) (λ _. tt) (waiting self.old) (waiting self.new) result }
-        ensures same_reference { HoldsTheSameKey self.old self.new }
+        ensures { KeyReads (document_key null_row) (λ _. tt) self.old self.new result }
     {
         self.deserialize_unit()
     }
 
     /// Reads the key's text as a document, which is `true` or `false`.
     pub fn deserialize_bool(&mut self) -> Result<bool>
-        ensures reads { ReadsKeyAs (document_key bool_row) (λ b. b) (waiting self.old) (waiting self.new) result }
-        ensures same_reference { HoldsTheSameKey self.old self.new }
+        ensures { KeyReads (document_key bool_row) (λ b. b) self.old self.new result }
     {
         self.de.key_document()
     }
 
     /// Reads the key's text as a document, which is a whole number in the range of `u8`.
     pub fn deserialize_u8(&mut self) -> Result<u8>
-        ensures reads { ReadsKeyAs (document_key (natural_row (2 ^ 8))) (λ n. n) (waiting self.old) (waiting self.new) result }
-        ensures same_reference { HoldsTheSameKey self.old self.new }
+        ensures { KeyReads (document_key (natural_row (2 ^ 8))) (λ n. n) self.old self.new result }
     {
         self.de.key_document()
     }
 
     /// Reads the key's text as a document, which is a whole number in the range of `u16`.
     pub fn deserialize_u16(&mut self) -> Result<u16>
-        ensures reads { ReadsKeyAs (document_key (natural_row (2 ^ 16))) (λ n. n) (waiting self.old) (waiting self.new) result }
-        ensures same_reference { HoldsTheSameKey self.old self.new }
+        ensures { KeyReads (document_key (natural_row (2 ^ 16))) (λ n. n) self.old self.new result }
     {
         self.de.key_document()
     }
 
     /// Reads the key's text as a document, which is a whole number in the range of `u32`.
     pub fn deserialize_u32(&mut self) -> Result<u32>
-        ensures reads { ReadsKeyAs (document_key (natural_row (2 ^ 32))) (λ n. n) (waiting self.old) (waiting self.new) result }
-        ensures same_reference { HoldsTheSameKey self.old self.new }
+        ensures { KeyReads (document_key (natural_row (2 ^ 32))) (λ n. n) self.old self.new result }
     {
         self.de.key_document()
     }
 
     /// Reads the key's text as a document, which is a whole number in the range of `u64`.
     pub fn deserialize_u64(&mut self) -> Result<u64>
-        ensures reads { ReadsKeyAs (document_key (natural_row (2 ^ 64))) (λ n. n) (waiting self.old) (waiting self.new) result }
-        ensures same_reference { HoldsTheSameKey self.old self.new }
+        ensures { KeyReads (document_key (natural_row (2 ^ 64))) (λ n. n) self.old self.new result }
     {
         self.de.key_document()
     }
 
     /// Reads the key's text as a document, which is a whole number in the range of `u128`.
     pub fn deserialize_u128(&mut self) -> Result<u128>
-        ensures reads { ReadsKeyAs (document_key (natural_row (2 ^ 128))) (λ n. n) (waiting self.old) (waiting self.new) result }
-        ensures same_reference { HoldsTheSameKey self.old self.new }
+        ensures { KeyReads (document_key (natural_row (2 ^ 128))) (λ n. n) self.old self.new result }
     {
         self.de.key_document()
     }
 
     /// Reads the key's text as a document, which is a whole number in the range of `i8`.
     pub fn deserialize_i8(&mut self) -> Result<i8>
-        ensures reads { ReadsKeyAs (document_key (integer_row (2 ^ 7))) (λ n. n) (waiting self.old) (waiting self.new) result }
-        ensures same_reference { HoldsTheSameKey self.old self.new }
+        ensures { KeyReads (document_key (integer_row (2 ^ 7))) (λ n. n) self.old self.new result }
     {
         self.de.key_document()
     }
 
     /// Reads the key's text as a document, which is a whole number in the range of `i16`.
     pub fn deserialize_i16(&mut self) -> Result<i16>
-        ensures reads { ReadsKeyAs (document_key (integer_row (2 ^ 15))) (λ n. n) (waiting self.old) (waiting self.new) result }
-        ensures same_reference { HoldsTheSameKey self.old self.new }
+        ensures { KeyReads (document_key (integer_row (2 ^ 15))) (λ n. n) self.old self.new result }
     {
         self.de.key_document()
     }
 
     /// Reads the key's text as a document, which is a whole number in the range of `i32`.
     pub fn deserialize_i32(&mut self) -> Result<i32>
-        ensures reads { ReadsKeyAs (document_key (integer_row (2 ^ 31))) (λ n. n) (waiting self.old) (waiting self.new) result }
-        ensures same_reference { HoldsTheSameKey self.old self.new }
+        ensures { KeyReads (document_key (integer_row (2 ^ 31))) (λ n. n) self.old self.new result }
     {
         self.de.key_document()
     }
 
     /// Reads the key's text as a document, which is a whole number in the range of `i64`.
     pub fn deserialize_i64(&mut self) -> Result<i64>
-        ensures reads { ReadsKeyAs (document_key (integer_row (2 ^ 63))) (λ n. n) (waiting self.old) (waiting self.new) result }
-        ensures same_reference { HoldsTheSameKey self.old self.new }
+        ensures { KeyReads (document_key (integer_row (2 ^ 63))) (λ n. n) self.old self.new result }
     {
         self.de.key_document()
     }
 
     /// Reads the key's text as a document, which is a whole number in the range of `i128`.
     pub fn deserialize_i128(&mut self) -> Result<i128>
-        ensures reads { ReadsKeyAs (document_key (integer_row (2 ^ 127))) (λ n. n) (waiting self.old) (waiting self.new) result }
-        ensures same_reference { HoldsTheSameKey self.old self.new }
+        ensures { KeyReads (document_key (integer_row (2 ^ 127))) (λ n. n) self.old self.new result }
     {
         self.de.key_document()
     }
 
     /// Reads the key's text as a document, which is a number.
     pub fn deserialize_decimal(&mut self) -> Result<Decimal>
-        ensures reads { ReadsKeyAs (document_key decimal_row) (λ d. d) (waiting self.old) (waiting self.new) result }
-        ensures same_reference { HoldsTheSameKey self.old self.new }
+        ensures { KeyReads (document_key decimal_row) (λ d. d) self.old self.new result }
     {
         self.de.key_document()
     }
@@ -261,8 +242,7 @@ impl<I: Input> MapKey<'_, I> {
         &mut self,
         _name: &'static str,
     ) -> Result<K>
-        ensures reads { ReadsOneKey K.content K.convert (RefusesLive K.refuses) (waiting self.old) (waiting self.new) result }
-        ensures same_reference { HoldsTheSameKey self.old self.new }
+        ensures { KeyReadsBy K.content K.convert (RefusesLive K.refuses) self.old self.new result }
     {
         self.de.key_as()
     }
@@ -270,8 +250,7 @@ impl<I: Input> MapKey<'_, I> {
     /// Reads a K, which is always Some, with the faults of K: a key is never None. After a refusal every later call on the reader
     /// answers `Failed`.
     pub fn deserialize_option<K: DeserializeKey<I>>(&mut self) -> Result<Option<K>>
-        ensures reads { ReadsOneKey (if_some K.content) (some_of K.convert) (RefusesLive K.refuses) (waiting self.old) (waiting self.new) result }
-        ensures same_reference { HoldsTheSameKey self.old self.new }
+        ensures { KeyReadsBy (if_some K.content) (some_of K.convert) (RefusesLive K.refuses) self.old self.new result }
     {
         let key = self.de.key_as::<K>()?;
         Ok(Some(key))
@@ -280,28 +259,25 @@ impl<I: Input> MapKey<'_, I> {
 
 // What is borrowed from the text.
 impl<'de, I: Borrows<'de>> MapKey<'_, I> {
-    ghost use Rattle.json5_de.specs.Lending.{waiting, HoldsTheSameKey};
+    ghost use Rattle.json5_de.specs.Lending.{KeyReads};
 
     /// Reads a key without an escape; another one is a custom fault at the key.
     pub fn deserialize_str(&mut self) -> Result<&'de str>
-        ensures reads { ReadsKeyAs plain_key (λ t. t.now) (waiting self.old) (waiting self.new) result }
-        ensures same_reference { HoldsTheSameKey self.old self.new }
+        ensures { KeyReads plain_key (λ t. t.now) self.old self.new result }
     {
         self.de.key_str()
     }
 
     /// Reads the key as a text, borrowed where no escape is used.
     pub fn deserialize_identifier(&mut self) -> Result<CowStr<'de>>
-        ensures reads { ReadsKeyAs cow_key (λ t. (cow_bytes t, is_borrowed t)) (waiting self.old) (waiting self.new) result }
-        ensures same_reference { HoldsTheSameKey self.old self.new }
+        ensures { KeyReads cow_key (λ t. (cow_bytes t, is_borrowed t)) self.old self.new result }
     {
         self.de.key_cow()
     }
 
     /// Reads a key of any kind, which is its text, borrowed where no escape is used.
     pub fn deserialize_any(&mut self) -> Result<CowStr<'de>>
-        ensures reads { ReadsKeyAs cow_key (λ t. (cow_bytes t, is_borrowed t)) (waiting self.old) (waiting self.new) result }
-        ensures same_reference { HoldsTheSameKey self.old self.new }
+        ensures { KeyReads cow_key (λ t. (cow_bytes t, is_borrowed t)) self.old self.new result }
     {
         self.deserialize_identifier()
     }
