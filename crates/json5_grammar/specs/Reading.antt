@@ -1,4 +1,5 @@
--- Reading as functions on lists, which give what is at the front and what follows it, or the fault. Private clauses and proofs alone cite them.
+-- Reading as functions on lists, which give what is at the front and what follows it, or the fault. Private clauses and proofs cite them. So do two public words of json5_de, `document_of` and
+-- `ReadsTree`, whose meaning laws say: `document_keys` says which keys the one converts, and the law of a type what the other reads.
 use Rattle.std.specs.Prelude.{◌≡◌, ℕ, List, ◌++◌, Option, Some, None}
 use Rattle.json5_grammar.specs.Codes.{ErrorCode}
 

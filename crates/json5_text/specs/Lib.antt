@@ -18,6 +18,7 @@ pub mod Escapes
 pub mod Cows
 pub mod Bytes
 pub mod Compared
+pub mod Agreeing
 pub mod NumberParts
 pub mod ValueViews
 pub mod ValueLookups

@@ -1,7 +1,7 @@
 -- What private clauses of the scanner say.
 use Rattle.std.specs.Prelude.{◌≡◌, ℕ, Bool, List, [], ◌∷◌, ◌++◌, length, Option, Some, None, ◌⊎◌, ⊤}
 use Rattle.std.specs.Str.{IsUtf8, IsCharBoundary, chars}
-use Rattle.json5_grammar.specs.Characters.{NotBegun, Each}
+use Rattle.json5_grammar.specs.Characters.{backslash, NotBegun, Each}
 use Rattle.json5_grammar.specs.declared.position.Position.{Position}
 use Rattle.json5_grammar.specs.Positions.{position_after}
 use Rattle.json5_text.specs.declared.error.Error.{Error}
@@ -80,3 +80,7 @@ pub record SkipsAll (p : ℕ → Bool) (whole rest : List ℕ) : Type 0 where
 abbrev pub in_list : Option ℕ → List ℕ
 in_list None = []
 in_list (Some c) = c ∷ []
+
+-- an escape: `after` is what stands after its backslash
+abbrev pub AtEscape : List ℕ → List ℕ → Type 0
+AtEscape escape after = chars escape ≡ backslash ∷ chars after

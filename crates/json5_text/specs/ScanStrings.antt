@@ -11,6 +11,7 @@ use Rattle.json5_text.specs.declared.refusal.Refusal.{Refusal}
 use Rattle.json5_text.specs.declared.strings.StringStop.{StringStop}
 use Rattle.json5_text.specs.declared.strings.StringStop.TheVariants as stop
 use Rattle.json5_text.specs.Outcome.{outcome}
+use Rattle.json5_text.specs.Scan.{AtEscape}
 use Rattle.json5_text.specs.Refused.{Refuses}
 use Rattle.json5_text.specs.Answered.{RefusesByCode}
 
@@ -24,6 +25,11 @@ pub record IsOpened (x : List ℕ) (q : ℕ) (body : List ℕ) : Type 0 where
   pub quote : is_quote q ≡ true
   pub read : string_at x ≡ string (q ∷ chars body)
   pub text : IsUtf8 body
+
+-- an escape within these quotes
+pub record AtEscapeIn (q : ℕ) (from after : List ℕ) : Type 0 where
+  pub quote : is_quote q ≡ true
+  pub escape : AtEscape from after
 
 -- the quote in front and what follows it; or the fault
 abbrev pub AnswersQuote : List ℕ → Result (ℕ × Bor (List ℕ)) Refusal → Type 0

@@ -1,7 +1,7 @@
 -- How deep a value is nested, and what is found in it.
-use Rattle.std.specs.Prelude.{◌≡◌, ℕ, zero, suc, max, Bool, true, false, if◌then◌else◌, nat_eq, nat_le, List, Option, Some, None, Result, Ok, Err}
+use Rattle.std.specs.Prelude.{◌≡◌, ℕ, zero, suc, max, Bool, true, false, if◌then◌else◌, nat_eq, nat_le, List, ℤ, Option, Some, None, Result, Ok, Err}
 use Rattle.std.specs.Cmp.Lexicographic.{pointwise}
-use Rattle.json5_grammar.specs.Numbers.{Number}
+use Rattle.json5_grammar.specs.Numbers.{Decimal, whole, decimal}
 use Rattle.json5_grammar.specs.Documents.{max_depth}
 use Rattle.json5_grammar.specs.declared.code.ErrorCode.TheVariants as codes
 use Rattle.json5_text.specs.declared.error.Error.{Error}
@@ -63,9 +63,13 @@ abbrev pub boolean_of : Datum → Option Bool
 boolean_of (boolean b) = Some b
 boolean_of _ = None
 
-abbrev pub number_of : Datum → Option Number
-number_of (number n) = Some n
-number_of _ = None
+abbrev pub whole_of : Datum → Option ℤ
+whole_of (number (whole z)) = Some z
+whole_of _ = None
+
+abbrev pub decimal_of : Datum → Option Decimal
+decimal_of (number (decimal d)) = Some d
+decimal_of _ = None
 
 abbrev pub text_of : Datum → Option (List ℕ)
 text_of (text u) = Some u

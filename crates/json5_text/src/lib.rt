@@ -13,6 +13,7 @@ mod front;
 pub mod input;
 pub mod key_text;
 mod keys;
+pub mod laws;
 pub mod lookup;
 mod names;
 mod nesting;

@@ -3,7 +3,7 @@
 ghost use Rattle.std.specs.Prelude.{◌≡◌, option_map};
 ghost use Rattle.std.specs.Str.{chars};
 ghost use Rattle.json5_text.specs.ValueViews.{value_of, items_view, fields_view};
-ghost use Rattle.json5_text.specs.ValueLookups.{is_null, boolean_of, text_of, items_in, fields_in, item_at, element_of, last_named, named_of};
+ghost use Rattle.json5_text.specs.ValueLookups.{is_null, boolean_of, whole_of, decimal_of, text_of, items_in, fields_in, item_at, element_of, last_named, named_of};
 
 use crate::decimal::Decimal;
 use crate::value::Value;
@@ -76,6 +76,27 @@ impl Value {
     {
         match self {
             Value::Bool(truth) => Some(*truth),
+            _ => None,
+        }
+    }
+
+    /// The whole number, if it is one.
+    pub fn as_whole(&self) -> Option<Whole>
+        ensures { result ≡ whole_of (value_of self.now) }
+    {
+        match self {
+            Value::Whole(number) => Some(*number),
+            _ => None,
+        }
+    }
+
+    /// The decimal, if it is one: a number with a point or an exponent, or past the range of `Whole`, infinity and not-a-number
+    /// included.
+    pub fn as_decimal(&self) -> Option<&Decimal>
+        ensures { option_map (λ number. number.now) result ≡ decimal_of (value_of self.now) }
+    {
+        match self {
+            Value::Decimal(number) => Some(number),
             _ => None,
         }
     }

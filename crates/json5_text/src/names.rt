@@ -1,11 +1,10 @@
 //! Identifiers (JSON5 section 3, ECMAScript 5.1 section 7.6).
 
-ghost use Rattle.std.specs.Prelude.{◌≡◌, ◌∷◌, string_bytes};
+ghost use Rattle.std.specs.Prelude.{◌≡◌, string_bytes};
 ghost use Rattle.std.specs.Str.{chars};
-ghost use Rattle.json5_grammar.specs.Characters.{backslash};
 ghost use Rattle.json5_grammar.specs.ReadTexts.{name_escape, identifier};
 ghost use Rattle.json5_text.specs.Answered.{Answers, AnswersCow, AnswersMore, Passes};
-ghost use Rattle.json5_text.specs.Scan.{SkipsAll};
+ghost use Rattle.json5_text.specs.Scan.{AtEscape, SkipsAll};
 ghost use Rattle.json5_text.specs.ScanNames.{fits, is_raw_part, name_at, item, AnswersRun, PutsEscape};
 
 use crate::char::{is_json5_identifier, is_json5_identifier_start};
@@ -82,7 +81,7 @@ fn read_escaped<'t>(
     escape: &'t str,
     after: &'t str,
 ) -> Result<(String, &'t str), Refusal>
-    requires { chars escape.now ≡ backslash ∷ chars after.now }
+    requires { AtEscape escape.now after.now }
     ensures { AnswersMore raw.now (name_at is_first (chars escape.now)) result }
 {
     let mut name = String::from_str(alloc, raw)?;
@@ -103,7 +102,7 @@ fn read_escaped<'t>(
 
 /// What follows a name, from its first escape on. `is_first` says that the name begins with the escape.
 fn skip_escaped<'t>(is_first: bool, escape: &'t str, after: &'t str) -> Result<&'t str, Refusal>
-    requires { chars escape.now ≡ backslash ∷ chars after.now }
+    requires { AtEscape escape.now after.now }
     ensures { Passes (name_at is_first (chars escape.now)) result }
 {
     let mut is_first = is_first;

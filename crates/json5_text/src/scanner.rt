@@ -1,12 +1,11 @@
 //! The scanner: the tokens of a text, one after another.
 
-ghost use Rattle.std.specs.Prelude.{◌≡◌, ℕ, Bool, List, [], ◌∷◌, ◌++◌, true, false, ◌==◌, ◌⊎◌, length, drop, Some, slice_get, IsTrue};
+ghost use Rattle.std.specs.Prelude.{◌≡◌, ℕ, List, [], ◌∷◌, ◌++◌, true, false, ◌==◌, ◌⊎◌, length, drop, Some, slice_get, IsTrue};
 ghost use Rattle.std.specs.Str.{all_scalars, chars, encode_utf8_all};
 ghost use Rattle.json5_grammar.specs.Characters.{NotBegun};
 ghost use Rattle.json5_text.specs.Cursor.{Cursor, offset_of, Took, IsOutOfMemory, Locates};
-ghost use Rattle.json5_text.specs.Cows.{cow_bytes, is_borrowed};
 ghost use Rattle.json5_text.specs.Errors.{IsCustomAt};
-ghost use Rattle.json5_text.specs.Keys.{StandsAt, KeyIs};
+ghost use Rattle.json5_text.specs.Keys.{StandsAt, IsTextOf, IsCowOf};
 ghost use Rattle.json5_text.specs.Scan.{InText, Leaves, LeavesAt, InUnread, IsWhere, MadeOf};
 ghost use Rattle.json5_text.specs.Takes.{PassesBlanks, TakesWord, TakesNumber, TakesOwned, TakesString, TakesName, TakesKey, PassesString, PassesName, PassesNumber};
 
@@ -188,7 +187,7 @@ impl<I: Input> Scanner<I> {
     /// The text of a key that this scanner took. Of another scanner's key it may be any part of the text that is read, or empty
     /// where the key's offsets are no places between characters.
     pub fn text_of<'t>(&'t self, key: &'t KeyText) -> &'t str
-        ensures { (u : List ℕ) (plain : Bool) → KeyIs self.now.input u plain key.now → result.now ≡ encode_utf8_all u }
+        ensures { IsTextOf self.now.input key.now result.now }
     {
         match key {
             KeyText::Plain { start, end } => between(self.input.as_text(), *start, *end),
@@ -364,7 +363,7 @@ impl<'de, I: Borrows<'de>> Scanner<I> {
     /// The text of a key that this scanner took, borrowed where the key holds no backslash; of another scanner's key as in
     /// `text_of`.
     pub fn borrowed_text_of(&self, key: KeyText) -> CowStr<'de>
-        ensures { (u : List ℕ) (plain : Bool) → KeyIs self.now.input u plain key → (is_borrowed result ≡ plain) × (cow_bytes result ≡ encode_utf8_all u) }
+        ensures { IsCowOf self.now.input key result }
     {
         match key {
             KeyText::Plain { start, end } => CowStr::Borrowed(between(

@@ -1,13 +1,12 @@
 //! Strings (JSON5 section 5, ECMAScript 5.1 section 7.8.4).
 
-ghost use Rattle.std.specs.Prelude.{◌≡◌, true, ◌∷◌, ◌++◌, OnOk, string_bytes};
+ghost use Rattle.std.specs.Prelude.{◌≡◌, ◌∷◌, ◌++◌, OnOk, string_bytes};
 ghost use Rattle.std.specs.Str.{chars, encode_utf8_all};
-ghost use Rattle.json5_grammar.specs.Characters.{backslash};
 ghost use Rattle.json5_grammar.specs.Strings.{is_raw, is_quote};
 ghost use Rattle.json5_grammar.specs.ReadTexts.{string};
 ghost use Rattle.json5_text.specs.Answered.{AnswersCow, AnswersOwned, AnswersMore, Passes};
 ghost use Rattle.json5_text.specs.Scan.{SkipsAll, in_list};
-ghost use Rattle.json5_text.specs.ScanStrings.{string_at, AnswersQuote, AnswersRun, PutsEscape};
+ghost use Rattle.json5_text.specs.ScanStrings.{AtEscapeIn, string_at, AnswersQuote, AnswersRun, PutsEscape};
 
 use crate::cow_str::CowStr;
 use crate::escapes::read_escape;
@@ -93,8 +92,7 @@ fn read_escaped<'t>(
     escape: &'t str,
     after: &'t str,
 ) -> Result<(String, &'t str), Refusal>
-    requires quote { is_quote quote ≡ true }
-    requires escape { chars escape.now ≡ backslash ∷ chars after.now }
+    requires { AtEscapeIn quote escape.now after.now }
     ensures { AnswersMore raw.now (string (quote ∷ chars escape.now)) result }
 {
     let mut text = String::from_str(alloc, raw)?;
@@ -113,8 +111,7 @@ fn read_escaped<'t>(
 
 /// What follows a string, from its first escape on.
 fn skip_escaped<'t>(quote: char, escape: &'t str, after: &'t str) -> Result<&'t str, Refusal>
-    requires quote { is_quote quote ≡ true }
-    requires escape { chars escape.now ≡ backslash ∷ chars after.now }
+    requires { AtEscapeIn quote escape.now after.now }
     ensures { Passes (string (quote ∷ chars escape.now)) result }
 {
     let mut escape = escape;

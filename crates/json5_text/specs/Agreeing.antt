@@ -1,0 +1,16 @@
+-- What equality, hash and order agree on.
+use Rattle.std.specs.Prelude.{◌≡◌, ◌↔◌, Bool, IsTrue}
+use Rattle.std.specs.declared.cmp.Ordering.{Ordering}
+use Rattle.std.specs.declared.cmp.Ordering.TheVariants.{Equal}
+
+-- the test tells what is the same from what isn't
+abbrev pub IsEquality : {A : Type 0} → (A → A → Bool) → Type 0
+IsEquality {A} eq = (x y : A) → IsTrue (eq x y) ↔ (x ≡ y)
+
+-- what is seen alike is hashed alike
+abbrev pub HashesBy : {A B H : Type 0} → (A → B) → (A → H) → Type 0
+HashesBy {A} view hash = (x y : A) → view x ≡ view y → hash x ≡ hash y
+
+-- two stand at the same place of the order exactly where they are seen alike
+abbrev pub OrdersBy : {A B : Type 0} → (A → B) → (A → A → Ordering) → Type 0
+OrdersBy {A} view order = (x y : A) → order x y ≡ Equal ↔ view x ≡ view y
