@@ -17,15 +17,15 @@ use Rattle.json5_text.specs.declared.error.Error.{Error}
 use Rattle.json5_ser.specs.Writes.{Seen, Wrote, Refuses, Writes}
 use Rattle.json5_ser.proofs.Joins.{Reaches, Reaches-none, Reaches-next, Reaches-exit}
 
-first : (a b : Bool) → (a && b) ≡ true → a ≡ true
+pub first : (a b : Bool) → (a && b) ≡ true → a ≡ true
 first true b e = refl
 first false b e = absurd (cc)
 
-second : (a b : Bool) → (a && b) ≡ true → b ≡ true
+pub second : (a b : Bool) → (a && b) ≡ true → b ≡ true
 second true b e = e
 second false b e = absurd (cc)
 
-both : (a b : Bool) → a ≡ true → b ≡ true → (a && b) ≡ true
+pub both : (a b : Bool) → a ≡ true → b ≡ true → (a && b) ≡ true
 both a b e f = ap (λ x. x && b) e ∙ f
 
 -- ---- letters, digits, points and minus

@@ -6,6 +6,10 @@ pub mod EscapesSplit
 pub mod DecimalPieces
 pub mod LoneRead
 pub mod Unmarked
+pub mod ReadBack
+pub mod Depths
+pub mod ReadTrees
+pub mod ValueTexts
 pub mod Writables
 pub mod LineStarts
 pub mod Remains
@@ -14,3 +18,4 @@ pub mod VariantOpened
 pub mod Members
 pub mod ValuesInside
 pub mod SpelledKeys
+pub mod HexPieces

@@ -2,16 +2,17 @@
 use Rattle.std.proofs.Common.{◌≡◌, ◌<◌, ◌≤◌, ℕ, suc, ◌+◌, length, get_or, drop, drop-cons, drop_of_length-le, add-one, List, [], ◌∷◌, Bool, true, false, Result, Ok, Err, refl, sym, ap, ◌∙◌, subst}
 use Rattle.std.specs.Prelude.{⊤}
 use Rattle.std.specs.Result.{IsErrAnd}
+use Rattle.std.specs.Borrow.{GName, MutBor}
 use Rattle.json5_text.specs.declared.error.Error.{Error}
 use Rattle.json5_grammar.specs.Characters.{comma_sign, colon_sign, space, left_bracket, right_bracket, left_brace, right_brace}
 use Rattle.json5_grammar.specs.Documents.{max_depth}
-use Rattle.json5_ser.specs.WrittenTrees.{Written, array, object, Elements, no_element, element, elements_of, Fields, no_field, field, fields_of, Key, named}
+use Rattle.json5_ser.specs.WrittenTrees.{Written, array, object, tuple_variant, struct_variant, Elements, no_element, element, elements_of, Fields, no_field, field, fields_of, Key, named}
 use Rattle.json5_ser.specs.Out.{Out, piece, ◌then◌, opening, closing, out, elements_out, fields_out, element_out, key_part, value_part, entry_out, variant_opening}
 use Rattle.json5_ser.specs.Writes.{Seen, Refuses, Writes, WritesTree}
-use Rattle.json5_ser.specs.Lending.{inner, seen, has_member, in_variant, Opened, Steps, outside, ending}
+use Rattle.json5_ser.specs.Lending.{inner, seen, has_member, in_variant, list_opening, object_opening, ListBegun, ObjectBegun, VariantListBegun, VariantObjectBegun, Steps, outside, ending}
 use Rattle.json5_ser.specs.declared.collection.SerializeCollection.{SerializeCollection}
 use Rattle.json5_ser.proofs.Joins.{Refuses-before, Writes-handed}
-use Rattle.json5_ser.proofs.Remains.{Remains, elements, fields, value, BeginsWith, then_assoc, remains_on, remains_refused, remains_all, ends_whole, closes_list, closes_object}
+use Rattle.json5_ser.proofs.Remains.{Rest, Remains, elements, fields, value, BeginsWith, then_assoc, remains_on, remains_refused, remains_all, ends_whole, closes_list, closes_object}
 
 -- ---- what a call writes is what remains first
 
@@ -35,11 +36,11 @@ variant_parts a b c d e f g =
     let inside = then_assoc c ((d then e) then f) g ∙ ap (λ o. c then o) (then_assoc (d then e) f g ∙ then_assoc d e (f then g)) in
     ap (λ o. a then (b then o)) inside ∙ sym (then_assoc a (b then (c then d)) x ∙ ap (λ o. a then o) (then_assoc b (c then d) x ∙ ap (λ o. b then o) (then_assoc c d x)))
 
-variant_list : (u : List ℕ) (ts : Elements) (d : ℕ) → out max_depth (object (field (named u) (array ts) no_field)) d ≡ variant_opening u left_bracket d then (elements_out max_depth ts (d + 1) false then (piece (comma_sign ∷ []) then closing d true right_brace))
+variant_list : (u : List ℕ) (ts : Elements) (d : ℕ) → out max_depth (tuple_variant u ts) d ≡ variant_opening u left_bracket d then (elements_out max_depth ts (d + 1) false then (piece (comma_sign ∷ []) then closing d true right_brace))
 variant_list u ts d =
     variant_parts (opening max_depth d left_brace) (key_part (d + 1) (named u)) (piece (colon_sign ∷ space ∷ [])) (opening max_depth (d + 1) left_bracket) (elements_out max_depth ts (d + 1) false) (piece (comma_sign ∷ [])) (closing d true right_brace)
 
-variant_object : (u : List ℕ) (fs : Fields) (d : ℕ) → out max_depth (object (field (named u) (object fs) no_field)) d ≡ variant_opening u left_brace d then (fields_out max_depth fs (d + 1) false then (piece (comma_sign ∷ []) then closing d true right_brace))
+variant_object : (u : List ℕ) (fs : Fields) (d : ℕ) → out max_depth (struct_variant u fs) d ≡ variant_opening u left_brace d then (fields_out max_depth fs (d + 1) false then (piece (comma_sign ∷ []) then closing d true right_brace))
 variant_object u fs d =
     variant_parts (opening max_depth d left_brace) (key_part (d + 1) (named u)) (piece (colon_sign ∷ space ∷ [])) (opening max_depth (d + 1) left_brace) (fields_out max_depth fs (d + 1) false) (piece (comma_sign ∷ [])) (closing d true right_brace)
 
@@ -54,10 +55,10 @@ list_refused ts at last e result p is = refused_first _ (opening max_depth at.de
 pub object_refused : {A : Type 0} (fs : Fields) (at last : Seen) (e : Error) (result : Result A Error) → Refuses (opening max_depth at.depth left_brace) at e last → IsErrAnd result (λ y. y ≡ e) → WritesTree (object fs) at result last
 object_refused fs at last e result p is = refused_first _ (opening max_depth at.depth left_brace) (fields_out max_depth fs at.depth false) at last e result refl p is
 
-pub variant_list_refused : {A : Type 0} (u : List ℕ) (ts : Elements) (at last : Seen) (e : Error) (result : Result A Error) → Refuses (variant_opening u left_bracket at.depth) at e last → IsErrAnd result (λ y. y ≡ e) → WritesTree (object (field (named u) (array ts) no_field)) at result last
+pub variant_list_refused : {A : Type 0} (u : List ℕ) (ts : Elements) (at last : Seen) (e : Error) (result : Result A Error) → Refuses (variant_opening u left_bracket at.depth) at e last → IsErrAnd result (λ y. y ≡ e) → WritesTree (tuple_variant u ts) at result last
 variant_list_refused u ts at last e result p is = refused_first _ (variant_opening u left_bracket at.depth) _ at last e result (variant_list u ts at.depth) p is
 
-pub variant_object_refused : {A : Type 0} (u : List ℕ) (fs : Fields) (at last : Seen) (e : Error) (result : Result A Error) → Refuses (variant_opening u left_brace at.depth) at e last → IsErrAnd result (λ y. y ≡ e) → WritesTree (object (field (named u) (object fs) no_field)) at result last
+pub variant_object_refused : {A : Type 0} (u : List ℕ) (fs : Fields) (at last : Seen) (e : Error) (result : Result A Error) → Refuses (variant_opening u left_brace at.depth) at e last → IsErrAnd result (λ y. y ≡ e) → WritesTree (struct_variant u fs) at result last
 variant_object_refused u fs at last e result p is = refused_first _ (variant_opening u left_brace at.depth) _ at last e result (variant_object u fs at.depth) p is
 
 item_first : {A : Type 0} (xs : List A) (i : ℕ) (x : A) → i < length xs → x ≡ get_or xs i x → drop i xs ≡ x ∷ drop (i + 1) xs
@@ -66,70 +67,84 @@ item_first xs i x h e = rw add-one (drop-cons xs i x h ∙ ap (λ y. y ∷ drop 
 module _ {W : Type 0} where
   -- ---- a collection was begun, and all its members remain
 
-  pub list_begun : (ts : Elements) {at : Seen} {c : SerializeCollection W} → Opened (opening max_depth at.depth left_bracket) true false at c → Remains (array ts) at c (elements ts)
-  list_begun ts {at} {c} o = remains_all (array ts) at c (elements ts) (opening max_depth at.depth left_bracket) false refl o refl
+  pub list_begun : (ts : Elements) {ser : MutBor Seen} {c : SerializeCollection W} → ListBegun ser c → Remains (array ts) ser.ghost_name ser.now c (elements ts)
+  list_begun ts {ser} {c} o = remains_all (array ts) ser c (elements ts) (list_opening ser) false refl o refl
 
-  pub object_begun : (fs : Fields) {at : Seen} {c : SerializeCollection W} → Opened (opening max_depth at.depth left_brace) false false at c → Remains (object fs) at c (fields fs)
-  object_begun fs {at} {c} o = remains_all (object fs) at c (fields fs) (opening max_depth at.depth left_brace) false refl o refl
+  pub object_begun : (fs : Fields) {ser : MutBor Seen} {c : SerializeCollection W} → ObjectBegun ser c → Remains (object fs) ser.ghost_name ser.now c (fields fs)
+  object_begun fs {ser} {c} o = remains_all (object fs) ser c (fields fs) (object_opening ser) false refl o refl
 
-  pub variant_list_begun : (u : List ℕ) (ts : Elements) {at : Seen} {c : SerializeCollection W} → Opened (variant_opening u left_bracket at.depth) true true at c → Remains (object (field (named u) (array ts) no_field)) at c (elements ts)
-  variant_list_begun u ts {at} {c} o = remains_all _ at c (elements ts) (variant_opening u left_bracket at.depth) true (variant_list u ts at.depth) o refl
+  pub variant_list_begun : (u : List ℕ) (ts : Elements) {ser : MutBor Seen} {c : SerializeCollection W} → VariantListBegun u ser c → Remains (tuple_variant u ts) ser.ghost_name ser.now c (elements ts)
+  variant_list_begun u ts {ser} {c} o = remains_all _ ser c (elements ts) (variant_opening u left_bracket ser.now.depth) true (variant_list u ts ser.now.depth) o refl
 
-  pub variant_object_begun : (u : List ℕ) (fs : Fields) {at : Seen} {c : SerializeCollection W} → Opened (variant_opening u left_brace at.depth) false true at c → Remains (object (field (named u) (object fs) no_field)) at c (fields fs)
-  variant_object_begun u fs {at} {c} o = remains_all _ at c (fields fs) (variant_opening u left_brace at.depth) true (variant_object u fs at.depth) o refl
+  pub variant_object_begun : (u : List ℕ) (fs : Fields) {ser : MutBor Seen} {c : SerializeCollection W} → VariantObjectBegun u ser c → Remains (struct_variant u fs) ser.ghost_name ser.now c (fields fs)
+  variant_object_begun u fs {ser} {c} o = remains_all _ ser c (fields fs) (variant_opening u left_brace ser.now.depth) true (variant_object u fs ser.now.depth) o refl
 
   -- ---- elements
 
-  pub element_on : {t u : Written} {at : Seen} {c n : SerializeCollection W} {ts : Elements} {x : ⊤} → Remains t at c (elements (element u ts)) → Steps (element_out (seen c).depth (out max_depth u (seen c).depth)) false c (Ok x) n → Remains t at n (elements ts)
-  element_on {t} {u} {at} {c} {n} {ts} {x} h s =
-      remains_on t at c n (elements (element u ts)) (elements ts) (element_out (seen c).depth (out max_depth u (seen c).depth)) x (first_element u ts (inner (in_variant c) at.depth) (seen c).depth (has_member c) h.depth) refl h s
+  pub element_on : {t u : Written} {name : GName} {at : Seen} {c n : SerializeCollection W} {ts : Elements} {x : ⊤} → Remains t name at c (elements (element u ts)) → Steps (element_out (seen c).depth (out max_depth u (seen c).depth)) false c (Ok x) n → Remains t name at n (elements ts)
+  element_on {t} {u} {name} {at} {c} {n} {ts} {x} h s =
+      remains_on t name at c n (elements (element u ts)) (elements ts) (element_out (seen c).depth (out max_depth u (seen c).depth)) x (first_element u ts (inner (in_variant c) at.depth) (seen c).depth (has_member c) h.depth) refl h s
 
-  pub element_refused : {A : Type 0} {t u : Written} {at : Seen} {c n : SerializeCollection W} {ts : Elements} {e : Error} (result : Result A Error) → Remains t at c (elements (element u ts))
-      → Steps (element_out (seen c).depth (out max_depth u (seen c).depth)) false c (Err e) n → IsErrAnd result (λ y. y ≡ e) → WritesTree t at result n.ser.now
-  element_refused {A} {t} {u} {at} {c} {n} {ts} {e} result h s is =
-      remains_refused t at c n (elements (element u ts)) (elements ts) (element_out (seen c).depth (out max_depth u (seen c).depth)) false e result (first_element u ts (inner (in_variant c) at.depth) (seen c).depth (has_member c) h.depth) h s is
+  pub element_refused : {A : Type 0} {t u : Written} {name : GName} {at : Seen} {c n : SerializeCollection W} {ts : Elements} {e : Error} (result : Result A Error) → Remains t name at c (elements (element u ts))
+      → Steps (element_out (seen c).depth (out max_depth u (seen c).depth)) false c (Err e) n → IsErrAnd result (λ y. y ≡ e) → {last lent : Seen} → lent ≡ n.ser.now → (name ≡ n.ser.ghost_name → last ≡ lent) → WritesTree t at result last
+  element_refused {A} {t} {u} {name} {at} {c} {n} {ts} {e} result h s is {last} {lent} dropped follows =
+      remains_refused t name at last lent c n (elements (element u ts)) (elements ts) (element_out (seen c).depth (out max_depth u (seen c).depth)) false e result (first_element u ts (inner (in_variant c) at.depth) (seen c).depth (has_member c) h.depth) h s is dropped follows
 
-  pub list_ended : {A : Type 0} {t : Written} {at : Seen} {c : SerializeCollection W} (n : Seen) (r : Result A Error) → Remains t at c (elements no_element) → Writes (ending c) (outside c) r n → WritesTree t at r n
-  list_ended {A} {t} {at} {c} n r h w = ends_whole (in_variant c) (has_member c) c.brackets right_bracket (out max_depth t at.depth) at (seen c) n r h.depth (closes_list c.brackets h.list) h.reaches w
+  pub list_ended : {A : Type 0} {t : Written} {name : GName} {at : Seen} {c : SerializeCollection W} (n : Seen) (r : Result A Error) → Remains t name at c (elements no_element) → Writes (ending c) (outside c) r n → {last : Seen} → (name ≡ c.ser.ghost_name → last ≡ n) → WritesTree t at r last
+  list_ended {A} {t} {name} {at} {c} n r h w {last} follows =
+      let whole_tree = ends_whole (in_variant c) (has_member c) c.brackets right_bracket (out max_depth t at.depth) at (seen c) n r h.depth (closes_list c.brackets h.list) h.reaches w in
+      subst (Writes (out max_depth t at.depth) at r) (sym (follows (sym h.same_reference))) whole_tree
 
-  pub next_item : {A : Type 0} (tree : A → Written) (xs : List A) (i : ℕ) (x : A) {t : Written} {at : Seen} {c : SerializeCollection W} → i < length xs → x ≡ get_or xs i x → Remains t at c (elements (elements_of tree (drop i xs)))
-      → Remains t at c (elements (element (tree x) (elements_of tree (drop (i + 1) xs))))
-  next_item tree xs i x {t} {at} {c} l e h = subst (λ ys. Remains t at c (elements (elements_of tree ys))) (item_first xs i x l e) h
+  pub next_item : {A : Type 0} (tree : A → Written) (xs : List A) (i : ℕ) (x : A) {t : Written} {name : GName} {at : Seen} {c : SerializeCollection W} → i < length xs → x ≡ get_or xs i x → Remains t name at c (elements (elements_of tree (drop i xs)))
+      → Remains t name at c (elements (element (tree x) (elements_of tree (drop (i + 1) xs))))
+  next_item tree xs i x {t} {name} {at} {c} l e h = subst (λ ys. Remains t name at c (elements (elements_of tree ys))) (item_first xs i x l e) h
 
-  pub no_item : {A : Type 0} (tree : A → Written) (xs : List A) (i : ℕ) {t : Written} {at : Seen} {c : SerializeCollection W} → length xs ≤ i → Remains t at c (elements (elements_of tree (drop i xs))) → Remains t at c (elements no_element)
-  no_item tree xs i {t} {at} {c} l h = subst (λ ys. Remains t at c (elements (elements_of tree ys))) (drop_of_length-le xs l) h
+  pub no_item : {A : Type 0} (tree : A → Written) (xs : List A) (i : ℕ) {t : Written} {name : GName} {at : Seen} {c : SerializeCollection W} → length xs ≤ i → Remains t name at c (elements (elements_of tree (drop i xs))) → Remains t name at c (elements no_element)
+  no_item tree xs i {t} {name} {at} {c} l h = subst (λ ys. Remains t name at c (elements (elements_of tree ys))) (drop_of_length-le xs l) h
 
   -- ---- keys and values
 
-  pub key_on : {t u : Written} {k : Key} {at : Seen} {c n : SerializeCollection W} {fs : Fields} {x : ⊤} → Remains t at c (fields (field k u fs)) → Steps (key_part (seen c).depth k) true c (Ok x) n → Remains t at n (value u fs)
-  key_on {t} {u} {k} {at} {c} {n} {fs} {x} h s =
-      remains_on t at c n (fields (field k u fs)) (value u fs) (key_part (seen c).depth k) x (first_key k u fs (inner (in_variant c) at.depth) (seen c).depth (has_member c) h.depth) refl h s
+  pub key_on : {t u : Written} {k : Key} {name : GName} {at : Seen} {c n : SerializeCollection W} {fs : Fields} {x : ⊤} → Remains t name at c (fields (field k u fs)) → Steps (key_part (seen c).depth k) true c (Ok x) n → Remains t name at n (value u fs)
+  key_on {t} {u} {k} {name} {at} {c} {n} {fs} {x} h s =
+      remains_on t name at c n (fields (field k u fs)) (value u fs) (key_part (seen c).depth k) x (first_key k u fs (inner (in_variant c) at.depth) (seen c).depth (has_member c) h.depth) refl h s
 
-  pub key_refused : {A : Type 0} {t u : Written} {k : Key} {at : Seen} {c n : SerializeCollection W} {fs : Fields} {e : Error} (result : Result A Error) → Remains t at c (fields (field k u fs))
-      → Steps (key_part (seen c).depth k) true c (Err e) n → IsErrAnd result (λ y. y ≡ e) → WritesTree t at result n.ser.now
-  key_refused {A} {t} {u} {k} {at} {c} {n} {fs} {e} result h s is =
-      remains_refused t at c n (fields (field k u fs)) (value u fs) (key_part (seen c).depth k) true e result (first_key k u fs (inner (in_variant c) at.depth) (seen c).depth (has_member c) h.depth) h s is
+  pub key_refused : {A : Type 0} {t u : Written} {k : Key} {name : GName} {at : Seen} {c n : SerializeCollection W} {fs : Fields} {e : Error} (result : Result A Error) → Remains t name at c (fields (field k u fs))
+      → Steps (key_part (seen c).depth k) true c (Err e) n → IsErrAnd result (λ y. y ≡ e) → {last lent : Seen} → lent ≡ n.ser.now → (name ≡ n.ser.ghost_name → last ≡ lent) → WritesTree t at result last
+  key_refused {A} {t} {u} {k} {name} {at} {c} {n} {fs} {e} result h s is {last} {lent} dropped follows =
+      remains_refused t name at last lent c n (fields (field k u fs)) (value u fs) (key_part (seen c).depth k) true e result (first_key k u fs (inner (in_variant c) at.depth) (seen c).depth (has_member c) h.depth) h s is dropped follows
 
-  pub value_on : {t u : Written} {at : Seen} {c n : SerializeCollection W} {fs : Fields} {x : ⊤} → Remains t at c (value u fs) → Steps (value_part (out max_depth u (seen c).depth)) false c (Ok x) n → Remains t at n (fields fs)
-  value_on {t} {u} {at} {c} {n} {fs} {x} h s =
-      remains_on t at c n (value u fs) (fields fs) (value_part (out max_depth u (seen c).depth)) x (first_value u fs (inner (in_variant c) at.depth) (seen c).depth (has_member c) h.depth) refl h s
+  pub value_on : {t u : Written} {name : GName} {at : Seen} {c n : SerializeCollection W} {fs : Fields} {x : ⊤} → Remains t name at c (value u fs) → Steps (value_part (out max_depth u (seen c).depth)) false c (Ok x) n → Remains t name at n (fields fs)
+  value_on {t} {u} {name} {at} {c} {n} {fs} {x} h s =
+      remains_on t name at c n (value u fs) (fields fs) (value_part (out max_depth u (seen c).depth)) x (first_value u fs (inner (in_variant c) at.depth) (seen c).depth (has_member c) h.depth) refl h s
 
-  pub value_refused : {A : Type 0} {t u : Written} {at : Seen} {c n : SerializeCollection W} {fs : Fields} {e : Error} (result : Result A Error) → Remains t at c (value u fs)
-      → Steps (value_part (out max_depth u (seen c).depth)) false c (Err e) n → IsErrAnd result (λ y. y ≡ e) → WritesTree t at result n.ser.now
-  value_refused {A} {t} {u} {at} {c} {n} {fs} {e} result h s is =
-      remains_refused t at c n (value u fs) (fields fs) (value_part (out max_depth u (seen c).depth)) false e result (first_value u fs (inner (in_variant c) at.depth) (seen c).depth (has_member c) h.depth) h s is
+  pub value_refused : {A : Type 0} {t u : Written} {name : GName} {at : Seen} {c n : SerializeCollection W} {fs : Fields} {e : Error} (result : Result A Error) → Remains t name at c (value u fs)
+      → Steps (value_part (out max_depth u (seen c).depth)) false c (Err e) n → IsErrAnd result (λ y. y ≡ e) → {last lent : Seen} → lent ≡ n.ser.now → (name ≡ n.ser.ghost_name → last ≡ lent) → WritesTree t at result last
+  value_refused {A} {t} {u} {name} {at} {c} {n} {fs} {e} result h s is {last} {lent} dropped follows =
+      remains_refused t name at last lent c n (value u fs) (fields fs) (value_part (out max_depth u (seen c).depth)) false e result (first_value u fs (inner (in_variant c) at.depth) (seen c).depth (has_member c) h.depth) h s is dropped follows
 
-  pub field_on : {t u : Written} {k : Key} {at : Seen} {c n : SerializeCollection W} {fs : Fields} {x : ⊤} → Remains t at c (fields (field k u fs)) → Steps (entry_out (seen c).depth k u) false c (Ok x) n → Remains t at n (fields fs)
-  field_on {t} {u} {k} {at} {c} {n} {fs} {x} h s =
-      remains_on t at c n (fields (field k u fs)) (fields fs) (entry_out (seen c).depth k u) x (first_entry k u fs (inner (in_variant c) at.depth) (seen c).depth (has_member c) h.depth) refl h s
+  pub field_on : {t u : Written} {k : Key} {name : GName} {at : Seen} {c n : SerializeCollection W} {fs : Fields} {x : ⊤} → Remains t name at c (fields (field k u fs)) → Steps (entry_out (seen c).depth k u) false c (Ok x) n → Remains t name at n (fields fs)
+  field_on {t} {u} {k} {name} {at} {c} {n} {fs} {x} h s =
+      remains_on t name at c n (fields (field k u fs)) (fields fs) (entry_out (seen c).depth k u) x (first_entry k u fs (inner (in_variant c) at.depth) (seen c).depth (has_member c) h.depth) refl h s
 
-  pub field_refused : {A : Type 0} {t u : Written} {k : Key} {at : Seen} {c n : SerializeCollection W} {fs : Fields} {e : Error} (result : Result A Error) → Remains t at c (fields (field k u fs))
-      → Steps (entry_out (seen c).depth k u) false c (Err e) n → IsErrAnd result (λ y. y ≡ e) → WritesTree t at result n.ser.now
-  field_refused {A} {t} {u} {k} {at} {c} {n} {fs} {e} result h s is =
-      remains_refused t at c n (fields (field k u fs)) (fields fs) (entry_out (seen c).depth k u) false e result (first_entry k u fs (inner (in_variant c) at.depth) (seen c).depth (has_member c) h.depth) h s is
+  pub field_refused : {A : Type 0} {t u : Written} {k : Key} {name : GName} {at : Seen} {c n : SerializeCollection W} {fs : Fields} {e : Error} (result : Result A Error) → Remains t name at c (fields (field k u fs))
+      → Steps (entry_out (seen c).depth k u) false c (Err e) n → IsErrAnd result (λ y. y ≡ e) → {last lent : Seen} → lent ≡ n.ser.now → (name ≡ n.ser.ghost_name → last ≡ lent) → WritesTree t at result last
+  field_refused {A} {t} {u} {k} {name} {at} {c} {n} {fs} {e} result h s is {last} {lent} dropped follows =
+      remains_refused t name at last lent c n (fields (field k u fs)) (fields fs) (entry_out (seen c).depth k u) false e result (first_entry k u fs (inner (in_variant c) at.depth) (seen c).depth (has_member c) h.depth) h s is dropped follows
 
-  pub same_entries : {K V : Type 0} (key : K → Key) (tree : V → Written) (es rest : List (K × V)) {t : Written} {at : Seen} {c : SerializeCollection W} → es ≡ rest → Remains t at c (fields (fields_of key tree es)) → Remains t at c (fields (fields_of key tree rest))
-  same_entries key tree es rest {t} {at} {c} e h = subst (λ l. Remains t at c (fields (fields_of key tree l))) e h
+  pub same_entries : {K V : Type 0} (key : K → Key) (tree : V → Written) (es rest : List (K × V)) {t : Written} {name : GName} {at : Seen} {c : SerializeCollection W} → es ≡ rest → Remains t name at c (fields (fields_of key tree es)) → Remains t name at c (fields (fields_of key tree rest))
+  same_entries key tree es rest {t} {name} {at} {c} e h = subst (λ l. Remains t name at c (fields (fields_of key tree l))) e h
 
-  pub object_ended : {A : Type 0} {t : Written} {at : Seen} {c : SerializeCollection W} (n : Seen) (r : Result A Error) → Remains t at c (fields no_field) → Writes (ending c) (outside c) r n → WritesTree t at r n
-  object_ended {A} {t} {at} {c} n r h w = ends_whole (in_variant c) (has_member c) c.brackets right_brace (out max_depth t at.depth) at (seen c) n r h.depth (closes_object c.brackets h.list) h.reaches w
+  pub object_ended : {A : Type 0} {t : Written} {name : GName} {at : Seen} {c : SerializeCollection W} (n : Seen) (r : Result A Error) → Remains t name at c (fields no_field) → Writes (ending c) (outside c) r n → {last : Seen} → (name ≡ c.ser.ghost_name → last ≡ n) → WritesTree t at r last
+  object_ended {A} {t} {name} {at} {c} n r h w {last} follows =
+      let whole_tree = ends_whole (in_variant c) (has_member c) c.brackets right_brace (out max_depth t at.depth) at (seen c) n r h.depth (closes_object c.brackets h.list) h.reaches w in
+      subst (Writes (out max_depth t at.depth) at r) (sym (follows (sym h.same_reference))) whole_tree
+
+  -- ---- loops
+
+  -- by the name of the reference that a loop begins with
+  pub in_loop : {t : Written} {name : GName} {at : Seen} {c : SerializeCollection W} {r : Rest} → Remains t name at c r → Remains t c.ser.ghost_name at c r
+  in_loop {t} {name} {at} {c} {r} h = subst (λ x. Remains t x at c r) (sym h.same_reference) h
+
+  -- by the name of the reference that was lent
+  pub out_of_loop : {t : Written} {name other : GName} {at : Seen} {c : SerializeCollection W} {r : Rest} → other ≡ name → Remains t other at c r → Remains t name at c r
+  out_of_loop {t} {name} {other} {at} {c} {r} e h = subst (λ x. Remains t x at c r) e h

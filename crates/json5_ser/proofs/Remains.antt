@@ -2,6 +2,7 @@
 use Rattle.std.proofs.Common.{◌≡◌, ℕ, ◌+◌, ◌-◌, List, [], ◌∷◌, ◌++◌, append_assoc, Bool, true, false, Result, Ok, Err, refl, sym, ap, ◌∙◌, subst, arith}
 use Rattle.std.specs.Prelude.{⊤}
 use Rattle.std.specs.Result.{IsErrAnd}
+use Rattle.std.specs.Borrow.{GName, MutBor}
 use Rattle.json5_text.specs.declared.error.Error.{Error}
 use Rattle.json5_grammar.specs.Characters.{comma_sign, right_bracket, right_brace}
 use Rattle.json5_grammar.specs.Documents.{max_depth}
@@ -38,8 +39,9 @@ rest_out (elements ts) d started = elements_out max_depth ts d started
 rest_out (fields fs) d started = fields_out max_depth fs d started
 rest_out (value t fs) d started = value_part (out max_depth t (d + 1)) then fields_out max_depth fs d true
 
--- of the tree t, which was begun at `at`, this remains to be written in the collection
-pub record Remains {W : Type 0} (t : Written) (at : Seen) (c : SerializeCollection W) (r : Rest) : Type 0 where
+-- of the tree t, which was begun at `at`, this remains to be written in the collection, which holds the reference of this name
+pub record Remains {W : Type 0} (t : Written) (name : GName) (at : Seen) (c : SerializeCollection W) (r : Rest) : Type 0 where
+  pub same_reference : c.ser.ghost_name ≡ name
   pub reaches : Reaches (out max_depth t at.depth) at (at_depth at.depth (seen c)) (within_variant (in_variant c) at.depth (rest_out r (inner (in_variant c) at.depth) (has_member c)))
   pub depth : (seen c).depth ≡ inner (in_variant c) at.depth + 1
   pub list : is_list c ≡ is_of_list r
@@ -128,34 +130,38 @@ same_inner : (v w : Bool) (d : ℕ) → w ≡ v → inner v d ≡ inner w d
 same_inner v w d e = ap (λ b. inner b d) (sym e)
 
 module _ {W : Type 0} where
-  pub remains_on : (t : Written) (at : Seen) (c n : SerializeCollection W) (r rest : Rest) (part : Out) (x : ⊤) → BeginsWith part rest r (inner (in_variant c) at.depth) (has_member c) → is_of_list r ≡ is_of_list rest
-      → Remains t at c r → Steps part (is_value rest) c (Ok x) n → Remains t at n rest
-  remains_on t at c n r rest part x e same h s =
+  pub remains_on : (t : Written) (name : GName) (at : Seen) (c n : SerializeCollection W) (r rest : Rest) (part : Out) (x : ⊤) → BeginsWith part rest r (inner (in_variant c) at.depth) (has_member c) → is_of_list r ≡ is_of_list rest
+      → Remains t name at c r → Steps part (is_value rest) c (Ok x) n → Remains t name at n rest
+  remains_on t name at c n r rest part x e same h s =
       let all = out max_depth t at.depth in
       let d = at.depth in
       let on = Reaches-next all part (rest_in (in_variant c) d rest true) at (at_depth d (seen c)) (at_depth d (seen n)) (left_first all part at (at_depth d (seen c)) (in_variant c) r rest (has_member c) e h.reaches) (Wrote-at d part (seen c) (seen n) s.writes) in
       record {
+        same_reference = s.same_reference ∙ h.same_reference;
         reaches = subst (λ v. Reaches all at (at_depth d (seen n)) (rest_in v d rest (has_member n))) (sym s.variant) (subst (λ b. Reaches all at (at_depth d (seen n)) (rest_in (in_variant c) d rest b)) (sym s.started) on);
         depth = s.writes.depth ∙ (h.depth ∙ ap (λ k. k + 1) (same_inner (in_variant c) (in_variant n) d s.variant));
         list = s.list ∙ (h.list ∙ same);
         pending = s.pending;
       }
 
-  pub remains_refused : {A : Type 0} (t : Written) (at : Seen) (c n : SerializeCollection W) (r rest : Rest) (part : Out) (pending : Bool) (e : Error) (result : Result A Error)
-      → BeginsWith part rest r (inner (in_variant c) at.depth) (has_member c) → Remains t at c r → Steps part pending c (Err e) n → IsErrAnd result (λ y. y ≡ e) → WritesTree t at result n.ser.now
-  remains_refused t at c n r rest part pending e result b h s is =
+  pub remains_refused : {A : Type 0} (t : Written) (name : GName) (at last lent : Seen) (c n : SerializeCollection W) (r rest : Rest) (part : Out) (pending : Bool) (e : Error) (result : Result A Error)
+      → BeginsWith part rest r (inner (in_variant c) at.depth) (has_member c) → Remains t name at c r → Steps part pending c (Err e) n → IsErrAnd result (λ y. y ≡ e) → lent ≡ n.ser.now → (name ≡ n.ser.ghost_name → last ≡ lent) → WritesTree t at result last
+  remains_refused t name at last lent c n r rest part pending e result b h s is dropped follows =
       let all = out max_depth t at.depth in
       let d = at.depth in
       let left = left_first all part at (at_depth d (seen c)) (in_variant c) r rest (has_member c) b h.reaches in
       let refused = left.refused (at_depth d (seen n)) e (Refuses-before part (rest_in (in_variant c) d rest true) (at_depth d (seen c)) (at_depth d (seen n)) e (Refuses-at d d part (seen c) (seen n) e s.writes)) in
-      Writes-handed all at n.ser.now e result is (Refuses-lender all at n.ser.now d n.failed e s.blocks refused)
+      let where_left = Writes-handed all at n.ser.now e result is (Refuses-lender all at n.ser.now d n.failed e s.blocks refused) in
+      subst (Writes all at result) (sym (follows (sym (s.same_reference ∙ h.same_reference)) ∙ dropped)) where_left
 
-  pub remains_all : (t : Written) (at : Seen) (c : SerializeCollection W) (r : Rest) (o : Out) (v : Bool) → out max_depth t at.depth ≡ o then rest_in v at.depth r false → Opened o (is_of_list r) v at c → is_value r ≡ false → Remains t at c r
-  remains_all t at c r o v e p first =
+  pub remains_all : (t : Written) (ser : MutBor Seen) (c : SerializeCollection W) (r : Rest) (o : Out) (v : Bool) → out max_depth t ser.now.depth ≡ o then rest_in v ser.now.depth r false → Opened o (is_of_list r) v ser c → is_value r ≡ false → Remains t ser.ghost_name ser.now c r
+  remains_all t ser c r o v e p first =
+      let at = ser.now in
       let d = at.depth in
       let all = out max_depth t d in
       let begun = subst (λ x. Reaches x at (at_depth d (seen c)) (rest_in v d r false)) (sym e) (Reaches-first o (rest_in v d r false) at (at_depth d (seen c)) p.wrote) in
       record {
+        same_reference = p.same_reference;
         reaches = subst (λ b. Reaches all at (at_depth d (seen c)) (rest_in b d r (has_member c))) (sym p.variant) (subst (λ b. Reaches all at (at_depth d (seen c)) (rest_in v d r b)) (sym p.empty) begun);
         depth = p.depth ∙ ap (λ k. k + 1) (same_inner v (in_variant c) d p.variant);
         list = p.list;

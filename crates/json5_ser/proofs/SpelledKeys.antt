@@ -52,11 +52,11 @@ spelled_quoted t h = ap (λ q. q ∷ escaped_all q t ++ q ∷ []) (quote_is t h)
 
 -- ---- which are identifiers
 
-abbrev run : ℕ → ℕ → List ℕ
+abbrev pub run : ℕ → ℕ → List ℕ
 run low zero = []
 run low (suc n) = low ∷ run (suc low) n
 
-not_in_run : (f : ℕ → Bool) (low n c : ℕ) → list_all (λ x. not (f x)) (run low n) ≡ true → low ≤ c → c < low + n → f c ≡ false
+pub not_in_run : (f : ℕ → Bool) (low n c : ℕ) → list_all (λ x. not (f x)) (run low n) ≡ true → low ≤ c → c < low + n → f c ≡ false
 not_in_run f low zero c e l h = absurd (omega arith)
 not_in_run f low (suc n) c e l h = by_values (c == low) refl (λ m. not_in_run f (suc low) n c p.1 m (omega arith))
   where
@@ -120,11 +120,17 @@ decimal_name (nan false) n = words_are_names.1
 decimal_name (finite true ds e) n = no_name_from (decimal_text (finite true ds e)) refl
 decimal_name (finite false ds e) n = no_name_from (digits_text ds e) (low_digits ds e n.digits)
 
+pub bare_name : (t : List ℕ) → is_name t ≡ true → key_text t ≡ t
+bare_name t h = ap (λ b. if b then t else quoted_text t) h
+
+pub quoted_name : (t : List ℕ) → is_name t ≡ false → key_text t ≡ quoted_text t
+quoted_name t h = ap (λ b. if b then t else quoted_text t) h
+
 pub bare_key : (d : Decimal) → is_name (decimal_text d) ≡ true → key_text (decimal_text d) ≡ decimal_text d
-bare_key d h = ap (λ b. if b then decimal_text d else quoted_text (decimal_text d)) h
+bare_key d h = bare_name (decimal_text d) h
 
 pub quoted_key : (d : Decimal) → Normal d → is_name (decimal_text d) ≡ false → key_text (decimal_text d) ≡ 34 ∷ decimal_text d ++ 34 ∷ []
-quoted_key d n h = ap (λ b. if b then decimal_text d else quoted_text (decimal_text d)) h ∙ spelled_quoted (decimal_text d) (ascii_decimal d n)
+quoted_key d n h = quoted_name (decimal_text d) h ∙ spelled_quoted (decimal_text d) (ascii_decimal d n)
 
 pub minus_no_name : (d : Decimal) (m : Bool) → Normal d → m ≡ is_minus d → m ≡ true → is_name (decimal_text d) ≡ false
 minus_no_name d m n e h = decimal_name d n ∙ ap (λ b. not b && (is_infinity d || is_not_a_number d)) (sym e ∙ h)

@@ -1,10 +1,11 @@
 -- A collection, and the serializer that is lent to it.
-use Rattle.std.specs.Prelude.{◌≡◌, ℕ, ◌+◌, ◌-◌, [], ◌∷◌, Bool, true, false, Result, OnOk, OnErr, IfErr, MatchResult, ⊤}
+use Rattle.std.specs.Prelude.{◌≡◌, ℕ, ◌+◌, ◌-◌, List, [], ◌∷◌, Bool, true, false, Result, OnOk, OnErr, IfErr, MatchResult, ⊤}
 use Rattle.std.specs.Borrow.{Fml, RattleType, MutBor, RestsIfErr}
 use Rattle.std.specs.declared.io.Write as write
-use Rattle.json5_grammar.specs.Characters.{comma_sign, right_brace}
+use Rattle.json5_grammar.specs.Characters.{comma_sign, left_bracket, left_brace, right_brace}
+use Rattle.json5_grammar.specs.Documents.{max_depth}
 use Rattle.json5_text.specs.declared.error.Error.{Error}
-use Rattle.json5_ser.specs.Out.{Out, piece, ◌then◌, closing}
+use Rattle.json5_ser.specs.Out.{Out, piece, ◌then◌, opening, closing, variant_opening}
 use Rattle.json5_ser.specs.Writes.{Seen, Wrote, Refuses, Writes, at_depth}
 use Rattle.json5_ser.specs.Brackets.{closing_sign, is_square}
 use Rattle.json5_ser.specs.Stages.{is_started, is_pending}
@@ -21,6 +22,13 @@ within_variant false d o = o
 abbrev pub inner : Bool → ℕ → ℕ
 inner true d = d + 1
 inner false d = d
+
+-- the bracket of a list, and of an object, with which this serializer goes on
+abbrev pub list_opening : MutBor Seen → Out
+list_opening ser = opening max_depth ser.now.depth left_bracket
+
+abbrev pub object_opening : MutBor Seen → Out
+object_opening ser = opening max_depth ser.now.depth left_brace
 
 module _ {W : Type 0} where
   -- the serializer as the calls of the collection see it: failed where one of them was refused
@@ -42,19 +50,30 @@ module _ {W : Type 0} where
   abbrev pub in_variant : SerializeCollection W → Bool
   in_variant c = c.in_variant
 
-  -- the collection holds this serializer
-  abbrev pub Holds : MutBor Seen → SerializeCollection W → Type 0
-  Holds ser c = c.ser.ghost_name ≡ ser.ghost_name
-
-  -- a new collection, of which this was written
-  pub record Opened (o : Out) (of_list of_variant : Bool) (old : Seen) (c : SerializeCollection W) : Type 0 where
-    pub wrote : Wrote o old (at_depth old.depth (seen c))
-    pub depth : (seen c).depth ≡ inner of_variant old.depth + 1
+  -- a new collection, to which this serializer is lent, and of which this was written
+  pub record Opened (o : Out) (of_list of_variant : Bool) (ser : MutBor Seen) (c : SerializeCollection W) : Type 0 where
+    pub same_reference : c.ser.ghost_name ≡ ser.ghost_name
+    pub wrote : Wrote o ser.now (at_depth ser.now.depth (seen c))
+    pub depth : (seen c).depth ≡ inner of_variant ser.now.depth + 1
     pub blocks : c.ser.now.failed ≡ true
     pub list : is_list c ≡ of_list
     pub variant : in_variant c ≡ of_variant
     pub empty : has_member c ≡ false
     pub pending : key_pending c ≡ false
+
+  -- a list, and an object, that was begun
+  abbrev pub ListBegun : MutBor Seen → SerializeCollection W → Type 0
+  ListBegun ser c = Opened (list_opening ser) true false ser c
+
+  abbrev pub ObjectBegun : MutBor Seen → SerializeCollection W → Type 0
+  ObjectBegun ser c = Opened (object_opening ser) false false ser c
+
+  -- the same as what a variant of this name holds
+  abbrev pub VariantListBegun : List ℕ → MutBor Seen → SerializeCollection W → Type 0
+  VariantListBegun name ser c = Opened (variant_opening name left_bracket ser.now.depth) true true ser c
+
+  abbrev pub VariantObjectBegun : List ℕ → MutBor Seen → SerializeCollection W → Type 0
+  VariantObjectBegun name ser c = Opened (variant_opening name left_brace ser.now.depth) false true ser c
 
   -- a call that has this text to write, after which a key waits for its value or none does. It blocks the serializer again
   pub record Steps (o : Out) (pending_next : Bool) (old : SerializeCollection W) (result : Result ⊤ Error) (new : SerializeCollection W) : Type 0 where
@@ -92,3 +111,12 @@ module _ (W : RattleType) (g : write.Ghosts W.Denot) where
   -- where it refuses the text o, the serializer ends so, and else as the collection leaves it
   abbrev pub lends_serializer : Out → MutBor Seen → Result (SerializeCollection W.Denot) Error → Fml
   lends_serializer o ser result = RestsIfErr (the_row W g) ser (λ c. c.ser.ghost_name) result (λ last. IfErr result (λ e. Refuses o ser.now e last))
+
+  abbrev pub lends_list : MutBor Seen → Result (SerializeCollection W.Denot) Error → Fml
+  lends_list ser result = lends_serializer (list_opening ser) ser result
+
+  abbrev pub lends_object : MutBor Seen → Result (SerializeCollection W.Denot) Error → Fml
+  lends_object ser result = lends_serializer (object_opening ser) ser result
+
+  abbrev pub lends_variant : List ℕ → ℕ → MutBor Seen → Result (SerializeCollection W.Denot) Error → Fml
+  lends_variant name bracket ser result = lends_serializer (variant_opening name bracket ser.now.depth) ser result

@@ -1,6 +1,7 @@
 -- Which texts of a written tree are plain, and the tree without these marks.
-use Rattle.std.specs.Prelude.{ℕ, List, Bool, ◌||◌, not}
+use Rattle.std.specs.Prelude.{ℕ, List, Bool, ◌||◌, not, ⊤}
 use Rattle.json5_grammar.specs.Strings.{holds_backslash}
+use Rattle.json5_grammar.specs.NumberText.{IsNumber}
 use Rattle.json5_grammar.specs.Quoting.{quoted_text, is_name}
 use Rattle.json5_grammar.specs.Trees as marked
 use Rattle.json5_grammar.specs.Trees.{Tree, Trees, Pairs, no_more, more, no_pair, pair}
@@ -50,3 +51,22 @@ abbrev mutual
   pub unmarked_fields : Pairs → Fields
   unmarked_fields no_pair = no_field
   unmarked_fields (pair u plain t ps) = field (named u) (unmarked t) (unmarked_fields ps)
+
+-- each number has a text, and each key is one
+abbrev mutual
+  pub IsSpelled : Written → Type 0
+  IsSpelled written.null = ⊤
+  IsSpelled (written.boolean b) = ⊤
+  IsSpelled (written.number n) = IsNumber n
+  IsSpelled (written.text u) = ⊤
+  IsSpelled (written.array ts) = AreSpelled ts
+  IsSpelled (written.object fs) = FieldsAreSpelled fs
+
+  pub AreSpelled : Elements → Type 0
+  AreSpelled no_element = ⊤
+  AreSpelled (element t ts) = IsSpelled t × AreSpelled ts
+
+  pub FieldsAreSpelled : Fields → Type 0
+  FieldsAreSpelled no_field = ⊤
+  FieldsAreSpelled (field (named u) t fs) = IsSpelled t × FieldsAreSpelled fs
+  FieldsAreSpelled (field bad t fs) = ⊥

@@ -1,6 +1,20 @@
 -- The serializer that is lent to a key.
+use Rattle.std.specs.Prelude.{Result}
+use Rattle.json5_grammar.specs.Values.{null_text}
+use Rattle.json5_text.specs.declared.error.Error.{Error}
+use Rattle.json5_ser.specs.WrittenTrees.{named, bad}
 use Rattle.json5_ser.specs.Writes.{Seen}
+use Rattle.json5_ser.specs.Keys.{WritesKey}
 use Rattle.json5_ser.specs.declared.key.MapKey.{MapKey}
 
-abbrev pub waiting : {W : Type 0} → MapKey W → Seen
-waiting key = key.ser.now
+module _ {W : Type 0} where
+  abbrev pub waiting : MapKey W → Seen
+  waiting key = key.ser.now
+
+  -- a call that writes `null` as the key
+  abbrev pub WritesNull : {A : Type 0} → MapKey W → Result A Error → Seen → Type 0
+  WritesNull key result new = WritesKey (named null_text) (waiting key) result new
+
+  -- a call of what is no key
+  abbrev pub RefusesKey : {A : Type 0} → MapKey W → Result A Error → Seen → Type 0
+  RefusesKey key result new = WritesKey bad (waiting key) result new

@@ -41,6 +41,16 @@ abbrev pub option_tree : {A : Type 0} → (A → Written) → Option A → Writt
 option_tree tree None = null
 option_tree tree (Some x) = tree x
 
+-- a variant that holds something: an object of its name and of that
+abbrev pub newtype_variant : List ℕ → Written → Written
+newtype_variant name t = object (field (named name) t no_field)
+
+abbrev pub tuple_variant : List ℕ → Elements → Written
+tuple_variant name ts = newtype_variant name (array ts)
+
+abbrev pub struct_variant : List ℕ → Fields → Written
+struct_variant name fs = newtype_variant name (object fs)
+
 -- the fields of the entries of a map
 abbrev pub fields_of : {K V : Type 0} → (K → Key) → (V → Written) → List (K × V) → Fields
 fields_of key tree [] = no_field

@@ -7,7 +7,7 @@ ghost use Rattle.std.specs.Str.{chars};
 ghost use Rattle.json5_grammar.specs.Characters.{left_bracket, left_brace};
 ghost use Rattle.json5_ser.specs.Brackets.{opening_sign};
 ghost use Rattle.json5_ser.specs.WrittenTrees.{named};
-ghost use Rattle.json5_ser.specs.Out.{out, opening, element_out, key_part, value_part, entry_out, variant_opening};
+ghost use Rattle.json5_ser.specs.Out.{out, element_out, key_part, value_part, entry_out};
 ghost use Rattle.json5_ser.specs.Writes.{Writes};
 
 use crate::brackets::Brackets;
@@ -44,7 +44,7 @@ impl<W: Write + Drop> Drop for SerializeCollection<'_, W> {
 }
 
 impl<W: Write + Drop> Serializer<W> {
-    ghost use Rattle.json5_ser.specs.Lending.{Holds, Opened, lends_serializer};
+    ghost use Rattle.json5_ser.specs.Lending.{lends_list, lends_object, lends_variant, ListBegun, ObjectBegun, VariantListBegun, VariantObjectBegun};
 
     /// A member of a list.
     fn element<T: Serialize>(&mut self, value: &T) -> Result<()>
@@ -58,9 +58,8 @@ impl<W: Write + Drop> Serializer<W> {
     /// Begins a list, and blocks the serializer while the collection writes its elements. It refuses with `TooDeep` where 128
     /// brackets are open. The length changes nothing.
     pub fn serialize_seq(&mut self, _len: Option<usize>) -> Result<SerializeCollection<'_, W>>
-        ensures* lends { sem 𝓛 (lends_serializer W.row W.Write (opening max_depth self.old.depth left_bracket) self.entry result) }
-        ensures same_reference { IfOk result (Holds self.entry) }
-        ensures opens { IfOk result (Opened (opening max_depth self.old.depth left_bracket) true false self.old) }
+        ensures* lends { sem 𝓛 (lends_list W.row W.Write self.entry result) }
+        ensures begun { IfOk result (ListBegun self.entry) }
     {
         self.open(Brackets::Square)?;
         self.set_failed(true);
@@ -75,9 +74,8 @@ impl<W: Write + Drop> Serializer<W> {
 
     /// As `serialize_seq`.
     pub fn serialize_tuple(&mut self, _len: usize) -> Result<SerializeCollection<'_, W>>
-        ensures* lends { sem 𝓛 (lends_serializer W.row W.Write (opening max_depth self.old.depth left_bracket) self.entry result) }
-        ensures same_reference { IfOk result (Holds self.entry) }
-        ensures opens { IfOk result (Opened (opening max_depth self.old.depth left_bracket) true false self.old) }
+        ensures* lends { sem 𝓛 (lends_list W.row W.Write self.entry result) }
+        ensures begun { IfOk result (ListBegun self.entry) }
     {
         self.serialize_seq(None)
     }
@@ -88,9 +86,8 @@ impl<W: Write + Drop> Serializer<W> {
         _name: &'static str,
         _len: usize,
     ) -> Result<SerializeCollection<'_, W>>
-        ensures* lends { sem 𝓛 (lends_serializer W.row W.Write (opening max_depth self.old.depth left_bracket) self.entry result) }
-        ensures same_reference { IfOk result (Holds self.entry) }
-        ensures opens { IfOk result (Opened (opening max_depth self.old.depth left_bracket) true false self.old) }
+        ensures* lends { sem 𝓛 (lends_list W.row W.Write self.entry result) }
+        ensures begun { IfOk result (ListBegun self.entry) }
     {
         self.serialize_seq(None)
     }
@@ -98,9 +95,8 @@ impl<W: Write + Drop> Serializer<W> {
     /// Begins an object, and blocks the serializer while the collection writes its keys and values. It refuses with `TooDeep`
     /// where 128 brackets are open. The length changes nothing.
     pub fn serialize_map(&mut self, _len: Option<usize>) -> Result<SerializeCollection<'_, W>>
-        ensures* lends { sem 𝓛 (lends_serializer W.row W.Write (opening max_depth self.old.depth left_brace) self.entry result) }
-        ensures same_reference { IfOk result (Holds self.entry) }
-        ensures opens { IfOk result (Opened (opening max_depth self.old.depth left_brace) false false self.old) }
+        ensures* lends { sem 𝓛 (lends_object W.row W.Write self.entry result) }
+        ensures begun { IfOk result (ObjectBegun self.entry) }
     {
         self.open(Brackets::Curly)?;
         self.set_failed(true);
@@ -119,9 +115,8 @@ impl<W: Write + Drop> Serializer<W> {
         _name: &'static str,
         _len: usize,
     ) -> Result<SerializeCollection<'_, W>>
-        ensures* lends { sem 𝓛 (lends_serializer W.row W.Write (opening max_depth self.old.depth left_brace) self.entry result) }
-        ensures same_reference { IfOk result (Holds self.entry) }
-        ensures opens { IfOk result (Opened (opening max_depth self.old.depth left_brace) false false self.old) }
+        ensures* lends { sem 𝓛 (lends_object W.row W.Write self.entry result) }
+        ensures begun { IfOk result (ObjectBegun self.entry) }
     {
         self.serialize_map(None)
     }
@@ -135,9 +130,8 @@ impl<W: Write + Drop> Serializer<W> {
         variant: &'static str,
         _len: usize,
     ) -> Result<SerializeCollection<'_, W>>
-        ensures* lends { sem 𝓛 (lends_serializer W.row W.Write (variant_opening (chars variant.now) left_bracket self.old.depth) self.entry result) }
-        ensures same_reference { IfOk result (Holds self.entry) }
-        ensures opens { IfOk result (Opened (variant_opening (chars variant.now) left_bracket self.old.depth) true true self.old) }
+        ensures* lends { sem 𝓛 (lends_variant W.row W.Write (chars variant.now) left_bracket self.entry result) }
+        ensures begun { IfOk result (VariantListBegun (chars variant.now) self.entry) }
     {
         self.open_variant(variant, Brackets::Square)?;
         self.set_failed(true);
@@ -158,9 +152,8 @@ impl<W: Write + Drop> Serializer<W> {
         variant: &'static str,
         _len: usize,
     ) -> Result<SerializeCollection<'_, W>>
-        ensures* lends { sem 𝓛 (lends_serializer W.row W.Write (variant_opening (chars variant.now) left_brace self.old.depth) self.entry result) }
-        ensures same_reference { IfOk result (Holds self.entry) }
-        ensures opens { IfOk result (Opened (variant_opening (chars variant.now) left_brace self.old.depth) false true self.old) }
+        ensures* lends { sem 𝓛 (lends_variant W.row W.Write (chars variant.now) left_brace self.entry result) }
+        ensures begun { IfOk result (VariantObjectBegun (chars variant.now) self.entry) }
     {
         self.open_variant(variant, Brackets::Curly)?;
         self.set_failed(true);

@@ -1,7 +1,8 @@
 //! What types of one's own write that are no collections.
 
+ghost use Rattle.std.specs.Prelude.{Some};
 ghost use Rattle.std.specs.Str.{chars};
-ghost use Rattle.json5_ser.specs.WrittenTrees.{null, text, object, field, no_field, named};
+ghost use Rattle.json5_ser.specs.WrittenTrees.{null, text, option_tree, newtype_variant};
 ghost use Rattle.json5_ser.specs.Writes.{WritesTree};
 
 use crate::{Serialize, Serializer};
@@ -18,7 +19,7 @@ impl<W: Write + Drop> Serializer<W> {
 
     /// Writes the value.
     pub fn serialize_some<T: Serialize>(&mut self, value: &T) -> Result<()>
-        ensures { WritesTree (T.tree value.now) self.old result self.new }
+        ensures { WritesTree (option_tree T.tree (Some value.now)) self.old result self.new }
     {
         value.serialize(self)
     }
@@ -62,7 +63,7 @@ impl<W: Write + Drop> Serializer<W> {
         variant: &'static str,
         value: &T,
     ) -> Result<()>
-        ensures { WritesTree (object (field (named (chars variant.now)) (T.tree value.now) no_field)) self.old result self.new }
+        ensures { WritesTree (newtype_variant (chars variant.now) (T.tree value.now)) self.old result self.new }
     {
         let mut fields = self.serialize_map(Some(1))?;
         fields.serialize_field(variant, value)?;

@@ -2,11 +2,14 @@
 
 ghost use Rattle.std.specs.Prelude.{[], ◌∷◌, string_bytes};
 ghost use Rattle.std.specs.Str.{chars};
+ghost use Rattle.hex.specs.Hex.{encode_lower};
+ghost use Rattle.json5_text.specs.Bytes.{bytes_of};
 ghost use Rattle.json5_text.specs.Cows.{cow_bytes};
 ghost use Rattle.json5_grammar.specs.Numbers.{decimal};
 ghost use Rattle.json5_ser.specs.WrittenTrees.{null, boolean, number, natural, integer, text, option_tree};
 
 use crate::{Serialize, Serializer};
+use json5_text::byte_buf::ByteBuf;
 use json5_text::cow_str::CowStr;
 use json5_text::decimal::Decimal;
 use json5_text::error::Result;
@@ -137,6 +140,15 @@ impl Serialize for CowStr<'_> {
 
     fn serialize<W: Write + Drop>(&self, ser: &mut Serializer<W>) -> Result<()> {
         ser.serialize_str(self.as_str())
+    }
+}
+
+/// The text of the hexadecimal digits in lower case, two a byte.
+impl Serialize for ByteBuf {
+    ghost tree = { λ b. text (encode_lower (bytes_of b)) };
+
+    fn serialize<W: Write + Drop>(&self, ser: &mut Serializer<W>) -> Result<()> {
+        ser.serialize_bytes(self.as_slice())
     }
 }
 

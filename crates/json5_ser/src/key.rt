@@ -1,10 +1,10 @@
 //! Keys of objects, and what can be written as one.
 
-ghost use Rattle.std.specs.Prelude.{◌≡◌, ◌+◌, [], ◌∷◌, OnOk};
+ghost use Rattle.std.specs.Prelude.{◌≡◌, ◌+◌, [], ◌∷◌, Some, OnOk};
 ghost use Rattle.std.specs.Str.{chars};
-ghost use Rattle.json5_grammar.specs.Values.{null_text};
+ghost use Rattle.hex.specs.Hex.{encode_lower};
 ghost use Rattle.json5_grammar.specs.NumberText.{decimal_text};
-ghost use Rattle.json5_ser.specs.WrittenTrees.{Key, named, bad};
+ghost use Rattle.json5_ser.specs.WrittenTrees.{Key, named, option_key};
 ghost use Rattle.json5_ser.specs.Out.{out, key_part, value_part, entry_out, variant_opening, bool_text};
 ghost use Rattle.json5_grammar.specs.Documents.{max_depth};
 ghost use Rattle.json5_ser.specs.Brackets.{opening_sign};
@@ -113,7 +113,7 @@ impl<W: Write + Drop> Serializer<W> {
 }
 
 impl<W: Write + Drop> MapKey<'_, W> {
-    ghost use Rattle.json5_ser.specs.Waiting.{waiting};
+    ghost use Rattle.json5_ser.specs.Waiting.{waiting, WritesNull, RefusesKey};
 
     /// `true` or `false`.
     pub fn serialize_bool(self, value: bool) -> Result<()>
@@ -227,9 +227,17 @@ impl<W: Write + Drop> MapKey<'_, W> {
         ser.put_decimal_name(value)
     }
 
+    /// The hexadecimal digits in lower case, two a byte.
+    pub fn serialize_bytes(self, value: &[u8]) -> Result<()>
+        ensures { WritesKey (named (encode_lower value.now)) (waiting self.entry) result self.exit.0.now }
+    {
+        let MapKey { ser } = self;
+        ser.put_bytes_name(value)
+    }
+
     /// `null`.
     pub fn serialize_unit(self) -> Result<()>
-        ensures { WritesKey (named null_text) (waiting self.entry) result self.exit.0.now }
+        ensures { WritesNull self.entry result self.exit.0.now }
     {
         let MapKey { ser } = self;
         ser.put_name("null")
@@ -237,7 +245,7 @@ impl<W: Write + Drop> MapKey<'_, W> {
 
     /// `null`. The name changes nothing.
     pub fn serialize_unit_struct(self, _name: &'static str) -> Result<()>
-        ensures { WritesKey (named null_text) (waiting self.entry) result self.exit.0.now }
+        ensures { WritesNull self.entry result self.exit.0.now }
     {
         self.serialize_unit()
     }
@@ -256,7 +264,7 @@ impl<W: Write + Drop> MapKey<'_, W> {
 
     /// The key itself.
     pub fn serialize_some<K: SerializeKey>(self, key: &K) -> Result<()>
-        ensures { WritesKey (K.as_key key.now) (waiting self.entry) result self.exit.0.now }
+        ensures { WritesKey (option_key K.as_key (Some key.now)) (waiting self.entry) result self.exit.0.now }
     {
         key.serialize_key(self)
     }
@@ -274,7 +282,7 @@ impl<W: Write + Drop> MapKey<'_, W> {
 
     /// It is no key.
     pub fn serialize_none(self) -> Result<()>
-        ensures { WritesKey bad (waiting self.entry) result self.exit.0.now }
+        ensures { RefusesKey self.entry result self.exit.0.now }
     {
         let MapKey { ser } = self;
         ser.refuse(ErrorCode::InvalidKey)
@@ -282,7 +290,7 @@ impl<W: Write + Drop> MapKey<'_, W> {
 
     /// It is no key.
     pub fn serialize_seq(self, _len: Option<usize>) -> Result<()>
-        ensures { WritesKey bad (waiting self.entry) result self.exit.0.now }
+        ensures { RefusesKey self.entry result self.exit.0.now }
     {
         let MapKey { ser } = self;
         ser.refuse(ErrorCode::InvalidKey)
@@ -290,7 +298,7 @@ impl<W: Write + Drop> MapKey<'_, W> {
 
     /// It is no key.
     pub fn serialize_tuple(self, _len: usize) -> Result<()>
-        ensures { WritesKey bad (waiting self.entry) result self.exit.0.now }
+        ensures { RefusesKey self.entry result self.exit.0.now }
     {
         let MapKey { ser } = self;
         ser.refuse(ErrorCode::InvalidKey)
@@ -298,7 +306,7 @@ impl<W: Write + Drop> MapKey<'_, W> {
 
     /// It is no key.
     pub fn serialize_tuple_struct(self, _name: &'static str, _len: usize) -> Result<()>
-        ensures { WritesKey bad (waiting self.entry) result self.exit.0.now }
+        ensures { RefusesKey self.entry result self.exit.0.now }
     {
         let MapKey { ser } = self;
         ser.refuse(ErrorCode::InvalidKey)
@@ -311,7 +319,7 @@ impl<W: Write + Drop> MapKey<'_, W> {
         _index: u32,
         _variant: &'static str,
     ) -> Result<()>
-        ensures { WritesKey bad (waiting self.entry) result self.exit.0.now }
+        ensures { RefusesKey self.entry result self.exit.0.now }
     {
         let MapKey { ser } = self;
         ser.refuse(ErrorCode::InvalidKey)
@@ -325,7 +333,7 @@ impl<W: Write + Drop> MapKey<'_, W> {
         _variant: &'static str,
         _len: usize,
     ) -> Result<()>
-        ensures { WritesKey bad (waiting self.entry) result self.exit.0.now }
+        ensures { RefusesKey self.entry result self.exit.0.now }
     {
         let MapKey { ser } = self;
         ser.refuse(ErrorCode::InvalidKey)
@@ -333,7 +341,7 @@ impl<W: Write + Drop> MapKey<'_, W> {
 
     /// It is no key.
     pub fn serialize_map(self, _len: Option<usize>) -> Result<()>
-        ensures { WritesKey bad (waiting self.entry) result self.exit.0.now }
+        ensures { RefusesKey self.entry result self.exit.0.now }
     {
         let MapKey { ser } = self;
         ser.refuse(ErrorCode::InvalidKey)
@@ -341,7 +349,7 @@ impl<W: Write + Drop> MapKey<'_, W> {
 
     /// It is no key.
     pub fn serialize_struct(self, _name: &'static str, _len: usize) -> Result<()>
-        ensures { WritesKey bad (waiting self.entry) result self.exit.0.now }
+        ensures { RefusesKey self.entry result self.exit.0.now }
     {
         let MapKey { ser } = self;
         ser.refuse(ErrorCode::InvalidKey)
@@ -355,7 +363,7 @@ impl<W: Write + Drop> MapKey<'_, W> {
         _variant: &'static str,
         _len: usize,
     ) -> Result<()>
-        ensures { WritesKey bad (waiting self.entry) result self.exit.0.now }
+        ensures { RefusesKey self.entry result self.exit.0.now }
     {
         let MapKey { ser } = self;
         ser.refuse(ErrorCode::InvalidKey)

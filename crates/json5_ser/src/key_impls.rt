@@ -4,11 +4,14 @@ ghost use Rattle.std.specs.Prelude.{[], ◌∷◌, string_bytes};
 ghost use Rattle.std.specs.Str.{chars};
 ghost use Rattle.json5_grammar.specs.Values.{null_text};
 ghost use Rattle.json5_grammar.specs.NumberText.{decimal_text};
+ghost use Rattle.hex.specs.Hex.{encode_lower};
+ghost use Rattle.json5_text.specs.Bytes.{bytes_of};
 ghost use Rattle.json5_text.specs.Cows.{cow_bytes};
 ghost use Rattle.json5_ser.specs.WrittenTrees.{named, natural_key, integer_key, option_key};
 ghost use Rattle.json5_ser.specs.Out.{bool_text};
 
 use crate::{MapKey, SerializeKey};
+use json5_text::byte_buf::ByteBuf;
 use json5_text::cow_str::CowStr;
 use json5_text::decimal::Decimal;
 use json5_text::error::Result;
@@ -139,6 +142,15 @@ impl SerializeKey for CowStr<'_> {
 
     fn serialize_key<W: Write + Drop>(&self, key: MapKey<'_, W>) -> Result<()> {
         key.serialize_str(self.as_str())
+    }
+}
+
+/// The hexadecimal digits in lower case, two a byte.
+impl SerializeKey for ByteBuf {
+    ghost as_key = { λ b. named (encode_lower (bytes_of b)) };
+
+    fn serialize_key<W: Write + Drop>(&self, key: MapKey<'_, W>) -> Result<()> {
+        key.serialize_bytes(self.as_slice())
     }
 }
 

@@ -1,14 +1,18 @@
 //! The laws of written text, each the contract of a function that does nothing.
 
-ghost use Rattle.std.specs.Prelude.{◌≡◌, ℕ, List};
+ghost use Rattle.std.specs.Prelude.{◌≡◌, ◌≢◌, ◌↔◌, ◌≤◌, ◌<◌, ◌+◌, ℕ, List};
 ghost use Rattle.json5_grammar.specs.Numbers.{Number};
 ghost use Rattle.json5_grammar.specs.NumberText.{IsNumber, number_text};
-ghost use Rattle.json5_grammar.specs.Values.{Val};
+ghost use Rattle.json5_grammar.specs.Quoting.{key_text};
+ghost use Rattle.json5_grammar.specs.Trees.{Tree, depth};
+ghost use Rattle.json5_grammar.specs.Values.{Val, KeyText};
 ghost use Rattle.json5_grammar.specs.Documents.{Doc};
+ghost use Rattle.json5_text.specs.declared.value.Value.{Value};
+ghost use Rattle.json5_text.specs.ValueViews.{value_of};
+ghost use Rattle.json5_ser.specs.ValueTrees.{value_tree};
 ghost use Rattle.json5_ser.specs.WrittenTrees.{Written, number};
-ghost use Rattle.json5_ser.specs.Out.{out, piece, whole};
-ghost use Rattle.json5_ser.specs.Marks.{marks, unmarked};
-ghost use Rattle.json5_ser.specs.Lone.{IsLoneText};
+ghost use Rattle.json5_ser.specs.Out.{out, text_of, piece, whole, invalid_key, too_deep};
+ghost use Rattle.json5_ser.specs.Marks.{marks, unmarked, is_plain_key, IsSpelled};
 
 /// A number's text is whole exactly when it is a whole number in range, or a decimal in normal form.
 pub fn written_numbers()
@@ -16,15 +20,35 @@ pub fn written_numbers()
     ensures numbers { (limit d : ℕ) (n : Number) → (out limit (number n) d).stop ≡ whole → IsNumber n }
 {}
 
-/// What is written whole of a scalar is a value of the grammar, and a document: the scalar with its marks.
-pub fn scalars_read_back()
-    ensures value { (limit d : ℕ) (t : Written) (s : List ℕ) → IsLoneText limit d t s → Val s (marks t) }
-    ensures document { (limit d : ℕ) (t : Written) (s : List ℕ) → IsLoneText limit d t s → Doc limit s (marks t) }
+/// The text of a tree is whole exactly where each number in it has a text, each key is a text, and at most `limit` brackets are
+/// open at once, those before it included. Where only the brackets are too many, it stops at one of them.
+pub fn whole_texts()
+    ensures whole { (limit d : ℕ) (t : Written) → d ≤ limit → (out limit t d).stop ≡ whole ↔ (IsSpelled t × (d + depth (marks t) ≤ limit)) }
+    ensures too_deep { (limit d : ℕ) (t : Written) → d ≤ limit → IsSpelled t → (out limit t d).stop ≡ too_deep ↔ limit < d + depth (marks t) }
 {}
 
-/// Equal texts of scalars are written of equal scalars.
-pub fn one_scalar()
-    ensures { (limit other d e : ℕ) (t u : Written) (s : List ℕ) → IsLoneText limit d t s → IsLoneText other e u s → t ≡ u }
+/// What is written whole reads back: at any level it is a value of the grammar, and alone a document, whose tree is the one
+/// that was written, with its marks. A key is a key of the same text.
+pub fn written_reads_back()
+    ensures value { (limit d : ℕ) (t : Written) (s : List ℕ) → out limit t d ≡ piece s → Val s (marks t) }
+    ensures document { (limit d : ℕ) (t : Written) (s : List ℕ) → out limit t d ≡ piece s → Doc limit s (marks t) }
+    ensures key { (u : List ℕ) → KeyText (key_text u) u (is_plain_key u) }
+{}
+
+/// Each key of a value of any kind has a text, so that the value is written unless it is too deep.
+pub fn value_keys()
+    ensures { (v : Value) → (text_of (value_tree v)).stop ≢ invalid_key }
+{}
+
+/// The tree of a document can be written: its text is whole.
+pub fn read_is_written()
+    ensures { (limit : ℕ) (x : List ℕ) (t : Tree) → Doc limit x t → (out limit (unmarked t) 0).stop ≡ whole }
+{}
+
+/// Equal texts are written of equal trees, whatever their levels, and for values of any kind exactly of equal ones.
+pub fn one_tree_written()
+    ensures values { (v w : Value) → (text_of (value_tree v)).stop ≡ whole → text_of (value_tree v) ≡ text_of (value_tree w) ↔ value_of v ≡ value_of w }
+    ensures trees { (limit other d e : ℕ) (t u : Written) (s : List ℕ) → out limit t d ≡ piece s → out other u e ≡ piece s → t ≡ u }
 {}
 
 /// Without its marks a whole tree is itself again.

@@ -2,6 +2,7 @@
 #![tactic(auto)]
 
 mod brackets;
+mod bytes;
 mod collection;
 mod contents;
 mod decimals;

@@ -76,7 +76,7 @@ impl<W: Write + Drop> Serializer<W> {
     }
 
     /// Answers `Failed` where a call was refused before, or a collection holds the serializer.
-    fn live(&self) -> Result<()>
+    pub(crate) fn live(&self) -> Result<()>
         ensures live { OnOk result (self.now.failed ≡ false) }
         ensures failed { IfErr result (λ e. (self.now.failed ≡ true) × (kind_of e ≡ code codes.Failed) × (place_of e ≡ None)) }
     {

@@ -1,6 +1,9 @@
 //! Whole texts.
 
 ghost use Rattle.std.specs.Prelude.{string_bytes, IfOk, IfErr};
+ghost use Rattle.std.specs.Str.{chars};
+ghost use Rattle.json5_grammar.specs.Documents.{Doc};
+ghost use Rattle.json5_ser.specs.Marks.{marks};
 ghost use Rattle.json5_ser.specs.Out.{text_of};
 ghost use Rattle.json5_ser.specs.Writes.{WritesTree, fresh, ended};
 ghost use Rattle.json5_ser.specs.Texts.{IsText, RefusesText};
@@ -49,7 +52,8 @@ pub fn to_writer<T: Serialize, W: Write>(w: &mut W, value: &T) -> Result<()>
 }
 
 /// The text of a value, on one line where it is no list and no object. It refuses with `InvalidKey` or `TooDeep` where the text
-/// stops, and with `OutOfMemory` where memory ran out; no refusal has a place.
+/// stops, and with `OutOfMemory` where memory ran out; no refusal has a place. The text is a document (JSON5 section 2), and reads
+/// back as the tree that was written.
 ///
 /// ```text
 /// json5::to_string(alloc, &8080u16)?    // 8080
@@ -57,6 +61,7 @@ pub fn to_writer<T: Serialize, W: Write>(w: &mut W, value: &T) -> Result<()>
 /// ```
 pub fn to_string<T: Serialize>(alloc: Global, value: &T) -> Result<String>
     ensures whole { IfOk result (λ s. IsText (text_of (T.tree value.now)) (string_bytes s)) }
+    ensures reads_back { IfOk result (λ s. Doc 128 (chars (string_bytes s)) (marks (T.tree value.now))) }
     ensures refused { IfErr result (RefusesText (text_of (T.tree value.now))) }
 {
     let mut ser = Serializer::new(Vec::new(alloc));

@@ -6,6 +6,5 @@ use Rattle.json5_ser.proofs.value.+tree.Given as goal
 
 abbrev pub invariant-write_fields-loop-key : goal.invariant-write_fields-loop-key
 invariant-write_fields-loop-key g l = record {
-  same_reference : l.object.ser.ghost_name ≡ l.initial.object.ser.ghost_name;
-  remains : Remains (object (fields_of text_key value_tree l.fields)) l.fn.ser l.object (fields (fields_of text_key value_tree (drop l.key-index l.fields)));
+  remains : Remains (object (fields_of text_key value_tree l.fields)) l.initial.object.ser.ghost_name l.fn.ser l.object (fields (fields_of text_key value_tree (drop l.key-index l.fields)));
 }

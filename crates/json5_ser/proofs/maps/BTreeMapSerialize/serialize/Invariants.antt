@@ -5,6 +5,5 @@ use Rattle.json5_ser.proofs.maps.BTreeMapSerialize.serialize.Given as goal
 
 abbrev pub invariant-loop-key : goal.invariant-loop-key
 invariant-loop-key g l = record {
-  same_reference : l.fields.ser.ghost_name ≡ l.initial.fields.ser.ghost_name;
-  remains : Remains (object (fields_of g.K.SerializeKey.as_key g.V.Serialize.tree l.self.entries)) l.fn.ser l.fields (fields (fields_of g.K.SerializeKey.as_key g.V.Serialize.tree l.key-iterator));
+  remains : Remains (object (fields_of g.K.SerializeKey.as_key g.V.Serialize.tree l.self.entries)) l.initial.fields.ser.ghost_name l.fn.ser l.fields (fields (fields_of g.K.SerializeKey.as_key g.V.Serialize.tree l.key-iterator));
 }

@@ -12,9 +12,9 @@ returns-in_err-fields g c =
 pub returns-in_err-serialize_field : goal.returns-in_err-serialize_field
 returns-in_err-serialize_field g c =
     let fs = field (named (chars c.args.variant.now)) (g.T.Serialize.tree c.args.value.now) no_field in
-    search (rules, field_refused _ (object_begun fs c.in_ok-fields.ensures.opens) c.in_err-serialize_field.ensures c.from_residual-in_err-serialize_field.ensures.1)
+    field_refused _ (object_begun fs c.in_ok-fields.ensures.begun) c.in_err-serialize_field.ensures c.from_residual-in_err-serialize_field.ensures.1 c.drop-fields.ensures (search rules)
 
 pub returns : goal.returns
 returns g c =
     let fs = field (named (chars c.args.variant.now)) (g.T.Serialize.tree c.args.value.now) no_field in
-    search (rules, object_ended _ _ (field_on (object_begun fs c.in_ok-fields.ensures.opens) c.in_ok-serialize_field.ensures) c.end.ensures)
+    object_ended _ _ (field_on (object_begun fs c.in_ok-fields.ensures.begun) c.in_ok-serialize_field.ensures) c.end.ensures (search rules)

@@ -11,14 +11,14 @@ returns-in_err-list g c =
 pub returns-in_err-serialize_element : goal.returns-in_err-serialize_element
 returns-in_err-serialize_element g c =
     let ts = element (g.A.Serialize.tree c.args.self.now.0) (element (g.B.Serialize.tree c.args.self.now.1) no_element) in
-    search (rules, element_refused _ (list_begun ts c.in_ok-list.ensures.opens) c.in_err-serialize_element.ensures c.from_residual-in_err-serialize_element.ensures.1)
+    element_refused _ (list_begun ts c.in_ok-list.ensures.begun) c.in_err-serialize_element.ensures c.from_residual-in_err-serialize_element.ensures.1 c.drop-list.ensures (search rules)
 
 pub returns-in_err-serialize_element-2 : goal.returns-in_err-serialize_element-2
 returns-in_err-serialize_element-2 g c =
     let ts = element (g.A.Serialize.tree c.args.self.now.0) (element (g.B.Serialize.tree c.args.self.now.1) no_element) in
-    search (rules, element_refused _ (element_on (list_begun ts c.in_ok-list.ensures.opens) c.in_ok-serialize_element.ensures) c.in_err-serialize_element-2.ensures c.from_residual-in_err-serialize_element-2.ensures.1)
+    element_refused _ (element_on (list_begun ts c.in_ok-list.ensures.begun) c.in_ok-serialize_element.ensures) c.in_err-serialize_element-2.ensures c.from_residual-in_err-serialize_element-2.ensures.1 c.drop-list-in_err-serialize_element-2.ensures (search rules)
 
 pub returns : goal.returns
 returns g c =
     let ts = element (g.A.Serialize.tree c.args.self.now.0) (element (g.B.Serialize.tree c.args.self.now.1) no_element) in
-    search (rules, list_ended _ _ (element_on (element_on (list_begun ts c.in_ok-list.ensures.opens) c.in_ok-serialize_element.ensures) c.in_ok-serialize_element-2.ensures) c.end.ensures)
+    list_ended _ _ (element_on (element_on (list_begun ts c.in_ok-list.ensures.begun) c.in_ok-serialize_element.ensures) c.in_ok-serialize_element-2.ensures) c.end.ensures (search rules)

@@ -1,0 +1,5 @@
+use Rattle.json5_ser.proofs.ReadTrees.{read_written}
+use Rattle.json5_ser.proofs.laws.read_is_written.Goals as goal
+
+pub returns : goal.returns
+returns c = read_written

@@ -1,0 +1,6 @@
+use Rattle.json5_text.specs.ValueViews.{value_of}
+use Rattle.json5_ser.proofs.ValueTexts.{datum_named}
+use Rattle.json5_ser.proofs.laws.value_keys.Goals as goal
+
+pub returns : goal.returns
+returns c v h = datum_named 128 (value_of v) 0 h

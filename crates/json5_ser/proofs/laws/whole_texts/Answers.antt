@@ -1,0 +1,5 @@
+use Rattle.json5_ser.proofs.Depths.{whole_exactly, too_deep_exactly}
+use Rattle.json5_ser.proofs.laws.whole_texts.Goals as goal
+
+pub returns : goal.returns
+returns c = record { whole = whole_exactly; too_deep = too_deep_exactly }

@@ -1,0 +1,6 @@
+use Rattle.json5_ser.proofs.ReadBack.{whole_value, written_key}
+use Rattle.json5_ser.proofs.Depths.{whole_document}
+use Rattle.json5_ser.proofs.laws.written_reads_back.Goals as goal
+
+pub returns : goal.returns
+returns c = record { value = whole_value; document = whole_document; key = written_key }

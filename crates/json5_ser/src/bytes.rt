@@ -1,0 +1,60 @@
+//! Bytes, written as texts of hexadecimal digits.
+
+ghost use Rattle.std.specs.Prelude.{◌≡◌};
+ghost use Rattle.hex.specs.Hex.{encode_lower};
+ghost use Rattle.json5_grammar.specs.Quoting.{is_name};
+ghost use Rattle.json5_ser.specs.WrittenTrees.{text, named};
+ghost use Rattle.json5_ser.specs.Writes.{Writes, WritesTree};
+ghost use Rattle.json5_ser.specs.Keys.{WritesKey};
+ghost use Rattle.json5_ser.specs.Out.{piece};
+
+use crate::Serializer;
+use json5_text::error::Result;
+use std::io::Write;
+
+/// Whether the digits are an identifier: they begin with a letter.
+fn is_word(bytes: &[u8]) -> bool
+    ensures { result ≡ is_name (encode_lower bytes.now) }
+{
+    match bytes {
+        [first, ..] => *first >= 0xA0,
+        [] => false,
+    }
+}
+
+impl<W: Write + Drop> Serializer<W> {
+    /// Writes the digits in lower case, two a byte.
+    fn put_digits_of(&mut self, bytes: &[u8]) -> Result<()>
+        ensures { Writes (piece (encode_lower bytes.now)) self.old result self.new }
+    {
+        self.live()?;
+        let mut buffer = [0u8; 64];
+        for chunk in bytes.chunks(32) {
+            let digits = &mut buffer[..2 * chunk.len()];
+            let encoded = hex::encode_to_slice(chunk, digits);
+            encoded.unwrap();
+            let text = str::from_utf8(digits);
+            self.put(text.unwrap())?;
+        }
+        Ok(())
+    }
+
+    /// Writes bytes as the text of their hexadecimal digits in lower case, two a byte.
+    pub fn serialize_bytes(&mut self, value: &[u8]) -> Result<()>
+        ensures { WritesTree (text (encode_lower value.now)) self.old result self.new }
+    {
+        self.put("\"")?;
+        self.put_digits_of(value)?;
+        self.put("\"")
+    }
+
+    /// Writes the digits of bytes as a key.
+    pub(crate) fn put_bytes_name(&mut self, value: &[u8]) -> Result<()>
+        ensures { WritesKey (named (encode_lower value.now)) self.old result self.new }
+    {
+        if is_word(value) {
+            return self.put_digits_of(value);
+        }
+        self.serialize_bytes(value)
+    }
+}
