@@ -33,9 +33,9 @@ use Rattle.json5_de.specs.State.{State, GivesUp, cursor_of}
 use Rattle.json5_de.specs.Law.{StaysFailed, IsUnprompted}
 use Rattle.json5_de.specs.ConvertLists.{if_some}
 use Rattle.json5_de.specs.Faults.{AfterBlanks, in_blanks, after_gap, RefusedBy, RefusedByOrMemory}
-use Rattle.json5_de.specs.Keys.{TookKey, KeyConversion, GivesKey, CompletesKey, OneKeyAnswer, ReadsOneKey}
+use Rattle.json5_de.specs.Keys.{TookKey, KeyConversion, GivesKey, CompletesKey, OneKeyAnswer, ReadsOneKey, every_key}
 use Rattle.json5_de.specs.KeyRows.{KeyFault, KeyRow, NotKey, no_key, other_key, ReadsKeyAs, not_converted, coded_text_key, text_key, bytes_key, document_key, document_of, NotDocument, some_of}
-use Rattle.json5_de.specs.KeySteps.{TookKeyAt, every_key}
+use Rattle.json5_de.specs.KeySteps.{TookKeyAt}
 use Rattle.json5_de.specs.Rows.{Row, RefusedAs}
 use Rattle.json5_de.specs.Steps.{PassedGap, IsMismatch, IsMismatchOf, IsUndecoded}
 use Rattle.json5_de.specs.Texts.{ReadsDocument, RefusesReading}
@@ -158,7 +158,7 @@ key_lacks_memory row content old new last key e k m failed = refuses_found row c
 pub key_is_text : {V C : Type 0} {of_other : Option ErrorCode} (f : KeyConversion C) (content : V → C) (old new : State) (key : FoundKey) (v : V) → (k : TookKeyAt old new key) → f k.text k.plain ≡ Some (content v) → ReadsKeyAs (coded_text_key of_other f) content old new (Ok v)
 key_is_text f content old new key v k is = key_ok content f _ old new v (k.text, k.plain, took_key old new key k, is)
 
-mismatch_other : (of_other : Option ErrorCode) (input : List ℕ) (start : ℕ) (e : Error) → (of_other ≡ Some codes.Failed → ⊥) → IsMismatchOf of_other input start e → IsUnprompted e
+pub mismatch_other : (of_other : Option ErrorCode) (input : List ℕ) (start : ℕ) (e : Error) → (of_other ≡ Some codes.Failed → ⊥) → IsMismatchOf of_other input start e → IsUnprompted e
 mismatch_other of_other input start e unlike (inl m) = memory_other e m
 mismatch_other None input start e unlike (inr ((own, says), placed)) = λ k. let same : custom own ≡ code codes.Failed = sym says ∙ k in absurd (cc)
 mismatch_other (Some c) input start e unlike (inr (says, placed)) = λ k. let same : code c ≡ code codes.Failed = sym says ∙ k in unlike (ap Some (cc))

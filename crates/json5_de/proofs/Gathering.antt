@@ -24,11 +24,7 @@ use Rattle.json5_de.specs.Objects.{SeenMap, PairsRead, PairsLeft, ReadsAKey, Rea
 use Rattle.json5_de.specs.ObjectFaults.{KeyRefusedAtBrace, ValueRefusedAtBrace}
 use Rattle.json5_de.specs.Maps.{pair_content, pairs_of}
 use Rattle.json5_de.specs.MapFaults.{Sides, WithinMap, MapFault, RefusesMap, at_key, at_value}
-
--- a refusal was handed on
-handed_on : {T E : Type 0} (P : Result T E → Type 0) (e : E) (r : Result T E) → IsErrAnd r (λ y. y ≡ e) → P (Err e) → P r
-handed_on P e (Ok v) is p = absurd is
-handed_on P e (Err y) is p = subst (λ z. P (Err z)) (sym is) p
+use Rattle.json5_de.proofs.Loops.{handed_on}
 
 -- pairs that convert are left
 pub record LeftPairs {C D : Type 0} (keys : KeyConversion C) (values : Tree → Option D) (r : List ℕ) (now : SeenMap) : Type 0 where
@@ -65,7 +61,7 @@ module _ {K V C D : Type 0} (key : K → C) (value : V → D) (keys : KeyConvers
 
 module _ {K V C D : Type 0} (key : K → C) (value : V → D) (keys : KeyConversion C) (values : Tree → Option D) {old : State} where
   -- it begins, with no pair
-  pub begins : {A : Type 0} (seen : A → SeenMap) (a : A) → OpensMap seen old (Ok a) → ReadingPairs key value keys values old [] None (seen a)
+  pub begins : {A : Type 0} {Held : A → Type 0} (seen : A → SeenMap) (a : A) → OpensMap Held seen old (Ok a) → ReadingPairs key value keys values old [] None (seen a)
   begins seen a opens = record {
     first = (seen a).at.reader;
     opened = opens.bracket.opened.0;

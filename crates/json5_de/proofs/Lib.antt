@@ -17,7 +17,6 @@ pub mod WholeTexts
 pub mod FoundKeys
 pub mod TextScalars
 pub mod WholeDecimals
-pub mod ScalarsExpected
 pub mod WithoutMemory
 pub mod ArrayCodes
 pub mod OtherCodes
@@ -31,8 +30,13 @@ pub mod Own
 pub mod PassingSteps
 pub mod PassingMembers
 pub mod PassingValues
+pub mod Nesting
 pub mod PassingBrackets
 pub mod PassingTrees
+pub mod BuildingSteps
+pub mod BuildingRests
+pub mod BuildingTurns
+pub mod TreeCodes
 pub mod BytesDecoded
 pub mod Pairs
 pub mod PairCodes
@@ -40,4 +44,8 @@ pub mod MapContents
 pub mod MapsHashed
 pub mod MapsRead
 pub mod Gathering
-pub mod Fields
+pub mod Structs
+pub mod VariantNames
+pub mod VariantContents
+pub mod Spelled
+pub mod VariantEnds

@@ -36,7 +36,7 @@ count_values f (more t ts) vs e = let (c, rest, is, others, k) = both_parts (f t
 
 -- ---- how far it was read
 
-pub within : {A : Type 0} (es : Elements) (seen : A → Seen) (old : State) (a : A) (now : Seen) (ts : Trees) → OpensArray seen old (Ok a) → now.start ≡ (seen a).start → ElementsRead old ts now → Accepted es ts → Within es old now (count ts)
+pub within : {A : Type 0} {Held : A → Type 0} (es : Elements) (seen : A → Seen) (old : State) (a : A) (now : Seen) (ts : Trees) → OpensArray Held seen old (Ok a) → now.start ≡ (seen a).start → ElementsRead old ts now → Accepted es ts → Within es old now (count ts)
 within es seen old a now ts opens same read accepted = record {
   first = (seen a).reader;
   opened = opens.bracket.opened.0;
@@ -48,7 +48,7 @@ within es seen old a now ts opens same read accepted = record {
 }
 
 -- nothing of it yet
-pub begun : {A : Type 0} (es : Elements) (seen : A → Seen) (old : State) (a : A) → OpensArray seen old (Ok a) → Within es old (seen a) 0
+pub begun : {A : Type 0} {Held : A → Type 0} (es : Elements) (seen : A → Seen) (old : State) (a : A) → OpensArray Held seen old (Ok a) → Within es old (seen a) 0
 begun es seen old a opens = within es seen old a (seen a) no_more opens refl opens.read tt
 
 -- one element more

@@ -41,7 +41,7 @@ pub record Reading {V C : Type 0} (content : V → C) (f : Tree → Option C) (o
 -- ---- the loop's steps
 
 -- it begins, with no value
-pub begins : {A V C : Type 0} (content : V → C) (f : Tree → Option C) {old : State} {vs : List V} (seen : A → Seen) (a : A) → OpensArray seen old (Ok a) → vs ≡ [] → Reading content f old vs (seen a)
+pub begins : {A V C : Type 0} {Held : A → Type 0} (content : V → C) (f : Tree → Option C) {old : State} {vs : List V} (seen : A → Seen) (a : A) → OpensArray Held seen old (Ok a) → vs ≡ [] → Reading content f old vs (seen a)
 begins content f seen a opens e = record {
   first = (seen a).reader;
   opened = opens.bracket.opened.0;

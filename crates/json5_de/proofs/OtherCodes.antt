@@ -10,13 +10,12 @@ use Rattle.json5_grammar.specs.Numbers.{Number}
 use Rattle.json5_grammar.specs.StringFaults.{StringFault, EscapeFault, raw_terminator, string_ends, in_escape, digit_after_nul, escaped_digit, no_escape_digit, no_second_escape, unpaired, escape_ends}
 use Rattle.json5_text.specs.Tokens.{FaultyString, no_quote, string_missing, FaultyName, no_name, name_missing, FaultyKey, at_quote, at_name, FaultyWord, word_differs, word_ends, FaultyNumber, faulty, no_number, number_missing}
 use Rattle.json5_de.specs.Faults.{AfterBlanks, in_blanks, after_gap, NotNumber, faulty_number, other_number, NotText, faulty_text, other_text, Trailing, trailing}
-use Rattle.json5_de.specs.Scalars.{FaultyScalar, scalar_missing, no_scalar, in_null, in_true, in_false, in_text, in_number}
 use Rattle.json5_de.specs.declared.brackets.Brackets.{Brackets}
 use Rattle.json5_de.specs.Brackets.{AreSigns}
 use Rattle.json5_de.specs.Access.{NotClosed, NoBracket, other_sign, bracket_missing, not_here, after_comma, NotOpened, no_bracket, text_ends, too_deep}
 use Rattle.json5_de.specs.Seq.{NoNext, no_comma, comma_missing, in_blanks_after}
 use Rattle.json5_de.specs.Options.{NoOption, option_missing, faulty_null}
-use Rattle.json5_grammar.specs.Values.{null_text, true_text, false_text}
+use Rattle.json5_grammar.specs.Values.{null_text}
 
 -- no fault of the relation has this code
 abbrev pub Lacks : (List ℕ → Option ErrorCode → Option (List ℕ) → Type 0) → Type 0
@@ -102,17 +101,6 @@ faulty_name_lacks x reason place name_missing = λ e. absurd (cc)
 pub key_lacks : Lacks FaultyKey
 key_lacks x reason place (at_quote q r split h f) = faulty_string_lacks x reason place f
 key_lacks x reason place (at_name h f) = faulty_name_lacks x reason place f
-
--- ---- values of any kind
-
-pub scalar_lacks : Lacks FaultyScalar
-scalar_lacks x reason place scalar_missing = λ e. absurd (cc)
-scalar_lacks x reason place (no_scalar c r h) = λ e. absurd (cc)
-scalar_lacks x reason place (in_null h f) = word_lacks null_text codes.EofParsingNull codes.ExpectedNull (λ e. absurd (cc)) (λ e. absurd (cc)) x reason place f
-scalar_lacks x reason place (in_true h f) = word_lacks true_text codes.EofParsingBool codes.ExpectedBool (λ e. absurd (cc)) (λ e. absurd (cc)) x reason place f
-scalar_lacks x reason place (in_false h f) = word_lacks false_text codes.EofParsingBool codes.ExpectedBool (λ e. absurd (cc)) (λ e. absurd (cc)) x reason place f
-scalar_lacks x reason place (in_text h f) = faulty_string_lacks x reason place f
-scalar_lacks x reason place (in_number h f) = faulty_number_lacks x reason place f
 
 -- ---- brackets
 

@@ -57,7 +57,7 @@ key_here : (x y r u : List ℕ) (p : Bool) → IsAfterGap x y → ReadsKey x u p
 key_here x y r u p g k = record { front = []; spelling = k.spelling; split = key_at x y r u p g k; blank = Blanks.empty; key = k.key }
 
 -- and one that is read there is read after the gap
-key_there : (x y r u : List ℕ) (p : Bool) → IsAfterGap x y → ReadsKey y u p r → ReadsKey x u p r
+pub key_there : (x y r u : List ℕ) (p : Bool) → IsAfterGap x y → ReadsKey y u p r → ReadsKey x u p r
 key_there x y r u p g k =
     let at = key_at y y r u p (no_gap y g.solid) k in
     let head = key_head k.key in
@@ -89,7 +89,7 @@ begun_solid : (due : Bool) (x y : List ℕ) → Begun due x y → Solid y
 begun_solid false x y g = g.solid
 begun_solid true x y (z, comma, g) = g.solid
 
-no_key_begun : (y r u : List ℕ) (p : Bool) → Solid y → NotBegun begins_key y → ReadsKey y u p r → ⊥
+pub no_key_begun : (y r u : List ℕ) (p : Bool) → Solid y → NotBegun begins_key y → ReadsKey y u p r → ⊥
 no_key_begun y r u p solid n k =
     let at = key_at y y r u p (no_gap y solid) k in
     let head = key_head k.key in
@@ -180,7 +180,7 @@ expects_key due = record {
     at_some true x c r reason place e h (not_after_comma {x = y} d f) = absurd (true_false {b = true} refl (subst (λ k. begins_next_key true k ≡ false) (sym (first_same 0x2C c y r e)) h))
     at_some false x c r reason place e h (not_after_comma d f) = absurd (true_false d refl)
 
-expects_colon : Expected {C = Unit {0}} NoColon (λ t. None) is_colon codes.EofParsingObject codes.ExpectedColon
+pub expects_colon : Expected {C = Unit {0}} NoColon (λ t. None) is_colon codes.EofParsingObject codes.ExpectedColon
 expects_colon = record {
   at_end = λ reason place f. at_none [] reason place refl f;
   at_other = λ c r reason place h f. at_some (c ∷ r) reason place c r refl f;

@@ -31,7 +31,7 @@ curly_signs = record {
 -- ---- what was read
 
 -- nothing, where the object was opened
-opened_read : (old : State) (first : SeenMap) → first.at.due ≡ false → first.pending ≡ false → Opened curly old first.at.reader → PairsRead old no_pair None first
+pub opened_read : (old : State) (first : SeenMap) → first.at.due ≡ false → first.pending ≡ false → Opened curly old first.at.reader → PairsRead old no_pair None first
 opened_read old first due none o = record {
   live = o.live;
   shallow = let room = o.room in omega (arith, room);
@@ -51,7 +51,7 @@ key_after from old ps u plain y e is = elim e.here [
   | inr at ↦ let (q, close) = found_brace old.at.due old.at.due e.after old.at.reader.unread at in absurd (key_or_brace old.at.due old.at.reader.unread y q u plain is close)
 ]
 
-key_read : (from : State) (old new : SeenMap) (ps : Pairs) (u : List ℕ) (plain : Bool) → TookPairKey old.at.due old.at.reader u plain new.at.reader → new.at.due ≡ old.at.due → new.pending ≡ true → PairsRead from ps None old → PairsRead from ps (Some (u, plain)) new
+pub key_read : (from : State) (old new : SeenMap) (ps : Pairs) (u : List ℕ) (plain : Bool) → TookPairKey old.at.due old.at.reader u plain new.at.reader → new.at.due ≡ old.at.due → new.pending ≡ true → PairsRead from ps None old → PairsRead from ps (Some (u, plain)) new
 key_read from old new ps u plain took due pending e = record {
   live = e.live;
   shallow = e.shallow;
@@ -90,7 +90,7 @@ inside_level : (from : State) (now : SeenMap) (ps : Pairs) (key : Option (List �
 inside_level from now ps key e = ap (λ (m : State). m.level) e.rest
 
 -- the value of the key, one pair more
-pair_read : (from : State) (old new : SeenMap) (ps : Pairs) (u : List ℕ) (plain : Bool) (t : Tree) → TookPairValue old.at.reader t new.at.reader → new.at.due ≡ true → new.pending ≡ false
+pub pair_read : (from : State) (old new : SeenMap) (ps : Pairs) (u : List ℕ) (plain : Bool) (t : Tree) → TookPairValue old.at.reader t new.at.reader → new.at.due ≡ true → new.pending ≡ false
     → PairsRead from ps (Some (u, plain)) old → PairsRead from (snoc_pair ps u plain t) None new
 pair_read from old new ps u plain t took due pending e = record {
   live = e.live;
@@ -107,7 +107,7 @@ pair_read from old new ps u plain t took due pending e = record {
 }
 
 -- the whole object
-all_read : (from : State) (last : SeenMap) (new : State) (ps : Pairs) → Closed curly last.at.due last.at.reader new → PairsRead from ps None last → TookValue from (object ps) new
+pub all_read : (from : State) (last : SeenMap) (new : State) (ps : Pairs) → Closed curly last.at.due last.at.reader new → PairsRead from ps None last → TookValue from (object ps) new
 all_read from last new ps c e = record {
   live = e.live;
   reads = object_closed from.unread e.inside e.after new.unread ps last.at.due e.bracket e.passed (brace_after from last ps new.unread e c.close);
@@ -128,11 +128,11 @@ reads_a_pair content convert old new v (t, took, is, due, pending) = (t, is, λ 
 
 -- ---- what is left
 
-object_opens : (old : State) (ps : Pairs) (r : List ℕ) → Reads old.unread (object ps) r → old.level + depth (object ps) ≤ max_depth → (y : List ℕ) × OpensObject old.unread y × (old.level < max_depth)
+pub object_opens : (old : State) (ps : Pairs) (r : List ℕ) → Reads old.unread (object ps) r → old.level + depth (object ps) ≤ max_depth → (y : List ℕ) × OpensObject old.unread y × (old.level < max_depth)
 object_opens old ps r reads shallow = let (y, opens, tail) = object_front old.unread r ps reads in (y, opens, omega (arith, shallow))
 
 -- all pairs, where the object was opened
-opened_left : (old : State) (first : SeenMap) (ps : Pairs) (r : List ℕ) → first.at.due ≡ false → first.pending ≡ false → Opened curly old first.at.reader → Reads old.unread (object ps) r → old.level + depth (object ps) ≤ max_depth → PairsLeft ps r first
+pub opened_left : (old : State) (first : SeenMap) (ps : Pairs) (r : List ℕ) → first.at.due ≡ false → first.pending ≡ false → Opened curly old first.at.reader → Reads old.unread (object ps) r → old.level + depth (object ps) ≤ max_depth → PairsLeft ps r first
 opened_left old first ps r none no_key o reads shallow =
     let (y, bracket, tail) = object_front old.unread r ps reads in
     let level = ap (λ (m : State). m.level) o.rest in
@@ -208,11 +208,12 @@ reads_pair_value content convert old new v (s, took, is, due, pending) t r c liv
 -- ---- a maker
 
 -- what opened a brace opened an object, seen in another way
-pub opens_map : {A B : Type 0} (see : A → Seen) (seen : B → SeenMap) (old : State) (a : A) (b : B) → see a ≡ (seen b).at → (seen b).pending ≡ false → OpensAs curly see old (Ok a) → OpensMap seen old (Ok b)
-opens_map see seen old a b same no_key o =
+pub opens_map : {A B : Type 0} {Held : B → Type 0} (see : A → Seen) (seen : B → SeenMap) (old : State) (a : A) (b : B) → Held b → see a ≡ (seen b).at → (seen b).pending ≡ false → OpensAs curly see old (Ok a) → OpensMap Held seen old (Ok b)
+opens_map see seen old a b held same no_key o =
     let o : OpensAs curly (λ b. (seen b).at) old (Ok b) = opens_same curly see (λ b. (seen b).at) old a b same o in
     let (opened, due) = o.opened in
     record {
+      held = held;
       bracket = o;
       no_key = no_key;
       same_text = input_of opened.rest;
@@ -220,8 +221,9 @@ opens_map see seen old a b same no_key o =
       left = λ ps r live reads shallow. opened_left old (seen b) ps r due no_key opened reads shallow;
     }
 
-pub refuses_map : {A B : Type 0} (see : A → Seen) (seen : B → SeenMap) (old : State) (e : Error) → OpensAs curly see old (Err e) → OpensMap seen old (Err e)
+pub refuses_map : {A B : Type 0} {Held : B → Type 0} (see : A → Seen) (seen : B → SeenMap) (old : State) (e : Error) → OpensAs curly see old (Err e) → OpensMap Held seen old (Err e)
 refuses_map see seen old e o = record {
+  held = tt;
   bracket = opens_too curly see (λ b. (seen b).at) old e o;
   no_key = tt;
   same_text = tt;

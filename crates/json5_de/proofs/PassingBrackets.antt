@@ -1,30 +1,28 @@
 -- The open brackets round a value that is passed over, and what they make of what is read within.
-use Rattle.std.proofs.Common.{◌≡◌, ℕ, suc, ◌+◌, ◌-◌, ◌<◌, ◌≤◌, Bool, true, false, cond, List, [], ◌∷◌, ◌++◌, length, refl, ap, sym, ◌∙◌, subst, append_assoc, arith, length-append, ◌⊎◌, inl, inr, Option, Some, None}
+use Rattle.std.proofs.Common.{◌≡◌, ℕ, suc, ◌+◌, ◌-◌, ◌<◌, ◌≤◌, Bool, true, false, cond, List, [], ◌∷◌, ◌++◌, length, refl, ap, sym, ◌∙◌, subst, append_assoc, arith, length-append, inl, inr, Option, Some, None}
 use Rattle.std.specs.Prelude.{◌==◌, Result, Ok, Err, IsSome, ◌↔◌}
-use Rattle.json5_grammar.specs.declared.code.ErrorCode.{ErrorCode}
 use Rattle.json5_grammar.specs.declared.code.ErrorCode.TheVariants as codes
 use Rattle.json5_grammar.specs.Documents.{max_depth}
 use Rattle.json5_grammar.specs.Fronts.{opening}
 use Rattle.json5_grammar.specs.Fronts as fronts
-use Rattle.json5_grammar.specs.Reading.{Read, Place, here, inner, got, bad, and_then, placed}
+use Rattle.json5_grammar.specs.Reading.{Read, here, got, bad, and_then, placed}
 use Rattle.json5_grammar.specs.ReadBlanks.{skip, between}
-use Rattle.json5_grammar.specs.ReadSteps.{forget, colon_after, pair_head, member_head, member_at, comma_at, separator, next_value, rest_of, value_and_rest}
+use Rattle.json5_grammar.specs.ReadSteps.{forget, colon_after, pair_head, member_head, member_at, comma_at, separator, next_value, rest_of}
 use Rattle.json5_grammar.specs.ReadTexts.{key}
 use Rattle.json5_grammar.specs.ReadValues.{read, colon_at}
 use Rattle.json5_grammar.proofs.Found.{Found}
 use Rattle.json5_grammar.proofs.ValuesSound.{IsGap, IsKeyAt, gap_found, key_found, read_sound}
 use Rattle.json5_grammar.proofs.ValueSteps.{turn, rest_step, read_opened}
 use Rattle.json5_text.specs.declared.error.Error.{Error}
-use Rattle.json5_text.specs.Errors.{kind_of, or_place}
-use Rattle.json5_text.specs.Cursor.{Says, IsOutOfMemory}
 use Rattle.json5_de.specs.declared.ignored.OpenBracket.{OpenBracket}
 use Rattle.json5_de.specs.Access.{StartsAfter}
 use Rattle.json5_de.specs.Options.{PlacedAt}
 use Rattle.json5_de.specs.Passing as passing
-use Rattle.json5_de.specs.Passing.{IsReady, StandsAt, Blames, Gave, Steps, CountsTo, value_at, OpenedAt, BeginsValue, Nested, stands, Passing, Inside, Turns, TurnsInside, PlacedWithin}
+use Rattle.json5_de.specs.Passing.{IsReady, Blames, Gave, value_at, OpenedAt, Nested, start_of, rest_in, rest_at, Passing, PassingInside, Turns, TurnsInside, PlacedWithin}
 use Rattle.json5_de.specs.State.{State, GivesUp}
 use Rattle.json5_de.specs.Steps.{TookText}
-use Rattle.json5_de.proofs.PassingSteps.{failed_of, ready_after, blames_as, forget_got}
+use Rattle.json5_de.proofs.Nesting.{level_of, value_reached, closed, inside_blamed, value_ended, value_opened, whole_blamed, innermost_blamed, starts, ends_inside}
+use Rattle.json5_de.proofs.PassingSteps.{failed_of, blames_as, forget_got}
 use Rattle.json5_de.proofs.Taken.{input_of}
 
 -- ---- what is left is no longer than before
@@ -130,148 +128,28 @@ next_shorter k due b x r e is = by_answer (next_value k true x) (shorter_next k 
     by_answer (got a y) h f = let same : y ≡ r = cc in omega (arith, h, ap length same)
     by_answer (bad c p) h f = absurd (cc)
 
--- ---- open brackets
-
-abbrev quiet : ℕ → OpenBracket → List ℕ → Read (Unit {0}) → Read (Unit {0})
-quiet n f q m = placed q (and_then m (λ u y. rest_of (passing.kind_of f.kind) true n y))
-
--- one bracket more
-nested_push : (input : List ℕ) (d n : ℕ) (fs : List OpenBracket) (f : OpenBracket) (q : List ℕ) (m w : Read (Unit {0})) → n ≡ d - length fs - 1 → CountsTo input f.start q → Nested input d fs (quiet n f q m) w → Nested input d (fs ++ f ∷ []) m w
-nested_push input d n [] f q m w e at h = let same : n ≡ d - 1 = omega (arith, e) in (q, m, at, refl, h ∙ ap (λ k. quiet k f q m) same)
-nested_push input d n (g ∷ fs) f q m w e at (p, v, counted, h, is) = (p, v, counted, nested_push input (d - 1) n fs f q m v (omega (arith, e)) at h, is)
-
--- the innermost bracket apart
-nested_pop : (input : List ℕ) (d n : ℕ) (fs : List OpenBracket) (f : OpenBracket) (m w : Read (Unit {0})) → n ≡ d - length fs - 1 → Nested input d (fs ++ f ∷ []) m w → (q : List ℕ) × CountsTo input f.start q × Nested input d fs (quiet n f q m) w
-nested_pop input d n [] f m w e (q, v, at, h, is) = let same : d - 1 ≡ n = omega (arith, e) in (q, at, is ∙ ap (λ z. quiet (d - 1) f q z) h ∙ ap (λ k. quiet k f q m) same)
-nested_pop input d n (g ∷ fs) f m w e (p, v, counted, h, is) =
-    let (q, at, k) = nested_pop input (d - 1) n fs f m v (omega (arith, e)) h in
-    (q, at, (p, v, counted, k, is))
-
--- a fault that has a place is that of the whole
-nested_fault : (input : List ℕ) (d : ℕ) (fs : List OpenBracket) (w : Read (Unit {0})) (c : Option ErrorCode) (q : List ℕ) → Nested input d fs (bad c (here q)) w → w ≡ bad c (here q)
-nested_fault input d [] w c q h = h
-nested_fault input d (f ∷ fs) w c q (p, v, counted, h, is) = is ∙ ap (quiet (d - 1) f p) (nested_fault input (d - 1) fs v c q h)
-
-nested_as : (input other : List ℕ) (d : ℕ) (fs : List OpenBracket) (m n w : Read (Unit {0})) → input ≡ other → m ≡ n → Nested input d fs m w → Nested other d fs n w
-nested_as input other d fs m n w same is h = subst (λ z. Nested z d fs n w) same (subst (λ z. Nested input d fs z w) is h)
-
--- ---- places
-
-says_same : (reason : Option ErrorCode) (own e : Error) → kind_of e ≡ kind_of own → Says reason own → Says reason e
-says_same (Some c) own e k s = k ∙ s
-says_same None own e k (text, s) = (text, k ∙ s)
-
--- a fault without a place gets the bracket's
-pub blames_placed : {A : Type 0} (input q : List ℕ) (start : ℕ) (m : Read A) (own e : Error) → CountsTo input start q → PlacedAt (StartsAfter input start) own e → Blames input m own → Blames input (placed q m) e
-blames_placed {A = A} input q start m own e (before, split, counted) k b = by_place b.place b.is_bad b.says
-  where
-    by_place : (p : Place) → m ≡ bad b.reason p → IsOutOfMemory own ⊎ (Says b.reason own × StandsAt input p own) → Blames input (placed q m) e
-    by_place (here z) is says = record {
-      reason = b.reason;
-      place = here z;
-      is_bad = ap (placed q) is;
-      says = kept says;
-      unprompted = λ f. b.unprompted (sym k.kind ∙ f);
-    }
-      where
-        kept : IsOutOfMemory own ⊎ (Says b.reason own × StandsAt input (here z) own) → IsOutOfMemory e ⊎ (Says b.reason e × StandsAt input (here z) e)
-        kept (inl memory) = inl (k.kind ∙ memory)
-        kept (inr (s, (front, there, place))) = inr (says_same b.reason own e k.kind s, (front, there, k.place ∙ ap (λ o. or_place o k.there) place))
-    by_place inner is says = record {
-      reason = b.reason;
-      place = here q;
-      is_bad = ap (placed q) is;
-      says = given says;
-      unprompted = λ f. b.unprompted (sym k.kind ∙ f);
-    }
-      where
-        given : IsOutOfMemory own ⊎ (Says b.reason own × StandsAt input inner own) → IsOutOfMemory e ⊎ (Says b.reason e × StandsAt input (here q) e)
-        given (inl memory) = inl (k.kind ∙ memory)
-        given (inr (s, none)) = inr (says_same b.reason own e k.kind s, (before, split, k.place ∙ ap (λ o. or_place o k.there) none ∙ ap (λ z. Some z) (k.is_there before (record { rest = q; split = split; counted = counted }))))
-
--- what is refused in the innermost bracket is refused in the whole
-pub blames_whole : (input : List ℕ) (d : ℕ) (fs : List OpenBracket) (q : List ℕ) (m w : Read (Unit {0})) (e : Error) → Nested input d fs (placed q m) w → Blames input (placed q m) e → Blames input w e
-blames_whole input d fs q m w e h b = by_place b.place b.is_bad b.says
-  where
-    has_place : (n : Read (Unit {0})) (c : Option ErrorCode) → placed q n ≡ bad c inner → ⊥
-    has_place (got u r) c is = cc
-    has_place (bad f (here z)) c is = cc
-    has_place (bad f inner) c is = cc
-
-    by_place : (p : Place) → placed q m ≡ bad b.reason p → IsOutOfMemory e ⊎ (Says b.reason e × StandsAt input p e) → Blames input w e
-    by_place (here z) is says = record { reason = b.reason; place = here z; is_bad = nested_fault input d fs w b.reason z (nested_as input input d fs (placed q m) (bad b.reason (here z)) w refl is h); says = says; unprompted = b.unprompted }
-    by_place inner is says = absurd (has_place m b.reason is)
-
 -- ---- going on in a bracket
 
-level_of : {s t : State} → s ≡ t → s.level ≡ t.level
-level_of e = ap (λ (s : State). s.level) e
+-- what is left of it, by what comes next
+rest_is : (f : OpenBracket) (due goes : Bool) (old mid : State) → Gave (next_value (passing.kind_of f.kind) due old.unread) goes old mid → rest_at f due old ≡ turn (passing.kind_of f.kind) (max_depth - old.level) goes mid.unread
+rest_is f due goes old mid g = rest_step (passing.kind_of f.kind) due (max_depth - old.level) old.unread ∙ ap (λ m. and_then m (turn (passing.kind_of f.kind) (max_depth - old.level))) g.reads
 
--- the reader after a step, by the reader before all
-moved : (from old new : State) (n m : ℕ) → old ≡ record from { unread = old.unread; level = n } → new ≡ record old { unread = new.unread; level = m } → new ≡ record from { unread = new.unread; level = m }
-moved from old new n m e f = f ∙ ap (λ (s : State). record s { unread = new.unread; level = m }) e
+rest_bad : (f : OpenBracket) (due : Bool) (old : State) (own : Error) → Blames old.input (next_value (passing.kind_of f.kind) due old.unread) own → Blames old.input (rest_at f due old) own
+rest_bad f due old own b = blames_as old.input old.input (next_value (passing.kind_of f.kind) due old.unread) (rest_at f due old) own refl
+    (λ c p is. rest_step (passing.kind_of f.kind) due (max_depth - old.level) old.unread ∙ ap (λ m. and_then m (turn (passing.kind_of f.kind) (max_depth - old.level))) is) b
 
-at_level : (old new : State) (n m : ℕ) → new ≡ record old { unread = new.unread } → old.level ≡ n → n ≡ m → new ≡ record old { unread = new.unread; level = m }
-at_level old new n m e is same = e ∙ ap (λ k. record old { unread = new.unread; level = k }) (is ∙ same)
+-- a value comes next
+value_is : (f : OpenBracket) (due goes : Bool) (old new : State) → goes ≡ true → Gave (next_value (passing.kind_of f.kind) due old.unread) goes old new → rest_at f due old ≡ and_then (value_at new) (rest_in f (max_depth - old.level))
+value_is f due goes old new is g =
+    rest_is f due goes old new g ∙ ap (λ b. turn (passing.kind_of f.kind) (max_depth - old.level) b new.unread) is
+    ∙ ap (λ k. and_then (forget (read (max_depth - k) new.unread)) (rest_in f (max_depth - old.level))) (sym (level_of g.took.rest))
 
-module _ (from old new : State) (w : Read (Unit {0})) (bs : List OpenBracket) (f : OpenBracket) (due : Bool) (q : List ℕ) (h : Inside from w bs f due q old) where
-  room_is : max_depth - old.level ≡ max_depth - from.level - length bs - 1
-  room_is = let l = level_of h.rest in omega (arith, l)
-
-  -- its next value is reached
-  pub value_reached : (goes : Bool) → goes ≡ true → Gave (next_value (passing.kind_of f.kind) due old.unread) goes old new → Passing from w (bs ++ f ∷ []) true new
-  value_reached goes is g =
-      let same = level_of g.took.rest in
-      let l = level_of h.rest in
-      let more : suc (from.level + length bs) ≡ from.level + length (bs ++ f ∷ []) = omega (arith, length-append bs (f ∷ [])) in
-      let reads : rest_of (passing.kind_of f.kind) due (max_depth - old.level) old.unread ≡ value_and_rest (passing.kind_of f.kind) (max_depth - old.level) new.unread =
-      rest_step (passing.kind_of f.kind) due (max_depth - old.level) old.unread ∙ ap (λ m. and_then m (turn (passing.kind_of f.kind) (max_depth - old.level))) (g.reads ∙ ap (λ b. got b new.unread) is) in
-      let value : value_and_rest (passing.kind_of f.kind) (max_depth - old.level) new.unread ≡ and_then (value_at new) (λ u y. rest_of (passing.kind_of f.kind) true (max_depth - old.level) y) =
-      ap (λ k. and_then (forget (read (max_depth - k) new.unread)) (λ u y. rest_of (passing.kind_of f.kind) true (max_depth - old.level) y)) (sym same) in
-      record {
-        ready = ready_after old new g.taken h.ready g.took;
-        rest = moved from old new (suc (from.level + length bs)) (from.level + length (bs ++ f ∷ [])) h.rest (at_level old new (suc (from.level + length bs)) (from.level + length (bs ++ f ∷ [])) g.took.rest l more);
-        nested = subst (λ z. Nested z (max_depth - from.level) (bs ++ f ∷ []) (value_at new) w) (sym (input_of g.took.rest))
-            (nested_push old.input (max_depth - from.level) (max_depth - old.level) bs f q (value_at new) w room_is h.counted
-            (nested_as old.input old.input (max_depth - from.level) bs _ _ w refl (ap (placed q) (reads ∙ value)) h.nested));
-      }
-
-  rest_is : (goes : Bool) (y : List ℕ) → next_value (passing.kind_of f.kind) due old.unread ≡ got goes y → rest_of (passing.kind_of f.kind) due (max_depth - old.level) old.unread ≡ turn (passing.kind_of f.kind) (max_depth - old.level) goes y
-  rest_is goes y e = rest_step (passing.kind_of f.kind) due (max_depth - old.level) old.unread ∙ ap (λ m. and_then m (turn (passing.kind_of f.kind) (max_depth - old.level))) e
-
-  -- it is closed
-  pub bracket_closed : (goes : Bool) (mid : State) → goes ≡ false → Gave (next_value (passing.kind_of f.kind) due old.unread) goes old mid → new ≡ record mid { level = mid.level - 1 } → Passing from w bs false new
-  bracket_closed goes mid is g left =
-      let ready = ready_after old mid g.taken h.ready g.took in
-      let unread : new.unread ≡ mid.unread = ap (λ (s : State). s.unread) left in
-      let less = level_of left in
-      let same = level_of g.took.rest in
-      let l = level_of h.rest in
-      let low = ready.shallow in
-      let count : mid.level - 1 ≡ from.level + length bs = omega (arith, same, l) in
-      record {
-        ready = record { live = failed_of left ∙ ready.live; shallow = omega (arith, low, less); before = ready.before; inside = input_of left ∙ ready.inside ∙ ap (λ z. ready.before ++ z) (sym unread) };
-        rest = left ∙ ap (λ (s : State). record s { level = mid.level - 1 }) g.took.rest ∙ ap (λ (s : State). record s { unread = mid.unread; level = mid.level - 1 }) h.rest
-            ∙ ap (λ z. record from { unread = z; level = mid.level - 1 }) (sym unread) ∙ ap (λ k. record from { unread = new.unread; level = k }) count;
-        nested = nested_as old.input new.input (max_depth - from.level) bs _ (got tt new.unread) w (sym (input_of g.took.rest) ∙ sym (input_of left))
-            (ap (placed q) (rest_is goes mid.unread g.reads ∙ ap (λ b. turn (passing.kind_of f.kind) (max_depth - old.level) b mid.unread) is) ∙ ap (got tt) (sym unread)) h.nested;
-      }
-
-  -- it is refused
-  pub next_blamed : (own e : Error) → Blames old.input (next_value (passing.kind_of f.kind) due old.unread) own → PlacedAt (StartsAfter new.input f.start) own e → new.input ≡ old.input → Blames from.input w e
-  next_blamed own e b k same =
-      let there = blames_as old.input old.input _ (rest_of (passing.kind_of f.kind) due (max_depth - old.level) old.unread) own refl
-      (λ c p is. rest_step (passing.kind_of f.kind) due (max_depth - old.level) old.unread ∙ ap (λ m. and_then m (turn (passing.kind_of f.kind) (max_depth - old.level))) is) b in
-      let own_place = subst (λ z. PlacedAt (StartsAfter z f.start) own e) same k in
-      subst (λ z. Blames z w e) (input_of h.rest)
-      (blames_whole old.input (max_depth - from.level) bs q _ w e h.nested (blames_placed old.input q f.start _ own e h.counted own_place there))
-
-no_more_left : (old new : State) (s : List ℕ) → TookText old s new → length new.unread ≤ length old.unread
+pub no_more_left : (old new : State) (s : List ℕ) → TookText old s new → length new.unread ≤ length old.unread
 no_more_left old new s t = omega (arith, ap length t.split, length-append s new.unread)
 
 pub inside_goes : (due goes : Bool) (f : OpenBracket) (bs after : List OpenBracket) (old new : State) → goes ≡ true → Gave (next_value (passing.kind_of f.kind) due old.unread) goes old new → after ≡ bs ++ f ∷ [] → TurnsInside due f bs after old new (Ok true)
 inside_goes due goes f bs after old new is g grown = record {
-  goes = λ from w q h. subst (λ z. Passing from w z true new) (sym grown) (value_reached from old new w bs f due q h goes is g);
+  goes = λ from w q h. subst (λ z. Passing from w z true new) (sym grown) (value_reached start_of rest_in from old w (rest_at f due old) bs f.start q h f new (value_at new) g.taken refl g.took (value_is f due goes old new is g));
   refused = tt;
   failed = tt;
   shorter = λ d. next_shorter (passing.kind_of f.kind) due goes old.unread new.unread g.reads d;
@@ -282,7 +160,7 @@ pub inside_closed : (due goes : Bool) (f : OpenBracket) (bs : List OpenBracket) 
 inside_closed due goes f bs old mid new is g left =
     let unread : new.unread ≡ mid.unread = ap (λ (s : State). s.unread) left in
     record {
-      goes = λ from w q h. bracket_closed from old new w bs f due q h goes mid is g left;
+      goes = λ from w q h. closed start_of rest_in from old w (rest_at f due old) bs f.start q h mid new tt g.taken g.took (rest_is f due goes old mid g ∙ ap (λ b. turn (passing.kind_of f.kind) (max_depth - old.level) b mid.unread) is) left;
       refused = tt;
       failed = tt;
       shorter = λ d. let k = next_shorter (passing.kind_of f.kind) due goes old.unread mid.unread g.reads d in omega (arith, k, ap length unread);
@@ -293,7 +171,7 @@ pub inside_refused : (due : Bool) (f : OpenBracket) (bs after : List OpenBracket
     → TurnsInside due f bs after old new (Err e)
 inside_refused due f bs after old new own e b g k = record {
   goes = tt;
-  refused = λ from w q h. next_blamed from old new w bs f due q h own e b k g.same_text;
+  refused = λ from w q h. inside_blamed start_of rest_in from old w (rest_at f due old) bs f.start q h new.input own e (rest_bad f due old own b) k g.same_text;
   failed = g;
   shorter = tt;
   no_longer = tt;
@@ -303,11 +181,7 @@ inside_refused due f bs after old new own e b g k = record {
 
 pub first_scalar : (bs after : List OpenBracket) (old new : State) (u : Unit {0}) → Gave (value_at old) u old new → after ≡ bs → length new.unread < length old.unread → Turns true bs after old new (Ok false)
 first_scalar bs after old new u g same less = record {
-  goes = λ from w h. record {
-    ready = ready_after old new g.taken h.ready g.took;
-    rest = g.took.rest ∙ ap (λ (s : State). record s { unread = new.unread }) h.rest ∙ ap (λ (fs : List OpenBracket). record from { unread = new.unread; level = from.level + length fs }) (sym same);
-    nested = subst (λ fs. Nested new.input (max_depth - from.level) fs (got tt new.unread) w) (sym same) (nested_as old.input new.input (max_depth - from.level) bs (value_at old) (got tt new.unread) w (sym (input_of g.took.rest)) g.reads h.nested);
-  };
+  goes = λ from w h. subst (λ fs. Passing from w fs false new) (sym same) (value_ended start_of rest_in from old new w (value_at old) bs u h g);
   refused = tt;
   failed = tt;
   shorter = less;
@@ -325,21 +199,14 @@ ready_opened f old mid r o =
       inside = input_of o.rest ∙ r.inside ∙ ap (λ z. r.before ++ z) o.sign ∙ sym (append_assoc r.before (opening (passing.kind_of f.kind) ∷ []) mid.unread);
     }
 
-inside_of : (from : State) (w : Read (Unit {0})) (bs : List OpenBracket) (f : OpenBracket) (old mid : State) → Passing from w bs true old → OpenedAt f old mid → Inside from w bs f false old.unread mid
+inside_of : (from : State) (w : Read (Unit {0})) (bs : List OpenBracket) (f : OpenBracket) (old mid : State) → Passing from w bs true old → OpenedAt f old mid → PassingInside from w bs f false old.unread mid
 inside_of from w bs f old mid h o =
     let l = level_of o.rest in
     let room = o.room in
     let more : max_depth - old.level ≡ suc (max_depth - mid.level) = omega (arith, l, room) in
-    let n = level_of h.rest in
-    record {
-      ready = ready_opened f old mid h.ready o;
-      rest = o.rest ∙ ap (λ (s : State). record s { unread = mid.unread; level = old.level + 1 }) h.rest ∙ ap (λ k. record from { unread = mid.unread; level = k }) (omega (arith, n));
-      counted = subst (λ z. CountsTo z f.start old.unread) (sym (input_of o.rest)) o.counted;
-      nested = nested_as old.input mid.input (max_depth - from.level) bs (value_at old) _ w (sym (input_of o.rest))
-          (ap (λ k. forget (read k old.unread)) more ∙ ap (λ z. forget (read (suc (max_depth - mid.level)) z)) o.sign ∙ read_opened (passing.kind_of f.kind) (max_depth - mid.level) mid.unread
-          ∙ ap (λ z. placed z (rest_of (passing.kind_of f.kind) false (max_depth - mid.level) mid.unread)) (sym o.sign))
-          h.nested;
-    }
+    value_opened start_of rest_in from old mid w (value_at old) (rest_at f false mid) bs f.start h (ready_opened f old mid h.ready o) o.counted o.rest
+    (ap (λ k. forget (read k old.unread)) more ∙ ap (λ z. forget (read (suc (max_depth - mid.level)) z)) o.sign ∙ read_opened (passing.kind_of f.kind) (max_depth - mid.level) mid.unread
+    ∙ ap (λ z. placed z (rest_of (passing.kind_of f.kind) false (max_depth - mid.level) mid.unread)) (sym o.sign))
 
 pub first_bracket : (bs after : List OpenBracket) (f : OpenBracket) (old mid new : State) (result : Result Bool Error) → OpenedAt f old mid → length mid.unread < length old.unread → TurnsInside false f bs after mid new result → Turns true bs after old new result
 first_bracket bs after f old mid new (Ok goes) o less t = record {
@@ -364,19 +231,14 @@ none_open (f ∷ fs) o is k = absurd (none o is (k.1 (omega arith)))
     none None is e = cc
     none (Some g) is e = cc
 
-innermost_blamed : (from old : State) (w : Read (Unit {0})) (bs : List OpenBracket) (own e : Error) → Blames old.input (value_at old) own → PlacedWithin old.input bs own e → Passing from w bs true old → Blames from.input w e
-innermost_blamed from old w bs own e b (inl (none, same)) h =
-    subst (λ z. Blames z w e) (input_of h.rest) (blames_as old.input old.input (value_at old) w e refl (λ c p is. subst (λ fs. Nested old.input (max_depth - from.level) fs (value_at old) w) none h.nested ∙ is) (subst (λ z. Blames old.input (value_at old) z) (sym same) b))
-innermost_blamed from old w bs own e b (inr (fs, f, is, k)) h =
-    let n : ℕ = max_depth - from.level - length fs - 1 in
-    let (q, counted, nested) = nested_pop old.input (max_depth - from.level) n fs f (value_at old) w refl (subst (λ gs. Nested old.input (max_depth - from.level) gs (value_at old) w) is h.nested) in
-    let inside : Blames old.input (and_then (value_at old) (λ u y. rest_of (passing.kind_of f.kind) true n y)) own = blames_as old.input old.input (value_at old) _ own refl (λ c p is. ap (λ m. and_then m (λ u y. rest_of (passing.kind_of f.kind) true n y)) is) b in
-    subst (λ z. Blames z w e) (input_of h.rest) (blames_whole old.input (max_depth - from.level) fs q _ w e nested (blames_placed old.input q f.start _ own e counted k inside))
+value_blamed : (from old : State) (w : Read (Unit {0})) (bs : List OpenBracket) (own e : Error) → Blames old.input (value_at old) own → PlacedWithin old.input bs own e → Passing from w bs true old → Blames from.input w e
+value_blamed from old w bs own e b (inl (none, same)) h = whole_blamed start_of rest_in from old w (value_at old) bs e h none (subst (λ z. Blames old.input (value_at old) z) (sym same) b)
+value_blamed from old w bs own e b (inr (fs, f, is, k)) h = innermost_blamed start_of rest_in from old w (value_at old) bs fs f own e h is b k
 
 pub first_refused : (bs after : List OpenBracket) (old new : State) (own e : Error) → Blames old.input (value_at old) own → GivesUp old new → PlacedWithin new.input bs own e → Turns true bs after old new (Err e)
 first_refused bs after old new own e b g k = record {
   goes = tt;
-  refused = λ from w h. innermost_blamed from old w bs own e b (subst (λ z. PlacedWithin z bs own e) g.same_text k) h;
+  refused = λ from w h. value_blamed from old w bs own e b (subst (λ z. PlacedWithin z bs own e) g.same_text k) h;
   failed = g;
   shorter = tt;
 }
@@ -384,21 +246,17 @@ first_refused bs after old new own e b g k = record {
 -- ---- the whole
 
 -- nothing is open at the start
-pub starts : (s : State) → IsReady s → Passing s (value_at s) [] true s
-starts s ready = record { ready = ready; rest = ap (λ k. record s { level = k }) (omega arith); nested = refl }
+pub begins : (s : State) → IsReady s → Passing s (value_at s) [] true s
+begins s ready = starts start_of rest_in s (value_at s) ready
 
 -- a value ended in the innermost bracket
-pub ends_inside : (from now : State) (w : Read (Unit {0})) (bs fs : List OpenBracket) (f : OpenBracket) → bs ≡ fs ++ f ∷ [] → Passing from w bs false now → (q : List ℕ) × Inside from w fs f true q now
-ends_inside from now w bs fs f is h =
-    let l = level_of h.rest in
-    let count : from.level + length bs ≡ suc (from.level + length fs) = omega (arith, ap length is, length-append fs (f ∷ [])) in
-    let (q, counted, nested) = nested_pop now.input (max_depth - from.level) (max_depth - now.level) fs f (got tt now.unread) w (omega (arith, l, count)) (subst (λ gs. Nested now.input (max_depth - from.level) gs (got tt now.unread) w) is h.nested) in
-    (q, record { ready = h.ready; rest = h.rest ∙ ap (λ k. record from { unread = now.unread; level = k }) count; counted = counted; nested = nested })
+pub ended_inside : (from now : State) (w : Read (Unit {0})) (bs fs : List OpenBracket) (f : OpenBracket) → bs ≡ fs ++ f ∷ [] → Passing from w bs false now → (q : List ℕ) × PassingInside from w fs f true q now
+ended_inside from now w bs fs f is h = ends_inside start_of rest_in from now w bs fs f tt is h
 
 -- the value itself ended
 pub ends_whole : (old now : State) (bs : List OpenBracket) → bs ≡ [] → Passing old (value_at old) bs false now → Gave (value_at old) tt old now
 ends_whole old now bs none h =
-    let reads : value_at old ≡ got tt now.unread = subst (λ fs. Nested now.input (max_depth - old.level) fs (got tt now.unread) (value_at old)) none h.nested in
+    let reads : value_at old ≡ got tt now.unread = subst (λ fs. Nested start_of rest_in now.input (max_depth - old.level) fs (got tt now.unread) (value_at old)) none h.nested in
     let (t, is) = forget_got (read (max_depth - old.level) old.unread) tt now.unread reads in
     let v = read_sound (max_depth - old.level) old.unread now.unread t is in
     let count : old.level + length bs ≡ old.level = omega (arith, ap length none) in

@@ -37,13 +37,13 @@ ready_sign old mid new s r g t = ready_after mid new s (ready_next old mid r g) 
 pub ready_kept : {A : Type 0} {m : Read A} {a : A} (old mid at : State) → IsReady old → Gave m a old mid → at ≡ mid → IsReady at
 ready_kept old mid at r g same = subst IsReady (sym same) (ready_next old mid r g)
 
-gave_up : (mid at new : State) → at ≡ mid → new ≡ record at { failed = true } → GivesUp mid new
+pub gave_up : (mid at new : State) → at ≡ mid → new ≡ record at { failed = true } → GivesUp mid new
 gave_up mid at new same e = record { failed = failed_of e; same_text = input_of e ∙ input_of same }
 
-took_nothing : (mid at : State) → at ≡ mid → TookText mid [] at
+pub took_nothing : (mid at : State) → at ≡ mid → TookText mid [] at
 took_nothing mid at same = record { split = ap (λ (s : State). s.unread) (sym same); rest = same ∙ ap (λ (s : State). record mid { unread = s.unread }) (sym same) }
 
-refused_there : {F : _} (mid at : State) (e : Error) → at ≡ mid → Refused F (cursor_of at) e → Refused F (cursor_of mid) e
+pub refused_there : {F : _} (mid at : State) (e : Error) → at ≡ mid → Refused F (cursor_of at) e → Refused F (cursor_of mid) e
 refused_there {F = F} mid at e same f = subst (λ (s : State). Refused F (cursor_of s) e) same f
 
 -- no colon stands there
@@ -116,7 +116,7 @@ array_goes : (y : List ℕ) → NotBegun (λ d. d == 93) y → member_head of_ar
 array_goes [] n = refl
 array_goes (c ∷ r) n = rw n refl
 
-key_missing : key [] ≡ bad (Some codes.EofParsingObject) inner
+pub key_missing : key [] ≡ bad (Some codes.EofParsingObject) inner
 unfolding key
 key_missing = refl
 
@@ -195,11 +195,11 @@ key_at_end old new next e peeked is kind place up =
     (blames_made old.input (forget (key old.unread)) e codes.EofParsingObject inner (ap forget (ap key (none_next old.unread (sym peeked ∙ is)) ∙ key_missing)) (λ e. absurd (cc)) kind place)
     (gives_up old new up)
 
-key_string : (c : ℕ) (r : List ℕ) → is_quote c ≡ true → key (c ∷ r) ≡ string (c ∷ r)
+pub key_string : (c : ℕ) (r : List ℕ) → is_quote c ≡ true → key (c ∷ r) ≡ string (c ∷ r)
 unfolding key
 key_string c r h = rw h refl
 
-key_name : (c : ℕ) (r : List ℕ) → is_quote c ≡ false → key (c ∷ r) ≡ identifier (c ∷ r)
+pub key_name : (c : ℕ) (r : List ℕ) → is_quote c ≡ false → key (c ∷ r) ≡ identifier (c ∷ r)
 unfolding key
 key_name c r h = rw h refl
 

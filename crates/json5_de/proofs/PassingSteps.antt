@@ -1,6 +1,6 @@
 -- Each step passes over what reading on lists gives, or is refused with what it refuses.
 use Rattle.std.proofs.Common.{◌≡◌, ◌≢◌, ℕ, Bool, true, false, cond, ◌||◌, List, [], ◌∷◌, ◌++◌, refl, ap, sym, ◌∙◌, subst, append_assoc, arith, ◌⊎◌, inl, inr, Option, Some, None}
-use Rattle.std.specs.Prelude.{◌==◌, Result, Ok, Err, IsOk, IfErr, OnOk, OnErr}
+use Rattle.std.specs.Prelude.{◌==◌, Result, Ok, Err, IsOk, IfOk, IfErr, OnOk, OnErr}
 use Rattle.std.proofs.lemmas.Bool.{both_ways, false≢true}
 use Rattle.json5_grammar.specs.declared.code.ErrorCode.{ErrorCode}
 use Rattle.json5_grammar.specs.declared.code.ErrorCode.TheVariants as codes
@@ -111,24 +111,25 @@ blanks_step old new (Err e) r p refused failed = record {
 no_other_quote : (c d : ℕ) (r q x : List ℕ) → x ≡ c ∷ r → x ≡ d ∷ q → is_quote c ≡ true → is_quote d ≡ false → ⊥
 no_other_quote c d r q x e f h k = let same : c ≡ d = cc in both_ways (is_quote d) k (subst (λ z. is_quote z ≡ true) same h)
 
-pub string_step : (old new : State) (result : Result (Unit {0}) Error) (c : ℕ) (r : List ℕ) → IsReady old → old.unread ≡ c ∷ r → is_quote c ≡ true → OnOk result (PassedString old new) → IfErr result (RefusesToken FaultyString old) → OnErr result (GivesUp old new)
+-- what is refused at a quote
+pub string_fault_refuses : (c : ℕ) (r : List ℕ) → is_quote c ≡ true → (y : List ℕ) (reason : Option ErrorCode) (place : Option (List ℕ)) → y ≡ c ∷ r → FaultyString y reason place → Refuses (string y) y reason place
+string_fault_refuses c r h y reason place e (tokens.FaultyString.faulty f) = string_refused f
+string_fault_refuses c r h y reason place e (no_quote d q k) = absurd (no_other_quote c d r q y e refl h k)
+string_fault_refuses c r h y reason place e string_missing = absurd (cc)
+
+pub string_step : (old new : State) (result : Result (Unit {0}) Error) (c : ℕ) (r : List ℕ) → IsReady old → old.unread ≡ c ∷ r → is_quote c ≡ true → IfOk result (λ v. PassedString old new) → IfErr result (RefusesToken FaultyString old) → OnErr result (GivesUp old new)
     → ((s u r : List ℕ) (plain : Bool) → old.unread ≡ s ++ r → Str s u plain → IsOk result)
     → Steps (forget (string old.unread)) old new result
 string_step old new result c r ready x h taken refused failed memory =
-    token_step (λ s r. (u : List ℕ) × (plain : Bool) × Str s u plain) (string old.unread) old new result ready faulty_string_lacks (λ reason place f. by_fault old.unread reason place x f)
+    token_step (λ s r. (u : List ℕ) × (plain : Bool) × Str s u plain) (string old.unread) old new result ready faulty_string_lacks (λ reason place f. string_fault_refuses c r h old.unread reason place x f)
     (λ s y k e. ((k.0, k.1), ap string e ∙ string_complete y k.2))
     (λ a y is. let (s, split, str) = from_sound a y (subst (StringSound (c ∷ r)) (sym (ap string x) ∙ is) (string_sound c r h)) in memory s a.0 y a.1 (x ∙ split) str)
     (reordered result taken) refused failed
   where
-    by_fault : (y : List ℕ) (reason : Option ErrorCode) (place : Option (List ℕ)) → y ≡ c ∷ r → FaultyString y reason place → Refuses (string y) y reason place
-    by_fault y reason place e (tokens.FaultyString.faulty f) = string_refused f
-    by_fault y reason place e (no_quote d q k) = absurd (no_other_quote c d r q y e refl h k)
-    by_fault y reason place e string_missing = absurd (cc)
-
     from_sound : (a : List ℕ × Bool) (y : List ℕ) → StringSound (c ∷ r) (got a y) → (s : List ℕ) × (c ∷ r ≡ s ++ y) × Str s a.0 a.1
     from_sound a y k = k
 
-    reordered : (result : Result (Unit {0}) Error) → OnOk result (PassedString old new) → OnOk result ((s : List ℕ) × TookText old s new × ((u : List ℕ) × (plain : Bool) × Str s u plain))
+    reordered : (result : Result (Unit {0}) Error) → IfOk result (λ v. PassedString old new) → OnOk result ((s : List ℕ) × TookText old s new × ((u : List ℕ) × (plain : Bool) × Str s u plain))
     reordered (Ok v) (s, u, plain, took, str) = (s, took, (u, plain, str))
     reordered (Err e) k = tt
 
@@ -141,24 +142,25 @@ number_refuses x place reason k = (k.place, k.answer, at k.place place k.is_plac
     at (here q) place (b, is, e) = rw is e
     at inner place is = rw is tt
 
-pub number_step : (old new : State) (result : Result (Unit {0}) Error) (c : ℕ) (r : List ℕ) → IsReady old → old.unread ≡ c ∷ r → (is_sign c || begins_number c) ≡ true → OnOk result (PassedNumber old new) → IfErr result (RefusesToken FaultyNumber old) → OnErr result (GivesUp old new)
+-- what is refused at what begins a number
+pub number_fault_refuses : (c : ℕ) (r : List ℕ) → (is_sign c || begins_number c) ≡ true → (y : List ℕ) (reason : Option ErrorCode) (place : Option (List ℕ)) → y ≡ c ∷ r → FaultyNumber y reason place → Refuses (reading.number y) y reason place
+number_fault_refuses c r h y reason place e (tokens.FaultyNumber.faulty f) = number_refuses y place reason (unique.refused f)
+number_fault_refuses c r h y reason place e (no_number d q k) = absurd (let same : c ≡ d = cc in both_ways (is_sign d || begins_number d) k (subst (λ z. (is_sign z || begins_number z) ≡ true) same h))
+number_fault_refuses c r h y reason place e number_missing = absurd (cc)
+
+pub number_step : (old new : State) (result : Result (Unit {0}) Error) (c : ℕ) (r : List ℕ) → IsReady old → old.unread ≡ c ∷ r → (is_sign c || begins_number c) ≡ true → IfOk result (λ v. PassedNumber old new) → IfErr result (RefusesToken FaultyNumber old) → OnErr result (GivesUp old new)
     → ((s r : List ℕ) (n : numbers.Number) → old.unread ≡ s ++ r → Num s n → NotBegun (lengthens s) r → IsOk result)
     → Steps (forget (reading.number old.unread)) old new result
 number_step old new result c r ready x h taken refused failed memory =
-    token_step (λ s r. (n : numbers.Number) × Num s n × NotBegun (lengthens s) r) (reading.number old.unread) old new result ready faulty_number_lacks (λ reason place f. by_fault old.unread reason place x f)
+    token_step (λ s r. (n : numbers.Number) × Num s n × NotBegun (lengthens s) r) (reading.number old.unread) old new result ready faulty_number_lacks (λ reason place f. number_fault_refuses c r h old.unread reason place x f)
     (λ s y k e. (k.0, ap reading.number e ∙ complete k.1 y k.2))
     (λ n y is. let (s, split, num, stops) = from_sound n y (subst (SoundNumber (c ∷ r)) (sym (ap reading.number x) ∙ is) (sound (c ∷ r) h)) in memory s y n (x ∙ split) num stops)
     (reordered result taken) refused failed
   where
-    by_fault : (y : List ℕ) (reason : Option ErrorCode) (place : Option (List ℕ)) → y ≡ c ∷ r → FaultyNumber y reason place → Refuses (reading.number y) y reason place
-    by_fault y reason place e (tokens.FaultyNumber.faulty f) = number_refuses y place reason (unique.refused f)
-    by_fault y reason place e (no_number d q k) = absurd (let same : c ≡ d = cc in both_ways (is_sign d || begins_number d) k (subst (λ z. (is_sign z || begins_number z) ≡ true) same h))
-    by_fault y reason place e number_missing = absurd (cc)
-
     from_sound : (n : numbers.Number) (y : List ℕ) → SoundNumber (c ∷ r) (got n y) → (s : List ℕ) × (c ∷ r ≡ s ++ y) × Num s n × NotBegun (lengthens s) y
     from_sound n y k = k
 
-    reordered : (result : Result (Unit {0}) Error) → OnOk result (PassedNumber old new) → OnOk result ((s : List ℕ) × TookText old s new × ((n : numbers.Number) × Num s n × NotBegun (lengthens s) new.unread))
+    reordered : (result : Result (Unit {0}) Error) → IfOk result (λ v. PassedNumber old new) → OnOk result ((s : List ℕ) × TookText old s new × ((n : numbers.Number) × Num s n × NotBegun (lengthens s) new.unread))
     reordered (Ok v) (s, n, took, num, stops) = (s, took, (n, num, stops))
     reordered (Err e) k = tt
 
@@ -201,12 +203,12 @@ name_read (d ∷ z) a y e = split ((d == 92) || is_identifier_start d) refl
     split true h = from_sound (subst (NameSound (d ∷ z)) e (name_sound d z h))
     split false h = let same : got a y ≡ bad (Some codes.ExpectedIdentifier) (here (d ∷ z)) = sym e ∙ name_not_begun d z h in absurd (cc)
 
-name_refuses : (x : List ℕ) (reason : Option ErrorCode) (place : Option (List ℕ)) → FaultyName x reason place → Refuses (identifier x) x reason place
+pub name_refuses : (x : List ℕ) (reason : Option ErrorCode) (place : Option (List ℕ)) → FaultyName x reason place → Refuses (identifier x) x reason place
 name_refuses x reason place (tokens.FaultyName.faulty f) = name_refused f
 name_refuses x reason place (no_name c r h) = (here (c ∷ r), name_not_begun c r h, refl)
 name_refuses x reason place name_missing = (inner, name_missing_read, tt)
 
-pub name_step : (old new : State) (result : Result (Unit {0}) Error) → IsReady old → OnOk result (PassedName old new) → IfErr result (RefusesToken FaultyName old) → OnErr result (GivesUp old new)
+pub name_step : (old new : State) (result : Result (Unit {0}) Error) → IsReady old → IfOk result (λ v. PassedName old new) → IfErr result (RefusesToken FaultyName old) → OnErr result (GivesUp old new)
     → ((s u r : List ℕ) (c : ℕ) (plain : Bool) → old.unread ≡ s ++ c ∷ r → Ident s u plain → goes_on_name c ≡ false → IsOk result)
     → Steps (forget (identifier old.unread)) old new result
 name_step old new result ready taken refused failed memory =
@@ -215,7 +217,7 @@ name_step old new result ready taken refused failed memory =
     (λ a y is. let (s, c, r, split, i, h) = name_read old.unread a y is in memory s a.0 r c a.1 split i h)
     (reordered result taken) refused failed
   where
-    reordered : (result : Result (Unit {0}) Error) → OnOk result (PassedName old new)
+    reordered : (result : Result (Unit {0}) Error) → IfOk result (λ v. PassedName old new)
         → OnOk result ((s : List ℕ) × TookText old s new × ((u : List ℕ) × (plain : Bool) × Ident s u plain × (c : ℕ) × (y : List ℕ) × (new.unread ≡ c ∷ y) × (goes_on_name c ≡ false)))
     reordered (Ok v) (s, u, plain, took, i, c, y, e, h) = (s, took, (u, plain, i, c, y, e, h))
     reordered (Err e) k = tt

@@ -73,7 +73,7 @@ tree_passed content convert free old mid new v u p g is =
 
 -- ---- refused
 
-forget_bad : {A : Type 0} (m : Read A) (c : Option ErrorCode) (p : Place) → forget m ≡ bad c p → m ≡ bad c p
+pub forget_bad : {A : Type 0} (m : Read A) (c : Option ErrorCode) (p : Place) → forget m ≡ bad c p → m ≡ bad c p
 forget_bad (got a r) c p e = absurd (cc)
 forget_bad {A = A} (bad d q) c p e = let a : d ≡ c = cc in let b : q ≡ p = cc in renamed (bad d q) refl a b
   where

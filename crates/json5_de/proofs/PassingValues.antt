@@ -32,7 +32,7 @@ use Rattle.json5_de.specs.declared.any.ValueKind.{ValueKind}
 use Rattle.json5_de.specs.declared.any.ValueKind.TheVariants as kind
 use Rattle.json5_de.specs.declared.ignored.OpenBracket.{OpenBracket}
 use Rattle.json5_de.specs.Passing as passing
-use Rattle.json5_de.specs.Passing.{IsReady, Blames, Gave, Steps, value_at, OpenedAt, BeginsValue, BeganValue}
+use Rattle.json5_de.specs.Passing.{IsReady, Blames, Gave, Steps, value_at, OpenedAt, Opens, BeginsValue, BeganValue}
 use Rattle.json5_de.specs.Scalars.{kind_at}
 use Rattle.json5_de.specs.State.{State, cursor_of, GivesUp}
 use Rattle.json5_de.specs.Steps.{TookText}
@@ -61,7 +61,7 @@ kind_tests false false false true m = refl
 kind_tests false false false false true = refl
 kind_tests false false false false false = (refl, refl, refl, refl, refl)
 
-tests_of : (c : ℕ) (found k : ValueKind) → found ≡ kind_at c → found ≡ k → Tests (c == 110) (c == 116) (c == 102) (is_quote c) (is_sign c || begins_number c) k
+pub tests_of : (c : ℕ) (found k : ValueKind) → found ≡ kind_at c → found ≡ k → Tests (c == 110) (c == 116) (c == 102) (is_quote c) (is_sign c || begins_number c) k
 tests_of c found k at is = subst (Tests (c == 110) (c == 116) (c == 102) (is_quote c) (is_sign c || begins_number c)) (sym at ∙ is) (kind_tests (c == 110) (c == 116) (c == 102) (is_quote c) (is_sign c || begins_number c))
 
 -- ---- scalars
@@ -143,38 +143,39 @@ scalar_passed old new u g = record { begun = g; refused = tt; failed = tt; short
 pub scalar_refused : (old new : State) (e : Error) → Blames old.input (value_at old) e → GivesUp old new → BeginsValue old new (Err e)
 scalar_refused old new e b g = record { begun = tt; refused = b; failed = g; shorter = tt }
 
+pub bracket_passed : (old new : State) (bracket : OpenBracket) → OpenedAt bracket old new → BeginsValue old new (Ok (Some bracket))
+bracket_passed old new bracket o = record { begun = o; refused = tt; failed = tt; shorter = let there = o.sign in omega (arith, ap length there) }
+
 -- ---- brackets
 
 -- one bracket too many
 pub bracket_too_deep : (old at new : State) (k : BracketKind) (start : ℕ) (e : Error) (p : Position) → IsReady old → slice_get old.unread 0 ≡ Some (opening k) → old.level ≡ max_depth → at ≡ old
     → ((before : List ℕ) → old.input ≡ before ++ old.unread → start ≡ length (encode_utf8_all before))
     → ((before rest : List ℕ) → at.input ≡ before ++ rest → start ≡ length (encode_utf8_all before) → p ≡ position_after before)
-    → kind_of e ≡ code codes.TooDeep → place_of e ≡ Some p → new ≡ record at { failed = true } → BeginsValue old new (Err e)
+    → kind_of e ≡ code codes.TooDeep → place_of e ≡ Some p → new ≡ record at { failed = true } → Opens old new (Err e)
 bracket_too_deep old at new k start e p ready first full same counted located kind place up =
     let (r, x) = some_next old.unread (opening k) first in
     let none : max_depth - old.level ≡ 0 = omega (arith, full) in
     record {
-      begun = tt;
+      opened = tt;
       refused = blames_made old.input (value_at old) e codes.TooDeep (here old.unread)
           (ap (λ z. forget (read (max_depth - old.level) z)) x ∙ ap (λ d. forget (read d (opening k ∷ r))) none ∙ read_too_deep k r ∙ ap (λ z. bad (Some codes.TooDeep) (here z)) (sym x))
           (λ e. absurd (cc)) kind
           (ready.before, ready.inside, place ∙ ap (λ z. Some z) (located ready.before old.unread (input_of same ∙ ready.inside) (counted ready.before ready.inside)));
       failed = record { failed = failed_of up; same_text = input_of up ∙ input_of same };
-      shorter = tt;
     }
 
 -- the bracket is taken
 pub bracket_opened : (old at new : State) (bracket : OpenBracket) (c : ℕ) (b : Bool) → IsReady old → slice_get old.unread 0 ≡ Some (opening (passing.kind_of bracket.kind)) → (old.level < max_depth) × (at ≡ record old { level = old.level + 1 })
     → ((before : List ℕ) → old.input ≡ before ++ old.unread → bracket.start ≡ length (encode_utf8_all before)) → c ≡ opening (passing.kind_of bracket.kind)
-    → (b ≡ true → TookText at (c ∷ []) new) → (b ≡ false → (new ≡ at) × NotBegun (λ d. d == c) at.unread) → BeginsValue old new (Ok (Some bracket))
+    → (b ≡ true → TookText at (c ∷ []) new) → (b ≡ false → (new ≡ at) × NotBegun (λ d. d == c) at.unread) → Opens old new (Ok bracket)
 bracket_opened old at new bracket c true ready first entered counted is taken kept =
     let took = taken refl in
     let there : old.unread ≡ opening (passing.kind_of bracket.kind) ∷ new.unread = ap (λ (s : State). s.unread) (sym entered.1) ∙ took.split ∙ ap (λ z. z ∷ new.unread) is in
     record {
-      begun = record { sign = there; counted = (ready.before, ready.inside, counted ready.before ready.inside); room = entered.0; rest = took.rest ∙ ap (λ (m : State). record m { unread = new.unread }) entered.1 };
+      opened = record { sign = there; counted = (ready.before, ready.inside, counted ready.before ready.inside); room = entered.0; rest = took.rest ∙ ap (λ (m : State). record m { unread = new.unread }) entered.1 };
       refused = tt;
       failed = tt;
-      shorter = omega (arith, ap length there);
     }
 bracket_opened old at new bracket c false ready first entered counted is taken kept =
     let (r, x) = some_next old.unread (opening (passing.kind_of bracket.kind)) first in

@@ -18,12 +18,11 @@ use Rattle.json5_grammar.specs.Numbers.{Number, whole, decimal, Num}
 use Rattle.json5_grammar.specs.Trees.{Tree, null, boolean, number, text, array, object}
 use Rattle.json5_de.specs.Convert.{as_whole, as_number, every_decimal, as_text, if_plain, digits_bytes}
 use Rattle.json5_de.specs.Faults.{FaultRelation, AfterBlanks, in_blanks, after_gap, RefusedBy, RefusedByOrMemory, NotNumber, faulty_number, other_number, faulty_text, begins_with}
-use Rattle.json5_de.specs.Rows.{Row, RefusedWith, ReadsAs, EndsWhere, DiffersWhere, TellsApart, every_tree, no_tree, plain_text, null_row, bool_row, whole_row, decimal_row, coded_text_row, text_row, plain_row, bytes_row, any_row}
+use Rattle.json5_de.specs.Rows.{Row, RefusedWith, ReadsAs, EndsWhere, DiffersWhere, TellsApart, every_tree, no_tree, plain_text, null_row, bool_row, whole_row, decimal_row, coded_text_row, text_row, plain_row, bytes_row}
 use Rattle.json5_de.proofs.Expected.{Expected, wrongly_refused, completes_or_memory, ends_from, ends_or_memory, differs_from, differs_or_memory}
 use Rattle.json5_de.proofs.Expects.{expects_null, expects_bool}
 use Rattle.json5_de.proofs.ExpectsNumbers.{expects_number}
 use Rattle.json5_de.proofs.ExpectsTexts.{expects_text}
-use Rattle.json5_de.proofs.ScalarsExpected.{expects_scalar}
 use Rattle.json5_de.proofs.Taken.{input_of, refused_blanks, refused_token, took_leaf, refused_or_memory}
 use Rattle.json5_de.proofs.Mismatches.{StartsAt, refused_number, refused_text}
 use Rattle.json5_de.proofs.WithoutMemory.{whole_there, no_other_number, plain_there, no_other_text}
@@ -31,7 +30,7 @@ use Rattle.json5_grammar.specs.Characters.{NotBegun}
 use Rattle.json5_grammar.specs.Stops.{lengthens}
 use Rattle.json5_text.specs.NumberViews.{keeps_digits}
 use Rattle.std.proofs.lemmas.Bool.{false≢true}
-use Rattle.json5_de.proofs.OtherCodes.{Lacks, in_blanks_other, after_lacks, word_lacks, number_lacks, text_lacks, scalar_lacks}
+use Rattle.json5_de.proofs.OtherCodes.{Lacks, in_blanks_other, after_lacks, word_lacks, number_lacks, text_lacks}
 use Rattle.json5_grammar.proofs.Basics.{true_false}
 
 -- a kind of value is told apart from all others, and none of its faults is that the reader had failed
@@ -278,9 +277,6 @@ plain_refused content old mid new e p k failed ok =
     (λ t r v live reads shallow is free. let k = plain_there old mid t r v p reads is in absurd (false≢true (ok k.string k.text r k.split k.is_string)))
 
 -- ---- values of any kind
-
-pub lawful_any : IsLawful any_row
-lawful_any = record { expected = expects_scalar; lacks = scalar_lacks }
 
 -- ---- the codes
 

@@ -209,8 +209,9 @@ pub record ClosesAs (b : Brackets) (due : Bool) (old new : State) (result : Resu
   pub unprompted : Unprompted old result
   pub before : old.failed ≡ true → IsErrAnd result (IsUnplaced codes.Failed)
 
--- an array is opened: nothing was read of it, and where one can be read its elements are left
-pub record OpensArray {A : Type 0} (seen : A → Seen) (old : State) (result : Result A Error) : Type 0 where
+-- an array is opened by an access that holds the reader so: nothing was read of it, and where one can be read its elements are left
+pub record OpensArray {A : Type 0} (Held : A → Type 0) (seen : A → Seen) (old : State) (result : Result A Error) : Type 0 where
+  pub held : IfOk result Held
   pub bracket : OpensAs square seen old result
   pub same_text : IfOk result (λ a. SameText old (seen a).reader)
   pub read : IfOk result (λ a. ElementsRead old no_more (seen a))

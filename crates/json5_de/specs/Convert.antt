@@ -1,5 +1,5 @@
 -- What each type takes of a tree: at most one content.
-use Rattle.std.specs.Prelude.{ℕ, Bool, true, false, if◌then◌else◌, nat_lt, List, [], ◌∷◌, ℤ, pos, negsuc, nat_abs, Option, Some, None}
+use Rattle.std.specs.Prelude.{ℕ, Bool, true, false, if◌then◌else◌, nat_lt, List, [], ◌∷◌, map, ℤ, pos, negsuc, nat_abs, Option, Some, None}
 use Rattle.std.specs.Fmt as numerals
 use Rattle.std.specs.Borrow.{Bor}
 use Rattle.std.specs.List.{position}
@@ -7,8 +7,8 @@ use Rattle.std.specs.Result.{result_ok}
 use Rattle.std.specs.Str.{bytes_eq, encode_utf8_all}
 use Rattle.hex.specs.Hex.{decode_of}
 use Rattle.json5_grammar.specs.Numbers.{Number, Decimal, whole, decimal, finite, without_zeros, normal_exponent}
-use Rattle.json5_grammar.specs.Trees.{Tree, null, boolean, number, text}
-use Rattle.json5_text.specs.ValueViews.{Datum}
+use Rattle.json5_grammar.specs.Trees.{Tree, Trees, Pairs, null, boolean, number, text, array, object, no_more, more, no_pair, pair}
+use Rattle.json5_text.specs.ValueViews.{Datum, Items, Fields, no_item, item, no_field, field}
 use Rattle.json5_text.specs.ValueViews as datum
 
 -- null
@@ -99,11 +99,15 @@ one_character [] plain = None
 one_character (c ∷ []) plain = Some c
 one_character (c ∷ d ∷ u) plain = None
 
--- a text that is one of these names, as its first place among them
-abbrev pub place_among : List (Bor (List ℕ)) → List ℕ → Bool → Option ℕ
-place_among names u plain = position (λ name. bytes_eq name.now (encode_utf8_all u)) names
+-- the bytes of these names
+abbrev pub spelled : List (Bor (List ℕ)) → List (List ℕ)
+spelled names = map (λ name. name.now) names
 
-abbrev pub variant_of : List (Bor (List ℕ)) → Tree → Option ℕ
+-- a text that is one of these names, as its first place among them
+abbrev pub place_among : List (List ℕ) → List ℕ → Bool → Option ℕ
+place_among names u plain = position (λ name. bytes_eq name (encode_utf8_all u)) names
+
+abbrev pub variant_of : List (List ℕ) → Tree → Option ℕ
 variant_of names = as_text (place_among names)
 
 abbrev pub char_of : Tree → Option ℕ
@@ -118,10 +122,23 @@ byte_buf_of = as_text digits_bytes
 
 -- ---- values of any kind
 
--- what a value that is no collection stands for, without the marks
-abbrev pub datum_of : Tree → Option Datum
-datum_of null = Some datum.null
-datum_of (boolean b) = Some (datum.boolean b)
-datum_of (number n) = Some (datum.number n)
-datum_of (text u plain) = Some (datum.text u)
-datum_of _ = None
+-- what a tree stands for, without the marks
+abbrev mutual
+  pub datum_of : Tree → Datum
+  datum_of null = datum.null
+  datum_of (boolean b) = datum.boolean b
+  datum_of (number n) = datum.number n
+  datum_of (text u plain) = datum.text u
+  datum_of (array ts) = datum.array (items_of ts)
+  datum_of (object ps) = datum.object (fields_of ps)
+
+  pub items_of : Trees → Items
+  items_of no_more = no_item
+  items_of (more t ts) = item (datum_of t) (items_of ts)
+
+  pub fields_of : Pairs → Fields
+  fields_of no_pair = no_field
+  fields_of (pair u plain t ps) = field u (datum_of t) (fields_of ps)
+
+abbrev pub every_datum : Tree → Option Datum
+every_datum t = Some (datum_of t)

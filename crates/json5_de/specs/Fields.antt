@@ -1,19 +1,85 @@
--- Structs: each pair of an object converts as its key says.
-use Rattle.std.specs.Prelude.{ℕ, Bool, List, [], Option, Some}
-use Rattle.json5_grammar.specs.Trees.{Tree, Pairs, no_pair, pair}
-use Rattle.json5_grammar.specs.Members.{both, object_of}
-use Rattle.json5_de.specs.Keys.{KeyConversion}
+-- Structs: the fields of an object by their names, in any order; a field may stand once.
+use Rattle.std.specs.Prelude.{◌≡◌, ◌⊎◌, ◌<◌, length, false, ℕ, Bool, if◌then◌else◌, true, is_some, List, Option, Some, None, Result, Ok, Err, OnOk, OnErr, IfErr, IsErrAnd}
+use Rattle.std.specs.Str.{bytes_eq, encode_utf8_all}
+use Rattle.json5_grammar.specs.declared.code.ErrorCode.TheVariants as codes
+use Rattle.json5_grammar.specs.Trees.{Tree, Trees, Pairs, no_more, more, no_pair, pair}
+use Rattle.json5_grammar.specs.Members.{joint}
+use Rattle.json5_text.specs.declared.error.Error.{Error}
+use Rattle.json5_text.specs.Errors.{code, custom, kind_of}
+use Rattle.json5_text.specs.Cursor.{IsOutOfMemory}
+use Rattle.json5_de.specs.State.{State}
+use Rattle.json5_de.specs.ConvertLists.{if_some}
+use Rattle.json5_de.specs.Law.{Unprompted}
 use Rattle.json5_de.specs.Own.{if_more}
+use Rattle.json5_de.specs.Access.{Seen, IsAtBracket}
+use Rattle.json5_de.specs.Objects.{SeenMap, PairsLeft, ReadsAPair, LeavesPairs}
+use Rattle.json5_de.specs.ObjectFaults.{ValueRefusedAtBrace}
 
--- what the value's tree converts to, by what the key stands for
-abbrev pub field_of : {K C : Type 0} → KeyConversion K → (K → Tree → Option C) → List ℕ → Bool → Tree → Option C
-field_of keys field u plain t = if_more (λ k. field k t) (keys u plain)
+-- ---- what a struct takes of an object
 
--- every field in the order of the text, where each converts
-abbrev pub fields_of : {K C : Type 0} → KeyConversion K → (K → Tree → Option C) → Pairs → Option (List C)
-fields_of keys field no_pair = Some []
-fields_of keys field (pair u plain t ps) = both (field_of keys field u plain t) (fields_of keys field ps)
+-- the values of the pairs with this name, in the order of the text; a name is the bytes of its text
+abbrev pub values_named : List ℕ → Pairs → Trees
+values_named name no_pair = no_more
+values_named name (pair u plain t ps) = if bytes_eq (encode_utf8_all u) name then more t (values_named name ps) else values_named name ps
 
--- a struct's content, from its fields
-abbrev pub struct_of : {K C D : Type 0} → KeyConversion K → (K → Tree → Option C) → (List C → Option D) → Tree → Option D
-struct_of keys field build = object_of (λ ps. if_more build (fields_of keys field ps))
+-- one value at most, where it converts
+abbrev pub at_most_one : {C : Type 0} → (Tree → Option C) → Trees → Option (Option C)
+at_most_one f no_more = Some None
+at_most_one f (more t no_more) = if_some Some (f t)
+at_most_one f (more t (more u us)) = None
+
+-- a field that may be missing
+abbrev pub optional : {C : Type 0} → List ℕ → (Tree → Option C) → Pairs → Option (Option C)
+optional name f ps = at_most_one f (values_named name ps)
+
+-- a field that has to be there
+abbrev pub required : {C : Type 0} → List ℕ → (Tree → Option C) → Pairs → Option C
+required name f ps = if_more (λ o. o) (optional name f ps)
+
+abbrev pub or_value : {C : Type 0} → C → Option C → C
+or_value c None = c
+or_value c (Some d) = d
+
+-- a field that is c where it is missing
+abbrev pub with_default : {C : Type 0} → C → List ℕ → (Tree → Option C) → Pairs → Option C
+with_default c name f ps = if_some (or_value c) (optional name f ps)
+
+-- a field, and others
+abbrev pub and_field : {A B : Type 0} → (Pairs → Option A) → (Pairs → Option B) → Pairs → Option (A × B)
+and_field f g ps = joint (f ps) (g ps)
+
+-- ---- what the calls for a field mean
+
+-- a fault with a text of its own at the opening bracket, or memory ran out
+pub record IsOwnAtBracket (s : Seen) (e : Error) : Type 0 where
+  pub kind : ((text : List ℕ) × (kind_of e ≡ custom text)) ⊎ IsOutOfMemory e
+  pub there : IsAtBracket s e
+
+-- the value of the key that was read fills the field, which had none
+abbrev pub FillsField : {V C : Type 0} → (V → C) → (Tree → Option C) → SeenMap → SeenMap → Option V → Option V → Type 0
+FillsField {V} content convert old new field next = (v : V) × (field ≡ None) × (next ≡ Some v) × ReadsAPair content convert old new v
+
+-- where the first pair's value converts, it fills the field, unless memory runs out, and the others are left
+abbrev pub LeavesFilled : {V C : Type 0} → (V → C) → (Tree → Option C) → Tree → Pairs → List ℕ → SeenMap → Option V → Result (Unit {0}) Error → Type 0
+LeavesFilled {V} content convert t ps r new next (Ok done) = (v : V) × (next ≡ Some v) × LeavesPairs content convert t ps r new (Ok v)
+LeavesFilled {V} content convert t ps r new next (Err e) = LeavesPairs {V = V} content convert t ps r new (Err e)
+
+-- a value that is refused, as its type refuses it
+abbrev pub RefusesHere : {V : Type 0} → (State → Error → State → Type 0) → SeenMap → Result V Error → Type 0
+RefusesHere refuses old result = IfErr result (λ e. old.at.reader.failed ≡ false → ValueRefusedAtBrace refuses old e)
+
+-- why a field isn't filled: its value is refused, or it stands there a second time
+pub data FieldFault {V : Type 0} (refuses : State → Error → State → Type 0) (old : SeenMap) (field : Option V) (e : Error) : Type 0 where
+  in_field : field ≡ None → ValueRefusedAtBrace refuses old e → FieldFault refuses old field e
+  twice : is_some field ≡ true → IsOwnAtBracket old.at e → FieldFault refuses old field e
+
+-- what a call for a field means
+pub record FieldRead {V C : Type 0} (content : V → C) (convert : Tree → Option C) (refuses : State → Error → State → Type 0) (old new : SeenMap) (field next : Option V) (result : Result (Unit {0}) Error) : Type 0 where
+  pub read : OnOk result (FillsField content convert old new field next)
+  pub left : field ≡ None → (u : List ℕ) (plain : Bool) (t : Tree) (ps : Pairs) (r : List ℕ) → PairsLeft (pair u plain t ps) r old → LeavesFilled content convert t ps r new next result
+  pub live : OnOk result (new.at.reader.failed ≡ false)
+  pub shorter : OnOk result (length new.at.reader.unread < length old.at.reader.unread)
+  pub cause : IfErr result (λ e. old.at.reader.failed ≡ false → FieldFault refuses old field e)
+  pub unprompted : Unprompted old.at.reader result
+  pub failed : OnErr result (new.at.reader.failed ≡ true)
+  pub before : old.at.reader.failed ≡ true → IsErrAnd result (λ e. (kind_of e ≡ code codes.Failed) × IsAtBracket old.at e)

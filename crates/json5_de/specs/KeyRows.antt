@@ -1,6 +1,5 @@
 -- The kinds of keys, and the law of a method that reads one.
 use Rattle.std.specs.Prelude.{◌≡◌, ◌≤◌, ◌↔◌, ℕ, Bool, List, [], ◌++◌, Option, Some, None, Result}
-use Rattle.std.specs.Borrow.{Bor}
 use Rattle.json5_grammar.specs.declared.code.ErrorCode.{ErrorCode}
 use Rattle.json5_grammar.specs.declared.code.ErrorCode.TheVariants as codes
 use Rattle.json5_grammar.specs.Documents.{Doc, max_depth}
@@ -15,7 +14,7 @@ use Rattle.json5_de.specs.State.{State}
 use Rattle.json5_de.specs.Convert.{every_text, if_plain, every_cow, one_character, place_among, digits_bytes}
 use Rattle.json5_de.specs.ConvertLists.{if_some}
 use Rattle.json5_de.specs.Faults.{AfterBlanks, RefusedByOrMemory, Trailing}
-use Rattle.json5_de.specs.Keys.{KeyConversion, ReadsOneKey}
+use Rattle.json5_de.specs.Keys.{KeyConversion, every_key, ReadsOneKey}
 use Rattle.json5_de.specs.Rows.{Row}
 
 -- with which code the text of a key is refused, None for a fault with a text of its own; true where the key is plain
@@ -69,8 +68,12 @@ abbrev pub cow_key : KeyRow (List ℕ × Bool)
 cow_key = text_key every_cow
 
 -- one of these names, by its first place among them
-abbrev pub variant_key : List (Bor (List ℕ)) → KeyRow ℕ
+abbrev pub variant_key : List (List ℕ) → KeyRow ℕ
 variant_key names = text_key (place_among names)
+
+-- any key, of which nothing is kept
+abbrev pub ignored_key : KeyRow (Unit {0})
+ignored_key = text_key every_key
 
 -- bytes, as a text of hexadecimal digits
 abbrev pub bytes_key : KeyRow (List ℕ)

@@ -1,14 +1,19 @@
 -- The steps of a read of a key.
-use Rattle.std.specs.Prelude.{◌≡◌, ℕ, Bool, true, List, ◌++◌, length, Some}
+use Rattle.std.specs.Prelude.{◌≡◌, ℕ, Bool, true, List, ◌++◌, length, Result, IfOk, IfErr, OnErr}
 use Rattle.std.specs.Str.{all_scalars, encode_utf8_all}
 use Rattle.json5_grammar.specs.Names.{Key}
 use Rattle.json5_text.specs.declared.key_text.KeyText.{KeyText}
+use Rattle.json5_text.specs.declared.cow_str.CowStr.{CowStr}
+use Rattle.json5_text.specs.declared.error.Error.{Error}
 use Rattle.json5_text.specs.Cursor.{IsOffset}
-use Rattle.json5_text.specs.Keys.{KeyIs}
+use Rattle.json5_text.specs.Keys.{KeyIs, IsTextOf, IsCowOf}
+use Rattle.json5_text.specs.Tokens.{FaultyKey}
 use Rattle.json5_de.specs.declared.key_reads.FoundKey.{FoundKey}
-use Rattle.json5_de.specs.State.{State}
+use Rattle.json5_de.specs.State.{State, GivesUp}
+use Rattle.json5_de.specs.Faults.{RefusedByOrMemory}
+use Rattle.json5_de.specs.Law.{StaysFailed}
 use Rattle.json5_de.specs.Steps.{PassedGap, TookText}
-use Rattle.json5_de.specs.Keys.{KeyConversion}
+use Rattle.json5_de.specs.Keys.{every_key, CompletesKey}
 
 -- a key was taken, which has this text
 abbrev pub TookKeyText : State → State → KeyText → Type 0
@@ -28,6 +33,17 @@ pub record TookKeyAt (old new : State) (key : FoundKey) : Type 0 where
   pub offset : IsOffset new.input key.start
   pub scalars : all_scalars text ≡ true
 
--- every key converts
-abbrev pub every_key : KeyConversion (Unit {0})
-every_key u plain = Some tt
+-- a key is taken, blanks before it included
+pub record FindsKey (old new : State) (result : Result FoundKey Error) : Type 0 where
+  pub taken : IfOk result (TookKeyAt old new)
+  pub refused : IfErr result (RefusedByOrMemory FaultyKey old)
+  pub complete : CompletesKey every_key old result
+  pub failed : OnErr result (GivesUp old new)
+  pub before : StaysFailed old new result
+
+-- the text that the key has, which this reader took; borrowed where the key is plain
+abbrev pub SpellsKey : State → KeyText → List ℕ → Type 0
+SpellsKey s key bytes = IsTextOf s.input key bytes
+
+abbrev pub SpellsCow : State → KeyText → CowStr → Type 0
+SpellsCow s key text = IsCowOf s.input key text

@@ -16,6 +16,10 @@ pub record TookKey (old : State) (u : List ℕ) (plain : Bool) (new : State) : T
 abbrev pub KeyConversion : Type 0 → Type 0
 KeyConversion C = List ℕ → Bool → Option C
 
+-- every key converts
+abbrev pub every_key : KeyConversion (Unit {0})
+every_key u plain = Some tt
+
 -- v stands for a key that was read
 abbrev pub GivesKey : {V C : Type 0} → (V → C) → KeyConversion C → State → State → V → Type 0
 GivesKey content convert old new v = (u : List ℕ) × (plain : Bool) × TookKey old u plain new × (convert u plain ≡ Some (content v))
@@ -29,7 +33,15 @@ abbrev pub CompletesKey : {V C : Type 0} → KeyConversion C → State → Resul
 CompletesKey {C = C} convert old result =
     (u : List ℕ) (plain : Bool) (r : List ℕ) (c : C) → old.failed ≡ false → ReadsKey old.unread u plain r → convert u plain ≡ Some c → IsOkOrMemory result
 
--- one key is read from the front: the law of a key type, and after a refusal the reader has failed for good
+-- one key is read from the front: the law of a key type
+pub record ReadsKeyOf {V C : Type 0} (content : V → C) (convert : KeyConversion C) (refuses : State → Error → State → Type 0) (old new : State) (result : Result V Error) : Type 0 where
+  pub sound : IfOk result (λ v. GivesKey content convert old new v)
+  pub complete : CompletesKey convert old result
+  pub refused : IfErr result (λ e. refuses old e new)
+  pub unprompted : Unprompted old result
+  pub same_text : SameText old new
+
+-- the same, and after a refusal the reader has failed for good
 pub record ReadsOneKey {V C : Type 0} (content : V → C) (convert : KeyConversion C) (refuses : State → Error → State → Type 0) (old new : State) (result : Result V Error) : Type 0 where
   pub sound : IfOk result (λ v. GivesKey content convert old new v)
   pub complete : CompletesKey convert old result

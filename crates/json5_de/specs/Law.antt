@@ -60,3 +60,9 @@ pub record ReadsValue {V C : Type 0} (content : V → C) (convert : Tree → Opt
   pub same_text : SameText old new
   pub failed : OnErr result (new.failed ≡ true)
   pub before : StaysFailed old new result
+
+-- the text stays; a reader that had failed says `Failed` without a place, and no other does
+pub record Steady {V : Type 0} (old new : State) (result : Result V Error) : Type 0 where
+  pub same_text : SameText old new
+  pub unprompted : Unprompted old result
+  pub before : old.failed ≡ true → IsErrAnd result (λ e. (kind_of e ≡ code codes.Failed) × (place_of e ≡ None))

@@ -1,3 +1,4 @@
+pub mod Building
 pub mod State
 pub mod Law
 pub mod Faults
@@ -14,10 +15,12 @@ pub mod Lists
 pub mod Keys
 pub mod KeyRows
 pub mod KeySteps
+pub mod Takes
 pub mod Objects
 pub mod ObjectFaults
 pub mod Maps
 pub mod Fields
+pub mod Plans
 pub mod MapFaults
 pub mod Lending
 pub mod Texts
@@ -25,3 +28,4 @@ pub mod Own
 pub mod Spans
 pub mod AnyTree
 pub mod Passing
+pub mod Enums

@@ -139,8 +139,9 @@ LeavesOthers content convert old new result = (u : List ℕ) (plain : Bool) (t :
 
 -- ---- what the calls mean
 
--- an object is opened: nothing was read of it, and where one can be read its pairs are left
-pub record OpensMap {A : Type 0} (seen : A → SeenMap) (old : State) (result : Result A Error) : Type 0 where
+-- an object is opened by an access that holds the reader so: nothing was read of it, and where one can be read its pairs are left
+pub record OpensMap {A : Type 0} (Held : A → Type 0) (seen : A → SeenMap) (old : State) (result : Result A Error) : Type 0 where
+  pub held : IfOk result Held
   pub bracket : OpensAs curly (λ a. (seen a).at) old result
   pub no_key : IfOk result (λ a. (seen a).pending ≡ false)
   pub same_text : IfOk result (λ a. SameText old (seen a).at.reader)

@@ -80,6 +80,11 @@ pub record OpenedAt (bracket : OpenBracket) (old new : State) : Type 0 where
   pub room : old.level < max_depth
   pub rest : new ≡ record old { unread = new.unread; level = old.level + 1 }
 
+pub record Opens (old new : State) (result : Result OpenBracket Error) : Type 0 where
+  pub opened : IfOk result (λ bracket. OpenedAt bracket old new)
+  pub refused : IfErr result (Blames old.input (value_at old))
+  pub failed : OnErr result (GivesUp old new)
+
 -- a value that is no collection was taken, or an opening bracket
 abbrev pub BeganValue : State → State → Option OpenBracket → Type 0
 BeganValue old new None = Gave (value_at old) tt old new
@@ -91,30 +96,48 @@ pub record BeginsValue (old new : State) (result : Result (Option OpenBracket) E
   pub failed : OnErr result (GivesUp old new)
   pub shorter : IfOk result (λ o. length new.unread < length old.unread)
 
--- ---- open brackets, the outermost first
+-- ---- what is open round a value
 
--- where these brackets are open, nested so deep at most, what is read of a value makes w of the whole
-abbrev pub Nested : List ℕ → ℕ → List OpenBracket → Read (Unit {0}) → Read (Unit {0}) → Type 0
-Nested input d [] m w = w ≡ m
-Nested input d (f ∷ fs) m w =
-    (q : List ℕ) × (v : Read (Unit {0})) × CountsTo input f.start q × Nested input (d - 1) fs m v × (w ≡ placed q (and_then v (λ u y. rest_of (kind_of f.kind) true (d - 1) y)))
+-- where these are open, the outermost first, their values nested so deep at most, what is read of a value makes w of the whole
+abbrev pub Nested : {F D : Type 0} → (F → ℕ) → (F → ℕ → D → List ℕ → Read D) → List ℕ → ℕ → List F → Read D → Read D → Type 0
+Nested start after input d [] m w = w ≡ m
+Nested {F = F} {D = D} start after input d (f ∷ fs) m w = (q : List ℕ) × (v : Read D) × CountsTo input (start f) q × Nested {F = F} {D = D} start after input (d - 1) fs m v × (w ≡ placed q (and_then v (after f (d - 1))))
+
+-- since `from` these were opened, and what is read next makes w of the whole
+pub record Within {F D : Type 0} (start : F → ℕ) (after : F → ℕ → D → List ℕ → Read D) (from : State) (w : Read D) (fs : List F) (m : Read D) (now : State) : Type 0 where
+  pub ready : IsReady now
+  pub rest : now ≡ record from { unread = now.unread; level = from.level + length fs }
+  pub nested : Nested start after now.input (max_depth - from.level) fs m w
+
+-- the same within one more, which was opened before q
+pub record Inside {F D : Type 0} (start : F → ℕ) (after : F → ℕ → D → List ℕ → Read D) (from : State) (w : Read D) (fs : List F) (at : ℕ) (m : Read D) (q : List ℕ) (now : State) : Type 0 where
+  pub ready : IsReady now
+  pub rest : now ≡ record from { unread = now.unread; level = suc (from.level + length fs) }
+  pub counted : CountsTo now.input at q
+  pub nested : Nested start after now.input (max_depth - from.level) fs (placed q m) w
+
+-- ---- open brackets
+
+-- what a value in a bracket leaves to read of it
+abbrev pub rest_in : OpenBracket → ℕ → Unit {0} → List ℕ → Read (Unit {0})
+rest_in bracket d u x = rest_of (kind_of bracket.kind) true d x
+
+abbrev pub start_of : OpenBracket → ℕ
+start_of bracket = bracket.start
 
 -- a value is next, or one has ended
 abbrev pub stands : Bool → State → Read (Unit {0})
 stands at_value now = cond at_value (value_at now) (got tt now.unread)
 
--- since `from` these brackets were opened, and what is next makes w of the whole
-pub record Passing (from : State) (w : Read (Unit {0})) (brackets : List OpenBracket) (at_value : Bool) (now : State) : Type 0 where
-  pub ready : IsReady now
-  pub rest : now ≡ record from { unread = now.unread; level = from.level + length brackets }
-  pub nested : Nested now.input (max_depth - from.level) brackets (stands at_value now) w
+abbrev pub Passing : State → Read (Unit {0}) → List OpenBracket → Bool → State → Type 0
+Passing from w brackets at_value now = Within start_of rest_in from w brackets (stands at_value now) now
 
--- the same, within one bracket more, which is open before q
-pub record Inside (from : State) (w : Read (Unit {0})) (brackets : List OpenBracket) (bracket : OpenBracket) (due : Bool) (q : List ℕ) (now : State) : Type 0 where
-  pub ready : IsReady now
-  pub rest : now ≡ record from { unread = now.unread; level = suc (from.level + length brackets) }
-  pub counted : CountsTo now.input bracket.start q
-  pub nested : Nested now.input (max_depth - from.level) brackets (placed q (rest_of (kind_of bracket.kind) due (max_depth - now.level) now.unread)) w
+-- what is left of a bracket
+abbrev pub rest_at : OpenBracket → Bool → State → Read (Unit {0})
+rest_at bracket due now = rest_of (kind_of bracket.kind) due (max_depth - now.level) now.unread
+
+abbrev pub PassingInside : State → Read (Unit {0}) → List OpenBracket → OpenBracket → Bool → List ℕ → State → Type 0
+PassingInside from w brackets bracket due q now = Inside start_of rest_in from w brackets bracket.start (rest_at bracket due now) q now
 
 -- the fault gets the innermost bracket's place where it has none and one is open
 abbrev pub PlacedWithin : List ℕ → List OpenBracket → Error → Error → Type 0
@@ -128,8 +151,8 @@ pub record Turns (was : Bool) (brackets after : List OpenBracket) (old new : Sta
   pub shorter : IfOk result (λ at_value. length new.unread < length old.unread)
 
 pub record TurnsInside (due : Bool) (bracket : OpenBracket) (brackets after : List OpenBracket) (old new : State) (result : Result Bool Error) : Type 0 where
-  pub goes : IfOk result (λ at_value. (from : State) (w : Read (Unit {0})) (q : List ℕ) → Inside from w brackets bracket due q old → Passing from w after at_value new)
-  pub refused : IfErr result (λ e. (from : State) (w : Read (Unit {0})) (q : List ℕ) → Inside from w brackets bracket due q old → Blames from.input w e)
+  pub goes : IfOk result (λ at_value. (from : State) (w : Read (Unit {0})) (q : List ℕ) → PassingInside from w brackets bracket due q old → Passing from w after at_value new)
+  pub refused : IfErr result (λ e. (from : State) (w : Read (Unit {0})) (q : List ℕ) → PassingInside from w brackets bracket due q old → Blames from.input w e)
   pub failed : OnErr result (GivesUp old new)
   pub shorter : IfOk result (λ at_value. due ≡ true → length new.unread < length old.unread)
   pub no_longer : IfOk result (λ at_value. length new.unread ≤ length old.unread)

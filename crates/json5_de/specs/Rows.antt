@@ -11,13 +11,13 @@ use Rattle.json5_grammar.specs.NumberFaults.{is_sign, begins_number}
 use Rattle.json5_grammar.specs.Numbers.{Decimal}
 use Rattle.json5_grammar.specs.Strings.{is_quote}
 use Rattle.json5_grammar.specs.Trees.{Tree, text}
+use Rattle.json5_text.specs.declared.byte_buf.ByteBuf.{ByteBuf}
 use Rattle.json5_text.specs.declared.error.Error.{Error}
-use Rattle.json5_text.specs.ValueViews.{Datum}
+use Rattle.json5_text.specs.Bytes.{bytes_of}
 use Rattle.json5_de.specs.State.{State}
 use Rattle.json5_de.specs.Law.{ReadsValue}
-use Rattle.json5_de.specs.Convert.{unit_of, bool_of, as_number, as_whole, natural_below, integer_below, every_decimal, as_text, every_text, if_plain, every_cow, one_character, place_among, digits_bytes, datum_of}
+use Rattle.json5_de.specs.Convert.{unit_of, bool_of, as_number, as_whole, natural_below, integer_below, every_decimal, as_text, every_text, if_plain, every_cow, one_character, place_among, digits_bytes}
 use Rattle.json5_de.specs.Faults.{FaultRelation, RefusedBy, RefusedByOrMemory, FaultyNull, FaultyBool, NotNumber, NotText, EndsWith, EndsWithOrMemory, DiffersWith, DiffersWithOrMemory}
-use Rattle.json5_de.specs.Scalars.{FaultyScalar, begins_scalar}
 
 -- a kind of value: the faults where one is expected, what each tree gives, which trees are read without memory,
 -- what begins one, the codes at the end and at another character, and whether it may be refused because memory ran out
@@ -117,16 +117,20 @@ abbrev pub cow_row : Row (List ℕ × Bool)
 cow_row = text_row every_cow plain_text
 
 -- one of these names, by its first place among them
-abbrev pub variant_row : List (Bor (List ℕ)) → Row ℕ
+abbrev pub variant_row : List (List ℕ) → Row ℕ
 variant_row names = text_row (place_among names) no_tree
 
 -- bytes, as a text of hexadecimal digits
 abbrev pub bytes_row : Row (List ℕ)
 bytes_row = coded_text_row (Some codes.InvalidBytes) digits_bytes no_tree
 
--- a value of any kind that is no collection
-abbrev pub any_row : Row Datum
-any_row = record { IsFault = FaultyScalar; convert = datum_of; free = no_tree; begins = begins_scalar; ends = codes.EofParsingValue; differs = codes.ExpectedValue; may_lack_memory = true }
+-- ---- calls of more than one name
+
+abbrev pub ReadsNull : State → State → Result (Unit {0}) Error → Type 0
+ReadsNull old new result = ReadsAs null_row (λ _. tt) old new result
+
+abbrev pub ReadsBytes : State → State → Result ByteBuf Error → Type 0
+ReadsBytes old new result = ReadsAs bytes_row bytes_of old new result
 
 -- ---- the codes, which follow from the law of a read
 

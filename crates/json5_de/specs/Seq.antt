@@ -1,5 +1,5 @@
 -- The steps of an access, and how its calls refuse.
-use Rattle.std.specs.Prelude.{◌≡◌, ℕ, ◌-◌, Bool, true, false, List, [], ◌∷◌, ◌++◌, Option, Some, None, ◌==◌, Result, IfErr, OnErr, IsErrAnd}
+use Rattle.std.specs.Prelude.{◌≡◌, ℕ, ◌-◌, Bool, true, false, List, [], ◌∷◌, ◌++◌, Option, Some, None, ◌==◌, Result, IfErr, OnOk, OnErr, IsErrAnd}
 use Rattle.json5_grammar.specs.declared.code.ErrorCode.{ErrorCode}
 use Rattle.json5_grammar.specs.declared.code.ErrorCode.TheVariants as codes
 use Rattle.json5_grammar.specs.Codes.{after_text}
@@ -10,7 +10,7 @@ use Rattle.json5_text.specs.Cursor.{Refused}
 use Rattle.json5_text.specs.Tokens.{FaultyBlanks}
 use Rattle.json5_text.specs.declared.error.Error.{Error}
 use Rattle.json5_text.specs.Errors.{code, kind_of}
-use Rattle.json5_de.specs.State.{State, OnlyRead, cursor_of}
+use Rattle.json5_de.specs.State.{State, OnlyRead, SameText, cursor_of}
 use Rattle.json5_de.specs.declared.brackets.Brackets.{Brackets}
 use Rattle.json5_de.specs.Brackets.{square}
 use Rattle.json5_de.specs.Law.{Unprompted}
@@ -33,9 +33,20 @@ Begun true x y = (z : List ℕ) × IsSign comma_sign x z × IsAfterGap z y
 abbrev pub TookClosing : Brackets → State → State → Type 0
 TookClosing b old new = (old.unread ≡ b.closing ∷ new.unread) × (new ≡ record old { unread = new.unread; level = old.level - 1 })
 
+-- the fault of what isn't expected here, and the reader has failed
+pub record IsUnexpected (ends differs : ErrorCode) (old new : State) (e : Error) : Type 0 where
+  pub fault : Refused (Unexpected ends differs) (cursor_of old) e
+  pub state : new ≡ record old { failed = true }
+
 -- something else stands in front
 abbrev pub RefusesClosing : Brackets → State → Error → Type 0
 RefusesClosing b old e = Refused (Unexpected b.ends b.not_closed) (cursor_of old) e × NotBegun (λ c. c == b.closing) old.unread
+
+-- the closing bracket is taken where it stands in front
+pub record TakesClosing (b : Brackets) (old new : State) (result : Result (Unit {0}) Error) : Type 0 where
+  pub taken : OnOk result (TookClosing b old new)
+  pub refused : IfErr result (RefusesClosing b old)
+  pub same_text : SameText old new
 
 -- a member may begin here: no closing bracket is next
 pub record AtMember (b : Brackets) (due : Bool) (old new : State) : Type 0 where

@@ -1,5 +1,6 @@
 -- What contracts see of a reader.
-use Rattle.std.specs.Prelude.{◌≡◌, ℕ, List, Bool, true}
+use Rattle.std.specs.Prelude.{◌≡◌, ℕ, List, Bool, true, Option, Result, slice_get, IsErrAnd}
+use Rattle.json5_text.specs.declared.error.Error.{Error}
 use Rattle.json5_text.specs.Cursor.{Cursor}
 
 -- the whole text, what is unread of it, the count of open brackets, and whether a call refused, or an access holds the reader or was dropped before its end
@@ -11,6 +12,10 @@ pub record State : Type 0 where
 
 abbrev pub cursor_of : State → Cursor
 cursor_of s = record { input = s.input; unread = s.unread }
+
+-- the next character
+abbrev pub next : State → Option ℕ
+next s = slice_get s.unread 0
 
 -- nothing changed but what is unread
 abbrev pub OnlyRead : State → State → Type 0
@@ -24,3 +29,8 @@ SameText old new = new.input ≡ old.input
 pub record GivesUp (old new : State) : Type 0 where
   pub failed : new.failed ≡ true
   pub same_text : SameText old new
+
+-- it refuses with such a fault, and has failed
+pub record GivesUpWith {V : Type 0} (IsFault : Error → Type 0) (old new : State) (result : Result V Error) : Type 0 where
+  pub refused : IsErrAnd result IsFault
+  pub failed : GivesUp old new

@@ -1,6 +1,6 @@
 -- The steps of a typed read.
-use Rattle.std.specs.Prelude.{◌≡◌, ◌≤◌, ℕ, ℤ, Bool, false, List, ◌∷◌, ◌++◌, length, Option, Some, None, ◌⊎◌, String, string_bytes}
-use Rattle.std.specs.Str.{chars, encode_utf8_all}
+use Rattle.std.specs.Prelude.{◌≡◌, ◌≤◌, ◌==◌, ℕ, ℤ, Bool, true, false, List, [], ◌∷◌, ◌++◌, length, Option, Some, None, ◌⊎◌, String, string_bytes}
+use Rattle.std.specs.Str.{all_scalars, chars, encode_utf8_all}
 use Rattle.hex.specs.declared.error.FromHexError.{FromHexError}
 use Rattle.hex.specs.declared.error.FromHexError.TheVariants as hex
 use Rattle.json5_grammar.specs.Characters.{NotBegun}
@@ -97,3 +97,15 @@ pub record WholeAt (old new : State) (start : ℕ) (z : ℤ) : Type 0 where
   pub stops : Stops phrase new.unread
   pub counted : (before : List ℕ) → between.input ≡ before ++ between.unread → start ≡ length (encode_utf8_all before)
   pub offset : IsOffset new.input start
+
+-- the character is taken where it is next
+pub record Eats (c : ℕ) (old new : State) (ate : Bool) : Type 0 where
+  pub taken : ate ≡ true → TookText old (c ∷ []) new
+  pub kept : (ate ≡ false) → (new ≡ old) × NotBegun (λ d. d == c) old.unread
+
+-- so many bytes stand before what is unread, and that is a text
+pub record IsCount (s : State) (count : ℕ) : Type 0 where
+  pub offset : IsOffset s.input count
+  pub counted : (before : List ℕ) → s.input ≡ before ++ s.unread → count ≡ length (encode_utf8_all before)
+  pub suffix : (before : List ℕ) × (s.input ≡ before ++ s.unread)
+  pub scalars : all_scalars s.unread ≡ true

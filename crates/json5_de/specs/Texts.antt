@@ -1,13 +1,13 @@
 -- How a whole text is read, and why it is refused.
-use Rattle.std.specs.Prelude.{◌≡◌, ◌⊎◌, ℕ, ◌≤◌, false, List, Option, Some, Result, MatchResult}
+use Rattle.std.specs.Prelude.{◌≡◌, ◌⊎◌, ℕ, ◌≤◌, false, List, [], Option, Some, Result, MatchResult, IfOk, IfErr, OnOk, OnErr, IsOk}
 use Rattle.json5_grammar.specs.Documents.{Doc, max_depth}
 use Rattle.json5_grammar.specs.Trees.{Tree, depth}
 use Rattle.json5_grammar.specs.Values.{Reads}
 use Rattle.json5_text.specs.declared.error.Error.{Error}
 use Rattle.json5_text.specs.Cursor.{Refused, IsOutOfMemory}
-use Rattle.json5_de.specs.State.{State}
-use Rattle.json5_de.specs.Law.{TookValue}
-use Rattle.json5_de.specs.Faults.{AfterBlanks, RefusedBy, Trailing}
+use Rattle.json5_de.specs.State.{State, GivesUp}
+use Rattle.json5_de.specs.Law.{TookValue, StaysFailed, IsUnprompted}
+use Rattle.json5_de.specs.Faults.{AfterBlanks, RefusedBy, AtEnd, Trailing}
 
 -- a reader at the start of the text
 abbrev pub at_start : List ℕ → State
@@ -26,3 +26,18 @@ pub data RefusesReading {C : Type 0} (convert : Tree → Option C) (refuses : St
 abbrev pub BlamesRest : {C : Type 0} → (Tree → Option C) → List ℕ → Error → Type 0
 BlamesRest {C = C} convert x e = (t : Tree) (r : List ℕ) (c : C) → Reads x t r → depth t ≤ max_depth → convert t ≡ Some c
     → IsOutOfMemory e ⊎ Refused (AfterBlanks Trailing) (record { input = x; unread = r }) e
+
+-- the blanks at the end are taken, and nothing else may be left
+pub record ReadsEnd (old new : State) (result : Result (Unit {0}) Error) : Type 0 where
+  pub sound : OnOk result (AtEnd old × (new ≡ record old { unread = [] }))
+  pub complete : AtEnd old → IsOk result
+  pub refused : IfErr result (RefusedBy Trailing old)
+  pub failed : OnErr result (GivesUp old new)
+  pub before : StaysFailed old new result
+
+-- the whole text is read as one value
+pub record ReadsText {V C : Type 0} (content : V → C) (convert : Tree → Option C) (refuses : State → Error → State → Type 0) (x : List ℕ) (result : Result V Error) : Type 0 where
+  pub sound : IfOk result (λ v. (t : Tree) × Doc max_depth x t × (convert t ≡ Some (content v)))
+  pub complete : ReadsDocument content convert x result
+  pub refused : IfErr result (RefusesReading convert refuses x)
+  pub unprompted : IfErr result IsUnprompted

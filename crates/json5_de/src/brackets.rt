@@ -1,13 +1,12 @@
 //! The two kinds of brackets, and what arrays and objects share.
 
-ghost use Rattle.std.specs.Prelude.{◌≡◌, ◌-◌, ◌==◌, false, true, ℕ, List, Some, slice_get, IfOk, IfErr, OnErr, OnOk, IsOk, IsErrAnd};
+ghost use Rattle.std.specs.Prelude.{◌≡◌, ◌==◌, false, true, ℕ, List, Some, slice_get, IfOk, IfErr, OnErr, OnOk, IsOk, IsErrAnd};
 ghost use Rattle.json5_grammar.specs.declared.code.ErrorCode.TheVariants as codes;
 ghost use Rattle.json5_grammar.specs.Characters.{NotBegun};
 ghost use Rattle.json5_grammar.specs.Members.{IsEnd};
-ghost use Rattle.json5_text.specs.Cursor.{Refused};
-ghost use Rattle.json5_de.specs.State.{SameText, GivesUp, cursor_of};
+ghost use Rattle.json5_de.specs.State.{SameText, GivesUp};
 ghost use Rattle.json5_de.specs.Faults.{RefusedBy, IsUnplaced};
-ghost use Rattle.json5_de.specs.Law.{Unprompted};
+ghost use Rattle.json5_de.specs.Law.{Steady};
 
 use crate::de::Deserializer;
 use json5_text::ErrorCode;
@@ -61,13 +60,12 @@ impl Brackets {
 
 impl<I: Input> Deserializer<I> {
     ghost use Rattle.json5_de.specs.Brackets.{AreSigns};
-    ghost use Rattle.json5_de.specs.Access.{Closed, OpensAs, Unexpected, NotClosed};
-    ghost use Rattle.json5_de.specs.Seq.{TookClosing, RefusesClosing, GoesOn, NothingNext, NoNext};
+    ghost use Rattle.json5_de.specs.Access.{Closed, OpensAs, NotClosed};
+    ghost use Rattle.json5_de.specs.Seq.{IsUnexpected, TakesClosing, GoesOn, NothingNext, NoNext};
 
     /// Refuses what is next: `differs` at the character, or `ends` at the end, without a place.
     pub(crate) fn unexpected(&mut self, ends: ErrorCode, differs: ErrorCode) -> Error
-        ensures fault { Refused (Unexpected ends differs) (cursor_of self.old) result }
-        ensures state { self.new ≡ record self.old { failed = true } }
+        ensures { IsUnexpected ends differs self.old self.new result }
     {
         let error = match self.peek() {
             Some(_) => Error::new_at(self.position_of(self.offset()), differs),
@@ -108,10 +106,8 @@ impl<I: Input> Deserializer<I> {
         requires { AreSigns brackets }
         ensures sound { IfOk result (λ more. GoesOn brackets due self.old self.new more) }
         ensures refused { IfErr result (RefusedBy (NoNext brackets due) self.old) }
-        ensures same_text { SameText self.old self.new }
         ensures nowhere { OnErr result (self.old.failed ≡ false → NothingNext brackets due self.old.unread) }
-        ensures unprompted { Unprompted self.old result }
-        ensures before { self.old.failed ≡ true → IsErrAnd result (IsUnplaced codes.Failed) }
+        ensures steady { Steady self.old self.new result }
     {
         self.begin()?;
         if self.at_closing(brackets) {
@@ -129,9 +125,7 @@ impl<I: Input> Deserializer<I> {
 
     /// Takes the closing bracket in front.
     fn bracket(&mut self, brackets: Brackets) -> Result<()>
-        ensures taken { OnOk result (TookClosing brackets self.old self.new) }
-        ensures refused { IfErr result (RefusesClosing brackets self.old) }
-        ensures same_text { SameText self.old self.new }
+        ensures { TakesClosing brackets self.old self.new result }
     {
         if !self.eat(brackets.closing) {
             return Err(self.unexpected(brackets.ends, brackets.not_closed));

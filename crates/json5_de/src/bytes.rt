@@ -1,9 +1,8 @@
 //! Reading of bytes.
 
-ghost use Rattle.std.specs.Prelude.{Some, IsErrAnd};
-ghost use Rattle.json5_text.specs.Bytes.{bytes_of};
-ghost use Rattle.json5_de.specs.Rows.{ReadsAs, bytes_row};
-ghost use Rattle.json5_de.specs.State.{GivesUp};
+ghost use Rattle.std.specs.Prelude.{Some};
+ghost use Rattle.json5_de.specs.Rows.{ReadsBytes};
+ghost use Rattle.json5_de.specs.State.{GivesUpWith};
 ghost use Rattle.json5_de.specs.Steps.{IsFaultAt, IsUndecoded};
 
 use crate::de::Deserializer;
@@ -17,7 +16,7 @@ impl<I: Input> Deserializer<I> {
     /// Reads bytes: a text of an even number of ASCII hexadecimal digits, in either case, two a byte. `InvalidBytes` at the quote
     /// of any other text; what is no text is refused as by `deserialize_string`.
     pub fn deserialize_bytes(&mut self) -> Result<ByteBuf>
-        ensures { ReadsAs bytes_row bytes_of self.old self.new result }
+        ensures { ReadsBytes self.old self.new result }
     {
         self.begin()?;
         let start = self.offset();
@@ -30,15 +29,14 @@ impl<I: Input> Deserializer<I> {
 
     /// As `deserialize_bytes`.
     pub fn deserialize_byte_buf(&mut self) -> Result<ByteBuf>
-        ensures { ReadsAs bytes_row bytes_of self.old self.new result }
+        ensures { ReadsBytes self.old self.new result }
     {
         self.deserialize_bytes()
     }
 
     /// Refuses a text at the offset that was decoded with this fault.
     pub(crate) fn undecoded<T>(&mut self, offset: usize, error: FromHexError) -> Result<T>
-        ensures refused { IsErrAnd result (IsUndecoded error self.old.input offset) }
-        ensures failed { GivesUp self.old self.new }
+        ensures { GivesUpWith (IsUndecoded error self.old.input offset) self.old self.new result }
     {
         match error {
             FromHexError::OutOfMemory => self.refuse(Error::new(ErrorCode::OutOfMemory)),
@@ -50,8 +48,7 @@ impl<I: Input> Deserializer<I> {
 
     /// Refuses with this code at the offset.
     fn refuse_at<T>(&mut self, offset: usize, code: ErrorCode) -> Result<T>
-        ensures refused { IsErrAnd result (IsFaultAt (Some code) self.old.input offset) }
-        ensures failed { GivesUp self.old self.new }
+        ensures { GivesUpWith (IsFaultAt (Some code) self.old.input offset) self.old self.new result }
     {
         let error = Error::new_at(self.position_of(offset), code);
         self.refuse(error)

@@ -1,28 +1,19 @@
 //! The reader, and the law of a type that is read.
 
-ghost use Rattle.std.specs.Prelude.{◌≡◌, ◌≤◌, Bool, ◌++◌, ℕ, List, [], length, Some, None, IfOk, IfErr, OnOk, OnErr, IsOk, IsErrAnd, true, false, slice_get};
-ghost use Rattle.std.specs.Prelude.{◌<◌, ◌+◌, ◌-◌, ◌==◌, ◌∷◌};
+ghost use Rattle.std.specs.Prelude.{◌≡◌, ◌≤◌, ◌<◌, ◌+◌, ◌-◌, Bool, [], Some, true, false, IfOk, IfErr, OnOk};
 ghost use Rattle.std.specs.Str.{chars};
-ghost use Rattle.json5_text.specs.Errors.{FaultKind, code, kind_of, place_of};
-ghost use Rattle.json5_text.specs.Cursor.{IsOutOfMemory, Refused, IsPlaced, IsOffset, Locates};
-ghost use Rattle.json5_text.specs.Tokens.{FaultyBlanks, FaultyWord, FaultyNumber, FaultyString, FaultyName, FaultyKey};
+ghost use Rattle.json5_text.specs.Errors.{FaultKind, kind_of};
+ghost use Rattle.json5_text.specs.Cursor.{IsPlaced, IsOffset, Locates};
 ghost use Rattle.json5_grammar.specs.Documents.{max_depth};
 ghost use Rattle.json5_grammar.specs.declared.code.ErrorCode.TheVariants as codes;
-ghost use Rattle.json5_de.specs.State.{State, SameText, GivesUp, cursor_of};
-ghost use Rattle.json5_de.specs.Faults.{RefusedBy, AtEnd, Trailing};
-ghost use Rattle.json5_de.specs.Law.{Gives, Completes, CompletesFree, StaysFailed, Unprompted};
-ghost use Rattle.std.specs.Str.{all_scalars, encode_utf8_all};
-ghost use Rattle.json5_grammar.specs.Characters.{NotBegun};
-ghost use Rattle.json5_grammar.specs.Numbers as numbers;
-ghost use Rattle.json5_grammar.specs.Numbers.{Num};
-ghost use Rattle.json5_grammar.specs.Stops.{lengthens};
-ghost use Rattle.json5_grammar.specs.Names.{Ident, Key, goes_on_name};
-ghost use Rattle.json5_grammar.specs.Strings.{Str};
-ghost use Rattle.json5_text.specs.NumberViews.{keeps_digits};
-ghost use Rattle.json5_de.specs.Steps.{PassedGap, TookText, TookNumber, TookOwned, TookCharacters, TookCow, PassedString, PassedName, PassedNumber, RefusesToken, IsMismatch};
-ghost use Rattle.json5_text.specs.Cows.{cow_bytes, is_borrowed};
-ghost use Rattle.json5_text.specs.Keys.{KeyIs};
-ghost use Rattle.json5_de.specs.KeySteps.{TookKeyText};
+ghost use Rattle.json5_de.specs.State.{State, SameText, GivesUpWith, cursor_of, next};
+ghost use Rattle.json5_de.specs.Faults.{IsUnplaced};
+ghost use Rattle.json5_de.specs.Law.{Gives, Completes, CompletesFree, Unprompted};
+ghost use Rattle.json5_de.specs.Steps.{Eats, IsCount, IsMismatch};
+ghost use Rattle.json5_de.specs.KeySteps.{SpellsKey, SpellsCow};
+ghost use Rattle.json5_de.specs.Takes as tokens;
+ghost use Rattle.json5_de.specs.Takes.{PassesGap, Takes, TakesOwned, TakesWord};
+ghost use Rattle.json5_de.specs.Texts.{ReadsEnd};
 
 use crate::mismatch::Mismatch;
 use json5_text::cow_str::CowStr;
@@ -111,7 +102,7 @@ impl<I: Input> Deserializer<I> {
     /// Answers `Failed` where a call refused before, or an access holds the reader.
     pub(crate) fn live(&self) -> Result<()>
         ensures live { OnOk result ((self.now.failed ≡ false) × (self.now.level ≤ max_depth)) }
-        ensures failed { IfErr result (λ e. (self.now.failed ≡ true) × (kind_of e ≡ code codes.Failed) × (place_of e ≡ None)) }
+        ensures failed { IfErr result (λ e. (self.now.failed ≡ true) × IsUnplaced codes.Failed e) }
     {
         if self.failed {
             return Err(Error::new(ErrorCode::Failed));
@@ -130,18 +121,14 @@ impl<I: Input> Deserializer<I> {
 
     /// The next character.
     pub(crate) fn peek(&self) -> Option<char>
-        ensures { result ≡ slice_get self.now.unread 0 }
+        ensures { result ≡ next self.now }
     {
         self.scanner.peek()
     }
 
     /// Passes over blanks, where there was no refusal so far.
     pub(crate) fn begin(&mut self) -> Result<()>
-        ensures passed { OnOk result (PassedGap self.old self.new) }
-        ensures refused { IfErr result (λ e. self.old.failed ≡ false → Refused FaultyBlanks (cursor_of self.old) e) }
-        ensures failed { OnErr result (GivesUp self.old self.new) }
-        ensures before { StaysFailed self.old self.new result }
-        ensures unprompted { Unprompted self.old result }
+        ensures { PassesGap self.old self.new result }
     {
         self.live()?;
         match self.scanner.skip_blank() {
@@ -152,9 +139,7 @@ impl<I: Input> Deserializer<I> {
 
     /// Takes the word in front.
     pub(crate) fn word(&mut self, word: &str, ends: ErrorCode, differs: ErrorCode) -> Result<()>
-        ensures taken { OnOk result (TookText self.old (chars word.now) self.new) }
-        ensures refused { IfErr result (λ e. Refused (FaultyWord (chars word.now) ends differs) (cursor_of self.old) e) }
-        ensures failed { OnErr result (GivesUp self.old self.new) }
+        ensures { TakesWord (chars word.now) ends differs self.old self.new result }
     {
         match self.scanner.word(word, ends, differs) {
             Ok(()) => Ok(()),
@@ -164,10 +149,7 @@ impl<I: Input> Deserializer<I> {
 
     /// Takes the number in front.
     pub(crate) fn number(&mut self) -> Result<Number>
-        ensures taken { IfOk result (TookNumber self.old self.new) }
-        ensures refused { IfErr result (RefusesToken FaultyNumber self.old) }
-        ensures failed { OnErr result (GivesUp self.old self.new) }
-        ensures memory { (s r : List ℕ) (n : numbers.Number) → self.old.unread ≡ s ++ r → Num s n → NotBegun (lengthens s) r → keeps_digits n ≡ false → IsOk result }
+        ensures { Takes tokens.number self.old self.new result }
     {
         match self.scanner.number() {
             Ok(number) => Ok(number),
@@ -177,10 +159,7 @@ impl<I: Input> Deserializer<I> {
 
     /// Takes the string in front, its text in memory of its own.
     pub(crate) fn string_owned(&mut self) -> Result<String>
-        ensures taken { IfOk result (TookOwned self.old self.new) }
-        ensures characters { IfOk result (TookCharacters self.old self.new) }
-        ensures refused { IfErr result (RefusesToken FaultyString self.old) }
-        ensures failed { OnErr result (GivesUp self.old self.new) }
+        ensures { TakesOwned self.old self.new result }
     {
         let _offset = self.offset();
         match self.scanner.string_owned() {
@@ -191,10 +170,7 @@ impl<I: Input> Deserializer<I> {
 
     /// Takes the string in front, without its text. Only a custom fault takes memory.
     pub(crate) fn skip_string(&mut self) -> Result<()>
-        ensures taken { OnOk result (PassedString self.old self.new) }
-        ensures refused { IfErr result (RefusesToken FaultyString self.old) }
-        ensures failed { OnErr result (GivesUp self.old self.new) }
-        ensures memory { (s u r : List ℕ) (plain : Bool) → self.old.unread ≡ s ++ r → Str s u plain → IsOk result }
+        ensures { Takes tokens.string_passed self.old self.new result }
     {
         match self.scanner.skip_string() {
             Ok(()) => Ok(()),
@@ -204,10 +180,7 @@ impl<I: Input> Deserializer<I> {
 
     /// Takes the name in front, without its text. Only a custom fault takes memory.
     pub(crate) fn skip_identifier(&mut self) -> Result<()>
-        ensures taken { OnOk result (PassedName self.old self.new) }
-        ensures refused { IfErr result (RefusesToken FaultyName self.old) }
-        ensures failed { OnErr result (GivesUp self.old self.new) }
-        ensures memory { (s u r : List ℕ) (c : ℕ) (plain : Bool) → self.old.unread ≡ s ++ c ∷ r → Ident s u plain → goes_on_name c ≡ false → IsOk result }
+        ensures { Takes tokens.name_passed self.old self.new result }
     {
         match self.scanner.skip_identifier() {
             Ok(()) => Ok(()),
@@ -217,10 +190,7 @@ impl<I: Input> Deserializer<I> {
 
     /// Takes the number in front, without its digits. Only a custom fault takes memory.
     pub(crate) fn skip_number(&mut self) -> Result<()>
-        ensures taken { OnOk result (PassedNumber self.old self.new) }
-        ensures refused { IfErr result (RefusesToken FaultyNumber self.old) }
-        ensures failed { OnErr result (GivesUp self.old self.new) }
-        ensures memory { (s r : List ℕ) (n : numbers.Number) → self.old.unread ≡ s ++ r → Num s n → NotBegun (lengthens s) r → IsOk result }
+        ensures { Takes tokens.number_passed self.old self.new result }
     {
         match self.scanner.skip_number() {
             Ok(_) => Ok(()),
@@ -230,10 +200,7 @@ impl<I: Input> Deserializer<I> {
 
     /// Takes the key in front.
     pub(crate) fn key(&mut self) -> Result<KeyText>
-        ensures taken { IfOk result (TookKeyText self.old self.new) }
-        ensures refused { IfErr result (RefusesToken FaultyKey self.old) }
-        ensures complete { (s u r : List ℕ) (plain : Bool) → self.old.unread ≡ s ++ r → Key s r u plain → IfErr result IsOutOfMemory }
-        ensures failed { OnErr result (GivesUp self.old self.new) }
+        ensures { Takes tokens.key self.old self.new result }
     {
         match self.scanner.key() {
             Ok(key) => Ok(key),
@@ -243,7 +210,7 @@ impl<I: Input> Deserializer<I> {
 
     /// The text of a key that was taken.
     pub(crate) fn key_text<'t>(&'t self, key: &'t KeyText) -> &'t str
-        ensures { (u : List ℕ) (plain : Bool) → KeyIs self.now.input u plain key.now → result.now ≡ encode_utf8_all u }
+        ensures { SpellsKey self.now key.now result.now }
     {
         self.scanner.text_of(key)
     }
@@ -260,11 +227,7 @@ impl<I: Input> Deserializer<I> {
     /// Takes the blanks at the end of the text, comments included; nothing else may be left. Else a comment's fault,
     /// whose place is none where the end of the text shows it, or `TrailingCharacters` at the first other character.
     pub fn end(&mut self) -> Result<()>
-        ensures sound { OnOk result (AtEnd self.old × (self.new ≡ record self.old { unread = [] })) }
-        ensures complete { AtEnd self.old → IsOk result }
-        ensures refused { IfErr result (RefusedBy Trailing self.old) }
-        ensures failed { OnErr result (GivesUp self.old self.new) }
-        ensures before { StaysFailed self.old self.new result }
+        ensures { ReadsEnd self.old self.new result }
     {
         self.begin()?;
         if self.peek().is_some() {
@@ -276,17 +239,13 @@ impl<I: Input> Deserializer<I> {
 
     /// The count of bytes before what is unread.
     pub(crate) fn offset(&self) -> usize
-        ensures offset { IsOffset self.now.input result }
-        ensures counted { (before : List ℕ) → self.now.input ≡ before ++ self.now.unread → result ≡ length (encode_utf8_all before) }
-        ensures suffix { (before : List ℕ) × (self.now.input ≡ before ++ self.now.unread) }
-        ensures scalars { all_scalars self.now.unread ≡ true }
+        ensures { IsCount self.now result }
     {
         self.scanner.offset()
     }
 
     /// The fault of a value that isn't of the type that is expected: a text of its own, at the offset.
     pub(crate) fn mismatch_at(&self, offset: usize, mismatch: &Mismatch<'_>) -> Error
-        requires { IsOffset self.now.input offset }
         ensures { IsMismatch self.now.input offset result }
     {
         let position = self.scanner.position_of(offset);
@@ -298,9 +257,7 @@ impl<I: Input> Deserializer<I> {
 
     /// Refuses a value that isn't of the type that is expected: a text of its own, at the offset.
     pub(crate) fn mismatch<T>(&mut self, offset: usize, mismatch: &Mismatch<'_>) -> Result<T>
-        requires { IsOffset self.old.input offset }
-        ensures refused { IsErrAnd result (IsMismatch self.old.input offset) }
-        ensures failed { GivesUp self.old self.new }
+        ensures { GivesUpWith (IsMismatch self.old.input offset) self.old self.new result }
     {
         let error = self.mismatch_at(offset, mismatch);
         self.refuse(error)
@@ -335,8 +292,7 @@ impl<I: Input> Deserializer<I> {
 
     /// Takes the character where it is next, and says whether it was.
     pub(crate) fn eat(&mut self, c: char) -> bool
-        ensures taken { result ≡ true → TookText self.old (c ∷ []) self.new }
-        ensures kept { (result ≡ false) → (self.new ≡ self.old) × NotBegun (λ d. d == c) self.old.unread }
+        ensures { Eats c self.old self.new result }
     {
         self.scanner.eat(c)
     }
@@ -353,10 +309,7 @@ impl<I: Input> Deserializer<I> {
 impl<'de, I: Borrows<'de>> Deserializer<I> {
     /// Takes the string in front, its text borrowed where it holds no backslash.
     pub(crate) fn text(&mut self) -> Result<CowStr<'de>>
-        ensures taken { IfOk result (TookCow self.old self.new) }
-        ensures refused { IfErr result (RefusesToken FaultyString self.old) }
-        ensures failed { OnErr result (GivesUp self.old self.new) }
-        ensures plain { (s u r : List ℕ) → self.old.unread ≡ s ++ r → Str s u true → IsOk result }
+        ensures { Takes tokens.string self.old self.new result }
     {
         match self.scanner.string() {
             Ok(text) => Ok(text),
@@ -366,7 +319,7 @@ impl<'de, I: Borrows<'de>> Deserializer<I> {
 
     /// The text of a key that was taken, borrowed where no escape is used.
     pub(crate) fn borrowed_key_text(&self, key: KeyText) -> CowStr<'de>
-        ensures { (u : List ℕ) (plain : Bool) → KeyIs self.now.input u plain key → (is_borrowed result ≡ plain) × (cow_bytes result ≡ encode_utf8_all u) }
+        ensures { SpellsCow self.now key result }
     {
         self.scanner.borrowed_text_of(key)
     }

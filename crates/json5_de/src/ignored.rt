@@ -11,7 +11,7 @@ ghost use Rattle.json5_grammar.specs.Strings.{is_quote};
 ghost use Rattle.json5_de.specs.Access.{StartsAfter};
 ghost use Rattle.json5_de.specs.Options.{PlacedAt};
 ghost use Rattle.json5_de.specs.AnyTree.{ReadsTree, every_value, nothing};
-ghost use Rattle.json5_de.specs.Passing.{kind_of, IsReady, Steps, StepsFrom, BeginsValue, Turns, TurnsInside, PlacedWithin, Whole, value_at};
+ghost use Rattle.json5_de.specs.Passing.{kind_of, IsReady, Steps, StepsFrom, Opens, BeginsValue, Turns, TurnsInside, PlacedWithin, Whole, value_at};
 ghost use Rattle.json5_de.specs.Rows.{every_tree};
 
 use crate::any::{ValueKind, kind_at};
@@ -23,7 +23,7 @@ use json5_text::input::Input;
 
 /// A kind of brackets.
 #[derive(Clone, Copy, Drop)]
-enum BracketKind {
+pub(crate) enum BracketKind {
     Array,
     Object,
 }
@@ -62,10 +62,10 @@ impl BracketKind {
 
 /// An open bracket.
 #[derive(Clone, Copy, Drop)]
-struct OpenBracket {
-    kind: BracketKind,
+pub(crate) struct OpenBracket {
+    pub(crate) kind: BracketKind,
     /// The count of bytes before it.
-    start: usize,
+    pub(crate) start: usize,
 }
 
 /// What fills the unused places of a table.
@@ -90,7 +90,7 @@ type OpenBrackets = ArrayVec<OpenBracket, 128>;
 
 impl<I: Input> Deserializer<I> {
     /// Passes over blanks.
-    fn pass_blanks(&mut self) -> Result<()>
+    pub(crate) fn pass_blanks(&mut self) -> Result<()>
         requires { IsReady self.old }
         ensures { Steps (skip between self.old.unread) self.old self.new result }
     {
@@ -136,7 +136,7 @@ impl<I: Input> Deserializer<I> {
     }
 
     /// Passes over blanks, a colon and blanks.
-    fn pass_colon(&mut self) -> Result<()>
+    pub(crate) fn pass_colon(&mut self) -> Result<()>
         requires { IsReady self.old }
         ensures { Steps (colon_after self.old.unread) self.old self.new result }
     {
@@ -148,7 +148,7 @@ impl<I: Input> Deserializer<I> {
     }
 
     /// Passes over a comma and says true, or over the closing bracket and says false.
-    fn pass_comma(&mut self, kind: BracketKind) -> Result<bool>
+    pub(crate) fn pass_comma(&mut self, kind: BracketKind) -> Result<bool>
         requires { IsReady self.old }
         ensures { Steps (separator (kind_of kind) self.old.unread) self.old self.new result }
     {
@@ -182,7 +182,7 @@ impl<I: Input> Deserializer<I> {
     }
 
     /// The same, after a comma where one is due.
-    fn pass_to_next(&mut self, kind: BracketKind, due: bool) -> Result<bool>
+    pub(crate) fn pass_to_next(&mut self, kind: BracketKind, due: bool) -> Result<bool>
         requires { IsReady self.old }
         ensures { Steps (next_value (kind_of kind) due self.old.unread) self.old self.new result }
     {
@@ -229,10 +229,10 @@ impl<I: Input> Deserializer<I> {
     }
 
     /// Takes the opening bracket in front, where there is room for one more.
-    fn open_bracket(&mut self, kind: BracketKind) -> Result<Option<OpenBracket>>
+    pub(crate) fn open_bracket(&mut self, kind: BracketKind) -> Result<OpenBracket>
         requires ready { IsReady self.old }
         requires sign { slice_get self.old.unread 0 ≡ Some (opening (kind_of kind)) }
-        ensures { BeginsValue self.old self.new result }
+        ensures { Opens self.old self.new result }
     {
         let start = self.offset();
         if !self.enter() {
@@ -240,7 +240,7 @@ impl<I: Input> Deserializer<I> {
             return self.refuse(error);
         }
         let _ = self.eat(kind.opening());
-        Ok(Some(OpenBracket { kind, start }))
+        Ok(OpenBracket { kind, start })
     }
 
     /// Passes over a value that is no collection, or takes an opening bracket.
@@ -252,20 +252,22 @@ impl<I: Input> Deserializer<I> {
             return self.refuse(Error::new(ErrorCode::EofParsingValue));
         };
         if c == '[' {
-            return self.open_bracket(BracketKind::Array);
+            let bracket = self.open_bracket(BracketKind::Array)?;
+            return Ok(Some(bracket));
         }
         if c == '{' {
-            return self.open_bracket(BracketKind::Object);
+            let bracket = self.open_bracket(BracketKind::Object)?;
+            return Ok(Some(bracket));
         }
         self.pass_scalar(c)?;
         Ok(None)
     }
 
-    /// The fault, at the bracket where it has no place.
-    fn place_at(&self, bracket: OpenBracket, error: Error) -> Error
-        ensures { PlacedAt (StartsAfter self.now.input bracket.start) error result }
+    /// The fault, at the bracket that begins after so many bytes where it has no place.
+    pub(crate) fn place_at(&self, start: usize, error: Error) -> Error
+        ensures { PlacedAt (StartsAfter self.now.input start) error result }
     {
-        error.with_position(self.position_of(bracket.start))
+        error.with_position(self.position_of(start))
     }
 
     /// The fault, at the innermost bracket where it has no place and one is open.
@@ -273,7 +275,7 @@ impl<I: Input> Deserializer<I> {
         ensures { PlacedWithin self.now.input brackets.old.items error result }
     {
         match brackets.pop() {
-            Some(bracket) => self.place_at(bracket, error),
+            Some(bracket) => self.place_at(bracket.start, error),
             None => error,
         }
     }
@@ -292,7 +294,7 @@ impl<I: Input> Deserializer<I> {
     {
         let goes = match self.pass_to_next(bracket.kind, due) {
             Ok(goes) => goes,
-            Err(e) => return Err(self.place_at(bracket, e)),
+            Err(e) => return Err(self.place_at(bracket.start, e)),
         };
         if goes {
             brackets.push(bracket);

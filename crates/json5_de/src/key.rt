@@ -1,16 +1,14 @@
 //! Keys of objects, and the law of a type that is read from one.
 
-ghost use Rattle.std.specs.Prelude.{◌≡◌, ◌^◌, ◌≤◌, ℕ, List, string_bytes, IfOk, IfErr};
-ghost use Rattle.json5_grammar.specs.Documents.{max_depth};
-ghost use Rattle.json5_text.specs.Bytes.{bytes_of};
-ghost use Rattle.json5_text.specs.Cows.{cow_bytes, is_borrowed};
+ghost use Rattle.std.specs.Prelude.{◌≡◌, ◌^◌, string_bytes, IfOk, IfErr};
 ghost use Rattle.json5_de.specs.State.{State, SameText};
 ghost use Rattle.json5_de.specs.ConvertLists.{if_some};
 ghost use Rattle.json5_de.specs.Law.{Unprompted};
 ghost use Rattle.json5_de.specs.Options.{RefusesLive};
-ghost use Rattle.json5_de.specs.Rows.{null_row, bool_row, natural_row, integer_row, decimal_row};
-ghost use Rattle.json5_de.specs.Keys.{GivesKey, CompletesKey, ReadsOneKey};
-ghost use Rattle.json5_de.specs.KeyRows.{string_key, char_key, plain_key, cow_key, variant_key, bytes_key, document_key, some_of};
+ghost use Rattle.json5_de.specs.Rows.{bool_row, natural_row, integer_row, decimal_row};
+ghost use Rattle.json5_de.specs.Convert.{spelled};
+ghost use Rattle.json5_de.specs.Keys.{GivesKey, CompletesKey, ReadsKeyOf, ReadsOneKey};
+ghost use Rattle.json5_de.specs.KeyRows.{string_key, char_key, plain_key, variant_key, ignored_key, document_key, some_of};
 
 use crate::de::Deserializer;
 use json5_text::byte_buf::ByteBuf;
@@ -29,8 +27,10 @@ pub struct MapKey<'a, I: Input> {
 
 /// Dropped unread, it leaves the reader before the key.
 impl<I: Input> Drop for MapKey<'_, I> {
+    ghost use Rattle.json5_de.specs.Lending.{waiting};
+
     fn drop(self)
-        ensures { self.exit.0.now ≡ self.entry.de.now }
+        ensures { self.exit.0.now ≡ waiting self.entry }
     {
         let MapKey { de: _ } = self;
     }
@@ -71,11 +71,7 @@ pub trait DeserializeKey<I: Input>: Sized + Drop {
 impl<I: Input> Deserializer<I> {
     /// Reads a K from the key that is next.
     pub(crate) fn read_key<K: DeserializeKey<I>>(&mut self) -> Result<K>
-        ensures sound { IfOk result (λ v. GivesKey K.content K.convert self.old self.new v) }
-        ensures complete { CompletesKey K.convert self.old result }
-        ensures refused { IfErr result (λ e. K.refuses self.old e self.new) }
-        ensures unprompted { Unprompted self.old result }
-        ensures same_text { SameText self.old self.new }
+        ensures { ReadsKeyOf K.content K.convert K.refuses self.old self.new result }
     {
         K::deserialize_key(&mut MapKey { de: &mut *self })
     }
@@ -93,7 +89,7 @@ impl<I: Input> Deserializer<I> {
 }
 
 impl<I: Input> MapKey<'_, I> {
-    ghost use Rattle.json5_de.specs.Lending.{KeyReads, KeyReadsBy};
+    ghost use Rattle.json5_de.specs.Lending.{KeyReads, KeyReadsBy, ReadsBytesKey, ReadsNullKey};
 
     /// The allocator of what is read.
     pub fn allocator(&self) -> Global {
@@ -114,25 +110,32 @@ impl<I: Input> MapKey<'_, I> {
         self.de.key_char()
     }
 
-    /// Reads a key that is one of the variants, and returns its first place among them, counted from 0. Another text is a custom
-    /// fault at the key, which names the variants.
-    pub fn deserialize_variant(&mut self, variants: &[&str]) -> Result<usize>
-        ensures { KeyReads (variant_key variants.now) (λ n. n) self.old self.new result }
+    /// Reads a key that names one of the variants, and returns its first place among them, counted from 0. Another text is a custom
+    /// fault at the key, which lists the variants. The name of the enum changes nothing.
+    pub fn deserialize_enum(&mut self, _name: &'static str, variants: &[&str]) -> Result<usize>
+        ensures { KeyReads (variant_key (spelled variants.now)) (λ n. n) self.old self.new result }
     {
         self.de.key_variant(variants)
+    }
+
+    /// Reads any key, and keeps nothing of it.
+    pub fn deserialize_ignored_any(&mut self) -> Result<()>
+        ensures { KeyReads ignored_key (λ _. tt) self.old self.new result }
+    {
+        self.de.key_ignored()
     }
 
     /// Reads a key as bytes: a text of an even number of ASCII hexadecimal digits, in either case, two a byte. `InvalidBytes` at
     /// the key for any other text.
     pub fn deserialize_bytes(&mut self) -> Result<ByteBuf>
-        ensures { KeyReads bytes_key bytes_of self.old self.new result }
+        ensures { ReadsBytesKey self.old self.new result }
     {
         self.de.key_bytes()
     }
 
     /// As `deserialize_bytes`.
     pub fn deserialize_byte_buf(&mut self) -> Result<ByteBuf>
-        ensures { KeyReads bytes_key bytes_of self.old self.new result }
+        ensures { ReadsBytesKey self.old self.new result }
     {
         self.deserialize_bytes()
     }
@@ -140,14 +143,14 @@ impl<I: Input> MapKey<'_, I> {
     /// Reads the key's text as a document, which is `null`. Its faults have their codes and the key's place, as those of the other
     /// calls that read a document have.
     pub fn deserialize_unit(&mut self) -> Result<()>
-        ensures { KeyReads (document_key null_row) (λ _. tt) self.old self.new result }
+        ensures { ReadsNullKey self.old self.new result }
     {
         self.de.key_document()
     }
 
     /// Reads the key's text as a document, which is `null`, as a struct without fields. The name changes nothing.
     pub fn deserialize_unit_struct(&mut self, _name: &'static str) -> Result<()>
-        ensures { KeyReads (document_key null_row) (λ _. tt) self.old self.new result }
+        ensures { ReadsNullKey self.old self.new result }
     {
         self.deserialize_unit()
     }
@@ -259,7 +262,7 @@ impl<I: Input> MapKey<'_, I> {
 
 // What is borrowed from the text.
 impl<'de, I: Borrows<'de>> MapKey<'_, I> {
-    ghost use Rattle.json5_de.specs.Lending.{KeyReads};
+    ghost use Rattle.json5_de.specs.Lending.{KeyReads, ReadsCowKey};
 
     /// Reads a key without an escape; another one is a custom fault at the key.
     pub fn deserialize_str(&mut self) -> Result<&'de str>
@@ -270,14 +273,14 @@ impl<'de, I: Borrows<'de>> MapKey<'_, I> {
 
     /// Reads the key as a text, borrowed where no escape is used.
     pub fn deserialize_identifier(&mut self) -> Result<CowStr<'de>>
-        ensures { KeyReads cow_key (λ t. (cow_bytes t, is_borrowed t)) self.old self.new result }
+        ensures { ReadsCowKey self.old self.new result }
     {
         self.de.key_cow()
     }
 
     /// Reads a key of any kind, which is its text, borrowed where no escape is used.
     pub fn deserialize_any(&mut self) -> Result<CowStr<'de>>
-        ensures { KeyReads cow_key (λ t. (cow_bytes t, is_borrowed t)) self.old self.new result }
+        ensures { ReadsCowKey self.old self.new result }
     {
         self.deserialize_identifier()
     }

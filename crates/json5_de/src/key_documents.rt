@@ -7,13 +7,9 @@ use std::alloc::Global;
 
 /// A type that a whole text is read as: one value of its kind, with blanks and comments round it.
 pub(crate) trait FromText: Sized + Drop {
-    ghost use Rattle.std.specs.Prelude.{◌≡◌, Some, IfOk, IfErr};
     ghost use Rattle.std.specs.Str.{chars};
-    ghost use Rattle.json5_grammar.specs.Documents.{Doc, max_depth};
-    ghost use Rattle.json5_grammar.specs.Trees.{Tree};
-    ghost use Rattle.json5_de.specs.Law.{IsUnprompted};
     ghost use Rattle.json5_de.specs.Rows.{Row, RefusedAs};
-    ghost use Rattle.json5_de.specs.Texts.{ReadsDocument, RefusesReading};
+    ghost use Rattle.json5_de.specs.Texts.{ReadsText};
 
     // What of a value counts.
     ghost Content: { Type 0 };
@@ -25,10 +21,7 @@ pub(crate) trait FromText: Sized + Drop {
 
     /// The value that the text holds.
     fn from_text(alloc: Global, text: &str) -> Result<Self>
-        ensures sound { IfOk result (λ v. (t : Tree) × Doc max_depth (chars text.now) t × (kind.convert t ≡ Some (content v))) }
-        ensures complete { ReadsDocument content kind.convert (chars text.now) result }
-        ensures refused { IfErr result (RefusesReading kind.convert (RefusedAs kind) (chars text.now)) }
-        ensures unprompted { IfErr result IsUnprompted };
+        ensures { ReadsText content kind.convert (RefusedAs kind) (chars text.now) result };
 }
 
 impl FromText for () {

@@ -1,19 +1,15 @@
 //! Reading of keys.
 
-ghost use Rattle.std.specs.Prelude.{◌≡◌, ℕ, Bool, List, string_bytes, IfOk, IfErr, OnErr, MatchResult};
+ghost use Rattle.std.specs.Prelude.{◌≡◌, ℕ, Bool, List, string_bytes, MatchResult};
 ghost use Rattle.std.specs.Str.{encode_utf8_all};
 ghost use Rattle.json5_text.specs.Bytes.{bytes_of};
 ghost use Rattle.json5_text.specs.Cows.{cow_bytes, is_borrowed};
-ghost use Rattle.json5_text.specs.Cursor.{IsOutOfMemory, IsOffset};
-ghost use Rattle.json5_de.specs.Steps.{IsMismatch};
+ghost use Rattle.json5_text.specs.Cursor.{IsOutOfMemory};
 ghost use Rattle.json5_text.specs.Keys.{KeyIs};
-ghost use Rattle.json5_text.specs.Tokens.{FaultyKey};
-ghost use Rattle.json5_de.specs.State.{GivesUp};
-ghost use Rattle.json5_de.specs.Law.{StaysFailed};
-ghost use Rattle.json5_de.specs.Faults.{RefusedByOrMemory};
-ghost use Rattle.json5_de.specs.Keys.{CompletesKey};
-ghost use Rattle.json5_de.specs.KeyRows.{ReadsKeyAs, string_key, char_key, plain_key, cow_key, variant_key, bytes_key, document_key};
-ghost use Rattle.json5_de.specs.KeySteps.{TookKeyAt, every_key};
+ghost use Rattle.json5_de.specs.Convert.{spelled};
+ghost use Rattle.json5_de.specs.KeyRows.{ReadsKeyAs, string_key, char_key, plain_key, cow_key, variant_key, ignored_key, bytes_key, document_key};
+ghost use Rattle.json5_de.specs.KeySteps.{FindsKey};
+ghost use Rattle.json5_de.specs.Steps.{IsMismatch};
 
 use crate::de::Deserializer;
 use crate::key_documents::FromText;
@@ -37,11 +33,7 @@ struct FoundKey {
 impl<I: Input> Deserializer<I> {
     /// Takes a key, blanks before it included.
     fn found_key(&mut self) -> Result<FoundKey>
-        ensures taken { IfOk result (TookKeyAt self.old self.new) }
-        ensures refused { IfErr result (RefusedByOrMemory FaultyKey self.old) }
-        ensures complete { CompletesKey every_key self.old result }
-        ensures failed { OnErr result (GivesUp self.old self.new) }
-        ensures before { StaysFailed self.old self.new result }
+        ensures { FindsKey self.old self.new result }
     {
         self.begin()?;
         let start = self.offset();
@@ -50,7 +42,7 @@ impl<I: Input> Deserializer<I> {
     }
 
     /// The text of a key in memory of its own.
-    fn own_key_text(&self, key: KeyText) -> Result<String>
+    pub(crate) fn own_key_text(&self, key: KeyText) -> Result<String>
         ensures { (u : List ℕ) (plain : Bool) → KeyIs self.now.input u plain key → MatchResult result (λ t. string_bytes t ≡ encode_utf8_all u) IsOutOfMemory }
     {
         if let KeyText::Escaped(text) = key {
@@ -86,22 +78,30 @@ impl<I: Input> Deserializer<I> {
 
     /// Reads a key that is one of the variants, as its first place among them.
     pub(crate) fn key_variant(&mut self, variants: &[&str]) -> Result<usize>
-        ensures { ReadsKeyAs (variant_key variants.now) (λ n. n) self.old self.new result }
+        ensures { ReadsKeyAs (variant_key (spelled variants.now)) (λ n. n) self.old self.new result }
     {
         let key = self.found_key()?;
         let name = self.key_text(&key.text);
         let Some(place) = place_among(variants, name) else {
-            let error = self.unknown_variant(key.start, name, variants);
+            let error = self.unknown_variant(&key, name, variants);
             return self.refuse(error);
         };
         Ok(place)
     }
 
-    fn unknown_variant(&self, offset: usize, name: &str, variants: &[&str]) -> Error
-        requires { IsOffset self.now.input offset }
-        ensures { IsMismatch self.now.input offset result }
+    /// The fault of a key that is none of the variants.
+    fn unknown_variant(&self, key: &FoundKey, name: &str, variants: &[&str]) -> Error
+        ensures { IsMismatch self.now.input key.now.start result }
     {
-        self.mismatch_at(offset, &Mismatch::UnknownVariant(name, variants))
+        self.mismatch_at(key.start, &Mismatch::UnknownVariant(name, variants))
+    }
+
+    /// Reads any key, and keeps nothing of it.
+    pub(crate) fn key_ignored(&mut self) -> Result<()>
+        ensures { ReadsKeyAs ignored_key (λ _. tt) self.old self.new result }
+    {
+        self.found_key()?;
+        Ok(())
     }
 
     /// Reads a key as bytes.

@@ -8,6 +8,7 @@ ghost use Rattle.json5_de.specs.Rows.{null_row, bool_row, natural_row, integer_r
 ghost use Rattle.json5_de.specs.Keys.{ReadsOneKey};
 ghost use Rattle.json5_de.specs.KeyRows.{ReadsKeyAs, string_key, char_key, plain_key, cow_key, document_key, some_of};
 
+use crate::ignored::IgnoredAny;
 use crate::key::{DeserializeKey, MapKey};
 use json5_text::byte_buf::ByteBuf;
 use json5_text::cow_str::CowStr;
@@ -337,6 +338,25 @@ impl<'de, I: Borrows<'de>> DeserializeKey<I> for CowStr<'de> {
 
     fn deserialize_key(key: &mut MapKey<'_, I>) -> Result<CowStr<'de>> {
         key.deserialize_identifier()
+    }
+}
+
+/// Every key.
+impl<I: Input> DeserializeKey<I> for IgnoredAny {
+    ghost use Rattle.json5_de.specs.Keys.{every_key};
+    ghost use Rattle.json5_de.specs.KeyRows.{ignored_key, RefusedAsKey};
+
+    ghost Content = { Unit {0} };
+
+    ghost content = { λ _. tt };
+
+    ghost convert = { every_key };
+
+    ghost refuses = { RefusedAsKey ignored_key };
+
+    fn deserialize_key(key: &mut MapKey<'_, I>) -> Result<IgnoredAny> {
+        key.deserialize_ignored_any()?;
+        Ok(IgnoredAny)
     }
 }
 

@@ -1,16 +1,16 @@
 //! What follows from the law of a read, for every type at once.
 
-ghost use Rattle.std.specs.Borrow.{Bor};
 ghost use Rattle.std.specs.Prelude.{ℕ, List};
 ghost use Rattle.json5_text.specs.Bytes.{bytes_of};
 ghost use Rattle.json5_text.specs.Cows.{cow_bytes, is_borrowed};
 ghost use Rattle.json5_text.specs.ValueViews.{value_of};
-ghost use Rattle.json5_de.specs.Convert.{unit_of, bool_of, unsigned_below, signed_below, decimal_of};
+ghost use Rattle.json5_de.specs.AnyTree.{TellsTreesApart};
+ghost use Rattle.json5_de.specs.Convert.{every_datum, unit_of, bool_of, unsigned_below, signed_below, decimal_of};
 ghost use Rattle.json5_de.specs.Law.{OneAnswer};
 ghost use Rattle.json5_de.specs.Keys.{OneKeyAnswer};
 ghost use Rattle.json5_de.specs.KeyRows.{ConvertsDocuments};
 ghost use Rattle.json5_de.specs.Maps.{HoldsInOrder, HoldsInTurn, HoldsAtKeys};
-ghost use Rattle.json5_de.specs.Rows.{TellsApart, null_row, bool_row, natural_row, integer_row, decimal_row, string_row, char_row, plain_row, variant_row, cow_row, bytes_row, any_row, text_bytes, slice_bytes};
+ghost use Rattle.json5_de.specs.Rows.{TellsApart, no_tree, null_row, bool_row, natural_row, integer_row, decimal_row, string_row, char_row, plain_row, variant_row, cow_row, bytes_row, text_bytes, slice_bytes};
 
 use crate::de::Deserialize;
 use crate::key::DeserializeKey;
@@ -29,10 +29,10 @@ pub fn value_codes()
     ensures string { TellsApart string_row text_bytes }
     ensures character { TellsApart char_row (λ c. c) }
     ensures plain { TellsApart plain_row slice_bytes }
-    ensures variant { (names : List (Bor (List ℕ))) → TellsApart (variant_row names) (λ n. n) }
+    ensures variant { (names : List (List ℕ)) → TellsApart (variant_row names) (λ n. n) }
     ensures cow { TellsApart cow_row (λ t. (cow_bytes t, is_borrowed t)) }
     ensures bytes { TellsApart bytes_row bytes_of }
-    ensures any { TellsApart any_row value_of }
+    ensures any { TellsTreesApart value_of every_datum no_tree }
 {}
 
 /// A read has one answer: two values that a lawful type may give for one text have the same content, and the same text is left.

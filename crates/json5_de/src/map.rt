@@ -1,23 +1,24 @@
 //! Reading of objects, one pair after another.
 
-ghost use Rattle.std.specs.Prelude.{◌≡◌, ◌<◌, true, false, ℕ, List, length, is_some, IfOk, IfErr, OnErr, IsErrAnd, IfSome};
+ghost use Rattle.std.specs.Prelude.{◌≡◌, ◌<◌, true, false, ℕ, List, length, is_some, IfOk, IfErr, OnErr, IfSome};
 ghost use Rattle.std.specs.Borrow.{sem};
 ghost use Rattle.json5_grammar.specs.declared.code.ErrorCode.TheVariants as codes;
 ghost use Rattle.json5_grammar.specs.Trees.{Pairs};
 ghost use Rattle.json5_grammar.specs.Members.{NoPairGoes};
 ghost use Rattle.json5_text.specs.Cursor.{Locates};
 ghost use Rattle.json5_text.specs.Errors.{kind_of};
-ghost use Rattle.json5_de.specs.State.{SameText};
-ghost use Rattle.json5_de.specs.Law.{Unprompted};
-ghost use Rattle.json5_de.specs.Faults.{RefusedBy, IsUnplaced};
+ghost use Rattle.json5_de.specs.Law.{Steady};
+ghost use Rattle.json5_de.specs.Faults.{RefusedBy};
 ghost use Rattle.json5_de.specs.Brackets.{curly};
 ghost use Rattle.json5_de.specs.Access.{bare, StartsAfter, PlacedAtBracket, CompletesClose};
-ghost use Rattle.json5_de.specs.Objects.{bare_map, OpensMap, ClosesMap, GivesPairKey, GivesPairValue, CompletesPairKey, CompletesPairValue, ReadsPairKey, ReadsPairValue, PairsLeft, ReadsAKey, ReadsAPair, LeavesAValue, LeavesOthers};
+ghost use Rattle.json5_de.specs.Objects.{bare_map, OpensMap, GivesPairKey, GivesPairValue, CompletesPairKey, CompletesPairValue, ReadsPairKey, ReadsPairValue, PairsLeft, ReadsAKey, ReadsAPair, LeavesAValue, LeavesOthers};
+ghost use Rattle.json5_de.specs.Enums.{EndsObject};
 ghost use Rattle.json5_de.specs.ObjectFaults as faults;
 ghost use Rattle.json5_de.specs.ObjectFaults.{BeginsKey, GoesToKey, NoKey, PlacedAtKey, is_unplaced, RefusesPairKey, RefusesPairValue, RefusesNextKey, RefusesNextValue};
 
 use crate::brackets::Brackets;
 use crate::de::{Deserialize, Deserializer};
+use crate::ending::{Alone, Ending};
 use crate::key::DeserializeKey;
 use json5_text::char::is_json5_identifier_start;
 use json5_text::error::{Error, Result};
@@ -26,22 +27,26 @@ use json5_text::{ErrorCode, Position};
 
 /// The pairs of an object, one after another: a key, then its value. The reader answers `Failed` until `end`, and for good where
 /// the access is dropped or leaked before.
-pub struct MapAccess<'a, I: Input> {
-    de: &'a mut Deserializer<I>,
+pub struct MapAccess<'a, I: Input, E: Ending = Alone> {
+    pub(crate) de: &'a mut Deserializer<I>,
     /// The count of bytes before the opening brace.
-    start: usize,
+    pub(crate) start: usize,
     /// Whether a pair was read, so that a comma stands before the next one.
-    due: bool,
+    pub(crate) due: bool,
     /// Whether a key was read whose value wasn't.
-    pending: bool,
+    pub(crate) pending: bool,
     /// Whether a call of the access was refused.
-    failed: bool,
+    pub(crate) failed: bool,
+    /// What its end closes beside its brace.
+    pub(crate) around: E,
 }
 
 /// Dropped before its end, it leaves the reader blocked.
-impl<I: Input> Drop for MapAccess<'_, I> {
+impl<I: Input, E: Ending> Drop for MapAccess<'_, I, E> {
+    ghost use Rattle.json5_de.specs.Lending.{held_by_map};
+
     fn drop(self)
-        ensures { self.exit.0.now ≡ self.entry.de.now }
+        ensures { self.exit.0.now ≡ held_by_map self.entry }
     {
         let MapAccess {
             de: _,
@@ -49,6 +54,7 @@ impl<I: Input> Drop for MapAccess<'_, I> {
             due: _,
             pending: _,
             failed: _,
+            around: _,
         } = self;
     }
 }
@@ -86,15 +92,13 @@ fn is_unplaced(error: &Error) -> bool
 
 impl<I: Input> Deserializer<I> {
     ghost use Rattle.json5_grammar.specs.Characters.{NotBegun};
-    ghost use Rattle.json5_de.specs.Lending.{seen_map, HoldsMap, BlocksMapReader, lends_to_map};
+    ghost use Rattle.json5_de.specs.Lending.{seen_map, HoldsMapBlocked, lends_to_map};
 
     /// Opens an object, and blocks the reader while the access reads its pairs. `ExpectedOpeningBrace` stands at another
     /// character, `TooDeep` at the 129th open bracket; `EofParsingObject` at the end has no place.
     pub fn deserialize_map(&mut self) -> Result<MapAccess<'_, I>>
         ensures* lends { sem 𝓛 (lends_to_map I.row I.Input self.entry result) }
-        ensures same_reference { IfOk result (HoldsMap self.entry) }
-        ensures blocks { IfOk result BlocksMapReader }
-        ensures opens { OpensMap seen_map self.old result }
+        ensures opens { OpensMap (HoldsMapBlocked self.entry) seen_map self.old result }
     {
         let start = self.open(Brackets::curly())?;
         self.set_failed(true);
@@ -104,6 +108,7 @@ impl<I: Input> Deserializer<I> {
             due: false,
             pending: false,
             failed: false,
+            around: Alone,
         })
     }
 
@@ -114,15 +119,13 @@ impl<I: Input> Deserializer<I> {
         _fields: &'static [&'static str],
     ) -> Result<MapAccess<'_, I>>
         ensures* lends { sem 𝓛 (lends_to_map I.row I.Input self.entry result) }
-        ensures same_reference { IfOk result (HoldsMap self.entry) }
-        ensures blocks { IfOk result BlocksMapReader }
-        ensures opens { OpensMap seen_map self.old result }
+        ensures opens { OpensMap (HoldsMapBlocked self.entry) seen_map self.old result }
     {
         self.deserialize_map()
     }
 
     /// Whether a key may begin with what is next.
-    fn at_key(&self) -> bool
+    pub(crate) fn at_key(&self) -> bool
         ensures found { result ≡ true → BeginsKey self.now.unread }
         ensures other { result ≡ false → NotBegun faults.begins_key self.now.unread }
     {
@@ -136,10 +139,8 @@ impl<I: Input> Deserializer<I> {
     fn goes_to_key(&mut self, due: bool) -> Result<bool>
         ensures sound { IfOk result (λ more. GoesToKey due self.old self.new more) }
         ensures refused { IfErr result (RefusedBy (NoKey due) self.old) }
-        ensures same_text { SameText self.old self.new }
         ensures nowhere { OnErr result (self.old.failed ≡ false → NoPairGoes due self.old.unread) }
-        ensures unprompted { Unprompted self.old result }
-        ensures before { self.old.failed ≡ true → IsErrAnd result (IsUnplaced codes.Failed) }
+        ensures steady { Steady self.old self.new result }
     {
         if !self.goes_on(Brackets::curly(), due)? {
             return Ok(false);
@@ -167,9 +168,7 @@ impl<I: Input> Deserializer<I> {
         ensures complete { CompletesPairKey K.convert (bare_map self.old due false) result }
         ensures closing { CompletesClose curly (bare self.old due) result }
         ensures cause { IfErr result (λ e. RefusesPairKey K.refuses due self.old e self.new) }
-        ensures same_text { SameText self.old self.new }
-        ensures unprompted { Unprompted self.old result }
-        ensures before { self.old.failed ≡ true → IsErrAnd result (IsUnplaced codes.Failed) }
+        ensures steady { Steady self.old self.new result }
     {
         if !self.goes_to_key(due)? {
             return Ok(None);
@@ -186,9 +185,7 @@ impl<I: Input> Deserializer<I> {
         ensures sound { IfOk result (GivesPairValue V.content V.convert (bare_map self.old false true) (bare_map self.new true false)) }
         ensures complete { CompletesPairValue V.convert (bare_map self.old false true) result }
         ensures cause { IfErr result (λ e. RefusesPairValue V.refuses self.old e self.new) }
-        ensures same_text { SameText self.old self.new }
-        ensures unprompted { Unprompted self.old result }
-        ensures before { self.old.failed ≡ true → IsErrAnd result (IsUnplaced codes.Failed) }
+        ensures steady { Steady self.old self.new result }
     {
         self.begin()?;
         if !self.eat(':') {
@@ -198,8 +195,8 @@ impl<I: Input> Deserializer<I> {
     }
 }
 
-impl<'a, I: Input> MapAccess<'a, I> {
-    ghost use Rattle.json5_de.specs.Lending.{seen_map, KeepsMap};
+impl<'a, I: Input, E: Ending> MapAccess<'a, I, E> {
+    ghost use Rattle.json5_de.specs.Lending.{seen_map, map_ending, KeepsMap};
 
     /// The next key; none where the closing brace is next, which stays unread. Its value has to be read next. After a pair
     /// `ExpectedComma` stands at what is neither a comma nor the brace, else `ExpectedIdentifier` at what begins no key, and
@@ -287,9 +284,12 @@ impl<'a, I: Input> MapAccess<'a, I> {
 
     /// Takes the closing brace, and before it one comma where a pair was read and its comma wasn't taken. Then the reader goes on
     /// after it. `ExpectedClosingBrace` stands at another character; `EofParsingObject` at the end has no place.
+    ///
+    /// As the content of a variant the object is closed in the same way, and then the variant's brace: a fault of the object's own
+    /// brace without a place gets the variant's.
     pub fn end(self) -> Result<()>
         requires no_key { (seen_map self).pending ≡ false }
-        ensures { ClosesMap (seen_map self.entry) self.exit.0.now result }
+        ensures { EndsObject (E.around (map_ending self.entry)) (seen_map self.entry) self.exit.0.now result }
     {
         let MapAccess {
             de,
@@ -297,14 +297,12 @@ impl<'a, I: Input> MapAccess<'a, I> {
             due,
             pending: _,
             failed,
+            around,
         } = self;
         de.set_failed(failed);
-        match de.close(Brackets::curly(), due) {
-            Ok(()) => Ok(()),
-            Err(e) => {
-                de.set_failed(true);
-                Err(e)
-            }
+        match around.brace() {
+            None => de.close_last(Brackets::curly(), due),
+            Some(brace) => de.close_content(Brackets::curly(), due, brace),
         }
     }
 }

@@ -16,6 +16,8 @@ pub(crate) enum Mismatch<'a> {
     NotCharacter(&'a str),
     /// A name, and the variants of which it is none.
     UnknownVariant(&'a str, &'a [&'a str]),
+    /// A text where a variant of this kind is expected, which has content.
+    WithoutContent(&'a str),
 }
 
 impl fmt::Display for Mismatch<'_> {
@@ -36,6 +38,9 @@ impl fmt::Display for Mismatch<'_> {
             Mismatch::UnknownVariant(name, variants) => {
                 write!(f, "unknown variant `{name}`, ")?;
                 write_variants(f, variants)
+            }
+            Mismatch::WithoutContent(kind) => {
+                write!(f, "invalid type: unit variant, expected {kind} variant")
             }
         }
     }

@@ -2,7 +2,7 @@
 
 ghost use Rattle.json5_grammar.specs.declared.code.ErrorCode.TheVariants as codes;
 ghost use Rattle.json5_de.specs.Law.{ReadsValue};
-ghost use Rattle.json5_de.specs.Rows.{ReadsAs, null_row};
+ghost use Rattle.json5_de.specs.Rows.{ReadsNull};
 ghost use Rattle.json5_de.specs.ConvertLists.{option_of, if_some};
 ghost use Rattle.json5_de.specs.Options.{option_free, RefusesOption, RefusesLive};
 ghost use Rattle.json5_de.specs.Faults.{EndsWith};
@@ -54,7 +54,7 @@ impl<I: Input> Deserializer<I> {
 
     /// Reads `null` as a struct without fields. The name changes nothing. Takes no memory.
     pub fn deserialize_unit_struct(&mut self, _name: &'static str) -> Result<()>
-        ensures { ReadsAs null_row (λ _. tt) self.old self.new result }
+        ensures { ReadsNull self.old self.new result }
     {
         self.deserialize_unit()
     }

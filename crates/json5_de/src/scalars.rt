@@ -1,7 +1,7 @@
 //! Reading of null, booleans and numbers.
 
-ghost use Rattle.std.specs.Prelude.{ℕ, ◌≤◌, ◌+◌, ◌^◌, ◌≤ℤ◌, ◌-ℤ◌, pos, neg_ℤ, nat_abs, Some, IfOk};
-ghost use Rattle.json5_de.specs.Rows.{ReadsAs, null_row, bool_row, whole_row, natural_row, integer_row, decimal_row};
+ghost use Rattle.std.specs.Prelude.{◌≤◌, ◌+◌, ◌^◌, ◌≤ℤ◌, ◌-ℤ◌, pos, neg_ℤ, nat_abs, Some, IfOk};
+ghost use Rattle.json5_de.specs.Rows.{ReadsAs, ReadsNull, bool_row, whole_row, natural_row, integer_row, decimal_row};
 ghost use Rattle.json5_de.specs.Steps.{WholeAt};
 
 use crate::de::Deserializer;
@@ -18,7 +18,7 @@ use json5_text::whole::Whole;
 impl<I: Input> Deserializer<I> {
     /// Reads `null`. Takes no memory.
     pub fn deserialize_unit(&mut self) -> Result<()>
-        ensures { ReadsAs null_row (λ _. tt) self.old self.new result }
+        ensures { ReadsNull self.old self.new result }
     {
         self.begin()?;
         self.word("null", ErrorCode::EofParsingNull, ErrorCode::ExpectedNull)?;

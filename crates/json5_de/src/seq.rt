@@ -1,22 +1,21 @@
 //! Reading of arrays, one element after another.
 
-ghost use Rattle.std.specs.Prelude.{◌≡◌, ◌<◌, ◌-◌, ◌==◌, ◌||◌, false, true, ℕ, List, Some, None, length, is_some, slice_get, IfOk, IfErr, OnErr, OnOk, IsOk, IsErrAnd, IfSome};
+ghost use Rattle.std.specs.Prelude.{◌≡◌, ◌<◌, ◌||◌, false, ℕ, List, Some, length, is_some, IfOk, IfErr, IfSome};
 ghost use Rattle.std.specs.Borrow.{sem};
 ghost use Rattle.json5_grammar.specs.declared.code.ErrorCode.TheVariants as codes;
-ghost use Rattle.json5_grammar.specs.Characters.{NotBegun};
 ghost use Rattle.json5_grammar.specs.Trees.{Trees};
-ghost use Rattle.json5_grammar.specs.Members.{IsEnd, GoesNowhere};
-ghost use Rattle.json5_text.specs.Cursor.{Refused, Locates};
-ghost use Rattle.json5_de.specs.State.{SameText, GivesUp, cursor_of};
-ghost use Rattle.json5_de.specs.Faults.{RefusedBy, IsUnplaced};
+ghost use Rattle.json5_text.specs.Cursor.{Locates};
+ghost use Rattle.json5_de.specs.State.{SameText};
 ghost use Rattle.json5_de.specs.Brackets.{square};
-ghost use Rattle.json5_de.specs.Law.{Unprompted};
-ghost use Rattle.json5_de.specs.Access.{bare, Closed, OpensAs, OpensArray, ClosesArray, GivesElement, CompletesElement, ReadsElement, CompletesClose, PlacedAtBracket, Unexpected, NotClosed, ElementsLeft, ReadsMore, LeavesFewer};
+ghost use Rattle.json5_de.specs.Law.{Steady, Unprompted};
+ghost use Rattle.json5_de.specs.Access.{bare, OpensArray, GivesElement, CompletesElement, ReadsElement, CompletesClose, PlacedAtBracket, ElementsLeft, ReadsMore, LeavesFewer};
+ghost use Rattle.json5_de.specs.Enums.{EndsArray};
 ghost use Rattle.json5_de.specs.Lists.{IsTooShort, LeavesRequired, RefusesRequired};
-ghost use Rattle.json5_de.specs.Seq.{TookClosing, RefusesClosing, GoesOn, NoNext, RefusesElement, RefusesNext};
+ghost use Rattle.json5_de.specs.Seq.{RefusesElement, RefusesNext};
 
 use crate::brackets::Brackets;
 use crate::de::{Deserialize, Deserializer};
+use crate::ending::{Alone, Ending};
 use json5_text::error::{Error, Result};
 use json5_text::input::Input;
 use json5_text::{ErrorCode, Position};
@@ -24,32 +23,37 @@ use std::alloc::Global;
 
 /// The elements of an array, one after another. The reader answers `Failed` until `end`, and for good where the access is
 /// dropped or leaked before.
-pub struct SeqAccess<'a, I: Input> {
-    de: &'a mut Deserializer<I>,
+pub struct SeqAccess<'a, I: Input, E: Ending = Alone> {
+    pub(crate) de: &'a mut Deserializer<I>,
     /// The count of bytes before the opening bracket.
-    start: usize,
+    pub(crate) start: usize,
     /// Whether an element was read, so that a comma stands before the next one.
-    due: bool,
+    pub(crate) due: bool,
     /// Whether a call of the access was refused.
-    failed: bool,
+    pub(crate) failed: bool,
+    /// What its end closes beside its bracket.
+    pub(crate) around: E,
 }
 
 /// Dropped before its end, it leaves the reader blocked.
-impl<I: Input> Drop for SeqAccess<'_, I> {
+impl<I: Input, E: Ending> Drop for SeqAccess<'_, I, E> {
+    ghost use Rattle.json5_de.specs.Lending.{held};
+
     fn drop(self)
-        ensures { self.exit.0.now ≡ self.entry.de.now }
+        ensures { self.exit.0.now ≡ held self.entry }
     {
         let SeqAccess {
             de: _,
             start: _,
             due: _,
             failed: _,
+            around: _,
         } = self;
     }
 }
 
 impl<I: Input> Deserializer<I> {
-    ghost use Rattle.json5_de.specs.Lending.{seen, Holds, BlocksReader, lends_reader};
+    ghost use Rattle.json5_de.specs.Lending.{seen, HoldsBlocked, lends_reader};
 
     /// The next element of an array, or none where the closing bracket is next.
     fn element<T: Deserialize<I>>(&mut self, due: bool) -> Result<Option<T>>
@@ -57,9 +61,7 @@ impl<I: Input> Deserializer<I> {
         ensures complete { CompletesElement T.convert (bare self.old due) result }
         ensures closing { CompletesClose square (bare self.old due) result }
         ensures cause { IfErr result (λ e. RefusesElement T.refuses due self.old e self.new) }
-        ensures same_text { SameText self.old self.new }
-        ensures unprompted { Unprompted self.old result }
-        ensures before { self.old.failed ≡ true → IsErrAnd result (IsUnplaced codes.Failed) }
+        ensures steady { Steady self.old self.new result }
     {
         if self.goes_on(Brackets::square(), due)? {
             Ok(Some(T::deserialize(self)?))
@@ -72,9 +74,7 @@ impl<I: Input> Deserializer<I> {
     /// character, `TooDeep` at the 129th open bracket; `EofParsingArray` at the end has no place.
     pub fn deserialize_seq(&mut self) -> Result<SeqAccess<'_, I>>
         ensures* lends { sem 𝓛 (lends_reader I.row I.Input self.entry result) }
-        ensures same_reference { IfOk result (Holds self.entry) }
-        ensures blocks { IfOk result BlocksReader }
-        ensures opens { OpensArray seen self.old result }
+        ensures opens { OpensArray (HoldsBlocked self.entry) seen self.old result }
     {
         let start = self.open(Brackets::square())?;
         self.set_failed(true);
@@ -83,15 +83,14 @@ impl<I: Input> Deserializer<I> {
             start,
             due: false,
             failed: false,
+            around: Alone,
         })
     }
 
     /// As `deserialize_seq`. The length changes nothing.
     pub fn deserialize_tuple(&mut self, _length: usize) -> Result<SeqAccess<'_, I>>
         ensures* lends { sem 𝓛 (lends_reader I.row I.Input self.entry result) }
-        ensures same_reference { IfOk result (Holds self.entry) }
-        ensures blocks { IfOk result BlocksReader }
-        ensures opens { OpensArray seen self.old result }
+        ensures opens { OpensArray (HoldsBlocked self.entry) seen self.old result }
     {
         self.deserialize_seq()
     }
@@ -103,16 +102,14 @@ impl<I: Input> Deserializer<I> {
         length: usize,
     ) -> Result<SeqAccess<'_, I>>
         ensures* lends { sem 𝓛 (lends_reader I.row I.Input self.entry result) }
-        ensures same_reference { IfOk result (Holds self.entry) }
-        ensures blocks { IfOk result BlocksReader }
-        ensures opens { OpensArray seen self.old result }
+        ensures opens { OpensArray (HoldsBlocked self.entry) seen self.old result }
     {
         self.deserialize_tuple(length)
     }
 }
 
-impl<'a, I: Input> SeqAccess<'a, I> {
-    ghost use Rattle.json5_de.specs.Lending.{seen, HoldsTheSame, BlocksReader, KeepsAccess};
+impl<'a, I: Input, E: Ending> SeqAccess<'a, I, E> {
+    ghost use Rattle.json5_de.specs.Lending.{seen, ending, HoldsTheSame, BlocksReader, KeepsAccess};
 
     /// The next element; none where the closing bracket is next, which stays unread. After an element `ExpectedComma` stands at
     /// what is neither a comma nor the bracket, and `EofParsingArray` says that the text ends; else the element's own faults come.
@@ -194,22 +191,24 @@ impl<'a, I: Input> SeqAccess<'a, I> {
 
     /// Takes the closing bracket, and before it one comma where an element was read and its comma wasn't taken. Then the reader
     /// goes on after it. `ExpectedClosingBracket` stands at another character; `EofParsingArray` at the end has no place.
+    ///
+    /// As the content of a variant the array is closed in the same way, and then the variant's brace, before which a comma may
+    /// stand: a fault of the bracket without a place gets that brace's; `ExpectedClosingBrace` stands at another character than
+    /// the closing brace, and `EofParsingObject` at the end has no place.
     pub fn end(self) -> Result<()>
-        ensures { ClosesArray (seen self.entry) self.exit.0.now result }
+        ensures { EndsArray (E.around (ending self.entry)) (seen self.entry) self.exit.0.now result }
     {
         let SeqAccess {
             de,
             start: _,
             due,
             failed,
+            around,
         } = self;
         de.set_failed(failed);
-        match de.close(Brackets::square(), due) {
-            Ok(()) => Ok(()),
-            Err(e) => {
-                de.set_failed(true);
-                Err(e)
-            }
+        match around.brace() {
+            None => de.close_last(Brackets::square(), due),
+            Some(brace) => de.close_content(Brackets::square(), due, brace),
         }
     }
 }

@@ -4,7 +4,7 @@ ghost use Rattle.std.specs.Prelude.{◌^◌, string_bytes};
 ghost use Rattle.json5_text.specs.Bytes.{bytes_of};
 ghost use Rattle.json5_text.specs.Cows.{cow_bytes, is_borrowed};
 ghost use Rattle.json5_text.specs.ValueViews.{value_of};
-ghost use Rattle.json5_de.specs.Rows.{ReadsAs, null_row, bool_row, natural_row, integer_row, decimal_row, string_row, char_row, plain_row, cow_row, bytes_row, any_row};
+ghost use Rattle.json5_de.specs.Rows.{ReadsAs, null_row, bool_row, natural_row, integer_row, decimal_row, string_row, char_row, plain_row, cow_row, bytes_row};
 
 use crate::de::{Deserialize, Deserializer};
 use json5_text::byte_buf::ByteBuf;
@@ -405,19 +405,21 @@ impl<I: Input> Deserialize<I> for ByteBuf {
 
 impl<I: Input> Deserialize<I> for Value {
     ghost use Rattle.json5_text.specs.ValueViews.{Datum, value_of};
-    ghost use Rattle.json5_de.specs.Convert.{datum_of};
-    ghost use Rattle.json5_de.specs.Rows.{any_row, RefusedAs};
+    ghost use Rattle.json5_de.specs.AnyTree.{FaultyTree, ReadsTree};
+    ghost use Rattle.json5_de.specs.Convert.{every_datum};
+    ghost use Rattle.json5_de.specs.Faults.{RefusedByOrMemory};
+    ghost use Rattle.json5_de.specs.Rows.{no_tree};
 
     ghost Content = { Datum };
 
     ghost content = { value_of };
 
-    ghost convert = { datum_of };
+    ghost convert = { every_datum };
 
-    ghost refuses = { RefusedAs any_row };
+    ghost refuses = { λ s e t. RefusedByOrMemory (FaultyTree s.level) s e };
 
     fn deserialize(de: &mut Deserializer<I>) -> Result<Value>
-        ensures { ReadsAs any_row value_of de.old de.new result }
+        ensures { ReadsTree value_of every_datum no_tree de.old de.new result }
     {
         de.deserialize_any()
     }

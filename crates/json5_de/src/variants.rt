@@ -3,6 +3,7 @@
 ghost use Rattle.std.specs.Prelude.{◌≡◌};
 ghost use Rattle.std.specs.List.{position};
 ghost use Rattle.std.specs.Str.{bytes_eq};
+ghost use Rattle.json5_de.specs.Convert.{spelled};
 ghost use Rattle.json5_de.specs.Rows.{ReadsAs, variant_row};
 
 use crate::de::Deserializer;
@@ -26,7 +27,7 @@ impl<I: Input> Deserializer<I> {
     /// let level = de.deserialize_variant(&levels)?;    // 2 for 'high'
     /// ```
     pub fn deserialize_variant(&mut self, variants: &[&str]) -> Result<usize>
-        ensures { ReadsAs (variant_row variants.now) (λ n. n) self.old self.new result }
+        ensures { ReadsAs (variant_row (spelled variants.now)) (λ n. n) self.old self.new result }
     {
         self.begin()?;
         let start = self.offset();

@@ -1,9 +1,10 @@
 use Rattle.json5_text.specs.Bytes.{bytes_of}
 use Rattle.json5_text.specs.Cows.{cow_bytes, is_borrowed}
 use Rattle.json5_text.specs.ValueViews.{value_of}
-use Rattle.json5_de.specs.Convert.{natural_below, integer_below, every_text, one_character, if_plain, place_among, every_cow}
+use Rattle.json5_de.specs.Convert.{every_datum, natural_below, integer_below, every_text, one_character, if_plain, place_among, every_cow}
 use Rattle.json5_de.specs.Rows.{every_tree, no_tree, plain_text, text_bytes, slice_bytes}
-use Rattle.json5_de.proofs.Rows.{tells_apart, lawful_null, lawful_bool, lawful_whole, lawful_decimal, lawful_text, lawful_bytes, lawful_any}
+use Rattle.json5_de.proofs.Rows.{tells_apart, lawful_null, lawful_bool, lawful_whole, lawful_decimal, lawful_text, lawful_bytes}
+use Rattle.json5_de.proofs.TreeCodes.{tells_trees_apart}
 use Rattle.json5_de.proofs.laws.value_codes.Goals as goal
 
 pub returns-clause-null : goal.returns-clause-null
@@ -40,4 +41,4 @@ pub returns-clause-bytes : goal.returns-clause-bytes
 returns-clause-bytes c = tells_apart lawful_bytes bytes_of
 
 pub returns-clause-any : goal.returns-clause-any
-returns-clause-any c = tells_apart lawful_any value_of
+returns-clause-any c = tells_trees_apart value_of every_datum no_tree

@@ -21,4 +21,4 @@ returns g c =
     let new = c.text.new.self in
     reads_text every_cow plain_text (λ t. (cow_bytes t, is_borrowed t)) c.args.self.now c.begin.new.self new c.text.result passed
     (IfOk-weaker c.text.result _ _ (λ t (s, u, plain, took, str, borrowed, bytes). (trees.text u plain, took_leaf c.args.self.now c.begin.new.self new s (trees.text u plain) refl passed took (is_text str) (text_stops new.unread str), rw (bytes, borrowed) refl)) c.text.ensures.taken)
-    c.text.ensures.refused c.text.ensures.failed (plain_completes (as_text every_cow) c.args.self.now c.begin.new.self c.text.result passed c.text.ensures.plain)
+    c.text.ensures.refused c.text.ensures.failed (plain_completes (as_text every_cow) c.args.self.now c.begin.new.self c.text.result passed c.text.ensures.complete)

@@ -15,7 +15,7 @@ returns-in_err-start g c =
     let (y, is, from) = err_from_is_err_and c.from_residual.result c.from_residual.ensures.1 in
     rw (is, from) (
       (refl, λ w. tt, c.in_err-start.ensures.failed),
-      record { lends = tt; same_reference = tt; blocks = tt; opens = refuses_map _ seen_map c.args.self.now c.in_err-start.field-0.0 (rw c.curly.ensures at c.in_err-start.ensures.opens) },
+      record { lends = tt; opens = refuses_map _ seen_map c.args.self.now c.in_err-start.field-0.0 (rw c.curly.ensures at c.in_err-start.ensures.opens) },
     )
 
 pub returns : goal.returns
@@ -25,8 +25,6 @@ returns g c =
       (refl, λ w. refl, tt),
       record {
         lends = tt;
-        same_reference = refl;
-        blocks = failed_of c.set_failed.ensures;
-        opens = opens_map _ seen_map c.args.self.now c.in_ok-start.start _ (opened_seen curly c.args.self.now c.open.new.self c.set_failed.new.self c.in_ok-start.start opened c.set_failed.ensures) refl opens;
+        opens = opens_map _ seen_map c.args.self.now c.in_ok-start.start _ (record { same_reference = refl; blocks = failed_of c.set_failed.ensures }) (opened_seen curly c.args.self.now c.open.new.self c.set_failed.new.self c.in_ok-start.start opened c.set_failed.ensures) refl opens;
       },
     )

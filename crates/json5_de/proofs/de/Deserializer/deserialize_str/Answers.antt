@@ -19,7 +19,7 @@ returns-in_err-begin g c =
 pub returns-in_err-text : goal.returns-in_err-text
 returns-in_err-text g c =
     let (y, is, from) = err_from_is_err_and c.from_residual-in_err-text.result c.from_residual-in_err-text.ensures.1 in
-    rw (is, from) (plain_refused (λ t. t.now) c.args.self.now c.begin.new.self c.text.new.self c.in_err-text.field-0.0 c.in_ok-begin.ensures.passed c.in_err-text.ensures.refused c.in_err-text.ensures.failed c.in_err-text.ensures.plain)
+    rw (is, from) (plain_refused (λ t. t.now) c.args.self.now c.begin.new.self c.text.new.self c.in_err-text.field-0.0 c.in_ok-begin.ensures.passed c.in_err-text.ensures.refused c.in_err-text.ensures.failed c.in_err-text.ensures.complete)
 
 pub returns-in-Borrowed : goal.returns-in-Borrowed
 returns-in-Borrowed g c =

@@ -1,9 +1,11 @@
 use Rattle.std.proofs.Common.{◌∙◌, arith, subst, sym}
 use Rattle.std.proofs.lemmas.Result.{err_from_is_err_and}
 use Rattle.std.proofs.Math.Bool.{or-true}
+use Rattle.json5_grammar.proofs.Basics.{true_false}
 use Rattle.json5_de.specs.Brackets.{AreSigns, square}
 use Rattle.json5_de.specs.Seq.{not_reached, in_element}
 use Rattle.json5_de.proofs.Arrays.{square_signs, no_element_next, element_found, no_close_found, took_element, level_of, failed_of}
+use Rattle.json5_de.proofs.Taken.{input_of}
 use Rattle.json5_de.proofs.de.Deserializer.element.Goals as goal
 
 pub goes_on-requires : goal.goes_on-requires
@@ -42,8 +44,12 @@ returns-in_err-deserialize-clause-cause g c =
     let (y, is, from) = err_from_is_err_and c.from_residual-in_err-deserialize.result c.from_residual-in_err-deserialize.ensures.1 in
     rw (is, from) (in_element c.goes_on.new.self at c.in_err-deserialize.ensures.refused)
 
-pub returns-in_err-deserialize-clause-unprompted : goal.returns-in_err-deserialize-clause-unprompted
-returns-in_err-deserialize-clause-unprompted g c =
+pub returns-in_err-deserialize-clause-steady : goal.returns-in_err-deserialize-clause-steady
+returns-in_err-deserialize-clause-steady g c =
     let at = rw (c.if-branch.true, c.square.ensures) at c.in_ok-goes_on.ensures.sound in
     let (y, is, from) = err_from_is_err_and c.from_residual-in_err-deserialize.result c.from_residual-in_err-deserialize.ensures.1 in
-    rw (is, from) (λ live. c.in_err-deserialize.ensures.unprompted (failed_of at.rest ∙ live))
+    rw (is, from) (record {
+      same_text = c.in_err-deserialize.ensures.same_text ∙ input_of at.rest;
+      unprompted = λ live. c.in_err-deserialize.ensures.unprompted (failed_of at.rest ∙ live);
+      before = λ h. absurd (true_false h at.live);
+    })

@@ -1,43 +1,57 @@
 use Rattle.std.proofs.Common.{inr, sym, subst}
 use Rattle.std.proofs.lemmas.Result.{err_from_is_err_and}
+use Rattle.json5_grammar.proofs.Basics.{true_false}
 use Rattle.json5_text.specs.Cursor.{IsOffset}
 use Rattle.json5_text.specs.Keys.{KeyIs}
 use Rattle.json5_de.proofs.Taken.{input_of, refused_blanks, refused_or_memory}
 use Rattle.json5_de.proofs.TextScalars.{key_scalars}
 use Rattle.json5_de.proofs.FoundKeys.{key_after, no_fault_before}
+use Rattle.json5_de.proofs.Rows.{given_up}
 use Rattle.json5_de.proofs.de.Deserializer.found_key.Goals as goal
 
-pub returns-in_err-begin-clause-refused : goal.returns-in_err-begin-clause-refused
-returns-in_err-begin-clause-refused g c =
+pub returns-in_err-begin : goal.returns-in_err-begin
+returns-in_err-begin g c =
     let (y, is, from) = err_from_is_err_and c.from_residual.result c.from_residual.ensures.1 in
-    rw (is, from) (inr (refused_blanks c.args.self.now c.in_err-begin.field-0.0 c.in_err-begin.ensures.refused))
+    let e = c.in_err-begin.field-0.0 in
+    rw (is, from) (record {
+      taken = tt;
+      refused = inr (refused_blanks c.args.self.now e c.in_err-begin.ensures.refused);
+      complete = λ u plain r t live reads every. absurd (no_fault_before c.args.self.now e u plain r reads (c.in_err-begin.ensures.refused live));
+      failed = c.in_err-begin.ensures.failed;
+      before = c.in_err-begin.ensures.before;
+    })
 
-pub returns-in_err-begin-clause-complete : goal.returns-in_err-begin-clause-complete
-returns-in_err-begin-clause-complete g c u plain r t live reads is = absurd (no_fault_before c.args.self.now c.in_err-begin.field-0.0 u plain r reads (c.in_err-begin.ensures.refused live))
-
-pub returns-in_err-text-clause-refused : goal.returns-in_err-text-clause-refused
-returns-in_err-text-clause-refused g c =
+pub returns-in_err-text : goal.returns-in_err-text
+returns-in_err-text g c =
     let (y, is, from) = err_from_is_err_and c.from_residual-in_err-text.result c.from_residual-in_err-text.ensures.1 in
-    rw (is, from) (refused_or_memory c.args.self.now c.begin.new.self c.in_err-text.field-0.0 (λ x reason place f. f) c.in_ok-begin.ensures.passed c.in_err-text.ensures.refused)
+    let passed = c.in_ok-begin.ensures.passed in
+    rw (is, from) (record {
+      taken = tt;
+      refused = refused_or_memory c.args.self.now c.begin.new.self c.in_err-text.field-0.0 (λ x reason place f. f) passed c.in_err-text.ensures.refused;
+      complete = λ u plain r t live reads every. c.in_err-text.ensures.complete reads.spelling u r plain (key_after c.args.self.now c.begin.new.self u plain r passed reads) reads.key;
+      failed = given_up c.args.self.now c.begin.new.self c.key.new.self passed c.in_err-text.ensures.failed;
+      before = λ h. absurd (true_false h passed.live);
+    })
 
-pub returns-in_err-text-clause-complete : goal.returns-in_err-text-clause-complete
-returns-in_err-text-clause-complete g c u plain r t live reads every =
-    let (y, is, from) = err_from_is_err_and c.from_residual-in_err-text.result c.from_residual-in_err-text.ensures.1 in
-    rw (is, from) (c.in_err-text.ensures.complete reads.spelling u r plain (key_after c.args.self.now c.begin.new.self u plain r c.in_ok-begin.ensures.passed reads) reads.key)
-
-pub returns-clause-taken : goal.returns-clause-taken
-returns-clause-taken g c =
+pub returns : goal.returns
+returns g c =
     let (s, u, plain, took, is_key, is_text) = c.in_ok-text.ensures.taken in
     record {
-      between = c.begin.new.self;
-      spelling = s;
-      text = u;
-      plain = plain;
-      passed = c.in_ok-begin.ensures.passed;
-      took = took;
-      is_key = is_key;
-      is_text = subst (λ x. KeyIs x u plain c.in_ok-text.text) (sym (input_of took.rest)) is_text;
-      counted = c.offset-start.ensures.counted;
-      offset = subst (λ x. IsOffset x c.offset-start.result) (sym (input_of took.rest)) c.offset-start.ensures.offset;
-      scalars = key_scalars c.begin.new.self.unread c.key.new.self.unread took.split c.offset-start.ensures.scalars is_key;
+      taken = record {
+        between = c.begin.new.self;
+        spelling = s;
+        text = u;
+        plain = plain;
+        passed = c.in_ok-begin.ensures.passed;
+        took = took;
+        is_key = is_key;
+        is_text = subst (λ x. KeyIs x u plain c.in_ok-text.text) (sym (input_of took.rest)) is_text;
+        counted = c.offset-start.ensures.counted;
+        offset = subst (λ x. IsOffset x c.offset-start.result) (sym (input_of took.rest)) c.offset-start.ensures.offset;
+        scalars = key_scalars c.begin.new.self.unread c.key.new.self.unread took.split c.offset-start.ensures.scalars is_key;
+      };
+      refused = tt;
+      complete = λ u plain r t live reads every. tt;
+      failed = tt;
+      before = λ h. absurd (true_false h c.in_ok-begin.ensures.passed.live);
     }

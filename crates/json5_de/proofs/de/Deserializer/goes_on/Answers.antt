@@ -1,7 +1,8 @@
 use Rattle.std.proofs.Common.{◌∙◌, refl, [], ◌∷◌}
 use Rattle.std.proofs.lemmas.Result.{err_from_is_err_and}
+use Rattle.json5_grammar.proofs.Basics.{true_false}
 use Rattle.json5_de.specs.Seq.{in_blanks_after}
-use Rattle.json5_de.proofs.Taken.{refused_blanks, refused_token}
+use Rattle.json5_de.proofs.Taken.{input_of, refused_blanks, refused_token}
 use Rattle.json5_de.proofs.Places.{refused_as, refused_after}
 use Rattle.json5_de.proofs.OtherCodes.{next_lacks}
 use Rattle.json5_de.proofs.Rows.{refused_other}
@@ -51,12 +52,22 @@ returns-clause-sound g c =
     goes_after c.args.brackets c.args.due c.at_closing-2.result c.args.self.now c.begin.new.self c.eat.new.self c.begin-2.new.self c.if-not-due.false c.in_ok-begin.ensures.passed (c.if-not-eat.ensures.taken refl)
     c.in_ok-begin-2.ensures.passed c.at_closing-2.ensures.found c.at_closing-2.ensures.other
 
-pub returns-then-not-eat-clause-unprompted : goal.returns-then-not-eat-clause-unprompted
-returns-then-not-eat-clause-unprompted g c = refused_other (next_lacks c.args.brackets c.requires c.args.due) c.args.self.now c.unexpected.result (returns-then-not-eat-clause-refused g c)
+pub returns-then-not-eat-clause-steady : goal.returns-then-not-eat-clause-steady
+returns-then-not-eat-clause-steady g c =
+    let passed = c.in_ok-begin.ensures.passed in
+    record {
+      same_text = input_of c.unexpected.ensures.state ∙ input_of (c.if-not-eat.ensures.kept refl).0 ∙ input_of passed.rest;
+      unprompted = refused_other (next_lacks c.args.brackets c.requires c.args.due) c.args.self.now c.unexpected.result (returns-then-not-eat-clause-refused g c);
+      before = λ h. absurd (true_false h passed.live);
+    }
 
-pub returns-in_err-begin-2-clause-unprompted : goal.returns-in_err-begin-2-clause-unprompted
-returns-in_err-begin-2-clause-unprompted g c =
+pub returns-in_err-begin-2-clause-steady : goal.returns-in_err-begin-2-clause-steady
+returns-in_err-begin-2-clause-steady g c =
     let (y, is, from) = err_from_is_err_and c.from_residual-in_err-begin-2.result c.from_residual-in_err-begin-2.ensures.1 in
     let passed = c.in_ok-begin.ensures.passed in
     let took = c.if-not-eat.ensures.taken refl in
-    rw (is, from) (λ live. c.in_err-begin-2.ensures.unprompted (failed_of took.rest ∙ failed_of passed.rest ∙ live))
+    rw (is, from) (record {
+      same_text = c.in_err-begin-2.ensures.failed.same_text ∙ input_of took.rest ∙ input_of passed.rest;
+      unprompted = λ live. c.in_err-begin-2.ensures.unprompted (failed_of took.rest ∙ failed_of passed.rest ∙ live);
+      before = λ h. absurd (true_false h passed.live);
+    })

@@ -38,5 +38,5 @@ returns-in_err-live g c =
       unprompted = λ live. absurd (true_false had.0 live);
       same_text = refl;
       failed = had.0;
-      before = λ h. ((had.1, had.2), refl);
+      before = λ h. (had.1, refl);
     })

@@ -1,23 +1,24 @@
 use Rattle.std.proofs.Common.{subst, sym, ◌∙◌}
-use Rattle.json5_de.specs.Brackets.{AreSigns, curly}
+use Rattle.json5_de.specs.Brackets.{AreSigns}
+use Rattle.json5_de.specs.Enums.{EndsObject}
 use Rattle.json5_de.specs.Lending.{seen_map}
-use Rattle.json5_de.proofs.Arrays.{failed_of}
-use Rattle.json5_de.proofs.Taken.{input_of}
-use Rattle.json5_de.proofs.OpenClose.{refuses_closing}
-use Rattle.json5_de.proofs.Pairs.{curly_signs, closes_map, refuses_map_end}
+use Rattle.json5_de.proofs.Pairs.{curly_signs}
+use Rattle.json5_de.proofs.VariantEnds.{object_closed, struct_closed}
 use Rattle.json5_de.proofs.map.MapAccess.end.Goals as goal
-use Rattle.json5_de.proofs.map.MapAccess.end.Goals.{in-Ok, in-Err}
+use Rattle.json5_de.proofs.map.MapAccess.end.Goals.{in-None, in-Some}
 
-pub close-requires : goal.close-requires
-close-requires g c = subst AreSigns (sym c.curly.ensures) curly_signs
+pub close_last-requires : goal.close_last-requires
+close_last-requires g c = subst AreSigns (sym c.curly.ensures) curly_signs
+
+pub close_content-requires : goal.close_content-requires
+close_content-requires g c = subst AreSigns (sym c.curly-in-Some.ensures) curly_signs
 
 pub returns : goal.returns
-returns g c = elim c.match-close.branch [
-  | in-Ok w ↦ rw (w.result-is, w.de-is) (closes_map (seen_map c.args.self) c.close.new.self (rw (c.curly.ensures, c.set_failed.ensures) at w.in-Ok.ensures.closed))
-  | in-Err w ↦
-      let refused = rw (c.curly.ensures, c.set_failed.ensures) at w.in-Err.ensures.refused in
-      let complete = rw (c.curly.ensures, c.set_failed.ensures) at w.in-Err.ensures.complete in
-      let before = rw c.set_failed.ensures at w.in-Err.ensures.before in
-      let last = w.set_failed-in-Err.new.self in
-      rw (w.result-is, w.de-is) (refuses_map_end (seen_map c.args.self) last w.in-Err.e (record { failed = failed_of w.set_failed-in-Err.ensures; same_text = input_of w.set_failed-in-Err.ensures ∙ (rw c.set_failed.ensures at w.in-Err.ensures.same_text) }) (refuses_closing curly curly_signs c.args.self.due (seen_map c.args.self).at.reader last w.in-Err.e refused complete before))
+returns g c = elim c.match-brace.branch [
+  | in-None w ↦
+      let closed = object_closed (seen_map c.args.self) w.close_last.new.self w.close_last.result (rw (w.curly.ensures, c.set_failed.ensures) at w.close_last.ensures) in
+      rw (w.result-is, w.de-is) (subst (λ o. EndsObject o (seen_map c.args.self) w.close_last.new.self w.close_last.result) (sym w.in-None.is ∙ c.brace.ensures) closed)
+  | in-Some w ↦
+      let closed = struct_closed w.in-Some.brace (seen_map c.args.self) w.close_content.new.self w.close_content.result (rw (w.curly-in-Some.ensures, c.set_failed.ensures) at w.close_content.ensures) in
+      rw (w.result-is, w.de-is) (subst (λ o. EndsObject o (seen_map c.args.self) w.close_content.new.self w.close_content.result) (sym w.in-Some.is ∙ c.brace.ensures) closed)
 ]

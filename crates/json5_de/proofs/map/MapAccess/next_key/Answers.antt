@@ -60,8 +60,8 @@ pub returns-in-Err-clause-refused : goal.returns-in-Err-clause-refused
 returns-in-Err-clause-refused g c =
     let place = c.place.ensures in
     refuses_next_key g.K.DeserializeKey.refuses (seen_map c.args.self.now) _ c.pair_key-next.new.self c.in-Err.e c.place.result
-    (rw c.set_failed.ensures at c.in-Err.ensures.cause) (rw c.set_failed.ensures at c.in-Err.ensures.unprompted) (rw c.set_failed.ensures at c.in-Err.ensures.before)
-    (record { kind = place.kind; there = place.there; place = place.place; is_there = λ before b. place.is_there before (at_same_text (seen_map c.args.self.now).at.reader c.pair_key-next.new.self c.set_failed-2.new.self (rw c.set_failed.ensures at c.in-Err.ensures.same_text) c.set_failed-2.ensures b) }) refl
+    (rw c.set_failed.ensures at c.in-Err.ensures.cause) (rw c.set_failed.ensures at c.in-Err.ensures.steady.unprompted) (rw c.set_failed.ensures at c.in-Err.ensures.steady.before)
+    (record { kind = place.kind; there = place.there; place = place.place; is_there = λ before b. place.is_there before (at_same_text (seen_map c.args.self.now).at.reader c.pair_key-next.new.self c.set_failed-2.new.self (rw c.set_failed.ensures at c.in-Err.ensures.steady.same_text) c.set_failed-2.ensures b) }) refl
 
 pub returns-in-Err-clause-complete : goal.returns-in-Err-clause-complete
 returns-in-Err-clause-complete g c u plain r k live key converts = c.place.ensures.kind ∙ rw c.set_failed.ensures at c.in-Err.ensures.complete u plain r k live key converts

@@ -1,23 +1,24 @@
 use Rattle.std.proofs.Common.{subst, sym, ◌∙◌}
-use Rattle.json5_de.specs.Brackets.{AreSigns, square}
+use Rattle.json5_de.specs.Brackets.{AreSigns}
+use Rattle.json5_de.specs.Enums.{EndsArray}
 use Rattle.json5_de.specs.Lending.{seen}
-use Rattle.json5_de.proofs.Arrays.{square_signs, failed_of}
-use Rattle.json5_de.proofs.Taken.{input_of}
-use Rattle.json5_de.proofs.OpenClose.{refuses_closing}
-use Rattle.json5_de.proofs.Elements.{closes_array, refuses_end}
+use Rattle.json5_de.proofs.Arrays.{square_signs}
+use Rattle.json5_de.proofs.VariantEnds.{array_closed, tuple_closed}
 use Rattle.json5_de.proofs.seq.SeqAccess.end.Goals as goal
-use Rattle.json5_de.proofs.seq.SeqAccess.end.Goals.{in-Ok, in-Err}
+use Rattle.json5_de.proofs.seq.SeqAccess.end.Goals.{in-None, in-Some}
 
-pub close-requires : goal.close-requires
-close-requires g c = subst AreSigns (sym c.square.ensures) square_signs
+pub close_last-requires : goal.close_last-requires
+close_last-requires g c = subst AreSigns (sym c.square.ensures) square_signs
+
+pub close_content-requires : goal.close_content-requires
+close_content-requires g c = subst AreSigns (sym c.square-in-Some.ensures) square_signs
 
 pub returns : goal.returns
-returns g c = elim c.match-close.branch [
-  | in-Ok w ↦ rw (w.result-is, w.de-is) (closes_array (seen c.args.self) c.close.new.self (rw (c.square.ensures, c.set_failed.ensures) at w.in-Ok.ensures.closed))
-  | in-Err w ↦
-      let refused = rw (c.square.ensures, c.set_failed.ensures) at w.in-Err.ensures.refused in
-      let complete = rw (c.square.ensures, c.set_failed.ensures) at w.in-Err.ensures.complete in
-      let before = rw c.set_failed.ensures at w.in-Err.ensures.before in
-      let last = w.set_failed-in-Err.new.self in
-      rw (w.result-is, w.de-is) (refuses_end (seen c.args.self) last w.in-Err.e (record { failed = failed_of w.set_failed-in-Err.ensures; same_text = input_of w.set_failed-in-Err.ensures ∙ (rw c.set_failed.ensures at w.in-Err.ensures.same_text) }) (refuses_closing square square_signs c.args.self.due (seen c.args.self).reader last w.in-Err.e refused complete before))
+returns g c = elim c.match-brace.branch [
+  | in-None w ↦
+      let closed = array_closed (seen c.args.self) w.close_last.new.self w.close_last.result (rw (w.square.ensures, c.set_failed.ensures) at w.close_last.ensures) in
+      rw (w.result-is, w.de-is) (subst (λ o. EndsArray o (seen c.args.self) w.close_last.new.self w.close_last.result) (sym w.in-None.is ∙ c.brace.ensures) closed)
+  | in-Some w ↦
+      let closed = tuple_closed w.in-Some.brace (seen c.args.self) w.close_content.new.self w.close_content.result (rw (w.square-in-Some.ensures, c.set_failed.ensures) at w.close_content.ensures) in
+      rw (w.result-is, w.de-is) (subst (λ o. EndsArray o (seen c.args.self) w.close_content.new.self w.close_content.result) (sym w.in-Some.is ∙ c.brace.ensures) closed)
 ]

@@ -1,0 +1,162 @@
+-- The content of a variant that is read through an access: how it is opened and closed.
+use Rattle.std.proofs.Common.{◌≡◌, ℕ, ◌+◌, ◌<◌, ◌≤◌, Bool, true, false, List, refl, ap, sym, ◌∙◌, subst, arith, Option, Some, None, Result, Ok, Err}
+use Rattle.std.specs.Prelude.{IsErrAnd}
+use Rattle.json5_grammar.specs.declared.position.Position.{Position}
+use Rattle.json5_grammar.specs.Documents.{max_depth}
+use Rattle.json5_grammar.specs.Trees.{Tree, array, object, no_pair}
+use Rattle.json5_grammar.specs.Members.{IsEnd, IsBrace}
+use Rattle.json5_grammar.proofs.Basics.{true_false}
+use Rattle.json5_grammar.proofs.MembersPassed.{one_end}
+use Rattle.json5_text.specs.declared.error.Error.{Error}
+use Rattle.json5_text.specs.Errors.{kind_of, place_of, or_place, SaysAt}
+use Rattle.json5_text.specs.Cursor.{IsPositionOf}
+use Rattle.json5_de.specs.State.{State, GivesUp, GivesUpWith}
+use Rattle.json5_de.specs.Steps.{IsMismatch}
+use Rattle.json5_de.specs.Options.{PlacedAt}
+use Rattle.json5_de.specs.declared.brackets.Brackets.{Brackets}
+use Rattle.json5_de.specs.Brackets.{AreSigns, square, curly}
+use Rattle.json5_de.specs.Access.{Seen, Opened, OpensAs, ClosesAs, ClosesArray, StartsAfter}
+use Rattle.json5_de.specs.Objects.{SeenMap, ClosesMap, LeftAfter}
+use Rattle.json5_de.specs.Enums.{SeenEnum, no_content, in_content, ClosesLast, ClosesContent, not_ended, brace_open, ClosesTuple, ClosesStruct, OpensContent, OpensTuple, OpensStruct}
+use Rattle.json5_de.proofs.Arrays.{failed_of, level_of}
+use Rattle.json5_de.proofs.Elements as elements
+use Rattle.json5_de.proofs.Elements.{closes_array, refuses_end, more_and_less}
+use Rattle.json5_de.proofs.FoundKeys.{mismatch_other}
+use Rattle.json5_de.proofs.OpenClose.{closes, refuses_closing}
+use Rattle.json5_de.proofs.Pairs as pairs
+use Rattle.json5_de.proofs.Pairs.{closes_map, refuses_map_end}
+use Rattle.json5_de.proofs.Taken.{input_of}
+use Rattle.json5_de.proofs.VariantNames.{whole_variant}
+
+-- ---- closing
+
+-- the own bracket alone
+pub array_closed : (old : Seen) (new : State) (result : Result (Unit {0}) Error) → ClosesLast square old.due old.reader new result → ClosesArray old new result
+array_closed old new (Ok tt) k = closes_array old new k.closes.closed
+array_closed old new (Err e) k = refuses_end old new e (record { failed = k.failed; same_text = k.same_text }) k.closes
+
+pub object_closed : (old : SeenMap) (new : State) (result : Result (Unit {0}) Error) → ClosesLast curly old.at.due old.at.reader new result → ClosesMap old new result
+object_closed old new (Ok tt) k = closes_map old new k.closes.closed
+object_closed old new (Err e) k = refuses_map_end old new e (record { failed = k.failed; same_text = k.same_text }) k.closes
+
+-- the variant's brace too
+pub tuple_closed : (brace : ℕ) (old : Seen) (new : State) (result : Result (Unit {0}) Error) → ClosesContent square old.due brace old.reader new result → ClosesTuple brace old new result
+tuple_closed brace old new (Ok tt) k = record {
+  bracket = k;
+  read = λ from content u plain ts at e. let (after, one, two) = k.closed in whole_variant from content after new u plain (array ts) at (elements.all_read content old after ts one e) two;
+  left = λ x r l close. refl;
+}
+tuple_closed brace old new (Err e) k = record { bracket = k; read = tt; left = λ x r l close. k.complete x r l.live l.tail close }
+
+pub struct_closed : (brace : ℕ) (old : SeenMap) (new : State) (result : Result (Unit {0}) Error) → ClosesContent curly old.at.due brace old.at.reader new result → ClosesStruct brace old new result
+struct_closed brace old new (Ok tt) k = record {
+  bracket = k;
+  read = λ from content u plain ps at e. let (after, one, two) = k.closed in whole_variant from content after new u plain (object ps) at (pairs.all_read content old after ps one e) two;
+  left = λ x r none l close. refl;
+}
+struct_closed brace old new (Err e) k = record { bracket = k; read = tt; left = λ x r none l close. k.complete x r l.live (subst (λ p. LeftAfter p no_pair old.at.due old.at.reader.unread x) none l.tail) close }
+
+module _ (b : Brackets) (signs : AreSigns b) (due : Bool) (brace : ℕ) (old : State) where
+  -- the own bracket isn't there
+  pub content_not_ended : (new : State) (own e : Error) (there : Position) → ClosesLast b due old new (Err own) → SaysAt (kind_of own) (or_place (place_of own) there) e → IsPositionOf new.input brace there → ClosesContent b due brace old new (Err e)
+  content_not_ended new own e there k says at = record {
+    closed = tt;
+    complete = λ x r live end close. let ok = k.closes.complete x live end in absurd (cc);
+    refused = not_ended own k.closes.refused (record { kind = says.kind; there = there; place = says.place; is_there = λ before s. at before s.rest (k.same_text ∙ s.split) s.counted });
+    unprompted = λ live h. k.closes.unprompted live (sym says.kind ∙ h);
+    same_text = k.same_text;
+    failed = k.failed;
+  }
+
+  -- it is, and then the variant's brace or not
+  pub content_ended : (mid new : State) (result : Result (Unit {0}) Error) → ClosesLast b due old mid (Ok tt) → ClosesLast curly true mid new result → ClosesContent b due brace old new result
+  content_ended mid new (Ok tt) k m = record {
+    closed = (mid, k.closes.closed, m.closes.closed);
+    complete = λ x r live end close. refl;
+    refused = tt;
+    unprompted = tt;
+    same_text = m.same_text ∙ k.same_text;
+    failed = tt;
+  }
+  content_ended mid new (Err e) k m =
+      let closed = k.closes.closed in
+      let live = failed_of closed.rest ∙ closed.live in
+      record {
+        closed = tt;
+        complete = λ x r alive end close.
+            let same = one_end b.closing signs.closing signs.no_comma due old.unread x mid.unread end closed.close in
+            let ok = m.closes.complete r live (subst (λ z. IsBrace true z r) same close) in
+            absurd (cc);
+        refused = brace_open mid closed m.closes.refused;
+        unprompted = λ alive. m.closes.unprompted live;
+        same_text = m.same_text ∙ k.same_text;
+        failed = m.failed;
+      }
+
+-- ---- opening
+
+module _ (b : Brackets) (old : SeenEnum) where
+  pub content_opened : (seen : ℕ → Seen) (start : ℕ) → old.has_content ≡ true → OpensAs b seen old.reader (Ok start) → OpensContent b seen old (Ok start)
+  content_opened seen start has o = record { has_content = has; opened = o.opened; complete = λ r h live sign room. refl; refused = tt; unprompted = tt }
+
+  pub content_not_opened : {A : Type 0} (see : A → Seen) (seen : ℕ → Seen) (new : State) (own e : Error) (there : Position) → old.has_content ≡ true → OpensAs b see old.reader (Err own) → GivesUp old.reader new → SaysAt (kind_of own) (or_place (place_of own) there) e
+      → IsPositionOf new.input old.start there → OpensContent b seen old (Err e)
+  content_not_opened see seen new own e there has o failed says at = record {
+    has_content = tt;
+    opened = tt;
+    complete = λ r h live sign room. let ok = o.complete r live sign room in absurd (cc);
+    refused = in_content own new has o.refused (record { kind = says.kind; there = there; place = says.place; is_there = λ before s. at before s.rest (failed.same_text ∙ s.split) s.counted });
+    unprompted = λ live h. o.unprompted live (sym says.kind ∙ h);
+  }
+
+  pub no_content_opened : (seen : ℕ → Seen) (e : Error) → old.has_content ≡ false → IsMismatch old.reader.input old.start e → OpensContent b seen old (Err e)
+  no_content_opened seen e none is = record {
+    has_content = tt;
+    opened = tt;
+    complete = λ r has live sign room. absurd (true_false has none);
+    refused = no_content none is;
+    unprompted = λ live. mismatch_other None old.reader.input old.start e (λ h. absurd (cc)) is;
+  }
+
+-- seen in another way
+pub tuple_opened : {A : Type 0} (see : ℕ → Seen) (seen : A → Seen) (old : SeenEnum) (start : ℕ) (a : A) → see start ≡ seen a → OpensContent square see old (Ok start) → OpensTuple seen old (Ok a)
+tuple_opened see seen old start a same k =
+    let (opened, due) = subst (λ (s : Seen). Opened square old.reader s.reader × (s.due ≡ false)) same k.opened in
+    record {
+      content = record { has_content = k.has_content; opened = (opened, due); complete = λ r h live sign room. refl; refused = tt; unprompted = tt };
+      same_text = input_of opened.rest;
+      read = elements.opened_read old.reader (seen a) due opened;
+      left = λ ts r h live reads shallow. elements.opened_left old.reader (seen a) ts r due opened reads shallow;
+    }
+
+pub tuple_not_opened : {A : Type 0} (see : ℕ → Seen) (seen : A → Seen) (old : SeenEnum) (e : Error) → OpensContent square see old (Err e) → OpensTuple seen old (Err e)
+tuple_not_opened see seen old e k = record {
+  content = record { has_content = tt; opened = tt; complete = k.complete; refused = k.refused; unprompted = k.unprompted };
+  same_text = tt;
+  read = tt;
+  left = λ ts r h live reads shallow. let (y, opens, room) = elements.array_opens old.reader ts r reads shallow in let ok = k.complete y h live opens room in absurd (cc);
+}
+
+pub struct_opened : {A : Type 0} (see : ℕ → Seen) (seen : A → SeenMap) (old : SeenEnum) (start : ℕ) (a : A) → see start ≡ (seen a).at → (seen a).pending ≡ false → OpensContent curly see old (Ok start) → OpensStruct seen old (Ok a)
+struct_opened see seen old start a same none k =
+    let (opened, due) = subst (λ (s : Seen). Opened curly old.reader s.reader × (s.due ≡ false)) same k.opened in
+    record {
+      content = record { has_content = k.has_content; opened = (opened, due); complete = λ r h live sign room. refl; refused = tt; unprompted = tt };
+      no_key = none;
+      same_text = input_of opened.rest;
+      read = pairs.opened_read old.reader (seen a) due none opened;
+      left = λ ps r h live reads shallow. pairs.opened_left old.reader (seen a) ps r due none opened reads shallow;
+    }
+
+pub struct_not_opened : {A : Type 0} (see : ℕ → Seen) (seen : A → SeenMap) (old : SeenEnum) (e : Error) → OpensContent curly see old (Err e) → OpensStruct seen old (Err e)
+struct_not_opened see seen old e k = record {
+  content = record { has_content = tt; opened = tt; complete = k.complete; refused = k.refused; unprompted = k.unprompted };
+  no_key = tt;
+  same_text = tt;
+  read = tt;
+  left = λ ps r h live reads shallow. let (y, opens, room) = pairs.object_opens old.reader ps r reads shallow in let ok = k.complete y h live opens room in absurd (cc);
+}
+
+-- what gave up after it was lent gave up
+pub given_up_lent : (held lent new : State) → lent ≡ record held { failed = false } → GivesUp lent new → GivesUp held new
+given_up_lent held lent new is g = record { failed = g.failed; same_text = g.same_text ∙ input_of is }

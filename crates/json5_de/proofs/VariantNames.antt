@@ -1,0 +1,543 @@
+-- The name of a variant: what stands where one is read, and what is refused there.
+use Rattle.std.proofs.Common.{◌≡◌, ℕ, ◌≤◌, ◌+◌, Bool, true, false, List, [], ◌∷◌, ◌++◌, length, refl, ap, sym, ◌∙◌, subst, arith, ◌⊎◌, inl, inr, Option, Some, None, Ok, Err}
+use Rattle.std.specs.Prelude.{◌==◌, is_some, IsOk}
+use Rattle.std.specs.Str.{encode_utf8_all}
+use Rattle.std.proofs.lemmas.Bool.{or_left, or_right}
+use Rattle.json5_grammar.specs.declared.code.ErrorCode.{ErrorCode}
+use Rattle.json5_grammar.specs.declared.code.ErrorCode.TheVariants as codes
+use Rattle.json5_grammar.specs.Characters.{NotBegun}
+use Rattle.json5_grammar.specs.Blanks.{Blanks, Gap, Solid}
+use Rattle.json5_grammar.specs.Documents.{max_depth}
+use Rattle.json5_grammar.specs.Strings.{is_quote, quoted}
+use Rattle.json5_grammar.specs.Trees.{Tree, Pairs, null, boolean, number, text, array, object, pair, no_pair, depth}
+use Rattle.json5_grammar.specs.Values.{Val, Reads, is_null, is_true, is_false, is_number, is_text, is_empty_array, is_array, is_empty_object, is_object}
+use Rattle.json5_grammar.specs.Members.{IsSign, IsKey, IsKeyValue, IsBrace}
+use Rattle.json5_grammar.proofs.Basics.{first_same, true_false}
+use Rattle.json5_grammar.proofs.BlanksSound.{gap_before}
+use Rattle.json5_grammar.proofs.ValueHeads.{val_head, value_solid}
+use Rattle.json5_grammar.proofs.MembersRead.{sign_found, phrase_found}
+use Rattle.json5_grammar.proofs.MembersNowhere.{reads_here}
+use Rattle.json5_grammar.proofs.MembersPassed.{same_sign}
+use Rattle.json5_grammar.proofs.MembersPairs.{opening_brace_solid, colon_solid, one_opening_brace, one_key, one_reads_key, object_front}
+use Rattle.json5_grammar.proofs.Unique.{one_phrase}
+use Rattle.json5_text.specs.declared.error.Error.{Error}
+use Rattle.json5_grammar.specs.declared.position.Position.{Position}
+use Rattle.json5_text.specs.Errors.{kind_of, place_of, or_place, SaysAt}
+use Rattle.json5_text.specs.Cursor.{Refused, IsOutOfMemory, IsPositionOf}
+use Rattle.json5_text.specs.Tokens.{FaultyBlanks}
+use Rattle.json5_de.specs.State.{State, SameText, GivesUp, cursor_of}
+use Rattle.json5_de.specs.Law.{TookValue, IsUnprompted, Unprompted}
+use Rattle.json5_de.specs.Steps.{PassedGap}
+use Rattle.json5_de.specs.Convert.{as_text, place_among}
+use Rattle.json5_de.specs.ConvertLists.{if_some}
+use Rattle.json5_de.specs.Faults.{RefusedBy, AtEnd, AtOther, IsUnplaced}
+use Rattle.json5_de.specs.Brackets.{curly}
+use Rattle.json5_de.specs.Access.{Seen, OpensAs, NotOpened, Closed, Unexpected, at_end, at_char}
+use Rattle.json5_de.specs.Rows.{ReadsAs, variant_row}
+use Rattle.json5_de.specs.Keys.{TookKey, GivesKey}
+use Rattle.json5_de.specs.KeyRows.{ReadsKeyAs, variant_key}
+use Rattle.json5_de.specs.Objects.{SeenMap, PairsRead, AfterColon, bare_map}
+use Rattle.json5_de.specs.ObjectFaults.{begins_key, BeginsKey, NoColon}
+use Rattle.json5_de.specs.Enums.{named_variant, SeenEnum, AtContent, AfterName, NameRead, ContentTail, content_depth, ContentLeft, begins_variant, NoVariant, no_variant, variant_missing, NotKeyed, not_keyed, key_missing, is_left_brace, Begins, IsNext, no_only_key, other_key, not_followed, RefusesKeyed, RefusesName, nothing_named, other_text, not_opened, in_object, NamesVariant, ReadsOnlyKey, ReadsKeyed}
+use Rattle.json5_de.proofs.Arrays.{only_read, level_of, failed_of, sign_next, after_gap_of}
+use Rattle.json5_de.proofs.Elements.{still_live, same_level}
+use Rattle.json5_de.proofs.Expected.{Expected, end_fault, other_fault}
+use Rattle.json5_de.proofs.Options.{end_next, value_next, value_no_end, took_after}
+use Rattle.json5_de.proofs.OtherCodes.{Lacks}
+use Rattle.json5_de.proofs.PairCodes.{value_read, key_there, no_key_begun, pair_key_found}
+use Rattle.json5_de.proofs.Pairs.{pair_read, all_read, key_read, opens_map, refuses_map}
+use Rattle.json5_de.proofs.Places.{refused_as}
+use Rattle.json5_de.proofs.Rows.{refused_other, given_up, gives_up}
+use Rattle.json5_de.proofs.Taken.{input_of, refused_blanks, refused_token}
+use Rattle.json5_de.proofs.FoundKeys.{no_fault_before}
+
+-- ---- what is next where a variant is named
+
+-- a text begins with a quote, an object with its brace
+pub data VariantAt (c : ℕ) : Tree → Type 0 where
+  at_text : (u : List ℕ) (plain : Bool) → is_quote c ≡ true → VariantAt c (text u plain)
+  at_object : (u : List ℕ) (plain : Bool) (t : Tree) → c ≡ 123 → VariantAt c (object (pair u plain t no_pair))
+
+object_at : (c : ℕ) (names : List (List ℕ)) (x : ℕ × Option Tree) (ps : Pairs) → c ≡ 123 → named_variant names (object ps) ≡ Some x → VariantAt c (object ps)
+object_at c names x no_pair at e = absurd (cc)
+object_at c names x (pair u plain t no_pair) at e = at_object u plain t at
+object_at c names x (pair u plain t (pair v other s ps)) at e = absurd (cc)
+
+variant_at : {s : List ℕ} {t : Tree} (names : List (List ℕ)) (x : ℕ × Option Tree) → Val s t → named_variant names t ≡ Some x → (c : ℕ) × (y : List ℕ) × (s ≡ c ∷ y) × VariantAt c t
+variant_at names x is_null e = absurd (cc)
+variant_at names x is_true e = absurd (cc)
+variant_at names x is_false e = absurd (cc)
+variant_at names x (is_number n) e = absurd (cc)
+variant_at names x (is_text (quoted {q = q} {s = s} h i)) e = (q, s ++ q ∷ [], refl, at_text _ _ h)
+variant_at names x (is_empty_array b) e = absurd (cc)
+variant_at names x (is_array m) e = absurd (cc)
+variant_at names x (is_empty_object {w = w} b) e = absurd (cc)
+variant_at names x (is_object {m = m} {ps = ps} k) e = (123, m ++ 125 ∷ [], refl, object_at 123 names x ps refl e)
+
+-- what stands after the gap begins so
+pub variant_next : (names : List (List ℕ)) (x : ℕ × Option Tree) (y : List ℕ) (c : ℕ) (m r : List ℕ) (t : Tree) → Solid y → y ≡ c ∷ m → Reads y t r → named_variant names t ≡ Some x → VariantAt c t
+variant_next names x y c m r t solid next reads e =
+    let (d, z, is, at) = variant_at names x reads.value e in
+    let whole : d ∷ (z ++ r) ≡ c ∷ m = ap (λ k. k ++ r) (sym is) ∙ sym (phrase_found y [] y r t refl (Gap.blanks Blanks.empty) solid reads) ∙ next in
+    subst (λ k. VariantAt k t) (first_same d c (z ++ r) m whole) at
+
+pub begins_variant_at : (c : ℕ) (t : Tree) → VariantAt c t → begins_variant c ≡ true
+begins_variant_at c t (at_text u plain h) = or_left (is_quote c) (c == 123) h
+begins_variant_at c t (at_object u plain w e) = rw e refl
+
+-- ---- the name was read
+
+same_pair : (x y : ℕ × Option Tree) → Some x ≡ Some y → (x.0 ≡ y.0) × (x.1 ≡ y.1)
+same_pair x y e = let k : x ≡ y = cc in (ap (λ (z : ℕ × Option Tree). z.0) k, ap (λ (z : ℕ × Option Tree). z.1) k)
+
+named_as : (o : Option ℕ) (n k : ℕ) (b c : Option Tree) → o ≡ Some n → if_some {B = ℕ × Option Tree} (λ i. (i, b)) o ≡ Some (k, c) → (n ≡ k) × (b ≡ c)
+named_as None n k b c e f = absurd (cc)
+named_as (Some i) n k b c e f = let m : i ≡ n = cc in let (p, q) = same_pair (i, b) (k, c) f in (sym m ∙ p, q)
+
+-- what was read before a content is what stands there
+at_content_left : (names : List (List ℕ)) (from now : State) (u v r : List ℕ) (p q : Bool) (w : Tree) → AtContent from u p now → Reads from.unread (object (pair v q w no_pair)) r
+    → (u ≡ v) × (p ≡ q) × (z : List ℕ) × Reads now.unread w z × IsBrace true z r
+at_content_left names from now u v r p q w at reads =
+    let (y, opens, (f, z, key, value, close)) = object_front from.unread r (pair v q w no_pair) reads in
+    let e = at.key in
+    let (due, here) = e.passed in
+    let inside : e.inside ≡ y = one_opening_brace from.unread e.inside y e.bracket opens in
+    let first : IsKey false y u p at.keyed.unread = subst (λ k. IsKey false k u p at.keyed.unread) (sym here ∙ inside) e.here in
+    let (same, mark, left) = one_key false y at.keyed.unread f u v p q first key in
+    let (d, colon, there) = value in
+    let tail : now.unread ≡ d = same_sign 58 at.keyed.unread now.unread d colon_solid at.colon.colon (subst (λ k. IsSign 58 k d) (sym left) colon) in
+    (same, mark, z, subst (λ k. Reads k w z) (sym tail) there, close)
+
+pub inside_live : (from now : State) (u : List ℕ) (p : Bool) → AtContent from u p now → now.failed ≡ false
+inside_live from now u p at = failed_of at.colon.rest ∙ at.colon.live
+
+pub inside_deep : (from now : State) (u : List ℕ) (p : Bool) → AtContent from u p now → now.level ≡ from.level + 1
+inside_deep from now u p at = level_of at.colon.rest ∙ level_of at.key.rest
+
+pub inside_text : (from now : State) (u : List ℕ) (p : Bool) → AtContent from u p now → SameText from now
+inside_text from now u p at = input_of at.colon.rest ∙ input_of at.key.rest
+
+module _ (names : List (List ℕ)) (from : State) (s : SeenEnum) (n : NameRead names from s) (t : Tree) (r : List ℕ) (k : ℕ) (c : Option Tree) (reads : Reads from.unread t r) (shallow : from.level + depth t ≤ max_depth)
+    (is : named_variant names t ≡ Some (k, c)) where
+  -- a text was read
+  text_left : s.has_content ≡ false → TookValue from (text n.name n.plain) s.reader → (s.variant ≡ k) × ContentLeft c r s
+  text_left none took =
+      let (same, here) = one_phrase from.unread s.reader.unread r (text n.name n.plain) t took.reads reads in
+      let (place, empty) = named_as (place_among names n.name n.plain) s.variant k None c n.place (ap (named_variant names) same ∙ is) in
+      let level = same_level from s.reader took.rest in
+      let high = took.shallow in (
+        place,
+        record {
+          live = still_live from s.reader took.live took.rest;
+          content = none ∙ ap is_some empty;
+          shallow = subst (λ d. s.reader.level + content_depth d ≤ max_depth) empty (omega (arith, level, high));
+          tail = subst (λ d. ContentTail d s.reader.unread r) empty here;
+        },
+      )
+
+  -- a key was read
+  keyed_left : s.has_content ≡ true → AtContent from n.name n.plain s.reader → (s.variant ≡ k) × ContentLeft c r s
+  keyed_left some at =
+      let (d, y, first, there) = variant_at names (k, c) reads.value is in
+      let brace : reads.phrase ++ r ≡ 123 ∷ at.key.inside =
+      sign_found 123 from.unread reads.front (reads.phrase ++ r) at.key.inside opening_brace_solid reads.split (Gap.blanks reads.blank) (value_solid r (val_head reads.value)) at.key.bracket in
+      let next : d ≡ 123 = first_same d 123 (y ++ r) at.key.inside (ap (λ z. z ++ r) (sym first) ∙ brace) in
+      by t d next there reads shallow is
+    where
+      by : (t : Tree) (d : ℕ) → d ≡ 123 → VariantAt d t → Reads from.unread t r → from.level + depth t ≤ max_depth → named_variant names t ≡ Some (k, c) → (s.variant ≡ k) × ContentLeft c r s
+      by null d next there reads shallow is = absurd (cc)
+      by (boolean b) d next there reads shallow is = absurd (cc)
+      by (number n) d next there reads shallow is = absurd (cc)
+      by (array ts) d next there reads shallow is = absurd (cc)
+      by (object no_pair) d next there reads shallow is = absurd (cc)
+      by (object (pair u p w (pair v o x ps))) d next there reads shallow is = absurd (cc)
+      by (text u plain) d next (at_text _ _ h) reads shallow is = absurd (true_false h (ap is_quote next))
+      by (object (pair u plain w no_pair)) d next (at_object _ _ _ e) reads shallow is =
+          let (same, mark, z, there, close) = at_content_left names from s.reader n.name u r n.plain plain w at reads in
+          let (place, whole) = named_as (place_among names u plain) s.variant k (Some w) c (subst (λ v. place_among names v plain ≡ Some s.variant) same (subst (λ p. place_among names n.name p ≡ Some s.variant) mark n.place)) is in
+          let level = inside_deep from s.reader n.name n.plain at in (
+            place,
+            record {
+              live = inside_live from s.reader n.name n.plain at;
+              content = some ∙ ap is_some whole;
+              shallow = subst (λ d. s.reader.level + content_depth d ≤ max_depth) whole (omega (arith, level, shallow));
+              tail = subst (λ d. ContentTail d s.reader.unread r) whole (z, there, close);
+            },
+          )
+
+  pub content_left : (s.variant ≡ k) × ContentLeft c r s
+  content_left = by s.has_content refl n.after
+    where
+      by : (b : Bool) → s.has_content ≡ b → AfterName b from n.name n.plain s.reader → (s.variant ≡ k) × ContentLeft c r s
+      by false is took = text_left is took
+      by true is at = keyed_left is at
+
+-- the reader after the name reads the same text
+same_text_after : (b : Bool) (from now : State) (u : List ℕ) (plain : Bool) → AfterName b from u plain now → SameText from now
+same_text_after false from now u plain took = input_of took.rest
+same_text_after true from now u plain at = inside_text from now u plain at
+
+-- ---- what is refused where one is named
+
+expects_variant : Expected {C = Unit {0}} NoVariant (λ t. None) begins_variant codes.EofParsingValue codes.ExpectedStringOrObject
+expects_variant = record {
+  at_end = λ reason place f. at_none [] reason place refl f;
+  at_other = λ c r reason place h f. at_some (c ∷ r) reason place c r refl f;
+  no_fault = λ s r t v reason place e k stops f. absurd (cc);
+  first = λ s t v e k. absurd (cc);
+}
+  where
+    at_none : (x : List ℕ) (reason : Option ErrorCode) (place : Option (List ℕ)) → x ≡ [] → NoVariant x reason place → (reason ≡ Some codes.EofParsingValue) × (place ≡ None)
+    at_none x reason place e (no_variant c r n) = absurd (cc)
+    at_none x reason place e variant_missing = (refl, refl)
+
+    at_some : (x : List ℕ) (reason : Option ErrorCode) (place : Option (List ℕ)) (c : ℕ) (r : List ℕ) → x ≡ c ∷ r → NoVariant x reason place → (reason ≡ Some codes.ExpectedStringOrObject) × (place ≡ Some [])
+    at_some x reason place c r e (no_variant d q n) = (refl, refl)
+    at_some x reason place c r e variant_missing = absurd (cc)
+
+variant_lacks : Lacks NoVariant
+variant_lacks x reason place (no_variant c r n) = λ e. absurd (cc)
+variant_lacks x reason place variant_missing = λ e. absurd (cc)
+
+pub no_variant_here : (x : List ℕ) (reason : Option ErrorCode) (place : Option (List ℕ)) → NotBegun begins_variant x → Unexpected codes.EofParsingValue codes.ExpectedStringOrObject x reason place → NoVariant x reason place
+no_variant_here x reason place n at_end = variant_missing
+no_variant_here x reason place n (at_char c r) = no_variant c r n
+
+-- after the gap such a character is next, and not another
+next_no_other : (begins : ℕ → Bool) (old start : State) (w : List ℕ) → IsNext begins old start → AtOther begins old w → ⊥
+next_no_other begins old start w n o =
+    let next = (gap_before w n.passed.gap start.unread o.char o.more o.blank o.solid n.passed.is_gap n.passed.solid (sym o.split ∙ n.passed.split)).1 in
+    let same : n.first.char ≡ o.char = first_same n.first.char o.char n.first.more o.more (sym n.first.split ∙ next) in
+    true_false n.first.is_first (subst (λ c. begins c ≡ false) (sym same) o.other)
+
+next_no_end : (begins : ℕ → Bool) (old start : State) → IsNext begins old start → AtEnd old → ⊥
+next_no_end begins old start n at = end_next old start n.first.char n.first.more at n.passed n.first.split
+
+pub wider_next : {f g : ℕ → Bool} (old start : State) → ((c : ℕ) → f c ≡ true → g c ≡ true) → IsNext f old start → IsNext g old start
+wider_next old start h n = record { passed = n.passed; first = record { char = n.first.char; more = n.first.more; split = n.first.split; is_first = h n.first.char n.first.is_first } }
+
+module _ {A : Type 0} (names : List (List ℕ)) (seen : A → SeenEnum) (old : State) where
+  -- a name was read
+  pub names_read : (a : A) (start : State) → IsNext begins_variant old start → NameRead names old (seen a) → NamesVariant names seen old (Ok a)
+  names_read a start next n = record {
+    read = n;
+    left = λ t r k c live reads shallow is. content_left names old (seen a) n t r k c reads shallow is;
+    refused = tt;
+    ends = λ at. absurd (next_no_end begins_variant old start next at);
+    differs = λ w o. absurd (next_no_other begins_variant old start w next o);
+    unprompted = tt;
+    same_text = same_text_after (seen a).has_content old (seen a).reader n.name n.plain n.after;
+    before = λ h. absurd (true_false h next.passed.live);
+  }
+
+  -- neither a text nor an object is next
+  pub names_nothing : (e : Error) → RefusedBy NoVariant old e → (old.failed ≡ true → IsUnplaced codes.Failed e) → ((t : Tree) (r : List ℕ) (x : ℕ × Option Tree) → old.failed ≡ false → Reads old.unread t r → named_variant names t ≡ Some x → ⊥)
+      → NamesVariant names seen old (Err e)
+  names_nothing e f before nothing = record {
+    read = tt;
+    left = λ t r k c live reads shallow is. absurd (nothing t r (k, c) live reads is);
+    refused = λ live. nothing_named f;
+    ends = λ at. end_fault expects_variant old e at f;
+    differs = λ w o. other_fault expects_variant old e w o f;
+    unprompted = refused_other variant_lacks old e f;
+    same_text = tt;
+    before = before;
+  }
+
+  -- the text or the object that is next is refused
+  pub names_refused : (e : Error) (start : State) → IsNext begins_variant old start → RefusesName names old e → (old.failed ≡ false → IsUnprompted e)
+      → ((t : Tree) (r : List ℕ) (k : ℕ) (c : Option Tree) → Reads start.unread t r → start.level + depth t ≤ max_depth → named_variant names t ≡ Some (k, c) → IsOutOfMemory e) → NamesVariant names seen old (Err e)
+  names_refused e start next f other left = record {
+    read = tt;
+    left = λ t r k c live reads shallow is. let level = level_of next.passed.rest in left t r k c (value_next old start t r next.passed reads) (omega (arith, level, shallow)) is;
+    refused = λ live. f;
+    ends = λ at. absurd (next_no_end begins_variant old start next at);
+    differs = λ w o. absurd (next_no_other begins_variant old start w next o);
+    unprompted = other;
+    same_text = tt;
+    before = λ h. absurd (true_false h next.passed.live);
+  }
+
+-- ---- the only key of an object
+
+pub no_key_keyed : (x : List ℕ) (reason : Option ErrorCode) (place : Option (List ℕ)) → NotBegun begins_key x → Unexpected codes.EofParsingObject codes.ExpectedIdentifier x reason place → NotKeyed x reason place
+no_key_keyed x reason place n at_end = key_missing
+no_key_keyed x reason place n (at_char c r) = not_keyed c r n
+
+pub keyed_lacks : Lacks NotKeyed
+keyed_lacks x reason place (not_keyed c r n) = λ e. absurd (cc)
+keyed_lacks x reason place key_missing = λ e. absurd (cc)
+
+pub took_key_after : (old mid last : State) (u : List ℕ) (p : Bool) → PassedGap old mid → TookKey mid u p last → TookKey old u p last
+took_key_after old mid last u p passed took = record {
+  live = passed.live;
+  reads = key_there old.unread mid.unread last.unread u p (after_gap_of old mid passed) took.reads;
+  rest = only_read old mid last passed.rest took.rest;
+}
+
+-- ---- an object, to its colon and to its end
+
+-- the object was opened, and its key and the colon were read
+pub at_content : (old inside keyed now : State) (u : List ℕ) (plain : Bool) → PairsRead old no_pair None (bare_map inside false false) → TookKey inside u plain keyed → AfterColon keyed now → AtContent old u plain now
+at_content old inside keyed now u plain read took colon = record {
+  keyed = keyed;
+  key = key_read old (bare_map inside false false) (bare_map keyed false true) no_pair u plain (record { live = took.live; key = took.reads; rest = took.rest }) refl refl read;
+  colon = colon;
+}
+
+-- it begins before the gap
+pub content_after : (old mid now : State) (u : List ℕ) (plain : Bool) → PassedGap old mid → AtContent mid u plain now → AtContent old u plain now
+content_after old mid now u plain p at = record { keyed = at.keyed; key = from_gap; colon = at.colon }
+  where
+    e : PairsRead mid no_pair (Some (u, plain)) (bare_map at.keyed false true)
+    e = at.key
+
+    next : mid.unread ≡ 123 ∷ e.inside
+    next = sign_found 123 mid.unread [] mid.unread e.inside opening_brace_solid refl (Gap.blanks Blanks.empty) p.solid e.bracket
+
+    from_gap : PairsRead old no_pair (Some (u, plain)) (bare_map at.keyed false true)
+    from_gap = record {
+      live = p.live;
+      shallow = let level = level_of p.rest in let deep = e.shallow in omega (arith, level, deep);
+      inside = e.inside;
+      bracket = sign_next 123 old.unread mid.unread e.inside (after_gap_of old mid p) next;
+      after = e.after;
+      passed = e.passed;
+      here = e.here;
+      pending = e.pending;
+      rest = e.rest ∙ ap (λ (m : State). record m { unread = at.keyed.unread; level = m.level + 1 }) p.rest;
+    }
+
+-- the whole object, once its value and the closing brace were read
+pub whole_variant : (from now after new : State) (u : List ℕ) (plain : Bool) (t : Tree) → AtContent from u plain now → TookValue now t after → Closed curly true after new → TookValue from (object (pair u plain t no_pair)) new
+whole_variant from now after new u plain t at took closed =
+    all_read from (bare_map after true false) new (pair u plain t no_pair) closed
+    (pair_read from (bare_map at.keyed false true) (bare_map after true false) no_pair u plain t (value_read at.keyed now after t at.colon took) refl refl at.key)
+
+-- ---- the only key, step by step
+
+module _ (names : List (List ℕ)) (old mid : State) where
+  -- a comment before it is at fault
+  pub no_key_begun_faulty : (e : Error) → (old.failed ≡ false → Refused FaultyBlanks (cursor_of old) e) → GivesUp old mid → Unprompted {V = Unit {0}} old (Err e) → ReadsOnlyKey names old mid (Err e)
+  no_key_begun_faulty e f failed other = record {
+    sound = tt;
+    complete = λ u x r plain t k live key value is. absurd (no_fault_before old e u plain x key (f live));
+    refused = λ live. no_only_key (refused_blanks old e f);
+    unprompted = other;
+    failed = failed;
+  }
+
+  -- no key begins
+  pub no_key_begun_other : (new : State) (e : Error) → PassedGap old mid → NotBegun begins_key mid.unread → Refused (Unexpected codes.EofParsingObject codes.ExpectedIdentifier) (cursor_of mid) e → new ≡ record mid { failed = true } → ReadsOnlyKey names old new (Err e)
+  no_key_begun_other new e p n f state = record {
+    sound = tt;
+    complete = λ u x r plain t k live key value is. absurd (no_key_begun mid.unread x u plain p.solid n (pair_key_found false old.unread mid.unread x u plain (after_gap_of old mid p) key));
+    refused = λ live. no_only_key by;
+    unprompted = refused_other keyed_lacks old e by;
+    failed = given_up old mid new p (gives_up mid new state);
+  }
+    where
+      by : RefusedBy NotKeyed old e
+      by = refused_token old mid e p (refused_as mid mid e refl (λ reason place k. no_key_keyed mid.unread reason place n k) f)
+
+  -- the key is refused
+  pub key_refused : (new : State) (e : Error) → PassedGap old mid → BeginsKey mid.unread → ReadsKeyAs {V = ℕ} (variant_key names) (λ n. n) mid new (Err e) → ReadsOnlyKey names old new (Err e)
+  key_refused new e p b k = record {
+    sound = tt;
+    complete = λ u x r plain t i live key value is. k.complete u plain x i (failed_of p.rest ∙ live) (pair_key_found false old.unread mid.unread x u plain (after_gap_of old mid p) key) is;
+    refused = λ live. other_key mid (record { passed = p; first = record { char = b.char; more = b.more; split = b.split; is_first = b.is_first } }) k.refused;
+    unprompted = λ live. k.unprompted (failed_of p.rest ∙ live);
+    failed = given_up old mid new p (record { failed = k.failed; same_text = k.same_text });
+  }
+
+  module _ (keyed new : State) (k : ℕ) (p : PassedGap old mid) (given : GivesKey (λ n. n) (place_among names) mid keyed k) where
+    -- no colon follows it
+    pub colon_refused : (e : Error) → RefusedBy NoColon keyed e → ((t : Tree) (r : List ℕ) → keyed.failed ≡ false → IsKeyValue keyed.unread t r → IsOk {T = Unit {0}} {E = Error} (Err e)) → GivesUp keyed new → Unprompted {V = Unit {0}} keyed (Err e)
+        → ReadsOnlyKey names old new (Err e)
+    colon_refused e f complete failed other = let (u, plain, took, is) = given in record {
+      sound = tt;
+      complete = λ v x r q t i live key value at.
+          let (same, mark, here) = one_reads_key mid.unread keyed.unread x u v plain q took.reads (pair_key_found false old.unread mid.unread x v q (after_gap_of old mid p) key) in
+          let ok = complete t r (failed_of took.rest ∙ took.live) (subst (λ z. IsKeyValue z t r) (sym here) value) in
+          absurd (cc);
+      refused = λ live. not_followed u plain keyed (took_key_after old mid keyed u plain p took) f;
+      unprompted = λ live. other (failed_of took.rest ∙ took.live);
+      failed = given_up old mid new p (record { failed = failed.failed; same_text = failed.same_text ∙ input_of took.rest });
+    }
+
+    -- both were read
+    pub only_key_read : AfterColon keyed new → ReadsOnlyKey names old new (Ok k)
+    only_key_read colon = let (u, plain, took, is) = given in record {
+      sound = (u, plain, keyed, took_key_after old mid keyed u plain p took, colon, is);
+      complete = λ v x r q t i live key value at. tt;
+      refused = tt;
+      unprompted = tt;
+      failed = tt;
+    }
+
+-- ---- an object up to its colon
+
+pub not_opened_keyed : {A : Type 0} (names : List (List ℕ)) (see : A → Seen) (old new : State) (e : Error) → OpensAs curly see old (Err e) → GivesUp old new → ReadsKeyed names old new (Err e)
+not_opened_keyed names see old new e o failed = record {
+  sound = tt;
+  complete = λ u r plain t k live reads shallow is. absurd ((refuses_map {Held = λ m. Unit {0}} see (λ (m : SeenMap). m) old e o).left (pair u plain t no_pair) r live reads shallow);
+  refused = inl o.refused;
+  unprompted = o.unprompted;
+  failed = failed;
+}
+
+pub only_key_refused : (names : List (List ℕ)) (old inside new : State) (start : ℕ) → OpensAs curly (λ (n : ℕ). record { reader = inside; start = n; due = false }) old (Ok start) → (own e : Error) (there : Position) → ReadsOnlyKey names inside new (Err own)
+    → SaysAt (kind_of own) (or_place (place_of own) there) e → IsPositionOf new.input start there → ReadsKeyed names old new (Err e)
+only_key_refused names old inside new start o own e there k says at =
+    let (opened, due) = o.opened in
+    let live = failed_of opened.rest ∙ opened.live in
+    record {
+      sound = tt;
+      complete = λ u r plain t i alive reads shallow is.
+          let map = opens_map {Held = λ m. Unit {0}} (λ (n : ℕ). record { reader = inside; start = n; due = false }) (λ (m : SeenMap). m) old start (record { at = record { reader = inside; start = start; due = false }; pending = false }) tt refl refl o in
+          let left = map.left (pair u plain t no_pair) r alive reads shallow in
+          let (y, z, key, value, close) = left.tail in
+          says.kind ∙ k.complete u y z plain t i left.live key value is;
+      refused = inr (record {
+        inside = inside;
+        opened = opened;
+        own = own;
+        cause = k.refused live;
+        placed = record {
+          kind = says.kind;
+          there = there;
+          place = says.place;
+          is_there = λ before split. at before (123 ∷ inside.unread) (k.failed.same_text ∙ split) (o.start before (sym (input_of opened.rest) ∙ split));
+        };
+      });
+      unprompted = λ alive h. k.unprompted live (sym says.kind ∙ h);
+      failed = record { failed = k.failed.failed; same_text = k.failed.same_text ∙ input_of opened.rest };
+    }
+
+-- ---- the name, whichever stands there
+
+place_named : (o : Option ℕ) (k : ℕ) (b c : Option Tree) → if_some {B = ℕ × Option Tree} (λ i. (i, b)) o ≡ Some (k, c) → o ≡ Some k
+place_named None k b c e = absurd (cc)
+place_named (Some i) k b c e = ap Some (same_pair (i, b) (k, c) e).0
+
+a_text : (names : List (List ℕ)) (t : Tree) (k : ℕ) → as_text (place_among names) t ≡ Some k → (u : List ℕ) × (plain : Bool) × (t ≡ text u plain) × (place_among names u plain ≡ Some k)
+a_text names (text u plain) k e = (u, plain, refl, e)
+a_text names null k e = absurd (cc)
+a_text names (boolean b) k e = absurd (cc)
+a_text names (number n) k e = absurd (cc)
+a_text names (array ts) k e = absurd (cc)
+a_text names (object ps) k e = absurd (cc)
+
+quote_next : {old mid : State} → PassedGap old mid → Begins is_quote mid.unread → IsNext begins_variant old mid
+quote_next p h = record { passed = p; first = record { char = h.char; more = h.more; split = h.split; is_first = or_left (is_quote h.char) (is_left_brace h.char) h.is_first } }
+
+brace_next : {old mid : State} → PassedGap old mid → Begins is_left_brace mid.unread → IsNext begins_variant old mid
+brace_next p h = record { passed = p; first = record { char = h.char; more = h.more; split = h.split; is_first = or_right (is_quote h.char) (is_left_brace h.char) h.is_first } }
+
+module _ (names : List (List ℕ)) (old mid : State) (p : PassedGap old mid) (start : ℕ) (counted : (before : List ℕ) → mid.input ≡ before ++ mid.unread → start ≡ length (encode_utf8_all before)) where
+  -- a text
+  pub text_named : {A : Type 0} (seen : A → SeenEnum) (new : State) (a : A) (k : ℕ) → Begins is_quote mid.unread → seen a ≡ record { reader = new; start = start; variant = k; has_content = false } → ReadsAs {V = ℕ} (variant_row names) (λ n. n) mid new (Ok k) → NamesVariant names seen old (Ok a)
+  text_named seen new a k h same reads =
+      let (t, took, is) = reads.sound in
+      let (u, plain, one, place) = a_text names t k is in
+      names_read names seen old a mid (quote_next p h) (subst (NameRead names old) (sym same) (record {
+        name = u;
+        plain = plain;
+        place = place;
+        after = took_after old mid new (text u plain) p (subst (λ z. TookValue mid z new) one took);
+        between = mid;
+        passed = p;
+        counted = counted;
+      }))
+
+  pub text_unnamed : {A : Type 0} (seen : A → SeenEnum) (new : State) (e : Error) → Begins is_quote mid.unread → ReadsAs {V = ℕ} (variant_row names) (λ n. n) mid new (Err e) → NamesVariant names seen old (Err e)
+  text_unnamed seen new e h k =
+      names_refused names seen old e mid (quote_next p h) (other_text mid (record { passed = p; first = h }) k.refused) (λ live. k.unprompted (failed_of p.rest ∙ live))
+      (λ t r i d reads shallow is. by t r i d (variant_next names (i, d) mid.unread h.char h.more r t p.solid h.split reads is) reads shallow is)
+    where
+      by : (t : Tree) (r : List ℕ) (i : ℕ) (d : Option Tree) → VariantAt h.char t → Reads mid.unread t r → mid.level + depth t ≤ max_depth → named_variant names t ≡ Some (i, d) → IsOutOfMemory e
+      by (text u plain) r i d (at_text _ _ q) reads shallow is = k.complete (text u plain) r i (failed_of p.rest ∙ p.live) reads shallow (place_named (place_among names u plain) i None d is)
+      by (object (pair u plain w no_pair)) r i d (at_object _ _ _ q) reads shallow is = absurd (true_false h.is_first (ap is_quote q))
+      by null r i d at reads shallow is = absurd (cc)
+      by (boolean b) r i d at reads shallow is = absurd (cc)
+      by (number n) r i d at reads shallow is = absurd (cc)
+      by (array ts) r i d at reads shallow is = absurd (cc)
+      by (object no_pair) r i d at reads shallow is = absurd (cc)
+      by (object (pair u plain w (pair v o x ps))) r i d at reads shallow is = absurd (cc)
+
+  -- an object
+  pub object_named : {A : Type 0} (seen : A → SeenEnum) (new : State) (a : A) (k : ℕ) → Begins is_left_brace mid.unread → seen a ≡ record { reader = new; start = start; variant = k; has_content = true } → ReadsKeyed names mid new (Ok k) → NamesVariant names seen old (Ok a)
+  object_named seen new a k h same reads =
+      let (u, plain, at, place) = reads.sound in
+      names_read names seen old a mid (brace_next p h) (subst (NameRead names old) (sym same) (record {
+        name = u;
+        plain = plain;
+        place = place;
+        after = content_after old mid new u plain p at;
+        between = mid;
+        passed = p;
+        counted = counted;
+      }))
+
+  pub object_unnamed : {A : Type 0} (seen : A → SeenEnum) (new : State) (e : Error) → Begins is_left_brace mid.unread → ReadsKeyed names mid new (Err e) → NamesVariant names seen old (Err e)
+  object_unnamed seen new e h k =
+      names_refused names seen old e mid (brace_next p h) (cause k.refused) (λ live. k.unprompted (failed_of p.rest ∙ live))
+      (λ t r i d reads shallow is. by t r i d (variant_next names (i, d) mid.unread h.char h.more r t p.solid h.split reads is) reads shallow is)
+    where
+      cause : RefusedBy (NotOpened curly mid.level) mid e ⊎ RefusesKeyed names mid e → RefusesName names old e
+      cause (inl f) = not_opened mid (record { passed = p; first = h }) f
+      cause (inr f) = in_object mid (record { passed = p; first = h }) f
+
+      by : (t : Tree) (r : List ℕ) (i : ℕ) (d : Option Tree) → VariantAt h.char t → Reads mid.unread t r → mid.level + depth t ≤ max_depth → named_variant names t ≡ Some (i, d) → IsOutOfMemory e
+      by (text u plain) r i d (at_text _ _ q) reads shallow is = absurd (no_quote_brace h.char q h.is_first)
+        where
+          no_quote_brace : (x : ℕ) → is_quote x ≡ true → is_left_brace x ≡ true → ⊥
+          no_quote_brace x a b = grind arith
+      by (object (pair u plain w no_pair)) r i d (at_object _ _ _ q) reads shallow is = k.complete u r plain w i (failed_of p.rest ∙ p.live) reads shallow (place_named (place_among names u plain) i (Some w) d is)
+      by null r i d at reads shallow is = absurd (cc)
+      by (boolean b) r i d at reads shallow is = absurd (cc)
+      by (number n) r i d at reads shallow is = absurd (cc)
+      by (array ts) r i d at reads shallow is = absurd (cc)
+      by (object no_pair) r i d at reads shallow is = absurd (cc)
+      by (object (pair u plain w (pair v o x ps))) r i d at reads shallow is = absurd (cc)
+
+neither : (x : List ℕ) → NotBegun is_quote x → NotBegun is_left_brace x → NotBegun begins_variant x
+neither [] a b = tt
+neither (c ∷ x) a b = rw (a, b) refl
+
+-- neither stands there
+pub no_name_begun : {A : Type 0} (names : List (List ℕ)) (seen : A → SeenEnum) (old mid : State) → PassedGap old mid → (e : Error) → NotBegun is_quote mid.unread → NotBegun is_left_brace mid.unread → Refused (Unexpected codes.EofParsingValue codes.ExpectedStringOrObject) (cursor_of mid) e → NamesVariant names seen old (Err e)
+no_name_begun names seen old mid p e a b f =
+    let n = neither mid.unread a b in
+    names_nothing names seen old e (refused_token old mid e p (refused_as mid mid e refl (λ reason place k. no_variant_here mid.unread reason place n k) f)) (λ h. absurd (true_false h p.live))
+    (λ t r x live reads is. nothing mid.unread t r x refl n (value_next old mid t r p reads) is)
+  where
+    nothing : (y : List ℕ) (t : Tree) (r : List ℕ) (x : ℕ × Option Tree) → mid.unread ≡ y → NotBegun begins_variant y → Reads mid.unread t r → named_variant names t ≡ Some x → ⊥
+    nothing [] t r x same n reads is = value_no_end old mid t r p same (reads_here old.unread p.gap mid.unread r t p.split p.is_gap reads)
+    nothing (c ∷ m) t r x same n reads is = true_false (begins_variant_at c t (variant_next names x mid.unread c m r t p.solid same reads is)) n
+
+-- ---- the maker
+
+-- the same seen in another way
+pub unnamed_seen : {A B : Type 0} (names : List (List ℕ)) (see : A → SeenEnum) (seen : B → SeenEnum) (old : State) (e : Error) → NamesVariant names see old (Err e) → NamesVariant names seen old (Err e)
+unnamed_seen names see seen old e n = record { read = tt; left = n.left; refused = n.refused; ends = n.ends; differs = n.differs; unprompted = n.unprompted; same_text = tt; before = n.before }
+
+pub named_seen : {A B : Type 0} (names : List (List ℕ)) (see : A → SeenEnum) (seen : B → SeenEnum) (old : State) (a : A) (b : B) → see a ≡ seen b → NamesVariant names see old (Ok a) → NamesVariant names seen old (Ok b)
+named_seen names see seen old a b same n = record {
+  read = subst (NameRead names old) same n.read;
+  left = λ t r k c live reads shallow is. subst (λ (s : SeenEnum). (s.variant ≡ k) × ContentLeft c r s) same (n.left t r k c live reads shallow is);
+  refused = tt;
+  ends = λ at. n.ends at;
+  differs = λ w o. n.differs w o;
+  unprompted = tt;
+  same_text = subst (λ (s : SeenEnum). SameText old s.reader) same n.same_text;
+  before = λ h. n.before h;
+}
+
+-- the reader that was lent shows itself again
+pub lent_name : (names : List (List ℕ)) (old : State) (s : SeenEnum) (lent : State) → NameRead names old s → lent ≡ record s.reader { failed = true } → s ≡ record s { reader = record lent { failed = false } }
+lent_name names old s lent n is = ap (λ (r : State). record s { reader = r }) (ap (λ b. record s.reader { failed = b }) (live s.has_content n.after) ∙ ap (λ (r : State). record r { failed = false }) (sym is))
+  where
+    live : (b : Bool) → AfterName b old n.name n.plain s.reader → s.reader.failed ≡ false
+    live false took = still_live old s.reader took.live took.rest
+    live true at = inside_live old s.reader n.name n.plain at

@@ -1,0 +1,28 @@
+use Rattle.std.proofs.Common.{refl}
+use Rattle.std.proofs.lemmas.Result.{err_from_is_err_and}
+use Rattle.json5_de.specs.Convert.{spelled}
+use Rattle.json5_de.proofs.VariantNames.{no_key_begun_faulty, no_key_begun_other, key_refused, colon_refused, only_key_read}
+use Rattle.json5_de.proofs.de.Deserializer.only_key.Goals as goal
+
+pub returns-in_err-begin : goal.returns-in_err-begin
+returns-in_err-begin g c =
+    let (y, is, from) = err_from_is_err_and c.from_residual.result c.from_residual.ensures.1 in
+    rw (is, from) (no_key_begun_faulty (spelled c.args.variants.now) c.args.self.now c.begin.new.self c.in_err-begin.field-0.0 c.in_err-begin.ensures.refused c.in_err-begin.ensures.failed c.in_err-begin.ensures.unprompted)
+
+pub returns-then-not-at_key : goal.returns-then-not-at_key
+returns-then-not-at_key g c =
+    no_key_begun_other (spelled c.args.variants.now) c.args.self.now c.begin.new.self c.unexpected.new.self c.unexpected.result c.in_ok-begin.ensures.passed (c.if-not-at_key.ensures.other refl) c.unexpected.ensures.fault c.unexpected.ensures.state
+
+pub returns-in_err-variant : goal.returns-in_err-variant
+returns-in_err-variant g c =
+    let (y, is, from) = err_from_is_err_and c.from_residual-in_err-variant.result c.from_residual-in_err-variant.ensures.1 in
+    rw (is, from) (key_refused (spelled c.args.variants.now) c.args.self.now c.begin.new.self c.key_variant.new.self c.in_err-variant.field-0.0 c.in_ok-begin.ensures.passed (c.if-not-at_key.ensures.found refl) c.in_err-variant.ensures)
+
+pub returns-in_err-colon : goal.returns-in_err-colon
+returns-in_err-colon g c =
+    let (y, is, from) = err_from_is_err_and c.from_residual-in_err-colon.result c.from_residual-in_err-colon.ensures.1 in
+    let e = c.in_err-colon.ensures in
+    rw (is, from) (colon_refused (spelled c.args.variants.now) c.args.self.now c.begin.new.self c.key_variant.new.self c.colon.new.self c.in_ok-variant.variant c.in_ok-begin.ensures.passed c.in_ok-variant.ensures.sound c.in_err-colon.field-0.0 e.refused e.complete e.failed e.unprompted)
+
+pub returns : goal.returns
+returns g c = only_key_read (spelled c.args.variants.now) c.args.self.now c.begin.new.self c.key_variant.new.self c.colon.new.self c.in_ok-variant.variant c.in_ok-begin.ensures.passed c.in_ok-variant.ensures.sound c.in_ok-colon.ensures.passed

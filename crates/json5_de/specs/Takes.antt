@@ -1,0 +1,90 @@
+-- What the reader's calls for one token mean: it is taken, or refused with one of its faults, and then the reader has failed.
+use Rattle.std.specs.Prelude.{◌≡◌, ℕ, Bool, true, false, List, ◌∷◌, ◌++◌, String, Result, IfOk, IfErr, OnOk, OnErr, IsOk}
+use Rattle.json5_grammar.specs.declared.code.ErrorCode.{ErrorCode}
+use Rattle.json5_grammar.specs.Characters.{NotBegun}
+use Rattle.json5_grammar.specs.Names.{Ident, Key, goes_on_name}
+use Rattle.json5_grammar.specs.Numbers.{Number, Num}
+use Rattle.json5_grammar.specs.Stops.{lengthens}
+use Rattle.json5_grammar.specs.Strings.{Str}
+use Rattle.json5_text.specs.declared.cow_str.CowStr.{CowStr}
+use Rattle.json5_text.specs.declared.error.Error.{Error}
+use Rattle.json5_text.specs.declared.key_text.KeyText.{KeyText}
+use Rattle.json5_text.specs.declared.number.Number as token
+use Rattle.json5_text.specs.Cursor.{Refused, IsOutOfMemory}
+use Rattle.json5_text.specs.NumberViews.{keeps_digits}
+use Rattle.json5_text.specs.Tokens.{FaultyBlanks, FaultyWord, FaultyNumber, FaultyString, FaultyName, FaultyKey}
+use Rattle.json5_de.specs.State.{State, GivesUp, cursor_of}
+use Rattle.json5_de.specs.Faults.{FaultRelation}
+use Rattle.json5_de.specs.Law.{StaysFailed, Unprompted}
+use Rattle.json5_de.specs.Steps.{PassedGap, TookText, TookNumber, TookOwned, TookCharacters, TookCow, PassedString, PassedName, PassedNumber, RefusesToken}
+use Rattle.json5_de.specs.KeySteps.{TookKeyText}
+
+-- blanks are passed over, where there was no refusal before
+pub record PassesGap (old new : State) (result : Result (Unit {0}) Error) : Type 0 where
+  pub passed : OnOk result (PassedGap old new)
+  pub refused : IfErr result (λ e. old.failed ≡ false → Refused FaultyBlanks (cursor_of old) e)
+  pub failed : OnErr result (GivesUp old new)
+  pub before : StaysFailed old new result
+  pub unprompted : Unprompted old result
+
+-- the word is taken
+pub record TakesWord (w : List ℕ) (ends differs : ErrorCode) (old new : State) (result : Result (Unit {0}) Error) : Type 0 where
+  pub taken : OnOk result (TookText old w new)
+  pub refused : IfErr result (λ e. Refused (FaultyWord w ends differs) (cursor_of old) e)
+  pub failed : OnErr result (GivesUp old new)
+
+-- a string is taken, its text in memory of its own
+pub record TakesOwned {A : Type 0} (old new : State) (result : Result (String A) Error) : Type 0 where
+  pub taken : IfOk result (TookOwned old new)
+  pub characters : IfOk result (TookCharacters old new)
+  pub refused : IfErr result (RefusesToken FaultyString old)
+  pub failed : OnErr result (GivesUp old new)
+
+-- a kind of token: what is known of one that was taken, its faults, and where a call for one succeeds
+pub record Token (V : Type 0) : Type 1 where
+  pub Took : State → State → V → Type 0
+  pub IsFault : FaultRelation
+  pub Completes : List ℕ → Result V Error → Type 0
+
+-- a token of the kind is taken
+pub record Takes {V : Type 0} (kind : Token V) (old new : State) (result : Result V Error) : Type 0 where
+  pub taken : IfOk result (λ v. kind.Took old new v)
+  pub refused : IfErr result (RefusesToken kind.IsFault old)
+  pub failed : OnErr result (GivesUp old new)
+  pub complete : kind.Completes old.unread result
+
+-- ---- the kinds
+
+-- a number; memory is taken for digits that are kept
+abbrev pub number : Token token.Number
+number = record {
+  Took = TookNumber;
+  IsFault = FaultyNumber;
+  Completes = λ x result. (s r : List ℕ) (n : Number) → x ≡ s ++ r → Num s n → NotBegun (lengthens s) r → keeps_digits n ≡ false → IsOk result;
+}
+
+-- a string, its text borrowed where it is plain, which takes no memory
+abbrev pub string : Token CowStr
+string = record { Took = TookCow; IsFault = FaultyString; Completes = λ x result. (s u r : List ℕ) → x ≡ s ++ r → Str s u true → IsOk result }
+
+-- a key
+abbrev pub key : Token KeyText
+key = record { Took = TookKeyText; IsFault = FaultyKey; Completes = λ x result. (s u r : List ℕ) (plain : Bool) → x ≡ s ++ r → Key s r u plain → IfErr result IsOutOfMemory }
+
+-- a string, a name or a number of which nothing is kept; only a custom fault takes memory
+abbrev pub string_passed : Token (Unit {0})
+string_passed = record { Took = λ old new v. PassedString old new; IsFault = FaultyString; Completes = λ x result. (s u r : List ℕ) (plain : Bool) → x ≡ s ++ r → Str s u plain → IsOk result }
+
+abbrev pub name_passed : Token (Unit {0})
+name_passed = record {
+  Took = λ old new v. PassedName old new;
+  IsFault = FaultyName;
+  Completes = λ x result. (s u r : List ℕ) (c : ℕ) (plain : Bool) → x ≡ s ++ c ∷ r → Ident s u plain → goes_on_name c ≡ false → IsOk result;
+}
+
+abbrev pub number_passed : Token (Unit {0})
+number_passed = record {
+  Took = λ old new v. PassedNumber old new;
+  IsFault = FaultyNumber;
+  Completes = λ x result. (s r : List ℕ) (n : Number) → x ≡ s ++ r → Num s n → NotBegun (lengthens s) r → IsOk result;
+}

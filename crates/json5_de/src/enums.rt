@@ -1,0 +1,391 @@
+//! Reading of enums: the name of a variant, and then its content.
+
+ghost use Rattle.std.specs.Prelude.{◌≡◌, true, false, ℕ, List, IfOk, IfErr, OnOk, OnErr, IsOk};
+ghost use Rattle.std.specs.Borrow.{sem};
+ghost use Rattle.json5_grammar.specs.declared.code.ErrorCode.TheVariants as codes;
+ghost use Rattle.json5_grammar.specs.Documents.{max_depth};
+ghost use Rattle.json5_grammar.specs.Trees.{Tree, depth};
+ghost use Rattle.json5_grammar.specs.Values.{Reads};
+ghost use Rattle.json5_grammar.specs.Members.{ReadsKey, IsKeyValue, IsBrace};
+ghost use Rattle.json5_de.specs.State.{SameText, GivesUp};
+ghost use Rattle.json5_de.specs.Law.{Unprompted};
+ghost use Rattle.json5_de.specs.Convert.{spelled, place_among};
+ghost use Rattle.json5_de.specs.Faults.{RefusedBy, IsUnplaced};
+ghost use Rattle.json5_de.specs.Brackets.{AreSigns};
+ghost use Rattle.json5_de.specs.Access.{ClosesAs};
+ghost use Rattle.json5_de.specs.Rows.{RefusedAs, null_row, every_tree};
+ghost use Rattle.json5_de.specs.Objects.{AfterColon};
+ghost use Rattle.json5_de.specs.ObjectFaults.{NoColon};
+ghost use Rattle.json5_de.specs.Enums.{NamesVariant, ReadsVariant, ReadsOnlyKey, ReadsKeyed, ReadsInBrace, ClosesLast, ClosesContent, OpensContent, OpensTuple, OpensStruct, content_of, unit_content, content_free, is_left_brace};
+ghost use Rattle.json5_grammar.specs.Strings.{is_quote};
+
+use crate::brackets::Brackets;
+use crate::de::{Deserialize, Deserializer};
+use crate::ending::InVariant;
+use crate::map::MapAccess;
+use crate::mismatch::Mismatch;
+use crate::seq::SeqAccess;
+use json5_text::ErrorCode;
+use json5_text::error::Result;
+use json5_text::input::Input;
+
+/// A variant whose name was read, and whose content is to be read: by one of the four calls that take the access. The reader answers
+/// `Failed` until then, and for good where the access is dropped or leaked.
+pub struct EnumAccess<'a, I: Input> {
+    de: &'a mut Deserializer<I>,
+    /// The count of bytes before the text or the opening brace.
+    start: usize,
+    /// The first place of the name among the variants.
+    variant: usize,
+    /// Whether the name is a key, whose value is the content.
+    has_content: bool,
+}
+
+/// Dropped before its content is read, it leaves the reader blocked.
+impl<I: Input> Drop for EnumAccess<'_, I> {
+    fn drop(self)
+        ensures { self.exit.0.now ≡ self.entry.de.now }
+    {
+        let EnumAccess {
+            de: _,
+            start: _,
+            variant: _,
+            has_content: _,
+        } = self;
+    }
+}
+
+/// The name of a variant that was read.
+#[derive(Drop)]
+struct Named {
+    start: usize,
+    variant: usize,
+    has_content: bool,
+}
+
+/// Whether a text begins with this character.
+fn begins_text(c: char) -> bool
+    ensures { result ≡ is_quote c }
+{
+    matches!(c, '"' | '\'')
+}
+
+/// Whether an object begins with this character.
+fn begins_object(c: char) -> bool
+    ensures { result ≡ is_left_brace c }
+{
+    c == '{'
+}
+
+impl<I: Input> Deserializer<I> {
+    ghost use Rattle.json5_grammar.specs.Characters.{NotBegun};
+    ghost use Rattle.json5_de.specs.Enums.{Begins};
+    ghost use Rattle.json5_de.specs.Lending.{seen_named, seen_enum, HoldsEnum, BlocksEnumReader, lends_to_enum};
+
+    /// Takes the colon after a key.
+    fn colon(&mut self) -> Result<()>
+        ensures passed { OnOk result (AfterColon self.old self.new) }
+        ensures refused { IfErr result (RefusedBy NoColon self.old) }
+        ensures complete { (t : Tree) (r : List ℕ) → self.old.failed ≡ false → IsKeyValue self.old.unread t r → IsOk result }
+        ensures failed { OnErr result (GivesUp self.old self.new) }
+        ensures unprompted { Unprompted self.old result }
+    {
+        self.begin()?;
+        if !self.eat(':') {
+            return Err(self.unexpected(ErrorCode::EofParsingObject, ErrorCode::ExpectedColon));
+        }
+        Ok(())
+    }
+
+    /// Takes the only key of an object, one of the variants, and its colon.
+    fn only_key(&mut self, variants: &[&str]) -> Result<usize>
+        ensures { ReadsOnlyKey (spelled variants.now) self.old self.new result }
+    {
+        self.begin()?;
+        if !self.at_key() {
+            return Err(self.unexpected(ErrorCode::EofParsingObject, ErrorCode::ExpectedIdentifier));
+        }
+        let variant = self.key_variant(variants)?;
+        self.colon()?;
+        Ok(variant)
+    }
+
+    /// Opens an object and takes its only key and the colon. Behind the brace a fault without a place gets the brace's.
+    fn keyed_variant(&mut self, variants: &[&str]) -> Result<usize>
+        ensures { ReadsKeyed (spelled variants.now) self.old self.new result }
+    {
+        let start = self.open(Brackets::curly())?;
+        match self.only_key(variants) {
+            Ok(variant) => Ok(variant),
+            Err(e) => Err(e.with_position(self.position_of(start))),
+        }
+    }
+
+    /// Whether a text is next.
+    fn at_text(&self) -> bool
+        ensures found { result ≡ true → Begins is_quote self.now.unread }
+        ensures other { result ≡ false → NotBegun is_quote self.now.unread }
+    {
+        match self.peek() {
+            Some(c) => begins_text(c),
+            None => false,
+        }
+    }
+
+    /// Whether an object is next.
+    fn at_object(&self) -> bool
+        ensures found { result ≡ true → Begins is_left_brace self.now.unread }
+        ensures other { result ≡ false → NotBegun is_left_brace self.now.unread }
+    {
+        match self.peek() {
+            Some(c) => begins_object(c),
+            None => false,
+        }
+    }
+
+    /// Reads the name of a variant, a text or the only key of an object.
+    fn named(&mut self, variants: &[&str]) -> Result<Named>
+        ensures names { NamesVariant (spelled variants.now) (seen_named self.new) self.old result }
+        ensures failed { OnErr result (GivesUp self.old self.new) }
+    {
+        self.begin()?;
+        let start = self.offset();
+        if self.at_text() {
+            let variant = self.deserialize_variant(variants)?;
+            return Ok(Named {
+                start,
+                variant,
+                has_content: false,
+            });
+        }
+        if self.at_object() {
+            let variant = self.keyed_variant(variants)?;
+            return Ok(Named {
+                start,
+                variant,
+                has_content: true,
+            });
+        }
+        Err(self.unexpected(
+            ErrorCode::EofParsingValue,
+            ErrorCode::ExpectedStringOrObject,
+        ))
+    }
+
+    /// Reads the name of a variant: a text, or the only key of an object and its colon. Its content is read by the access, which
+    /// blocks the reader until then. The name of the enum changes nothing.
+    ///
+    /// `ExpectedStringOrObject` stands at another character, and `EofParsingValue` at the end has no place. Another name is a custom
+    /// fault at the name, which lists the variants. Behind the brace come the faults of a key and of its colon, at the brace where
+    /// they have no place; `ExpectedIdentifier` stands at what begins no key, the closing brace too.
+    ///
+    /// ```text
+    /// let access = de.deserialize_enum("Shape", &["Circle", "Square"])?;
+    /// match access.variant() {
+    ///     0 => Ok(Shape::Circle(access.newtype_variant()?)),    // {Circle: 2}
+    ///     _ => Ok(Shape::Square(access.newtype_variant()?)),
+    /// }
+    /// ```
+    pub fn deserialize_enum(
+        &mut self,
+        _name: &'static str,
+        variants: &'static [&'static str],
+    ) -> Result<EnumAccess<'_, I>>
+        ensures* lends { sem 𝓛 (lends_to_enum I.row I.Input self.entry result) }
+        ensures same_reference { IfOk result (HoldsEnum self.entry) }
+        ensures blocks { IfOk result BlocksEnumReader }
+        ensures names { NamesVariant (spelled variants.now) seen_enum self.old result }
+    {
+        let Named {
+            start,
+            variant,
+            has_content,
+        } = self.named(variants)?;
+        self.set_failed(true);
+        Ok(EnumAccess {
+            de: self,
+            start,
+            variant,
+            has_content,
+        })
+    }
+
+    /// Takes a closing bracket, and before it the comma that may stand there; a refusal is for good.
+    pub(crate) fn close_last(&mut self, brackets: Brackets, due: bool) -> Result<()>
+        requires { AreSigns brackets }
+        ensures { ClosesLast brackets due self.old self.new result }
+    {
+        match self.close(brackets, due) {
+            Ok(()) => Ok(()),
+            Err(e) => self.refuse(e),
+        }
+    }
+
+    /// Takes the closing bracket of a variant's content, and then the variant's brace, before which so many bytes stand. A fault of
+    /// the bracket without a place gets that brace's.
+    pub(crate) fn close_content(
+        &mut self,
+        brackets: Brackets,
+        due: bool,
+        brace: usize,
+    ) -> Result<()>
+        requires { AreSigns brackets }
+        ensures { ClosesContent brackets due brace self.old self.new result }
+    {
+        match self.close_last(brackets, due) {
+            Ok(()) => self.close_last(Brackets::curly(), true),
+            Err(e) => Err(e.with_position(self.position_of(brace))),
+        }
+    }
+
+    /// Opens the content of a variant, which is an array or an object. A fault without a place gets the variant's brace's; a text
+    /// has no content.
+    fn open_content(&mut self, brackets: Brackets, name: &Named, kind: &str) -> Result<usize>
+        requires { AreSigns brackets }
+        ensures opens { OpensContent brackets (λ start. record { reader = self.new; start = start; due = false }) (seen_named self.old name.now) result }
+        ensures failed { OnErr result (GivesUp self.old self.new) }
+    {
+        if !name.has_content {
+            return self.mismatch(name.start, &Mismatch::WithoutContent(kind));
+        }
+        match self.open(brackets) {
+            Ok(start) => Ok(start),
+            Err(e) => Err(e.with_position(self.position_of(name.start))),
+        }
+    }
+
+    /// Reads the content of a variant and the closing brace. A fault of the content without a place gets the opening brace's.
+    fn in_brace<T: Deserialize<I>>(&mut self, start: usize) -> Result<T>
+        ensures { ReadsInBrace T.content T.convert T.free T.refuses start self.old self.new result }
+    {
+        match T::deserialize(self) {
+            Ok(value) => {
+                self.close_last(Brackets::curly(), true)?;
+                Ok(value)
+            }
+            Err(e) => {
+                let error = e.with_position(self.position_of(start));
+                self.refuse(error)
+            }
+        }
+    }
+}
+
+impl<'a, I: Input> EnumAccess<'a, I> {
+    ghost use Rattle.json5_de.specs.Lending.{seen, seen_map, seen_enum, ending, map_ending, brace_of, Holds, HoldsMap, BlocksReader, BlocksMapReader, lends_reader, lends_to_map};
+
+    /// The first place of the name among the variants, counted from 0.
+    pub fn variant(&self) -> usize
+        ensures { result ≡ (seen_enum self.now).variant }
+    {
+        self.variant
+    }
+
+    /// Reads a variant without content: nothing more of a text; of an object `null`, and the closing brace, before which a comma may
+    /// stand. A fault of `null` without a place gets the opening brace's. `ExpectedClosingBrace` stands at another character than
+    /// the brace; `EofParsingObject` at the end has no place. Takes no memory.
+    pub fn unit_variant(self) -> Result<()>
+        ensures { ReadsVariant (λ _. tt) unit_content (content_free every_tree) (RefusedAs null_row) (seen_enum self.entry) self.exit.0.now result }
+    {
+        let EnumAccess {
+            de,
+            start,
+            variant: _,
+            has_content,
+        } = self;
+        de.set_failed(false);
+        if !has_content {
+            return Ok(());
+        }
+        de.in_brace::<()>(start)
+    }
+
+    /// Reads a variant that holds a T, and the closing brace, before which a comma may stand. A fault of the T without a place gets
+    /// the opening brace's. `ExpectedClosingBrace` stands at another character than the brace; `EofParsingObject` at the end has no
+    /// place. A text is a custom fault where it stands.
+    pub fn newtype_variant<T: Deserialize<I>>(self) -> Result<T>
+        ensures { ReadsVariant T.content (content_of T.convert) (content_free T.free) T.refuses (seen_enum self.entry) self.exit.0.now result }
+    {
+        let EnumAccess {
+            de,
+            start,
+            variant: _,
+            has_content,
+        } = self;
+        de.set_failed(false);
+        if !has_content {
+            return de.mismatch(start, &Mismatch::WithoutContent("newtype"));
+        }
+        de.in_brace(start)
+    }
+
+    /// Reads a variant whose content is an array, element by element. Its `end` closes the array and the variant's brace, before
+    /// which a comma may stand. The length changes nothing. `ExpectedOpeningBracket` stands at another character, `TooDeep` at
+    /// the 129th open bracket; a fault without a place gets the opening brace's. A text is a custom fault where it stands.
+    pub fn tuple_variant(self, _length: usize) -> Result<SeqAccess<'a, I, InVariant>>
+        ensures* lends { sem 𝓛 (lends_reader I.row I.Input self.entry.de result) }
+        ensures same_reference { IfOk result (Holds self.entry.de) }
+        ensures blocks { IfOk result BlocksReader }
+        ensures brace { IfOk result (λ a. brace_of (ending a) ≡ (seen_enum self.entry).start) }
+        ensures opens { OpensTuple seen (seen_enum self.entry) result }
+    {
+        let EnumAccess {
+            de,
+            start: brace,
+            variant,
+            has_content,
+        } = self;
+        de.set_failed(false);
+        let name = Named {
+            start: brace,
+            variant,
+            has_content,
+        };
+        let start = de.open_content(Brackets::square(), &name, "tuple")?;
+        de.set_failed(true);
+        Ok(SeqAccess {
+            de,
+            start,
+            due: false,
+            failed: false,
+            around: InVariant { start: brace },
+        })
+    }
+
+    /// Reads a variant whose content is an object, pair by pair. Its `end` closes the object and the variant's brace, before which a
+    /// comma may stand. The fields change nothing. `ExpectedOpeningBrace` stands at another character, `TooDeep` at the 129th
+    /// open bracket; a fault without a place gets the variant's opening brace's. A text is a custom fault where it stands.
+    pub fn struct_variant(
+        self,
+        _fields: &'static [&'static str],
+    ) -> Result<MapAccess<'a, I, InVariant>>
+        ensures* lends { sem 𝓛 (lends_to_map I.row I.Input self.entry.de result) }
+        ensures same_reference { IfOk result (HoldsMap self.entry.de) }
+        ensures blocks { IfOk result BlocksMapReader }
+        ensures brace { IfOk result (λ a. brace_of (map_ending a) ≡ (seen_enum self.entry).start) }
+        ensures opens { OpensStruct seen_map (seen_enum self.entry) result }
+    {
+        let EnumAccess {
+            de,
+            start: brace,
+            variant,
+            has_content,
+        } = self;
+        de.set_failed(false);
+        let name = Named {
+            start: brace,
+            variant,
+            has_content,
+        };
+        let start = de.open_content(Brackets::curly(), &name, "struct")?;
+        de.set_failed(true);
+        Ok(MapAccess {
+            de,
+            start,
+            due: false,
+            pending: false,
+            failed: false,
+            around: InVariant { start: brace },
+        })
+    }
+}

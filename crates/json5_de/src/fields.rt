@@ -1,0 +1,124 @@
+//! Fields of a struct, which are read as the pairs of an object come.
+
+ghost use Rattle.std.specs.Prelude.{◌≡◌, true, false, None, Some, IfErr, IfOk, MatchResult};
+ghost use Rattle.json5_grammar.specs.declared.code.ErrorCode.TheVariants as codes;
+ghost use Rattle.json5_text.specs.Errors.{code, kind_of};
+ghost use Rattle.json5_de.specs.Access.{IsAtBracket};
+ghost use Rattle.json5_de.specs.Law.{IsUnprompted};
+ghost use Rattle.json5_de.specs.Fields.{FieldRead, IsOwnAtBracket, RefusesHere};
+ghost use Rattle.json5_de.specs.Plans.{PassesPair, ReadsPairs};
+ghost use Rattle.json5_de.specs.Lending.{seen_map, KeepsMap};
+
+use crate::de::Deserialize;
+use crate::ignored::IgnoredAny;
+use crate::map::MapAccess;
+use json5_text::ErrorCode;
+use json5_text::error::{Error, Result};
+use json5_text::input::Input;
+use std::fmt;
+
+/// The fields of a struct, as far as they were read: what `MapAccess::read_fields` fills.
+pub trait Fields<I: Input>: Sized + Drop {
+    ghost use Rattle.json5_de.specs.Plans.{Step, TakesPair};
+    ghost use Rattle.json5_de.specs.Lending.{seen_map, KeepsMap};
+
+    // What of them counts.
+    ghost Content: { Type 0 };
+
+    ghost content: { Self → Content };
+
+    // What a pair changes, by its name and its value.
+    ghost step: { Step Content };
+
+    /// Reads the value of the key that was read last, which has this name: into its field by `MapAccess::next_field`, or past
+    /// it where there is none.
+    fn read(&mut self, map: &mut MapAccess<'_, I>, name: &str) -> Result<()>
+        requires key { (seen_map map.old).pending ≡ true }
+        ensures access { KeepsMap map.old map.new }
+        ensures pending { IfOk result (λ _. (seen_map map.new).pending ≡ false) }
+        ensures takes { TakesPair step (content self.old) (content self.new) name.now (seen_map map.old) (seen_map map.new) result };
+}
+
+impl<'a, I: Input> MapAccess<'a, I> {
+    /// A custom fault at the opening brace.
+    fn own_fault<D: fmt::Display + Drop>(&self, message: D) -> Error
+        ensures own { IsOwnAtBracket (seen_map self.now).at result }
+        ensures unprompted { IsUnprompted result }
+    {
+        match Error::custom(self.de.allocator(), message) {
+            Ok(error) => self.place(error),
+            Err(error) => self.place(error),
+        }
+    }
+
+    /// Refuses a field that has a value.
+    fn duplicate(&mut self, name: &str) -> Error
+        ensures access { KeepsMap self.old self.new }
+        ensures failed { (seen_map self.new).at.reader.failed ≡ true }
+        ensures own { (seen_map self.old).at.reader.failed ≡ false → IsOwnAtBracket (seen_map self.old).at result }
+        ensures unprompted { (seen_map self.old).at.reader.failed ≡ false → IsUnprompted result }
+        ensures before { (seen_map self.old).at.reader.failed ≡ true → (kind_of result ≡ code codes.Failed) × IsAtBracket (seen_map self.old).at result }
+    {
+        self.de.set_failed(true);
+        if self.failed {
+            return self.place(Error::new(ErrorCode::Failed));
+        }
+        self.failed = true;
+        self.own_fault(format_args!("duplicate field `{name}`"))
+    }
+
+    /// Reads the value of the key that was read last into this field of a struct, as `next_value` reads it. A field that has a
+    /// value is a custom fault ``duplicate field `name` `` at the opening brace, before anything of the second value is read.
+    /// After a refusal every later call answers `Failed`.
+    pub fn next_field<V: Deserialize<I>>(&mut self, name: &str, field: &mut Option<V>) -> Result<()>
+        requires key { (seen_map self.old).pending ≡ true }
+        ensures access { KeepsMap self.old self.new }
+        ensures pending { IfOk result (λ _. (seen_map self.new).pending ≡ false) }
+        ensures reads { FieldRead V.content V.convert V.refuses (seen_map self.old) (seen_map self.new) field.old field.new result }
+    {
+        if field.is_some() {
+            return Err(self.duplicate(name));
+        }
+        let value = self.next_value::<V>()?;
+        *field = Some(value);
+        Ok(())
+    }
+
+    /// Passes over the value of the key that was read last, as `next_value::<IgnoredAny>` does.
+    pub fn skip_value(&mut self) -> Result<()>
+        requires key { (seen_map self.old).pending ≡ true }
+        ensures access { KeepsMap self.old self.new }
+        ensures pending { IfOk result (λ _. (seen_map self.new).pending ≡ false) }
+        ensures passes { PassesPair (seen_map self.old) (seen_map self.new) result }
+        ensures cause { RefusesHere ⟦<IgnoredAny as Deserialize<I>>⟧.refuses (seen_map self.old) result }
+    {
+        self.next_value::<IgnoredAny>()?;
+        Ok(())
+    }
+
+    /// The value of a field that has to be there, once all pairs are read: a custom fault ``missing field `name` `` at the opening
+    /// brace where it isn't.
+    pub fn required_field<V: Deserialize<I>>(&self, name: &str, field: Option<V>) -> Result<V>
+        ensures found { MatchResult result (λ v. field ≡ Some v) (λ e. (field ≡ None) × IsOwnAtBracket (seen_map self.now).at e) }
+        ensures unprompted { IfErr result IsUnprompted }
+    {
+        match field {
+            Some(value) => Ok(value),
+            None => Err(self.own_fault(format_args!("missing field `{name}`"))),
+        }
+    }
+
+    /// Reads the pairs of an object into these fields, one after another, up to the closing brace, which stays unread. The faults
+    /// are those of `next_key::<String>`, and then those of the fields.
+    pub fn read_fields<F: Fields<I>>(&mut self, fields: &mut F) -> Result<()>
+        requires no_key { (seen_map self.old).pending ≡ false }
+        ensures access { KeepsMap self.old self.new }
+        ensures pending { IfOk result (λ _. (seen_map self.new).pending ≡ false) }
+        ensures reads { ReadsPairs F.step (F.content fields.old) (F.content fields.new) (seen_map self.old) (seen_map self.new) result }
+    {
+        while let Some(name) = self.next_key::<String>()? {
+            fields.read(self, name.as_str())?;
+        }
+        Ok(())
+    }
+}
