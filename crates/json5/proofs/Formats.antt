@@ -1,110 +1,102 @@
--- What the formatter gives is a document of the same tree.
-use Rattle.std.proofs.Common.{◌≡◌, ℕ, Bool, true, false, List, Some, refl, inl, sym, ap, ◌∙◌, subst}
-use Rattle.std.specs.Prelude.{cond, Result, Ok, Err, IfOk, IfErr, MatchResult}
+-- What is written of a document's value is a document of the same tree.
+use Rattle.std.proofs.Common.{◌≡◌, ℕ, Bool, true, false, List, Option, refl, sym, ap, ◌∙◌, subst}
+use Rattle.std.specs.Prelude.{Result, Ok, Err, IfOk, IfErr, MatchResult}
+use Rattle.std.specs.Str.{chars, encode_utf8_all}
 use Rattle.json5_grammar.specs.declared.code.ErrorCode.TheVariants as codes_of
-use Rattle.json5_grammar.specs.NumberText.{number_text}
-use Rattle.json5_grammar.specs.Quoting.{quoted_text}
-use Rattle.json5_grammar.specs.Values.{null_text}
+use Rattle.json5_grammar.specs.Documents.{Doc, max_depth}
+use Rattle.json5_grammar.specs.Trees.{Tree, Trees, Pairs, null, boolean, number, text, array, object, no_more, more, no_pair, pair}
 use Rattle.json5_grammar.proofs.Unique.{one_tree}
 use Rattle.json5_text.specs.declared.error.Error.{Error}
-use Rattle.json5_text.specs.Errors.{FaultKind, code, custom, failed_write, kind_of}
 use Rattle.json5_text.specs.Cursor.{IsOutOfMemory}
-use Rattle.json5_grammar.specs.Trees.{Tree, null, boolean, number, text, array, object}
-use Rattle.json5_grammar.specs.Documents.{Doc}
+use Rattle.json5_text.specs.Errors.{FaultKind, code, custom, failed_write, kind_of}
 use Rattle.json5_text.specs.ValueViews.{Datum}
-use Rattle.json5_text.specs.ValueViews as datum
-use Rattle.json5_de.specs.Convert.{datum_of}
-use Rattle.json5_ser.specs.Out.{out, piece, stopped, no_number, bool_text}
-use Rattle.json5_ser.specs.Writable.{is_writable}
-use Rattle.json5_ser.specs.Marks.{marks, unmarked}
-use Rattle.json5_ser.specs.Lone.{IsLone}
+use Rattle.json5_de.specs.Convert.{datum_of, items_of, fields_of}
+use Rattle.json5_ser.specs.Marks.{marks, unmarked, unmarked_elements, unmarked_fields}
+use Rattle.json5_ser.specs.Out.{Out, whole, invalid_key, too_deep, text_of}
+use Rattle.json5_ser.specs.Pieces.{AppendsFront, Pushes}
 use Rattle.json5_ser.specs.Texts.{IsText, RefusesText, StopsAs}
-use Rattle.json5_ser.specs.ValueTrees.{datum_tree}
-use Rattle.json5_ser.proofs.LoneRead.{lone_document}
+use Rattle.json5_ser.specs.ValueTrees.{datum_tree, items_tree, fields_tree}
+use Rattle.json5_ser.specs.Writes.{Seen, Writes, Refusal, by_key, by_depth, by_writer, by_refusal, by_none, refusal_of, RefusesBy, fresh, ended}
+use Rattle.json5_ser.proofs.Depths.{text_document}
+use Rattle.json5_ser.proofs.ReadTrees.{read_written}
 use Rattle.json5_ser.proofs.Unmarked.{tree_again}
-use Rattle.json5.specs.Formatted.{IsScalar, IsFormatted, IsRefused}
+use Rattle.json5.specs.Formatted.{IsFormatted}
 
--- a scalar's value is written as its tree without marks
-pub same_tree : (t : Tree) (d : Datum) → datum_of t ≡ Some d → datum_tree d ≡ unmarked t
-same_tree null d e = cc
-same_tree (boolean b) d e = cc
-same_tree (number n) d e = cc
-same_tree (text u plain) d e = cc
-same_tree (array ts) d e = cc
-same_tree (object ps) d e = cc
+-- ---- the tree that is written
 
--- an array and an object aren't read yet
-abbrev pub IsLoneDatum : Datum → Type 0
-IsLoneDatum (datum.array xs) = ⊥
-IsLoneDatum (datum.object fs) = ⊥
-IsLoneDatum _ = Unit {0}
+-- what a tree stands for is written as the tree without marks
+mutual
+  pub same_tree : (t : Tree) → datum_tree (datum_of t) ≡ unmarked t
+  same_tree null = refl
+  same_tree (boolean b) = refl
+  same_tree (number n) = refl
+  same_tree (text u plain) = refl
+  same_tree (array ts) = rw (same_trees ts) refl
+  same_tree (object ps) = rw (same_pairs ps) refl
 
-pub read_alone : (t : Tree) (d : Datum) → datum_of t ≡ Some d → IsLoneDatum d
-read_alone null d e = let same : datum.null ≡ d = cc in subst IsLoneDatum same tt
-read_alone (boolean b) d e = let same : datum.boolean b ≡ d = cc in subst IsLoneDatum same tt
-read_alone (number n) d e = let same : datum.number n ≡ d = cc in subst IsLoneDatum same tt
-read_alone (text u plain) d e = let same : datum.text u ≡ d = cc in subst IsLoneDatum same tt
-read_alone (array ts) d e = absurd (cc)
-read_alone (object ps) d e = absurd (cc)
+  same_trees : (ts : Trees) → items_tree (items_of ts) ≡ unmarked_elements ts
+  same_trees no_more = refl
+  same_trees (more t ts) = rw (same_tree t, same_trees ts) refl
 
-pub is_lone : (d : Datum) → IsLoneDatum d → IsLone (datum_tree d)
-is_lone datum.null h = tt
-is_lone (datum.boolean b) h = tt
-is_lone (datum.number n) h = tt
-is_lone (datum.text u) h = tt
-is_lone (datum.array xs) h = absurd h
-is_lone (datum.object fs) h = absurd h
+  same_pairs : (ps : Pairs) → fields_tree (fields_of ps) ≡ unmarked_fields ps
+  same_pairs no_pair = refl
+  same_pairs (pair u plain t ps) = rw (same_tree t, same_pairs ps) refl
 
--- a scalar has a value
-pub scalar_datum : (t : Tree) → IsScalar t → (d : Datum) × (datum_of t ≡ Some d)
-scalar_datum null h = (datum.null, refl)
-scalar_datum (boolean b) h = (datum.boolean b, refl)
-scalar_datum (number n) h = (datum.number n, refl)
-scalar_datum (text u plain) h = (datum.text u, refl)
-scalar_datum (array ts) h = absurd h
-scalar_datum (object ps) h = absurd h
+-- what stands for the tree is written as it
+pub written_tree : (t : Tree) (d : Datum) → d ≡ datum_of t → datum_tree d ≡ unmarked t
+written_tree t d e = ap datum_tree e ∙ same_tree t
 
-pub formatted : (x bytes : List ℕ) (t : Tree) (d : Datum) → Doc 128 x t → datum_of t ≡ Some d → IsText (out 128 (datum_tree d) 0) bytes → IsFormatted x bytes
+-- its text is whole
+pub value_whole : (x : List ℕ) (t : Tree) (d : Datum) → Doc max_depth x t → d ≡ datum_of t → (text_of (datum_tree d)).stop ≡ whole
+value_whole x t d doc e = subst (λ z. (text_of z).stop ≡ whole) (sym (written_tree t d e)) (read_written max_depth x t doc)
+
+pub formatted : (x bytes : List ℕ) (t : Tree) (d : Datum) → Doc max_depth x t → d ≡ datum_of t → IsText (text_of (datum_tree d)) bytes → IsFormatted x bytes
 formatted x bytes t d doc e w = record {
   tree = t;
   document = doc;
-  written = subst (λ z. IsText (out 128 z 0) bytes) (same_tree t d e) w;
+  written = subst (λ z. IsText (text_of z) bytes) (written_tree t d e) w;
   again = marks (datum_tree d);
-  reads_back = subst (λ z. Doc 128 z (marks (datum_tree d))) (sym w.characters) (lone_document 128 0 (datum_tree d) (is_lone d (read_alone t d e)) w.stop);
-  same = tree_again 128 (datum_tree d) 0 w.stop ∙ same_tree t d e;
+  reads_back = text_document (datum_tree d) bytes w;
+  same = tree_again max_depth (datum_tree d) 0 w.stop ∙ written_tree t d e;
 }
 
-number_stop : (b : Bool) (s : List ℕ) (k : FaultKind) → StopsAs (cond b (piece s) (stopped no_number)) k → k ≡ code codes_of.OutOfMemory
-number_stop b s (code codes_of.OutOfMemory) h = refl
-number_stop true s (code codes_of.InvalidKey) h = absurd (cc)
-number_stop false s (code codes_of.InvalidKey) h = absurd (cc)
-number_stop true s (code codes_of.TooDeep) h = absurd (cc)
-number_stop false s (code codes_of.TooDeep) h = absurd (cc)
-number_stop b s (code _) h = absurd h
-number_stop b s failed_write h = absurd h
-number_stop b s (custom _) h = absurd h
+-- ---- formatting twice
 
--- writing a scalar is refused only where memory runs out
-pub only_memory : (d : Datum) (e : Error) → IsLoneDatum d → RefusesText (out 128 (datum_tree d) 0) e → IsOutOfMemory e
-only_memory datum.null e lone h = number_stop true null_text (kind_of e) h.stops
-only_memory (datum.boolean b) e lone h = number_stop true (bool_text b) (kind_of e) h.stops
-only_memory (datum.number n) e lone h = number_stop (is_writable n) (number_text n) (kind_of e) h.stops
-only_memory (datum.text u) e lone h = number_stop true (quoted_text u) (kind_of e) h.stops
-only_memory (datum.array xs) e lone h = absurd lone
-only_memory (datum.object fs) e lone h = absurd lone
+-- what is written of a formatted text is the text
+pub formatted_again : (x bytes other : List ℕ) → IsFormatted x bytes → IsFormatted (chars bytes) other → other ≡ bytes
+formatted_again x bytes other f g =
+    let tree = one_tree max_depth max_depth (chars bytes) g.tree f.again g.document f.reads_back in
+    g.written.encoded ∙ (ap (λ t. encode_utf8_all (text_of t).text) (ap unmarked tree ∙ f.same) ∙ sym f.written.encoded)
+
+-- ---- where a text is whole
+
+-- memory alone refuses it
+kind_of_whole : (o : Out) (k : FaultKind) → o.stop ≡ whole → StopsAs o k → k ≡ code codes_of.OutOfMemory
+kind_of_whole o (code codes_of.OutOfMemory) w h = refl
+kind_of_whole o (code codes_of.InvalidKey) w h = let e : invalid_key ≡ whole = sym h ∙ w in absurd (cc)
+kind_of_whole o (code codes_of.TooDeep) w h = let e : too_deep ≡ whole = sym h ∙ w in absurd (cc)
+kind_of_whole o (code _) w h = absurd h
+kind_of_whole o failed_write w h = absurd h
+kind_of_whole o (custom _) w h = absurd h
+
+pub only_memory : (x : List ℕ) (t : Tree) (d : Datum) (e : Error) → Doc max_depth x t → d ≡ datum_of t → RefusesText (text_of (datum_tree d)) e → IsOutOfMemory e
+only_memory x t d e doc is h = kind_of_whole (text_of (datum_tree d)) (kind_of e) (value_whole x t d doc is) h.stops
 
 -- what is written of a document's value
-pub completed : {S : Type 0} (bytes : S → List ℕ) (x : List ℕ) (t u : Tree) (d : Datum) (r : Result S Error) → Doc 128 x t → Doc 128 x u → datum_of t ≡ Some d
-    → IfOk r (λ s. IsText (out 128 (datum_tree d) 0) (bytes s)) → IfErr r (λ e. RefusesText (out 128 (datum_tree d) 0) e)
-    → MatchResult r (λ s. IsText (out 128 (unmarked u) 0) (bytes s)) IsOutOfMemory
-completed bytes x t u d (Ok s) a b is w k = subst (λ z. IsText (out 128 z 0) (bytes s)) (same_tree t d is ∙ ap unmarked (one_tree 128 128 x t u a b)) w
-completed bytes x t u d (Err e) a b is w k = only_memory d e (read_alone t d is) k
+pub completed : {S : Type 0} (bytes : S → List ℕ) (x : List ℕ) (t u : Tree) (d : Datum) (r : Result S Error) → Doc max_depth x t → Doc max_depth x u → d ≡ datum_of t
+    → IfOk r (λ s. IsText (text_of (datum_tree d)) (bytes s)) → IfErr r (λ e. RefusesText (text_of (datum_tree d)) e)
+    → MatchResult r (λ s. IsText (text_of (unmarked u)) (bytes s)) IsOutOfMemory
+completed bytes x t u d (Ok s) a b is w k = subst (λ z. IsText (text_of z) (bytes s)) (written_tree t d is ∙ ap unmarked (one_tree max_depth max_depth x t u a b)) w
+completed bytes x t u d (Err e) a b is w k = only_memory x t d e a is k
 
--- that memory ran out is a cause of its own
-pub memory_refused : (x : List ℕ) (e : Error) → IsOutOfMemory e → IsRefused x e
-memory_refused x e m = record {
-  cause = inl m;
-  after_value = λ t r c reads shallow converts. inl m;
-  unprompted = λ k. let same : code codes_of.OutOfMemory ≡ code codes_of.Failed = sym m ∙ k in absurd (cc);
-  document = λ t document scalar. m;
-}
+-- a failed write alone refuses it to a writer, which holds a prefix
+front_of_whole : (o : Out) (r : Refusal) (old new : Seen) → o.stop ≡ whole → old.failed ≡ false → RefusesBy o old r new → AppendsFront old.known new.known (encode_utf8_all o.text)
+front_of_whole o by_key old new w live h = let e : invalid_key ≡ whole = sym h.stop ∙ w in absurd (cc)
+front_of_whole o by_depth old new w live h = let e : too_deep ≡ whole = sym h.stop ∙ w in absurd (cc)
+front_of_whole o by_writer old new w live h = (h.front, h.rest, h.cut, h.bytes)
+front_of_whole o by_refusal old new w live h = let e : false ≡ true = sym live ∙ h.was in absurd (cc)
+front_of_whole o by_none old new w live h = absurd h
+
+pub pushes_whole : {A : Type 0} (o : Out) (old new : Option (List ℕ)) (result : Result A Error) → o.stop ≡ whole → Writes o (fresh old) result (ended new result) → Pushes old new (encode_utf8_all o.text) result
+pushes_whole o old new (Ok x) w h = h.bytes
+pushes_whole o old new (Err e) w h = front_of_whole o (refusal_of (kind_of e)) (fresh old) (ended {A = Unit {0}} new (Err e)) w refl h.leaves

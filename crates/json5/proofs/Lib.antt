@@ -1,10 +1,16 @@
 -- Lemmas.
+pub mod DocumentsRead
+pub mod AnyTexts
 pub mod Formats
+pub mod ReadsBack
+pub mod ValuesBack
+pub mod MapsBack
+pub mod ReadAgain
 -- What proofs of a user's own types cite.
 pub use Rattle.json5_de.proofs.Own
 pub use Rattle.json5_de.proofs.Loops
 pub use Rattle.json5_de.proofs.SoMany
 pub use Rattle.json5_de.proofs.ListFaults
-pub use Rattle.json5_de.proofs.Fields
+pub use Rattle.json5_de.proofs.Structs
 pub use Rattle.json5_ser.proofs.Remains
 pub use Rattle.json5_ser.proofs.Members

@@ -1,4 +1,6 @@
+pub mod AnyText
 pub mod Formatted
+pub mod ReadsBack
 -- What else contracts cite, and what a type of a user's own cites: trees, and what stands in a text.
 pub use Rattle.json5_grammar.specs.Trees
 pub use Rattle.json5_grammar.specs.Values
@@ -14,6 +16,7 @@ pub use Rattle.json5_text.specs.ValueViews
 pub use Rattle.json5_text.specs.Cursor
 pub use Rattle.json5_text.specs.Errors
 pub use Rattle.json5_text.specs.declared.error.Error
+pub use Rattle.json5_text.specs.declared.value.Value
 -- Reading.
 pub use Rattle.json5_de.specs.State
 pub use Rattle.json5_de.specs.Law
@@ -36,11 +39,15 @@ pub use Rattle.json5_de.specs.ObjectFaults
 pub use Rattle.json5_de.specs.Maps
 pub use Rattle.json5_de.specs.MapFaults
 pub use Rattle.json5_de.specs.Fields
+pub use Rattle.json5_de.specs.Plans
+pub use Rattle.json5_de.specs.Enums
 pub use Rattle.json5_de.specs.Lending
 pub use Rattle.json5_de.specs.Texts
 -- Writing.
 pub use Rattle.json5_ser.specs.WrittenTrees
+pub use Rattle.json5_ser.specs.ValueTrees
 pub use Rattle.json5_ser.specs.Out
+pub use Rattle.json5_ser.specs.Marks
 pub use Rattle.json5_ser.specs.Writes
 pub use Rattle.json5_ser.specs.Pieces
 pub use Rattle.json5_ser.specs.Texts as WrittenTexts

@@ -9,20 +9,21 @@
 //! allocator.
 #![tactic(auto)]
 
+mod laws;
 pub mod ser;
 
 ghost use Rattle.std.specs.Prelude.{IfOk, IfErr, MatchResult, string_bytes};
 ghost use Rattle.std.specs.Str.{chars};
 ghost use Rattle.json5_grammar.specs.Trees.{Tree};
-ghost use Rattle.json5_grammar.specs.Documents.{Doc};
+ghost use Rattle.json5_grammar.specs.Documents.{Doc, max_depth};
 ghost use Rattle.json5_text.specs.Cursor.{IsOutOfMemory};
-ghost use Rattle.json5_ser.specs.Out.{out};
-ghost use Rattle.json5.specs.Formatted.{IsScalar, WritesTree, IsFormatted, IsRefused};
+ghost use Rattle.json5.specs.AnyText.{IsRefused, ReadsText};
+ghost use Rattle.json5.specs.Formatted.{WritesTree, IsFormatted};
 
 pub use json5_de as de;
 pub use json5_de::{
-    Deserialize, DeserializeKey, Deserializer, IgnoredAny, MapAccess, SeqAccess, Spanned, from_str,
-    read,
+    Deserialize, DeserializeKey, Deserializer, EnumAccess, IgnoredAny, MapAccess, SeqAccess,
+    Spanned, from_str, read,
 };
 pub use json5_grammar::code::ErrorCode;
 pub use json5_grammar::position::Position;
@@ -39,21 +40,28 @@ pub use json5_text::value::Value;
 pub use json5_text::whole::Whole;
 use std::alloc::Global;
 
-/// A document written again, without its comments, each number and each text in its one spelling. No line feed stands at
-/// the end.
+/// A document written again, without its comments, each number and each text in its one spelling, each member of an array or an
+/// object on a line of its own. No line feed stands at the end.
 ///
-/// It is Ok exactly when the text is a document, unless memory runs out. Today that is said of documents that are one scalar: an
-/// array or an object is refused with `ExpectedValue` at its bracket. A fault is that of reading a `Value`, its place counted
-/// from 0 in the text.
+/// It is Ok exactly when the text is a document (JSON5 section 2) nested at most 128 deep, unless memory runs out; formatting its
+/// answer gives the same. A fault is that of reading a `Value`, its place counted from 0 in the text.
 ///
 /// ```text
 /// json5::format(alloc, " +0x1F90 // in hexadecimal")?    // 8080
 /// ```
 pub fn format(alloc: Global, text: &str) -> Result<String>
     ensures formatted { IfOk result (λ s. IsFormatted (chars text.now) (string_bytes s)) }
-    ensures complete { (t : Tree) → Doc 128 (chars text.now) t → IsScalar t → MatchResult result (λ s. WritesTree t (string_bytes s)) IsOutOfMemory }
+    ensures complete { (t : Tree) → Doc max_depth (chars text.now) t → MatchResult result (λ s. WritesTree t (string_bytes s)) IsOutOfMemory }
     ensures refused { IfErr result (IsRefused (chars text.now)) }
 {
-    let value = from_str::<Value>(alloc, text)?;
+    let value = read_value(alloc, text)?;
     to_string(alloc, &value)
+}
+
+/// What `from_str` says of a `Value`: it reads exactly the documents, each as what its tree stands for, and refuses any other text
+/// with its fault.
+fn read_value(alloc: Global, text: &str) -> Result<Value>
+    ensures { ReadsText (chars text.now) result }
+{
+    from_str(alloc, text)
 }

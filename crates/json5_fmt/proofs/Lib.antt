@@ -1,3 +1,4 @@
 pub mod PiecesJoined
 pub mod LinesJoined
+pub mod LinesWritten
 pub mod Refusals

@@ -2,7 +2,8 @@
 use Rattle.std.specs.Prelude.{ℕ, List}
 use Rattle.std.specs.Str.{chars}
 use Rattle.json5.specs.Error.{Error}
-use Rattle.json5.specs.Formatted.{IsFormatted, IsRefused}
+use Rattle.json5.specs.AnyText.{IsRefused}
+use Rattle.json5.specs.Formatted.{IsFormatted}
 
 -- the text is a document, and this is written of it
 abbrev pub Formats : List ℕ → List ℕ → Type 0

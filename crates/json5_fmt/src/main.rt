@@ -13,7 +13,10 @@ mod run;
 mod tests;
 
 use answer::answer;
+use failure::Failure;
+use reports::report;
 use std::env;
+use std::io::BufWriter;
 use std::process::ExitCode;
 use std::rt::Runtime;
 
@@ -27,12 +30,9 @@ fn has_words<R: Runtime>(rt: &R) -> bool {
 
 fn main(rt: HostRuntime) -> ExitCode {
     let (alloc, words) = (rt.alloc(), has_words(&rt));
-    let status = answer(
-        alloc,
-        words,
-        &mut rt.stdin(),
-        &mut rt.stdout(),
-        &mut rt.stderr(),
-    );
+    let Ok(mut stdout) = BufWriter::new(alloc, rt.stdout()) else {
+        return ExitCode::from(report("stdin", &Failure::NoMemory, &mut rt.stderr()));
+    };
+    let status = answer(alloc, words, &mut rt.stdin(), &mut stdout, &mut rt.stderr());
     ExitCode::from(status)
 }

@@ -108,7 +108,10 @@ fn a_document_is_formatted_and_another_text_is_reported(rt: HostRuntime) -> Resu
         "nil",
         "",
         "\n\n  true false",
+        "[]",
+        "{a:1,a:2}",
         "[1 2]",
+        "[1,",
     ];
     assert_eq!(rt;
         printed_all(rt.alloc(), &inputs)?.as_str(),
@@ -118,7 +121,10 @@ fn a_document_is_formatted_and_another_text_is_reported(rt: HostRuntime) -> Resu
         stdin: expected null at line 1 column 2\n\
         stdin: EOF parsing value\n\
         stdin: trailing characters at line 3 column 8\n\
-        stdin: expected value at line 1 column 1\n"
+        []\n\
+        {\n  a: 1,\n  a: 2,\n}\n\
+        stdin: expected comma at line 1 column 4\n\
+        stdin: EOF parsing value at line 1 column 1\n"
     );
     Ok(())
 }

@@ -1,38 +1,32 @@
-use Rattle.std.proofs.Common.{string_bytes, inr}
+use Rattle.std.proofs.Common.{string_bytes}
 use Rattle.std.specs.Str.{chars}
 use Rattle.std.proofs.lemmas.Result.{err_from_is_err_and, IfOk-weaker, IfErr-weaker}
 use Rattle.json5_text.specs.ValueViews.{value_of}
-use Rattle.json5.proofs.Formats.{scalar_datum, read_alone, formatted, completed, only_memory, memory_refused}
+use Rattle.json5.proofs.AnyTexts.{memory_refused}
+use Rattle.json5.proofs.Formats.{formatted, completed, only_memory}
 use Rattle.json5.proofs.format.Goals as goal
 
 pub returns-in_err-value-clause-complete : goal.returns-in_err-value-clause-complete
-returns-in_err-value-clause-complete c = λ t document scalar.
+returns-in_err-value-clause-complete c = λ t document.
     let (y, is, from) = err_from_is_err_and c.from_residual.result c.from_residual.ensures.1 in
-    let (d, converts) = scalar_datum t scalar in
-    rw (is, from) (c.in_err-value.ensures.complete t d document converts)
+    rw (is, from) (c.in_err-value.ensures.complete t document)
 
 pub returns-in_err-value-clause-refused : goal.returns-in_err-value-clause-refused
 returns-in_err-value-clause-refused c =
     let (y, is, from) = err_from_is_err_and c.from_residual.result c.from_residual.ensures.1 in
-    rw (is, from) (record {
-      cause = inr c.in_err-value.ensures.refused;
-      after_value = c.in_err-value.ensures.after_value;
-      unprompted = c.in_err-value.ensures.unprompted;
-      document = λ t document scalar. let (d, converts) = scalar_datum t scalar in c.in_err-value.ensures.complete t d document converts;
-    })
+    rw (is, from) c.in_err-value.ensures.refused
 
 pub returns-clause-refused : goal.returns-clause-refused
 returns-clause-refused c =
-    let (t, document, converts) = c.in_ok-value.ensures.sound in
-    let lone = read_alone t (value_of c.in_ok-value.value) converts in
-    IfErr-weaker c.to_string.result _ _ (λ e k. memory_refused (chars c.args.text.now) e (only_memory (value_of c.in_ok-value.value) e lone k)) c.to_string.ensures.refused
+    let (t, document, is) = c.in_ok-value.ensures.sound in
+    IfErr-weaker c.to_string.result _ _ (λ e k. memory_refused (chars c.args.text.now) e (only_memory (chars c.args.text.now) t (value_of c.in_ok-value.value) e document is k)) c.to_string.ensures.refused
 
 pub returns-clause-formatted : goal.returns-clause-formatted
 returns-clause-formatted c =
-    let (t, document, converts) = c.in_ok-value.ensures.sound in
-    IfOk-weaker c.to_string.result _ _ (λ s w. formatted (chars c.args.text.now) (string_bytes s) t (value_of c.in_ok-value.value) document converts w) c.to_string.ensures.whole
+    let (t, document, is) = c.in_ok-value.ensures.sound in
+    IfOk-weaker c.to_string.result _ _ (λ s w. formatted (chars c.args.text.now) (string_bytes s) t (value_of c.in_ok-value.value) document is w) c.to_string.ensures.whole
 
 pub returns-clause-complete : goal.returns-clause-complete
-returns-clause-complete c = λ u other scalar.
-    let (t, document, converts) = c.in_ok-value.ensures.sound in
-    completed string_bytes (chars c.args.text.now) t u (value_of c.in_ok-value.value) c.to_string.result document other converts c.to_string.ensures.whole c.to_string.ensures.refused
+returns-clause-complete c = λ u other.
+    let (t, document, is) = c.in_ok-value.ensures.sound in
+    completed string_bytes (chars c.args.text.now) t u (value_of c.in_ok-value.value) c.to_string.result document other is c.to_string.ensures.whole c.to_string.ensures.refused

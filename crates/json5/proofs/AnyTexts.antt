@@ -1,0 +1,97 @@
+-- What reading a whole text as a value of any kind comes to.
+use Rattle.std.proofs.Common.{◌≡◌, ℕ, ◌≤◌, List, [], ◌++◌, refl, sym, ◌∙◌, subst, append_assoc, arith, ◌⊎◌, inl, inr, Option, Some}
+use Rattle.std.specs.Prelude.{Result, Ok, Err, IfOk, IfErr}
+use Rattle.std.proofs.lemmas.Option.{same_Some}
+use Rattle.json5_grammar.specs.Codes.{after_text}
+use Rattle.json5_grammar.specs.declared.code.ErrorCode.{ErrorCode}
+use Rattle.json5_grammar.specs.declared.code.ErrorCode.TheVariants as codes_of
+use Rattle.json5_grammar.specs.Documents.{Doc, max_depth}
+use Rattle.json5_grammar.specs.ReadValues.{document}
+use Rattle.json5_grammar.specs.Trees.{Tree, depth}
+use Rattle.json5_grammar.specs.Values.{Reads}
+use Rattle.json5_grammar.proofs.BlanksSound.{blank_refused}
+use Rattle.json5_grammar.proofs.Refusals.{Refuses, one_refusal, not_both}
+use Rattle.json5_text.specs.declared.error.Error.{Error}
+use Rattle.json5_text.specs.declared.value.Value.{Value}
+use Rattle.json5_text.specs.Errors.{code}
+use Rattle.json5_text.specs.Cursor.{Refused, IsOutOfMemory}
+use Rattle.json5_text.specs.ValueViews.{value_of}
+use Rattle.json5_de.specs.AnyTree.{FaultyTree}
+use Rattle.json5_de.specs.Convert.{datum_of, every_datum}
+use Rattle.json5_de.specs.Faults.{AfterBlanks, in_blanks, after_gap, Trailing, trailing, RefusedBy, RefusedByOrMemory}
+use Rattle.json5_de.specs.Law.{TookValue, IsUnprompted}
+use Rattle.json5_de.specs.State.{State, cursor_of}
+use Rattle.json5_de.specs.Texts.{at_start, ReadsDocument, RefusesReading, in_value, after_value}
+use Rattle.json5_de.proofs.Arrays.{failed_of}
+use Rattle.json5_de.proofs.Taken.{input_of, placed_after}
+use Rattle.json5.specs.AnyText.{FaultyDocument, unread_text, IsRefused, ReadsText}
+use Rattle.json5.proofs.DocumentsRead.{to_end, document_complete, blanks_refused, value_refused, comment_refused, character_refused, rest_refused}
+
+-- what refuses a value of any kind
+abbrev pub any_refuses : State → Error → State → Type 0
+any_refuses s e t = RefusedByOrMemory (FaultyTree s.level) s e
+
+-- a fault of the value is one of the text
+faulty_value : (x : List ℕ) (reason : Option ErrorCode) (place : Option (List ℕ)) → AfterBlanks (FaultyTree 0) x reason place → FaultyDocument x reason place
+faulty_value x reason place (in_blanks (before, part, shown, f)) = blanks_refused max_depth x reason place (blank_refused f)
+faulty_value x reason place (after_gap {place = there} g s k) = value_refused max_depth reason there g s k
+
+-- and so is a fault of what stands after the value
+faulty_rest : (t : Tree) (r : List ℕ) (reason : Option ErrorCode) (place : Option (List ℕ)) → AfterBlanks Trailing r reason place → Refuses (to_end t r) r reason place
+faulty_rest t r reason place (in_blanks (before, part, shown, f)) = comment_refused t r reason place (blank_refused f)
+faulty_rest t r reason place (after_gap g s (trailing c q)) = character_refused t c q g s
+
+in_front : (x : List ℕ) (e : Error) → Refused (AfterBlanks (FaultyTree 0)) (unread_text x) e → Refused FaultyDocument (unread_text x) e
+in_front x e f = record { reason = f.reason; place = f.place; fault = faulty_value x f.reason f.place f.fault; says = f.says; placed = f.placed }
+
+in_rest : (x r : List ℕ) (t : Tree) (e : Error) → Reads x t r → depth t ≤ max_depth → Refused (AfterBlanks Trailing) (record { input = x; unread = r }) e → Refused FaultyDocument (unread_text x) e
+in_rest x r t e p low f = record {
+  reason = f.reason;
+  place = after_text (p.front ++ p.phrase) f.place;
+  fault = rest_refused max_depth f.reason f.place p low (faulty_rest t r f.reason f.place f.fault);
+  says = f.says;
+  placed = placed_after (at_start x) (record (at_start x) { unread = r }) e (p.front ++ p.phrase) f.place (p.split ∙ sym (append_assoc p.front p.phrase r)) refl f.placed;
+}
+
+after_phrase : (x : List ℕ) (e : Error) (t : Tree) (new : State) → TookValue (at_start x) t new → RefusedBy Trailing new e → Refused FaultyDocument (unread_text x) e
+after_phrase x e t new took k =
+    in_rest x new.unread t e took.reads (let low = took.shallow in omega (arith, low))
+    (subst (λ i. Refused (AfterBlanks Trailing) (record { input = i; unread = new.unread }) e) (input_of took.rest) (k (failed_of took.rest)))
+
+in_the_value : (x : List ℕ) (e : Error) → RefusedByOrMemory (FaultyTree 0) (at_start x) e → IsOutOfMemory e ⊎ Refused FaultyDocument (unread_text x) e
+in_the_value x e (inl memory) = inl memory
+in_the_value x e (inr k) = inr (in_front x e (k refl))
+
+-- a refusal has a fault of the text
+cause_of : (x : List ℕ) (e : Error) → RefusesReading every_datum any_refuses x e → IsOutOfMemory e ⊎ Refused FaultyDocument (unread_text x) e
+cause_of x e (in_value new k) = in_the_value x e k
+cause_of x e (after_value t c new took is k) = inr (after_phrase x e t new took k)
+
+pub text_refused : (x : List ℕ) (e : Error) → RefusesReading every_datum any_refuses x e → IsUnprompted e → IsRefused x e
+text_refused x e refused unprompted = record { cause = cause_of x e refused; unprompted = unprompted }
+
+-- what `from_str` says of a value of any kind
+pub reads_text : (x : List ℕ) (result : Result Value Error) → IfOk result (λ v. (t : Tree) × Doc max_depth x t × (every_datum t ≡ Some (value_of v))) → ReadsDocument value_of every_datum x result
+    → IfErr result (RefusesReading every_datum any_refuses x) → IfErr result IsUnprompted → ReadsText x result
+reads_text x (Ok v) (t, document, is) complete refused unprompted = record {
+  sound = (t, document, sym (same_Some (datum_of t) (value_of v) is));
+  complete = λ t d. complete t (datum_of t) d refl;
+  refused = tt;
+}
+reads_text x (Err e) sound complete refused unprompted = record {
+  sound = tt;
+  complete = λ t d. complete t (datum_of t) d refl;
+  refused = text_refused x e refused unprompted;
+}
+
+-- that memory ran out is a cause of its own
+pub memory_refused : (x : List ℕ) (e : Error) → IsOutOfMemory e → IsRefused x e
+memory_refused x e m = record { cause = inl m; unprompted = λ k. let same : code codes_of.OutOfMemory ≡ code codes_of.Failed = sym m ∙ k in absurd (cc) }
+
+-- ---- one refusal
+
+pub one_fault : (x : List ℕ) (reason other : Option ErrorCode) (place there : Option (List ℕ)) → FaultyDocument x reason place → FaultyDocument x other there → (reason ≡ other) × (place ≡ there)
+one_fault x reason other place there f g = one_refusal (document max_depth x) x reason other place there f g
+
+pub no_fault : (x : List ℕ) (t : Tree) (reason : Option ErrorCode) (place : Option (List ℕ)) → Doc max_depth x t → FaultyDocument x reason place → ⊥
+no_fault x t reason place d f = not_both (document max_depth x) x [] t reason place (document_complete max_depth x t d) f

@@ -1,0 +1,89 @@
+//! The laws of whole texts, and of types that are both read and written: what is written reads back. Each is the contract of a
+//! function that does nothing. What `to_string` gives is a document of the marked tree, so it reads back where that tree converts.
+
+ghost use Rattle.std.specs.Prelude.{◌≡◌, ◌≢◌, ◌<◌, ◌^◌, ℕ, Bool, List, [], ◌∷◌, ℤ, pos, neg_ℤ, ◌≤ℤ◌, ◌<ℤ◌, map, String, string_bytes, Option, Some, None, if◌then◌else◌};
+ghost use Rattle.std.specs.List.{All};
+ghost use Rattle.std.specs.Str.{chars, encode_utf8_all};
+ghost use Rattle.std.specs.declared.alloc.Global as heap;
+ghost use Rattle.json5_grammar.specs.Numbers as numbers;
+ghost use Rattle.json5_text.specs.ValueViews.{Datum};
+ghost use Rattle.json5_grammar.specs.Numbers.{InWhole};
+ghost use Rattle.json5_grammar.specs.NumberText.{Normal};
+ghost use Rattle.json5_de.specs.KeyRows.{document_of};
+ghost use Rattle.json5_de.specs.Convert.{every_datum, unit_of, bool_of, unsigned_below, signed_below, decimal_of, text_of, plain_of, char_of, every_text, one_character};
+ghost use Rattle.json5_de.specs.ConvertLists.{option_of};
+ghost use Rattle.json5_ser.specs.WrittenTrees.{null, boolean, number, text, natural, integer, natural_key, integer_key};
+ghost use Rattle.json5_ser.specs.Marks.{marks, is_plain};
+ghost use Rattle.json5_ser.specs.ValueTrees.{datum_tree};
+ghost use Rattle.json5.specs.AnyText.{FaultyDocument, IsOneFault, IsNoDocument};
+ghost use Rattle.json5.specs.Formatted.{IsFormatted};
+ghost use Rattle.json5.specs.ReadsBack.{ReadsBack, KeyReadsBack, PairsReadBack, OrderStays, TurnStays, list_tree, list_of};
+
+use json5_de::{Deserialize, DeserializeKey};
+use json5_ser::{Serialize, SerializeKey};
+use json5_text::decimal::Decimal;
+use json5_text::input::Input;
+use std::hash::Hash;
+
+/// Null, booleans, numbers in range and texts read back. As a slice a text reads back exactly where it is written without a
+/// backslash.
+pub fn scalars_read_back()
+    ensures null { unit_of (marks null) ≡ Some tt }
+    ensures boolean { (b : Bool) → ReadsBack boolean bool_of (λ b. b) b }
+    ensures natural { (bound n : ℕ) → n < bound → ReadsBack natural (unsigned_below bound) (λ n. n) n }
+    ensures integer { (bound : ℕ) (z : ℤ) → neg_ℤ (pos bound) ≤ℤ z → z <ℤ pos bound → ReadsBack integer (signed_below bound) (λ z. z) z }
+    ensures decimal { (d : numbers.Decimal) → ReadsBack (λ d. number (numbers.decimal d)) decimal_of (λ d. d) d }
+    ensures string { (s : String heap.Global) → ReadsBack (λ s. text (chars (string_bytes s))) text_of string_bytes s }
+    ensures character { (c : ℕ) → ReadsBack (λ c. text (c ∷ [])) char_of (λ c. c) c }
+    ensures slice { (u : List ℕ) → plain_of (marks (text u)) ≡ (if is_plain u then Some (encode_utf8_all u) else None) }
+{}
+
+/// A list and an option, which is written as what it holds or null, read back where what they hold does. What is written as null
+/// reads back as None, also of `Some`.
+pub fn members_read_back<I: Input, T: Serialize + Deserialize<I>>()
+    ensures list { (v : List T) → All (ReadsBack T.tree T.convert T.content) v → ReadsBack (list_tree T.tree) (list_of T.convert) (map T.content) v }
+    ensures some { (v : T) → T.tree v ≢ null → ReadsBack T.tree T.convert T.content v → option_of T.convert (marks (T.tree v)) ≡ Some (Some (T.content v)) }
+    ensures none { option_of T.convert (marks null) ≡ Some None }
+{}
+
+/// As keys null, booleans, numbers in range and texts read back: the text of a number is a document of its own.
+pub fn keys_read_back()
+    ensures null { KeyReadsBack ⟦<() as SerializeKey>⟧.as_key (document_of unit_of) (λ v. tt) tt }
+    ensures boolean { (b : Bool) → KeyReadsBack ⟦<bool as SerializeKey>⟧.as_key (document_of bool_of) (λ b. b) b }
+    ensures natural { (bound n : ℕ) → n < bound → n < 2 ^ 128 → KeyReadsBack natural_key (document_of (unsigned_below bound)) (λ n. n) n }
+    ensures integer { (bound : ℕ) (z : ℤ) → neg_ℤ (pos bound) ≤ℤ z → z <ℤ pos bound → InWhole z → KeyReadsBack integer_key (document_of (signed_below bound)) (λ z. z) z }
+    ensures decimal { (d : numbers.Decimal) → Normal d → KeyReadsBack ⟦<Decimal as SerializeKey>⟧.as_key (document_of decimal_of) (λ d. d) d }
+    ensures string { (s : String heap.Global) → KeyReadsBack ⟦<String as SerializeKey>⟧.as_key every_text string_bytes s }
+    ensures character { (c : ℕ) → KeyReadsBack ⟦<char as SerializeKey>⟧.as_key one_character (λ c. c) c }
+{}
+
+/// The pairs of an object read back where its keys and its values do, in their order.
+pub fn pairs_read_back<
+    I: Input,
+    K: SerializeKey + DeserializeKey<I>,
+    V: Serialize + Deserialize<I>,
+>()
+    ensures { PairsReadBack K.as_key K.convert K.content V.tree V.convert V.content }
+{}
+
+/// What counts of a map's entries stays as it is where they are put into an empty map: so a map reads back where its pairs do.
+pub fn maps_read_back<I: Input, K: DeserializeKey<I> + Ord + Hash, V: Deserialize<I>>()
+    ensures ordered { OrderStays K.content V.content K.cmp }
+    ensures indexed { TurnStays K.content V.content K.eq }
+{}
+
+/// What is written of a `Value` reads back as the same value.
+pub fn values_read_back()
+    ensures { (d : Datum) → ReadsBack datum_tree every_datum (λ d. d) d }
+{}
+
+/// A text has one fault at most, of one code and one place, and then it is no document.
+pub fn one_refusal()
+    ensures same { IsOneFault FaultyDocument }
+    ensures none { IsNoDocument FaultyDocument }
+{}
+
+/// Formatting twice changes nothing: what is written of a formatted text is that text.
+pub fn formatted_once()
+    ensures { (x bytes other : List ℕ) → IsFormatted x bytes → IsFormatted (chars bytes) other → other ≡ bytes }
+{}
