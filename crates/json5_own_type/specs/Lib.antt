@@ -1,2 +1,5 @@
 pub mod Accepted
 pub mod Articles
+pub mod Reminders
+pub mod Settings
+pub mod Endpoints

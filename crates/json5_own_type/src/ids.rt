@@ -1,10 +1,11 @@
 //! Numbers by which things are known.
 
 use json5::de::MapKey;
-use json5::{DeserializeKey, Input, Result};
+use json5::{DeserializeKey, Input, Result, SerializeKey, ser};
+use std::io::Write;
 
 /// The number of a thing, which is the key of its entry.
-#[derive(Clone, Copy, Debug, PartialEq, Eq)]
+#[derive(Clone, Copy, Debug, PartialEq, Eq, Hash)]
 pub struct Id {
     /// From 0 to 4294967295.
     pub number: u32,
@@ -25,5 +26,16 @@ impl<I: Input> DeserializeKey<I> for Id {
     fn deserialize_key(key: &mut MapKey<'_, I>) -> Result<Id> {
         let number = key.deserialize_u32()?;
         Ok(Id { number })
+    }
+}
+
+/// Its decimal digits: `"7"`.
+impl SerializeKey for Id {
+    ghost use Rattle.json5.specs.WrittenTrees.{natural_key};
+
+    ghost as_key = { λ i. natural_key i.number };
+
+    fn serialize_key<W: Write + Drop>(&self, key: ser::MapKey<'_, W>) -> Result<()> {
+        key.serialize_u32(self.number)
     }
 }

@@ -1,4 +1,4 @@
-//! Types of one's own that are read from JSON5, proved lawful by what json5_de promises alone.
+//! Types of one's own that are read and written, proved lawful by what json5 promises alone.
 #![tactic(auto)]
 
 mod articles;
@@ -6,6 +6,8 @@ mod at_most;
 mod ids;
 mod levels;
 mod ports;
+mod reminders;
+mod settings;
 mod tags;
 
 ghost use Rattle.std.specs.Prelude.{◌≡◌, true};
@@ -19,7 +21,9 @@ pub use ids::Id;
 use json5::de::value_codes;
 use json5::{Deserialize, Deserializer, Error, Input, Result, SeqAccess};
 pub use levels::Level;
-pub use ports::{Endpoint, OpenPort, PortRange};
+pub use ports::{Endpoint, OpenPort, PortRange, endpoint_again};
+pub use reminders::Reminder;
+pub use settings::Settings;
 use std::alloc::Global;
 pub use tags::Labels;
 

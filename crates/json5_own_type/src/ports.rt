@@ -1,8 +1,14 @@
 //! Ports, and where something listens.
 
+ghost use Rattle.std.specs.Prelude.{◌≡◌, ◌<◌, MatchResult};
+ghost use Rattle.json5.specs.Cursor.{IsOutOfMemory};
+ghost use Rattle.json5_own_type.specs.Endpoints.{endpoint_content};
+
 use json5::{
-    Deserialize, Deserializer, Error, Input, Result, Serialize, Serializer, Spanned, read,
+    Deserialize, Deserializer, Error, Input, Result, Serialize, Serializer, Spanned, from_str,
+    read, to_string,
 };
+use std::alloc::Global;
 use std::io::Write;
 
 /// A port that isn't 0.
@@ -78,6 +84,28 @@ impl<I: Input> Deserialize<I> for Endpoint {
         let (host, port) = <(String, OpenPort)>::deserialize(de)?;
         Ok(Endpoint { host, port })
     }
+}
+
+/// A list of the host and the port.
+impl Serialize for Endpoint {
+    ghost use Rattle.json5_own_type.specs.Endpoints.{endpoint_tree};
+
+    ghost tree = { endpoint_tree };
+
+    fn serialize<W: Write + Drop>(&self, ser: &mut Serializer<W>) -> Result<()> {
+        (&self.host, &self.port).serialize(ser)
+    }
+}
+
+/// The endpoint that is read of its own text. It is the same, and only want of memory refuses it.
+pub fn endpoint_again(alloc: Global, endpoint: &Endpoint) -> Result<Endpoint>
+    requires open { 0 < endpoint.now.port.number }
+    ensures { MatchResult result (λ e. endpoint_content e ≡ endpoint_content endpoint.now) IsOutOfMemory }
+{
+    // What is read here is known to be in range.
+    let _number = endpoint.port.number;
+    let text = to_string(alloc, endpoint)?;
+    from_str(alloc, text.as_str())
 }
 
 /// Ports from one to another, written as a list: `[8000, 8080]`.

@@ -99,21 +99,55 @@ fn write_digits<W: fmt::Write>(decimal: &Decimal, f: &mut fmt::Formatter<W>) -> 
     write!(f, "{sign}{digits}e{exponent}")
 }
 
-/// A value of any kind: `null`, a boolean, a whole number, a decimal by its digits, a text in quotes, or how many values are
-/// inside.
+/// A value of any kind: `null`, a boolean, a whole number, a decimal by its digits, a text in quotes, an array, or an object's
+/// pairs in their order.
 #[derive(Drop)]
 pub struct Any(pub Value);
 
 impl Debug for Any {
     fn fmt<W: fmt::Write>(&self, f: &mut fmt::Formatter<W>) -> fmt::Result {
-        match &self.0 {
-            Value::Null => f.write_str("null"),
-            Value::Bool(truth) => write!(f, "{truth}"),
-            Value::Whole(number) => write!(f, "{number}"),
-            Value::Decimal(decimal) => write_digits(decimal, f),
-            Value::String(text) => write!(f, "{text:?}"),
-            Value::Array(items) => write!(f, "an array of {}", items.len()),
-            Value::Object(fields) => write!(f, "an object of {}", fields.len()),
-        }
+        write_any(&self.0, f)
     }
+}
+
+#[cycle(value)]
+fn write_any<W: fmt::Write>(value: &Value, f: &mut fmt::Formatter<W>) -> fmt::Result {
+    match value {
+        Value::Null => f.write_str("null"),
+        Value::Bool(truth) => write!(f, "{truth}"),
+        Value::Whole(number) => write!(f, "{number}"),
+        Value::Decimal(decimal) => write_digits(decimal, f),
+        Value::String(text) => write!(f, "{text:?}"),
+        Value::Array(items) => write_items(items, f),
+        Value::Object(fields) => write_fields(fields, f),
+    }
+}
+
+#[cycle(value)]
+fn write_items<W: fmt::Write>(items: &[Value], f: &mut fmt::Formatter<W>) -> fmt::Result {
+    f.write_str("[")?;
+    for (place, item) in items.iter().enumerate() {
+        write_separator(place, f)?;
+        write_any(item, f)?;
+    }
+    f.write_str("]")
+}
+
+#[cycle(value)]
+fn write_fields<W: fmt::Write>(
+    fields: &[(String, Value)],
+    f: &mut fmt::Formatter<W>,
+) -> fmt::Result {
+    f.write_str("{")?;
+    for (place, (key, value)) in fields.iter().enumerate() {
+        write_separator(place, f)?;
+        write!(f, "{key:?}: ")?;
+        write_any(value, f)?;
+    }
+    f.write_str("}")
+}
+
+/// A comma before all members but the first.
+fn write_separator<W: fmt::Write>(place: usize, f: &mut fmt::Formatter<W>) -> fmt::Result {
+    f.write_str(if place == 0 { "" } else { ", " })
 }

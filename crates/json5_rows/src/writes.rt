@@ -1,8 +1,10 @@
 //! Writing what was read.
 
 use crate::answers::{Answer, unknown};
-use json5::{CowStr, Decimal, Deserialize, Serialize, Value, from_str, to_string};
+use indexmap::IndexMap;
+use json5::{ByteBuf, CowStr, Decimal, Deserialize, Serialize, Value, from_str, to_string};
 use std::alloc::Global;
+use std::collections::BTreeMap;
 
 /// Writes as the type of this list that has the name, and returns; does nothing where none has it.
 macro_rules! write_as {
@@ -25,7 +27,20 @@ pub fn write(alloc: Global, name: &str, text: &str) -> Answer {
 }
 
 fn write_scalar(alloc: Global, name: &str, text: &str) -> Answer {
-    write_as!(name, alloc, text; (), bool, char, &str, CowStr, String, Decimal, Value);
+    write_as!(name, alloc, text; (), bool, char, &str, CowStr, String, ByteBuf, Decimal, Value);
+    write_list(alloc, name, text)
+}
+
+fn write_list(alloc: Global, name: &str, text: &str) -> Answer {
+    write_as!(name, alloc, text; Vec<Vec<i32>>, Vec<Option<&str>>, Vec<(u8, u8, u8, u8)>, [i32; 3]);
+    write_as!(name, alloc, text; (i32,), (i32, i32), (char, i32, &str));
+    write_map(alloc, name, text)
+}
+
+fn write_map(alloc: Global, name: &str, text: &str) -> Answer {
+    write_as!(name, alloc, text; BTreeMap<String, u8>, IndexMap<String, u8>);
+    write_as!(name, alloc, text; BTreeMap<u8, String>, BTreeMap<bool, u8>, BTreeMap<char, u8>);
+    write_as!(name, alloc, text; IndexMap<Decimal, u8>, BTreeMap<ByteBuf, u8>);
     unknown(alloc)
 }
 

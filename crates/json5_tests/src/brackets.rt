@@ -1,6 +1,8 @@
 //! Brackets, one in the other: 128 are read, and 129 are too many.
 
-use json5::{Deserialize, Deserializer, Error, ErrorCode, Input, Position, Result, from_str};
+use json5::{
+    Deserialize, Deserializer, Error, ErrorCode, IgnoredAny, Input, Position, Result, from_str,
+};
 use std::alloc::{AllocError, Global};
 use std::test::Fail;
 
@@ -65,4 +67,21 @@ fn one_bracket_too_many_is_refused(rt: HostRuntime) -> std::result::Result<(), F
     );
     assert!(rt; read::<(Within128<()>,)>(rt.alloc(), more.as_str()) == Err(fault));
     Ok(())
+}
+
+/// As many brackets as may be open at once.
+const MOST: &str = "\
+[[[[[[[[[[[[[[[[[[[[[[[[[[[[[[[[\
+[[[[[[[[[[[[[[[[[[[[[[[[[[[[[[[[\
+[[[[[[[[[[[[[[[[[[[[[[[[[[[[[[[[\
+[[[[[[[[[[[[[[[[[[[[[[[[[[[[[[[[\
+]]]]]]]]]]]]]]]]]]]]]]]]]]]]]]]]\
+]]]]]]]]]]]]]]]]]]]]]]]]]]]]]]]]\
+]]]]]]]]]]]]]]]]]]]]]]]]]]]]]]]]\
+]]]]]]]]]]]]]]]]]]]]]]]]]]]]]]]]";
+
+/// No memory is wanted here, so this passes too where the first request for it fails: `rt try --test --fail-alloc 1`.
+#[test]
+fn brackets_are_passed_over_without_memory(rt: HostRuntime) {
+    assert!(rt; from_str::<IgnoredAny>(rt.alloc(), MOST).is_ok());
 }

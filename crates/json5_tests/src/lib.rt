@@ -6,6 +6,12 @@ mod brackets;
 #[cfg(test)]
 mod errors;
 #[cfg(test)]
+mod failing_writers;
+#[cfg(test)]
+mod keys;
+#[cfg(test)]
+mod long;
+#[cfg(test)]
 mod maps;
 #[cfg(test)]
 mod own_types;
@@ -13,6 +19,8 @@ mod own_types;
 mod readers;
 #[cfg(test)]
 mod readme;
+#[cfg(test)]
+mod stops;
 #[cfg(test)]
 mod values;
 #[cfg(test)]

@@ -1,6 +1,6 @@
-//! Numbers and texts: conversions, clones, equality, order and hashes.
+//! Numbers, texts and values of any kind: conversions, clones, equality, order, hashes and what is found in them.
 
-use json5::{CowStr, Decimal, Result, Whole, from_str};
+use json5::{CowStr, Decimal, Result, Value, Whole, from_str};
 use std::alloc::Global;
 use std::cmp::Ordering;
 use std::hash::{DefaultHasher, Hash, Hasher};
@@ -82,5 +82,26 @@ fn compare_alike(alloc: Global) -> Result<bool> {
 #[test]
 fn borrowed_and_owned_texts_compare_alike(rt: HostRuntime) -> std::result::Result<(), Fail> {
     assert!(rt; compare_alike(rt.alloc())?);
+    Ok(())
+}
+
+/// The second of the ports.
+fn second_port(settings: &Value) -> Option<Whole> {
+    settings.get("ports")?.get(1usize)?.as_whole()
+}
+
+/// The name, the last where it stands more than once.
+fn name(settings: &Value) -> Option<&str> {
+    settings.get("name")?.as_str()
+}
+
+#[test]
+fn a_value_is_looked_into(rt: HostRuntime) -> std::result::Result<(), Fail> {
+    let text = "{ports: [80, 443], name: 'first', name: 'last'}";
+    let settings = from_str::<Value>(rt.alloc(), text)?;
+    assert!(rt; second_port(&settings) == Some(Whole::from_u128(443)));
+    assert!(rt; name(&settings) == Some("last"));
+    assert!(rt; settings.get("host").is_none());
+    assert!(rt; settings.as_whole().is_none());
     Ok(())
 }

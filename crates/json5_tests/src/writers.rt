@@ -11,7 +11,7 @@ use std::test::Fail;
 
 /// Takes `step` bytes a call, and answers `Interrupted` once no call is left. It counts the calls.
 #[derive(Drop)]
-struct Slow {
+pub(crate) struct Slow {
     bytes: Vec<u8>,
     step: usize,
     left: usize,
@@ -19,7 +19,7 @@ struct Slow {
 }
 
 impl Slow {
-    fn new(alloc: Global, step: usize, left: usize) -> Slow {
+    pub(crate) fn new(alloc: Global, step: usize, left: usize) -> Slow {
         Slow {
             bytes: Vec::new(alloc),
             step,
@@ -28,8 +28,8 @@ impl Slow {
         }
     }
 
-    fn was_given(&self, text: &str, calls: usize) -> bool {
-        self.bytes.as_slice() == text.as_bytes() && self.calls == calls
+    pub(crate) fn was_given(&self, bytes: &[u8], calls: usize) -> bool {
+        self.bytes.as_slice() == bytes && self.calls == calls
     }
 }
 
@@ -100,12 +100,12 @@ fn a_writer_gets_the_text(rt: HostRuntime) -> std::result::Result<(), Fail> {
 #[test]
 fn pieces_are_written_whole_or_up_to_a_failed_write(rt: HostRuntime) {
     let mut slow = Slow::new(rt.alloc(), 2, 9);
-    assert!(rt; write_whole(&mut slow, b"abcde").is_ok() && slow.was_given("abcde", 3));
+    assert!(rt; write_whole(&mut slow, b"abcde").is_ok() && slow.was_given(b"abcde", 3));
     let mut short = Slow::new(rt.alloc(), 2, 1);
-    assert!(rt; write_whole(&mut short, b"abcde").is_err() && short.was_given("ab", 2));
+    assert!(rt; write_whole(&mut short, b"abcde").is_err() && short.was_given(b"ab", 2));
 }
 
-fn failed_write() -> Error {
+pub(crate) fn failed_write() -> Error {
     Error::from(io::Error::from(ErrorKind::WriteZero))
 }
 
@@ -115,7 +115,7 @@ fn ends_with(alloc: Global, count: usize, text: &str) -> bool {
     let stopped = ser.serialize_str("abc") == Err(failed_write());
     let refused = ser.serialize_unit() == Err(Error::new(ErrorCode::Failed));
     let slow = ser.into_inner();
-    stopped && refused && slow.was_given(text, text.len() + 1)
+    stopped && refused && slow.was_given(text.as_bytes(), text.len() + 1)
 }
 
 #[test]
@@ -128,7 +128,7 @@ fn a_failed_write_ends_the_text(rt: HostRuntime) {
 #[test]
 fn a_writer_that_takes_nothing_fails(rt: HostRuntime) {
     let mut slow = Slow::new(rt.alloc(), 0, 9);
-    assert!(rt; to_writer(&mut slow, &"abc") == Err(failed_write()) && slow.was_given("", 1));
+    assert!(rt; to_writer(&mut slow, &"abc") == Err(failed_write()) && slow.was_given(b"", 1));
 }
 
 /// How many bytes are written of the value, and in how many calls.

@@ -7,21 +7,13 @@ pub returns-in_err-fields : goal.returns-in_err-fields
 returns-in_err-fields g c = object_refused (article_fields c.args.self.now) _ _ _ _ (rw c.in_err-fields.was at c.serialize_struct.follows.holds-at-none) c.from_residual.ensures.1
 
 pub returns-in_err-serialize_field : goal.returns-in_err-serialize_field
-returns-in_err-serialize_field g c =
-    let title = object_begun (article_fields c.args.self.now) c.in_ok-fields.ensures.opens in
-    search (rules, field_refused _ title c.in_err-serialize_field.ensures c.from_residual-in_err-serialize_field.ensures.1)
+returns-in_err-serialize_field g c = field_refused _ (object_begun (article_fields c.args.self.now) c.in_ok-fields.ensures.begun) c.in_err-serialize_field.ensures c.from_residual-in_err-serialize_field.ensures.1 c.drop-fields.ensures (search rules)
 
 pub returns-in_err-serialize_field-2 : goal.returns-in_err-serialize_field-2
-returns-in_err-serialize_field-2 g c =
-    let year = field_on (object_begun (article_fields c.args.self.now) c.in_ok-fields.ensures.opens) c.in_ok-serialize_field.ensures in
-    search (rules, field_refused _ year c.in_err-serialize_field-2.ensures c.from_residual-in_err-serialize_field-2.ensures.1)
+returns-in_err-serialize_field-2 g c = field_refused _ (field_on (object_begun (article_fields c.args.self.now) c.in_ok-fields.ensures.begun) c.in_ok-serialize_field.ensures) c.in_err-serialize_field-2.ensures c.from_residual-in_err-serialize_field-2.ensures.1 c.drop-fields-in_err-serialize_field-2.ensures (search rules)
 
 pub returns-in_err-serialize_field-3 : goal.returns-in_err-serialize_field-3
-returns-in_err-serialize_field-3 g c =
-    let tags = field_on (field_on (object_begun (article_fields c.args.self.now) c.in_ok-fields.ensures.opens) c.in_ok-serialize_field.ensures) c.in_ok-serialize_field-2.ensures in
-    search (rules, field_refused _ tags c.in_err-serialize_field-3.ensures c.from_residual-in_err-serialize_field-3.ensures.1)
+returns-in_err-serialize_field-3 g c = field_refused _ (field_on (field_on (object_begun (article_fields c.args.self.now) c.in_ok-fields.ensures.begun) c.in_ok-serialize_field.ensures) c.in_ok-serialize_field-2.ensures) c.in_err-serialize_field-3.ensures c.from_residual-in_err-serialize_field-3.ensures.1 c.drop-fields-in_err-serialize_field-3.ensures (search rules)
 
 pub returns : goal.returns
-returns g c =
-    let done = field_on (field_on (field_on (object_begun (article_fields c.args.self.now) c.in_ok-fields.ensures.opens) c.in_ok-serialize_field.ensures) c.in_ok-serialize_field-2.ensures) c.in_ok-serialize_field-3.ensures in
-    search (rules, object_ended _ _ done c.end.ensures)
+returns g c = object_ended _ _ (field_on (field_on (field_on (object_begun (article_fields c.args.self.now) c.in_ok-fields.ensures.begun) c.in_ok-serialize_field.ensures) c.in_ok-serialize_field-2.ensures) c.in_ok-serialize_field-3.ensures) c.end.ensures (search rules)

@@ -1,0 +1,21 @@
+use Rattle.std.proofs.Common.{rules, refl, ℕ}
+use Rattle.json5.proofs.Structs.{struct_read, fields_complete, missing_completes, end_completes, or_default}
+use Rattle.json5_own_type.specs.declared.ports.OpenPort.{OpenPort}
+use Rattle.json5_own_type.specs.Settings.{settings}
+use Rattle.json5_own_type.proofs.settings.SettingsDeserialize.deserialize.Goals as goal
+
+pub returns-in_err-read_fields-clause-complete : goal.returns-in_err-read_fields-clause-complete
+returns-in_err-read_fields-clause-complete g c = fields_complete settings c.in_ok-map.map c.in_ok-map.ensures.opens _ _ c.from_residual-in_err-read_fields.ensures.1 c.in_err-read_fields.ensures.reads
+
+pub returns-in_err-host-clause-complete : goal.returns-in_err-host-clause-complete
+returns-in_err-host-clause-complete g c =
+    missing_completes settings c.in_ok-map.map c.in_ok-map.ensures.opens _ _ c.from_residual-in_err-host.ensures.1 c.in_ok-read_fields.ensures.reads (rw c.in_err-host.ensures.found.0 refl)
+
+pub returns-in_err-end-clause-complete : goal.returns-in_err-end-clause-complete
+returns-in_err-end-clause-complete g c =
+    end_completes settings c.in_ok-map.map c.in_ok-map.ensures.opens _ _ c.from_residual-in_err-end.ensures.1 c.in_ok-read_fields.ensures.reads (λ r left. c.in_err-end.ensures.left r c.in_ok-read_fields.ensures.pending left)
+
+pub returns-clause-sound : goal.returns-clause-sound
+returns-clause-sound g c =
+    struct_read settings c.in_ok-map.map c.in_ok-map.ensures.opens c.in_ok-read_fields.ensures.reads (search rules) c.in_ok-end.ensures.read
+    (rw (c.in_ok-host.ensures.found, or_default {C = ℕ} (λ (p : OpenPort). p.number) c.read_fields.new.fields.port (record { number = 80 }), c.unwrap_or.ensures) refl)
