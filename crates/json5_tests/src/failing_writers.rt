@@ -34,7 +34,8 @@ fn stops_anywhere<T: Serialize>(alloc: Global, value: &T, text: &str) -> bool {
 fn a_list_of_all_kinds_stops_anywhere(rt: HostRuntime) -> std::result::Result<(), Fail> {
     let bytes = ByteBuf::from_vec(vec![in rt.alloc(); 0u8, 255]?);
     let value = ((), ["a\"\n", "b'"], Reminder::Weekly(1, 7), bytes);
-    let text = "[\n  null,\n  [\n    'a\"\\n',\n    \"b'\",\n  ],\n  {\n    weekly: [\n      1,\n      7,\n    ],\n  },\n  \"00ff\",\n]";
+    let text =
+        "[\n  null,\n  [\n    'a\"\\n',\n    \"b'\",\n  ],\n  {\n    weekly: [\n      1,\n      7,\n    ],\n  },\n  \"00ff\",\n]";
     assert!(rt; stops_anywhere(rt.alloc(), &value, text));
     Ok(())
 }
@@ -49,11 +50,19 @@ fn an_object_stops_anywhere(rt: HostRuntime) -> std::result::Result<(), Fail> {
 }
 
 #[test]
-fn bytes_as_keys_are_bare_where_they_begin_with_a_letter(rt: HostRuntime) -> std::result::Result<(), Fail> {
+fn bytes_as_keys_are_bare_where_they_begin_with_a_letter(
+    rt: HostRuntime,
+) -> std::result::Result<(), Fail> {
     let mut value = IndexMap::new(rt.alloc());
     value.insert(ByteBuf::from_vec(vec![in rt.alloc(); 0xABu8, 0x0C]?), 1u8)?;
     value.insert(ByteBuf::from_vec(vec![in rt.alloc(); 0x0Cu8]?), 2u8)?;
     value.insert(ByteBuf::from_vec(Vec::new(rt.alloc())), 3u8)?;
-    assert!(rt; stops_anywhere(rt.alloc(), &value, "{\n  ab0c: 1,\n  \"0c\": 2,\n  \"\": 3,\n}"));
+    assert!(rt;
+        stops_anywhere(
+            rt.alloc(),
+            &value,
+            "{\n  ab0c: 1,\n  \"0c\": 2,\n  \"\": 3,\n}"
+        )
+    );
     Ok(())
 }
