@@ -8,9 +8,9 @@ use Rattle.json5_grammar.specs.declared.code.ErrorCode.{ErrorCode}
 use Rattle.json5_grammar.specs.declared.code.ErrorCode.TheVariants as codes
 use Rattle.json5_grammar.specs.Characters.{NotBegun}
 use Rattle.json5_grammar.specs.Documents.{max_depth}
-use Rattle.json5_grammar.specs.Fronts.{of_object}
+use Rattle.json5_grammar.specs.Fronts.{of_object, closing}
 use Rattle.json5_grammar.specs.NumberFaults.{is_sign, begins_number}
-use Rattle.json5_grammar.specs.Reading.{Read, inner, got, and_then}
+use Rattle.json5_grammar.specs.Reading.{Read, inner, got, bad, and_then}
 use Rattle.json5_grammar.specs.ReadBlanks.{skip, between}
 use Rattle.json5_grammar.specs.ReadNumbers as reading
 use Rattle.json5_grammar.specs.ReadSteps.{forget, colon_after, key_head, key_at, separator}
@@ -36,7 +36,7 @@ use Rattle.json5_de.specs.declared.any.ValueKind.TheVariants as kind
 use Rattle.json5_de.specs.Building.{BlamesOrMemory, Keeps, IsFoundKey, IsKeyText, IsNextKey, IsOfTree, next_key, as_datum, tree_at, datum_at}
 use Rattle.json5_de.specs.Convert.{datum_of}
 use Rattle.json5_de.specs.KeySteps.{TookKeyText}
-use Rattle.json5_de.specs.Passing.{IsReady, Blames, Gave, Steps, value_at}
+use Rattle.json5_de.specs.Passing.{member_front, member_start, next_member, IsReady, Blames, Gave, Steps, value_at}
 use Rattle.json5_de.specs.Scalars.{kind_at}
 use Rattle.json5_de.specs.State.{State, GivesUp}
 use Rattle.json5_de.specs.Steps.{TookText, RefusesToken}
@@ -97,7 +97,7 @@ some_from None b e is = let clash : false ≡ true = e ∙ ap not is in absurd (
 some_from (Some c) b e is = (c, refl)
 
 -- the text has ended
-pub no_key_left : (old new : State) (next : Option ℕ) (none : Bool) (e : Error) → next ≡ slice_get old.unread 0 → is_some next ≡ not none → none ≡ true → kind_of e ≡ code codes.EofParsingObject → place_of e ≡ None → new ≡ record old { failed = true } → Keeps (IsFoundKey old.input) (key old.unread) old new (Err e)
+pub no_key_left : {V : Type 0} {Is : V → List ℕ × Bool → Type 0} (old new : State) (next : Option ℕ) (none : Bool) (e : Error) → next ≡ slice_get old.unread 0 → is_some next ≡ not none → none ≡ true → kind_of e ≡ code codes.EofParsingObject → place_of e ≡ None → new ≡ record old { failed = true } → Keeps Is (key old.unread) old new (Err e)
 no_key_left old new next none e peeked test is says place up =
     not_taken old new (key old.unread) e
     (inr (blames_made old.input (key old.unread) e codes.EofParsingObject inner (ap key (none_next old.unread (sym peeked ∙ none_from next none test is)) ∙ key_missing) (λ e. absurd (cc)) says place))
@@ -135,69 +135,64 @@ key_not_copied old mid new k e (a, (is, same), g) memory up =
 
 -- ---- the next key
 
-key_at_is : (x : List ℕ) → key_at x ≡ and_then (skip between x) (λ u y. key_head y)
-unfolding key_at
-key_at_is x = refl
-
 abbrev key_and_colon : List ℕ × Bool → List ℕ → Read (Option (List ℕ × Bool))
 key_and_colon a r = and_then (colon_after r) (λ u y. got (Some a) y)
 
-key_goes : (y : List ℕ) → NotBegun (λ d. d == 125) y → key_head y ≡ and_then (key y) key_and_colon
-key_goes [] n = sym (ap (λ m. and_then m key_and_colon) key_missing)
-key_goes (c ∷ r) n = rw n refl
-
-after_blanks : (old mid new : State) (u : Unit {0}) (result : Result (Option (String Global)) Error) → Gave (skip between old.unread) u old mid → Keeps IsNextKey (key_head mid.unread) mid new result → Keeps IsNextKey (key_at old.unread) old new result
-after_blanks old mid new u result g k = taken_as old new (key_at old.unread) (and_then (skip between old.unread) (λ u y. key_head y)) result (key_at_is old.unread) (takes_then old mid new (skip between old.unread) u (λ u y. key_head y) result g k)
-
-pub key_blanks : (old new : State) (e : Error) → Blames old.input (skip between old.unread) e → GivesUp old new → Keeps IsNextKey (key_at old.unread) old new (Err e)
-key_blanks old new e b g = taken_as old new (key_at old.unread) (and_then (skip between old.unread) (λ u y. key_head y)) (Err e) (key_at_is old.unread) (first_not_taken old new (skip between old.unread) (λ u y. key_head y) e (inr b) g)
-
--- the brace was closed
-pub brace_closed : (old mid new : State) (u : Unit {0}) → Gave (skip between old.unread) u old mid → TookText mid (125 ∷ []) new → Keeps IsNextKey (key_at old.unread) old new (Ok None)
-brace_closed old mid new u g t = after_blanks old mid new u (Ok None) g (takes mid new (key_head mid.unread) None None tt (gave_text mid new (key_head mid.unread) None (125 ∷ []) (ap key_head t.split) t))
-
-key_next : (old mid at new : State) (u : Unit {0}) (result : Result (Option (String Global)) Error) → Gave (skip between old.unread) u old mid → at ≡ mid → NotBegun (λ d. d == 125) mid.unread → Keeps IsNextKey (and_then (key at.unread) key_and_colon) at new result
-    → Keeps IsNextKey (key_at old.unread) old new result
-key_next old mid at new u result g same n k =
-    after_blanks old mid new u result g
-    (taken_as mid new (key_head mid.unread) (and_then (key mid.unread) key_and_colon) result (key_goes mid.unread n) (subst (λ (s : State). Keeps IsNextKey (and_then (key s.unread) key_and_colon) s new result) same k))
-
--- the key is refused, or its colon is
-pub next_key_refused : (old mid at new : State) (u : Unit {0}) (e : Error) → Gave (skip between old.unread) u old mid → at ≡ mid → NotBegun (λ d. d == 125) mid.unread → BlamesOrMemory at.input (key at.unread) e → GivesUp at new → Keeps IsNextKey (key_at old.unread) old new (Err e)
-next_key_refused old mid at new u e g same n b f = key_next old mid at new u (Err e) g same n (first_not_taken at new (key at.unread) key_and_colon e b f)
-
-pub next_colon_refused : (old mid at last new : State) (u : Unit {0}) (t : String Global) (e : Error) → Gave (skip between old.unread) u old mid → at ≡ mid → NotBegun (λ d. d == 125) mid.unread → (a : List ℕ × Bool) × IsKeyText t a × Gave (key at.unread) a at last
-    → Blames last.input (colon_after last.unread) e → GivesUp last new → Keeps IsNextKey (key_at old.unread) old new (Err e)
-next_colon_refused old mid at last new u t e g same n (a, is, k) b f =
-    key_next old mid at new u (Err e) g same n (takes_then at last new (key at.unread) a key_and_colon (Err e) k (first_not_taken last new (colon_after last.unread) (λ u y. got (Some a) y) e (inr b) f))
-
-pub next_key_taken : (old mid at last new : State) (u v : Unit {0}) (t : String Global) → Gave (skip between old.unread) u old mid → at ≡ mid → NotBegun (λ d. d == 125) mid.unread → (a : List ℕ × Bool) × IsKeyText t a × Gave (key at.unread) a at last
-    → Gave (colon_after last.unread) v last new → Keeps IsNextKey (key_at old.unread) old new (Ok (Some t))
-next_key_taken old mid at last new u v t g same n (a, is, k) c =
-    key_next old mid at new u (Ok (Some t)) g same n
-    (takes_then at last new (key at.unread) a key_and_colon (Ok (Some t)) k
-    (takes last new (key_and_colon a last.unread) (Some a) (Some t) is (gave_text last new (key_and_colon a last.unread) (Some a) c.taken (ap (λ m. and_then m (λ u y. got (Some a) y)) c.reads) c.took)))
-
--- ---- after a comma, where one is due
-
 abbrev key_or_end : Bool → List ℕ → Read (Option (List ℕ × Bool))
-key_or_end goes y = cond goes (key_at y) (got None y)
+key_or_end goes y = cond goes (and_then (key y) key_and_colon) (got None y)
 
-pub first_key : (due : Bool) (old new : State) (result : Result (Option (String Global)) Error) → due ≡ false → Keeps IsNextKey (key_at old.unread) old new result → Keeps IsNextKey (next_key due old.unread) old new result
-first_key due old new result e k = taken_as old new (next_key due old.unread) (key_at old.unread) result (ap (λ b. next_key b old.unread) e) k
+head_is : (y : List ℕ) → key_head y ≡ and_then (member_front of_object y) key_or_end
+head_is [] = sym (ap (λ m. and_then m key_and_colon) key_missing)
+head_is (c ∷ r) = by_test (c == closing of_object)
+  where
+    by_test : (b : Bool) → cond b (got None r) (and_then (key (c ∷ r)) key_and_colon) ≡ and_then (cond b (got false r) (got true (c ∷ r))) key_or_end
+    by_test true = refl
+    by_test false = refl
 
-pub comma_refused : (due : Bool) (old new : State) (e : Error) → due ≡ true → Blames old.input (separator of_object old.unread) e → GivesUp old new → Keeps IsNextKey (next_key due old.unread) old new (Err e)
-comma_refused due old new e is b g = taken_as old new (next_key due old.unread) (and_then (separator of_object old.unread) key_or_end) (Err e) (ap (λ b. next_key b old.unread) is) (first_not_taken old new (separator of_object old.unread) key_or_end e (inr b) g)
+start_is : (m : Read (Unit {0})) → and_then m (λ u y. key_head y) ≡ and_then (and_then m (λ u y. member_front of_object y)) key_or_end
+start_is (got u y) = head_is y
+start_is (bad c p) = refl
 
-pub closed_after : (due goes : Bool) (old new : State) → due ≡ true → goes ≡ false → Gave (separator of_object old.unread) goes old new → Keeps IsNextKey (next_key due old.unread) old new (Ok None)
-closed_after due goes old new is e g =
+key_at_is : (x : List ℕ) → key_at x ≡ and_then (member_start of_object x) key_or_end
+unfolding key_at
+key_at_is x = start_is (skip between x)
+
+next_is : (due : Bool) (x : List ℕ) → next_key due x ≡ and_then (next_member of_object due x) key_or_end
+next_is false x = key_at_is x
+next_is true x = by_comma (separator of_object x)
+  where
+    by_comma : (m : Read Bool) → and_then m (λ goes y. cond goes (key_at y) (got None y)) ≡ and_then (and_then m (λ more y. cond more (member_start of_object y) (got false y))) key_or_end
+    by_comma (got true y) = key_at_is y
+    by_comma (got false y) = refl
+    by_comma (bad c p) = refl
+
+pub member_refused : (due : Bool) (old new : State) (e : Error) → Blames old.input (next_member of_object due old.unread) e → GivesUp old new → Keeps IsNextKey (next_key due old.unread) old new (Err e)
+member_refused due old new e b g = taken_as old new (next_key due old.unread) (and_then (next_member of_object due old.unread) key_or_end) (Err e) (next_is due old.unread) (first_not_taken old new (next_member of_object due old.unread) key_or_end e (inr b) g)
+
+pub brace_closed : (due goes : Bool) (old new : State) → goes ≡ false → Gave (next_member of_object due old.unread) goes old new → Keeps IsNextKey (next_key due old.unread) old new (Ok None)
+brace_closed due goes old new e g =
     takes old new (next_key due old.unread) None None tt
-    (gave_text old new (next_key due old.unread) None g.taken (ap (λ b. next_key b old.unread) is ∙ ap (λ m. and_then m key_or_end) (g.reads ∙ ap (λ b. got b new.unread) e)) g.took)
+    (gave_text old new (next_key due old.unread) None g.taken (next_is due old.unread ∙ ap (λ m. and_then m key_or_end) (g.reads ∙ ap (λ b. got b new.unread) e)) g.took)
 
-pub key_after_comma : (due goes : Bool) (old mid new : State) (result : Result (Option (String Global)) Error) → due ≡ true → goes ≡ true → Gave (separator of_object old.unread) goes old mid → Keeps IsNextKey (key_at mid.unread) mid new result → Keeps IsNextKey (next_key due old.unread) old new result
-key_after_comma due goes old mid new result is e g k =
-    taken_as old new (next_key due old.unread) (and_then (separator of_object old.unread) key_or_end) result (ap (λ b. next_key b old.unread) is)
-    (takes_then old mid new (separator of_object old.unread) goes key_or_end result g (taken_as mid new (key_or_end goes mid.unread) (key_at mid.unread) result (ap (λ b. key_or_end b mid.unread) e) k))
+module _ (due goes : Bool) (old mid : State) (is : goes ≡ true) (g : Gave (next_member of_object due old.unread) goes old mid) where
+  key_next : (new : State) (result : Result (Option (String Global)) Error) → Keeps IsNextKey (and_then (key mid.unread) key_and_colon) mid new result → Keeps IsNextKey (next_key due old.unread) old new result
+  key_next new result k =
+      taken_as old new (next_key due old.unread) (and_then (next_member of_object due old.unread) key_or_end) result (next_is due old.unread)
+      (takes_then old mid new (next_member of_object due old.unread) goes key_or_end result g (taken_as mid new (key_or_end goes mid.unread) (and_then (key mid.unread) key_and_colon) result (ap (λ b. key_or_end b mid.unread) is) k))
+
+  -- the key is refused, or its colon is
+  pub next_key_refused : (new : State) (e : Error) → BlamesOrMemory mid.input (key mid.unread) e → GivesUp mid new → Keeps IsNextKey (next_key due old.unread) old new (Err e)
+  next_key_refused new e b f = key_next new (Err e) (first_not_taken mid new (key mid.unread) key_and_colon e b f)
+
+  pub next_colon_refused : (last new : State) (t : String Global) (e : Error) → (a : List ℕ × Bool) × IsKeyText t a × Gave (key mid.unread) a mid last → Blames last.input (colon_after last.unread) e → GivesUp last new → Keeps IsNextKey (next_key due old.unread) old new (Err e)
+  next_colon_refused last new t e (a, same, k) b f =
+      key_next new (Err e) (takes_then mid last new (key mid.unread) a key_and_colon (Err e) k (first_not_taken last new (colon_after last.unread) (λ u y. got (Some a) y) e (inr b) f))
+
+  pub next_key_taken : (last new : State) (v : Unit {0}) (t : String Global) → (a : List ℕ × Bool) × IsKeyText t a × Gave (key mid.unread) a mid last → Gave (colon_after last.unread) v last new → Keeps IsNextKey (next_key due old.unread) old new (Ok (Some t))
+  next_key_taken last new v t (a, same, k) c =
+      key_next new (Ok (Some t))
+      (takes_then mid last new (key mid.unread) a key_and_colon (Ok (Some t)) k
+      (takes last new (key_and_colon a last.unread) (Some a) (Some t) same (gave_text last new (key_and_colon a last.unread) (Some a) c.taken (ap (λ m. and_then m (λ u y. got (Some a) y)) c.reads) c.took)))
 
 -- ---- scalars
 

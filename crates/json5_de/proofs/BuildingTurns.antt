@@ -26,7 +26,7 @@ use Rattle.json5_text.proofs.ValuesCompared.{view-Array, view-Object}
 use Rattle.json5_de.specs.declared.any.Begun.TheVariants as begun
 use Rattle.json5_de.specs.declared.any.Unfinished.{Unfinished}
 use Rattle.json5_de.specs.declared.any.Unfinished.TheVariants as unfinished
-use Rattle.json5_de.specs.declared.ignored.BracketKind.TheVariants as bracket
+use Rattle.json5_de.specs.declared.brackets.BracketKind.TheVariants as bracket
 use Rattle.json5_de.specs.declared.ignored.OpenBracket.{OpenBracket}
 use Rattle.json5_de.specs.Access.{StartsAfter}
 use Rattle.json5_de.specs.AnyTree.{ReadsTree}

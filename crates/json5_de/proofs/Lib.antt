@@ -45,7 +45,9 @@ pub mod MapsHashed
 pub mod MapsRead
 pub mod Gathering
 pub mod Structs
+pub mod StructFaults
 pub mod VariantNames
 pub mod VariantContents
 pub mod Spelled
 pub mod VariantEnds
+pub mod OwnEnums

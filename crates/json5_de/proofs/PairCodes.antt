@@ -15,8 +15,8 @@ use Rattle.json5_grammar.proofs.Basics.{first_same, true_false}
 use Rattle.json5_grammar.proofs.BlanksRead.{begins_solid}
 use Rattle.json5_grammar.proofs.BlanksSound.{one_gap, gap_last, gap_before, gap_blanks}
 use Rattle.json5_grammar.proofs.ValueHeads.{key_head, key_solid}
-use Rattle.json5_grammar.proofs.MembersRead.{comma_solid, sign_found}
-use Rattle.json5_grammar.proofs.MembersPassed.{after_same_comma}
+use Rattle.json5_grammar.proofs.MembersRead.{comma_solid}
+use Rattle.json5_grammar.proofs.MembersPassed.{after_same_comma, same_sign}
 use Rattle.json5_grammar.proofs.MembersPairs.{colon_solid}
 use Rattle.json5_text.specs.declared.error.Error.{Error}
 use Rattle.json5_text.specs.Errors.{code, kind_of}
@@ -329,13 +329,8 @@ value_read old next new t at value =
       rest = only_read old next new at.rest value.rest;
     }
 
-same_tail : (c : ℕ) (x y : List ℕ) → c ∷ x ≡ c ∷ y → x ≡ y
-same_tail c x y e = cc
-
-pub value_found : (old mid next : State) (t : Tree) (r : List ℕ) → PassedGap old mid → TookText mid (58 ∷ []) next → IsKeyValue old.unread t r → Reads next.unread t r
-value_found old mid next t r p took (y, colon, reads) =
-    let found = sign_found 58 old.unread p.gap mid.unread y colon_solid p.split p.is_gap p.solid colon in
-    subst (λ x. Reads x t r) (same_tail 58 y next.unread (sym found ∙ took.split)) reads
+pub value_found : (old next : State) (t : Tree) (r : List ℕ) → AfterColon old next → IsKeyValue old.unread t r → Reads next.unread t r
+value_found old next t r at (y, colon, reads) = subst (λ x. Reads x t r) (same_sign 58 old.unread y next.unread colon_solid colon at.colon) reads
 
 pub no_value_next : (old mid : State) (t : Tree) (r : List ℕ) → PassedGap old mid → NotBegun (λ c. c == 58) mid.unread → IsKeyValue old.unread t r → ⊥
 no_value_next old mid t r p n (y, colon, reads) = no_sign_next 58 old.unread mid.unread y colon_solid (after_gap_of old mid p) n colon

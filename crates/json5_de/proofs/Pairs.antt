@@ -10,7 +10,10 @@ use Rattle.json5_text.specs.declared.error.Error.{Error}
 use Rattle.json5_de.specs.State.{State, GivesUp}
 use Rattle.json5_de.specs.Law.{TookValue}
 use Rattle.json5_de.specs.Keys.{KeyConversion}
-use Rattle.json5_de.specs.Brackets.{AreSigns, curly}
+use Rattle.json5_de.specs.declared.brackets.BracketKind.{BracketKind}
+use Rattle.json5_de.specs.declared.brackets.BracketKind.TheVariants as kind
+use Rattle.json5_de.specs.Brackets.{AreSigns, curly, brackets_of}
+use Rattle.json5_de.proofs.Arrays.{square_signs}
 use Rattle.json5_de.specs.Access.{Seen, Opened, Closed, AtClose, OpensAs, ClosesAs, CompletesClose}
 use Rattle.json5_de.specs.Objects.{SeenMap, TookPairKey, TookPairValue, GivesPairKey, GivesPairValue, CompletesPairKey, CompletesPairValue, ReadsPairKey, ReadsPairValue, PairsRead, PairsLeft, LeftAfter, ReadsAKey, ReadsAPair, LeavesAValue, LeavesPairs, OpensMap, ClosesMap}
 use Rattle.json5_de.proofs.Taken.{input_of}
@@ -27,6 +30,11 @@ curly_signs = record {
   other_not_opened = λ e. absurd (cc);
   other_not_closed = λ e. absurd (cc);
 }
+
+-- of each kind
+pub signs_of : (k : BracketKind) → AreSigns (brackets_of k)
+signs_of kind.Array = square_signs
+signs_of kind.Object = curly_signs
 
 -- ---- what was read
 

@@ -1,6 +1,6 @@
 -- What stands round a member is passed over, and how a value begins.
 use Rattle.std.proofs.Common.{◌≡◌, ◌≢◌, ℕ, Bool, true, false, cond, List, [], ◌∷◌, refl, ap, sym, ◌∙◌, subst, inr, Option, Some, None}
-use Rattle.std.specs.Prelude.{◌==◌, slice_get, Result, Ok, Err}
+use Rattle.std.specs.Prelude.{◌==◌, slice_get, Result, Ok, Err, not}
 use Rattle.json5_grammar.specs.declared.code.ErrorCode.TheVariants as codes
 use Rattle.json5_grammar.specs.Characters.{NotBegun}
 use Rattle.json5_grammar.specs.Fronts.{BracketKind, of_array, of_object, closing}
@@ -15,7 +15,7 @@ use Rattle.json5_text.specs.Errors.{code, kind_of, place_of}
 use Rattle.json5_text.specs.Cursor.{Refused}
 use Rattle.json5_de.specs.Access.{Unexpected}
 use Rattle.json5_de.specs.Passing as passing
-use Rattle.json5_de.specs.Passing.{IsReady, Blames, Gave, Steps, value_at, OpenedAt, BeginsValue, BeganValue}
+use Rattle.json5_de.specs.Passing.{member_front, member_start, due_comma, next_member, IsReady, Blames, Gave, Steps, value_at, OpenedAt, BeginsValue, BeganValue}
 use Rattle.json5_de.specs.State.{State, cursor_of, GivesUp}
 use Rattle.json5_de.specs.Steps.{TookText}
 use Rattle.json5_de.proofs.PassingSteps.{no_comma, no_colon, failed_of, ready_after, then_step, first_step_refused, same_step, took_step, refused_step}
@@ -45,6 +45,10 @@ took_nothing mid at same = record { split = ap (λ (s : State). s.unread) (sym s
 
 pub refused_there : {F : _} (mid at : State) (e : Error) → at ≡ mid → Refused F (cursor_of at) e → Refused F (cursor_of mid) e
 refused_there {F = F} mid at e same f = subst (λ (s : State). Refused F (cursor_of s) e) same f
+
+-- the blanks before the colon are refused
+pub colon_blanks : (old new : State) (e : Error) → Blames old.input (skip between old.unread) e → GivesUp old new → Steps (colon_after old.unread) old new (Err e)
+colon_blanks old new e b g = first_step_refused old new (skip between old.unread) _ e b g
 
 -- no colon stands there
 pub colon_missing : (old mid at new : State) (u : Unit {0}) (e : Error) → IsReady old → Gave (skip between old.unread) u old mid → at ≡ mid → NotBegun (λ d. d == 58) mid.unread → Refused (Unexpected codes.EofParsingObject codes.ExpectedColon) (cursor_of at) e
@@ -92,46 +96,116 @@ comma_missing k old mid at last new u c ends e r g same n same2 is n2 eof f up =
     after_blanks k old mid new u (Err e) g
     (refused_step mid new (comma_at k mid.unread) e (no_comma k mid e (ready_next old mid r g) n no_close (subst (λ z. Refused (Unexpected z codes.ExpectedComma) (cursor_of mid) e) eof (refused_there mid last e there f))) (gave_up mid last new there up))
 
+-- where one is due
+pub comma_due : (k : BracketKind) (due : Bool) (old new : State) (result : Result Bool Error) → due ≡ true → Steps (separator k old.unread) old new result → Steps (due_comma k due old.unread) old new result
+comma_due k due old new result is s = same_step old new (due_comma k due old.unread) (separator k old.unread) result (ap (λ b. due_comma k b old.unread) is) s
+
+pub none_due : (k : BracketKind) (due : Bool) (old : State) → due ≡ false → Steps (due_comma k due old.unread) old old (Ok true)
+none_due k due old is = took_step old old (due_comma k due old.unread) true [] (ap (λ b. due_comma k b old.unread) is) (took_nothing old old refl)
+
 -- ---- members
 
-member_is : (k : BracketKind) (x : List ℕ) → member_at k x ≡ and_then (skip between x) (λ u y. member_head k y)
-unfolding member_at
-member_is k x = refl
+front_closes : (k : BracketKind) (r : List ℕ) → member_front k (closing k ∷ r) ≡ got false r
+front_closes of_array r = refl
+front_closes of_object r = refl
 
-pub member_blanks : (k : BracketKind) (old new : State) (e : Error) → Blames old.input (skip between old.unread) e → GivesUp old new → Steps (member_at k old.unread) old new (Err e)
-member_blanks k old new e b g = same_step old new (member_at k old.unread) _ (Err e) (member_is k old.unread) (first_step_refused old new (skip between old.unread) (λ u y. member_head k y) e b g)
+front_goes : (k : BracketKind) (y : List ℕ) → NotBegun (λ d. d == closing k) y → member_front k y ≡ got true y
+front_goes k [] n = refl
+front_goes k (c ∷ r) n = rw n refl
 
-at_member : (k : BracketKind) (old mid new : State) (u : Unit {0}) (result : Result Bool Error) → Gave (skip between old.unread) u old mid → Steps (member_head k mid.unread) mid new result → Steps (member_at k old.unread) old new result
-at_member k old mid new u result g s = same_step old new (member_at k old.unread) _ result (member_is k old.unread) (then_step old mid new (skip between old.unread) u _ result g s)
+abbrev start_or_end : BracketKind → Bool → List ℕ → Read Bool
+start_or_end k more y = cond more (member_start k y) (got false y)
 
-head_closes : (k : BracketKind) (r : List ℕ) → member_head k (closing k ∷ r) ≡ got false r
-head_closes of_array r = refl
-head_closes of_object r = refl
+-- the comma is refused, or the bracket was closed in its place
+pub comma_refused : (k : BracketKind) (due : Bool) (old new : State) (e : Error) → Blames old.input (due_comma k due old.unread) e → GivesUp old new → Steps (next_member k due old.unread) old new (Err e)
+comma_refused k due old new e b g = first_step_refused old new (due_comma k due old.unread) (start_or_end k) e b g
 
-pub member_closed : (k : BracketKind) (old mid new : State) (u : Unit {0}) (c : ℕ) → Gave (skip between old.unread) u old mid → c ≡ closing k → TookText mid (c ∷ []) new → Steps (member_at k old.unread) old new (Ok false)
-member_closed k old mid new u c g is t =
-    at_member k old mid new u (Ok false) g (took_step mid new (member_head k mid.unread) false (c ∷ []) (ap (member_head k) (t.split ∙ ap (λ z. z ∷ new.unread) is) ∙ head_closes k new.unread) t)
+pub closed_for_comma : (k : BracketKind) (due more : Bool) (old new : State) → more ≡ false → Gave (due_comma k due old.unread) more old new → Steps (next_member k due old.unread) old new (Ok false)
+closed_for_comma k due more old new is g = took_step old new (next_member k due old.unread) false g.taken (ap (λ m. and_then m (start_or_end k)) (g.reads ∙ ap (λ b. got b new.unread) is)) g.took
 
-array_goes : (y : List ℕ) → NotBegun (λ d. d == 93) y → member_head of_array y ≡ got true y
-array_goes [] n = refl
-array_goes (c ∷ r) n = rw n refl
+after_comma : (k : BracketKind) (due more : Bool) (old mid new : State) (result : Result Bool Error) → more ≡ true → Gave (due_comma k due old.unread) more old mid → Steps (member_start k mid.unread) mid new result → Steps (next_member k due old.unread) old new result
+after_comma k due more old mid new result is g s =
+    then_step old mid new (due_comma k due old.unread) more (start_or_end k) result g (same_step mid new (start_or_end k more mid.unread) (member_start k mid.unread) result (ap (λ b. start_or_end k b mid.unread) is) s)
+
+-- the blanks are refused
+pub member_blanks : (k : BracketKind) (due more : Bool) (old mid new : State) (e : Error) → more ≡ true → Gave (due_comma k due old.unread) more old mid → Blames mid.input (skip between mid.unread) e → GivesUp mid new → Steps (next_member k due old.unread) old new (Err e)
+member_blanks k due more old mid new e is g b f = after_comma k due more old mid new (Err e) is g (first_step_refused mid new (skip between mid.unread) (λ u y. member_front k y) e b f)
+
+-- the bracket was closed, or not
+pub member_found : (k : BracketKind) (due more : Bool) (old mid next new : State) (u : Unit {0}) (c : ℕ) (ate : Bool) → more ≡ true → Gave (due_comma k due old.unread) more old mid → Gave (skip between mid.unread) u mid next → c ≡ closing k
+    → (ate ≡ true → TookText next (c ∷ []) new) → (ate ≡ false → (new ≡ next) × NotBegun (λ d. d == c) next.unread) → Steps (next_member k due old.unread) old new (Ok (not ate))
+member_found k due more old mid next new u c true is g h at took kept =
+    after_comma k due more old mid new (Ok false) is g
+    (then_step mid next new (skip between mid.unread) u (λ u y. member_front k y) (Ok false) h
+    (let t = took refl in took_step next new (member_front k next.unread) false (c ∷ []) (ap (member_front k) (t.split ∙ ap (λ z. z ∷ new.unread) at) ∙ front_closes k new.unread) t))
+member_found k due more old mid next new u c false is g h at took kept =
+    let (same, n) = kept refl in
+    let t = took_nothing next new same in
+    after_comma k due more old mid new (Ok true) is g
+    (then_step mid next new (skip between mid.unread) u (λ u y. member_front k y) (Ok true) h
+    (took_step next new (member_front k next.unread) true [] (front_goes k next.unread (subst (λ z. NotBegun (λ d. d == z) next.unread) at n) ∙ ap (got true) t.split) t))
+
+-- ---- a member's value
 
 pub key_missing : key [] ≡ bad (Some codes.EofParsingObject) inner
 unfolding key
 key_missing = refl
 
-object_goes : (y : List ℕ) → NotBegun (λ d. d == 125) y → member_head of_object y ≡ pair_head y
-object_goes [] n = sym (ap (λ m. and_then m (λ a r. and_then (colon_after r) (λ u y. got true y))) key_missing)
-object_goes (c ∷ r) n = rw n refl
+-- what stands before the value of a member that begins here
+abbrev head_of : BracketKind → List ℕ → Read Bool
+head_of of_array y = got true y
+head_of of_object y = pair_head y
 
-not_closing : (k l : BracketKind) (c : ℕ) (x : List ℕ) → k ≡ l → c ≡ closing k → NotBegun (λ d. d == c) x → NotBegun (λ d. d == closing l) x
-not_closing k l c x e is n = subst (λ z. NotBegun (λ d. d == z) x) (is ∙ ap closing e) n
+abbrev head_or_end : BracketKind → Bool → List ℕ → Read Bool
+head_or_end k goes y = cond goes (head_of k y) (got false y)
+
+head_is : (k : BracketKind) (y : List ℕ) → member_head k y ≡ and_then (member_front k y) (head_or_end k)
+head_is of_array [] = refl
+head_is of_object [] = sym (ap (λ m. and_then m (λ a r. and_then (colon_after r) (λ u y. got true y))) key_missing)
+head_is of_array (c ∷ r) = by_test (c == closing of_array)
+  where
+    by_test : (b : Bool) → cond b (got false r) (got true (c ∷ r)) ≡ and_then (cond b (got false r) (got true (c ∷ r))) (head_or_end of_array)
+    by_test true = refl
+    by_test false = refl
+head_is of_object (c ∷ r) = by_test (c == closing of_object)
+  where
+    by_test : (b : Bool) → cond b (got false r) (pair_head (c ∷ r)) ≡ and_then (cond b (got false r) (got true (c ∷ r))) (head_or_end of_object)
+    by_test true = refl
+    by_test false = refl
+
+start_is : (k : BracketKind) (m : Read (Unit {0})) → and_then m (λ u y. member_head k y) ≡ and_then (and_then m (λ u y. member_front k y)) (head_or_end k)
+start_is k (got u y) = head_is k y
+start_is k (bad c p) = refl
+
+member_is : (k : BracketKind) (x : List ℕ) → member_at k x ≡ and_then (member_start k x) (head_or_end k)
+unfolding member_at
+member_is k x = start_is k (skip between x)
+
+next_is : (k : BracketKind) (due : Bool) (x : List ℕ) → next_value k due x ≡ and_then (next_member k due x) (head_or_end k)
+next_is k false x = member_is k x
+next_is k true x = by_comma (separator k x)
+  where
+    by_comma : (m : Read Bool) → and_then m (λ more y. cond more (member_at k y) (got false y)) ≡ and_then (and_then m (start_or_end k)) (head_or_end k)
+    by_comma (got true y) = member_is k y
+    by_comma (got false y) = refl
+    by_comma (bad c p) = refl
+
+pub next_refused : (k : BracketKind) (due : Bool) (old new : State) (e : Error) → Blames old.input (next_member k due old.unread) e → GivesUp old new → Steps (next_value k due old.unread) old new (Err e)
+next_refused k due old new e b g = same_step old new (next_value k due old.unread) _ (Err e) (next_is k due old.unread) (first_step_refused old new (next_member k due old.unread) (head_or_end k) e b g)
+
+pub next_closed : (k : BracketKind) (due goes : Bool) (old new : State) → goes ≡ false → Gave (next_member k due old.unread) goes old new → Steps (next_value k due old.unread) old new (Ok false)
+next_closed k due goes old new e g =
+    took_step old new (next_value k due old.unread) false g.taken (next_is k due old.unread ∙ ap (λ m. and_then m (head_or_end k)) (g.reads ∙ ap (λ b. got b new.unread) e)) g.took
+
+next_found : (k l : BracketKind) (due goes : Bool) (old mid new : State) (result : Result Bool Error) → k ≡ l → goes ≡ true → Gave (next_member k due old.unread) goes old mid → Steps (head_of l mid.unread) mid new result → Steps (next_value k due old.unread) old new result
+next_found k l due goes old mid new result e is g s =
+    same_step old new (next_value k due old.unread) _ result (next_is k due old.unread)
+    (then_step old mid new (next_member k due old.unread) goes (head_or_end k) result g
+    (same_step mid new (head_or_end k goes mid.unread) (head_of l mid.unread) result (ap (λ b. head_or_end k b mid.unread) is ∙ ap (λ z. head_of z mid.unread) e) s))
 
 -- a member of an array begins with its value
-pub array_member : (k : BracketKind) (old mid new : State) (u : Unit {0}) (c : ℕ) → k ≡ of_array → Gave (skip between old.unread) u old mid → c ≡ closing k → new ≡ mid → NotBegun (λ d. d == c) mid.unread → Steps (member_at k old.unread) old new (Ok true)
-array_member k old mid new u c e g is same n =
-    let t = took_nothing mid new same in
-    at_member k old mid new u (Ok true) g (took_step mid new (member_head k mid.unread) true [] (ap (λ z. member_head z mid.unread) e ∙ array_goes mid.unread (not_closing k of_array c mid.unread e is n) ∙ ap (got true) t.split) t)
+pub array_member : (k : BracketKind) (due goes : Bool) (old mid : State) → k ≡ of_array → goes ≡ true → Gave (next_member k due old.unread) goes old mid → Steps (next_value k due old.unread) old mid (Ok true)
+array_member k due goes old mid e is g = next_found k of_array due goes old mid mid (Ok true) e is g (took_step mid mid (got true mid.unread) true [] refl (took_nothing mid mid refl))
 
 forget_then : {A B : Type 0} (m : Read A) (f : List ℕ → Read B) → and_then m (λ a r. f r) ≡ and_then (forget m) (λ u r. f r)
 forget_then (got a r) f = refl
@@ -140,48 +214,24 @@ forget_then (bad e p) f = refl
 abbrev after_key : List ℕ → Read Bool
 after_key r = and_then (colon_after r) (λ u y. got true y)
 
-object_member : (k : BracketKind) (old mid at new : State) (u : Unit {0}) (c : ℕ) (result : Result Bool Error) → k ≡ of_object → Gave (skip between old.unread) u old mid → c ≡ closing k → at ≡ mid → NotBegun (λ d. d == c) mid.unread
-    → Steps (and_then (forget (key at.unread)) (λ v r. after_key r)) at new result → Steps (member_at k old.unread) old new result
-object_member k old mid at new u c result e g is same n s =
-    at_member k old mid new u result g
-    (same_step mid new (member_head k mid.unread) _ result (ap (λ z. member_head z mid.unread) e ∙ object_goes mid.unread (not_closing k of_object c mid.unread e is n) ∙ forget_then (key mid.unread) after_key)
-    (subst (λ (t : State). Steps (and_then (forget (key t.unread)) (λ v r. after_key r)) t new result) same s))
+module _ (k : BracketKind) (due goes : Bool) (old mid : State) (e : k ≡ of_object) (is : goes ≡ true) (g : Gave (next_member k due old.unread) goes old mid) where
+  object_member : (new : State) (result : Result Bool Error) → Steps (and_then (forget (key mid.unread)) (λ v r. after_key r)) mid new result → Steps (next_value k due old.unread) old new result
+  object_member new result s = next_found k of_object due goes old mid new result e is g (same_step mid new (pair_head mid.unread) _ result (forget_then (key mid.unread) after_key) s)
 
--- its key is refused
-pub key_refused : (k : BracketKind) (old mid at new : State) (u : Unit {0}) (c : ℕ) (e : Error) → k ≡ of_object → Gave (skip between old.unread) u old mid → c ≡ closing k → at ≡ mid → NotBegun (λ d. d == c) mid.unread
-    → Blames at.input (forget (key at.unread)) e → GivesUp at new → Steps (member_at k old.unread) old new (Err e)
-key_refused k old mid at new u c e o g is same n b f = object_member k old mid at new u c (Err e) o g is same n (first_step_refused at new (forget (key at.unread)) (λ v r. after_key r) e b f)
+  -- its key is refused
+  pub key_refused : (new : State) (own : Error) → Blames mid.input (forget (key mid.unread)) own → GivesUp mid new → Steps (next_value k due old.unread) old new (Err own)
+  key_refused new own b f = object_member new (Err own) (first_step_refused mid new (forget (key mid.unread)) (λ v r. after_key r) own b f)
 
--- its colon is refused
-pub colon_refused : (k : BracketKind) (old mid at last new : State) (u v : Unit {0}) (c : ℕ) (e : Error) → k ≡ of_object → Gave (skip between old.unread) u old mid → c ≡ closing k → at ≡ mid → NotBegun (λ d. d == c) mid.unread
-    → Gave (forget (key at.unread)) v at last → Blames last.input (colon_after last.unread) e → GivesUp last new → Steps (member_at k old.unread) old new (Err e)
-colon_refused k old mid at last new u v c e o g is same n name b f =
-    object_member k old mid at new u c (Err e) o g is same n (then_step at last new (forget (key at.unread)) v (λ v r. after_key r) (Err e) name (first_step_refused last new (colon_after last.unread) (λ u y. got true y) e b f))
+  -- its colon is refused
+  pub colon_refused : (last new : State) (v : Unit {0}) (own : Error) → Gave (forget (key mid.unread)) v mid last → Blames last.input (colon_after last.unread) own → GivesUp last new → Steps (next_value k due old.unread) old new (Err own)
+  colon_refused last new v own name b f =
+      object_member new (Err own) (then_step mid last new (forget (key mid.unread)) v (λ v r. after_key r) (Err own) name (first_step_refused last new (colon_after last.unread) (λ u y. got true y) own b f))
 
--- its value is next
-pub object_goes_on : (k : BracketKind) (old mid at last new : State) (u v w : Unit {0}) (c : ℕ) → k ≡ of_object → Gave (skip between old.unread) u old mid → c ≡ closing k → at ≡ mid → NotBegun (λ d. d == c) mid.unread
-    → Gave (forget (key at.unread)) v at last → Gave (colon_after last.unread) w last new → Steps (member_at k old.unread) old new (Ok true)
-object_goes_on k old mid at last new u v w c o g is same n name colon =
-    object_member k old mid at new u c (Ok true) o g is same n
-    (then_step at last new (forget (key at.unread)) v (λ v r. after_key r) (Ok true) name
-    (took_step last new (after_key last.unread) true colon.taken (ap (λ m. and_then m (λ u y. got true y)) colon.reads) colon.took))
-
--- ---- after a comma, where one is due
-
-pub first_member : (k : BracketKind) (due : Bool) (old new : State) (result : Result Bool Error) → due ≡ false → Steps (member_at k old.unread) old new result → Steps (next_value k due old.unread) old new result
-first_member k due old new result e s = same_step old new (next_value k due old.unread) (member_at k old.unread) result (ap (λ b. next_value k b old.unread) e) s
-
-pub next_refused : (k : BracketKind) (due : Bool) (old new : State) (e : Error) → due ≡ true → Blames old.input (separator k old.unread) e → GivesUp old new → Steps (next_value k due old.unread) old new (Err e)
-next_refused k due old new e is b g = same_step old new (next_value k due old.unread) _ (Err e) (ap (λ b. next_value k b old.unread) is) (first_step_refused old new (separator k old.unread) (λ more y. cond more (member_at k y) (got false y)) e b g)
-
-pub next_closed : (k : BracketKind) (due goes : Bool) (old new : State) → due ≡ true → goes ≡ false → Gave (separator k old.unread) goes old new → Steps (next_value k due old.unread) old new (Ok false)
-next_closed k due goes old new is e g = took_step old new (next_value k due old.unread) false g.taken
-    (ap (λ b. next_value k b old.unread) is ∙ ap (λ m. and_then m (λ goes y. cond goes (member_at k y) (got false y))) (g.reads ∙ ap (λ b. got b new.unread) e)) g.took
-
-pub next_member : (k : BracketKind) (due goes : Bool) (old mid new : State) (result : Result Bool Error) → due ≡ true → goes ≡ true → Gave (separator k old.unread) goes old mid → Steps (member_at k mid.unread) mid new result → Steps (next_value k due old.unread) old new result
-next_member k due goes old mid new result is e g s =
-    same_step old new (next_value k due old.unread) _ result (ap (λ b. next_value k b old.unread) is)
-    (then_step old mid new (separator k old.unread) goes (λ goes y. cond goes (member_at k y) (got false y)) result g (same_step mid new _ (member_at k mid.unread) result (ap (λ b. cond b (member_at k mid.unread) (got false mid.unread)) e) s))
+  -- its value is next
+  pub object_goes_on : (last new : State) (v w : Unit {0}) → Gave (forget (key mid.unread)) v mid last → Gave (colon_after last.unread) w last new → Steps (next_value k due old.unread) old new (Ok true)
+  object_goes_on last new v w name colon =
+      object_member new (Ok true) (then_step mid last new (forget (key mid.unread)) v (λ v r. after_key r) (Ok true) name
+      (took_step last new (after_key last.unread) true colon.taken (ap (λ m. and_then m (λ u y. got true y)) colon.reads) colon.took))
 
 -- ---- keys
 

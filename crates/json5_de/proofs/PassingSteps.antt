@@ -5,7 +5,7 @@ use Rattle.std.proofs.lemmas.Bool.{both_ways, false≢true}
 use Rattle.json5_grammar.specs.declared.code.ErrorCode.{ErrorCode}
 use Rattle.json5_grammar.specs.declared.code.ErrorCode.TheVariants as codes
 use Rattle.json5_grammar.specs.Characters.{NotBegun, is_identifier_start}
-use Rattle.json5_grammar.specs.Fronts.{BracketKind, of_array, of_object, closing}
+use Rattle.json5_grammar.specs.Fronts.{BracketKind, of_array, of_object, opening, closing}
 use Rattle.json5_grammar.specs.Names.{Ident, goes_on_name}
 use Rattle.json5_grammar.specs.Numbers as numbers
 use Rattle.json5_grammar.specs.Numbers.{Num}
@@ -37,7 +37,11 @@ use Rattle.json5_text.specs.Tokens.{FaultyBlanks, FaultyWord, word_differs, word
 use Rattle.json5_text.specs.Tokens as tokens
 use Rattle.json5_de.specs.Access.{Unexpected, at_end, at_char}
 use Rattle.json5_de.specs.Faults.{FaultRelation}
-use Rattle.json5_de.specs.Passing.{IsReady, StandsAt, Blames, Gave, Steps}
+use Rattle.json5_de.specs.declared.brackets.Brackets.{Brackets}
+use Rattle.json5_de.specs.declared.brackets.BracketKind.{BracketKind as DeKind}
+use Rattle.json5_de.specs.declared.brackets.BracketKind.TheVariants as kind
+use Rattle.json5_de.specs.Brackets.{brackets_of}
+use Rattle.json5_de.specs.Passing.{kind_of, IsReady, StandsAt, Blames, Gave, Steps}
 use Rattle.json5_de.specs.State.{State, cursor_of, GivesUp}
 use Rattle.json5_de.specs.Steps.{PassedGap, TookText, PassedString, PassedName, PassedNumber, RefusesToken}
 use Rattle.json5_de.proofs.OtherCodes.{Lacks, in_blanks_other, word_lacks, faulty_number_lacks, faulty_string_lacks, in_escape_other}
@@ -95,18 +99,16 @@ token_step P m old new (Err e) r l k reads memory taken refused failed = record 
   failed = failed;
 }
 
+pub gap_given : (old new : State) → PassedGap old new → Gave (skip between old.unread) tt old new
+gap_given old new p = record { reads = ap (skip between) p.split ∙ gap_read p.is_gap p.solid; taken = p.gap; took = record { split = p.split; rest = p.rest } }
+
+pub gap_blamed : (old : State) (e : Error) → IsReady old → (old.failed ≡ false → Refused FaultyBlanks (cursor_of old) e) → Blames old.input (skip between old.unread) e
+gap_blamed old e r refused = blames_refused old (skip between old.unread) e r (λ x reason place (b, part, shown, fault). in_blanks_other fault) (λ reason place (b, part, shown, fault). blank_refused fault) (refused r.live)
+
 pub blanks_step : (old new : State) (result : Result (Unit {0}) Error) → IsReady old → OnOk result (PassedGap old new) → IfErr result (λ e. old.failed ≡ false → Refused FaultyBlanks (cursor_of old) e) → OnErr result (GivesUp old new)
     → Steps (skip between old.unread) old new result
-blanks_step old new (Ok u) r p refused failed = record {
-  given = record { reads = ap (skip between) p.split ∙ gap_read p.is_gap p.solid; taken = p.gap; took = record { split = p.split; rest = p.rest } };
-  refused = tt;
-  failed = tt;
-}
-blanks_step old new (Err e) r p refused failed = record {
-  given = tt;
-  refused = blames_refused old (skip between old.unread) e r (λ x reason place (b, part, shown, fault). in_blanks_other fault) (λ reason place (b, part, shown, fault). blank_refused fault) (refused r.live);
-  failed = failed;
-}
+blanks_step old new (Ok u) r p refused failed = record { given = gap_given old new p; refused = tt; failed = tt }
+blanks_step old new (Err e) r p refused failed = record { given = tt; refused = gap_blamed old e r refused; failed = failed }
 
 no_other_quote : (c d : ℕ) (r q x : List ℕ) → x ≡ c ∷ r → x ≡ d ∷ q → is_quote c ≡ true → is_quote d ≡ false → ⊥
 no_other_quote c d r q x e f h k = let same : c ≡ d = cc in both_ways (is_quote d) k (subst (λ z. is_quote z ≡ true) same h)
@@ -234,6 +236,18 @@ word_step w ends differs old new (Ok u) a b ready took refused failed = record {
 word_step w ends differs old new (Err e) a b ready took refused failed = record { given = tt; refused = blames_refused old (word_at ends differs w old.unread) e ready (word_lacks w ends differs a b) (word_refuses w ends differs old.unread) refused; failed = failed }
 
 -- ---- signs
+
+pub opening_is : (k : DeKind) (b : Brackets) → b ≡ brackets_of k → b.opening ≡ opening (kind_of k)
+opening_is kind.Array b e = ap (λ (b : Brackets). b.opening) e
+opening_is kind.Object b e = ap (λ (b : Brackets). b.opening) e
+
+pub closing_is : (k : DeKind) (b : Brackets) → b ≡ brackets_of k → b.closing ≡ closing (kind_of k)
+closing_is kind.Array b e = ap (λ (b : Brackets). b.closing) e
+closing_is kind.Object b e = ap (λ (b : Brackets). b.closing) e
+
+pub ends_is : (k : DeKind) (b : Brackets) → b ≡ brackets_of k → b.ends ≡ eof_in (kind_of k)
+ends_is kind.Array b e = ap (λ (b : Brackets). b.ends) e
+ends_is kind.Object b e = ap (λ (b : Brackets). b.ends) e
 
 unexpected_lacks : {ends differs : ErrorCode} → ends ≢ codes.Failed → differs ≢ codes.Failed → Lacks (Unexpected ends differs)
 unexpected_lacks a b x reason place at_end e = a cc

@@ -1,9 +1,10 @@
 -- Structs: where each name's value goes, what a pair changes, and how a struct is read.
-use Rattle.std.proofs.Common.{◌≡◌, ◌≢◌, ℕ, ◌+◌, ◌≤◌, Bool, true, false, List, ◌∷◌, ◌++◌, length, refl, sym, ap, ◌∙◌, subst, unwrap_or, Option, Some, None, Ok, Err}
+use Rattle.std.proofs.Common.{◌≡◌, ◌≢◌, ℕ, ◌+◌, ◌≤◌, Bool, true, false, List, ◌∷◌, refl, sym, ap, ◌∙◌, subst, unwrap_or, Option, Some, None, Ok, Err}
 use Rattle.std.proofs.lemmas.Bool.{false≢true, false_from_ne_true}
 use Rattle.std.proofs.lemmas.Slice.Eq.{bytes_eq-Decides}
-use Rattle.std.specs.Prelude.{Result, OnOk, IsOk, IsErrAnd, String, string_bytes}
+use Rattle.std.specs.Prelude.{Result, OnOk, IsOk, IsErrAnd}
 use Rattle.std.specs.Str.{bytes_eq, encode_utf8_all}
+use Rattle.json5_grammar.specs.Characters.{right_brace}
 use Rattle.json5_grammar.specs.Documents.{max_depth}
 use Rattle.json5_grammar.specs.Trees.{Tree, Pairs, object, no_pair, pair, depth}
 use Rattle.json5_grammar.specs.Values.{Reads}
@@ -16,7 +17,7 @@ use Rattle.json5_de.specs.ConvertLists.{if_some}
 use Rattle.json5_de.specs.Law.{TookValue, Completes, IsUnprompted, Unprompted}
 use Rattle.json5_de.specs.Own.{if_more}
 use Rattle.json5_de.specs.Keys.{KeyConversion}
-use Rattle.json5_de.specs.Objects.{SeenMap, GivesPairKey, PairsRead, PairsLeft, ReadsAKey, ReadsAPair, LeavesAValue, LeavesPairs, LeavesOthers, OpensMap}
+use Rattle.json5_de.specs.Objects.{SeenMap, GivesPairKey, PairsRead, PairsLeft, ReadsAKey, LeavesAValue, OpensMap}
 use Rattle.json5_de.specs.Fields.{or_value, FieldRead, FillsField, LeavesFilled}
 use Rattle.json5_de.specs.Convert.{every_text}
 use Rattle.json5_de.specs.Lending.{seen_map}
@@ -217,6 +218,10 @@ live_after_key content keys old new k (u, plain, took, is, due, waits) live = ap
 pub live_at_brace : {X C : Type 0} (content : X → C) (keys : KeyConversion C) (old new : SeenMap) → GivesPairKey content keys old new None → new.at.reader.failed ≡ false
 live_at_brace content keys old new (at, due, none) = ap (λ (s : State). s.failed) at.rest ∙ at.live
 
+-- where no key is given the brace is next
+pub brace_next : {X C : Type 0} (content : X → C) (keys : KeyConversion C) (old new : SeenMap) → GivesPairKey content keys old new None → (x : List ℕ) × (new.at.reader.unread ≡ right_brace ∷ x)
+brace_next content keys old new (at, due, none) = let (r, close, next) = at.close in (r, next)
+
 -- none is read yet
 pub no_pairs : {S : Type 0} (step : Step S) (s : S) (old : SeenMap) → ReadingStruct step s old s None old
 no_pairs step s old = record { live = λ l. l; pairs = no_pair; are = refl; waits = None; named = tt; read = λ from p. p; left = λ ps r m is left. record { pairs = ps; are = is; begins = tt; left = left } }
@@ -271,9 +276,10 @@ module _ {S : Type 0} {step : Step S} {start : S} {old : SeenMap} where
       }
 
   -- no key was given: all pairs were read
-  pub all_read : {X : Type 0} (content : X → List ℕ) {s : S} {at new : SeenMap} → ReadingStruct step start old s None at → new.at.reader.failed ≡ false → ReadsAKey content every_text at new None
+  pub all_read : {X : Type 0} (content : X → List ℕ) {s : S} {at new : SeenMap} → ReadingStruct step start old s None at → new.at.reader.failed ≡ false → (x : List ℕ) × (new.at.reader.unread ≡ right_brace ∷ x) → ReadsAKey content every_text at new None
       → ((ps : Pairs) (r : List ℕ) → PairsLeft ps r at → LeavesAValue content every_text ps r new (Ok None)) → ReadsPairs step start s old new (Ok tt)
-  all_read content {s = s} {new = new} m live on fewer = record {
+  all_read content {s = s} {new = new} m live brace on fewer = record {
+    at_brace = brace;
     read = (m.pairs, m.are, λ from begun. on from m.pairs (at_rest m from begun));
     left = λ ps r z are left. let w = m.left ps r z are left in none_left step content s z new w.pairs r w.are (fewer w.pairs r w.left);
     live = live;
@@ -286,6 +292,7 @@ module _ {S : Type 0} {step : Step S} {start : S} {old : SeenMap} where
         → ((ps : Pairs) (r : List ℕ) (z : S) → run step s ps ≡ Some z → BeginsAt key ps → PairsLeft ps r at → IsOutOfMemory e) → ReadsPairs step start n old new result
     refuses_as is_err m failed unprompted memory = handed_on (λ r. ReadsPairs step start n old new r) e result is_err (record {
       read = tt;
+      at_brace = tt;
       left = λ ps r z are left. let w = m.left ps r z are left in memory w.pairs r z w.are w.begins w.left;
       live = tt;
       failed = failed;

@@ -1,6 +1,6 @@
 -- The text that a string of a text stands for is of scalar values.
 use Rattle.std.proofs.Common.{◌≡◌, ℕ, ◌+◌, ◌*◌, ◌<◌, ◌≤◌, Bool, true, false, List, [], ◌∷◌, ◌++◌, refl, ap, sym, ◌∙◌, subst, Option, Some, None, arith}
-use Rattle.std.specs.Prelude.{◌==◌}
+use Rattle.std.specs.Prelude.{◌==◌, Ok}
 use Rattle.std.specs.Char.{IsScalar, digit_value}
 use Rattle.std.specs.Str.{all_scalars, chars, encode_utf8_all}
 use Rattle.std.proofs.lemmas.Bool.Decides.{nat_tests}
@@ -15,6 +15,7 @@ use Rattle.json5_text.proofs.ScanBytes.{scalar_halves, one_scalar}
 use Rattle.std.specs.String.{string_bytes}
 use Rattle.std.specs.declared.string.String.{String}
 use Rattle.json5_de.specs.State.{State}
+use Rattle.json5_de.specs.Takes.{TakesOwnString}
 use Rattle.json5_de.specs.Steps.{TookOwned, TookCharacters}
 
 one_more : (c : ℕ) (x : List ℕ) → all_scalars (c ∷ x) ≡ true → IsScalar c × (all_scalars x ≡ true)
@@ -136,3 +137,7 @@ same_character (c ∷ d ∷ u) plain = refl
 pub took_characters : {A : Type 0} (t : String A) (old new : State) → all_scalars old.unread ≡ true → TookOwned old new t → TookCharacters old new t
 took_characters t old new scalars (s, u, plain, took, str, bytes) =
     (s, plain, took, subst (λ z. Str s z plain) (sym (text_characters old.unread new.unread (string_bytes t) took.split scalars str bytes)) str)
+
+-- a string that was taken, its text in memory of its own
+pub took_owned : {A : Type 0} (t : String A) (old new : State) → all_scalars old.unread ≡ true → TookOwned old new t → TakesOwnString old new (Ok t)
+took_owned t old new scalars taken = record { taken = taken; characters = took_characters t old new scalars taken; refused = tt; failed = tt }

@@ -1,28 +1,24 @@
 -- The content of a variant that is read through an access: how it is opened and closed.
-use Rattle.std.proofs.Common.{◌≡◌, ℕ, ◌+◌, ◌<◌, ◌≤◌, Bool, true, false, List, refl, ap, sym, ◌∙◌, subst, arith, Option, Some, None, Result, Ok, Err}
-use Rattle.std.specs.Prelude.{IsErrAnd}
+use Rattle.std.proofs.Common.{◌≡◌, ℕ, Bool, true, false, refl, sym, ◌∙◌, subst, None, Result, Ok, Err}
 use Rattle.json5_grammar.specs.declared.position.Position.{Position}
-use Rattle.json5_grammar.specs.Documents.{max_depth}
-use Rattle.json5_grammar.specs.Trees.{Tree, array, object, no_pair}
-use Rattle.json5_grammar.specs.Members.{IsEnd, IsBrace}
+use Rattle.json5_grammar.specs.Trees.{array, object, no_pair}
+use Rattle.json5_grammar.specs.Members.{IsBrace}
 use Rattle.json5_grammar.proofs.Basics.{true_false}
 use Rattle.json5_grammar.proofs.MembersPassed.{one_end}
 use Rattle.json5_text.specs.declared.error.Error.{Error}
 use Rattle.json5_text.specs.Errors.{kind_of, place_of, or_place, SaysAt}
 use Rattle.json5_text.specs.Cursor.{IsPositionOf}
-use Rattle.json5_de.specs.State.{State, GivesUp, GivesUpWith}
+use Rattle.json5_de.specs.State.{State, GivesUp}
 use Rattle.json5_de.specs.Steps.{IsMismatch}
-use Rattle.json5_de.specs.Options.{PlacedAt}
 use Rattle.json5_de.specs.declared.brackets.Brackets.{Brackets}
 use Rattle.json5_de.specs.Brackets.{AreSigns, square, curly}
-use Rattle.json5_de.specs.Access.{Seen, Opened, OpensAs, ClosesAs, ClosesArray, StartsAfter}
+use Rattle.json5_de.specs.Access.{Seen, IsStart, Opened, OpensAs, ClosesArray}
 use Rattle.json5_de.specs.Objects.{SeenMap, ClosesMap, LeftAfter}
 use Rattle.json5_de.specs.Enums.{SeenEnum, no_content, in_content, ClosesLast, ClosesContent, not_ended, brace_open, ClosesTuple, ClosesStruct, OpensContent, OpensTuple, OpensStruct}
-use Rattle.json5_de.proofs.Arrays.{failed_of, level_of}
+use Rattle.json5_de.proofs.Arrays.{failed_of}
 use Rattle.json5_de.proofs.Elements as elements
 use Rattle.json5_de.proofs.Elements.{closes_array, refuses_end, more_and_less}
 use Rattle.json5_de.proofs.FoundKeys.{mismatch_other}
-use Rattle.json5_de.proofs.OpenClose.{closes, refuses_closing}
 use Rattle.json5_de.proofs.Pairs as pairs
 use Rattle.json5_de.proofs.Pairs.{closes_map, refuses_map_end}
 use Rattle.json5_de.proofs.Taken.{input_of}
@@ -97,13 +93,14 @@ module _ (b : Brackets) (signs : AreSigns b) (due : Bool) (brace : ℕ) (old : S
 
 module _ (b : Brackets) (old : SeenEnum) where
   pub content_opened : (seen : ℕ → Seen) (start : ℕ) → old.has_content ≡ true → OpensAs b seen old.reader (Ok start) → OpensContent b seen old (Ok start)
-  content_opened seen start has o = record { has_content = has; opened = o.opened; complete = λ r h live sign room. refl; refused = tt; unprompted = tt }
+  content_opened seen start has o = record { has_content = has; opened = o.opened; start = o.start; complete = λ r h live sign room. refl; refused = tt; unprompted = tt }
 
   pub content_not_opened : {A : Type 0} (see : A → Seen) (seen : ℕ → Seen) (new : State) (own e : Error) (there : Position) → old.has_content ≡ true → OpensAs b see old.reader (Err own) → GivesUp old.reader new → SaysAt (kind_of own) (or_place (place_of own) there) e
       → IsPositionOf new.input old.start there → OpensContent b seen old (Err e)
   content_not_opened see seen new own e there has o failed says at = record {
     has_content = tt;
     opened = tt;
+    start = tt;
     complete = λ r h live sign room. let ok = o.complete r live sign room in absurd (cc);
     refused = in_content own new has o.refused (record { kind = says.kind; there = there; place = says.place; is_there = λ before s. at before s.rest (failed.same_text ∙ s.split) s.counted });
     unprompted = λ live h. o.unprompted live (sym says.kind ∙ h);
@@ -113,6 +110,7 @@ module _ (b : Brackets) (old : SeenEnum) where
   no_content_opened seen e none is = record {
     has_content = tt;
     opened = tt;
+    start = tt;
     complete = λ r has live sign room. absurd (true_false has none);
     refused = no_content none is;
     unprompted = λ live. mismatch_other None old.reader.input old.start e (λ h. absurd (cc)) is;
@@ -122,8 +120,9 @@ module _ (b : Brackets) (old : SeenEnum) where
 pub tuple_opened : {A : Type 0} (see : ℕ → Seen) (seen : A → Seen) (old : SeenEnum) (start : ℕ) (a : A) → see start ≡ seen a → OpensContent square see old (Ok start) → OpensTuple seen old (Ok a)
 tuple_opened see seen old start a same k =
     let (opened, due) = subst (λ (s : Seen). Opened square old.reader s.reader × (s.due ≡ false)) same k.opened in
+    let start_known = subst (IsStart square old.reader.input) same k.start in
     record {
-      content = record { has_content = k.has_content; opened = (opened, due); complete = λ r h live sign room. refl; refused = tt; unprompted = tt };
+      content = record { has_content = k.has_content; opened = (opened, due); start = start_known; complete = λ r h live sign room. refl; refused = tt; unprompted = tt };
       same_text = input_of opened.rest;
       read = elements.opened_read old.reader (seen a) due opened;
       left = λ ts r h live reads shallow. elements.opened_left old.reader (seen a) ts r due opened reads shallow;
@@ -131,7 +130,7 @@ tuple_opened see seen old start a same k =
 
 pub tuple_not_opened : {A : Type 0} (see : ℕ → Seen) (seen : A → Seen) (old : SeenEnum) (e : Error) → OpensContent square see old (Err e) → OpensTuple seen old (Err e)
 tuple_not_opened see seen old e k = record {
-  content = record { has_content = tt; opened = tt; complete = k.complete; refused = k.refused; unprompted = k.unprompted };
+  content = record { has_content = tt; opened = tt; start = tt; complete = k.complete; refused = k.refused; unprompted = k.unprompted };
   same_text = tt;
   read = tt;
   left = λ ts r h live reads shallow. let (y, opens, room) = elements.array_opens old.reader ts r reads shallow in let ok = k.complete y h live opens room in absurd (cc);
@@ -140,8 +139,9 @@ tuple_not_opened see seen old e k = record {
 pub struct_opened : {A : Type 0} (see : ℕ → Seen) (seen : A → SeenMap) (old : SeenEnum) (start : ℕ) (a : A) → see start ≡ (seen a).at → (seen a).pending ≡ false → OpensContent curly see old (Ok start) → OpensStruct seen old (Ok a)
 struct_opened see seen old start a same none k =
     let (opened, due) = subst (λ (s : Seen). Opened curly old.reader s.reader × (s.due ≡ false)) same k.opened in
+    let start_known = subst (IsStart curly old.reader.input) same k.start in
     record {
-      content = record { has_content = k.has_content; opened = (opened, due); complete = λ r h live sign room. refl; refused = tt; unprompted = tt };
+      content = record { has_content = k.has_content; opened = (opened, due); start = start_known; complete = λ r h live sign room. refl; refused = tt; unprompted = tt };
       no_key = none;
       same_text = input_of opened.rest;
       read = pairs.opened_read old.reader (seen a) due none opened;
@@ -150,7 +150,7 @@ struct_opened see seen old start a same none k =
 
 pub struct_not_opened : {A : Type 0} (see : ℕ → Seen) (seen : A → SeenMap) (old : SeenEnum) (e : Error) → OpensContent curly see old (Err e) → OpensStruct seen old (Err e)
 struct_not_opened see seen old e k = record {
-  content = record { has_content = tt; opened = tt; complete = k.complete; refused = k.refused; unprompted = k.unprompted };
+  content = record { has_content = tt; opened = tt; start = tt; complete = k.complete; refused = k.refused; unprompted = k.unprompted };
   no_key = tt;
   same_text = tt;
   read = tt;

@@ -187,10 +187,14 @@ pub data NotClosed (b : Brackets) (due : Bool) : List ℕ → Option ErrorCode �
 
 -- ---- what the calls of an access mean
 
+-- the count of bytes before the bracket that was taken
+abbrev pub IsStart : Brackets → List ℕ → Seen → Type 0
+IsStart b input s = (before : List ℕ) → input ≡ before ++ b.opening ∷ s.reader.unread → s.start ≡ length (encode_utf8_all before)
+
 -- where a bracket that opens is expected
 pub record OpensAs {A : Type 0} (b : Brackets) (seen : A → Seen) (old : State) (result : Result A Error) : Type 0 where
   pub opened : IfOk result (λ a. Opened b old (seen a).reader × ((seen a).due ≡ false))
-  pub start : IfOk result (λ a. (before : List ℕ) → old.input ≡ before ++ b.opening ∷ (seen a).reader.unread → (seen a).start ≡ length (encode_utf8_all before))
+  pub start : IfOk result (λ a. IsStart b old.input (seen a))
   pub complete : (r : List ℕ) → old.failed ≡ false → IsSign b.opening old.unread r → old.level < max_depth → IsOk result
   pub refused : IfErr result (RefusedBy (NotOpened b old.level) old)
   pub ends : EndsWith b.ends old result

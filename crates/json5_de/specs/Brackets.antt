@@ -4,6 +4,8 @@ use Rattle.json5_grammar.specs.declared.code.ErrorCode.TheVariants as codes
 use Rattle.json5_grammar.specs.Characters.{comma_sign, left_bracket, right_bracket, left_brace, right_brace}
 use Rattle.json5_grammar.specs.Blanks.{is_solid}
 use Rattle.json5_de.specs.declared.brackets.Brackets.{Brackets}
+use Rattle.json5_de.specs.declared.brackets.BracketKind.{BracketKind}
+use Rattle.json5_de.specs.declared.brackets.BracketKind.TheVariants as kind
 
 -- an array's
 abbrev pub square : Brackets
@@ -12,6 +14,10 @@ square = record { opening = left_bracket; closing = right_bracket; ends = codes.
 -- an object's
 abbrev pub curly : Brackets
 curly = record { opening = left_brace; closing = right_brace; ends = codes.EofParsingObject; not_opened = codes.ExpectedOpeningBrace; not_closed = codes.ExpectedClosingBrace }
+
+abbrev pub brackets_of : BracketKind → Brackets
+brackets_of kind.Array = square
+brackets_of kind.Object = curly
 
 -- no blank begins with one of them, the closing one is no comma, and no code is that the reader had failed
 pub record AreSigns (b : Brackets) : Type 0 where

@@ -21,7 +21,7 @@ use Rattle.json5_de.specs.Steps.{PassedGap, IsMismatch}
 use Rattle.json5_de.specs.Faults.{RefusedBy, RefusedByOrMemory, NotText, IsUnplaced, EndsWith, DiffersWith}
 use Rattle.json5_de.specs.declared.brackets.Brackets.{Brackets}
 use Rattle.json5_de.specs.Brackets.{square, curly}
-use Rattle.json5_de.specs.Access.{Seen, Opened, NotOpened, Closed, NotClosed, ClosesAs, ClosesArray, ElementsRead, ElementsLeft, StartsAfter}
+use Rattle.json5_de.specs.Access.{Seen, IsStart, Opened, NotOpened, Closed, NotClosed, ClosesAs, ClosesArray, ElementsRead, ElementsLeft, StartsAfter}
 use Rattle.json5_de.specs.Keys.{TookKey}
 use Rattle.json5_de.specs.KeyRows.{NotKey, not_converted}
 use Rattle.json5_de.specs.Objects.{SeenMap, PairsRead, PairsLeft, AfterColon, ClosesMap, bare_map}
@@ -268,6 +268,7 @@ EndsObject (Some brace) old new result = ClosesStruct brace old new result
 pub record OpensContent {A : Type 0} (b : Brackets) (seen : A → Seen) (old : SeenEnum) (result : Result A Error) : Type 0 where
   pub has_content : OnOk result (old.has_content ≡ true)
   pub opened : IfOk result (λ a. Opened b old.reader (seen a).reader × ((seen a).due ≡ false))
+  pub start : IfOk result (λ a. IsStart b old.reader.input (seen a))
   pub complete : (r : List ℕ) → old.has_content ≡ true → old.reader.failed ≡ false → IsSign b.opening old.reader.unread r → old.reader.level < max_depth → IsOk result
   pub refused : IfErr result (RefusesContent (λ s e t. RefusedBy (NotOpened b s.level) s e) old)
   pub unprompted : Unprompted old.reader result

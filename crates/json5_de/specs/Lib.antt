@@ -21,6 +21,7 @@ pub mod ObjectFaults
 pub mod Maps
 pub mod Fields
 pub mod Plans
+pub mod StructFaults
 pub mod MapFaults
 pub mod Lending
 pub mod Texts
@@ -29,3 +30,4 @@ pub mod Spans
 pub mod AnyTree
 pub mod Passing
 pub mod Enums
+pub mod Variants

@@ -1,19 +1,20 @@
 -- How a value is passed over: step by step as reading on lists does, and what the open brackets make of what is to come.
-use Rattle.std.specs.Prelude.{◌≡◌, ◌⊎◌, ℕ, suc, ◌+◌, ◌-◌, ◌<◌, ◌≤◌, Bool, true, false, cond, List, [], ◌∷◌, ◌++◌, length, Option, Some, None, Result, IfOk, IfErr, OnErr}
+use Rattle.std.specs.Prelude.{◌≡◌, ◌⊎◌, ℕ, suc, ◌+◌, ◌-◌, ◌<◌, ◌≤◌, Bool, true, false, cond, List, [], ◌∷◌, ◌++◌, length, Option, Some, None, Result, IfOk, IfErr, OnErr, ◌==◌, ◌||◌, slice_get}
 use Rattle.std.specs.Str.{encode_utf8_all}
 use Rattle.json5_grammar.specs.declared.code.ErrorCode.{ErrorCode}
 use Rattle.json5_grammar.specs.Documents.{max_depth}
-use Rattle.json5_grammar.specs.Fronts.{of_array, of_object, opening}
+use Rattle.json5_grammar.specs.Fronts.{of_array, of_object, opening, closing}
 use Rattle.json5_grammar.specs.Fronts as fronts
 use Rattle.json5_grammar.specs.Positions.{position_after}
 use Rattle.json5_grammar.specs.Reading.{Read, Place, here, inner, got, bad, and_then, placed}
-use Rattle.json5_grammar.specs.ReadSteps.{forget, rest_of}
+use Rattle.json5_grammar.specs.ReadBlanks.{skip, between}
+use Rattle.json5_grammar.specs.ReadSteps.{forget, separator, rest_of}
 use Rattle.json5_grammar.specs.ReadValues.{read}
 use Rattle.json5_text.specs.declared.error.Error.{Error}
 use Rattle.json5_text.specs.Errors.{place_of}
 use Rattle.json5_text.specs.Cursor.{Says, IsOutOfMemory}
-use Rattle.json5_de.specs.declared.ignored.BracketKind.{BracketKind}
-use Rattle.json5_de.specs.declared.ignored.BracketKind.TheVariants as kind
+use Rattle.json5_de.specs.declared.brackets.BracketKind.{BracketKind}
+use Rattle.json5_de.specs.declared.brackets.BracketKind.TheVariants as kind
 use Rattle.json5_de.specs.declared.ignored.OpenBracket.{OpenBracket}
 use Rattle.json5_de.specs.Access.{StartsAfter}
 use Rattle.json5_de.specs.Options.{PlacedAt}
@@ -59,15 +60,37 @@ pub record Steps {A : Type 0} (reading : Read A) (old new : State) (result : Res
   pub refused : IfErr result (Blames old.input reading)
   pub failed : OnErr result (GivesUp old new)
 
--- the same where such a character stands in front; what was read isn't kept
-abbrev pub StepsFrom : {A : Type 0} → (ℕ → Bool) → (List ℕ → Read A) → State → State → Result (Unit {0}) Error → Type 0
-StepsFrom begins reading old new result = (c : ℕ) (r : List ℕ) → old.unread ≡ c ∷ r → begins c ≡ true → Steps (forget (reading old.unread)) old new result
+-- ---- members
+
+-- past the closing bracket, or a member begins here
+abbrev pub member_front : fronts.BracketKind → List ℕ → Read Bool
+member_front k [] = got true []
+member_front k (c ∷ r) = cond (c == closing k) (got false r) (got true (c ∷ r))
+
+-- the same after blanks
+abbrev pub member_start : fronts.BracketKind → List ℕ → Read Bool
+member_start k x = and_then (skip between x) (λ u y. member_front k y)
+
+-- a comma, or past the closing bracket, where one is due
+abbrev pub due_comma : fronts.BracketKind → Bool → List ℕ → Read Bool
+due_comma k false x = got true x
+due_comma k true x = separator k x
+
+-- where the next member begins, after a comma where one is due, or past the closing bracket
+abbrev pub next_member : fronts.BracketKind → Bool → List ℕ → Read Bool
+next_member k due x = and_then (due_comma k due x) (λ more y. cond more (member_start k y) (got false y))
 
 -- ---- a value's beginning
 
 -- so many bytes stand before this rest of the text
 abbrev pub CountsTo : List ℕ → ℕ → List ℕ → Type 0
 CountsTo input start q = (before : List ℕ) × (input ≡ before ++ q) × (start ≡ length (encode_utf8_all before))
+
+-- a value that is no collection begins here with this character
+pub record AtScalar (c : ℕ) (s : State) : Type 0 where
+  pub ready : IsReady s
+  pub first : slice_get s.unread 0 ≡ Some c
+  pub other : ((c == opening of_array) || (c == opening of_object)) ≡ false
 
 -- what the value in front is read as
 abbrev pub value_at : State → Read (Unit {0})

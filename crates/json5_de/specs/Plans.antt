@@ -1,7 +1,8 @@
 -- A struct by its fields, one plan: what it takes of an object, and what each pair changes of what was read of it.
-use Rattle.std.proofs.Common.{◌≡◌, ℕ, Bool, true, false, List, [], refl, sym, ap, ◌∙◌, Option, Some, None}
+use Rattle.std.proofs.Common.{◌≡◌, ℕ, Bool, true, false, List, [], ◌∷◌, refl, sym, ap, ◌∙◌, Option, Some, None}
 use Rattle.std.specs.Prelude.{if◌then◌else◌, ◌<◌, length, Result, Ok, Err, OnOk, OnErr}
 use Rattle.std.specs.Str.{bytes_eq, encode_utf8_all}
+use Rattle.json5_grammar.specs.Characters.{right_brace}
 use Rattle.json5_grammar.specs.Trees.{Tree, Trees, Pairs, no_more, more, no_pair, pair}
 use Rattle.json5_grammar.specs.Members.{joint, snoc_pair}
 use Rattle.json5_text.specs.declared.error.Error.{Error}
@@ -149,10 +150,11 @@ pub record TakesPair {S : Type 0} (step : Step S) (s n : S) (name : List ℕ) (o
 abbrev pub PassesPair : SeenMap → SeenMap → Result (Unit {0}) Error → Type 0
 PassesPair old new result = TakesPair {S = Unit {0}} (λ s name t. Some s) tt tt [] old new result
 
--- all pairs that are left, from the first: s is what was read of the fields before, n after them
+-- all pairs that are left, from the first, up to the closing brace: s is what was read of the fields before, n after them
 pub record ReadsPairs {S : Type 0} (step : Step S) (s n : S) (old new : SeenMap) (result : Result (Unit {0}) Error) : Type 0 where
   pub read : OnOk result ((ps : Pairs) × (run step s ps ≡ Some n) × ((from : State) → PairsRead from no_pair None old → PairsRead from ps None new))
   pub left : (ps : Pairs) (r : List ℕ) (m : S) → run step s ps ≡ Some m → PairsLeft ps r old → LeavesTaken n m no_pair r new result
   pub live : OnOk result (new.at.reader.failed ≡ false)
   pub failed : OnErr result (new.at.reader.failed ≡ true)
   pub unprompted : Unprompted old.at.reader result
+  pub at_brace : OnOk result ((r : List ℕ) × (new.at.reader.unread ≡ right_brace ∷ r))

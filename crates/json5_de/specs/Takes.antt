@@ -27,14 +27,14 @@ pub record PassesGap (old new : State) (result : Result (Unit {0}) Error) : Type
   pub before : StaysFailed old new result
   pub unprompted : Unprompted old result
 
--- the word is taken
-pub record TakesWord (w : List ℕ) (ends differs : ErrorCode) (old new : State) (result : Result (Unit {0}) Error) : Type 0 where
+-- the word is passed over
+pub record PassesWord (w : List ℕ) (ends differs : ErrorCode) (old new : State) (result : Result (Unit {0}) Error) : Type 0 where
   pub taken : OnOk result (TookText old w new)
   pub refused : IfErr result (λ e. Refused (FaultyWord w ends differs) (cursor_of old) e)
   pub failed : OnErr result (GivesUp old new)
 
 -- a string is taken, its text in memory of its own
-pub record TakesOwned {A : Type 0} (old new : State) (result : Result (String A) Error) : Type 0 where
+pub record TakesOwnString {A : Type 0} (old new : State) (result : Result (String A) Error) : Type 0 where
   pub taken : IfOk result (TookOwned old new)
   pub characters : IfOk result (TookCharacters old new)
   pub refused : IfErr result (RefusesToken FaultyString old)

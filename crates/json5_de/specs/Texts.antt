@@ -36,7 +36,7 @@ pub record ReadsEnd (old new : State) (result : Result (Unit {0}) Error) : Type 
   pub before : StaysFailed old new result
 
 -- the whole text is read as one value
-pub record ReadsText {V C : Type 0} (content : V → C) (convert : Tree → Option C) (refuses : State → Error → State → Type 0) (x : List ℕ) (result : Result V Error) : Type 0 where
+pub record ReadsWholeText {V C : Type 0} (content : V → C) (convert : Tree → Option C) (refuses : State → Error → State → Type 0) (x : List ℕ) (result : Result V Error) : Type 0 where
   pub sound : IfOk result (λ v. (t : Tree) × Doc max_depth x t × (convert t ≡ Some (content v)))
   pub complete : ReadsDocument content convert x result
   pub refused : IfErr result (RefusesReading convert refuses x)

@@ -1,25 +1,23 @@
 //! Reading of values of any kind.
 
-ghost use Rattle.std.specs.Prelude.{◌≡◌, ◌==◌, ◌||◌, Some, false, true, slice_get};
-ghost use Rattle.json5_grammar.specs.Fronts.{of_array, of_object, opening};
-ghost use Rattle.json5_grammar.specs.ReadSteps.{key_at};
+ghost use Rattle.std.specs.Prelude.{◌≡◌, false, true};
 ghost use Rattle.json5_grammar.specs.ReadTexts.{key};
 ghost use Rattle.json5_text.specs.NumberViews.{number_of};
 ghost use Rattle.json5_text.specs.ValueViews as datum;
 ghost use Rattle.json5_text.specs.ValueViews.{value_of};
 ghost use Rattle.json5_de.specs.AnyTree.{ReadsTree};
-ghost use Rattle.json5_de.specs.Building.{Keeps, Puts, IsFoundKey, IsKeyText, IsNextKey, IsOfTree, IsDatum, next_key, tree_at, datum_at, Begins, array_at, object_at, start_of, value_in_at, PlacedIn, Turns, TurnsInside};
+ghost use Rattle.json5_de.specs.Building.{Keeps, Puts, IsKeyText, IsNextKey, IsOfTree, IsDatum, next_key, tree_at, datum_at, Begins, array_at, object_at, start_of, value_in_at, PlacedIn, Turns, TurnsInside};
 ghost use Rattle.json5_de.specs.Convert.{every_datum};
-ghost use Rattle.json5_de.specs.Passing.{IsReady};
+ghost use Rattle.json5_de.specs.Passing.{IsReady, AtScalar};
 ghost use Rattle.json5_de.specs.Rows.{no_tree};
 ghost use Rattle.json5_de.specs.Scalars.{kind_at};
 
+use crate::brackets::BracketKind;
 use crate::de::Deserializer;
-use crate::ignored::{BracketKind, OpenBracket};
+use crate::ignored::OpenBracket;
 use json5_text::ErrorCode;
 use json5_text::error::{Error, Result};
 use json5_text::input::Input;
-use json5_text::key_text::KeyText;
 use json5_text::number::Number;
 use json5_text::value::Value;
 
@@ -102,37 +100,29 @@ impl<I: Input> Deserializer<I> {
         }
     }
 
-    /// Takes the key in front.
-    fn find_key(&mut self) -> Result<KeyText>
-        requires { IsReady self.old }
-        ensures { Keeps (IsFoundKey self.old.input) (key self.old.unread) self.old self.new result }
-    {
-        if self.peek().is_none() {
-            return self.refuse(Error::new(ErrorCode::EofParsingObject));
-        }
-        let _offset = self.offset();
-        self.key()
-    }
-
     /// Takes the key in front, its text in memory of its own.
     fn take_key(&mut self) -> Result<String>
         requires { IsReady self.old }
         ensures { Keeps IsKeyText (key self.old.unread) self.old self.new result }
     {
-        let key = self.find_key()?;
+        if self.peek().is_none() {
+            return self.refuse(Error::new(ErrorCode::EofParsingObject));
+        }
+        let _offset = self.offset();
+        let key = self.key()?;
         match self.own_key_text(key) {
             Ok(text) => Ok(text),
             Err(e) => self.refuse(e),
         }
     }
 
-    /// Goes to the value of the next pair and answers its key, or passes over the closing brace.
-    fn take_to_value(&mut self) -> Result<Option<String>>
+    /// Goes to the value of the next pair, after a comma where one is due, and answers its key; or passes over the closing brace.
+    fn take_to_next(&mut self, due: bool) -> Result<Option<String>>
         requires { IsReady self.old }
-        ensures { Keeps IsNextKey (key_at self.old.unread) self.old self.new result }
+        ensures { Keeps IsNextKey (next_key due self.old.unread) self.old self.new result }
     {
-        self.pass_blanks()?;
-        if self.eat('}') {
+        let more = self.pass_to_member(BracketKind::Object, due)?;
+        if !more {
             return Ok(None);
         }
         let key = self.take_key()?;
@@ -140,26 +130,9 @@ impl<I: Input> Deserializer<I> {
         Ok(Some(key))
     }
 
-    /// The same, after a comma where one is due.
-    fn take_to_next(&mut self, due: bool) -> Result<Option<String>>
-        requires { IsReady self.old }
-        ensures { Keeps IsNextKey (next_key due self.old.unread) self.old self.new result }
-    {
-        if !due {
-            return self.take_to_value();
-        }
-        let more = self.pass_comma(BracketKind::Object)?;
-        if !more {
-            return Ok(None);
-        }
-        self.take_to_value()
-    }
-
     /// Takes a value that is no collection and begins with the character.
     fn take_scalar(&mut self, c: char) -> Result<Value>
-        requires ready { IsReady self.old }
-        requires first { slice_get self.old.unread 0 ≡ Some c }
-        requires other { ((c == opening of_array) || (c == opening of_object)) ≡ false }
+        requires { AtScalar c self.old }
         ensures { Keeps IsOfTree (tree_at self.old) self.old self.new result }
     {
         match kind_at(c) {

@@ -7,13 +7,21 @@ ghost use Rattle.json5_grammar.specs.Members.{IsEnd};
 ghost use Rattle.json5_de.specs.State.{SameText, GivesUp};
 ghost use Rattle.json5_de.specs.Faults.{RefusedBy, IsUnplaced};
 ghost use Rattle.json5_de.specs.Law.{Steady};
+ghost use Rattle.json5_de.specs.Brackets.{brackets_of};
 
 use crate::de::Deserializer;
 use json5_text::ErrorCode;
 use json5_text::error::{Error, Result};
 use json5_text::input::Input;
 
-/// A kind of brackets, and the codes of what is refused round it.
+/// A kind of brackets.
+#[derive(Clone, Copy, Drop)]
+pub(crate) enum BracketKind {
+    Array,
+    Object,
+}
+
+/// The brackets of a kind, and the codes of what is refused round them.
 #[derive(Clone, Copy, Drop)]
 pub struct Brackets {
     /// What opens.
@@ -28,38 +36,31 @@ pub struct Brackets {
     pub not_closed: ErrorCode,
 }
 
-impl Brackets {
-    ghost use Rattle.json5_de.specs.Brackets.{square, curly};
-
-    /// An array's.
-    pub(crate) fn square() -> Brackets
-        ensures { result ≡ square }
+impl BracketKind {
+    /// Its brackets.
+    pub(crate) fn brackets(self) -> Brackets
+        ensures { result ≡ brackets_of self }
     {
-        Brackets {
-            opening: '[',
-            closing: ']',
-            ends: ErrorCode::EofParsingArray,
-            not_opened: ErrorCode::ExpectedOpeningBracket,
-            not_closed: ErrorCode::ExpectedClosingBracket,
-        }
-    }
-
-    /// An object's.
-    pub(crate) fn curly() -> Brackets
-        ensures { result ≡ curly }
-    {
-        Brackets {
-            opening: '{',
-            closing: '}',
-            ends: ErrorCode::EofParsingObject,
-            not_opened: ErrorCode::ExpectedOpeningBrace,
-            not_closed: ErrorCode::ExpectedClosingBrace,
+        match self {
+            BracketKind::Array => Brackets {
+                opening: '[',
+                closing: ']',
+                ends: ErrorCode::EofParsingArray,
+                not_opened: ErrorCode::ExpectedOpeningBracket,
+                not_closed: ErrorCode::ExpectedClosingBracket,
+            },
+            BracketKind::Object => Brackets {
+                opening: '{',
+                closing: '}',
+                ends: ErrorCode::EofParsingObject,
+                not_opened: ErrorCode::ExpectedOpeningBrace,
+                not_closed: ErrorCode::ExpectedClosingBrace,
+            },
         }
     }
 }
 
 impl<I: Input> Deserializer<I> {
-    ghost use Rattle.json5_de.specs.Brackets.{AreSigns};
     ghost use Rattle.json5_de.specs.Access.{Closed, OpensAs, NotClosed};
     ghost use Rattle.json5_de.specs.Seq.{IsUnexpected, TakesClosing, GoesOn, NothingNext, NoNext};
 
@@ -76,12 +77,12 @@ impl<I: Input> Deserializer<I> {
     }
 
     /// Takes an opening bracket, and gives the count of bytes before it.
-    pub(crate) fn open(&mut self, brackets: Brackets) -> Result<usize>
-        requires { AreSigns brackets }
-        ensures opens { OpensAs brackets (λ start. record { reader = self.new; start = start; due = false }) self.old result }
+    pub(crate) fn open(&mut self, kind: BracketKind) -> Result<usize>
+        ensures opens { OpensAs (brackets_of kind) (λ start. record { reader = self.new; start = start; due = false }) self.old result }
         ensures failed { OnErr result (GivesUp self.old self.new) }
     {
         self.begin()?;
+        let brackets = kind.brackets();
         let start = self.offset();
         if !self.eat(brackets.opening) {
             return Err(self.unexpected(brackets.ends, brackets.not_opened));
@@ -94,39 +95,39 @@ impl<I: Input> Deserializer<I> {
     }
 
     /// Whether the closing bracket is next.
-    fn at_closing(&self, brackets: Brackets) -> bool
-        ensures found { result ≡ true → slice_get self.now.unread 0 ≡ Some brackets.closing }
-        ensures other { result ≡ false → NotBegun (λ c. c == brackets.closing) self.now.unread }
+    fn at_closing(&self, kind: BracketKind) -> bool
+        ensures found { result ≡ true → slice_get self.now.unread 0 ≡ Some (brackets_of kind).closing }
+        ensures other { result ≡ false → NotBegun (λ c. c == (brackets_of kind).closing) self.now.unread }
     {
-        self.peek() == Some(brackets.closing)
+        self.peek() == Some(kind.brackets().closing)
     }
 
     /// Goes to the next member and says true, or to the closing bracket and says false.
-    pub(crate) fn goes_on(&mut self, brackets: Brackets, due: bool) -> Result<bool>
-        requires { AreSigns brackets }
-        ensures sound { IfOk result (λ more. GoesOn brackets due self.old self.new more) }
-        ensures refused { IfErr result (RefusedBy (NoNext brackets due) self.old) }
-        ensures nowhere { OnErr result (self.old.failed ≡ false → NothingNext brackets due self.old.unread) }
+    pub(crate) fn goes_on(&mut self, kind: BracketKind, due: bool) -> Result<bool>
+        ensures sound { IfOk result (λ more. GoesOn (brackets_of kind) due self.old self.new more) }
+        ensures refused { IfErr result (RefusedBy (NoNext (brackets_of kind) due) self.old) }
+        ensures nowhere { OnErr result (self.old.failed ≡ false → NothingNext (brackets_of kind) due self.old.unread) }
         ensures steady { Steady self.old self.new result }
     {
         self.begin()?;
-        if self.at_closing(brackets) {
+        if self.at_closing(kind) {
             return Ok(false);
         }
         if !due {
             return Ok(true);
         }
         if !self.eat(',') {
-            return Err(self.unexpected(brackets.ends, ErrorCode::ExpectedComma));
+            return Err(self.unexpected(kind.brackets().ends, ErrorCode::ExpectedComma));
         }
         self.begin()?;
-        Ok(!self.at_closing(brackets))
+        Ok(!self.at_closing(kind))
     }
 
     /// Takes the closing bracket in front.
-    fn bracket(&mut self, brackets: Brackets) -> Result<()>
-        ensures { TakesClosing brackets self.old self.new result }
+    fn bracket(&mut self, kind: BracketKind) -> Result<()>
+        ensures { TakesClosing (brackets_of kind) self.old self.new result }
     {
+        let brackets = kind.brackets();
         if !self.eat(brackets.closing) {
             return Err(self.unexpected(brackets.ends, brackets.not_closed));
         }
@@ -135,22 +136,21 @@ impl<I: Input> Deserializer<I> {
     }
 
     /// Takes a closing bracket, and before it the comma that may stand there.
-    pub(crate) fn close(&mut self, brackets: Brackets, due: bool) -> Result<()>
-        requires { AreSigns brackets }
-        ensures closed { OnOk result (Closed brackets due self.old self.new) }
-        ensures refused { IfErr result (RefusedBy (NotClosed brackets due) self.old) }
+    pub(crate) fn close(&mut self, kind: BracketKind, due: bool) -> Result<()>
+        ensures closed { OnOk result (Closed (brackets_of kind) due self.old self.new) }
+        ensures refused { IfErr result (RefusedBy (NotClosed (brackets_of kind) due) self.old) }
         ensures same_text { SameText self.old self.new }
-        ensures complete { (r : List ℕ) → self.old.failed ≡ false → IsEnd brackets.closing due self.old.unread r → IsOk result }
+        ensures complete { (r : List ℕ) → self.old.failed ≡ false → IsEnd (brackets_of kind).closing due self.old.unread r → IsOk result }
         ensures before { self.old.failed ≡ true → IsErrAnd result (IsUnplaced codes.Failed) }
     {
         self.begin()?;
         if !due {
-            return self.bracket(brackets);
+            return self.bracket(kind);
         }
         if !self.eat(',') {
-            return self.bracket(brackets);
+            return self.bracket(kind);
         }
         self.begin()?;
-        self.bracket(brackets)
+        self.bracket(kind)
     }
 }

@@ -12,7 +12,7 @@ ghost use Rattle.json5_de.specs.Law.{Gives, Completes, CompletesFree, Unprompted
 ghost use Rattle.json5_de.specs.Steps.{Eats, IsCount, IsMismatch};
 ghost use Rattle.json5_de.specs.KeySteps.{SpellsKey, SpellsCow};
 ghost use Rattle.json5_de.specs.Takes as tokens;
-ghost use Rattle.json5_de.specs.Takes.{PassesGap, Takes, TakesOwned, TakesWord};
+ghost use Rattle.json5_de.specs.Takes.{PassesGap, Takes, TakesOwnString, PassesWord};
 ghost use Rattle.json5_de.specs.Texts.{ReadsEnd};
 
 use crate::mismatch::Mismatch;
@@ -139,7 +139,7 @@ impl<I: Input> Deserializer<I> {
 
     /// Takes the word in front.
     pub(crate) fn word(&mut self, word: &str, ends: ErrorCode, differs: ErrorCode) -> Result<()>
-        ensures { TakesWord (chars word.now) ends differs self.old self.new result }
+        ensures { PassesWord (chars word.now) ends differs self.old self.new result }
     {
         match self.scanner.word(word, ends, differs) {
             Ok(()) => Ok(()),
@@ -159,7 +159,7 @@ impl<I: Input> Deserializer<I> {
 
     /// Takes the string in front, its text in memory of its own.
     pub(crate) fn string_owned(&mut self) -> Result<String>
-        ensures { TakesOwned self.old self.new result }
+        ensures { TakesOwnString self.old self.new result }
     {
         let _offset = self.offset();
         match self.scanner.string_owned() {

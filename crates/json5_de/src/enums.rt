@@ -1,27 +1,23 @@
 //! Reading of enums: the name of a variant, and then its content.
 
-ghost use Rattle.std.specs.Prelude.{◌≡◌, true, false, ℕ, List, IfOk, IfErr, OnOk, OnErr, IsOk};
+ghost use Rattle.std.specs.Prelude.{◌≡◌, true, false, IfOk, OnErr};
 ghost use Rattle.std.specs.Borrow.{sem};
 ghost use Rattle.json5_grammar.specs.declared.code.ErrorCode.TheVariants as codes;
-ghost use Rattle.json5_grammar.specs.Documents.{max_depth};
-ghost use Rattle.json5_grammar.specs.Trees.{Tree, depth};
 ghost use Rattle.json5_grammar.specs.Values.{Reads};
-ghost use Rattle.json5_grammar.specs.Members.{ReadsKey, IsKeyValue, IsBrace};
-ghost use Rattle.json5_de.specs.State.{SameText, GivesUp};
-ghost use Rattle.json5_de.specs.Law.{Unprompted};
+ghost use Rattle.json5_grammar.specs.Members.{ReadsKey, IsBrace};
+ghost use Rattle.json5_de.specs.State.{GivesUp};
 ghost use Rattle.json5_de.specs.Convert.{spelled, place_among};
-ghost use Rattle.json5_de.specs.Faults.{RefusedBy, IsUnplaced};
-ghost use Rattle.json5_de.specs.Brackets.{AreSigns};
+ghost use Rattle.json5_de.specs.Faults.{IsUnplaced};
+ghost use Rattle.json5_de.specs.Brackets.{brackets_of};
 ghost use Rattle.json5_de.specs.Access.{ClosesAs};
 ghost use Rattle.json5_de.specs.Rows.{RefusedAs, null_row, every_tree};
-ghost use Rattle.json5_de.specs.Objects.{AfterColon};
-ghost use Rattle.json5_de.specs.ObjectFaults.{NoColon};
 ghost use Rattle.json5_de.specs.Enums.{NamesVariant, ReadsVariant, ReadsOnlyKey, ReadsKeyed, ReadsInBrace, ClosesLast, ClosesContent, OpensContent, OpensTuple, OpensStruct, content_of, unit_content, content_free, is_left_brace};
 ghost use Rattle.json5_grammar.specs.Strings.{is_quote};
 
-use crate::brackets::Brackets;
+use crate::brackets::BracketKind;
 use crate::de::{Deserialize, Deserializer};
 use crate::ending::InVariant;
+use crate::ignored::is_quote;
 use crate::map::MapAccess;
 use crate::mismatch::Mismatch;
 use crate::seq::SeqAccess;
@@ -63,39 +59,10 @@ struct Named {
     has_content: bool,
 }
 
-/// Whether a text begins with this character.
-fn begins_text(c: char) -> bool
-    ensures { result ≡ is_quote c }
-{
-    matches!(c, '"' | '\'')
-}
-
-/// Whether an object begins with this character.
-fn begins_object(c: char) -> bool
-    ensures { result ≡ is_left_brace c }
-{
-    c == '{'
-}
-
 impl<I: Input> Deserializer<I> {
     ghost use Rattle.json5_grammar.specs.Characters.{NotBegun};
     ghost use Rattle.json5_de.specs.Enums.{Begins};
     ghost use Rattle.json5_de.specs.Lending.{seen_named, seen_enum, HoldsEnum, BlocksEnumReader, lends_to_enum};
-
-    /// Takes the colon after a key.
-    fn colon(&mut self) -> Result<()>
-        ensures passed { OnOk result (AfterColon self.old self.new) }
-        ensures refused { IfErr result (RefusedBy NoColon self.old) }
-        ensures complete { (t : Tree) (r : List ℕ) → self.old.failed ≡ false → IsKeyValue self.old.unread t r → IsOk result }
-        ensures failed { OnErr result (GivesUp self.old self.new) }
-        ensures unprompted { Unprompted self.old result }
-    {
-        self.begin()?;
-        if !self.eat(':') {
-            return Err(self.unexpected(ErrorCode::EofParsingObject, ErrorCode::ExpectedColon));
-        }
-        Ok(())
-    }
 
     /// Takes the only key of an object, one of the variants, and its colon.
     fn only_key(&mut self, variants: &[&str]) -> Result<usize>
@@ -114,7 +81,7 @@ impl<I: Input> Deserializer<I> {
     fn keyed_variant(&mut self, variants: &[&str]) -> Result<usize>
         ensures { ReadsKeyed (spelled variants.now) self.old self.new result }
     {
-        let start = self.open(Brackets::curly())?;
+        let start = self.open(BracketKind::Object)?;
         match self.only_key(variants) {
             Ok(variant) => Ok(variant),
             Err(e) => Err(e.with_position(self.position_of(start))),
@@ -127,7 +94,7 @@ impl<I: Input> Deserializer<I> {
         ensures other { result ≡ false → NotBegun is_quote self.now.unread }
     {
         match self.peek() {
-            Some(c) => begins_text(c),
+            Some(c) => is_quote(c),
             None => false,
         }
     }
@@ -138,7 +105,7 @@ impl<I: Input> Deserializer<I> {
         ensures other { result ≡ false → NotBegun is_left_brace self.now.unread }
     {
         match self.peek() {
-            Some(c) => begins_object(c),
+            Some(c) => c == '{',
             None => false,
         }
     }
@@ -211,11 +178,10 @@ impl<I: Input> Deserializer<I> {
     }
 
     /// Takes a closing bracket, and before it the comma that may stand there; a refusal is for good.
-    pub(crate) fn close_last(&mut self, brackets: Brackets, due: bool) -> Result<()>
-        requires { AreSigns brackets }
-        ensures { ClosesLast brackets due self.old self.new result }
+    pub(crate) fn close_last(&mut self, kind: BracketKind, due: bool) -> Result<()>
+        ensures { ClosesLast (brackets_of kind) due self.old self.new result }
     {
-        match self.close(brackets, due) {
+        match self.close(kind, due) {
             Ok(()) => Ok(()),
             Err(e) => self.refuse(e),
         }
@@ -223,32 +189,25 @@ impl<I: Input> Deserializer<I> {
 
     /// Takes the closing bracket of a variant's content, and then the variant's brace, before which so many bytes stand. A fault of
     /// the bracket without a place gets that brace's.
-    pub(crate) fn close_content(
-        &mut self,
-        brackets: Brackets,
-        due: bool,
-        brace: usize,
-    ) -> Result<()>
-        requires { AreSigns brackets }
-        ensures { ClosesContent brackets due brace self.old self.new result }
+    pub(crate) fn close_content(&mut self, kind: BracketKind, due: bool, brace: usize) -> Result<()>
+        ensures { ClosesContent (brackets_of kind) due brace self.old self.new result }
     {
-        match self.close_last(brackets, due) {
-            Ok(()) => self.close_last(Brackets::curly(), true),
+        match self.close_last(kind, due) {
+            Ok(()) => self.close_last(BracketKind::Object, true),
             Err(e) => Err(e.with_position(self.position_of(brace))),
         }
     }
 
     /// Opens the content of a variant, which is an array or an object. A fault without a place gets the variant's brace's; a text
     /// has no content.
-    fn open_content(&mut self, brackets: Brackets, name: &Named, kind: &str) -> Result<usize>
-        requires { AreSigns brackets }
-        ensures opens { OpensContent brackets (λ start. record { reader = self.new; start = start; due = false }) (seen_named self.old name.now) result }
+    fn open_content(&mut self, kind: BracketKind, name: &Named, expected: &str) -> Result<usize>
+        ensures opens { OpensContent (brackets_of kind) (λ start. record { reader = self.new; start = start; due = false }) (seen_named self.old name.now) result }
         ensures failed { OnErr result (GivesUp self.old self.new) }
     {
         if !name.has_content {
-            return self.mismatch(name.start, &Mismatch::WithoutContent(kind));
+            return self.mismatch(name.start, &Mismatch::WithoutContent(expected));
         }
-        match self.open(brackets) {
+        match self.open(kind) {
             Ok(start) => Ok(start),
             Err(e) => Err(e.with_position(self.position_of(name.start))),
         }
@@ -260,7 +219,7 @@ impl<I: Input> Deserializer<I> {
     {
         match T::deserialize(self) {
             Ok(value) => {
-                self.close_last(Brackets::curly(), true)?;
+                self.close_last(BracketKind::Object, true)?;
                 Ok(value)
             }
             Err(e) => {
@@ -341,7 +300,7 @@ impl<'a, I: Input> EnumAccess<'a, I> {
             variant,
             has_content,
         };
-        let start = de.open_content(Brackets::square(), &name, "tuple")?;
+        let start = de.open_content(BracketKind::Array, &name, "tuple")?;
         de.set_failed(true);
         Ok(SeqAccess {
             de,
@@ -377,7 +336,7 @@ impl<'a, I: Input> EnumAccess<'a, I> {
             variant,
             has_content,
         };
-        let start = de.open_content(Brackets::curly(), &name, "struct")?;
+        let start = de.open_content(BracketKind::Object, &name, "struct")?;
         de.set_failed(true);
         Ok(MapAccess {
             de,

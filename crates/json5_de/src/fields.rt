@@ -7,9 +7,11 @@ ghost use Rattle.json5_de.specs.Access.{IsAtBracket};
 ghost use Rattle.json5_de.specs.Law.{IsUnprompted};
 ghost use Rattle.json5_de.specs.Fields.{FieldRead, IsOwnAtBracket, RefusesHere};
 ghost use Rattle.json5_de.specs.Plans.{PassesPair, ReadsPairs};
+ghost use Rattle.json5_de.specs.StructFaults.{RefusesPairs};
 ghost use Rattle.json5_de.specs.Lending.{seen_map, KeepsMap};
 
 use crate::de::Deserialize;
+use crate::ending::Ending;
 use crate::ignored::IgnoredAny;
 use crate::map::MapAccess;
 use json5_text::ErrorCode;
@@ -19,7 +21,9 @@ use std::fmt;
 
 /// The fields of a struct, as far as they were read: what `MapAccess::read_fields` fills.
 pub trait Fields<I: Input>: Sized + Drop {
+    ghost use Rattle.std.specs.Prelude.{⊤};
     ghost use Rattle.json5_de.specs.Plans.{Step, TakesPair};
+    ghost use Rattle.json5_de.specs.StructFaults.{ValueFaults, RefusesPair};
     ghost use Rattle.json5_de.specs.Lending.{seen_map, KeepsMap};
 
     // What of them counts.
@@ -30,16 +34,20 @@ pub trait Fields<I: Input>: Sized + Drop {
     // What a pair changes, by its name and its value.
     ghost step: { Step Content };
 
+    // What is known of the refusal of a value, by its name.
+    ghost refuses: { ValueFaults } = { λ _ _ _ _. ⊤ };
+
     /// Reads the value of the key that was read last, which has this name: into its field by `MapAccess::next_field`, or past
     /// it where there is none.
-    fn read(&mut self, map: &mut MapAccess<'_, I>, name: &str) -> Result<()>
+    fn read<E: Ending>(&mut self, map: &mut MapAccess<'_, I, E>, name: &str) -> Result<()>
         requires key { (seen_map map.old).pending ≡ true }
         ensures access { KeepsMap map.old map.new }
         ensures pending { IfOk result (λ _. (seen_map map.new).pending ≡ false) }
-        ensures takes { TakesPair step (content self.old) (content self.new) name.now (seen_map map.old) (seen_map map.new) result };
+        ensures takes { TakesPair step (content self.old) (content self.new) name.now (seen_map map.old) (seen_map map.new) result }
+        ensures refused { RefusesPair refuses step (content self.old) name.now (seen_map map.old) result };
 }
 
-impl<'a, I: Input> MapAccess<'a, I> {
+impl<'a, I: Input, E: Ending> MapAccess<'a, I, E> {
     /// A custom fault at the opening brace.
     fn own_fault<D: fmt::Display + Drop>(&self, message: D) -> Error
         ensures own { IsOwnAtBracket (seen_map self.now).at result }
@@ -108,13 +116,15 @@ impl<'a, I: Input> MapAccess<'a, I> {
         }
     }
 
-    /// Reads the pairs of an object into these fields, one after another, up to the closing brace, which stays unread. The faults
-    /// are those of `next_key::<String>`, and then those of the fields.
+    /// Reads the pairs of an object into these fields, one after another, up to the closing brace, which stays unread. A
+    /// refusal is that of `next_key::<String>`, or of the field's `read`, after the pairs that were read before. After a refusal
+    /// every later call answers `Failed`.
     pub fn read_fields<F: Fields<I>>(&mut self, fields: &mut F) -> Result<()>
         requires no_key { (seen_map self.old).pending ≡ false }
         ensures access { KeepsMap self.old self.new }
         ensures pending { IfOk result (λ _. (seen_map self.new).pending ≡ false) }
         ensures reads { ReadsPairs F.step (F.content fields.old) (F.content fields.new) (seen_map self.old) (seen_map self.new) result }
+        ensures refused { RefusesPairs F.step F.refuses (F.content fields.old) (seen_map self.old) result }
     {
         while let Some(name) = self.next_key::<String>()? {
             fields.read(self, name.as_str())?;

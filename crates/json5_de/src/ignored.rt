@@ -1,64 +1,23 @@
 //! Passing over values of any kind.
 
-ghost use Rattle.std.specs.Prelude.{◌≡◌, ◌<◌, ◌≤◌, ◌==◌, ◌||◌, false, true, Some, slice_get, length};
-ghost use Rattle.json5_grammar.specs.Fronts.{of_array, of_object, opening, closing};
-ghost use Rattle.json5_grammar.specs.NumberFaults.{is_sign, begins_number};
-ghost use Rattle.json5_grammar.specs.ReadBlanks.{skip, between};
-ghost use Rattle.json5_grammar.specs.ReadNumbers as numbers;
-ghost use Rattle.json5_grammar.specs.ReadSteps.{forget, eof_in, colon_after, member_at, separator, next_value};
-ghost use Rattle.json5_grammar.specs.ReadTexts.{key, string, identifier};
+ghost use Rattle.std.specs.Prelude.{◌≡◌, ◌<◌, ◌≤◌, true, Some, slice_get, length};
+ghost use Rattle.json5_grammar.specs.Fronts.{opening};
+ghost use Rattle.json5_grammar.specs.ReadSteps.{forget, colon_after, next_value};
+ghost use Rattle.json5_grammar.specs.ReadTexts.{key};
 ghost use Rattle.json5_grammar.specs.Strings.{is_quote};
 ghost use Rattle.json5_de.specs.Access.{StartsAfter};
 ghost use Rattle.json5_de.specs.Options.{PlacedAt};
 ghost use Rattle.json5_de.specs.AnyTree.{ReadsTree, every_value, nothing};
-ghost use Rattle.json5_de.specs.Passing.{kind_of, IsReady, Steps, StepsFrom, Opens, BeginsValue, Turns, TurnsInside, PlacedWithin, Whole, value_at};
+ghost use Rattle.json5_de.specs.Passing.{kind_of, IsReady, Steps, due_comma, next_member, AtScalar, Opens, BeginsValue, Turns, TurnsInside, PlacedWithin, Whole, value_at};
 ghost use Rattle.json5_de.specs.Rows.{every_tree};
 
 use crate::any::{ValueKind, kind_at};
+use crate::brackets::BracketKind;
 use crate::de::{Deserialize, Deserializer};
 use arrayvec::ArrayVec;
 use json5_text::ErrorCode;
 use json5_text::error::{Error, Result};
 use json5_text::input::Input;
-
-/// A kind of brackets.
-#[derive(Clone, Copy, Drop)]
-pub(crate) enum BracketKind {
-    Array,
-    Object,
-}
-
-impl BracketKind {
-    /// What closes.
-    fn closing(self) -> char
-        ensures { result ≡ closing (kind_of self) }
-    {
-        match self {
-            BracketKind::Array => ']',
-            BracketKind::Object => '}',
-        }
-    }
-
-    /// What opens.
-    fn opening(self) -> char
-        ensures { result ≡ opening (kind_of self) }
-    {
-        match self {
-            BracketKind::Array => '[',
-            BracketKind::Object => '{',
-        }
-    }
-
-    /// The code where the text ends inside.
-    fn ends(self) -> ErrorCode
-        ensures { result ≡ eof_in (kind_of self) }
-    {
-        match self {
-            BracketKind::Array => ErrorCode::EofParsingArray,
-            BracketKind::Object => ErrorCode::EofParsingObject,
-        }
-    }
-}
 
 /// An open bracket.
 #[derive(Clone, Copy, Drop)]
@@ -79,7 +38,7 @@ impl Default for OpenBracket {
 }
 
 /// Whether the character begins a string.
-fn is_quote(c: char) -> bool
+pub(crate) fn is_quote(c: char) -> bool
     ensures { result ≡ is_quote c }
 {
     c == '"' || c == '\''
@@ -89,38 +48,6 @@ fn is_quote(c: char) -> bool
 type OpenBrackets = ArrayVec<OpenBracket, 128>;
 
 impl<I: Input> Deserializer<I> {
-    /// Passes over blanks.
-    pub(crate) fn pass_blanks(&mut self) -> Result<()>
-        requires { IsReady self.old }
-        ensures { Steps (skip between self.old.unread) self.old self.new result }
-    {
-        self.begin()
-    }
-
-    /// Passes over the string in front.
-    fn pass_string(&mut self) -> Result<()>
-        requires { IsReady self.old }
-        ensures { StepsFrom is_quote string self.old self.new result }
-    {
-        self.skip_string()
-    }
-
-    /// Passes over the number in front.
-    fn pass_number(&mut self) -> Result<()>
-        requires { IsReady self.old }
-        ensures { StepsFrom (λ c. is_sign c || begins_number c) numbers.number self.old self.new result }
-    {
-        self.skip_number()
-    }
-
-    /// Passes over the name in front.
-    fn pass_name(&mut self) -> Result<()>
-        requires { IsReady self.old }
-        ensures { Steps (forget (identifier self.old.unread)) self.old self.new result }
-    {
-        self.skip_identifier()
-    }
-
     /// Passes over a key.
     fn pass_key(&mut self) -> Result<()>
         requires { IsReady self.old }
@@ -130,9 +57,9 @@ impl<I: Input> Deserializer<I> {
             return self.refuse(Error::new(ErrorCode::EofParsingObject));
         };
         if is_quote(c) {
-            return self.pass_string();
+            return self.skip_string();
         }
-        self.pass_name()
+        self.skip_identifier()
     }
 
     /// Passes over blanks, a colon and blanks.
@@ -140,35 +67,52 @@ impl<I: Input> Deserializer<I> {
         requires { IsReady self.old }
         ensures { Steps (colon_after self.old.unread) self.old self.new result }
     {
-        self.pass_blanks()?;
+        self.begin()?;
         if !self.eat(':') {
             return Err(self.unexpected(ErrorCode::EofParsingObject, ErrorCode::ExpectedColon));
         }
-        self.pass_blanks()
+        self.begin()
     }
 
-    /// Passes over a comma and says true, or over the closing bracket and says false.
-    pub(crate) fn pass_comma(&mut self, kind: BracketKind) -> Result<bool>
+    /// Where a comma is due, passes over it and says true, or over the closing bracket and says false. Says true where none is.
+    fn pass_comma(&mut self, kind: BracketKind, due: bool) -> Result<bool>
         requires { IsReady self.old }
-        ensures { Steps (separator (kind_of kind) self.old.unread) self.old self.new result }
+        ensures { Steps (due_comma (kind_of kind) due self.old.unread) self.old self.new result }
     {
-        self.pass_blanks()?;
+        if !due {
+            return Ok(true);
+        }
+        self.begin()?;
         if self.eat(',') {
             return Ok(true);
         }
-        if self.eat(kind.closing()) {
+        let brackets = kind.brackets();
+        if self.eat(brackets.closing) {
             return Ok(false);
         }
-        Err(self.unexpected(kind.ends(), ErrorCode::ExpectedComma))
+        Err(self.unexpected(brackets.ends, ErrorCode::ExpectedComma))
     }
 
-    /// Goes to the value of the next member and says true, or passes over the closing bracket and says false.
-    fn pass_to_value(&mut self, kind: BracketKind) -> Result<bool>
+    /// Goes to the next member, after a comma where one is due, and says true; or passes over the closing bracket and says false.
+    pub(crate) fn pass_to_member(&mut self, kind: BracketKind, due: bool) -> Result<bool>
         requires { IsReady self.old }
-        ensures { Steps (member_at (kind_of kind) self.old.unread) self.old self.new result }
+        ensures { Steps (next_member (kind_of kind) due self.old.unread) self.old self.new result }
     {
-        self.pass_blanks()?;
-        if self.eat(kind.closing()) {
+        let more = self.pass_comma(kind, due)?;
+        if !more {
+            return Ok(false);
+        }
+        self.begin()?;
+        Ok(!self.eat(kind.brackets().closing))
+    }
+
+    /// The same, but goes to the member's value: over its key and colon too.
+    pub(crate) fn pass_to_next(&mut self, kind: BracketKind, due: bool) -> Result<bool>
+        requires { IsReady self.old }
+        ensures { Steps (next_value (kind_of kind) due self.old.unread) self.old self.new result }
+    {
+        let more = self.pass_to_member(kind, due)?;
+        if !more {
             return Ok(false);
         }
         match kind {
@@ -181,26 +125,9 @@ impl<I: Input> Deserializer<I> {
         }
     }
 
-    /// The same, after a comma where one is due.
-    pub(crate) fn pass_to_next(&mut self, kind: BracketKind, due: bool) -> Result<bool>
-        requires { IsReady self.old }
-        ensures { Steps (next_value (kind_of kind) due self.old.unread) self.old self.new result }
-    {
-        if !due {
-            return self.pass_to_value(kind);
-        }
-        let more = self.pass_comma(kind)?;
-        if !more {
-            return Ok(false);
-        }
-        self.pass_to_value(kind)
-    }
-
     /// Passes over a value that is no collection and begins with the character.
     fn pass_scalar(&mut self, c: char) -> Result<()>
-        requires ready { IsReady self.old }
-        requires first { slice_get self.old.unread 0 ≡ Some c }
-        requires other { ((c == opening of_array) || (c == opening of_object)) ≡ false }
+        requires { AtScalar c self.old }
         ensures { Steps (value_at self.old) self.old self.new result }
     {
         match kind_at(c) {
@@ -219,8 +146,8 @@ impl<I: Input> Deserializer<I> {
                 ErrorCode::EofParsingBool,
                 ErrorCode::ExpectedBool,
             ),
-            ValueKind::Text => self.pass_string(),
-            ValueKind::Number => self.pass_number(),
+            ValueKind::Text => self.skip_string(),
+            ValueKind::Number => self.skip_number(),
             ValueKind::Other => {
                 let error = self.fault_here(ErrorCode::ExpectedValue);
                 self.refuse(error)
@@ -239,7 +166,7 @@ impl<I: Input> Deserializer<I> {
             let error = Error::new_at(self.position_of(start), ErrorCode::TooDeep);
             return self.refuse(error);
         }
-        let _ = self.eat(kind.opening());
+        let _ = self.eat(kind.brackets().opening);
         Ok(OpenBracket { kind, start })
     }
 

@@ -9,7 +9,7 @@ use std::alloc::Global;
 pub(crate) trait FromText: Sized + Drop {
     ghost use Rattle.std.specs.Str.{chars};
     ghost use Rattle.json5_de.specs.Rows.{Row, RefusedAs};
-    ghost use Rattle.json5_de.specs.Texts.{ReadsText};
+    ghost use Rattle.json5_de.specs.Texts.{ReadsWholeText};
 
     // What of a value counts.
     ghost Content: { Type 0 };
@@ -21,7 +21,7 @@ pub(crate) trait FromText: Sized + Drop {
 
     /// The value that the text holds.
     fn from_text(alloc: Global, text: &str) -> Result<Self>
-        ensures { ReadsText content kind.convert (RefusedAs kind) (chars text.now) result };
+        ensures { ReadsWholeText content kind.convert (RefusedAs kind) (chars text.now) result };
 }
 
 impl FromText for () {

@@ -1,22 +1,23 @@
 //! Reading of objects, one pair after another.
 
-ghost use Rattle.std.specs.Prelude.{◌≡◌, ◌<◌, true, false, ℕ, List, length, is_some, IfOk, IfErr, OnErr, IfSome};
+ghost use Rattle.std.specs.Prelude.{◌≡◌, ◌<◌, true, false, ℕ, List, length, is_some, IfOk, IfErr, OnOk, OnErr, IsOk, IfSome};
 ghost use Rattle.std.specs.Borrow.{sem};
 ghost use Rattle.json5_grammar.specs.declared.code.ErrorCode.TheVariants as codes;
-ghost use Rattle.json5_grammar.specs.Trees.{Pairs};
-ghost use Rattle.json5_grammar.specs.Members.{NoPairGoes};
+ghost use Rattle.json5_grammar.specs.Trees.{Tree, Pairs};
+ghost use Rattle.json5_grammar.specs.Members.{NoPairGoes, IsKeyValue};
 ghost use Rattle.json5_text.specs.Cursor.{Locates};
 ghost use Rattle.json5_text.specs.Errors.{kind_of};
+ghost use Rattle.json5_de.specs.State.{GivesUp};
 ghost use Rattle.json5_de.specs.Law.{Steady};
 ghost use Rattle.json5_de.specs.Faults.{RefusedBy};
 ghost use Rattle.json5_de.specs.Brackets.{curly};
 ghost use Rattle.json5_de.specs.Access.{bare, StartsAfter, PlacedAtBracket, CompletesClose};
-ghost use Rattle.json5_de.specs.Objects.{bare_map, OpensMap, GivesPairKey, GivesPairValue, CompletesPairKey, CompletesPairValue, ReadsPairKey, ReadsPairValue, PairsLeft, ReadsAKey, ReadsAPair, LeavesAValue, LeavesOthers};
+ghost use Rattle.json5_de.specs.Objects.{AfterColon, bare_map, OpensMap, GivesPairKey, GivesPairValue, CompletesPairKey, CompletesPairValue, ReadsPairKey, ReadsPairValue, PairsLeft, ReadsAKey, ReadsAPair, LeavesAValue, LeavesOthers};
 ghost use Rattle.json5_de.specs.Enums.{EndsObject};
 ghost use Rattle.json5_de.specs.ObjectFaults as faults;
-ghost use Rattle.json5_de.specs.ObjectFaults.{BeginsKey, GoesToKey, NoKey, PlacedAtKey, is_unplaced, RefusesPairKey, RefusesPairValue, RefusesNextKey, RefusesNextValue};
+ghost use Rattle.json5_de.specs.ObjectFaults.{BeginsKey, GoesToKey, NoColon, NoKey, PlacedAtKey, is_unplaced, RefusesPairKey, RefusesPairValue, RefusesNextKey, RefusesNextValue};
 
-use crate::brackets::Brackets;
+use crate::brackets::BracketKind;
 use crate::de::{Deserialize, Deserializer};
 use crate::ending::{Alone, Ending};
 use crate::key::DeserializeKey;
@@ -100,7 +101,7 @@ impl<I: Input> Deserializer<I> {
         ensures* lends { sem 𝓛 (lends_to_map I.row I.Input self.entry result) }
         ensures opens { OpensMap (HoldsMapBlocked self.entry) seen_map self.old result }
     {
-        let start = self.open(Brackets::curly())?;
+        let start = self.open(BracketKind::Object)?;
         self.set_failed(true);
         Ok(MapAccess {
             de: self,
@@ -142,7 +143,7 @@ impl<I: Input> Deserializer<I> {
         ensures nowhere { OnErr result (self.old.failed ≡ false → NoPairGoes due self.old.unread) }
         ensures steady { Steady self.old self.new result }
     {
-        if !self.goes_on(Brackets::curly(), due)? {
+        if !self.goes_on(BracketKind::Object, due)? {
             return Ok(false);
         }
         if !self.at_key() {
@@ -180,6 +181,21 @@ impl<I: Input> Deserializer<I> {
         }
     }
 
+    /// Takes the colon after a key.
+    pub(crate) fn colon(&mut self) -> Result<()>
+        ensures passed { OnOk result (AfterColon self.old self.new) }
+        ensures refused { IfErr result (RefusedBy NoColon self.old) }
+        ensures complete { (t : Tree) (r : List ℕ) → self.old.failed ≡ false → IsKeyValue self.old.unread t r → IsOk result }
+        ensures failed { OnErr result (GivesUp self.old self.new) }
+        ensures steady { Steady self.old self.new result }
+    {
+        self.begin()?;
+        if !self.eat(':') {
+            return Err(self.unexpected(ErrorCode::EofParsingObject, ErrorCode::ExpectedColon));
+        }
+        Ok(())
+    }
+
     /// A colon and the value after a key.
     fn pair_value<V: Deserialize<I>>(&mut self) -> Result<V>
         ensures sound { IfOk result (GivesPairValue V.content V.convert (bare_map self.old false true) (bare_map self.new true false)) }
@@ -187,10 +203,7 @@ impl<I: Input> Deserializer<I> {
         ensures cause { IfErr result (λ e. RefusesPairValue V.refuses self.old e self.new) }
         ensures steady { Steady self.old self.new result }
     {
-        self.begin()?;
-        if !self.eat(':') {
-            return Err(self.unexpected(ErrorCode::EofParsingObject, ErrorCode::ExpectedColon));
-        }
+        self.colon()?;
         V::deserialize(self)
     }
 }
@@ -301,8 +314,8 @@ impl<'a, I: Input, E: Ending> MapAccess<'a, I, E> {
         } = self;
         de.set_failed(failed);
         match around.brace() {
-            None => de.close_last(Brackets::curly(), due),
-            Some(brace) => de.close_content(Brackets::curly(), due, brace),
+            None => de.close_last(BracketKind::Object, due),
+            Some(brace) => de.close_content(BracketKind::Object, due, brace),
         }
     }
 }

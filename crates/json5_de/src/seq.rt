@@ -13,7 +13,7 @@ ghost use Rattle.json5_de.specs.Enums.{EndsArray};
 ghost use Rattle.json5_de.specs.Lists.{IsTooShort, LeavesRequired, RefusesRequired};
 ghost use Rattle.json5_de.specs.Seq.{RefusesElement, RefusesNext};
 
-use crate::brackets::Brackets;
+use crate::brackets::BracketKind;
 use crate::de::{Deserialize, Deserializer};
 use crate::ending::{Alone, Ending};
 use json5_text::error::{Error, Result};
@@ -63,7 +63,7 @@ impl<I: Input> Deserializer<I> {
         ensures cause { IfErr result (λ e. RefusesElement T.refuses due self.old e self.new) }
         ensures steady { Steady self.old self.new result }
     {
-        if self.goes_on(Brackets::square(), due)? {
+        if self.goes_on(BracketKind::Array, due)? {
             Ok(Some(T::deserialize(self)?))
         } else {
             Ok(None)
@@ -76,7 +76,7 @@ impl<I: Input> Deserializer<I> {
         ensures* lends { sem 𝓛 (lends_reader I.row I.Input self.entry result) }
         ensures opens { OpensArray (HoldsBlocked self.entry) seen self.old result }
     {
-        let start = self.open(Brackets::square())?;
+        let start = self.open(BracketKind::Array)?;
         self.set_failed(true);
         Ok(SeqAccess {
             de: self,
@@ -207,8 +207,8 @@ impl<'a, I: Input, E: Ending> SeqAccess<'a, I, E> {
         } = self;
         de.set_failed(failed);
         match around.brace() {
-            None => de.close_last(Brackets::square(), due),
-            Some(brace) => de.close_content(Brackets::square(), due, brace),
+            None => de.close_last(BracketKind::Array, due),
+            Some(brace) => de.close_content(BracketKind::Array, due, brace),
         }
     }
 }

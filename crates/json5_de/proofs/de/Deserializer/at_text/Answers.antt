@@ -5,4 +5,4 @@ use Rattle.json5_de.proofs.de.Deserializer.at_text.Goals as goal
 pub returns-in-Some-clause-found : goal.returns-in-Some-clause-found
 returns-in-Some-clause-found g c = λ is.
     let (r, split) = some_next c.args.self.now.unread c.in-Some.c (sym c.peek.ensures ∙ c.in-Some.is) in
-    record { char = c.in-Some.c; more = r; split = split; is_first = sym c.begins_text.ensures ∙ is }
+    record { char = c.in-Some.c; more = r; split = split; is_first = sym c.is_quote.ensures ∙ is }

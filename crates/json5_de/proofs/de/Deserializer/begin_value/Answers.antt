@@ -1,6 +1,10 @@
+use Rattle.std.proofs.Common.{rules, sym, ◌∙◌}
 use Rattle.std.proofs.lemmas.Result.{err_from_is_err_and}
 use Rattle.json5_de.proofs.PassingValues.{value_missing, scalar_passed, scalar_refused}
 use Rattle.json5_de.proofs.de.Deserializer.begin_value.Goals as goal
+
+pub pass_scalar-requires : goal.pass_scalar-requires
+pass_scalar-requires g c = record { ready = c.requires; first = sym c.peek.ensures ∙ c.in-Some.is; other = search rules }
 
 pub returns-in_default : goal.returns-in_default
 returns-in_default g c = rw c.refuse.ensures.result (value_missing c.args.self.now c.refuse.new.self c.peek.result c.new.result c.peek.ensures c.in_default.is c.new.ensures.kind c.new.ensures.place c.refuse.ensures.state)

@@ -1,26 +1,23 @@
-use Rattle.std.proofs.Common.{refl, subst, sym}
+use Rattle.std.proofs.Common.{refl}
 use Rattle.std.proofs.lemmas.Result.{err_from_is_err_and}
-use Rattle.json5_de.specs.Brackets.{AreSigns, square}
+use Rattle.json5_de.specs.Brackets.{square}
 use Rattle.json5_de.specs.Lending.{seen}
-use Rattle.json5_de.proofs.Arrays.{square_signs, failed_of}
+use Rattle.json5_de.proofs.Arrays.{failed_of}
 use Rattle.json5_de.proofs.Next.{opened_seen}
 use Rattle.json5_de.proofs.Elements.{opens_array, refuses_array}
 use Rattle.json5_de.proofs.de.Deserializer.deserialize_seq.Goals as goal
-
-pub open-requires : goal.open-requires
-open-requires g c = subst AreSigns (sym c.square.ensures) square_signs
 
 pub returns-in_err-start : goal.returns-in_err-start
 returns-in_err-start g c =
     let (y, is, from) = err_from_is_err_and c.from_residual.result c.from_residual.ensures.1 in
     rw (is, from) (
       (refl, λ w. tt, c.in_err-start.ensures.failed),
-      record { lends = tt; opens = refuses_array _ seen c.args.self.now c.in_err-start.field-0.0 (rw c.square.ensures at c.in_err-start.ensures.opens) },
+      record { lends = tt; opens = refuses_array _ seen c.args.self.now c.in_err-start.field-0.0 c.in_err-start.ensures.opens },
     )
 
 pub returns : goal.returns
 returns g c =
-    let opens = rw c.square.ensures at c.in_ok-start.ensures.opens in
+    let opens = c.in_ok-start.ensures.opens in
     let (opened, due) = opens.opened in (
       (refl, λ w. refl, tt),
       record {

@@ -7,6 +7,8 @@ use Rattle.json5_de.proofs.Places.{refused_as, refused_after}
 use Rattle.json5_de.proofs.OtherCodes.{next_lacks}
 use Rattle.json5_de.proofs.Rows.{refused_other}
 use Rattle.json5_de.proofs.Arrays.{failed_of, after_gap_of, no_next, nowhere_next, nowhere_faulty, nowhere_after, goes_after}
+use Rattle.json5_de.specs.Brackets.{brackets_of}
+use Rattle.json5_de.proofs.Pairs.{signs_of}
 use Rattle.json5_de.proofs.de.Deserializer.goes_on.Goals as goal
 
 pub returns-in_err-begin-clause-refused : goal.returns-in_err-begin-clause-refused
@@ -17,17 +19,17 @@ returns-in_err-begin-clause-refused g c =
 pub returns-in_err-begin-clause-nowhere : goal.returns-in_err-begin-clause-nowhere
 returns-in_err-begin-clause-nowhere g c =
     let (y, is, from) = err_from_is_err_and c.from_residual.result c.from_residual.ensures.1 in
-    rw is (λ live. nowhere_faulty c.args.brackets c.requires c.args.due c.args.self.now c.in_err-begin.field-0.0 (c.in_err-begin.ensures.refused live))
+    rw is (λ live. nowhere_faulty (brackets_of c.args.kind) (signs_of c.args.kind) c.args.due c.args.self.now c.in_err-begin.field-0.0 (c.in_err-begin.ensures.refused live))
 
 pub returns-then-not-eat-clause-refused : goal.returns-then-not-eat-clause-refused
 returns-then-not-eat-clause-refused g c =
     let kept = c.if-not-eat.ensures.kept refl in
     refused_token c.args.self.now c.begin.new.self c.unexpected.result c.in_ok-begin.ensures.passed
-    (refused_as c.eat.new.self c.begin.new.self c.unexpected.result kept.0 (λ reason place f. no_next c.args.brackets c.args.due c.begin.new.self.unread reason place c.if-not-due.false kept.1 (c.if-at_closing.ensures.other refl) f) c.unexpected.ensures.fault)
+    (refused_as c.eat.new.self c.begin.new.self c.unexpected.result kept.0 (λ reason place f. no_next (brackets_of c.args.kind) c.args.due c.begin.new.self.unread reason place c.if-not-due.false kept.1 (c.if-at_closing.ensures.other refl) f) (rw c.brackets.ensures at c.unexpected.ensures.fault))
 
 pub returns-then-not-eat-clause-nowhere : goal.returns-then-not-eat-clause-nowhere
 returns-then-not-eat-clause-nowhere g c = λ live.
-    nowhere_next c.args.brackets c.requires c.args.due c.args.self.now.unread c.begin.new.self.unread c.if-not-due.false (after_gap_of c.args.self.now c.begin.new.self c.in_ok-begin.ensures.passed)
+    nowhere_next (brackets_of c.args.kind) (signs_of c.args.kind) c.args.due c.args.self.now.unread c.begin.new.self.unread c.if-not-due.false (after_gap_of c.args.self.now c.begin.new.self c.in_ok-begin.ensures.passed)
     (c.if-not-eat.ensures.kept refl).1 (c.if-at_closing.ensures.other refl)
 
 pub returns-in_err-begin-2-clause-refused : goal.returns-in_err-begin-2-clause-refused
@@ -44,12 +46,12 @@ returns-in_err-begin-2-clause-nowhere g c =
     let (y, is, from) = err_from_is_err_and c.from_residual-in_err-begin-2.result c.from_residual-in_err-begin-2.ensures.1 in
     let passed = c.in_ok-begin.ensures.passed in
     let took = c.if-not-eat.ensures.taken refl in
-    rw is (λ live. nowhere_after c.args.brackets c.requires c.args.due c.args.self.now c.begin.new.self c.eat.new.self c.in_err-begin-2.field-0.0 c.if-not-due.false passed (c.if-at_closing.ensures.other refl) took
+    rw is (λ live. nowhere_after (brackets_of c.args.kind) (signs_of c.args.kind) c.args.due c.args.self.now c.begin.new.self c.eat.new.self c.in_err-begin-2.field-0.0 c.if-not-due.false passed (c.if-at_closing.ensures.other refl) took
     (c.in_err-begin-2.ensures.refused (failed_of took.rest ∙ failed_of passed.rest ∙ passed.live)))
 
 pub returns-clause-sound : goal.returns-clause-sound
 returns-clause-sound g c =
-    goes_after c.args.brackets c.args.due c.at_closing-2.result c.args.self.now c.begin.new.self c.eat.new.self c.begin-2.new.self c.if-not-due.false c.in_ok-begin.ensures.passed (c.if-not-eat.ensures.taken refl)
+    goes_after (brackets_of c.args.kind) c.args.due c.at_closing-2.result c.args.self.now c.begin.new.self c.eat.new.self c.begin-2.new.self c.if-not-due.false c.in_ok-begin.ensures.passed (c.if-not-eat.ensures.taken refl)
     c.in_ok-begin-2.ensures.passed c.at_closing-2.ensures.found c.at_closing-2.ensures.other
 
 pub returns-then-not-eat-clause-steady : goal.returns-then-not-eat-clause-steady
@@ -57,7 +59,7 @@ returns-then-not-eat-clause-steady g c =
     let passed = c.in_ok-begin.ensures.passed in
     record {
       same_text = input_of c.unexpected.ensures.state ∙ input_of (c.if-not-eat.ensures.kept refl).0 ∙ input_of passed.rest;
-      unprompted = refused_other (next_lacks c.args.brackets c.requires c.args.due) c.args.self.now c.unexpected.result (returns-then-not-eat-clause-refused g c);
+      unprompted = refused_other (next_lacks (brackets_of c.args.kind) (signs_of c.args.kind) c.args.due) c.args.self.now c.unexpected.result (returns-then-not-eat-clause-refused g c);
       before = λ h. absurd (true_false h passed.live);
     }
 

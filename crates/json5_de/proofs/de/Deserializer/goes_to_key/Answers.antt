@@ -1,34 +1,29 @@
-use Rattle.std.proofs.Common.{refl, subst, sym}
+use Rattle.std.proofs.Common.{refl}
 use Rattle.std.proofs.lemmas.Result.{err_from_is_err_and}
-use Rattle.json5_de.specs.Brackets.{AreSigns}
-use Rattle.json5_de.proofs.Pairs.{curly_signs}
 use Rattle.json5_de.proofs.PairCodes.{no_pair_next, no_pair_here, refused_next_key, refused_key_here}
 use Rattle.json5_de.proofs.de.Deserializer.goes_to_key.Goals as goal
-
-pub goes_on-requires : goal.goes_on-requires
-goes_on-requires g c = subst AreSigns (sym c.curly.ensures) curly_signs
 
 pub returns-in_err-goes_on-clause-refused : goal.returns-in_err-goes_on-clause-refused
 returns-in_err-goes_on-clause-refused g c =
     let (y, is, from) = err_from_is_err_and c.from_residual.result c.from_residual.ensures.1 in
-    rw (is, from) (refused_next_key c.args.due c.args.self.now c.in_err-goes_on.field-0.0 (rw c.curly.ensures at c.in_err-goes_on.ensures.refused))
+    rw (is, from) (refused_next_key c.args.due c.args.self.now c.in_err-goes_on.field-0.0 c.in_err-goes_on.ensures.refused)
 
 pub returns-in_err-goes_on-clause-nowhere : goal.returns-in_err-goes_on-clause-nowhere
 returns-in_err-goes_on-clause-nowhere g c =
     let (y, is, from) = err_from_is_err_and c.from_residual.result c.from_residual.ensures.1 in
-    rw is (λ live. no_pair_next c.args.due c.args.self.now.unread (rw c.curly.ensures at c.in_err-goes_on.ensures.nowhere live))
+    rw is (λ live. no_pair_next c.args.due c.args.self.now.unread (c.in_err-goes_on.ensures.nowhere live))
 
 pub returns-then-not-at_key-clause-refused : goal.returns-then-not-at_key-clause-refused
 returns-then-not-at_key-clause-refused g c =
-    let at = rw (c.if-not-branch.false, c.curly.ensures) at c.in_ok-goes_on.ensures.sound in
+    let at = rw c.if-not-branch.false at c.in_ok-goes_on.ensures.sound in
     refused_key_here c.args.due c.args.self.now c.goes_on.new.self c.unexpected.result at (c.if-not-at_key.ensures.other refl) c.unexpected.ensures.fault
 
 pub returns-then-not-at_key-clause-nowhere : goal.returns-then-not-at_key-clause-nowhere
 returns-then-not-at_key-clause-nowhere g c = λ live.
-    let at = rw (c.if-not-branch.false, c.curly.ensures) at c.in_ok-goes_on.ensures.sound in
+    let at = rw c.if-not-branch.false at c.in_ok-goes_on.ensures.sound in
     no_pair_here c.args.due c.args.self.now.unread c.goes_on.new.self.unread at.begun at.inside (c.if-not-at_key.ensures.other refl)
 
 pub returns-clause-sound : goal.returns-clause-sound
 returns-clause-sound g c =
-    let at = rw (c.if-not-branch.false, c.curly.ensures) at c.in_ok-goes_on.ensures.sound in
+    let at = rw c.if-not-branch.false at c.in_ok-goes_on.ensures.sound in
     record { member = at; begins = c.if-not-at_key.ensures.found refl }

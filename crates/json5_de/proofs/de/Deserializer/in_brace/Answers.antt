@@ -1,18 +1,13 @@
-use Rattle.std.proofs.Common.{◌∙◌, subst, sym}
+use Rattle.std.proofs.Common.{◌∙◌}
 use Rattle.std.proofs.lemmas.Result.{err_from_is_err_and}
-use Rattle.json5_de.specs.Brackets.{AreSigns}
-use Rattle.json5_de.proofs.Pairs.{curly_signs}
 use Rattle.json5_de.proofs.VariantContents.{brace_missing, content_refused}
 use Rattle.json5_de.proofs.de.Deserializer.in_brace.Goals as goal
-
-pub close_last-requires : goal.close_last-requires
-close_last-requires g c = subst AreSigns (sym c.curly.ensures) curly_signs
 
 pub returns-in_err-close_last-in-Ok : goal.returns-in_err-close_last-in-Ok
 returns-in_err-close_last-in-Ok g c =
     let (y, is, from) = err_from_is_err_and c.from_residual.result c.from_residual.ensures.1 in
     let t = g.T.Deserialize in
-    let k = rw c.curly.ensures at c.in_err-close_last-in-Ok.ensures in
+    let k = c.in_err-close_last-in-Ok.ensures in
     rw (is, from) (brace_missing t.content t.convert t.free t.refuses c.args.start c.args.self.now c.deserialize.new.de c.close_last.new.self c.in-Ok.value c.in_err-close_last-in-Ok.field-0.0 c.in-Ok.ensures.sound k.closes k.same_text k.failed)
 
 pub returns-in-Err : goal.returns-in-Err

@@ -1,20 +1,14 @@
-use Rattle.std.proofs.Common.{subst, sym}
 use Rattle.std.proofs.lemmas.Result.{err_from_is_err_and}
-use Rattle.json5_de.specs.Brackets.{AreSigns}
 use Rattle.json5_de.specs.Convert.{spelled}
-use Rattle.json5_de.proofs.Pairs.{curly_signs}
 use Rattle.json5_de.proofs.VariantNames.{not_opened_keyed, only_key_refused}
 use Rattle.json5_de.proofs.de.Deserializer.keyed_variant.Goals as goal
-
-pub open-requires : goal.open-requires
-open-requires g c = subst AreSigns (sym c.curly.ensures) curly_signs
 
 pub returns-in_err-start : goal.returns-in_err-start
 returns-in_err-start g c =
     let (y, is, from) = err_from_is_err_and c.from_residual.result c.from_residual.ensures.1 in
-    rw (is, from) (not_opened_keyed (spelled c.args.variants.now) _ c.args.self.now c.open.new.self c.in_err-start.field-0.0 (rw c.curly.ensures at c.in_err-start.ensures.opens) c.in_err-start.ensures.failed)
+    rw (is, from) (not_opened_keyed (spelled c.args.variants.now) _ c.args.self.now c.open.new.self c.in_err-start.field-0.0 c.in_err-start.ensures.opens c.in_err-start.ensures.failed)
 
 pub returns-in-Err : goal.returns-in-Err
 returns-in-Err g c =
-    only_key_refused (spelled c.args.variants.now) c.args.self.now c.open.new.self c.only_key.new.self c.in_ok-start.start (rw c.curly.ensures at c.in_ok-start.ensures.opens) c.in-Err.e c.with_position.result c.position_of.result c.in-Err.ensures
+    only_key_refused (spelled c.args.variants.now) c.args.self.now c.open.new.self c.only_key.new.self c.in_ok-start.start c.in_ok-start.ensures.opens c.in-Err.e c.with_position.result c.position_of.result c.in-Err.ensures
     c.with_position.ensures c.position_of.ensures.inside

@@ -22,7 +22,7 @@ pub returns-in_err-colon : goal.returns-in_err-colon
 returns-in_err-colon g c =
     let (y, is, from) = err_from_is_err_and c.from_residual-in_err-colon.result c.from_residual-in_err-colon.ensures.1 in
     let e = c.in_err-colon.ensures in
-    rw (is, from) (colon_refused (spelled c.args.variants.now) c.args.self.now c.begin.new.self c.key_variant.new.self c.colon.new.self c.in_ok-variant.variant c.in_ok-begin.ensures.passed c.in_ok-variant.ensures.sound c.in_err-colon.field-0.0 e.refused e.complete e.failed e.unprompted)
+    rw (is, from) (colon_refused (spelled c.args.variants.now) c.args.self.now c.begin.new.self c.key_variant.new.self c.colon.new.self c.in_ok-variant.variant c.in_ok-begin.ensures.passed c.in_ok-variant.ensures.sound c.in_err-colon.field-0.0 e.refused e.complete e.failed e.steady.unprompted)
 
 pub returns : goal.returns
 returns g c = only_key_read (spelled c.args.variants.now) c.args.self.now c.begin.new.self c.key_variant.new.self c.colon.new.self c.in_ok-variant.variant c.in_ok-begin.ensures.passed c.in_ok-variant.ensures.sound c.in_ok-colon.ensures.passed

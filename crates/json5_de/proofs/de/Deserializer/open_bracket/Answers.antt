@@ -1,6 +1,7 @@
 use Rattle.std.proofs.Common.{refl}
 use Rattle.json5_de.specs.Passing.{kind_of}
 use Rattle.json5_de.proofs.PassingValues.{bracket_too_deep, bracket_opened}
+use Rattle.json5_de.proofs.PassingSteps.{opening_is}
 use Rattle.json5_de.proofs.de.Deserializer.open_bracket.Goals as goal
 
 pub returns-then-not-enter : goal.returns-then-not-enter
@@ -10,4 +11,4 @@ returns-then-not-enter g c =
     c.position_of.ensures.inside c.new_at-error.ensures.kind c.new_at-error.ensures.place c.refuse.ensures.state)
 
 pub returns : goal.returns
-returns g c = bracket_opened c.args.self.now c.enter.new.self c.eat.new.self _ c.opening.result c.eat.result c.requires.ready c.requires.sign (c.if-not-enter.ensures.entered refl) c.offset-start.ensures.counted c.opening.ensures c.eat.ensures.taken c.eat.ensures.kept
+returns g c = bracket_opened c.args.self.now c.enter.new.self c.eat.new.self _ c.brackets.result.opening c.eat.result c.requires.ready c.requires.sign (c.if-not-enter.ensures.entered refl) c.offset-start.ensures.counted (opening_is c.args.kind c.brackets.result c.brackets.ensures) c.eat.ensures.taken c.eat.ensures.kept

@@ -1,3 +1,4 @@
+use Rattle.json5_de.proofs.PassingSteps.{string_step, number_step}
 use Rattle.json5_de.proofs.PassingValues.{null_value, true_value, false_value, text_value, number_value, other_value}
 use Rattle.json5_de.proofs.de.Deserializer.pass_scalar.Goals as goal
 
@@ -11,10 +12,18 @@ pub returns-in-False : goal.returns-in-False
 returns-in-False g c = false_value c.args.self.now c.word-in-False.new.self c.args.c c.requires.first c.kind_at.result c.kind_at.ensures c.word-in-False.result c.requires.ready c.word-in-False.ensures.failed c.in-False.is c.word-in-False.ensures.taken c.word-in-False.ensures.refused
 
 pub returns-in-Text : goal.returns-in-Text
-returns-in-Text g c = text_value c.args.self.now c.pass_string.new.self c.args.c c.requires.first c.kind_at.result c.kind_at.ensures c.pass_string.result c.in-Text.is c.pass_string.ensures
+returns-in-Text g c =
+    let old = c.args.self.now in
+    let new = c.skip_string.new.self in
+    let e = c.skip_string.ensures in
+    text_value old new c.args.c c.requires.first c.kind_at.result c.kind_at.ensures c.skip_string.result c.in-Text.is (λ d r x h. string_step old new c.skip_string.result d r c.requires.ready x h e.taken e.refused e.failed e.complete)
 
 pub returns-in-Number : goal.returns-in-Number
-returns-in-Number g c = number_value c.args.self.now c.pass_number.new.self c.args.c c.requires.first c.kind_at.result c.kind_at.ensures c.pass_number.result c.in-Number.is c.pass_number.ensures
+returns-in-Number g c =
+    let old = c.args.self.now in
+    let new = c.skip_number.new.self in
+    let e = c.skip_number.ensures in
+    number_value old new c.args.c c.requires.first c.kind_at.result c.kind_at.ensures c.skip_number.result c.in-Number.is (λ d r x h. number_step old new c.skip_number.result d r c.requires.ready x h e.taken e.refused e.failed e.complete)
 
 pub returns-in-Other : goal.returns-in-Other
 returns-in-Other g c =

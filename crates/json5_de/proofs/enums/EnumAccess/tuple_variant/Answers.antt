@@ -1,19 +1,16 @@
-use Rattle.std.proofs.Common.{refl, subst, sym}
+use Rattle.std.proofs.Common.{refl}
 use Rattle.std.proofs.lemmas.Result.{err_from_is_err_and}
-use Rattle.json5_de.specs.Brackets.{AreSigns, square}
+use Rattle.json5_de.specs.Brackets.{square}
 use Rattle.json5_de.specs.Lending.{seen, seen_enum}
-use Rattle.json5_de.proofs.Arrays.{square_signs, failed_of}
+use Rattle.json5_de.proofs.Arrays.{failed_of}
 use Rattle.json5_de.proofs.Next.{opened_seen}
 use Rattle.json5_de.proofs.VariantEnds.{tuple_opened, tuple_not_opened, given_up_lent}
 use Rattle.json5_de.proofs.enums.EnumAccess.tuple_variant.Goals as goal
 
-pub open_content-requires : goal.open_content-requires
-open_content-requires g c = subst AreSigns (sym c.square.ensures) square_signs
-
 pub returns-in_err-start : goal.returns-in_err-start
 returns-in_err-start g c =
     let (y, is, from) = err_from_is_err_and c.from_residual.result c.from_residual.ensures.1 in
-    let opens = rw (c.square.ensures, c.set_failed.ensures) at c.in_err-start.ensures.opens in
+    let opens = rw c.set_failed.ensures at c.in_err-start.ensures.opens in
     rw (is, from) (
       (refl, λ w. tt, given_up_lent c.args.self.de.now c.set_failed.new.self c.open_content.new.self c.set_failed.ensures c.in_err-start.ensures.failed),
       record { lends = tt; same_reference = tt; blocks = tt; brace = tt; opens = tuple_not_opened _ seen (seen_enum c.args.self) c.in_err-start.field-0.0 opens },
@@ -21,7 +18,7 @@ returns-in_err-start g c =
 
 pub returns : goal.returns
 returns g c =
-    let opens = rw (c.square.ensures, c.set_failed.ensures) at c.in_ok-start.ensures.opens in
+    let opens = rw c.set_failed.ensures at c.in_ok-start.ensures.opens in
     let (opened, due) = opens.opened in (
       (refl, λ w. refl, tt),
       record {

@@ -1,14 +1,15 @@
-use Rattle.std.proofs.Common.{◌≡◌, None, false, length}
+use Rattle.std.proofs.Common.{◌≡◌, None, true, false, length}
 use Rattle.json5_de.specs.State.{SameText}
 use Rattle.json5_de.specs.Lending.{seen_map, HoldsTheSameMap}
 use Rattle.json5_de.proofs.Structs.{ReadingStruct}
-use Rattle.json5_de.proofs.fields.MapAccess+I.read_fields.Given as goal
+use Rattle.json5_de.proofs.map.MapAccess.read_fields.Given as goal
 
 abbrev pub invariant-loop-name : goal.invariant-loop-name
 invariant-loop-name g l = record {
   same_reference : HoldsTheSameMap l.fn.self l.self;
   start : (seen_map l.self).at.start ≡ (seen_map l.fn.self).at.start;
   same_text : SameText (seen_map l.fn.self).at.reader (seen_map l.self).at.reader;
+  failed : (seen_map l.fn.self).at.reader.failed ≡ true → (seen_map l.self).at.reader.failed ≡ true;
   no_key : (seen_map l.self).pending ≡ false;
   reading : ReadingStruct g.F.Fields.step (g.F.Fields.content l.fn.fields) (seen_map l.fn.self) (g.F.Fields.content l.fields) None (seen_map l.self);
 }
