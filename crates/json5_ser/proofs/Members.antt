@@ -131,6 +131,10 @@ module _ {W : Type 0} where
   field_refused {A} {t} {u} {k} {name} {at} {c} {n} {fs} {e} result h s is {last} {lent} dropped follows =
       remains_refused t name at last lent c n (fields (field k u fs)) (fields fs) (entry_out (seen c).depth k u) false e result (first_entry k u fs (inner (in_variant c) at.depth) (seen c).depth (has_member c) h.depth) h s is dropped follows
 
+  -- fields that may be left out: what remains where it is known which are
+  pub same_fields : {t : Written} {name : GName} {at : Seen} {c : SerializeCollection W} {fs gs : Fields} → fs ≡ gs → Remains t name at c (fields fs) → Remains t name at c (fields gs)
+  same_fields {t} {name} {at} {c} e h = subst (λ l. Remains t name at c (fields l)) e h
+
   pub same_entries : {K V : Type 0} (key : K → Key) (tree : V → Written) (es rest : List (K × V)) {t : Written} {name : GName} {at : Seen} {c : SerializeCollection W} → es ≡ rest → Remains t name at c (fields (fields_of key tree es)) → Remains t name at c (fields (fields_of key tree rest))
   same_entries key tree es rest {t} {name} {at} {c} e h = subst (λ l. Remains t name at c (fields (fields_of key tree l))) e h
 
