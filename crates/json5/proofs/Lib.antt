@@ -2,6 +2,7 @@
 pub mod DocumentsRead
 pub mod AnyTexts
 pub mod Formats
+pub mod Names
 pub mod ReadsBack
 pub mod ValuesBack
 pub mod MapsBack
@@ -12,5 +13,7 @@ pub use Rattle.json5_de.proofs.Loops
 pub use Rattle.json5_de.proofs.SoMany
 pub use Rattle.json5_de.proofs.ListFaults
 pub use Rattle.json5_de.proofs.Structs
+pub use Rattle.json5_de.proofs.StructFaults
+pub use Rattle.json5_de.proofs.OwnEnums
 pub use Rattle.json5_ser.proofs.Remains
 pub use Rattle.json5_ser.proofs.Members

@@ -40,7 +40,9 @@ pub use Rattle.json5_de.specs.Maps
 pub use Rattle.json5_de.specs.MapFaults
 pub use Rattle.json5_de.specs.Fields
 pub use Rattle.json5_de.specs.Plans
+pub use Rattle.json5_de.specs.StructFaults
 pub use Rattle.json5_de.specs.Enums
+pub use Rattle.json5_de.specs.Variants
 pub use Rattle.json5_de.specs.Lending
 pub use Rattle.json5_de.specs.Texts
 -- Writing.

@@ -1,0 +1,23 @@
+-- Names of fields and variants in ASCII, which are written by their characters and read by their bytes.
+use Rattle.std.proofs.Common.{◌≡◌, ◌<◌, ℕ, zero, suc, List, [], ◌∷◌, Bool, true, false, ◌&&◌, refl, arith}
+use Rattle.std.specs.Char.{is_ascii}
+use Rattle.std.specs.List.{list_all}
+use Rattle.std.specs.Str.{IsAscii, chars, encode_utf8_all}
+use Rattle.std.proofs.lemmas.Bool.Decides.{nat_tests}
+use Rattle.std.proofs.lemmas.Str.{encodes-chars, IsUtf8-from_ascii}
+
+both : (a b : Bool) → (a && b) ≡ true → (a ≡ true) × (b ≡ true)
+both true b e = (refl, e)
+both false b e = absurd (cc)
+
+below : (c : ℕ) → is_ascii c ≡ true → c < 128
+below c e = grind (arith, nat_tests)
+
+all_below : (name : List ℕ) → list_all is_ascii name ≡ true → IsAscii name
+all_below [] e i = omega arith
+all_below (c ∷ cs) e zero = below c (both (is_ascii c) (list_all is_ascii cs) e).0
+all_below (c ∷ cs) e (suc i) = all_below cs (both (is_ascii c) (list_all is_ascii cs) e).1 i
+
+-- a name reads back: at a name that is given the second argument is `refl`
+pub name_back : (name : List ℕ) → list_all is_ascii name ≡ true → encode_utf8_all (chars name) ≡ name
+name_back name e = encodes-chars name (IsUtf8-from_ascii name (all_below name e))
