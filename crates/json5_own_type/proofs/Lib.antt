@@ -1,1 +1,2 @@
 pub mod EndpointsBack
+pub mod SettingsBack

@@ -1,5 +1,7 @@
 pub mod Accepted
 pub mod Articles
+pub mod Colors
 pub mod Reminders
 pub mod Settings
+pub mod SettingsWritten
 pub mod Endpoints

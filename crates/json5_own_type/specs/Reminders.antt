@@ -1,10 +1,54 @@
--- What is written of a reminder.
-use Rattle.std.specs.Prelude.{ℕ, String, codes, string_bytes}
+-- What is read and written of a reminder.
+use Rattle.std.specs.Prelude.{ℕ, ◌^◌, List, [], ◌∷◌, Option, String, codes, string_bytes}
 use Rattle.std.specs.declared.alloc.Global.{Global}
 use Rattle.std.specs.Str.{chars}
 use Rattle.json5.specs.WrittenTrees.{Written, Elements, element, no_element, Fields, field, no_field, named, text, natural, newtype_variant, tuple_variant, struct_variant}
+use Rattle.json5.specs.Trees.{Tree}
+use Rattle.json5.specs.Members.{array_of, object_of}
+use Rattle.json5.specs.Convert.{text_of, unsigned_below}
+use Rattle.json5.specs.ConvertLists.{first_of, last_of}
+use Rattle.json5.specs.Plans.{Plan, required, and_field}
+use Rattle.json5.specs.Variants.{Variant, unit, holding}
 use Rattle.json5_own_type.specs.declared.reminders.Reminder.{Reminder}
 use Rattle.json5_own_type.specs.declared.reminders.Reminder.TheVariants.{Off, Daily, Weekly, Once}
+
+-- ---- what is read
+
+-- what a reminder stands for
+pub data Reminded : Type 0 where
+  off : Reminded
+  daily : ℕ → Reminded
+  weekly : ℕ × ℕ → Reminded
+  once : List ℕ × ℕ → Reminded
+
+abbrev pub reminded : Reminder → Reminded
+reminded Off = off
+reminded (Daily hour) = daily hour
+reminded (Weekly day hour) = weekly (day, hour)
+reminded (Once day hour) = once (string_bytes day, hour)
+
+abbrev pub byte_of : Tree → Option ℕ
+byte_of = unsigned_below (2 ^ 8)
+
+abbrev pub once_fields_read : Plan (Option (List ℕ) × Option ℕ) (List ℕ × ℕ)
+once_fields_read = and_field (required (codes "day") text_of) (required (codes "hour") byte_of)
+
+abbrev pub off_read : Variant Reminded
+off_read = unit (codes "off") off
+
+abbrev pub daily_read : Variant Reminded
+daily_read = holding (codes "daily") byte_of daily
+
+abbrev pub weekly_read : Variant Reminded
+weekly_read = holding (codes "weekly") (array_of (first_of byte_of (last_of byte_of))) weekly
+
+abbrev pub once_read : Variant Reminded
+once_read = holding (codes "once") (object_of once_fields_read.convert) once
+
+abbrev pub reminders : List (Variant Reminded)
+reminders = off_read ∷ daily_read ∷ weekly_read ∷ once_read ∷ []
+
+-- ---- what is written
 
 abbrev pub weekly_elements : ℕ → ℕ → Elements
 weekly_elements day hour = element (natural day) (element (natural hour) no_element)

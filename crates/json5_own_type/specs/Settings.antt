@@ -1,9 +1,12 @@
--- What a server's settings take of an object, a field a line.
+-- What a server's settings take of an object, and how they are refused, a field a line.
 use Rattle.std.specs.Prelude.{ℕ, ◌^◌, List, Option, codes}
 use Rattle.json5.specs.Trees.{Tree}
+use Rattle.json5.specs.Error.{Error}
 use Rattle.json5.specs.Convert.{text_of, unsigned_below}
 use Rattle.json5.specs.Own.{and_then}
+use Rattle.json5.specs.State.{State}
 use Rattle.json5.specs.Plans.{Plan, required, optional, with_default, and_field}
+use Rattle.json5.specs.StructFaults.{ValueFaults, of_field, or_of, of_any}
 use Rattle.json5_own_type.specs.Accepted.{above_zero}
 
 -- a port that isn't 0
@@ -15,3 +18,11 @@ settings =
     and_field (required (codes "host") text_of)
     (and_field (with_default 80 (codes "port") port_of)
     (optional (codes "label") text_of))
+
+-- how a value is refused, by its name, where texts and ports are refused so
+abbrev pub settings_faults : (text port : State → Error → State → Type 0) → ValueFaults
+settings_faults text port =
+    or_of (of_field (codes "host") text_of text)
+    (or_of (of_field (codes "port") port_of port)
+    (or_of (of_field (codes "label") text_of text)
+    of_any))

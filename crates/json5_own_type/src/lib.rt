@@ -3,11 +3,13 @@
 
 mod articles;
 mod at_most;
+mod colors;
 mod ids;
 mod levels;
 mod ports;
 mod reminders;
 mod settings;
+mod settings_written;
 mod tags;
 
 ghost use Rattle.std.specs.Prelude.{◌≡◌, true};
@@ -17,13 +19,15 @@ ghost use Rattle.json5.specs.Faults.{EndsWithOrMemory};
 
 pub use articles::Article;
 pub use at_most::AtMost;
+pub use colors::{Color, colors_read_back};
 pub use ids::Id;
-use json5::de::value_codes;
+use json5::de::{Ending, value_codes};
 use json5::{Deserialize, Deserializer, Error, Input, Result, SeqAccess};
 pub use levels::Level;
 pub use ports::{Endpoint, OpenPort, PortRange, endpoint_again};
 pub use reminders::Reminder;
 pub use settings::Settings;
+pub use settings_written::settings_again;
 use std::alloc::Global;
 pub use tags::Labels;
 
@@ -37,7 +41,7 @@ pub struct Bounds<T> {
 }
 
 /// The fault of a list that ended too early, at its bracket.
-fn missing<I: Input>(seq: &SeqAccess<'_, I>, alloc: Global, field: &str) -> Error
+fn missing<I: Input, E: Ending>(seq: &SeqAccess<'_, I, E>, alloc: Global, field: &str) -> Error
     ensures { IsUnprompted result }
 {
     match Error::custom(alloc, format_args!("missing field `{field}`")) {

@@ -1,9 +1,15 @@
-//! Reminders, which are written as an enum is: each variant by its name.
+//! Reminders, which are read and written as an enum is: each variant by its name.
 
+ghost use Rattle.json5.specs.Lending.{seen_enum};
+ghost use Rattle.json5.specs.Variants.{FinishesVariant};
 ghost use Rattle.json5.specs.Writes.{WritesTree};
-ghost use Rattle.json5_own_type.specs.Reminders.{weekly_tree, once_tree};
+ghost use Rattle.json5_own_type.specs.Reminders.{reminded, off_read, daily_read, weekly_tree, once_tree};
 
-use json5::{Result, Serialize, Serializer};
+use crate::missing;
+use json5::de::{Ending, Fields};
+use json5::{
+    Deserialize, Deserializer, EnumAccess, Input, MapAccess, Result, Serialize, Serializer,
+};
 use std::io::Write;
 
 /// When one is reminded.
@@ -22,6 +28,91 @@ pub enum Reminder {
         /// The hour.
         hour: u8,
     },
+}
+
+/// The name of a variant, and then its content.
+impl<I: Input> Deserialize<I> for Reminder {
+    ghost use Rattle.json5.specs.Variants.{one_of};
+    ghost use Rattle.json5_own_type.specs.Reminders.{Reminded, reminders};
+
+    ghost Content = { Reminded };
+
+    ghost content = { reminded };
+
+    ghost convert = { one_of reminders };
+
+    fn deserialize(de: &mut Deserializer<I>) -> Result<Reminder> {
+        let alloc = de.allocator();
+        let access = de.deserialize_enum("Reminder", &["off", "daily", "weekly", "once"])?;
+        match access.variant() {
+            0 => read_off(access),
+            1 => read_daily(access),
+            2 => {
+                let mut seq = access.tuple_variant(2)?;
+                let Some(day) = seq.next_element::<u8>()? else {
+                    return Err(missing(&seq, alloc, "day"));
+                };
+                let Some(hour) = seq.next_element::<u8>()? else {
+                    return Err(missing(&seq, alloc, "hour"));
+                };
+                seq.end()?;
+                Ok(Reminder::Weekly(day, hour))
+            }
+            _ => {
+                let mut found = Found {
+                    day: None,
+                    hour: None,
+                };
+                let mut map = access.struct_variant(&["day", "hour"])?;
+                map.read_fields(&mut found)?;
+                let day = map.required_field("day", found.day)?;
+                let hour = map.required_field("hour", found.hour)?;
+                map.end()?;
+                Ok(Reminder::Once { day, hour })
+            }
+        }
+    }
+}
+
+fn read_off<I: Input>(access: EnumAccess<'_, I>) -> Result<Reminder>
+    ensures { FinishesVariant reminded off_read.convert (seen_enum access.entry) access.exit.0.now result }
+{
+    access.unit_variant()?;
+    Ok(Reminder::Off)
+}
+
+fn read_daily<I: Input>(access: EnumAccess<'_, I>) -> Result<Reminder>
+    ensures { FinishesVariant reminded daily_read.convert (seen_enum access.entry) access.exit.0.now result }
+{
+    let hour = access.newtype_variant::<u8>()?;
+    Ok(Reminder::Daily(hour))
+}
+
+/// The fields of `once`, as far as they were read.
+#[derive(Drop)]
+struct Found {
+    day: Option<String>,
+    hour: Option<u8>,
+}
+
+impl<I: Input> Fields<I> for Found {
+    ghost use Rattle.std.specs.Prelude.{ℕ, List, Option, string_bytes};
+    ghost use Rattle.json5.specs.ConvertLists.{if_some};
+    ghost use Rattle.json5_own_type.specs.Reminders.{once_fields_read};
+
+    ghost Content = { Option (List ℕ) × Option ℕ };
+
+    ghost content = { λ f. (if_some string_bytes f.day, if_some (λ hour. hour) f.hour) };
+
+    ghost step = { once_fields_read.step };
+
+    fn read<E: Ending>(&mut self, map: &mut MapAccess<'_, I, E>, name: &str) -> Result<()> {
+        match name {
+            "day" => map.next_field(name, &mut self.day),
+            "hour" => map.next_field(name, &mut self.hour),
+            _ => map.skip_value(),
+        }
+    }
 }
 
 /// A text for the variant that holds nothing, and else an object with the variant's name as its one key.

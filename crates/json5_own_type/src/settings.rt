@@ -1,8 +1,8 @@
 //! What a server is started with.
 
 use crate::ports::OpenPort;
-use json5::de::Fields;
-use json5::{Deserialize, Deserializer, IgnoredAny, Input, MapAccess, Result};
+use json5::de::{Ending, Fields};
+use json5::{Deserialize, Deserializer, Input, MapAccess, Result};
 
 /// What a server is started with, written as an object: `{ host: 'localhost', port: 8080 }`.
 #[derive(Drop)]
@@ -26,7 +26,7 @@ struct Found {
 impl<I: Input> Fields<I> for Found {
     ghost use Rattle.std.specs.Prelude.{ℕ, List, Option, string_bytes};
     ghost use Rattle.json5.specs.ConvertLists.{if_some};
-    ghost use Rattle.json5_own_type.specs.Settings.{settings};
+    ghost use Rattle.json5_own_type.specs.Settings.{settings, settings_faults};
 
     ghost Content = { Option (List ℕ) × (Option ℕ × Option (List ℕ)) };
 
@@ -34,7 +34,9 @@ impl<I: Input> Fields<I> for Found {
 
     ghost step = { settings.step };
 
-    fn read(&mut self, map: &mut MapAccess<'_, I>, name: &str) -> Result<()> {
+    ghost refuses = { settings_faults ⟦<String as Deserialize<I>>⟧.refuses ⟦<OpenPort as Deserialize<I>>⟧.refuses };
+
+    fn read<E: Ending>(&mut self, map: &mut MapAccess<'_, I, E>, name: &str) -> Result<()> {
         match name {
             "host" => map.next_field(name, &mut self.host),
             "port" => map.next_field(name, &mut self.port),
@@ -49,6 +51,7 @@ impl<I: Input> Deserialize<I> for Settings {
     ghost use Rattle.std.specs.Prelude.{ℕ, List, Option, string_bytes};
     ghost use Rattle.json5.specs.Members.{object_of};
     ghost use Rattle.json5.specs.ConvertLists.{if_some};
+    ghost use Rattle.json5.specs.StructFaults.{RefusesStruct};
     ghost use Rattle.json5_own_type.specs.Settings.{settings};
 
     ghost Content = { List ℕ × (ℕ × Option (List ℕ)) };
@@ -56,6 +59,8 @@ impl<I: Input> Deserialize<I> for Settings {
     ghost content = { λ s. (string_bytes s.host, (s.port.number, if_some string_bytes s.label)) };
 
     ghost convert = { object_of settings.convert };
+
+    ghost refuses = { RefusesStruct settings ⟦<Found as Fields<I>>⟧.refuses };
 
     fn deserialize(de: &mut Deserializer<I>) -> Result<Settings> {
         let mut found = Found {
