@@ -2,6 +2,8 @@
 #![tactic(auto)]
 
 mod answers;
+mod hand_enums;
+mod hand_structs;
 mod reads;
 mod rows;
 mod scans;

@@ -1,6 +1,8 @@
 //! Reading a text as a type.
 
 use crate::answers::{Answer, Any, Digits, shown, unknown};
+use crate::hand_enums::F;
+use crate::hand_structs::{Config, Letters, Person};
 use indexmap::IndexMap;
 use json5::{ByteBuf, CowStr, Decimal, Deserialize, Deserializer, IgnoredAny, from_str};
 use json5_own_type::{Bounds, Point, Port};
@@ -86,6 +88,16 @@ fn read_hashed(alloc: Global, name: &str, text: &str) -> Answer {
 fn read_by_others(alloc: Global, name: &str, text: &str) -> Answer {
     read_as!(name, alloc, text; BTreeMap<ByteBuf, u8>, HashMap<ByteBuf, i32>);
     read_as!(name, alloc, text; BTreeMap<char, u8>, IndexMap<Decimal, u8>);
+    read_struct(alloc, name, text)
+}
+
+fn read_struct(alloc: Global, name: &str, text: &str) -> Answer {
+    read_as!(name, alloc, text; Person, Letters, Config);
+    read_enum(alloc, name, text)
+}
+
+fn read_enum(alloc: Global, name: &str, text: &str) -> Answer {
+    read_as!(name, alloc, text; F);
     unknown(alloc)
 }
 

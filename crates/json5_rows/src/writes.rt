@@ -1,6 +1,8 @@
 //! Writing what was read.
 
 use crate::answers::{Answer, unknown};
+use crate::hand_enums::F;
+use crate::hand_structs::Config;
 use indexmap::IndexMap;
 use json5::{ByteBuf, CowStr, Decimal, Deserialize, Serialize, Value, from_str, to_string};
 use std::alloc::Global;
@@ -41,6 +43,11 @@ fn write_map(alloc: Global, name: &str, text: &str) -> Answer {
     write_as!(name, alloc, text; BTreeMap<String, u8>, IndexMap<String, u8>);
     write_as!(name, alloc, text; BTreeMap<u8, String>, BTreeMap<bool, u8>, BTreeMap<char, u8>);
     write_as!(name, alloc, text; IndexMap<Decimal, u8>, BTreeMap<ByteBuf, u8>);
+    write_struct(alloc, name, text)
+}
+
+fn write_struct(alloc: Global, name: &str, text: &str) -> Answer {
+    write_as!(name, alloc, text; Config, F);
     unknown(alloc)
 }
 

@@ -1,8 +1,9 @@
 //! Types of one's own: what they accept, and where they refuse.
 
-use json5::{Deserialize, Result, Spanned, from_str};
-use json5_own_type::{AtMost, Endpoint, Labels, Level, OpenPort, PortRange};
+use json5::{Deserialize, Result, Spanned, from_str, to_string};
+use json5_own_type::{AtMost, Color, Endpoint, Labels, Level, OpenPort, PortRange, Settings};
 use std::alloc::Global;
+use std::collections::BTreeMap;
 use std::test::Fail;
 
 /// Whether the type refuses the text with a fault that is printed so.
@@ -150,5 +151,41 @@ fn spans_are_in_bytes(alloc: Global) -> Result<bool> {
 #[test]
 fn spans_count_bytes(rt: HostRuntime) -> std::result::Result<(), Fail> {
     assert!(rt; spans_are_in_bytes(rt.alloc())?);
+    Ok(())
+}
+
+/// Whether colors are read and written as keys, and another name is refused where the key stands.
+fn colors_are_keys(alloc: Global) -> Result<bool> {
+    let shares = from_str::<BTreeMap<Color, u8>>(alloc, "{blue: 2, 'red': 1}")?;
+    Ok(
+        to_string(alloc, &shares)?.as_str() == "{\n  red: 1,\n  blue: 2,\n}"
+            && refuses::<BTreeMap<Color, u8>>(
+                alloc,
+                "{red: 1,\n  pink: 2}",
+                "unknown variant `pink`, expected one of `red`, `green`, `blue` at line 2 column 3",
+            )?,
+    )
+}
+
+/// Whether settings are written in the order of their fields, without a label that is missing.
+fn settings_are_written(alloc: Global) -> Result<bool> {
+    let bare = from_str::<Settings>(alloc, "{host: 'a'}")?;
+    let whole = from_str::<Settings>(alloc, "{label: 'b', port: 1, host: 'a'}")?;
+    Ok(
+        to_string(alloc, &bare)?.as_str() == "{\n  host: \"a\",\n  port: 80,\n}"
+            && to_string(alloc, &whole)?.as_str()
+                == "{\n  host: \"a\",\n  port: 1,\n  label: \"b\",\n}",
+    )
+}
+
+#[test]
+fn own_structs_are_written(rt: HostRuntime) -> std::result::Result<(), Fail> {
+    assert!(rt; settings_are_written(rt.alloc())?);
+    Ok(())
+}
+
+#[test]
+fn keys_of_an_own_type_are_read_and_written(rt: HostRuntime) -> std::result::Result<(), Fail> {
+    assert!(rt; colors_are_keys(rt.alloc())?);
     Ok(())
 }

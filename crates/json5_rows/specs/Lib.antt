@@ -1,0 +1,2 @@
+pub mod HandEnums
+pub mod HandStructs
