@@ -1,7 +1,7 @@
 //! Reading a text as a type.
 
 use crate::answers::{Answer, Any, Digits, shown, unknown};
-use crate::hand_enums::F;
+use crate::hand_enums::{E, F};
 use crate::hand_structs::{Config, Letters, Person};
 use indexmap::IndexMap;
 use json5::{ByteBuf, CowStr, Decimal, Deserialize, Deserializer, IgnoredAny, from_str};
@@ -97,7 +97,7 @@ fn read_struct(alloc: Global, name: &str, text: &str) -> Answer {
 }
 
 fn read_enum(alloc: Global, name: &str, text: &str) -> Answer {
-    read_as!(name, alloc, text; F);
+    read_as!(name, alloc, text; E, F, HashMap<F, i32>, BTreeMap<F, i32>);
     unknown(alloc)
 }
 

@@ -26,6 +26,7 @@ fn answer(alloc: Global, call: &str, text: &str) -> Answer {
     let (name, words) = call.split_once(' ').unwrap_or((call, ""));
     match name {
         "write" => writes::write(alloc, words, text),
+        "key" => writes::write_key(alloc, words, text),
         "display" => writes::display(alloc, text),
         "format" => json5::format(alloc, text),
         "variant" => reads::read_variant(alloc, words, text),

@@ -1,10 +1,12 @@
 //! Writing what was read.
 
 use crate::answers::{Answer, unknown};
-use crate::hand_enums::F;
+use crate::hand_enums::{E, F};
 use crate::hand_structs::Config;
 use indexmap::IndexMap;
-use json5::{ByteBuf, CowStr, Decimal, Deserialize, Serialize, Value, from_str, to_string};
+use json5::{
+    ByteBuf, CowStr, Decimal, Deserialize, Serialize, SerializeKey, Value, from_str, to_string,
+};
 use std::alloc::Global;
 use std::collections::BTreeMap;
 
@@ -47,8 +49,26 @@ fn write_map(alloc: Global, name: &str, text: &str) -> Answer {
 }
 
 fn write_struct(alloc: Global, name: &str, text: &str) -> Answer {
-    write_as!(name, alloc, text; Config, F);
+    write_as!(name, alloc, text; Config, E, F, BTreeMap<F, i32>);
     unknown(alloc)
+}
+
+/// What is written of a map from the text's value, read as the type with this name, to 0.
+pub fn write_key(alloc: Global, name: &str, text: &str) -> Answer {
+    match name {
+        "F" => write_entry::<F>(alloc, text),
+        _ => unknown(alloc),
+    }
+}
+
+fn write_entry<'de, K: Deserialize<&'de str> + SerializeKey + Ord>(
+    alloc: Global,
+    text: &'de str,
+) -> Answer {
+    let key = from_str::<K>(alloc, text)?;
+    let mut map = BTreeMap::new(alloc);
+    map.insert(key, 0)?;
+    to_string(alloc, &map)
 }
 
 /// The text's decimal, as it is printed.
