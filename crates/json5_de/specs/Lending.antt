@@ -70,6 +70,13 @@ module _ {I : Type 0} where
   abbrev pub seen_enum : EnumAccess I → SeenEnum
   seen_enum a = record { reader = record a.de.now { failed = false }; start = a.start; variant = a.variant; has_content = a.has_content }
 
+  -- the reader that it was given, and the same as it stands
+  abbrev pub reader_of : EnumAccess I → MutBor State
+  reader_of a = a.de
+
+  abbrev pub held_by_enum : EnumAccess I → State
+  held_by_enum a = a.de.now
+
   abbrev pub HoldsEnum : MutBor State → EnumAccess I → Type 0
   HoldsEnum reader a = a.de.ghost_name ≡ reader.ghost_name
 

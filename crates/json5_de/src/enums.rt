@@ -17,13 +17,13 @@ ghost use Rattle.json5_grammar.specs.Strings.{is_quote};
 use crate::brackets::BracketKind;
 use crate::de::{Deserialize, Deserializer};
 use crate::ending::InVariant;
-use crate::ignored::is_quote;
 use crate::map::MapAccess;
 use crate::mismatch::Mismatch;
 use crate::seq::SeqAccess;
 use json5_text::ErrorCode;
 use json5_text::error::Result;
 use json5_text::input::Input;
+use json5_text::strings::is_quote;
 
 /// A variant whose name was read, and whose content is to be read: by one of the four calls that take the access. The reader answers
 /// `Failed` until then, and for good where the access is dropped or leaked.
@@ -39,8 +39,10 @@ pub struct EnumAccess<'a, I: Input> {
 
 /// Dropped before its content is read, it leaves the reader blocked.
 impl<I: Input> Drop for EnumAccess<'_, I> {
+    ghost use Rattle.json5_de.specs.Lending.{held_by_enum};
+
     fn drop(self)
-        ensures { self.exit.0.now ≡ self.entry.de.now }
+        ensures { self.exit.0.now ≡ held_by_enum self.entry }
     {
         let EnumAccess {
             de: _,
@@ -231,7 +233,7 @@ impl<I: Input> Deserializer<I> {
 }
 
 impl<'a, I: Input> EnumAccess<'a, I> {
-    ghost use Rattle.json5_de.specs.Lending.{seen, seen_map, seen_enum, ending, map_ending, brace_of, Holds, HoldsMap, BlocksReader, BlocksMapReader, lends_reader, lends_to_map};
+    ghost use Rattle.json5_de.specs.Lending.{seen, seen_map, seen_enum, reader_of, ending, map_ending, brace_of, Holds, HoldsMap, BlocksReader, BlocksMapReader, lends_reader, lends_to_map};
 
     /// The first place of the name among the variants, counted from 0.
     pub fn variant(&self) -> usize
@@ -282,8 +284,8 @@ impl<'a, I: Input> EnumAccess<'a, I> {
     /// which a comma may stand. The length changes nothing. `ExpectedOpeningBracket` stands at another character, `TooDeep` at
     /// the 129th open bracket; a fault without a place gets the opening brace's. A text is a custom fault where it stands.
     pub fn tuple_variant(self, _length: usize) -> Result<SeqAccess<'a, I, InVariant>>
-        ensures* lends { sem 𝓛 (lends_reader I.row I.Input self.entry.de result) }
-        ensures same_reference { IfOk result (Holds self.entry.de) }
+        ensures* lends { sem 𝓛 (lends_reader I.row I.Input (reader_of self.entry) result) }
+        ensures same_reference { IfOk result (Holds (reader_of self.entry)) }
         ensures blocks { IfOk result BlocksReader }
         ensures brace { IfOk result (λ a. brace_of (ending a) ≡ (seen_enum self.entry).start) }
         ensures opens { OpensTuple seen (seen_enum self.entry) result }
@@ -318,8 +320,8 @@ impl<'a, I: Input> EnumAccess<'a, I> {
         self,
         _fields: &'static [&'static str],
     ) -> Result<MapAccess<'a, I, InVariant>>
-        ensures* lends { sem 𝓛 (lends_to_map I.row I.Input self.entry.de result) }
-        ensures same_reference { IfOk result (HoldsMap self.entry.de) }
+        ensures* lends { sem 𝓛 (lends_to_map I.row I.Input (reader_of self.entry) result) }
+        ensures same_reference { IfOk result (HoldsMap (reader_of self.entry)) }
         ensures blocks { IfOk result BlocksMapReader }
         ensures brace { IfOk result (λ a. brace_of (map_ending a) ≡ (seen_enum self.entry).start) }
         ensures opens { OpensStruct seen_map (seen_enum self.entry) result }

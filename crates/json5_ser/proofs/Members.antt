@@ -9,7 +9,7 @@ use Rattle.json5_grammar.specs.Documents.{max_depth}
 use Rattle.json5_ser.specs.WrittenTrees.{Written, array, object, tuple_variant, struct_variant, Elements, no_element, element, elements_of, Fields, no_field, field, fields_of, Key, named}
 use Rattle.json5_ser.specs.Out.{Out, piece, ◌then◌, opening, closing, out, elements_out, fields_out, element_out, key_part, value_part, entry_out, variant_opening}
 use Rattle.json5_ser.specs.Writes.{Seen, Refuses, Writes, WritesTree}
-use Rattle.json5_ser.specs.Lending.{inner, seen, has_member, in_variant, list_opening, object_opening, ListBegun, ObjectBegun, VariantListBegun, VariantObjectBegun, Steps, outside, ending}
+use Rattle.json5_ser.specs.Lending.{inner, held, reference_of, seen, has_member, in_variant, list_opening, object_opening, ListBegun, ObjectBegun, VariantListBegun, VariantObjectBegun, Steps, outside, ending}
 use Rattle.json5_ser.specs.declared.collection.SerializeCollection.{SerializeCollection}
 use Rattle.json5_ser.proofs.Joins.{Refuses-before, Writes-handed}
 use Rattle.json5_ser.proofs.Remains.{Rest, Remains, elements, fields, value, BeginsWith, then_assoc, remains_on, remains_refused, remains_all, ends_whole, closes_list, closes_object}
@@ -86,11 +86,11 @@ module _ {W : Type 0} where
       remains_on t name at c n (elements (element u ts)) (elements ts) (element_out (seen c).depth (out max_depth u (seen c).depth)) x (first_element u ts (inner (in_variant c) at.depth) (seen c).depth (has_member c) h.depth) refl h s
 
   pub element_refused : {A : Type 0} {t u : Written} {name : GName} {at : Seen} {c n : SerializeCollection W} {ts : Elements} {e : Error} (result : Result A Error) → Remains t name at c (elements (element u ts))
-      → Steps (element_out (seen c).depth (out max_depth u (seen c).depth)) false c (Err e) n → IsErrAnd result (λ y. y ≡ e) → {last lent : Seen} → lent ≡ n.ser.now → (name ≡ n.ser.ghost_name → last ≡ lent) → WritesTree t at result last
+      → Steps (element_out (seen c).depth (out max_depth u (seen c).depth)) false c (Err e) n → IsErrAnd result (λ y. y ≡ e) → {last lent : Seen} → lent ≡ held n → (name ≡ reference_of n → last ≡ lent) → WritesTree t at result last
   element_refused {A} {t} {u} {name} {at} {c} {n} {ts} {e} result h s is {last} {lent} dropped follows =
       remains_refused t name at last lent c n (elements (element u ts)) (elements ts) (element_out (seen c).depth (out max_depth u (seen c).depth)) false e result (first_element u ts (inner (in_variant c) at.depth) (seen c).depth (has_member c) h.depth) h s is dropped follows
 
-  pub list_ended : {A : Type 0} {t : Written} {name : GName} {at : Seen} {c : SerializeCollection W} (n : Seen) (r : Result A Error) → Remains t name at c (elements no_element) → Writes (ending c) (outside c) r n → {last : Seen} → (name ≡ c.ser.ghost_name → last ≡ n) → WritesTree t at r last
+  pub list_ended : {A : Type 0} {t : Written} {name : GName} {at : Seen} {c : SerializeCollection W} (n : Seen) (r : Result A Error) → Remains t name at c (elements no_element) → Writes (ending c) (outside c) r n → {last : Seen} → (name ≡ reference_of c → last ≡ n) → WritesTree t at r last
   list_ended {A} {t} {name} {at} {c} n r h w {last} follows =
       let whole_tree = ends_whole (in_variant c) (has_member c) c.brackets right_bracket (out max_depth t at.depth) at (seen c) n r h.depth (closes_list c.brackets h.list) h.reaches w in
       subst (Writes (out max_depth t at.depth) at r) (sym (follows (sym h.same_reference))) whole_tree
@@ -109,7 +109,7 @@ module _ {W : Type 0} where
       remains_on t name at c n (fields (field k u fs)) (value u fs) (key_part (seen c).depth k) x (first_key k u fs (inner (in_variant c) at.depth) (seen c).depth (has_member c) h.depth) refl h s
 
   pub key_refused : {A : Type 0} {t u : Written} {k : Key} {name : GName} {at : Seen} {c n : SerializeCollection W} {fs : Fields} {e : Error} (result : Result A Error) → Remains t name at c (fields (field k u fs))
-      → Steps (key_part (seen c).depth k) true c (Err e) n → IsErrAnd result (λ y. y ≡ e) → {last lent : Seen} → lent ≡ n.ser.now → (name ≡ n.ser.ghost_name → last ≡ lent) → WritesTree t at result last
+      → Steps (key_part (seen c).depth k) true c (Err e) n → IsErrAnd result (λ y. y ≡ e) → {last lent : Seen} → lent ≡ held n → (name ≡ reference_of n → last ≡ lent) → WritesTree t at result last
   key_refused {A} {t} {u} {k} {name} {at} {c} {n} {fs} {e} result h s is {last} {lent} dropped follows =
       remains_refused t name at last lent c n (fields (field k u fs)) (value u fs) (key_part (seen c).depth k) true e result (first_key k u fs (inner (in_variant c) at.depth) (seen c).depth (has_member c) h.depth) h s is dropped follows
 
@@ -118,7 +118,7 @@ module _ {W : Type 0} where
       remains_on t name at c n (value u fs) (fields fs) (value_part (out max_depth u (seen c).depth)) x (first_value u fs (inner (in_variant c) at.depth) (seen c).depth (has_member c) h.depth) refl h s
 
   pub value_refused : {A : Type 0} {t u : Written} {name : GName} {at : Seen} {c n : SerializeCollection W} {fs : Fields} {e : Error} (result : Result A Error) → Remains t name at c (value u fs)
-      → Steps (value_part (out max_depth u (seen c).depth)) false c (Err e) n → IsErrAnd result (λ y. y ≡ e) → {last lent : Seen} → lent ≡ n.ser.now → (name ≡ n.ser.ghost_name → last ≡ lent) → WritesTree t at result last
+      → Steps (value_part (out max_depth u (seen c).depth)) false c (Err e) n → IsErrAnd result (λ y. y ≡ e) → {last lent : Seen} → lent ≡ held n → (name ≡ reference_of n → last ≡ lent) → WritesTree t at result last
   value_refused {A} {t} {u} {name} {at} {c} {n} {fs} {e} result h s is {last} {lent} dropped follows =
       remains_refused t name at last lent c n (value u fs) (fields fs) (value_part (out max_depth u (seen c).depth)) false e result (first_value u fs (inner (in_variant c) at.depth) (seen c).depth (has_member c) h.depth) h s is dropped follows
 
@@ -127,7 +127,7 @@ module _ {W : Type 0} where
       remains_on t name at c n (fields (field k u fs)) (fields fs) (entry_out (seen c).depth k u) x (first_entry k u fs (inner (in_variant c) at.depth) (seen c).depth (has_member c) h.depth) refl h s
 
   pub field_refused : {A : Type 0} {t u : Written} {k : Key} {name : GName} {at : Seen} {c n : SerializeCollection W} {fs : Fields} {e : Error} (result : Result A Error) → Remains t name at c (fields (field k u fs))
-      → Steps (entry_out (seen c).depth k u) false c (Err e) n → IsErrAnd result (λ y. y ≡ e) → {last lent : Seen} → lent ≡ n.ser.now → (name ≡ n.ser.ghost_name → last ≡ lent) → WritesTree t at result last
+      → Steps (entry_out (seen c).depth k u) false c (Err e) n → IsErrAnd result (λ y. y ≡ e) → {last lent : Seen} → lent ≡ held n → (name ≡ reference_of n → last ≡ lent) → WritesTree t at result last
   field_refused {A} {t} {u} {k} {name} {at} {c} {n} {fs} {e} result h s is {last} {lent} dropped follows =
       remains_refused t name at last lent c n (fields (field k u fs)) (fields fs) (entry_out (seen c).depth k u) false e result (first_entry k u fs (inner (in_variant c) at.depth) (seen c).depth (has_member c) h.depth) h s is dropped follows
 
@@ -138,7 +138,7 @@ module _ {W : Type 0} where
   pub same_entries : {K V : Type 0} (key : K → Key) (tree : V → Written) (es rest : List (K × V)) {t : Written} {name : GName} {at : Seen} {c : SerializeCollection W} → es ≡ rest → Remains t name at c (fields (fields_of key tree es)) → Remains t name at c (fields (fields_of key tree rest))
   same_entries key tree es rest {t} {name} {at} {c} e h = subst (λ l. Remains t name at c (fields (fields_of key tree l))) e h
 
-  pub object_ended : {A : Type 0} {t : Written} {name : GName} {at : Seen} {c : SerializeCollection W} (n : Seen) (r : Result A Error) → Remains t name at c (fields no_field) → Writes (ending c) (outside c) r n → {last : Seen} → (name ≡ c.ser.ghost_name → last ≡ n) → WritesTree t at r last
+  pub object_ended : {A : Type 0} {t : Written} {name : GName} {at : Seen} {c : SerializeCollection W} (n : Seen) (r : Result A Error) → Remains t name at c (fields no_field) → Writes (ending c) (outside c) r n → {last : Seen} → (name ≡ reference_of c → last ≡ n) → WritesTree t at r last
   object_ended {A} {t} {name} {at} {c} n r h w {last} follows =
       let whole_tree = ends_whole (in_variant c) (has_member c) c.brackets right_brace (out max_depth t at.depth) at (seen c) n r h.depth (closes_object c.brackets h.list) h.reaches w in
       subst (Writes (out max_depth t at.depth) at r) (sym (follows (sym h.same_reference))) whole_tree
@@ -146,7 +146,7 @@ module _ {W : Type 0} where
   -- ---- loops
 
   -- by the name of the reference that a loop begins with
-  pub in_loop : {t : Written} {name : GName} {at : Seen} {c : SerializeCollection W} {r : Rest} → Remains t name at c r → Remains t c.ser.ghost_name at c r
+  pub in_loop : {t : Written} {name : GName} {at : Seen} {c : SerializeCollection W} {r : Rest} → Remains t name at c r → Remains t (reference_of c) at c r
   in_loop {t} {name} {at} {c} {r} h = subst (λ x. Remains t x at c r) (sym h.same_reference) h
 
   -- by the name of the reference that was lent

@@ -11,7 +11,7 @@ use Rattle.json5_ser.specs.Out.{Out, Stop, whole, invalid_key, too_deep, no_numb
 use Rattle.json5_ser.specs.Writes.{Seen, Wrote, Refusal, by_key, by_depth, by_writer, by_refusal, by_none, refusal_of, RefusesBy, Refuses, Writes, WritesTree, at_depth}
 use Rattle.json5_text.specs.Errors.{kind_of}
 use Rattle.json5_ser.specs.Brackets.{closing_sign, is_square}
-use Rattle.json5_ser.specs.Lending.{within_variant, inner, seen, is_list, key_pending, has_member, in_variant, Opened, Steps}
+use Rattle.json5_ser.specs.Lending.{within_variant, inner, held, reference_of, seen, is_list, key_pending, has_member, in_variant, Opened, Steps}
 use Rattle.json5_ser.specs.declared.brackets.Brackets.{Brackets}
 use Rattle.json5_ser.specs.declared.brackets.Brackets.TheVariants as brackets
 use Rattle.json5_ser.specs.declared.collection.SerializeCollection.{SerializeCollection}
@@ -41,7 +41,7 @@ rest_out (value t fs) d started = value_part (out max_depth t (d + 1)) then fiel
 
 -- of the tree t, which was begun at `at`, this remains to be written in the collection, which holds the reference of this name
 pub record Remains {W : Type 0} (t : Written) (name : GName) (at : Seen) (c : SerializeCollection W) (r : Rest) : Type 0 where
-  pub same_reference : c.ser.ghost_name ≡ name
+  pub same_reference : reference_of c ≡ name
   pub reaches : Reaches (out max_depth t at.depth) at (at_depth at.depth (seen c)) (within_variant (in_variant c) at.depth (rest_out r (inner (in_variant c) at.depth) (has_member c)))
   pub depth : (seen c).depth ≡ inner (in_variant c) at.depth + 1
   pub list : is_list c ≡ is_of_list r
@@ -145,13 +145,13 @@ module _ {W : Type 0} where
       }
 
   pub remains_refused : {A : Type 0} (t : Written) (name : GName) (at last lent : Seen) (c n : SerializeCollection W) (r rest : Rest) (part : Out) (pending : Bool) (e : Error) (result : Result A Error)
-      → BeginsWith part rest r (inner (in_variant c) at.depth) (has_member c) → Remains t name at c r → Steps part pending c (Err e) n → IsErrAnd result (λ y. y ≡ e) → lent ≡ n.ser.now → (name ≡ n.ser.ghost_name → last ≡ lent) → WritesTree t at result last
+      → BeginsWith part rest r (inner (in_variant c) at.depth) (has_member c) → Remains t name at c r → Steps part pending c (Err e) n → IsErrAnd result (λ y. y ≡ e) → lent ≡ held n → (name ≡ reference_of n → last ≡ lent) → WritesTree t at result last
   remains_refused t name at last lent c n r rest part pending e result b h s is dropped follows =
       let all = out max_depth t at.depth in
       let d = at.depth in
       let left = left_first all part at (at_depth d (seen c)) (in_variant c) r rest (has_member c) b h.reaches in
       let refused = left.refused (at_depth d (seen n)) e (Refuses-before part (rest_in (in_variant c) d rest true) (at_depth d (seen c)) (at_depth d (seen n)) e (Refuses-at d d part (seen c) (seen n) e s.writes)) in
-      let where_left = Writes-handed all at n.ser.now e result is (Refuses-lender all at n.ser.now d n.failed e s.blocks refused) in
+      let where_left = Writes-handed all at (held n) e result is (Refuses-lender all at (held n) d (seen n).failed e s.blocks refused) in
       subst (Writes all at result) (sym (follows (sym (s.same_reference ∙ h.same_reference)) ∙ dropped)) where_left
 
   pub remains_all : (t : Written) (ser : MutBor Seen) (c : SerializeCollection W) (r : Rest) (o : Out) (v : Bool) → out max_depth t ser.now.depth ≡ o then rest_in v ser.now.depth r false → Opened o (is_of_list r) v ser c → is_value r ≡ false → Remains t ser.ghost_name ser.now c r

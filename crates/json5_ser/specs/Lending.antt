@@ -1,6 +1,6 @@
 -- A collection, and the serializer that is lent to it.
 use Rattle.std.specs.Prelude.{◌≡◌, ℕ, ◌+◌, ◌-◌, List, [], ◌∷◌, Bool, true, false, Result, OnOk, OnErr, IfErr, MatchResult, ⊤}
-use Rattle.std.specs.Borrow.{Fml, RattleType, MutBor, RestsIfErr}
+use Rattle.std.specs.Borrow.{Fml, GName, RattleType, MutBor, RestsIfErr}
 use Rattle.std.specs.declared.io.Write as write
 use Rattle.json5_grammar.specs.Characters.{comma_sign, left_bracket, left_brace, right_brace}
 use Rattle.json5_grammar.specs.Documents.{max_depth}
@@ -31,6 +31,14 @@ abbrev pub object_opening : MutBor Seen → Out
 object_opening ser = opening max_depth ser.now.depth left_brace
 
 module _ {W : Type 0} where
+  -- the serializer itself, as the collection holds it
+  abbrev pub held : SerializeCollection W → Seen
+  held c = c.ser.now
+
+  -- the name of the reference that it holds
+  abbrev pub reference_of : SerializeCollection W → GName
+  reference_of c = c.ser.ghost_name
+
   -- the serializer as the calls of the collection see it: failed where one of them was refused
   abbrev pub seen : SerializeCollection W → Seen
   seen c = record c.ser.now { failed = c.failed }
@@ -52,10 +60,10 @@ module _ {W : Type 0} where
 
   -- a new collection, to which this serializer is lent, and of which this was written
   pub record Opened (o : Out) (of_list of_variant : Bool) (ser : MutBor Seen) (c : SerializeCollection W) : Type 0 where
-    pub same_reference : c.ser.ghost_name ≡ ser.ghost_name
+    pub same_reference : reference_of c ≡ ser.ghost_name
     pub wrote : Wrote o ser.now (at_depth ser.now.depth (seen c))
     pub depth : (seen c).depth ≡ inner of_variant ser.now.depth + 1
-    pub blocks : c.ser.now.failed ≡ true
+    pub blocks : (held c).failed ≡ true
     pub list : is_list c ≡ of_list
     pub variant : in_variant c ≡ of_variant
     pub empty : has_member c ≡ false
@@ -77,9 +85,9 @@ module _ {W : Type 0} where
 
   -- a call that has this text to write, after which a key waits for its value or none does. It blocks the serializer again
   pub record Steps (o : Out) (pending_next : Bool) (old : SerializeCollection W) (result : Result ⊤ Error) (new : SerializeCollection W) : Type 0 where
-    pub same_reference : new.ser.ghost_name ≡ old.ser.ghost_name
+    pub same_reference : reference_of new ≡ reference_of old
     pub writes : Writes o (seen old) result (seen new)
-    pub blocks : new.ser.now.failed ≡ true
+    pub blocks : (held new).failed ≡ true
     pub list : is_list new ≡ is_list old
     pub variant : in_variant new ≡ in_variant old
     pub started : OnOk result (has_member new ≡ true)
@@ -100,8 +108,8 @@ module _ {W : Type 0} where
   -- the serializer is blocked again, and the collection goes on to a stage where nothing was refused
   pub record Settles (old : SerializeCollection W) (written : Result ⊤ Error) (next : Stage) (new : SerializeCollection W) (result : Result ⊤ Error) : Type 0 where
     pub same : result ≡ written
-    pub same_reference : new.ser.ghost_name ≡ old.ser.ghost_name
-    pub blocks : new.ser.now ≡ record old.ser.now { failed = true }
+    pub same_reference : reference_of new ≡ reference_of old
+    pub blocks : held new ≡ record (held old) { failed = true }
     pub brackets : new.brackets ≡ old.brackets
     pub variant : new.in_variant ≡ old.in_variant
     pub goes_on : OnOk written ((new.failed ≡ old.failed) × (new.stage ≡ next))
@@ -110,7 +118,7 @@ module _ {W : Type 0} where
 module _ (W : RattleType) (g : write.Ghosts W.Denot) where
   -- where it refuses the text o, the serializer ends so, and else as the collection leaves it
   abbrev pub lends_serializer : Out → MutBor Seen → Result (SerializeCollection W.Denot) Error → Fml
-  lends_serializer o ser result = RestsIfErr (the_row W g) ser (λ c. c.ser.ghost_name) result (λ last. IfErr result (λ e. Refuses o ser.now e last))
+  lends_serializer o ser result = RestsIfErr (the_row W g) ser (λ c. reference_of c) result (λ last. IfErr result (λ e. Refuses o ser.now e last))
 
   abbrev pub lends_list : MutBor Seen → Result (SerializeCollection W.Denot) Error → Fml
   lends_list ser result = lends_serializer (list_opening ser) ser result

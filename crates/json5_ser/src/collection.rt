@@ -30,8 +30,10 @@ pub struct SerializeCollection<'a, W: Write + Drop> {
 
 /// Dropped before its end, it leaves the serializer blocked.
 impl<W: Write + Drop> Drop for SerializeCollection<'_, W> {
+    ghost use Rattle.json5_ser.specs.Lending.{held};
+
     fn drop(self)
-        ensures { self.exit.0.now ≡ self.entry.ser.now }
+        ensures { self.exit.0.now ≡ held self.entry }
     {
         let SerializeCollection {
             ser: _,

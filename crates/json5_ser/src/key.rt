@@ -28,8 +28,10 @@ pub struct MapKey<'a, W: Write + Drop> {
 
 /// Dropped unused, it leaves the serializer before the key.
 impl<W: Write + Drop> Drop for MapKey<'_, W> {
+    ghost use Rattle.json5_ser.specs.Waiting.{waiting};
+
     fn drop(self)
-        ensures { self.exit.0.now ≡ self.entry.ser.now }
+        ensures { self.exit.0.now ≡ waiting self.entry }
     {
         let MapKey { ser: _ } = self;
     }

@@ -9,4 +9,4 @@ pub returns : goal.returns
 returns g c =
     let t = g.T.Deserialize in
     variant_read t.content t.convert t.free t.refuses (content_of t.convert) (content_free t.free) (λ u. refl) (λ u. refl) (seen_enum c.args.self) c.in_brace.new.self c.in_brace.result c.if-not-has_content.false
-    (subst (λ (s : State). ReadsInBrace t.content t.convert t.free t.refuses c.args.self.start s c.in_brace.new.self c.in_brace.result) c.set_failed.ensures c.in_brace.ensures)
+    (subst (λ (s : State). ReadsInBrace t.content t.convert t.free t.refuses (seen_enum c.args.self).start s c.in_brace.new.self c.in_brace.result) c.set_failed.ensures c.in_brace.ensures)

@@ -1,7 +1,7 @@
 use Rattle.std.proofs.Common.{refl}
 use Rattle.std.proofs.lemmas.Result.{err_from_is_err_and}
 use Rattle.json5_de.specs.Brackets.{square}
-use Rattle.json5_de.specs.Lending.{seen, seen_enum}
+use Rattle.json5_de.specs.Lending.{seen, seen_enum, held_by_enum}
 use Rattle.json5_de.proofs.Arrays.{failed_of}
 use Rattle.json5_de.proofs.Next.{opened_seen}
 use Rattle.json5_de.proofs.VariantEnds.{tuple_opened, tuple_not_opened, given_up_lent}
@@ -12,7 +12,7 @@ returns-in_err-start g c =
     let (y, is, from) = err_from_is_err_and c.from_residual.result c.from_residual.ensures.1 in
     let opens = rw c.set_failed.ensures at c.in_err-start.ensures.opens in
     rw (is, from) (
-      (refl, λ w. tt, given_up_lent c.args.self.de.now c.set_failed.new.self c.open_content.new.self c.set_failed.ensures c.in_err-start.ensures.failed),
+      (refl, λ w. tt, given_up_lent (held_by_enum c.args.self) c.set_failed.new.self c.open_content.new.self c.set_failed.ensures c.in_err-start.ensures.failed),
       record { lends = tt; same_reference = tt; blocks = tt; brace = tt; opens = tuple_not_opened _ seen (seen_enum c.args.self) c.in_err-start.field-0.0 opens },
     )
 

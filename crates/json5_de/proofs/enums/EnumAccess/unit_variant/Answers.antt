@@ -10,4 +10,4 @@ use Rattle.json5_de.proofs.enums.EnumAccess.unit_variant.Goals as goal
 pub returns : goal.returns
 returns g c =
     variant_read (λ v. tt) unit_of every_tree (RefusedAs null_row) unit_content (content_free every_tree) (λ t. refl) (λ t. refl) (seen_enum c.args.self) c.in_brace.new.self c.in_brace.result c.if-not-has_content.false
-    (subst (λ (s : State). ReadsInBrace (λ v. tt) unit_of every_tree (RefusedAs null_row) c.args.self.start s c.in_brace.new.self c.in_brace.result) c.set_failed.ensures c.in_brace.ensures)
+    (subst (λ (s : State). ReadsInBrace (λ v. tt) unit_of every_tree (RefusedAs null_row) (seen_enum c.args.self).start s c.in_brace.new.self c.in_brace.result) c.set_failed.ensures c.in_brace.ensures)

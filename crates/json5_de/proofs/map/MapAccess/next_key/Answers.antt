@@ -9,22 +9,22 @@ use Rattle.json5_de.proofs.map.MapAccess.next_key.Goals as goal
 
 pub returns-in-Ok-Some-clause-sound : goal.returns-in-Ok-Some-clause-sound
 returns-in-Ok-Some-clause-sound g c =
-    let new : SeenMap = record { at = record { reader = record c.set_failed-2.new.self { failed = c.args.self.now.failed }; start = c.args.self.now.start; due = c.args.self.now.due }; pending = true } in
+    let new : SeenMap = record { at = record { reader = record c.set_failed-2.new.self { failed = (seen_map c.args.self.now).at.reader.failed }; start = (seen_map c.args.self.now).at.start; due = (seen_map c.args.self.now).at.due }; pending = true } in
     gives_key_seen g.K.DeserializeKey.content g.K.DeserializeKey.convert (seen_map c.args.self.now) new c.set_failed.new.self c.pair_key-next.new.self (Some c.in-Ok-Some.key) c.set_failed.ensures (lent_on c.set_failed-2.new.self c.pair_key-next.new.self c.set_failed-2.ensures) refl refl (rw c.in-Ok-Some.field-0-is at c.in-Ok-Some.ensures.sound)
 
 pub returns-in-Ok-Some-clause-shorter : goal.returns-in-Ok-Some-clause-shorter
 returns-in-Ok-Some-clause-shorter g c =
     let (u, plain, took, is, due, pending) = returns-in-Ok-Some-clause-sound g c in
-    key_shorter c.args.self.now.due c.args.self.now.de.now.unread _ u plain took.key
+    key_shorter (seen_map c.args.self.now).at.due (seen_map c.args.self.now).at.reader.unread _ u plain took.key
 
 pub returns-in-Ok-Some-clause-complete : goal.returns-in-Ok-Some-clause-complete
 returns-in-Ok-Some-clause-complete g c =
-    let new : SeenMap = record { at = record { reader = record c.set_failed-2.new.self { failed = c.args.self.now.failed }; start = c.args.self.now.start; due = c.args.self.now.due }; pending = true } in
+    let new : SeenMap = record { at = record { reader = record c.set_failed-2.new.self { failed = (seen_map c.args.self.now).at.reader.failed }; start = (seen_map c.args.self.now).at.start; due = (seen_map c.args.self.now).at.due }; pending = true } in
     reads_pair_key g.K.DeserializeKey.content g.K.DeserializeKey.convert (seen_map c.args.self.now) new (Some c.in-Ok-Some.key) (returns-in-Ok-Some-clause-sound g c)
 
 pub returns-in-Ok-Some-clause-refused : goal.returns-in-Ok-Some-clause-refused
 returns-in-Ok-Some-clause-refused g c =
-    let new : SeenMap = record { at = record { reader = record c.set_failed-2.new.self { failed = c.args.self.now.failed }; start = c.args.self.now.start; due = c.args.self.now.due }; pending = true } in
+    let new : SeenMap = record { at = record { reader = record c.set_failed-2.new.self { failed = (seen_map c.args.self.now).at.reader.failed }; start = (seen_map c.args.self.now).at.start; due = (seen_map c.args.self.now).at.due }; pending = true } in
     gives_next_key g.K.DeserializeKey.content g.K.DeserializeKey.convert g.K.DeserializeKey.refuses (seen_map c.args.self.now) new (Some c.in-Ok-Some.key) (returns-in-Ok-Some-clause-sound g c)
 
 pub returns-in-Ok-Some-clause-read : goal.returns-in-Ok-Some-clause-read
@@ -36,17 +36,17 @@ returns-in-Ok-Some-clause-left g c =
 
 pub returns-in-Ok-None-clause-sound : goal.returns-in-Ok-None-clause-sound
 returns-in-Ok-None-clause-sound g c =
-    let new : SeenMap = record { at = record { reader = record c.set_failed-2.new.self { failed = c.args.self.now.failed }; start = c.args.self.now.start; due = c.args.self.now.due }; pending = c.args.self.now.pending } in
+    let new : SeenMap = record { at = record { reader = record c.set_failed-2.new.self { failed = (seen_map c.args.self.now).at.reader.failed }; start = (seen_map c.args.self.now).at.start; due = (seen_map c.args.self.now).at.due }; pending = (seen_map c.args.self.now).pending } in
     gives_key_seen g.K.DeserializeKey.content g.K.DeserializeKey.convert (seen_map c.args.self.now) new c.set_failed.new.self c.pair_key-next.new.self None c.set_failed.ensures (lent_on c.set_failed-2.new.self c.pair_key-next.new.self c.set_failed-2.ensures) refl c.requires.no_key (rw c.in-Ok-None.field-0-is at c.in-Ok-None.ensures.sound)
 
 pub returns-in-Ok-None-clause-complete : goal.returns-in-Ok-None-clause-complete
 returns-in-Ok-None-clause-complete g c =
-    let new : SeenMap = record { at = record { reader = record c.set_failed-2.new.self { failed = c.args.self.now.failed }; start = c.args.self.now.start; due = c.args.self.now.due }; pending = c.args.self.now.pending } in
+    let new : SeenMap = record { at = record { reader = record c.set_failed-2.new.self { failed = (seen_map c.args.self.now).at.reader.failed }; start = (seen_map c.args.self.now).at.start; due = (seen_map c.args.self.now).at.due }; pending = (seen_map c.args.self.now).pending } in
     reads_pair_key g.K.DeserializeKey.content g.K.DeserializeKey.convert (seen_map c.args.self.now) new None (returns-in-Ok-None-clause-sound g c)
 
 pub returns-in-Ok-None-clause-refused : goal.returns-in-Ok-None-clause-refused
 returns-in-Ok-None-clause-refused g c =
-    let new : SeenMap = record { at = record { reader = record c.set_failed-2.new.self { failed = c.args.self.now.failed }; start = c.args.self.now.start; due = c.args.self.now.due }; pending = c.args.self.now.pending } in
+    let new : SeenMap = record { at = record { reader = record c.set_failed-2.new.self { failed = (seen_map c.args.self.now).at.reader.failed }; start = (seen_map c.args.self.now).at.start; due = (seen_map c.args.self.now).at.due }; pending = (seen_map c.args.self.now).pending } in
     gives_next_key g.K.DeserializeKey.content g.K.DeserializeKey.convert g.K.DeserializeKey.refuses (seen_map c.args.self.now) new None (returns-in-Ok-None-clause-sound g c)
 
 pub returns-in-Ok-None-clause-read : goal.returns-in-Ok-None-clause-read

@@ -8,17 +8,17 @@ use Rattle.json5_de.proofs.map.MapAccess.next_value.Goals as goal
 
 pub returns-in-Ok-clause-sound : goal.returns-in-Ok-clause-sound
 returns-in-Ok-clause-sound g c =
-    let new : SeenMap = record { at = record { reader = record c.set_failed-2.new.self { failed = c.args.self.now.failed }; start = c.args.self.now.start; due = true }; pending = false } in
+    let new : SeenMap = record { at = record { reader = record c.set_failed-2.new.self { failed = (seen_map c.args.self.now).at.reader.failed }; start = (seen_map c.args.self.now).at.start; due = true }; pending = false } in
     gives_value_seen g.V.Deserialize.content g.V.Deserialize.convert (seen_map c.args.self.now) new c.set_failed.new.self c.pair_value-value.new.self c.in-Ok.value c.set_failed.ensures (lent_on c.set_failed-2.new.self c.pair_value-value.new.self c.set_failed-2.ensures) refl refl c.in-Ok.ensures.sound
 
 pub returns-in-Ok-clause-complete : goal.returns-in-Ok-clause-complete
 returns-in-Ok-clause-complete g c =
-    let new : SeenMap = record { at = record { reader = record c.set_failed-2.new.self { failed = c.args.self.now.failed }; start = c.args.self.now.start; due = true }; pending = false } in
+    let new : SeenMap = record { at = record { reader = record c.set_failed-2.new.self { failed = (seen_map c.args.self.now).at.reader.failed }; start = (seen_map c.args.self.now).at.start; due = true }; pending = false } in
     reads_pair_value g.V.Deserialize.content g.V.Deserialize.convert (seen_map c.args.self.now) new c.in-Ok.value (returns-in-Ok-clause-sound g c)
 
 pub returns-in-Ok-clause-refused : goal.returns-in-Ok-clause-refused
 returns-in-Ok-clause-refused g c =
-    let new : SeenMap = record { at = record { reader = record c.set_failed-2.new.self { failed = c.args.self.now.failed }; start = c.args.self.now.start; due = true }; pending = false } in
+    let new : SeenMap = record { at = record { reader = record c.set_failed-2.new.self { failed = (seen_map c.args.self.now).at.reader.failed }; start = (seen_map c.args.self.now).at.start; due = true }; pending = false } in
     gives_next_value g.V.Deserialize.content g.V.Deserialize.convert g.V.Deserialize.refuses (seen_map c.args.self.now) new c.in-Ok.value (returns-in-Ok-clause-sound g c)
 
 pub returns-in-Ok-clause-read : goal.returns-in-Ok-clause-read

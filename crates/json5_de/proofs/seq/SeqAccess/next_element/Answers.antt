@@ -9,22 +9,22 @@ use Rattle.json5_de.proofs.seq.SeqAccess.next_element.Goals as goal
 
 pub returns-in-Ok-Some-clause-sound : goal.returns-in-Ok-Some-clause-sound
 returns-in-Ok-Some-clause-sound g c =
-    let new : Seen = record { reader = record c.set_failed-2.new.self { failed = c.args.self.now.failed }; start = c.args.self.now.start; due = true } in
-    gives_seen g.T.Deserialize.content g.T.Deserialize.convert (seen c.args.self.now) new c.set_failed.new.self c.element-next.new.self (Some c.in-Ok-Some.item) c.set_failed.ensures (lent_on c.set_failed-2.new.self c.element-next.new.self c.set_failed-2.ensures) (sym (or-true c.args.self.now.due)) (rw c.in-Ok-Some.field-0-is at c.in-Ok-Some.ensures.sound)
+    let new : Seen = record { reader = record c.set_failed-2.new.self { failed = (seen c.args.self.now).reader.failed }; start = (seen c.args.self.now).start; due = true } in
+    gives_seen g.T.Deserialize.content g.T.Deserialize.convert (seen c.args.self.now) new c.set_failed.new.self c.element-next.new.self (Some c.in-Ok-Some.item) c.set_failed.ensures (lent_on c.set_failed-2.new.self c.element-next.new.self c.set_failed-2.ensures) (sym (or-true (seen c.args.self.now).due)) (rw c.in-Ok-Some.field-0-is at c.in-Ok-Some.ensures.sound)
 
 pub returns-in-Ok-Some-clause-shorter : goal.returns-in-Ok-Some-clause-shorter
 returns-in-Ok-Some-clause-shorter g c =
     let (t, took, due, is) = returns-in-Ok-Some-clause-sound g c in
-    element_shorter c.args.self.now.due c.args.self.now.de.now.unread _ t took.element
+    element_shorter (seen c.args.self.now).due (seen c.args.self.now).reader.unread _ t took.element
 
 pub returns-in-Ok-Some-clause-complete : goal.returns-in-Ok-Some-clause-complete
 returns-in-Ok-Some-clause-complete g c =
-    let new : Seen = record { reader = record c.set_failed-2.new.self { failed = c.args.self.now.failed }; start = c.args.self.now.start; due = true } in
+    let new : Seen = record { reader = record c.set_failed-2.new.self { failed = (seen c.args.self.now).reader.failed }; start = (seen c.args.self.now).start; due = true } in
     reads_element g.T.Deserialize.content g.T.Deserialize.convert (seen c.args.self.now) new (Some c.in-Ok-Some.item) (returns-in-Ok-Some-clause-sound g c)
 
 pub returns-in-Ok-Some-clause-refused : goal.returns-in-Ok-Some-clause-refused
 returns-in-Ok-Some-clause-refused g c =
-    let new : Seen = record { reader = record c.set_failed-2.new.self { failed = c.args.self.now.failed }; start = c.args.self.now.start; due = true } in
+    let new : Seen = record { reader = record c.set_failed-2.new.self { failed = (seen c.args.self.now).reader.failed }; start = (seen c.args.self.now).start; due = true } in
     gives_next g.T.Deserialize.content g.T.Deserialize.convert _ (seen c.args.self.now) new (Some c.in-Ok-Some.item) (returns-in-Ok-Some-clause-sound g c)
 
 pub returns-in-Ok-Some-clause-read : goal.returns-in-Ok-Some-clause-read
@@ -36,17 +36,17 @@ returns-in-Ok-Some-clause-left g c =
 
 pub returns-in-Ok-None-clause-sound : goal.returns-in-Ok-None-clause-sound
 returns-in-Ok-None-clause-sound g c =
-    let new : Seen = record { reader = record c.set_failed-2.new.self { failed = c.args.self.now.failed }; start = c.args.self.now.start; due = c.args.self.now.due } in
-    gives_seen g.T.Deserialize.content g.T.Deserialize.convert (seen c.args.self.now) new c.set_failed.new.self c.element-next.new.self None c.set_failed.ensures (lent_on c.set_failed-2.new.self c.element-next.new.self c.set_failed-2.ensures) (sym (or-false c.args.self.now.due)) (rw c.in-Ok-None.field-0-is at c.in-Ok-None.ensures.sound)
+    let new : Seen = record { reader = record c.set_failed-2.new.self { failed = (seen c.args.self.now).reader.failed }; start = (seen c.args.self.now).start; due = (seen c.args.self.now).due } in
+    gives_seen g.T.Deserialize.content g.T.Deserialize.convert (seen c.args.self.now) new c.set_failed.new.self c.element-next.new.self None c.set_failed.ensures (lent_on c.set_failed-2.new.self c.element-next.new.self c.set_failed-2.ensures) (sym (or-false (seen c.args.self.now).due)) (rw c.in-Ok-None.field-0-is at c.in-Ok-None.ensures.sound)
 
 pub returns-in-Ok-None-clause-complete : goal.returns-in-Ok-None-clause-complete
 returns-in-Ok-None-clause-complete g c =
-    let new : Seen = record { reader = record c.set_failed-2.new.self { failed = c.args.self.now.failed }; start = c.args.self.now.start; due = c.args.self.now.due } in
+    let new : Seen = record { reader = record c.set_failed-2.new.self { failed = (seen c.args.self.now).reader.failed }; start = (seen c.args.self.now).start; due = (seen c.args.self.now).due } in
     reads_element g.T.Deserialize.content g.T.Deserialize.convert (seen c.args.self.now) new None (returns-in-Ok-None-clause-sound g c)
 
 pub returns-in-Ok-None-clause-refused : goal.returns-in-Ok-None-clause-refused
 returns-in-Ok-None-clause-refused g c =
-    let new : Seen = record { reader = record c.set_failed-2.new.self { failed = c.args.self.now.failed }; start = c.args.self.now.start; due = c.args.self.now.due } in
+    let new : Seen = record { reader = record c.set_failed-2.new.self { failed = (seen c.args.self.now).reader.failed }; start = (seen c.args.self.now).start; due = (seen c.args.self.now).due } in
     gives_next g.T.Deserialize.content g.T.Deserialize.convert _ (seen c.args.self.now) new None (returns-in-Ok-None-clause-sound g c)
 
 pub returns-in-Ok-None-clause-read : goal.returns-in-Ok-None-clause-read
