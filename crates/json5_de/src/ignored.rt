@@ -4,7 +4,6 @@ ghost use Rattle.std.specs.Prelude.{◌≡◌, ◌<◌, ◌≤◌, true, Some, s
 ghost use Rattle.json5_grammar.specs.Fronts.{opening};
 ghost use Rattle.json5_grammar.specs.ReadSteps.{forget, colon_after, next_value};
 ghost use Rattle.json5_grammar.specs.ReadTexts.{key};
-ghost use Rattle.json5_grammar.specs.Strings.{is_quote};
 ghost use Rattle.json5_de.specs.Access.{StartsAfter};
 ghost use Rattle.json5_de.specs.Options.{PlacedAt};
 ghost use Rattle.json5_de.specs.AnyTree.{ReadsTree, every_value, nothing};
@@ -18,6 +17,7 @@ use arrayvec::ArrayVec;
 use json5_text::ErrorCode;
 use json5_text::error::{Error, Result};
 use json5_text::input::Input;
+use json5_text::strings::is_quote;
 
 /// An open bracket.
 #[derive(Clone, Copy, Drop)]
@@ -35,13 +35,6 @@ impl Default for OpenBracket {
             start: 0,
         }
     }
-}
-
-/// Whether the character begins a string.
-pub(crate) fn is_quote(c: char) -> bool
-    ensures { result ≡ is_quote c }
-{
-    c == '"' || c == '\''
 }
 
 /// The open brackets, the outermost first.

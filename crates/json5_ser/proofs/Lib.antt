@@ -4,7 +4,6 @@ pub mod TextsWhole
 pub mod QuotesFound
 pub mod EscapesSplit
 pub mod DecimalPieces
-pub mod LoneRead
 pub mod Unmarked
 pub mod ReadBack
 pub mod Depths

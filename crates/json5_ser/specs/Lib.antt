@@ -14,4 +14,3 @@ pub mod Keys
 pub mod Waiting
 pub mod Escaping
 pub mod ValueTrees
-pub mod Lone

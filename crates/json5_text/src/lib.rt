@@ -23,7 +23,7 @@ pub mod pieces;
 mod refusal;
 mod runs;
 pub mod scanner;
-mod strings;
+pub mod strings;
 pub mod value;
 pub mod whole;
 mod words;

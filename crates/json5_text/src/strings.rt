@@ -78,7 +78,8 @@ fn read_quote(text: &str) -> Result<(char, &str), Refusal>
     Ok((quote, body))
 }
 
-pub(crate) fn is_quote(c: char) -> bool
+/// Whether the character begins a string: a double or a single quote (JSON5 section 5).
+pub fn is_quote(c: char) -> bool
     ensures { result ≡ is_quote c }
 {
     matches!(c, '"' | '\'')
