@@ -79,7 +79,7 @@ impl<I: Input> Deserializer<I> {
         Ok(variant)
     }
 
-    /// Opens an object and takes its only key and the colon. Behind the brace a fault without a place gets the brace's.
+    /// Opens an object and takes its only key and the colon. After the brace a fault without a place gets the brace's.
     fn keyed_variant(&mut self, variants: &[&str]) -> Result<usize>
         ensures { ReadsKeyed (spelled variants.now) self.old self.new result }
     {
@@ -145,7 +145,7 @@ impl<I: Input> Deserializer<I> {
     /// blocks the reader until then. The name of the enum changes nothing.
     ///
     /// `ExpectedStringOrObject` stands at another character, and `EofParsingValue` at the end has no place. Another name is a custom
-    /// fault at the name, which lists the variants. Behind the brace come the faults of a key and of its colon, at the brace where
+    /// fault at the name, which lists the variants. After the brace come the faults of a key and of its colon, at the brace where
     /// they have no place; `ExpectedIdentifier` stands at what begins no key, the closing brace too.
     ///
     /// ```text
