@@ -10,29 +10,36 @@ use Rattle.json5_grammar.specs.ReadValues.{document}
 use Rattle.json5_grammar.specs.Trees.{Tree, depth}
 use Rattle.json5_grammar.specs.Values.{Reads}
 use Rattle.json5_grammar.proofs.BlanksSound.{blank_refused}
-use Rattle.json5_grammar.proofs.Refusals.{Refuses, one_refusal, not_both}
+use Rattle.json5_grammar.proofs.Refusals.{Refuses, one_refusal}
+use Rattle.json5_grammar.proofs.TextsBlamed.{blames_text, text_refuses, no_blame}
+use Rattle.json5_de.specs.Faults.{FaultRelation}
 use Rattle.json5_text.specs.declared.error.Error.{Error}
 use Rattle.json5_text.specs.declared.value.Value.{Value}
 use Rattle.json5_text.specs.Errors.{code}
 use Rattle.json5_text.specs.Cursor.{Refused, IsOutOfMemory}
 use Rattle.json5_text.specs.ValueViews.{value_of}
-use Rattle.json5_de.specs.AnyTree.{FaultyTree}
+use Rattle.json5_de.specs.AnyTree.{RefusesTree, ReadingRefuses, RefusedInReading}
 use Rattle.json5_de.specs.Convert.{datum_of, every_datum}
-use Rattle.json5_de.specs.Faults.{AfterBlanks, in_blanks, after_gap, Trailing, trailing, RefusedBy, RefusedByOrMemory}
+use Rattle.json5_de.specs.Faults.{AfterBlanks, in_blanks, after_gap, Trailing, trailing, RefusedBy}
 use Rattle.json5_de.specs.Law.{TookValue, IsUnprompted}
 use Rattle.json5_de.specs.State.{State, cursor_of}
 use Rattle.json5_de.specs.Texts.{at_start, ReadsDocument, RefusesReading, in_value, after_value}
 use Rattle.json5_de.proofs.Arrays.{failed_of}
+use Rattle.json5_de.proofs.TreeFaults.{as_reading}
 use Rattle.json5_de.proofs.Taken.{input_of, placed_after}
 use Rattle.json5.specs.AnyText.{FaultyDocument, unread_text, IsRefused, ReadsText}
-use Rattle.json5.proofs.DocumentsRead.{to_end, document_complete, blanks_refused, value_refused, comment_refused, character_refused, rest_refused}
+use Rattle.json5_grammar.proofs.DocumentsRead.{to_end, blanks_refused, value_refused, comment_refused, character_refused, rest_refused}
+
+-- what reading refuses the text with
+abbrev RefusedReading : FaultRelation
+RefusedReading x reason place = Refuses (document max_depth x) x reason place
 
 -- what refuses a value of any kind
 abbrev pub any_refuses : State → Error → State → Type 0
-any_refuses s e t = RefusedByOrMemory (FaultyTree s.level) s e
+any_refuses s e t = RefusesTree s e
 
 -- a fault of the value is one of the text
-faulty_value : (x : List ℕ) (reason : Option ErrorCode) (place : Option (List ℕ)) → AfterBlanks (FaultyTree 0) x reason place → FaultyDocument x reason place
+faulty_value : (x : List ℕ) (reason : Option ErrorCode) (place : Option (List ℕ)) → AfterBlanks (ReadingRefuses 0) x reason place → RefusedReading x reason place
 faulty_value x reason place (in_blanks (before, part, shown, f)) = blanks_refused max_depth x reason place (blank_refused f)
 faulty_value x reason place (after_gap {place = there} g s k) = value_refused max_depth reason there g s k
 
@@ -41,10 +48,10 @@ faulty_rest : (t : Tree) (r : List ℕ) (reason : Option ErrorCode) (place : Opt
 faulty_rest t r reason place (in_blanks (before, part, shown, f)) = comment_refused t r reason place (blank_refused f)
 faulty_rest t r reason place (after_gap g s (trailing c q)) = character_refused t c q g s
 
-in_front : (x : List ℕ) (e : Error) → Refused (AfterBlanks (FaultyTree 0)) (unread_text x) e → Refused FaultyDocument (unread_text x) e
+in_front : (x : List ℕ) (e : Error) → Refused (AfterBlanks (ReadingRefuses 0)) (unread_text x) e → Refused RefusedReading (unread_text x) e
 in_front x e f = record { reason = f.reason; place = f.place; fault = faulty_value x f.reason f.place f.fault; says = f.says; placed = f.placed }
 
-in_rest : (x r : List ℕ) (t : Tree) (e : Error) → Reads x t r → depth t ≤ max_depth → Refused (AfterBlanks Trailing) (record { input = x; unread = r }) e → Refused FaultyDocument (unread_text x) e
+in_rest : (x r : List ℕ) (t : Tree) (e : Error) → Reads x t r → depth t ≤ max_depth → Refused (AfterBlanks Trailing) (record { input = x; unread = r }) e → Refused RefusedReading (unread_text x) e
 in_rest x r t e p low f = record {
   reason = f.reason;
   place = after_text (p.front ++ p.phrase) f.place;
@@ -53,19 +60,27 @@ in_rest x r t e p low f = record {
   placed = placed_after (at_start x) (record (at_start x) { unread = r }) e (p.front ++ p.phrase) f.place (p.split ∙ sym (append_assoc p.front p.phrase r)) refl f.placed;
 }
 
-after_phrase : (x : List ℕ) (e : Error) (t : Tree) (new : State) → TookValue (at_start x) t new → RefusedBy Trailing new e → Refused FaultyDocument (unread_text x) e
+after_phrase : (x : List ℕ) (e : Error) (t : Tree) (new : State) → TookValue (at_start x) t new → RefusedBy Trailing new e → Refused RefusedReading (unread_text x) e
 after_phrase x e t new took k =
     in_rest x new.unread t e took.reads (let low = took.shallow in omega (arith, low))
     (subst (λ i. Refused (AfterBlanks Trailing) (record { input = i; unread = new.unread }) e) (input_of took.rest) (k (failed_of took.rest)))
 
-in_the_value : (x : List ℕ) (e : Error) → RefusedByOrMemory (FaultyTree 0) (at_start x) e → IsOutOfMemory e ⊎ Refused FaultyDocument (unread_text x) e
+in_the_value : (x : List ℕ) (e : Error) → RefusedInReading (at_start x) e → IsOutOfMemory e ⊎ Refused RefusedReading (unread_text x) e
 in_the_value x e (inl memory) = inl memory
 in_the_value x e (inr k) = inr (in_front x e (k refl))
 
+-- it is the text's fault
+as_fault : (x : List ℕ) (e : Error) → Refused RefusedReading (unread_text x) e → Refused FaultyDocument (unread_text x) e
+as_fault x e f = record { reason = f.reason; place = f.place; fault = blames_text max_depth x f.reason f.place f.fault; says = f.says; placed = f.placed }
+
+memory_or_fault : (x : List ℕ) (e : Error) → IsOutOfMemory e ⊎ Refused RefusedReading (unread_text x) e → IsOutOfMemory e ⊎ Refused FaultyDocument (unread_text x) e
+memory_or_fault x e (inl m) = inl m
+memory_or_fault x e (inr f) = inr (as_fault x e f)
+
 -- a refusal has a fault of the text
 cause_of : (x : List ℕ) (e : Error) → RefusesReading every_datum any_refuses x e → IsOutOfMemory e ⊎ Refused FaultyDocument (unread_text x) e
-cause_of x e (in_value new k) = in_the_value x e k
-cause_of x e (after_value t c new took is k) = inr (after_phrase x e t new took k)
+cause_of x e (in_value new k) = memory_or_fault x e (in_the_value x e (as_reading (at_start x) e k))
+cause_of x e (after_value t c new took is k) = inr (as_fault x e (after_phrase x e t new took k))
 
 pub text_refused : (x : List ℕ) (e : Error) → RefusesReading every_datum any_refuses x e → IsUnprompted e → IsRefused x e
 text_refused x e refused unprompted = record { cause = cause_of x e refused; unprompted = unprompted }
@@ -91,7 +106,7 @@ memory_refused x e m = record { cause = inl m; unprompted = λ k. let same : cod
 -- ---- one refusal
 
 pub one_fault : (x : List ℕ) (reason other : Option ErrorCode) (place there : Option (List ℕ)) → FaultyDocument x reason place → FaultyDocument x other there → (reason ≡ other) × (place ≡ there)
-one_fault x reason other place there f g = one_refusal (document max_depth x) x reason other place there f g
+one_fault x reason other place there f g = one_refusal (document max_depth x) x reason other place there (text_refuses max_depth x reason place f) (text_refuses max_depth x other there g)
 
 pub no_fault : (x : List ℕ) (t : Tree) (reason : Option ErrorCode) (place : Option (List ℕ)) → Doc max_depth x t → FaultyDocument x reason place → ⊥
-no_fault x t reason place d f = not_both (document max_depth x) x [] t reason place (document_complete max_depth x t d) f
+no_fault x t reason place d f = no_blame max_depth x t reason place d f

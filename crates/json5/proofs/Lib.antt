@@ -1,5 +1,4 @@
 -- Lemmas.
-pub mod DocumentsRead
 pub mod AnyTexts
 pub mod Formats
 pub mod Names

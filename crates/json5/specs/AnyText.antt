@@ -2,21 +2,21 @@
 use Rattle.std.specs.Prelude.{◌≡◌, ◌⊎◌, ℕ, List, Option, Result, IfOk, IfErr, MatchResult}
 use Rattle.json5_grammar.specs.declared.code.ErrorCode.{ErrorCode}
 use Rattle.json5_grammar.specs.Documents.{Doc, max_depth}
-use Rattle.json5_grammar.specs.Reading.{Place, bad, IsAt}
-use Rattle.json5_grammar.specs.ReadValues.{document}
+use Rattle.json5_grammar.specs.Refusals.{BlamesText}
 use Rattle.json5_grammar.specs.Trees.{Tree}
 use Rattle.json5_text.specs.declared.error.Error.{Error}
 use Rattle.json5_text.specs.declared.value.Value.{Value}
 use Rattle.json5_text.specs.Cursor.{Cursor, Refused, IsOutOfMemory}
-use Rattle.json5_text.specs.ValueViews.{value_of}
+use Rattle.json5_text.specs.ValueViews.{Datum, value_of}
 use Rattle.json5_de.specs.Convert.{datum_of}
 use Rattle.json5_de.specs.Faults.{FaultRelation}
 use Rattle.json5_de.specs.Law.{IsUnprompted}
+use Rattle.json5_de.specs.State.{State}
+use Rattle.json5_de.specs.Texts.{ReadsWholeText}
 
--- what reading on lists refuses the whole text with: the fault of its value, where an end has the place of the innermost open
--- bracket, or that of what stands after the value
+-- the text's fault, with what can be read before it
 abbrev pub FaultyDocument : FaultRelation
-FaultyDocument x reason place = (p : Place) × (document max_depth x ≡ bad reason p) × IsAt x place p
+FaultyDocument = BlamesText max_depth
 
 -- a text has at most one fault of the relation
 abbrev pub IsOneFault : FaultRelation → Type 0
@@ -40,3 +40,7 @@ pub record ReadsText (x : List ℕ) (result : Result Value Error) : Type 0 where
   pub sound : IfOk result (λ v. (t : Tree) × Doc max_depth x t × (value_of v ≡ datum_of t))
   pub complete : (t : Tree) → Doc max_depth x t → MatchResult result (λ v. value_of v ≡ datum_of t) IsOutOfMemory
   pub refused : IfErr result (IsRefused x)
+
+-- each answer that the clauses of `from_str` allow a type of this conversion and these refusals is that of a value of any kind
+abbrev pub ReadsEachText : (Tree → Option Datum) → (State → Error → State → Type 0) → Type 0
+ReadsEachText convert refuses = (x : List ℕ) (result : Result Value Error) → ReadsWholeText value_of convert refuses x result → ReadsText x result

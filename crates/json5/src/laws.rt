@@ -15,7 +15,7 @@ ghost use Rattle.json5_de.specs.ConvertLists.{option_of};
 ghost use Rattle.json5_ser.specs.WrittenTrees.{null, boolean, number, text, natural, integer, natural_key, integer_key};
 ghost use Rattle.json5_ser.specs.Marks.{marks, is_plain};
 ghost use Rattle.json5_ser.specs.ValueTrees.{datum_tree};
-ghost use Rattle.json5.specs.AnyText.{FaultyDocument, IsOneFault, IsNoDocument};
+ghost use Rattle.json5.specs.AnyText.{FaultyDocument, IsOneFault, IsNoDocument, ReadsEachText};
 ghost use Rattle.json5.specs.Formatted.{IsFormatted};
 ghost use Rattle.json5.specs.ReadsBack.{ReadsBack, KeyReadsBack, PairsReadBack, OrderStays, TurnStays, list_tree, list_of};
 
@@ -23,6 +23,7 @@ use json5_de::{Deserialize, DeserializeKey};
 use json5_ser::{Serialize, SerializeKey};
 use json5_text::decimal::Decimal;
 use json5_text::input::Input;
+use json5_text::value::Value;
 use std::hash::Hash;
 
 /// Null, booleans, numbers in range and texts read back. As a slice a text reads back exactly where it is written without a
@@ -75,6 +76,13 @@ pub fn maps_read_back<I: Input, K: DeserializeKey<I> + Ord + Hash, V: Deserializ
 /// What is written of a `Value` reads back as the same value.
 pub fn values_read_back()
     ensures { (d : Datum) → ReadsBack datum_tree every_datum (λ d. d) d }
+{}
+
+/// What the clauses of `from_str` come to at `Value`. Exactly the documents are read, each as the value of its tree, unless memory
+/// runs out. Any other text is refused with its one fault of the fault table, at its place; what stands before the faulty part begins
+/// a document, and no document goes on past the character that shows the fault.
+pub fn values_read<I: Input>()
+    ensures { ReadsEachText ⟦<Value as Deserialize<I>>⟧.convert ⟦<Value as Deserialize<I>>⟧.refuses }
 {}
 
 /// A text has one fault at most, of one code and one place, and then it is no document.

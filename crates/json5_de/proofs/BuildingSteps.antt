@@ -26,8 +26,7 @@ use Rattle.json5_grammar.proofs.ValueSteps.{read_quote, read_numeral}
 use Rattle.json5_text.specs.declared.error.Error.{Error}
 use Rattle.json5_text.specs.declared.key_text.KeyText.{KeyText}
 use Rattle.json5_text.specs.declared.value.Value.{Value}
-use Rattle.json5_text.specs.Cursor.{IsOutOfMemory}
-use Rattle.json5_text.specs.Errors.{code, kind_of, place_of}
+use Rattle.json5_text.specs.Errors.{LacksMemory, code, kind_of, place_of}
 use Rattle.json5_text.specs.Keys.{KeyIs}
 use Rattle.json5_text.specs.Tokens.{FaultyKey, at_quote, at_name, FaultyNumber, FaultyString}
 use Rattle.json5_text.specs.ValueViews.{value_of}
@@ -114,7 +113,7 @@ pub key_taken : (old new : State) (next : Option ℕ) (none : Bool) (result : Re
     → OnErr result (GivesUp old new) → Keeps (IsFoundKey old.input) (key old.unread) old new result
 key_taken old new next none (Ok k) peeked test is ready scalars (s, u, plain, took, spelled, same_text) refused failed =
     takes old new (key old.unread) (u, plain) k (same_text, chars-encodes u (key_scalars old.unread new.unread took.split scalars spelled)) (gave_text old new (key old.unread) (u, plain) s (ap key took.split ∙ key_complete spelled) took)
-key_taken old new next none (Err e) peeked test is ready scalars given (inl memory) failed = not_taken old new (key old.unread) e (inl memory) failed
+key_taken old new next none (Err e) peeked test is ready scalars given (inl memory) failed = not_taken old new (key old.unread) e (inl memory.kind) failed
 key_taken old new next none (Err e) peeked test is ready scalars given (inr f) failed =
     let (c, found) = some_from next none test is in
     let (r, x) = some_next old.unread c (sym peeked ∙ found) in
@@ -127,11 +126,12 @@ key_copied old mid k t (a, (is, same), g) copied =
     takes old mid (key old.unread) a t (ap chars (copied a.0 a.1 (subst (λ z. KeyIs z a.0 a.1 k) (sym (input_of g.took.rest)) is)) ∙ same) g
 
 -- memory ran out for it
-pub key_not_copied : (old mid new : State) (k : KeyText) (e : Error) (given : (a : List ℕ × Bool) × IsFoundKey old.input k a × Gave (key old.unread) a old mid) → ((u : List ℕ) (plain : Bool) → KeyIs mid.input u plain k → IsOutOfMemory e)
+pub key_not_copied : (old mid new : State) (k : KeyText) (e : Error) (given : (a : List ℕ × Bool) × IsFoundKey old.input k a × Gave (key old.unread) a old mid) → ((u : List ℕ) (plain : Bool) → KeyIs mid.input u plain k → LacksMemory e)
     → new ≡ record mid { failed = true } → Keeps IsKeyText (key old.unread) old new (Err e)
 key_not_copied old mid new k e (a, (is, same), g) memory up =
     let w = gives_up mid new up in
-    not_taken old new (key old.unread) e (inl (memory a.0 a.1 (subst (λ z. KeyIs z a.0 a.1 k) (sym (input_of g.took.rest)) is))) (record { failed = w.failed; same_text = w.same_text ∙ input_of g.took.rest })
+    let lacks = memory a.0 a.1 (subst (λ z. KeyIs z a.0 a.1 k) (sym (input_of g.took.rest)) is) in
+    not_taken old new (key old.unread) e (inl lacks.kind) (record { failed = w.failed; same_text = w.same_text ∙ input_of g.took.rest })
 
 -- ---- the next key
 
@@ -215,7 +215,7 @@ scalar_refused old new e k = not_taken old new (tree_at old) e (inr (tree_blamed
 module _ (old new : State) (c : ℕ) (first : slice_get old.unread 0 ≡ Some c) (found : ValueKind) (at : found ≡ kind_at c) (e : Error) (ready : IsReady old) (failed : GivesUp old new) where
   -- memory ran out in a token, or it is refused as reading does
   token_refused : {A : Type 0} {F : _} (m : Read A) → Lacks F → ((reason : Option ErrorCode) (place : Option (List ℕ)) → F old.unread reason place → Refuses m old.unread reason place) → value_at old ≡ forget m → RefusesToken F old e → Keeps IsOfTree (tree_at old) old new (Err e)
-  token_refused m l k is (inl memory) = not_taken old new (tree_at old) e (inl memory) failed
+  token_refused m l k is (inl memory) = not_taken old new (tree_at old) e (inl memory.kind) failed
   token_refused m l k is (inr f) =
       not_taken old new (tree_at old) e
       (inr (tree_blamed old e (blames_as old.input old.input m (value_at old) e refl (λ r p b. is ∙ ap forget b) (blames_refused old m e ready l k f)))) failed

@@ -15,7 +15,7 @@ use Rattle.json5_text.specs.Cursor.{Says, IsPlaced}
 use Rattle.json5_text.specs.Tokens.{FaultyBlanks}
 use Rattle.json5_de.specs.State.{State, cursor_of}
 use Rattle.json5_de.specs.Law.{Gives, Completes}
-use Rattle.json5_de.specs.Faults.{AfterBlanks, in_blanks, after_gap, RefusedBy, RefusedByOrMemory, IsUnplaced, IsAfter, AtEnd, AtOther, EndsWith, EndsWithOrMemory, DiffersWith, DiffersWithOrMemory}
+use Rattle.json5_de.specs.Faults.{AfterBlanks, in_blanks, after_gap, RefusedBy, RefusedByOr, RefusedByOrMemory, IsUnplaced, IsAfter, AtEnd, AtOther, EndsWith, EndsWithOr, DiffersWith, DiffersWithOr}
 use Rattle.json5_grammar.proofs.Basics.{first_same, true_false}
 
 -- a kind of value: what is refused where one is expected, its trees, what begins one, and the codes at the end and at another character
@@ -110,20 +110,20 @@ differs_from a content old new (Err e) g k w o = other_fault a old e w o k
 
 -- ---- the same, unless memory runs out
 
-pub ends_or_memory : {V C : Type 0} {F : List ℕ → Option ErrorCode → Option (List ℕ) → Type 0} {convert : Tree → Option C} {begins : ℕ → Bool} {ends differs : ErrorCode} → Expected F convert begins ends differs
-    → (content : V → C) (old new : State) (result : Result V Error) → IfOk result (λ v. Gives content convert old new v) → IfErr result (RefusedByOrMemory F old) → EndsWithOrMemory ends old result
-ends_or_memory a content old new (Ok v) (t, took, is) k at = end_no_value old.unread new.unread t at.1 took.reads
-ends_or_memory a content old new (Err e) g (inl m) at = inl m
-ends_or_memory a content old new (Err e) g (inr k) at = inr (end_fault a old e at k)
+pub ends_or_memory : {V C : Type 0} (Lacks : Error → Type 0) {F : List ℕ → Option ErrorCode → Option (List ℕ) → Type 0} {convert : Tree → Option C} {begins : ℕ → Bool} {ends differs : ErrorCode} → Expected F convert begins ends differs
+    → (content : V → C) (old new : State) (result : Result V Error) → IfOk result (λ v. Gives content convert old new v) → IfErr result (RefusedByOr Lacks F old) → EndsWithOr Lacks ends old result
+ends_or_memory Lacks a content old new (Ok v) (t, took, is) k at = end_no_value old.unread new.unread t at.1 took.reads
+ends_or_memory Lacks a content old new (Err e) g (inl m) at = inl m
+ends_or_memory Lacks a content old new (Err e) g (inr k) at = inr (end_fault a old e at k)
 
-pub differs_or_memory : {V C : Type 0} {F : List ℕ → Option ErrorCode → Option (List ℕ) → Type 0} {convert : Tree → Option C} {begins : ℕ → Bool} {ends differs : ErrorCode} → Expected F convert begins ends differs
-    → (content : V → C) (old new : State) (result : Result V Error) → IfOk result (λ v. Gives content convert old new v) → IfErr result (RefusedByOrMemory F old) → DiffersWithOrMemory begins differs old result
-differs_or_memory a content old new (Ok v) (t, took, is) k w o = other_no_value a old.unread w o.more new.unread o.char t (content v) o.blank o.solid o.other o.split is took.reads
-differs_or_memory a content old new (Err e) g (inl m) w o = inl m
-differs_or_memory a content old new (Err e) g (inr k) w o = inr (other_fault a old e w o k)
+pub differs_or_memory : {V C : Type 0} (Lacks : Error → Type 0) {F : List ℕ → Option ErrorCode → Option (List ℕ) → Type 0} {convert : Tree → Option C} {begins : ℕ → Bool} {ends differs : ErrorCode} → Expected F convert begins ends differs
+    → (content : V → C) (old new : State) (result : Result V Error) → IfOk result (λ v. Gives content convert old new v) → IfErr result (RefusedByOr Lacks F old) → DiffersWithOr Lacks begins differs old result
+differs_or_memory Lacks a content old new (Ok v) (t, took, is) k w o = other_no_value a old.unread w o.more new.unread o.char t (content v) o.blank o.solid o.other o.split is took.reads
+differs_or_memory Lacks a content old new (Err e) g (inl m) w o = inl m
+differs_or_memory Lacks a content old new (Err e) g (inr k) w o = inr (other_fault a old e w o k)
 
 pub completes_or_memory : {V C : Type 0} {F : List ℕ → Option ErrorCode → Option (List ℕ) → Type 0} {convert : Tree → Option C} {begins : ℕ → Bool} {ends differs : ErrorCode} → Expected F convert begins ends differs
     → (old : State) (result : Result V Error) → IfErr result (RefusedByOrMemory F old) → Completes convert old result
 completes_or_memory a old (Ok v) k t r c live reads shallow is = tt
-completes_or_memory a old (Err e) (inl m) t r c live reads shallow is = m
+completes_or_memory a old (Err e) (inl m) t r c live reads shallow is = m.kind
 completes_or_memory a old (Err e) (inr k) t r c live reads shallow is = absurd (wrongly_refused a old e t r c live reads is k)

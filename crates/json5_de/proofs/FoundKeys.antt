@@ -2,12 +2,12 @@
 use Rattle.std.proofs.Common.{◌≡◌, ℕ, Bool, false, List, [], ◌++◌, refl, ap, sym, ◌∙◌, subst, ◌⊎◌, inl, inr, Option, Some, None}
 use Rattle.std.specs.Prelude.{Result, Ok, Err, IsErrAnd, length}
 use Rattle.std.specs.Str.{encode_utf8_all, chars}
+use Rattle.std.proofs.lemmas.Bool.{false≢true}
 use Rattle.std.proofs.lemmas.List.{append-nil}
 use Rattle.std.proofs.lemmas.Option.{same_Some}
 use Rattle.std.proofs.lemmas.Str.{chars-encodes}
 use Rattle.json5_grammar.specs.declared.code.ErrorCode.{ErrorCode}
 use Rattle.json5_grammar.specs.declared.code.ErrorCode.TheVariants as codes
-use Rattle.json5_grammar.specs.declared.position.Position.{Position}
 use Rattle.json5_grammar.specs.Blanks.{Blanks, Gap, BlankFault}
 use Rattle.json5_grammar.specs.Documents.{Doc, max_depth}
 use Rattle.json5_grammar.specs.Members.{ReadsKey}
@@ -25,8 +25,8 @@ use Rattle.std.specs.Result.{result_ok}
 use Rattle.json5_text.specs.Bytes.{bytes_of}
 use Rattle.json5_text.specs.declared.byte_buf.ByteBuf.{ByteBuf}
 use Rattle.json5_text.specs.declared.error.Error.{Error}
-use Rattle.json5_text.specs.Errors.{code, custom, kind_of, place_of, SaysAt}
-use Rattle.json5_text.specs.Cursor.{Refused, Says, IsOutOfMemory, IsPositionOf}
+use Rattle.json5_text.specs.Errors.{LacksMemory, code, custom, kind_of, place_of}
+use Rattle.json5_text.specs.Cursor.{Refused, Says, IsOutOfMemory}
 use Rattle.json5_text.specs.Tokens.{FaultyBlanks, FaultyKey}
 use Rattle.json5_de.specs.declared.key_reads.FoundKey.{FoundKey}
 use Rattle.json5_de.specs.State.{State, GivesUp, cursor_of}
@@ -35,7 +35,7 @@ use Rattle.json5_de.specs.ConvertLists.{if_some}
 use Rattle.json5_de.specs.Faults.{AfterBlanks, in_blanks, after_gap, RefusedBy, RefusedByOrMemory}
 use Rattle.json5_de.specs.Keys.{TookKey, KeyConversion, GivesKey, CompletesKey, OneKeyAnswer, ReadsOneKey, every_key}
 use Rattle.json5_de.specs.KeyRows.{KeyFault, KeyRow, NotKey, no_key, other_key, ReadsKeyAs, not_converted, coded_text_key, text_key, bytes_key, document_key, document_of, NotDocument, some_of}
-use Rattle.json5_de.specs.KeySteps.{TookKeyAt}
+use Rattle.json5_de.specs.KeySteps.{TookKeyAt, IsTextFault, no_memory, at_key, is_out_of_memory}
 use Rattle.json5_de.specs.Rows.{Row, RefusedAs}
 use Rattle.json5_de.specs.Steps.{PassedGap, IsMismatch, IsMismatchOf, IsUndecoded}
 use Rattle.json5_de.specs.Texts.{ReadsDocument, RefusesReading}
@@ -102,7 +102,7 @@ no_key_there old e (inl m) = inl m
 no_key_there old e (inr k) = inr (λ live. let f = k live in record { reason = f.reason; place = f.place; fault = after_key old.unread f.reason f.place f.fault; says = f.says; placed = f.placed })
 
 key_other : (old : State) (e : Error) → RefusedByOrMemory FaultyKey old e → old.failed ≡ false → IsUnprompted e
-key_other old e (inl m) live = memory_other e m
+key_other old e (inl m) live = memory_other e m.kind
 key_other old e (inr k) live = refused_other key_lacks old e k live
 
 -- no key was found
@@ -149,8 +149,8 @@ refused_key {IsFault = IsFault} old new key e reason k fault says placed = refus
 })
 
 -- memory ran out
-pub key_lacks_memory : {V C : Type 0} (row : KeyRow C) (content : V → C) (old new last : State) (key : FoundKey) (e : Error) → TookKeyAt old new key → IsOutOfMemory e → GivesUp new last → ReadsKeyAs row content old last (Err e)
-key_lacks_memory row content old new last key e k m failed = refuses_found row content old new last key e k (inr m) (inl m) (memory_other e m) failed
+pub key_lacks_memory : {V C : Type 0} (row : KeyRow C) (content : V → C) (old new last : State) (key : FoundKey) (e : Error) → TookKeyAt old new key → LacksMemory e → GivesUp new last → ReadsKeyAs row content old last (Err e)
+key_lacks_memory row content old new last key e k m failed = refuses_found row content old new last key e k (inr m.kind) (inl m) (memory_other e m.kind) failed
 
 -- ---- texts
 
@@ -159,7 +159,7 @@ pub key_is_text : {V C : Type 0} {of_other : Option ErrorCode} (f : KeyConversio
 key_is_text f content old new key v k is = key_ok content f _ old new v (k.text, k.plain, took_key old new key k, is)
 
 pub mismatch_other : (of_other : Option ErrorCode) (input : List ℕ) (start : ℕ) (e : Error) → (of_other ≡ Some codes.Failed → ⊥) → IsMismatchOf of_other input start e → IsUnprompted e
-mismatch_other of_other input start e unlike (inl m) = memory_other e m
+mismatch_other of_other input start e unlike (inl m) = memory_other e m.kind
 mismatch_other None input start e unlike (inr ((own, says), placed)) = λ k. let same : custom own ≡ code codes.Failed = sym says ∙ k in absurd (cc)
 mismatch_other (Some c) input start e unlike (inr (says, placed)) = λ k. let same : code c ≡ code codes.Failed = sym says ∙ k in unlike (ap Some (cc))
 
@@ -198,31 +198,41 @@ key_is_document row content old new key v x k same (t, doc, is) =
     key_ok content (document_of row.convert) _ old new v (k.text, k.plain, took_key old new key k, converts row.convert k.text k.plain t (content v) (subst (λ z. Doc max_depth z t) same doc) is)
 
 -- it isn't
-pub key_no_document : {V C : Type 0} (row : Row C) (content : V → C) (old new last : State) (key : FoundKey) (x : List ℕ) (own e : Error) (position : Position) → (k : TookKeyAt old new key) → x ≡ k.text → ReadsDocument content row.convert x (Err own)
-    → RefusesReading row.convert (RefusedAs row) x own → IsUnprompted own → IsPositionOf new.input key.start position → SaysAt (kind_of own) (Some position) e → GivesUp new last → ReadsKeyAs (document_key row) content old last (Err e)
-key_no_document {C = C} row content old new last key x own e position k same complete refuses other there says failed = let gives_up = given_up_after old k.between new last k.spelling k.passed k.took failed in record {
+pub key_no_document : {V C : Type 0} (row : Row C) (content : V → C) (old new last : State) (key : FoundKey) (x : List ℕ) (own e : Error) → (k : TookKeyAt old new key) → x ≡ k.text → ReadsDocument content row.convert x (Err own)
+    → RefusesReading row.convert (RefusedAs row) x own → IsUnprompted own → IsTextFault new.input key.start own e → GivesUp new last → ReadsKeyAs (document_key row) content old last (Err e)
+key_no_document {C = C} row content old new last key x own e k same complete refuses other fault failed = let gives_up = given_up_after old k.between new last k.spelling k.passed k.took failed in record {
   sound = tt;
-  complete = completes;
-  refused = refused (refused_text row k.text k.plain own (subst (λ z. RefusesReading row.convert (RefusedAs row) z own) same refuses));
-  unprompted = λ live is. other (sym says.kind ∙ is);
+  complete = λ u plain r c live reads is. lacks fault (completes u plain r c reads is);
+  refused = refused fault (refused_text row k.text k.plain own (subst (λ z. RefusesReading row.convert (RefusedAs row) z own) same refuses));
+  unprompted = λ live. not_failed fault;
   same_text = gives_up.same_text;
   failed = gives_up.failed;
   before = λ h. true_false h k.passed.live;
 }
   where
-    completes : (u : List ℕ) (plain : Bool) (r : List ℕ) (c : C) → old.failed ≡ false → ReadsKey old.unread u plain r → document_of row.convert u plain ≡ Some c → IsOutOfMemory e
-    completes u plain r c live reads is =
+    completes : (u : List ℕ) (plain : Bool) (r : List ℕ) (c : C) → ReadsKey old.unread u plain r → document_of row.convert u plain ≡ Some c → IsOutOfMemory own
+    completes u plain r c reads is =
         let (text, mark) = the_key old new key u plain r k reads in
         let (t, doc, found) = is_document row.convert u plain c is in
-        says.kind ∙ complete t c (subst (λ z. Doc max_depth z t) (sym (same ∙ text)) doc) found
+        complete t c (subst (λ z. Doc max_depth z t) (sym (same ∙ text)) doc) found
 
-    same_words : (reason : Option ErrorCode) → Says reason own → Says reason e
-    same_words None (words, is) = (words, says.kind ∙ is)
-    same_words (Some c) is = says.kind ∙ is
+    lacks : IsTextFault new.input key.start own e → IsOutOfMemory own → IsOutOfMemory e
+    lacks (no_memory is memory) m = memory.kind
+    lacks (at_key none there is says) m = says.kind ∙ m
 
-    refused : IsRefusedText row k.text k.plain own → RefusedByOrMemory (NotKey (NotDocument row)) old e
-    refused (inl m) = inl (says.kind ∙ m)
-    refused (inr (reason, fault, is)) = inr (refused_key old new key e reason k fault (same_words reason is) (λ before rest split counted. says.place ∙ ap Some (there before rest split counted)))
+    not_failed : IsTextFault new.input key.start own e → IsUnprompted e
+    not_failed (no_memory is memory) = memory_other e memory.kind
+    not_failed (at_key none there is says) = λ failed. other (sym says.kind ∙ failed)
+
+    same_words : (reason : Option ErrorCode) → kind_of e ≡ kind_of own → Says reason own → Says reason e
+    same_words None kind (words, is) = (words, kind ∙ is)
+    same_words (Some c) kind is = kind ∙ is
+
+    refused : IsTextFault new.input key.start own e → IsRefusedText row k.text k.plain own → RefusedByOrMemory (NotKey (NotDocument row)) old e
+    refused (no_memory is memory) why = inl memory
+    refused (at_key none there is says) (inl m) = absurd (false≢true (sym none ∙ ap is_out_of_memory m.kind))
+    refused (at_key none there is says) (inr (reason, why, words)) =
+        inr (refused_key old new key e reason k why (same_words reason says.kind words) (λ before rest split counted. says.place ∙ ap Some (is before rest split counted)))
 
 -- ---- one answer
 

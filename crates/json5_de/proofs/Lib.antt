@@ -32,6 +32,7 @@ pub mod PassingMembers
 pub mod PassingValues
 pub mod Nesting
 pub mod PassingBrackets
+pub mod TreeFaults
 pub mod PassingTrees
 pub mod BuildingSteps
 pub mod BuildingRests

@@ -71,7 +71,7 @@ blames_token {A = A} s m e r l k none (inl memory) = by_answer m refl
   where
     by_answer : (n : Read A) → m ≡ n → Blames s.input m e
     by_answer (got a y) is = absurd (none a y is)
-    by_answer (bad c p) is = record { reason = c; place = p; is_bad = is; says = inl memory; unprompted = memory_other e memory }
+    by_answer (bad c p) is = record { reason = c; place = p; is_bad = is; says = inl memory.kind; unprompted = memory_other e memory.kind }
 
 pub forget_got : {A : Type 0} (m : Read A) (u : Unit {0}) (r : List ℕ) → forget m ≡ got u r → (a : A) × (m ≡ got a r)
 forget_got (got a y) u r e = let k : y ≡ r = cc in (a, ap (got a) k)

@@ -19,8 +19,8 @@ use Rattle.json5_grammar.proofs.ValuesSound.{read_sound, read_place}
 use Rattle.json5_text.specs.declared.error.Error.{Error}
 use Rattle.json5_text.specs.Cursor.{Refused, Says, IsOutOfMemory}
 use Rattle.json5_text.specs.Tokens.{FaultyBlanks}
-use Rattle.json5_de.specs.AnyTree.{FaultyTree, ReadsTree, nothing, every_value}
-use Rattle.json5_de.specs.Faults.{RefusedByOrMemory}
+use Rattle.json5_de.proofs.TreeFaults.{as_fault}
+use Rattle.json5_de.specs.AnyTree.{ReadingRefuses, RefusedInReading, ReadsTree, nothing, every_value}
 use Rattle.json5_de.specs.Law.{TookValue, StaysFailed, Unprompted}
 use Rattle.json5_de.specs.Passing.{IsReady, StandsAt, Blames, Gave, Whole, value_at}
 use Rattle.json5_de.specs.Rows.{every_tree}
@@ -90,7 +90,7 @@ readable old mid e t r p reads low b =
     absurd (cc)
 
 -- the place of a fault in the rest of the text
-placed_in : (mid : State) (reason : Option ErrorCode) (p : Place) (e : Error) → read (max_depth - mid.level) mid.unread ≡ bad reason p → Says reason e → StandsAt mid.input p e → IsIn mid.unread p → Refused (FaultyTree mid.level) (cursor_of mid) e
+placed_in : (mid : State) (reason : Option ErrorCode) (p : Place) (e : Error) → read (max_depth - mid.level) mid.unread ≡ bad reason p → Says reason e → StandsAt mid.input p e → IsIn mid.unread p → Refused (ReadingRefuses mid.level) (cursor_of mid) e
 placed_in mid reason (here q) e is says (front, whole, place) (b, split) = record {
   reason = reason;
   place = Some b;
@@ -100,16 +100,16 @@ placed_in mid reason (here q) e is says (front, whole, place) (b, split) = recor
 }
 placed_in mid reason inner e is says place k = record { reason = reason; place = None; fault = (inner, is, tt); says = says; placed = place }
 
-blamed : (old mid : State) (e : Error) → PassedGap old mid → Blames mid.input (value_at mid) e → RefusedByOrMemory (FaultyTree old.level) old e
+blamed : (old mid : State) (e : Error) → PassedGap old mid → Blames mid.input (value_at mid) e → RefusedInReading old e
 blamed old mid e p b = by_cause b.says
   where
     is : read (max_depth - mid.level) mid.unread ≡ bad b.reason b.place
     is = forget_bad (read (max_depth - mid.level) mid.unread) b.reason b.place b.is_bad
 
-    by_cause : IsOutOfMemory e ⊎ (Says b.reason e × StandsAt mid.input b.place e) → RefusedByOrMemory (FaultyTree old.level) old e
+    by_cause : IsOutOfMemory e ⊎ (Says b.reason e × StandsAt mid.input b.place e) → RefusedInReading old e
     by_cause (inl memory) = inl memory
     by_cause (inr (says, there)) =
-        inr (refused_token old mid e p (subst (λ n. Refused (FaultyTree n) (cursor_of mid) e) (ap (λ (s : State). s.level) p.rest) (placed_in mid b.reason b.place e is says there (read_place (max_depth - mid.level) mid.unread b.reason b.place is))))
+        inr (refused_token old mid e p (subst (λ n. Refused (ReadingRefuses n) (cursor_of mid) e) (ap (λ (s : State). s.level) p.rest) (placed_in mid b.reason b.place e is says there (read_place (max_depth - mid.level) mid.unread b.reason b.place is))))
 
 -- the value was refused
 pub tree_refused : {V C : Type 0} (content : V → C) (convert : Tree → Option C) (free : Tree → Bool) (old mid new : State) (e : Error) → PassedGap old mid → Blames mid.input (value_at mid) e → GivesUp mid new → ReadsTree content convert free old new (Err e)
@@ -117,7 +117,7 @@ tree_refused content convert free old mid new e p b g = record {
   sound = tt;
   complete = λ t r c live reads shallow is. absurd (readable old mid e t r p reads shallow b);
   no_memory = λ t r c live reads shallow is free. absurd (readable old mid e t r p reads shallow b);
-  refused = blamed old mid e p b;
+  refused = as_fault old e (blamed old mid e p b);
   unprompted = λ live. b.unprompted;
   same_text = g.same_text ∙ input_of p.rest;
   failed = g.failed;
@@ -131,7 +131,7 @@ tree_not_begun content convert free old new e k g before unprompted = record {
   sound = tt;
   complete = λ t r c live reads shallow is. absurd (blanks_no_value old e t r (k live) reads);
   no_memory = λ t r c live reads shallow is free. absurd (blanks_no_value old e t r (k live) reads);
-  refused = inr (refused_blanks old e k);
+  refused = as_fault old e (inr (refused_blanks old e k));
   unprompted = unprompted;
   same_text = g.same_text;
   failed = g.failed;

@@ -1,5 +1,5 @@
 -- An element that has to be there.
-use Rattle.std.proofs.Common.{◌≡◌, ◌∙◌, inl, inr, Option, None, List, ℕ, Ok, Err}
+use Rattle.std.proofs.Common.{◌≡◌, ◌∙◌, Option, None, List, ℕ, Ok, Err}
 use Rattle.json5_text.specs.declared.error.Error.{Error}
 use Rattle.json5_de.specs.State.{SameText}
 use Rattle.json5_de.specs.Access.{Seen, IsAtBracket}
@@ -12,8 +12,7 @@ pub bracket_before : (old new : Seen) (e : Error) → new.start ≡ old.start �
 bracket_before old new e start same at before b = at before (record { rest = b.rest; split = same ∙ b.split; counted = start ∙ b.counted })
 
 pub short_before : (old new : Seen) (e : Error) → new.start ≡ old.start → SameText old.reader new.reader → IsTooShort new e → IsTooShort old e
-short_before old new e start same (inl m) = inl m
-short_before old new e start same (inr (says, at)) = inr (says, bracket_before old new e start same at)
+short_before old new e start same (says, at) = (says, bracket_before old new e start same at)
 
 -- what a refused call for an element leaves
 pub left_refused : {V C : Type 0} (content : V → C) (convert : Tree → Option C) (ts : Trees) (r : List ℕ) (new : Seen) (e : Error) → LeavesFewer content convert ts r new (Err e) → LeavesRequired content convert ts r new (Err e)

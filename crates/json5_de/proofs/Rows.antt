@@ -6,6 +6,7 @@ use Rattle.json5_grammar.specs.declared.code.ErrorCode.TheVariants as codes
 use Rattle.json5_text.specs.declared.error.Error.{Error}
 use Rattle.json5_text.specs.Errors.{code, custom, kind_of}
 use Rattle.json5_text.specs.Cursor.{Cursor, Says, IsOutOfMemory}
+use Rattle.json5_text.specs.Errors.{LacksMemory}
 use Rattle.json5_grammar.specs.Values.{null_text, true_text, false_text, Stops, is_number}
 use Rattle.json5_de.specs.State.{State, GivesUp}
 use Rattle.json5_text.specs.Cursor.{Refused}
@@ -51,7 +52,7 @@ memory_other e m k = let same : code codes.OutOfMemory ≡ code codes.Failed = s
 pub unprompted_from : {V : Type 0} {F : List ℕ → Option ErrorCode → Option (List ℕ) → Type 0} → Lacks F → (m : Bool) (old : State) (result : Result V Error) → IfErr result (RefusedWith m F old) → Unprompted old result
 unprompted_from l m old (Ok v) k = tt
 unprompted_from l false old (Err e) k = refused_other l old e k
-unprompted_from l true old (Err e) (inl m) = λ live. memory_other e m
+unprompted_from l true old (Err e) (inl m) = λ live. memory_other e m.kind
 unprompted_from l true old (Err e) (inr k) = refused_other l old e k
 
 -- what a comment at fault says is something else too
@@ -129,7 +130,7 @@ refuses_value {V = V} {row = row} l m none content old mid new e p k failed = re
     (λ h. true_false h p.live)
 
 -- memory ran out after the token was taken, where no tree is free
-pub refuses_memory : {V C : Type 0} {row : Row C} → IsLawful row → row.may_lack_memory ≡ true → ((t : Tree) → row.free t ≡ false) → (content : V → C) (old mid new last : State) (e : Error) (s : List ℕ) → PassedGap old mid → TookText mid s new → IsOutOfMemory e
+pub refuses_memory : {V C : Type 0} {row : Row C} → IsLawful row → row.may_lack_memory ≡ true → ((t : Tree) → row.free t ≡ false) → (content : V → C) (old mid new last : State) (e : Error) (s : List ℕ) → PassedGap old mid → TookText mid s new → LacksMemory e
     → GivesUp new last → ReadsAs row content old last (Err e)
 refuses_memory {V = V} {row = row} l m none content old mid new last e s p k is failed = reads_err l content old last e
     (λ t r c live reads shallow converts free. absurd (let both : false ≡ true = sym (none t) ∙ free in cc))
@@ -154,7 +155,7 @@ lawful_decimal = record { expected = expects_number every_decimal; lacks = numbe
 -- ---- whole numbers
 
 -- the number in front was refused, which a whole one isn't
-pub number_refused : {V C : Type 0} (f : ℤ → Option C) (content : V → C) (old mid new : State) (e : Error) → PassedGap old mid → IsOutOfMemory e ⊎ Refused FaultyNumber (cursor_of mid) e → GivesUp mid new
+pub number_refused : {V C : Type 0} (f : ℤ → Option C) (content : V → C) (old mid new : State) (e : Error) → PassedGap old mid → LacksMemory e ⊎ Refused FaultyNumber (cursor_of mid) e → GivesUp mid new
     → ((s r : List ℕ) (n : Number) → mid.unread ≡ s ++ r → Num s n → NotBegun (lengthens s) r → keeps_digits n ≡ false → false ≡ true)
     → ReadsAs (whole_row f) content old new (Err e)
 number_refused f content old mid new e p k failed memory =
@@ -234,7 +235,7 @@ lawful_bytes = lawful_coded (Some codes.InvalidBytes) (λ e. absurd (cc)) digits
 
 -- the string in front was taken or refused
 pub reads_text : {V C : Type 0} (f : List ℕ → Bool → Option C) (free : Tree → Bool) (content : V → C) (old mid new : State) (result : Result V Error) → PassedGap old mid → IfOk result (Gives content (as_text f) old new)
-    → IfErr result (λ e. IsOutOfMemory e ⊎ Refused FaultyString (cursor_of mid) e) → OnErr result (GivesUp mid new) → CompletesFree free (as_text f) old result → ReadsAs (text_row f free) content old new result
+    → IfErr result (λ e. LacksMemory e ⊎ Refused FaultyString (cursor_of mid) e) → OnErr result (GivesUp mid new) → CompletesFree free (as_text f) old result → ReadsAs (text_row f free) content old new result
 reads_text f free content old mid new (Ok v) p gives k failed complete = reads_ok (text_row f free) content old new v gives
 reads_text f free content old mid new (Err e) p gives k failed complete =
     reads_err (lawful_text f free) content old new e complete (refused_or_memory old mid e (λ x reason place g. faulty_text g) p k) (given_up old mid new p failed) (λ h. true_false h p.live)
@@ -270,7 +271,7 @@ plain_completes convert old mid result p ok t r c live reads shallow is free =
     let k = plain_there old mid t r v p reads converts in
     ok k.string k.text r k.split k.is_string
 
-pub plain_refused : {V : Type 0} (content : V → List ℕ) (old mid new : State) (e : Error) → PassedGap old mid → IsOutOfMemory e ⊎ Refused FaultyString (cursor_of mid) e → GivesUp mid new → ((s u r : List ℕ) → mid.unread ≡ s ++ r → Str s u true → false ≡ true)
+pub plain_refused : {V : Type 0} (content : V → List ℕ) (old mid new : State) (e : Error) → PassedGap old mid → LacksMemory e ⊎ Refused FaultyString (cursor_of mid) e → GivesUp mid new → ((s u r : List ℕ) → mid.unread ≡ s ++ r → Str s u true → false ≡ true)
     → ReadsAs plain_row content old new (Err e)
 plain_refused content old mid new e p k failed ok =
     reads_text if_plain every_tree content old mid new (Err e) p tt k failed
@@ -290,11 +291,11 @@ answers row content old new (Err e) k = (tt, k.refused)
 
 ends_as : {V C : Type 0} {row : Row C} → IsLawful row → (m : Bool) → row.may_lack_memory ≡ m → (content : V → C) (old new : State) (result : Result V Error) → Answers m row.IsFault row.convert content old new result → EndsWhere m row.ends old result
 ends_as l false e content old new result k = ends_from l.expected content old new result k.0 k.1
-ends_as l true e content old new result k = ends_or_memory l.expected content old new result k.0 k.1
+ends_as l true e content old new result k = ends_or_memory LacksMemory l.expected content old new result k.0 k.1
 
 differs_as : {V C : Type 0} {row : Row C} → IsLawful row → (m : Bool) → row.may_lack_memory ≡ m → (content : V → C) (old new : State) (result : Result V Error) → Answers m row.IsFault row.convert content old new result → DiffersWhere m row.begins row.differs old result
 differs_as l false e content old new result k = differs_from l.expected content old new result k.0 k.1
-differs_as l true e content old new result k = differs_or_memory l.expected content old new result k.0 k.1
+differs_as l true e content old new result k = differs_or_memory LacksMemory l.expected content old new result k.0 k.1
 
 pub tells_apart : {V C : Type 0} {row : Row C} → IsLawful row → (content : V → C) → TellsApart row content
 tells_apart {row = row} l content old new result k =

@@ -12,7 +12,7 @@ use Rattle.json5_de.specs.State.{State, SameText}
 use Rattle.json5_de.specs.ConvertLists.{if_some}
 use Rattle.json5_de.specs.Faults.{RefusedBy, RefusedByOrMemory}
 use Rattle.json5_de.specs.Access.{NotOpened, IsAtBracket}
-use Rattle.json5_de.specs.AnyTree.{FaultyTree}
+use Rattle.json5_de.specs.AnyTree.{RefusesTree}
 use Rattle.json5_de.specs.Brackets.{curly}
 use Rattle.json5_de.specs.KeyRows.{RefusedAsKey, string_key}
 use Rattle.json5_de.specs.Keys.{KeyConversion}
@@ -53,10 +53,10 @@ module _ {S : Type 0} (faults : ValueFaults) {step : Step S} {old : SeenMap} whe
 
   -- a value that is passed over is refused
   pub passed_refused : {name : List ℕ} (result : Result (Unit {0}) Error) (s : S) → ((may : Tree → Bool) (e : Error) → of_any name may old e → faults name may old e) → Passes step name
-      → RefusesHere (λ s own after. RefusedByOrMemory (FaultyTree s.level) s own) old result → RefusesPair faults step s name old result
+      → RefusesHere (λ s own after. RefusesTree s own) old result → RefusesPair faults step s name old result
   passed_refused {name = name} result s one passes is = by result is
     where
-      by : (result : Result (Unit {0}) Error) → RefusesHere (λ s own after. RefusedByOrMemory (FaultyTree s.level) s own) old result → RefusesPair faults step s name old result
+      by : (result : Result (Unit {0}) Error) → RefusesHere (λ s own after. RefusesTree s own) old result → RefusesPair faults step s name old result
       by (Ok done) cause = tt
       by (Err e) cause = λ live. one (may_stand step s name) e (record { every = λ t. ap is_some (passes.same s t); fault = cause live })
 

@@ -318,6 +318,10 @@ module _ {S : Type 0} {step : Step S} {start : S} {old : SeenMap} where
             let (y, is, rest) = parts (λ y. run step y ps) (step s (encode_utf8_all u) t) z are in
             one.left u plain t ps r y (sym (ap (λ w. step s w t) named) ∙ is) left
 
+-- a field that is there leaves what was read
+pub still : {S : Type 0} {step : Step S} {s n : S} {old now new : SeenMap} {result : Result (Unit {0}) Error} → new ≡ now → ReadsPairs step s n old now result → ReadsPairs step s n old new result
+still {step = step} {s = s} {n = n} {old = old} {result = result} same reads = subst (λ w. ReadsPairs step s n old w result) (sym same) reads
+
 -- ---- a struct as a whole
 
 -- a field that is missing has its default's content

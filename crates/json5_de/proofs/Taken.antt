@@ -14,7 +14,8 @@ use Rattle.json5_grammar.proofs.BlanksSound.{gap_blanks}
 use Rattle.json5_grammar.proofs.ValueHeads.{val_head}
 use Rattle.json5_text.specs.declared.error.Error.{Error}
 use Rattle.json5_text.specs.Errors.{place_of}
-use Rattle.json5_text.specs.Cursor.{IsPlaced, Refused, IsOutOfMemory}
+use Rattle.json5_text.specs.Cursor.{IsPlaced, Refused}
+use Rattle.json5_text.specs.Errors.{LacksMemory}
 use Rattle.json5_text.specs.Tokens.{FaultyBlanks, FaultyWord}
 use Rattle.json5_de.specs.State.{State, cursor_of}
 use Rattle.json5_de.specs.Law.{TookValue}
@@ -111,6 +112,6 @@ refused_by s e wider f = record { reason = f.reason; place = f.place; fault = wi
 
 -- the token's own refusal
 pub refused_or_memory : {F G : List ℕ → Option ErrorCode → Option (List ℕ) → Type 0} (old mid : State) (e : Error) → ((x : List ℕ) (reason : Option ErrorCode) (place : Option (List ℕ)) → F x reason place → G x reason place)
-    → PassedGap old mid → IsOutOfMemory e ⊎ Refused F (cursor_of mid) e → RefusedByOrMemory G old e
+    → PassedGap old mid → LacksMemory e ⊎ Refused F (cursor_of mid) e → RefusedByOrMemory G old e
 refused_or_memory old mid e wider p (inl m) = inl m
 refused_or_memory old mid e wider p (inr f) = inr (refused_token old mid e p (refused_by mid e wider f))

@@ -17,8 +17,9 @@ use Rattle.json5_grammar.proofs.ValueSteps.{read_missing, read_nothing}
 use Rattle.json5_text.specs.declared.error.Error.{Error}
 use Rattle.json5_de.specs.declared.any.ValueKind.{ValueKind}
 use Rattle.json5_de.specs.declared.any.ValueKind.TheVariants as kind
-use Rattle.json5_de.specs.AnyTree.{FaultyTree, ReadsTree, TellsTreesApart, begins_value}
-use Rattle.json5_de.specs.Faults.{RefusedByOrMemory}
+use Rattle.json5_de.proofs.TreeFaults.{as_reading}
+use Rattle.json5_text.specs.Cursor.{IsOutOfMemory}
+use Rattle.json5_de.specs.AnyTree.{ReadingRefuses, RefusedInReading, ReadsTree, TellsTreesApart, begins_value}
 use Rattle.json5_de.specs.Law.{Gives}
 use Rattle.json5_de.specs.Scalars.{is_scalar_kind, kind_at}
 use Rattle.json5_de.specs.State.{State}
@@ -48,7 +49,7 @@ other_read d c r h =
     let t = tests_of c (kind_at c) kind.Other refl (other_kind (kind_at c) b.1) in
     forget_bad (read d (c ∷ r)) (Some codes.ExpectedValue) (here (c ∷ r)) (read_nothing d c r t.0 t.1 t.2 t.3 t.4 a.0 b.0)
 
-at_end : (level : ℕ) (reason : Option ErrorCode) (place : Option (List ℕ)) → FaultyTree level [] reason place → (reason ≡ Some codes.EofParsingValue) × (place ≡ None)
+at_end : (level : ℕ) (reason : Option ErrorCode) (place : Option (List ℕ)) → ReadingRefuses level [] reason place → (reason ≡ Some codes.EofParsingValue) × (place ≡ None)
 at_end level reason place (p, is, at) = by_place p place (sym is ∙ forget_bad (read (max_depth - level) []) (Some codes.EofParsingValue) inner (read_missing (max_depth - level))) at
   where
     by_place : (p : Place) (place : Option (List ℕ)) → fault reason p ≡ fault (Some codes.EofParsingValue) inner → IsAt [] place p → (reason ≡ Some codes.EofParsingValue) × (place ≡ None)
@@ -56,7 +57,7 @@ at_end level reason place (p, is, at) = by_place p place (sym is ∙ forget_bad 
     by_place inner None e k = (cc, refl)
     by_place inner (Some b) e k = absurd k
 
-at_other : (level c : ℕ) (r : List ℕ) (reason : Option ErrorCode) (place : Option (List ℕ)) → begins_value c ≡ false → FaultyTree level (c ∷ r) reason place → (reason ≡ Some codes.ExpectedValue) × (place ≡ Some [])
+at_other : (level c : ℕ) (r : List ℕ) (reason : Option ErrorCode) (place : Option (List ℕ)) → begins_value c ≡ false → ReadingRefuses level (c ∷ r) reason place → (reason ≡ Some codes.ExpectedValue) × (place ≡ Some [])
 at_other level c r reason place h (p, is, at) = by_place p place (sym is ∙ other_read (max_depth - level) c r h) at
   where
     nothing_before : (b q : List ℕ) → q ≡ c ∷ r → c ∷ r ≡ b ++ q → b ≡ []
@@ -68,7 +69,7 @@ at_other level c r reason place h (p, is, at) = by_place p place (sym is ∙ oth
     by_place (here q) None e k = absurd k
     by_place inner place e k = absurd (cc)
 
-no_fault : {C : Type 0} (level : ℕ) (convert : Tree → Option C) (s r : List ℕ) (t : Tree) (v : C) (reason : Option ErrorCode) (place : Option (List ℕ)) → shallow level convert t ≡ Some v → Val s t → Stops s r → FaultyTree level (s ++ r) reason place → ⊥
+no_fault : {C : Type 0} (level : ℕ) (convert : Tree → Option C) (s r : List ℕ) (t : Tree) (v : C) (reason : Option ErrorCode) (place : Option (List ℕ)) → shallow level convert t ≡ Some v → Val s t → Stops s r → ReadingRefuses level (s ++ r) reason place → ⊥
 no_fault level convert s r t v reason place e val stops (p, is, at) = by_test (nat_le (depth t) (max_depth - level)) refl e
   where
     by_test : (b : Bool) → nat_le (depth t) (max_depth - level) ≡ b → (if b then convert t else None) ≡ Some v → ⊥
@@ -85,7 +86,7 @@ first s t val = let h = val_head val in (h.char, h.more, h.is, by_test (begins_v
         sym (read_complete val [] tt (depth t) (omega arith)) ∙ ap (read (depth t)) (append-nil s ∙ is) ∙ other_read (depth t) c y e in
         absurd (cc)
 
-expects_tree : {C : Type 0} (level : ℕ) (convert : Tree → Option C) → Expected (FaultyTree level) (shallow level convert) begins_value codes.EofParsingValue codes.ExpectedValue
+expects_tree : {C : Type 0} (level : ℕ) (convert : Tree → Option C) → Expected (ReadingRefuses level) (shallow level convert) begins_value codes.EofParsingValue codes.ExpectedValue
 expects_tree level convert = record {
   at_end = at_end level;
   at_other = at_other level;
@@ -100,11 +101,11 @@ gives_shallow content convert old new v (t, took, is) =
     (t, took, ap (λ b. if b then convert t else None) within ∙ is)
 
 answers : {V C : Type 0} (content : V → C) (convert : Tree → Option C) (free : Tree → Bool) (old new : State) (result : Result V Error) → ReadsTree content convert free old new result
-    → IfOk result (λ v. Gives content (shallow old.level convert) old new v) × IfErr result (RefusedByOrMemory (FaultyTree old.level) old)
+    → IfOk result (λ v. Gives content (shallow old.level convert) old new v) × IfErr result (RefusedInReading old)
 answers content convert free old new (Ok v) k = (gives_shallow content convert old new v k.sound, tt)
-answers content convert free old new (Err e) k = (tt, k.refused)
+answers content convert free old new (Err e) k = (tt, as_reading old e k.refused)
 
 pub tells_trees_apart : {V C : Type 0} (content : V → C) (convert : Tree → Option C) (free : Tree → Bool) → TellsTreesApart content convert free
 tells_trees_apart content convert free old new result k =
     let (given, refused) = answers content convert free old new result k in
-    (ends_or_memory (expects_tree old.level convert) content old new result given refused, differs_or_memory (expects_tree old.level convert) content old new result given refused)
+    (ends_or_memory IsOutOfMemory (expects_tree old.level convert) content old new result given refused, differs_or_memory IsOutOfMemory (expects_tree old.level convert) content old new result given refused)

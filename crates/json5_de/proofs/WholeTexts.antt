@@ -16,7 +16,8 @@ use Rattle.json5_grammar.proofs.ValueHeads.{val_head, skip_value, stops_last}
 use Rattle.json5_grammar.proofs.ValuesRead.{read_complete}
 use Rattle.json5_grammar.proofs.ValuesSound.{gap_found, IsGap, read_sound}
 use Rattle.json5_text.specs.declared.error.Error.{Error}
-use Rattle.json5_text.specs.Cursor.{Says, IsOutOfMemory}
+use Rattle.json5_text.specs.Cursor.{Says}
+use Rattle.json5_text.specs.Errors.{LacksMemory}
 use Rattle.json5_de.specs.Faults.{RefusedByOrMemory}
 use Rattle.json5_de.specs.KeyRows.{converted, document_of, NotDocument, no_value, more_follows, ConvertsDocuments}
 use Rattle.json5_de.specs.Rows.{Row, RefusedAs}
@@ -85,7 +86,7 @@ converts_documents convert u plain c = (is_document convert u plain c, λ (t, do
 
 -- memory ran out, or the fault has this code
 abbrev pub IsRefusedText : {C : Type 0} → Row C → List ℕ → Bool → Error → Type 0
-IsRefusedText row u plain e = IsOutOfMemory e ⊎ ((reason : Option ErrorCode) × NotDocument row u plain reason × Says reason e)
+IsRefusedText row u plain e = LacksMemory e ⊎ ((reason : Option ErrorCode) × NotDocument row u plain reason × Says reason e)
 
 from_refused : {C : Type 0} (row : Row C) (u : List ℕ) (plain : Bool) (e : Error) → RefusedByOrMemory row.IsFault (at_start u) e → IsRefusedText row u plain e
 from_refused row u plain e (inl m) = inl m

@@ -1,25 +1,39 @@
 -- What is read where a value of any kind stands, and what is refused there.
-use Rattle.std.specs.Prelude.{◌≡◌, ◌-◌, ◌==◌, ◌||◌, ℕ, Bool, Option, Some, Result}
+use Rattle.std.specs.Prelude.{◌≡◌, ◌⊎◌, ◌-◌, ◌==◌, ◌||◌, ℕ, Bool, false, Option, Some, Result}
 use Rattle.json5_grammar.specs.declared.code.ErrorCode.TheVariants as codes
 use Rattle.json5_grammar.specs.Documents.{max_depth}
 use Rattle.json5_grammar.specs.Fronts.{of_array, of_object, opening}
 use Rattle.json5_grammar.specs.Reading.{Place, bad, IsAt}
 use Rattle.json5_grammar.specs.ReadValues.{read}
+use Rattle.json5_grammar.specs.Refusals.{BlamesValue}
 use Rattle.json5_grammar.specs.Trees.{Tree}
 use Rattle.json5_text.specs.declared.error.Error.{Error}
-use Rattle.json5_de.specs.State.{State}
+use Rattle.json5_text.specs.Cursor.{Refused, IsOutOfMemory}
+use Rattle.json5_de.specs.State.{State, cursor_of}
 use Rattle.json5_de.specs.Law.{ReadsValue}
-use Rattle.json5_de.specs.Faults.{FaultRelation, RefusedByOrMemory, EndsWithOrMemory, DiffersWithOrMemory}
+use Rattle.json5_de.specs.Faults.{FaultRelation, RefusedByOr, EndsWithOr, DiffersWithOr}
 use Rattle.json5_de.specs.Scalars.{is_scalar_kind, kind_at}
 
--- what reading on lists refuses the value in front with, so many brackets being open before it: an end has the place of the
--- innermost bracket that the value opens
+-- the fault of the value in front, so many brackets being open before it: an end has the place of the innermost bracket that the
+-- value opens
 abbrev pub FaultyTree : ℕ → FaultRelation
-FaultyTree level x reason place = (p : Place) × (read (max_depth - level) x ≡ bad reason p) × IsAt x place p
+FaultyTree level = BlamesValue (max_depth - level)
+
+-- it is refused with its fault, or since memory ran out; the place of that isn't promised
+abbrev pub RefusesTree : State → Error → Type 0
+RefusesTree s e = IsOutOfMemory e ⊎ (s.failed ≡ false → Refused (FaultyTree s.level) (cursor_of s) e)
+
+-- what reading on lists refuses the value in front with
+abbrev pub ReadingRefuses : ℕ → FaultRelation
+ReadingRefuses level x reason place = (p : Place) × (read (max_depth - level) x ≡ bad reason p) × IsAt x place p
+
+-- the same of reading on lists
+abbrev pub RefusedInReading : State → Error → Type 0
+RefusedInReading s e = RefusedByOr IsOutOfMemory (ReadingRefuses s.level) s e
 
 -- one value of any kind is read from the front, as what its tree converts to
 abbrev pub ReadsTree : {V C : Type 0} → (V → C) → (Tree → Option C) → (Tree → Bool) → State → State → Result V Error → Type 0
-ReadsTree content convert free old new result = ReadsValue content convert free (λ (s : State) e t. RefusedByOrMemory (FaultyTree s.level) s e) old new result
+ReadsTree content convert free old new result = ReadsValue content convert free (λ (s : State) e t. RefusesTree s e) old new result
 
 -- the code at the end, and that at a character that begins no value
 abbrev pub begins_value : ℕ → Bool
@@ -27,7 +41,8 @@ begins_value c = (c == opening of_array) || ((c == opening of_object) || is_scal
 
 abbrev pub TellsTreesApart : {V C : Type 0} → (V → C) → (Tree → Option C) → (Tree → Bool) → Type 0
 TellsTreesApart {V = V} content convert free =
-    (old new : State) (result : Result V Error) → ReadsTree content convert free old new result → EndsWithOrMemory codes.EofParsingValue old result × DiffersWithOrMemory begins_value codes.ExpectedValue old result
+    (old new : State) (result : Result V Error) → ReadsTree content convert free old new result
+    → EndsWithOr IsOutOfMemory codes.EofParsingValue old result × DiffersWithOr IsOutOfMemory begins_value codes.ExpectedValue old result
 
 -- every tree converts, and nothing is kept of it
 abbrev pub every_value : Tree → Option (Unit {0})

@@ -9,8 +9,8 @@ use Rattle.json5_grammar.specs.Numbers.{Number, Num}
 use Rattle.json5_grammar.specs.Strings.{Str}
 use Rattle.json5_grammar.specs.Values.{Stops, null_text, true_text, false_text}
 use Rattle.json5_text.specs.declared.error.Error.{Error}
-use Rattle.json5_text.specs.Errors.{code, kind_of, place_of}
-use Rattle.json5_text.specs.Cursor.{IsPlaced, Refused, IsOutOfMemory}
+use Rattle.json5_text.specs.Errors.{LacksMemory, code, kind_of, place_of}
+use Rattle.json5_text.specs.Cursor.{IsPlaced, Refused}
 use Rattle.json5_text.specs.Tokens.{FaultyBlanks, FaultyWord, FaultyNumber, FaultyString}
 use Rattle.json5_de.specs.State.{State, cursor_of}
 
@@ -37,9 +37,13 @@ pub data NotText {C : Type 0} (other : Option ErrorCode) (convert : List ℕ →
 abbrev pub RefusedBy : FaultRelation → State → Error → Type 0
 RefusedBy IsFault old e = old.failed ≡ false → Refused (AfterBlanks IsFault) (cursor_of old) e
 
--- the same, or memory ran out
+-- the same, or memory ran out in this way
+abbrev pub RefusedByOr : (Error → Type 0) → FaultRelation → State → Error → Type 0
+RefusedByOr Lacks IsFault old e = Lacks e ⊎ RefusedBy IsFault old e
+
+-- the same, or memory ran out, without a place
 abbrev pub RefusedByOrMemory : FaultRelation → State → Error → Type 0
-RefusedByOrMemory IsFault old e = IsOutOfMemory e ⊎ RefusedBy IsFault old e
+RefusedByOrMemory = RefusedByOr LacksMemory
 
 abbrev pub FaultyNull : FaultRelation
 FaultyNull = FaultyWord null_text codes.EofParsingNull codes.ExpectedNull
@@ -82,12 +86,20 @@ pub record AtOther (begins : ℕ → Bool) (old : State) (w : List ℕ) : Type 0
 abbrev pub EndsWith : {V : Type 0} → ErrorCode → State → Result V Error → Type 0
 EndsWith ends old result = AtEnd old → IsErrAnd result (IsUnplaced ends)
 
+-- the same, or memory ran out in this way
+abbrev pub EndsWithOr : {V : Type 0} → (Error → Type 0) → ErrorCode → State → Result V Error → Type 0
+EndsWithOr Lacks ends old result = AtEnd old → IsErrAnd result (λ e. Lacks e ⊎ IsUnplaced ends e)
+
 abbrev pub EndsWithOrMemory : {V : Type 0} → ErrorCode → State → Result V Error → Type 0
-EndsWithOrMemory ends old result = AtEnd old → IsErrAnd result (λ e. IsOutOfMemory e ⊎ IsUnplaced ends e)
+EndsWithOrMemory ends old result = EndsWithOr LacksMemory ends old result
 
 -- the code at a character that begins nothing of what is expected
 abbrev pub DiffersWith : {V : Type 0} → (ℕ → Bool) → ErrorCode → State → Result V Error → Type 0
 DiffersWith begins differs old result = (w : List ℕ) → AtOther begins old w → IsErrAnd result (IsAfter differs old w)
 
+-- the same, or memory ran out in this way
+abbrev pub DiffersWithOr : {V : Type 0} → (Error → Type 0) → (ℕ → Bool) → ErrorCode → State → Result V Error → Type 0
+DiffersWithOr Lacks begins differs old result = (w : List ℕ) → AtOther begins old w → IsErrAnd result (λ e. Lacks e ⊎ IsAfter differs old w e)
+
 abbrev pub DiffersWithOrMemory : {V : Type 0} → (ℕ → Bool) → ErrorCode → State → Result V Error → Type 0
-DiffersWithOrMemory begins differs old result = (w : List ℕ) → AtOther begins old w → IsErrAnd result (λ e. IsOutOfMemory e ⊎ IsAfter differs old w e)
+DiffersWithOrMemory begins differs old result = DiffersWithOr LacksMemory begins differs old result

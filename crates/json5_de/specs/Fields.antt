@@ -83,3 +83,14 @@ pub record FieldRead {V C : Type 0} (content : V → C) (convert : Tree → Opti
   pub unprompted : Unprompted old.at.reader result
   pub failed : OnErr result (new.at.reader.failed ≡ true)
   pub before : old.at.reader.failed ≡ true → IsErrAnd result (λ e. (kind_of e ≡ code codes.Failed) × IsAtBracket old.at e)
+  pub kept : OnErr result (next ≡ field)
+
+-- what a call for a field that has to be there means
+pub record FieldRequired {V : Type 0} (old new : SeenMap) (field : Option V) (result : Result V Error) : Type 0 where
+  pub live : OnOk result (old.at.reader.failed ≡ false)
+  pub same : OnOk result (new ≡ old)
+  pub missing : IfErr result (λ e. old.at.reader.failed ≡ false → (field ≡ None) × IsOwnAtBracket old.at e)
+  pub pending : new.pending ≡ old.pending
+  pub unprompted : Unprompted old.at.reader result
+  pub failed : OnErr result (new.at.reader.failed ≡ true)
+  pub before : old.at.reader.failed ≡ true → IsErrAnd result (λ e. (kind_of e ≡ code codes.Failed) × IsAtBracket old.at e)

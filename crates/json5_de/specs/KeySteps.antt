@@ -1,11 +1,14 @@
 -- The steps of a read of a key.
-use Rattle.std.specs.Prelude.{◌≡◌, ℕ, Bool, true, List, ◌++◌, length, Result, IfOk, IfErr, OnErr}
+use Rattle.std.specs.Prelude.{◌≡◌, ℕ, Bool, true, false, List, ◌++◌, length, Some, Result, IfOk, IfErr, OnErr}
 use Rattle.std.specs.Str.{all_scalars, encode_utf8_all}
+use Rattle.json5_grammar.specs.declared.code.ErrorCode.TheVariants as codes
+use Rattle.json5_grammar.specs.declared.position.Position.{Position}
 use Rattle.json5_grammar.specs.Names.{Key}
 use Rattle.json5_text.specs.declared.key_text.KeyText.{KeyText}
 use Rattle.json5_text.specs.declared.cow_str.CowStr.{CowStr}
 use Rattle.json5_text.specs.declared.error.Error.{Error}
-use Rattle.json5_text.specs.Cursor.{IsOffset}
+use Rattle.json5_text.specs.Cursor.{IsOffset, IsPositionOf}
+use Rattle.json5_text.specs.Errors.{FaultKind, LacksMemory, SaysAt, code, kind_of}
 use Rattle.json5_text.specs.Keys.{KeyIs, IsTextOf, IsCowOf}
 use Rattle.json5_text.specs.Tokens.{FaultyKey}
 use Rattle.json5_de.specs.declared.key_reads.FoundKey.{FoundKey}
@@ -40,6 +43,15 @@ pub record FindsKey (old new : State) (result : Result FoundKey Error) : Type 0 
   pub complete : CompletesKey every_key old result
   pub failed : OnErr result (GivesUp old new)
   pub before : StaysFailed old new result
+
+abbrev pub is_out_of_memory : FaultKind → Bool
+is_out_of_memory (code codes.OutOfMemory) = true
+is_out_of_memory _ = false
+
+-- the fault of a key whose text, read as a document of its own, has this fault: memory ran out, without a place, or the same at this offset
+pub data IsTextFault (input : List ℕ) (offset : ℕ) (own e : Error) : Type 0 where
+  no_memory : is_out_of_memory (kind_of own) ≡ true → LacksMemory e → IsTextFault input offset own e
+  at_key : is_out_of_memory (kind_of own) ≡ false → (there : Position) → IsPositionOf input offset there → SaysAt (kind_of own) (Some there) e → IsTextFault input offset own e
 
 -- the text that the key has, which this reader took; borrowed where the key is plain
 abbrev pub SpellsKey : State → KeyText → List ℕ → Type 0

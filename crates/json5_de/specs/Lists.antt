@@ -6,6 +6,7 @@ use Rattle.json5_grammar.specs.Characters.{left_bracket}
 use Rattle.json5_grammar.specs.Trees.{Tree, Trees, no_more, more}
 use Rattle.json5_text.specs.declared.error.Error.{Error}
 use Rattle.json5_text.specs.Cursor.{Says, IsOutOfMemory}
+use Rattle.json5_text.specs.Errors.{LacksMemory}
 use Rattle.json5_de.specs.State.{State}
 use Rattle.json5_de.specs.Brackets.{square}
 use Rattle.json5_de.specs.Faults.{RefusedBy, IsUnplaced}
@@ -46,9 +47,9 @@ Accepted es (more t ts) = ((es 0).accepts t ≡ true) × Accepted (λ n. es (suc
 
 -- ---- an element that has to be there
 
--- a text of its own at the opening bracket, or memory ran out
+-- a text of its own, or memory ran out, at the opening bracket
 abbrev pub IsTooShort : Seen → Error → Type 0
-IsTooShort old e = IsOutOfMemory e ⊎ (Says None e × IsAtBracket old e)
+IsTooShort old e = (IsOutOfMemory e ⊎ Says None e) × IsAtBracket old e
 
 -- the element's fault, or the list ends before it
 pub data RefusesRequired (refuses : State → Error → State → Type 0) (old : Seen) (e : Error) : Type 0 where
@@ -98,7 +99,7 @@ pub data ListFault (es : Elements) (shape : Shape) (old : State) (e : Error) : T
   at_element : (now : Seen) (n : ℕ) → Within es old now n → HasPlace shape.size n → RefusedAtBracket (es n).refuses now e → ListFault es shape old e
   too_few : (now : Seen) (n size : ℕ) → Within es old now n → shape.size ≡ Some size → n < size → (at : State) → AtClose square now.due now.reader at → IsTooShort now e → ListFault es shape old e
   too_many : (now : Seen) (n : ℕ) → Within es old now n → shape.size ≡ Some n → RefusedBy (NotClosed square now.due) now.reader e → ListFault es shape old e
-  no_memory : shape.gathers ≡ true → IsOutOfMemory e → ListFault es shape old e
+  no_memory : shape.gathers ≡ true → LacksMemory e → ListFault es shape old e
 
 -- how a list is refused: after it the reader has failed for good
 pub record RefusesList (es : Elements) (shape : Shape) (old : State) (e : Error) (new : State) : Type 0 where

@@ -6,7 +6,7 @@ use Rattle.json5_grammar.specs.Characters.{left_brace}
 use Rattle.json5_grammar.specs.Trees.{Tree, Pairs}
 use Rattle.json5_grammar.specs.Members.{pair_contents}
 use Rattle.json5_text.specs.declared.error.Error.{Error}
-use Rattle.json5_text.specs.Cursor.{IsOutOfMemory}
+use Rattle.json5_text.specs.Errors.{LacksMemory}
 use Rattle.json5_de.specs.State.{State}
 use Rattle.json5_de.specs.Brackets.{curly}
 use Rattle.json5_de.specs.Faults.{RefusedBy, IsUnplaced}
@@ -40,7 +40,7 @@ pub data MapFault {C D : Type 0} (sides : Sides C D) (old : State) (e : Error) :
   not_opened : RefusedBy (NotOpened curly old.level) old e → MapFault sides old e
   at_key : (now : SeenMap) → WithinMap sides.keys sides.values old None now → KeyRefusedAtBrace sides.refuses_key now e → MapFault sides old e
   at_value : (now : SeenMap) (u : List ℕ) (plain : Bool) (c : C) → sides.keys u plain ≡ Some c → WithinMap sides.keys sides.values old (Some (u, plain)) now → ValueRefusedAtBrace sides.refuses_value now e → MapFault sides old e
-  no_memory : IsOutOfMemory e → MapFault sides old e
+  no_memory : LacksMemory e → MapFault sides old e
 
 -- how a map is refused: after it the reader has failed for good
 pub record RefusesMap {C D : Type 0} (sides : Sides C D) (old : State) (e : Error) (new : State) : Type 0 where

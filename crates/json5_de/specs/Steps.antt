@@ -15,8 +15,8 @@ use Rattle.json5_text.specs.Cows.{cow_bytes, is_borrowed}
 use Rattle.json5_text.specs.NumberViews.{number_of}
 use Rattle.json5_grammar.specs.Positions.{position_after}
 use Rattle.json5_text.specs.declared.error.Error.{Error}
-use Rattle.json5_text.specs.Errors.{place_of}
-use Rattle.json5_text.specs.Cursor.{Says, Refused, IsOutOfMemory, IsOffset}
+use Rattle.json5_text.specs.Errors.{LacksMemory, place_of}
+use Rattle.json5_text.specs.Cursor.{Says, Refused, IsOffset}
 use Rattle.json5_grammar.specs.Blanks.{Gap, Solid}
 use Rattle.json5_grammar.specs.Documents.{max_depth}
 use Rattle.json5_grammar.specs.Numbers.{Number, Num, whole}
@@ -67,7 +67,7 @@ PassedNumber old new = (s : List ℕ) × (n : Number) × TookText old s new × N
 
 -- the token in front is refused with one of its faults, or memory ran out
 abbrev pub RefusesToken : FaultRelation → State → Error → Type 0
-RefusesToken IsFault old e = IsOutOfMemory e ⊎ Refused IsFault (cursor_of old) e
+RefusesToken IsFault old e = LacksMemory e ⊎ Refused IsFault (cursor_of old) e
 
 -- this code, None for a text of its own, at this offset
 abbrev pub IsFaultAt : Option ErrorCode → List ℕ → ℕ → Error → Type 0
@@ -76,7 +76,7 @@ IsFaultAt reason input offset e =
 
 -- the same, or memory ran out
 abbrev pub IsMismatchOf : Option ErrorCode → List ℕ → ℕ → Error → Type 0
-IsMismatchOf reason input offset e = IsOutOfMemory e ⊎ IsFaultAt reason input offset e
+IsMismatchOf reason input offset e = LacksMemory e ⊎ IsFaultAt reason input offset e
 
 -- a text of its own at this offset, or memory ran out
 abbrev pub IsMismatch : List ℕ → ℕ → Error → Type 0
@@ -84,7 +84,7 @@ IsMismatch = IsMismatchOf None
 
 -- memory ran out in decoding, or the text isn't of bytes: InvalidBytes at this offset
 abbrev pub IsUndecoded : FromHexError → List ℕ → ℕ → Error → Type 0
-IsUndecoded hex.OutOfMemory input offset e = IsOutOfMemory e
+IsUndecoded hex.OutOfMemory input offset e = LacksMemory e
 IsUndecoded _ input offset e = IsFaultAt (Some InvalidBytes) input offset e
 
 -- a whole number was taken after a gap, and so many bytes stand before it

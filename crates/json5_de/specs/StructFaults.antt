@@ -10,7 +10,7 @@ use Rattle.json5_de.specs.State.{State, SameText}
 use Rattle.json5_de.specs.Brackets.{curly}
 use Rattle.json5_de.specs.Faults.{RefusedBy, RefusedByOrMemory}
 use Rattle.json5_de.specs.Access.{Opened, NotOpened, IsAtBracket}
-use Rattle.json5_de.specs.AnyTree.{FaultyTree}
+use Rattle.json5_de.specs.AnyTree.{RefusesTree}
 use Rattle.json5_de.specs.KeyRows.{RefusedAsKey, string_key}
 use Rattle.json5_de.specs.Objects.{SeenMap, PairsRead}
 use Rattle.json5_de.specs.ObjectFaults.{KeyRefusedAtBrace, ValueRefusedAtBrace}
@@ -39,7 +39,7 @@ or_of a b name may old e = a name may old e ⊎ b name may old e
 -- the fault of a value that is passed over: any may stand there, and none can be read
 pub record of_any (name : List ℕ) (may : Tree → Bool) (old : SeenMap) (e : Error) : Type 0 where
   pub every : (t : Tree) → may t ≡ true
-  pub fault : ValueRefusedAtBrace (λ s own after. RefusedByOrMemory (FaultyTree s.level) s own) old e
+  pub fault : ValueRefusedAtBrace (λ s own after. RefusesTree s own) old e
 
 -- a value that is refused has one of these faults
 abbrev pub RefusesPair : {S : Type 0} → ValueFaults → Step S → S → List ℕ → SeenMap → Result (Unit {0}) Error → Type 0

@@ -10,7 +10,8 @@ use Rattle.json5_text.specs.declared.cow_str.CowStr.{CowStr}
 use Rattle.json5_text.specs.declared.error.Error.{Error}
 use Rattle.json5_text.specs.declared.key_text.KeyText.{KeyText}
 use Rattle.json5_text.specs.declared.number.Number as token
-use Rattle.json5_text.specs.Cursor.{Refused, IsOutOfMemory}
+use Rattle.json5_text.specs.Cursor.{Refused}
+use Rattle.json5_text.specs.Errors.{LacksMemory}
 use Rattle.json5_text.specs.NumberViews.{keeps_digits}
 use Rattle.json5_text.specs.Tokens.{FaultyBlanks, FaultyWord, FaultyNumber, FaultyString, FaultyName, FaultyKey}
 use Rattle.json5_de.specs.State.{State, GivesUp, cursor_of}
@@ -69,7 +70,7 @@ string = record { Took = TookCow; IsFault = FaultyString; Completes = λ x resul
 
 -- a key
 abbrev pub key : Token KeyText
-key = record { Took = TookKeyText; IsFault = FaultyKey; Completes = λ x result. (s u r : List ℕ) (plain : Bool) → x ≡ s ++ r → Key s r u plain → IfErr result IsOutOfMemory }
+key = record { Took = TookKeyText; IsFault = FaultyKey; Completes = λ x result. (s u r : List ℕ) (plain : Bool) → x ≡ s ++ r → Key s r u plain → IfErr result LacksMemory }
 
 -- a string, a name or a number of which nothing is kept; only a custom fault takes memory
 abbrev pub string_passed : Token (Unit {0})

@@ -2,7 +2,7 @@
 
 ghost use Rattle.std.specs.Prelude.{◌≡◌, nat_abs, IfOk, IfErr};
 ghost use Rattle.json5_grammar.specs.Numbers as numbers;
-ghost use Rattle.json5_text.specs.Cursor.{IsOutOfMemory};
+ghost use Rattle.json5_text.specs.Errors.{LacksMemory};
 ghost use Rattle.json5_de.specs.Convert.{same_decimal};
 
 use json5_text::decimal::Decimal;
@@ -26,7 +26,7 @@ fn magnitude(whole: Whole) -> u128
 /// The decimal of the same number; zero has no sign. The only error is that memory ran out.
 pub(crate) fn same_decimal(alloc: Global, whole: Whole) -> Result<Decimal>
     ensures ok { IfOk result (λ d. d ≡ same_decimal (numbers.whole whole)) }
-    ensures err { IfErr result IsOutOfMemory }
+    ensures err { IfErr result LacksMemory }
 {
     let number = magnitude(whole);
     let digits = format!(in alloc; "{number}")?;

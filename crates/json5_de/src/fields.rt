@@ -1,11 +1,11 @@
 //! Fields of a struct, which are read as the pairs of an object come.
 
-ghost use Rattle.std.specs.Prelude.{◌≡◌, true, false, None, Some, IfErr, IfOk, MatchResult};
+ghost use Rattle.std.specs.Prelude.{◌≡◌, true, false, Some, IfOk, OnErr};
 ghost use Rattle.json5_grammar.specs.declared.code.ErrorCode.TheVariants as codes;
 ghost use Rattle.json5_text.specs.Errors.{code, kind_of};
 ghost use Rattle.json5_de.specs.Access.{IsAtBracket};
 ghost use Rattle.json5_de.specs.Law.{IsUnprompted};
-ghost use Rattle.json5_de.specs.Fields.{FieldRead, IsOwnAtBracket, RefusesHere};
+ghost use Rattle.json5_de.specs.Fields.{FieldRead, FieldRequired, IsOwnAtBracket, RefusesHere};
 ghost use Rattle.json5_de.specs.Plans.{PassesPair, ReadsPairs};
 ghost use Rattle.json5_de.specs.StructFaults.{RefusesPairs};
 ghost use Rattle.json5_de.specs.Lending.{seen_map, KeepsMap};
@@ -62,6 +62,7 @@ impl<'a, I: Input, E: Ending> MapAccess<'a, I, E> {
     /// Refuses a field that has a value.
     fn duplicate(&mut self, name: &str) -> Error
         ensures access { KeepsMap self.old self.new }
+        ensures pending { (seen_map self.new).pending ≡ (seen_map self.old).pending }
         ensures failed { (seen_map self.new).at.reader.failed ≡ true }
         ensures own { (seen_map self.old).at.reader.failed ≡ false → IsOwnAtBracket (seen_map self.old).at result }
         ensures unprompted { (seen_map self.old).at.reader.failed ≡ false → IsUnprompted result }
@@ -77,11 +78,12 @@ impl<'a, I: Input, E: Ending> MapAccess<'a, I, E> {
 
     /// Reads the value of the key that was read last into this field of a struct, as `next_value` reads it. A field that has a
     /// value is a custom fault ``duplicate field `name` `` at the opening brace, before anything of the second value is read.
-    /// After a refusal every later call answers `Failed`.
+    /// A refusal leaves the field as it was, and every later call answers `Failed`.
     pub fn next_field<V: Deserialize<I>>(&mut self, name: &str, field: &mut Option<V>) -> Result<()>
         requires key { (seen_map self.old).pending ≡ true }
         ensures access { KeepsMap self.old self.new }
         ensures pending { IfOk result (λ _. (seen_map self.new).pending ≡ false) }
+        ensures pending_kept { OnErr result ((seen_map self.new).pending ≡ (seen_map self.old).pending) }
         ensures reads { FieldRead V.content V.convert V.refuses (seen_map self.old) (seen_map self.new) field.old field.new result }
     {
         if field.is_some() {
@@ -97,6 +99,7 @@ impl<'a, I: Input, E: Ending> MapAccess<'a, I, E> {
         requires key { (seen_map self.old).pending ≡ true }
         ensures access { KeepsMap self.old self.new }
         ensures pending { IfOk result (λ _. (seen_map self.new).pending ≡ false) }
+        ensures pending_kept { OnErr result ((seen_map self.new).pending ≡ (seen_map self.old).pending) }
         ensures passes { PassesPair (seen_map self.old) (seen_map self.new) result }
         ensures cause { RefusesHere ⟦<IgnoredAny as Deserialize<I>>⟧.refuses (seen_map self.old) result }
     {
@@ -105,14 +108,22 @@ impl<'a, I: Input, E: Ending> MapAccess<'a, I, E> {
     }
 
     /// The value of a field that has to be there, once all pairs are read: a custom fault ``missing field `name` `` at the opening
-    /// brace where it isn't.
-    pub fn required_field<V: Deserialize<I>>(&self, name: &str, field: Option<V>) -> Result<V>
-        ensures found { MatchResult result (λ v. field ≡ Some v) (λ e. (field ≡ None) × IsOwnAtBracket (seen_map self.now).at e) }
-        ensures unprompted { IfErr result IsUnprompted }
+    /// brace where it isn't. After a refusal every later call answers `Failed`.
+    pub fn required_field<V: Deserialize<I>>(&mut self, name: &str, field: Option<V>) -> Result<V>
+        ensures access { KeepsMap self.old self.new }
+        ensures found { IfOk result (λ v. field ≡ Some v) }
+        ensures value { FieldRequired (seen_map self.old) (seen_map self.new) field result }
     {
+        self.de.set_failed(true);
+        if self.failed {
+            return Err(self.place(Error::new(ErrorCode::Failed)));
+        }
         match field {
             Some(value) => Ok(value),
-            None => Err(self.own_fault(format_args!("missing field `{name}`"))),
+            None => {
+                self.failed = true;
+                Err(self.own_fault(format_args!("missing field `{name}`")))
+            }
         }
     }
 

@@ -1,7 +1,7 @@
 //! Gathering the pairs of an object into a map.
 
 ghost use Rattle.std.specs.Prelude.{◌≡◌, List, [], ◌∷◌, ◌++◌, OnOk, IfOk, IfErr};
-ghost use Rattle.json5_text.specs.Cursor.{IsOutOfMemory};
+ghost use Rattle.json5_text.specs.Errors.{LacksMemory};
 ghost use Rattle.json5_de.specs.State.{SameText};
 ghost use Rattle.json5_de.specs.Law.{Completes, Unprompted};
 ghost use Rattle.json5_de.specs.Maps.{pairs_of, GivesPairs};
@@ -22,7 +22,7 @@ pub(crate) trait Gathers<K, V>: Sized + Drop {
     /// Puts a pair. Where an equal key is there, it stays and takes the value.
     fn put(&mut self, key: K, value: V) -> Result<()>
         ensures put { OnOk result ((ps : List (K × V)) → gathered self.old ps → gathered self.new (ps ++ (key, value) ∷ [])) }
-        ensures refused { IfErr result IsOutOfMemory };
+        ensures refused { IfErr result LacksMemory };
 }
 
 /// Reads an object's pairs into an empty map.

@@ -279,7 +279,7 @@ pub struct IgnoredAny;
 
 /// Every value, without memory.
 impl<I: Input> Deserialize<I> for IgnoredAny {
-    ghost use Rattle.json5_de.specs.AnyTree.{FaultyTree, every_value, nothing};
+    ghost use Rattle.json5_de.specs.AnyTree.{RefusesTree, every_value, nothing};
     ghost use Rattle.json5_de.specs.Faults.{RefusedByOrMemory};
     ghost use Rattle.json5_de.specs.Rows.{every_tree};
 
@@ -291,7 +291,7 @@ impl<I: Input> Deserialize<I> for IgnoredAny {
 
     ghost free = { every_tree };
 
-    ghost refuses = { λ s e t. RefusedByOrMemory (FaultyTree s.level) s e };
+    ghost refuses = { λ s e t. RefusesTree s e };
 
     fn deserialize(de: &mut Deserializer<I>) -> Result<IgnoredAny>
         ensures { ReadsTree nothing every_value every_tree de.old de.new result }

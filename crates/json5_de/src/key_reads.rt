@@ -4,11 +4,11 @@ ghost use Rattle.std.specs.Prelude.{◌≡◌, ℕ, Bool, List, string_bytes, Ma
 ghost use Rattle.std.specs.Str.{encode_utf8_all};
 ghost use Rattle.json5_text.specs.Bytes.{bytes_of};
 ghost use Rattle.json5_text.specs.Cows.{cow_bytes, is_borrowed};
-ghost use Rattle.json5_text.specs.Cursor.{IsOutOfMemory};
+ghost use Rattle.json5_text.specs.Errors.{LacksMemory, kind_of};
 ghost use Rattle.json5_text.specs.Keys.{KeyIs};
 ghost use Rattle.json5_de.specs.Convert.{spelled};
 ghost use Rattle.json5_de.specs.KeyRows.{ReadsKeyAs, string_key, char_key, plain_key, cow_key, variant_key, ignored_key, bytes_key, document_key};
-ghost use Rattle.json5_de.specs.KeySteps.{FindsKey};
+ghost use Rattle.json5_de.specs.KeySteps.{FindsKey, IsTextFault, is_out_of_memory};
 ghost use Rattle.json5_de.specs.Steps.{IsMismatch};
 
 use crate::de::Deserializer;
@@ -16,6 +16,7 @@ use crate::key_documents::FromText;
 use crate::mismatch::Mismatch;
 use crate::texts::only_character;
 use crate::variants::place_among;
+use json5_text::ErrorCode;
 use json5_text::byte_buf::ByteBuf;
 use json5_text::cow_str::CowStr;
 use json5_text::error::{Error, Result};
@@ -28,6 +29,13 @@ struct FoundKey {
     /// The count of bytes before it.
     start: usize,
     text: KeyText,
+}
+
+/// Whether the fault says that memory ran out.
+fn is_out_of_memory(error: &Error) -> bool
+    ensures { result ≡ is_out_of_memory (kind_of error.now) }
+{
+    matches!(error.code(), Some(ErrorCode::OutOfMemory))
 }
 
 impl<I: Input> Deserializer<I> {
@@ -43,7 +51,7 @@ impl<I: Input> Deserializer<I> {
 
     /// The text of a key in memory of its own.
     pub(crate) fn own_key_text(&self, key: KeyText) -> Result<String>
-        ensures { (u : List ℕ) (plain : Bool) → KeyIs self.now.input u plain key → MatchResult result (λ t. string_bytes t ≡ encode_utf8_all u) IsOutOfMemory }
+        ensures { (u : List ℕ) (plain : Bool) → KeyIs self.now.input u plain key → MatchResult result (λ t. string_bytes t ≡ encode_utf8_all u) LacksMemory }
     {
         if let KeyText::Escaped(text) = key {
             return Ok(text);
@@ -123,10 +131,20 @@ impl<I: Input> Deserializer<I> {
         match T::from_text(self.allocator(), self.key_text(&key.text)) {
             Ok(value) => Ok(value),
             Err(e) => {
-                let error = e.at(self.position_of(key.start));
+                let error = self.text_fault(e, key.start);
                 self.refuse(error)
             }
         }
+    }
+
+    /// The fault of a key's text, at the key. That memory ran out has no place.
+    fn text_fault(&self, error: Error, start: usize) -> Error
+        ensures { IsTextFault self.now.input start error result }
+    {
+        if is_out_of_memory(&error) {
+            return Error::new(ErrorCode::OutOfMemory);
+        }
+        error.at(self.position_of(start))
     }
 }
 

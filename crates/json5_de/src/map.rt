@@ -220,6 +220,7 @@ impl<'a, I: Input, E: Ending> MapAccess<'a, I, E> {
         requires no_key { (seen_map self.old).pending ≡ false }
         ensures access { KeepsMap self.old self.new }
         ensures pending { IfOk result (λ o. (seen_map self.new).pending ≡ is_some o) }
+        ensures pending_kept { OnErr result ((seen_map self.new).pending ≡ (seen_map self.old).pending) }
         ensures sound { IfOk result (GivesPairKey K.content K.convert (seen_map self.old) (seen_map self.new)) }
         ensures complete { ReadsPairKey K.content K.convert (seen_map self.old) result }
         ensures closing { CompletesClose curly (seen_map self.old).at result }
@@ -251,6 +252,7 @@ impl<'a, I: Input, E: Ending> MapAccess<'a, I, E> {
         requires key { (seen_map self.old).pending ≡ true }
         ensures access { KeepsMap self.old self.new }
         ensures pending { IfOk result (λ _. (seen_map self.new).pending ≡ false) }
+        ensures pending_kept { OnErr result ((seen_map self.new).pending ≡ (seen_map self.old).pending) }
         ensures sound { IfOk result (GivesPairValue V.content V.convert (seen_map self.old) (seen_map self.new)) }
         ensures complete { ReadsPairValue V.content V.convert (seen_map self.old) result }
         ensures shorter { IfOk result (λ _. length (seen_map self.new).at.reader.unread < length (seen_map self.old).at.reader.unread) }
@@ -274,7 +276,7 @@ impl<'a, I: Input, E: Ending> MapAccess<'a, I, E> {
         }
     }
 
-    /// Whether a key was read whose value wasn't.
+    /// Whether a key was read whose value wasn't. A call that is refused leaves it as it was.
     pub fn key_pending(&self) -> bool
         ensures { result ≡ (seen_map self.now).pending }
     {

@@ -405,7 +405,7 @@ impl<I: Input> Deserialize<I> for ByteBuf {
 
 impl<I: Input> Deserialize<I> for Value {
     ghost use Rattle.json5_text.specs.ValueViews.{Datum, value_of};
-    ghost use Rattle.json5_de.specs.AnyTree.{FaultyTree, ReadsTree};
+    ghost use Rattle.json5_de.specs.AnyTree.{RefusesTree, ReadsTree};
     ghost use Rattle.json5_de.specs.Convert.{every_datum};
     ghost use Rattle.json5_de.specs.Faults.{RefusedByOrMemory};
     ghost use Rattle.json5_de.specs.Rows.{no_tree};
@@ -416,7 +416,7 @@ impl<I: Input> Deserialize<I> for Value {
 
     ghost convert = { every_datum };
 
-    ghost refuses = { λ s e t. RefusedByOrMemory (FaultyTree s.level) s e };
+    ghost refuses = { λ s e t. RefusesTree s e };
 
     fn deserialize(de: &mut Deserializer<I>) -> Result<Value>
         ensures { ReadsTree value_of every_datum no_tree de.old de.new result }

@@ -54,6 +54,10 @@ true_false h k = let e : true ≡ false = sym h ∙ k in absurd (cc)
 pub none_some : {C : Type 0} {A : Type 0} (o : Option C) (v : C) → o ≡ None → o ≡ Some v → A
 none_some o v e h = absurd (cc)
 
+-- what follows two texts and a third follows the third
+pub append_after_two : (a b c d : List ℕ) → (a ++ (b ++ c)) ++ d ≡ a ++ (b ++ (c ++ d))
+append_after_two a b c d = simp append_assoc
+
 -- ---- bounds, from their tests
 
 pub lt_from : (a b : ℕ) → nat_lt a b ≡ true → a < b

@@ -28,13 +28,21 @@ in_at x (Some b) inner e = tt
 in_at x None (here q) e = absurd e
 in_at x None inner e = tt
 
+-- steps can be put together from either side
+pub then_then : {A B C : Type 0} (m : Read A) (f : A → List ℕ → Read B) (g : B → List ℕ → Read C)
+    → and_then (and_then m f) g ≡ and_then m (λ a r. and_then (f a r) g)
+then_then (got a r) f g = refl
+then_then (bad e p) f g = refl
+
 -- and what follows from it
-pub found_then : {A B : Type 0} (P : A → List ℕ → Type 0) (Q : B → List ℕ → Type 0) (x : List ℕ) (m : Read A) (f : A → List ℕ → Read B) → Found P x m → ((a : A) (r : List ℕ) → P a r → Found Q x (f a r)) → Found Q x (and_then m f)
+pub found_then : {A B : Type 0} (P : A → List ℕ → Type 0) (Q : B → List ℕ → Type 0) (x : List ℕ) (m : Read A) (f : A → List ℕ → Read B)
+    → Found P x m → ((a : A) (r : List ℕ) → P a r → Found Q x (f a r)) → Found Q x (and_then m f)
 found_then P Q x (got a r) f h k = k a r h
 found_then P Q x (bad e p) f h k = h
 
 -- what is found after w, from before it
-pub found_after : {A : Type 0} (P Q : A → List ℕ → Type 0) (w x y : List ℕ) (m : Read A) → x ≡ w ++ y → Found P y m → ((a : A) (r : List ℕ) → P a r → Q a r) → Found Q x m
+pub found_after : {A : Type 0} (P Q : A → List ℕ → Type 0) (w x y : List ℕ) (m : Read A) → x ≡ w ++ y → Found P y m
+    → ((a : A) (r : List ℕ) → P a r → Q a r) → Found Q x m
 found_after P Q w x y (got a r) e h k = k a r h
 found_after P Q w x y (bad c p) e h k = in_after w x y p e h
 

@@ -21,7 +21,7 @@ use Rattle.json5_grammar.proofs.NamesRead.{name_complete, name_refused, unicode_
 use Rattle.json5_grammar.proofs.NamesSound.{NameBlamed, NameSound, name_sound}
 
 -- begins with a quote, or with something else
-abbrev QuoteHead : Bool → List ℕ → Type 0
+abbrev pub QuoteHead : Bool → List ℕ → Type 0
 QuoteHead q x = (c : ℕ) × (r : List ℕ) × (x ≡ c ∷ r) × (is_quote c ≡ q)
 
 key_string : (x : List ℕ) → QuoteHead true x → key x ≡ string x
@@ -63,7 +63,7 @@ ident_head (name {s = s} (escaped_name {e = e} u) h i) = heads_more s (backslash
 str_head : {s u : List ℕ} {p : Bool} → Str s u p → QuoteHead true s
 str_head (quoted {q = q} {s = s} h i) = (q, s ++ q ∷ [], refl, h)
 
-string_fault_head : {x b p : List ℕ} {e : Option ErrorCode} {pl : Option (List ℕ)} {how : Shown} → StringFault x e pl b p how → QuoteHead true x
+pub string_fault_head : {x b p : List ℕ} {e : Option ErrorCode} {pl : Option (List ℕ)} {how : Shown} → StringFault x e pl b p how → QuoteHead true x
 string_fault_head (raw_terminator {q = q} {c = c} {s = s} r h i l) = (q, s ++ c ∷ r, refl, h)
 string_fault_head (string_ends {q = q} {s = s} h i) = (q, s, refl, h)
 string_fault_head (StringFault.in_escape {q = q} {s = s} {x = x} h i f) = (q, s ++ x, refl, h)
@@ -72,7 +72,7 @@ named_head : {t : List ℕ} (x : List ℕ) → Named t → QuoteHead false x →
 named_head x no_item_yet h = h
 named_head x (some_items i) h = heads_more x (ident_head i)
 
-name_fault_head : {x b p : List ℕ} {e : Option ErrorCode} {pl : Option (List ℕ)} {how : Shown} → NameFault x e pl b p how → QuoteHead false x
+pub name_fault_head : {x b p : List ℕ} {e : Option ErrorCode} {pl : Option (List ℕ)} {how : Shown} → NameFault x e pl b p how → QuoteHead false x
 name_fault_head (NameFault.in_escape {x = x} k f) = named_head x k (backslash_head x (fault_head f))
 name_fault_head (no_unicode_escape c r k n) = named_head (92 ∷ c ∷ r) k (92, c ∷ r, refl, refl)
 name_fault_head (escaped_no_start {e = e} r u n) = heads_more r (backslash_head e (unicode_head u))

@@ -9,17 +9,13 @@ use Rattle.json5_grammar.specs.ReadBlanks.{skip, between}
 use Rattle.json5_grammar.specs.ReadTexts.{key}
 use Rattle.json5_grammar.specs.ReadValues.{read, items, entries, close_or, member, after_member, value_after, pair_at, key_or, after_pair}
 use Rattle.json5_grammar.specs.ReadSteps.{colon_after, member_head, member_at, comma_at, separator, trees_of, trees_after, pairs_of, pairs_after, key_head, key_at, first_of_trees, goes_on_with, pair_or_end}
-use Rattle.json5_grammar.proofs.Found.{Found}
+use Rattle.json5_grammar.proofs.Found.{Found, then_then}
 use Rattle.json5_grammar.proofs.ValueHeads.{read_step}
 use Rattle.json5_grammar.proofs.ValuesSound.{IsGap, gap_found}
 use Rattle.json5_grammar.proofs.ValueTurns.{gap_no_longer, member_same, pair_same, same_items, same_entries}
 use Rattle.json5_grammar.proofs.ValueSteps.{value_after_colon}
 
 -- ---- steps after steps
-
-then_then : {A B C : Type 0} (m : Read A) (f : A → List ℕ → Read B) (g : B → List ℕ → Read C) → and_then (and_then m f) g ≡ and_then m (λ a r. and_then (f a r) g)
-then_then (got a r) f g = refl
-then_then (bad e p) f g = refl
 
 -- the blanks, and what the text after them gives
 after_gap : {A B : Type 0} (x : List ℕ) (f : List ℕ → Read A) (g : List ℕ → Read B) (h : B → List ℕ → Read A) → ((y : List ℕ) → length y ≤ length x → f y ≡ and_then (g y) h)

@@ -108,7 +108,7 @@ leaf_text : (d : ℕ) (x : List ℕ) (m : Read (List ℕ × Bool)) → StringSou
 leaf_text d x (got a r) (s, e, k) = (s, e, is_text k, text_stops r k, omega arith)
 leaf_text d x (bad e p) b = in_at x b.place p b.is_at
 
-no_key_at : (c : ℕ) (r : List ℕ) → (is_quote c || ((c == 92) || is_identifier_start c)) ≡ false → key (c ∷ r) ≡ bad (Some ExpectedIdentifier) (here (c ∷ r))
+pub no_key_at : (c : ℕ) (r : List ℕ) → (is_quote c || ((c == 92) || is_identifier_start c)) ≡ false → key (c ∷ r) ≡ bad (Some ExpectedIdentifier) (here (c ∷ r))
 unfolding key identifier
 no_key_at c r h = tests _ _ _ (is_quote c) (c == 92) (is_identifier_start c) h
   where
@@ -136,7 +136,7 @@ no_text : (f : List ℕ) (c : ℕ) (m r : List ℕ) → [] ≡ f ++ ((c ∷ m) +
 no_text [] c m r e = cc
 no_text (a ∷ f) c m r e = cc
 
-sign_gap : (c : ℕ) (w x y r : List ℕ) → x ≡ w ++ y → Gap w y → IsSign c y r → IsSign c x r
+pub sign_gap : (c : ℕ) (w x y r : List ℕ) → x ≡ w ++ y → Gap w y → IsSign c y r → IsSign c x r
 sign_gap c w x y r e g s = rw e (by_gap g s)
   where
     by_gap : {w y : List ℕ} → Gap w y → IsSign c y r → IsSign c (w ++ y) r
@@ -150,7 +150,7 @@ reads_gap w x y r t e g p = rw e (by_gap g p)
     by_gap {w = w} {y = y} (Gap.blanks b) p = reads_after w y r t b p
     by_gap (at_end l) p = let h = val_head p.value in absurd (no_text p.front h.char h.more r (p.split ∙ ap (λ z. p.front ++ (z ++ r)) h.is))
 
-tail_gap : (ts : Trees) (due : Bool) (w x y r : List ℕ) → x ≡ w ++ y → Gap w y → Tail ts due y r → Tail ts due x r
+pub tail_gap : (ts : Trees) (due : Bool) (w x y r : List ℕ) → x ≡ w ++ y → Gap w y → Tail ts due y r → Tail ts due x r
 tail_gap no_more false w x y r e g s = sign_gap 93 w x y r e g s
 tail_gap no_more true w x y r e g (inl s) = inl (sign_gap 93 w x y r e g s)
 tail_gap no_more true w x y r e g (inr (z, c, s)) = inr (z, sign_gap 44 w x y z e g c, s)
@@ -170,7 +170,7 @@ key_gap w x y u r plain e g k = rw e (by_gap g k)
     }
     by_gap (at_end l) k = let h = key_head k.key in absurd (no_text k.front h.char h.more r (k.split ∙ ap (λ z. k.front ++ (z ++ r)) h.is))
 
-pairs_gap : (ps : Pairs) (due : Bool) (w x y r : List ℕ) → x ≡ w ++ y → Gap w y → PairsTail ps due y r → PairsTail ps due x r
+pub pairs_gap : (ps : Pairs) (due : Bool) (w x y r : List ℕ) → x ≡ w ++ y → Gap w y → PairsTail ps due y r → PairsTail ps due x r
 pairs_gap no_pair false w x y r e g s = sign_gap 125 w x y r e g s
 pairs_gap no_pair true w x y r e g (inl s) = inl (sign_gap 125 w x y r e g s)
 pairs_gap no_pair true w x y r e g (inr (z, c, s)) = inr (z, sign_gap 44 w x y z e g c, s)
@@ -191,10 +191,10 @@ first_of c r = refl
 value_reads : (d : ℕ) (x r : List ℕ) (t : Tree) → IsValue d x t r → Reads x t r
 value_reads d x r t (s, k, v, st, l) = record { front = []; phrase = s; split = k; blank = Blanks.empty; value = v; stops = st }
 
-phrase_of : (d : ℕ) (x w y r : List ℕ) (t : Tree) → x ≡ w ++ y → Gap w y → IsValue d y t r → IsPhrase d x t r
+pub phrase_of : (d : ℕ) (x w y r : List ℕ) (t : Tree) → x ≡ w ++ y → Gap w y → IsValue d y t r → IsPhrase d x t r
 phrase_of d x w y r t e g v = (reads_gap w x y r t e g (value_reads d y r t v), v.4)
 
-after_found : (d : ℕ) (k : List ℕ → Read Trees) → ((y : List ℕ) → Found (AreMembers d false y) y (k y)) → (y : List ℕ) → Found (AreMembers d true y) y (after_member k y)
+pub after_found : (d : ℕ) (k : List ℕ → Read Trees) → ((y : List ℕ) → Found (AreMembers d false y) y (k y)) → (y : List ℕ) → Found (AreMembers d true y) y (after_member k y)
 after_found d k h [] = tt
 after_found d k h (c ∷ r) =
     by_test (Found (AreMembers d true (c ∷ r)) (c ∷ r)) (c == 44) _ _
@@ -203,7 +203,7 @@ after_found d k h (c ∷ r) =
     (λ b. (inl (sign_first c 93 r b), omega arith))
     (λ b. in_whole (c ∷ r)))
 
-after_pair_found : (d : ℕ) (k : List ℕ → Read Pairs) → ((y : List ℕ) → Found (ArePairs d false y) y (k y)) → (y : List ℕ) → Found (ArePairs d true y) y (after_pair k y)
+pub after_pair_found : (d : ℕ) (k : List ℕ → Read Pairs) → ((y : List ℕ) → Found (ArePairs d false y) y (k y)) → (y : List ℕ) → Found (ArePairs d true y) y (after_pair k y)
 after_pair_found d k h [] = tt
 after_pair_found d k h (c ∷ r) =
     by_test (Found (ArePairs d true (c ∷ r)) (c ∷ r)) (c == 44) _ _
@@ -212,7 +212,7 @@ after_pair_found d k h (c ∷ r) =
     (λ b. (inl (sign_first c 125 r b), omega arith))
     (λ b. in_whole (c ∷ r)))
 
-colon_found : (x : List ℕ) → Found (λ u r. IsSign 58 x r) x (colon_at x)
+pub colon_found : (x : List ℕ) → Found (λ u r. IsSign 58 x r) x (colon_at x)
 colon_found [] = tt
 colon_found (c ∷ r) = by_test (Found (λ u z. IsSign 58 (c ∷ r) z) (c ∷ r)) (c == 58) _ _ (λ a. sign_first c 58 r a) (λ a. in_whole (c ∷ r))
 

@@ -1,7 +1,7 @@
 -- A fault by its parts, and what laws say of the faults of one kind.
-use Rattle.std.specs.Prelude.{◌≡◌, ℕ, Bool, false, List, [], ◌∷◌, ◌++◌, Option}
+use Rattle.std.specs.Prelude.{◌≡◌, ℕ, Bool, false, List, [], ◌∷◌, ◌++◌, ◌≤◌, Option, Some}
 use Rattle.json5_grammar.specs.Characters.{NotBegun}
-use Rattle.json5_grammar.specs.Codes.{ErrorCode, Shown, by_char}
+use Rattle.json5_grammar.specs.Codes.{ErrorCode, Shown, by_char, by_end}
 use Rattle.json5_grammar.specs.Blanks.{Gap, Solid, BlankFault}
 use Rattle.json5_grammar.specs.NameFaults.{NameFault}
 use Rattle.json5_grammar.specs.Names.{Ident, goes_on_name}
@@ -11,6 +11,10 @@ use Rattle.json5_grammar.specs.Stops.{lengthens}
 use Rattle.json5_grammar.specs.StringFaults.{StringFault}
 use Rattle.json5_grammar.specs.Strings.{Str}
 use Rattle.json5_grammar.specs.WordFaults.{WordFault}
+use Rattle.json5_grammar.specs.Documents.{Doc}
+use Rattle.json5_grammar.specs.Faults.{Fault, ValueFault}
+use Rattle.json5_grammar.specs.Trees.{Tree, depth}
+use Rattle.json5_grammar.specs.Values.{Reads}
 
 -- the code (None: custom), the text before its place (None: no place), the text before the faulty part, the part, and what shows it
 pub record Blame : Type 0 where
@@ -38,7 +42,21 @@ WordBlame x b = (b.before ≡ []) × WordFault x b.code b.place b.part b.shown
 abbrev pub NumberBlame : List ℕ → Blame → Type 0
 NumberBlame x b = (b.before ≡ []) × NumberFault x b.code b.place b.part b.shown
 
+-- of a whole text, and of the value in front of one; nested no deeper than the limit
+abbrev pub TextBlame : ℕ → List ℕ → Blame → Type 0
+TextBlame limit x b = Fault limit x b.code b.place b.before b.part b.shown
+
+abbrev pub ValueBlame : ℕ → List ℕ → Blame → Type 0
+ValueBlame limit x b = ValueFault limit x b.code b.place b.before b.part b.shown
+
 -- ---- what stands in front of a text
+
+abbrev pub IsDocument : ℕ → List ℕ → Type 0
+IsDocument limit x = (t : Tree) × Doc limit x t
+
+-- a value after blanks, nested no deeper than the limit
+abbrev pub HasValue : ℕ → List ℕ → Type 0
+HasValue limit x = (t : Tree) × (r : List ℕ) × Reads x t r × (depth t ≤ limit)
 
 -- blanks, and then what is none
 abbrev pub HasGap : List ℕ → Type 0
@@ -72,3 +90,24 @@ pub record ShownByChar (HasFault : List ℕ → Blame → Type 0) (x : List ℕ)
 -- a fault that a character shows stands, whatever follows the part
 abbrev pub StandsByChar : (List ℕ → Blame → Type 0) → Type 0
 StandsByChar HasFault = (x z : List ℕ) (b : Blame) → ShownByChar HasFault x b → HasFault ((b.before ++ b.part) ++ z) b
+
+-- ---- where the part stands
+
+-- what follows the part: nothing where the end shows the fault
+abbrev pub IsRest : Shown → List ℕ → Type 0
+IsRest by_char q = Unit {0}
+IsRest by_end q = q ≡ []
+
+-- x is what stands before the part, the part and the rest
+abbrev pub StandsIn : List ℕ → List ℕ → List ℕ → Shown → Type 0
+StandsIn x before part how = (q : List ℕ) × (x ≡ (before ++ part) ++ q) × IsRest how q
+
+-- the part ends with the character that shows the fault, and the place is at that character or before it, within the part
+pub record Shows (before part : List ℕ) (place : Option (List ℕ)) : Type 0 where
+  pub front : List ℕ
+  pub char : ℕ
+  pub ends : part ≡ front ++ char ∷ []
+  pub early : List ℕ
+  pub late : List ℕ
+  pub split : front ≡ early ++ late
+  pub at : place ≡ Some (before ++ early)

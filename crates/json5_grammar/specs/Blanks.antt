@@ -14,7 +14,8 @@ pub data Inside : List ℕ → Type 0 where
 pub data Blanks : List ℕ → Type 0 where
   empty : Blanks []
   blank : {c : ℕ} {s : List ℕ} → is_blank c ≡ true → Blanks s → Blanks (c ∷ s)
-  line : {x : List ℕ} (c : ℕ) {s : List ℕ} → Each (λ d. not (is_terminator d)) x → is_terminator c ≡ true → Blanks s → Blanks (slash_sign ∷ slash_sign ∷ x ++ c ∷ s)
+  line : {x : List ℕ} (c : ℕ) {s : List ℕ} → Each (λ d. not (is_terminator d)) x → is_terminator c ≡ true → Blanks s
+      → Blanks (slash_sign ∷ slash_sign ∷ x ++ c ∷ s)
   block : {x s : List ℕ} → Inside x → Blanks s → Blanks (slash_sign ∷ star_sign ∷ x ++ star_sign ∷ slash_sign ∷ s)
 
 -- blanks at the end of a text, the last of which may be a `//` comment that the end closes
@@ -46,5 +47,6 @@ pub data CommentFault : List ℕ → Option ErrorCode → Option (List ℕ) → 
 
 -- blanks, and then a faulty comment, its place and part being within the whole
 pub data BlankFault : List ℕ → Option ErrorCode → Option (List ℕ) → List ℕ → List ℕ → Shown → Type 0 where
-  in_comment : {w x part : List ℕ} {code : Option ErrorCode} {place : Option (List ℕ)} {shown : Shown} → Blanks w → CommentFault x code place part shown
+  in_comment : {w x part : List ℕ} {code : Option ErrorCode} {place : Option (List ℕ)} {shown : Shown} → Blanks w
+      → CommentFault x code place part shown
       → BlankFault (w ++ x) code (after_text w place) w part shown

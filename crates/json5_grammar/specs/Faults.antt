@@ -1,5 +1,5 @@
 -- The fault table: the faults of a text, each with its code, its place, the part that is blamed, and what shows it.
-use Rattle.std.specs.Prelude.{◌≡◌, ◌≢◌, ℕ, Bool, true, false, ◌||◌, ◌==◌, List, [], ◌∷◌, ◌++◌, length, Option, Some, None, ◌⊎◌}
+use Rattle.std.specs.Prelude.{◌≡◌, ◌≢◌, ℕ, Bool, true, false, ◌||◌, ◌==◌, List, [], ◌∷◌, ◌++◌, length, Option, Some, None, ◌⊎◌, ⊤}
 use Rattle.json5_grammar.specs.Characters.{letter_f, letter_n, letter_t, double_quote, single_quote, plus_sign, comma_sign, minus_sign, colon_sign, left_bracket, backslash, right_bracket, left_brace, right_brace, is_identifier_start}
 use Rattle.json5_grammar.specs.Codes.{ErrorCode, EofParsingArray, EofParsingObject, EofParsingValue, ExpectedColon, ExpectedComma, ExpectedIdentifier, ExpectedValue, TrailingCharacters, TooDeep, Shown, by_char, by_end}
 use Rattle.json5_grammar.specs.Blanks.{is_solid, CommentFault}
@@ -7,7 +7,7 @@ use Rattle.json5_grammar.specs.NumberFaults.{begins_number, NumberFault}
 use Rattle.json5_grammar.specs.Strings.{is_quote}
 use Rattle.json5_grammar.specs.StringFaults.{StringFault}
 use Rattle.json5_grammar.specs.NameFaults.{NameFault}
-use Rattle.json5_grammar.specs.Fronts.{Bracket, Expects, takes_value, Front, of_array, of_object, value, element, key, colon, comma, end}
+use Rattle.json5_grammar.specs.Fronts.{BracketKind, Bracket, Expects, takes_value, closing, Front, of_array, of_object, value, element, key, colon, comma, end}
 use Rattle.json5_grammar.specs.WordFaults.{WordFault}
 
 -- the place of an Eof code
@@ -17,12 +17,16 @@ innermost (b ∷ o) = Some b.before
 
 -- `n t f " ' + - . I N [ {` and digits
 abbrev pub begins_value : ℕ → Bool
-begins_value c = begins_number c || ((c == letter_n) || ((c == letter_t) || ((c == letter_f) || ((c == double_quote) || ((c == single_quote) || ((c == plus_sign) || ((c == minus_sign) || ((c == left_bracket) || (c == left_brace)))))))))
+begins_value c =
+    begins_number c || ((c == letter_n) || ((c == letter_t) || ((c == letter_f)
+    || ((c == double_quote) || ((c == single_quote) || ((c == plus_sign) || ((c == minus_sign)
+    || ((c == left_bracket) || (c == left_brace)))))))))
 
+-- `]` may stand where an element is expected
 abbrev pub is_allowed_close : Expects → ℕ → Bool
 is_allowed_close value c = false
 is_allowed_close element c = c == right_bracket
-is_allowed_close key c = c == right_brace
+is_allowed_close key c = false
 is_allowed_close colon c = false
 is_allowed_close comma c = false
 is_allowed_close end c = false
@@ -32,49 +36,84 @@ abbrev pub lifted : List ℕ → List Bracket → Option (List ℕ) → Option (
 lifted f o None = innermost o
 lifted f o (Some p) = Some (f ++ p)
 
--- the text x has this fault: its code (None: custom), the text before its place (None: no place), the text before the faulty part, the part, and what shows it
-pub data Fault (limit : ℕ) : List ℕ → Option ErrorCode → Option (List ℕ) → List ℕ → List ℕ → Shown → Type 0 where
+-- the innermost open bracket is of the kind
+abbrev pub IsIn : BracketKind → List Bracket → Type 0
+IsIn k [] = ⊥
+IsIn k (b ∷ o) = b.kind ≡ k
+
+-- the end's code after a member
+abbrev pub eof_in : BracketKind → ErrorCode
+eof_in of_array = EofParsingArray
+eof_in of_object = EofParsingObject
+
+-- The fault of what goes on with x where the brackets o are open and a is expected: its code (None: custom), the text of x before its
+-- place (None: the place of the innermost bracket), the text of x before the faulty part, the part, and what shows it.
+pub data FaultAt (limit : ℕ) (o : List Bracket) : Expects → List ℕ → Option ErrorCode → Option (List ℕ) → List ℕ → List ℕ → Shown → Type 0 where
   -- where blanks may stand
-  in_comment : {f x p : List ℕ} {o : List Bracket} {a : Expects} {code : Option ErrorCode} {place : Option (List ℕ)} {shown : Shown} → Front limit f x o a → CommentFault x code place p shown
-      → Fault limit (f ++ x) code (lifted f o place) f p shown
+  in_comment : {x p : List ℕ} {a : Expects} {code : Option ErrorCode} {place : Option (List ℕ)} {shown : Shown} → CommentFault x code place p shown
+      → FaultAt limit o a x code place [] p shown
   -- between tokens
   -- ExpectedValue at a character that begins no value
-  no_value : {f r : List ℕ} {o : List Bracket} {a : Expects} {c : ℕ} → Front limit f (c ∷ r) o a → takes_value a ≡ true → is_solid c ≡ true → begins_value c ≡ false → is_allowed_close a c ≡ false
-      → Fault limit (f ++ c ∷ r) (Some ExpectedValue) (Some f) f (c ∷ []) by_char
+  no_value : {a : Expects} {c : ℕ} {r : List ℕ} → takes_value a ≡ true → is_solid c ≡ true → begins_value c ≡ false → is_allowed_close a c ≡ false
+      → FaultAt limit o a (c ∷ r) (Some ExpectedValue) (Some []) [] (c ∷ []) by_char
   -- EofParsingValue
-  value_missing : {f : List ℕ} {o : List Bracket} {a : Expects} → Front limit f [] o a → takes_value a ≡ true
-      → Fault limit f (Some EofParsingValue) (innermost o) f [] by_end
+  value_missing : {a : Expects} → takes_value a ≡ true
+      → FaultAt limit o a [] (Some EofParsingValue) None [] [] by_end
   -- TooDeep at the bracket after as many open ones as the limit
-  nested_too_deep : {f r : List ℕ} {o : List Bracket} {a : Expects} {c : ℕ} → Front limit f (c ∷ r) o a → takes_value a ≡ true → ((c == left_bracket) || (c == left_brace)) ≡ true → length o ≡ limit
-      → Fault limit (f ++ c ∷ r) (Some TooDeep) (Some f) f (c ∷ []) by_char
-  -- ExpectedComma at a character after an element
-  no_comma_in_array : {f r g : List ℕ} {o : List Bracket} {c : ℕ} → Front limit f (c ∷ r) (record { kind = of_array; before = g } ∷ o) comma → is_solid c ≡ true → ((c == comma_sign) || (c == right_bracket)) ≡ false
-      → Fault limit (f ++ c ∷ r) (Some ExpectedComma) (Some f) f (c ∷ []) by_char
-  -- EofParsingArray
-  array_ends : {f g : List ℕ} {o : List Bracket} → Front limit f [] (record { kind = of_array; before = g } ∷ o) comma
-      → Fault limit f (Some EofParsingArray) (Some g) f [] by_end
+  nested_too_deep : {a : Expects} {c : ℕ} {r : List ℕ} → takes_value a ≡ true → ((c == left_bracket) || (c == left_brace)) ≡ true → length o ≡ limit
+      → FaultAt limit o a (c ∷ r) (Some TooDeep) (Some []) [] (c ∷ []) by_char
+  -- ExpectedComma at a character after an element or a pair
+  no_comma : {c : ℕ} {r : List ℕ} (k : BracketKind) → IsIn k o → is_solid c ≡ true → ((c == comma_sign) || (c == closing k)) ≡ false
+      → FaultAt limit o comma (c ∷ r) (Some ExpectedComma) (Some []) [] (c ∷ []) by_char
+  -- EofParsingArray or EofParsingObject after an element or a pair
+  comma_missing : (k : BracketKind) → IsIn k o
+      → FaultAt limit o comma [] (Some (eof_in k)) None [] [] by_end
   -- ExpectedIdentifier at a character that begins no key
-  no_key : {f r : List ℕ} {o : List Bracket} {c : ℕ} → Front limit f (c ∷ r) o key → is_solid c ≡ true → (is_quote c || ((c == backslash) || (is_identifier_start c || (c == right_brace)))) ≡ false
-      → Fault limit (f ++ c ∷ r) (Some ExpectedIdentifier) (Some f) f (c ∷ []) by_char
+  no_key : {c : ℕ} {r : List ℕ} → is_solid c ≡ true → (is_quote c || ((c == backslash) || (is_identifier_start c || (c == right_brace)))) ≡ false
+      → FaultAt limit o key (c ∷ r) (Some ExpectedIdentifier) (Some []) [] (c ∷ []) by_char
   -- EofParsingObject
-  object_ends : {f g : List ℕ} {o : List Bracket} {a : Expects} → Front limit f [] (record { kind = of_object; before = g } ∷ o) a → (a ≡ key) ⊎ ((a ≡ colon) ⊎ (a ≡ comma))
-      → Fault limit f (Some EofParsingObject) (Some g) f [] by_end
+  key_missing : FaultAt limit o key [] (Some EofParsingObject) None [] [] by_end
   -- ExpectedColon at a character after a key
-  no_colon : {f r : List ℕ} {o : List Bracket} {c : ℕ} → Front limit f (c ∷ r) o colon → is_solid c ≡ true → c ≢ colon_sign
-      → Fault limit (f ++ c ∷ r) (Some ExpectedColon) (Some f) f (c ∷ []) by_char
-  -- ExpectedComma at a character after a pair
-  no_comma_in_object : {f r g : List ℕ} {o : List Bracket} {c : ℕ} → Front limit f (c ∷ r) (record { kind = of_object; before = g } ∷ o) comma → is_solid c ≡ true → ((c == comma_sign) || (c == right_brace)) ≡ false
-      → Fault limit (f ++ c ∷ r) (Some ExpectedComma) (Some f) f (c ∷ []) by_char
+  no_colon : {c : ℕ} {r : List ℕ} → is_solid c ≡ true → c ≢ colon_sign
+      → FaultAt limit o colon (c ∷ r) (Some ExpectedColon) (Some []) [] (c ∷ []) by_char
+  -- EofParsingObject
+  colon_missing : FaultAt limit o colon [] (Some EofParsingObject) None [] [] by_end
   -- TrailingCharacters at a character after the value
-  trailing : {f r : List ℕ} {o : List Bracket} {c : ℕ} → Front limit f (c ∷ r) o end → is_solid c ≡ true
-      → Fault limit (f ++ c ∷ r) (Some TrailingCharacters) (Some f) f (c ∷ []) by_char
+  trailing : {c : ℕ} {r : List ℕ} → is_solid c ≡ true
+      → FaultAt limit o end (c ∷ r) (Some TrailingCharacters) (Some []) [] (c ∷ []) by_char
   -- where a value is expected
-  in_word : {f x p : List ℕ} {o : List Bracket} {a : Expects} {code : Option ErrorCode} {place : Option (List ℕ)} {shown : Shown} → Front limit f x o a → takes_value a ≡ true → WordFault x code place p shown
-      → Fault limit (f ++ x) code (lifted f o place) f p shown
-  in_number : {f x p : List ℕ} {o : List Bracket} {a : Expects} {code : Option ErrorCode} {place : Option (List ℕ)} {shown : Shown} → Front limit f x o a → takes_value a ≡ true → NumberFault x code place p shown
-      → Fault limit (f ++ x) code (lifted f o place) f p shown
+  in_word : {x p : List ℕ} {a : Expects} {code : Option ErrorCode} {place : Option (List ℕ)} {shown : Shown} → takes_value a ≡ true
+      → WordFault x code place p shown
+      → FaultAt limit o a x code place [] p shown
+  in_number : {x p : List ℕ} {a : Expects} {code : Option ErrorCode} {place : Option (List ℕ)} {shown : Shown} → takes_value a ≡ true
+      → NumberFault x code place p shown
+      → FaultAt limit o a x code place [] p shown
   -- where a value or a key is expected
-  in_a_string : {f x b p : List ℕ} {o : List Bracket} {a : Expects} {code : Option ErrorCode} {place : Option (List ℕ)} {shown : Shown} → Front limit f x o a → (takes_value a ≡ true) ⊎ (a ≡ key) → StringFault x code place b p shown
-      → Fault limit (f ++ x) code (lifted f o place) (f ++ b) p shown
-  in_a_name : {f x b p : List ℕ} {o : List Bracket} {code : Option ErrorCode} {place : Option (List ℕ)} {shown : Shown} → Front limit f x o key → NameFault x code place b p shown
-      → Fault limit (f ++ x) code (lifted f o place) (f ++ b) p shown
+  in_a_string : {x b p : List ℕ} {a : Expects} {code : Option ErrorCode} {place : Option (List ℕ)} {shown : Shown}
+      → (takes_value a ≡ true) ⊎ (a ≡ key)
+      → StringFault x code place b p shown
+      → FaultAt limit o a x code place b p shown
+  in_a_name : {x b p : List ℕ} {code : Option ErrorCode} {place : Option (List ℕ)} {shown : Shown} → NameFault x code place b p shown
+      → FaultAt limit o key x code place b p shown
+
+-- x has this fault where something is expected that the test allows: its code (None: custom), the text before its place (None: no
+-- place), the text before the faulty part, the part, and what shows it
+pub data FaultWhere (Where : Expects → Type 0) (limit : ℕ) : List ℕ → Option ErrorCode → Option (List ℕ) → List ℕ → List ℕ → Shown → Type 0 where
+  fault : {f x b p : List ℕ} {o : List Bracket} {a : Expects} {code : Option ErrorCode} {place : Option (List ℕ)} {shown : Shown}
+      → Front limit f x o a → Where a
+      → FaultAt limit o a x code place b p shown
+      → FaultWhere Where limit (f ++ x) code (lifted f o place) (f ++ b) p shown
+
+abbrev pub Anywhere : Expects → Type 0
+Anywhere a = ⊤
+
+abbrev pub InValue : Expects → Type 0
+InValue a = a ≢ end
+
+-- the text x has this fault
+abbrev pub Fault : ℕ → List ℕ → Option ErrorCode → Option (List ℕ) → List ℕ → List ℕ → Shown → Type 0
+Fault = FaultWhere Anywhere
+
+-- the value that x begins with has this fault
+abbrev pub ValueFault : ℕ → List ℕ → Option ErrorCode → Option (List ℕ) → List ℕ → List ℕ → Shown → Type 0
+ValueFault = FaultWhere InValue

@@ -51,8 +51,15 @@ closing of_object = right_brace
 -- f is a document's prefix and r the rest of the text; the open brackets, the innermost first; what is expected
 pub data Front (limit : ℕ) : List ℕ → List ℕ → List Bracket → Expects → Type 0 where
   start : {f r : List ℕ} → Gap f r → Front limit f r [] value
-  after_value : {g s w r : List ℕ} {o : List Bracket} {a : Expects} {t : Tree} → Front limit g (s ++ (w ++ r)) o a → takes_value a ≡ true → Val s t → Stops s (w ++ r) → length o + depth t ≤ limit → Gap w r → Front limit (g ++ (s ++ w)) r o (after o)
-  after_bracket : {g w r : List ℕ} {o : List Bracket} {a : Expects} (k : BracketKind) → Front limit g (opening k ∷ w ++ r) o a → takes_value a ≡ true → length o < limit → Gap w r → Front limit (g ++ opening k ∷ w) r (record { kind = k; before = g } ∷ o) (member_of k)
-  after_comma : {g w r : List ℕ} {b : Bracket} {o : List Bracket} → Front limit g (comma_sign ∷ w ++ r) (b ∷ o) comma → Gap w r → Front limit (g ++ comma_sign ∷ w) r (b ∷ o) (member_of b.kind)
-  after_key : {g k w r u : List ℕ} {o : List Bracket} {plain : Bool} → Front limit g (k ++ (w ++ r)) o key → Key k (w ++ r) u plain → Gap w r → Front limit (g ++ (k ++ w)) r o colon
-  after_colon : {g w r : List ℕ} {o : List Bracket} → Front limit g (colon_sign ∷ w ++ r) o colon → Gap w r → Front limit (g ++ colon_sign ∷ w) r o value
+  after_value : {g s w r : List ℕ} {o : List Bracket} {a : Expects} {t : Tree} → Front limit g (s ++ (w ++ r)) o a → takes_value a ≡ true
+      → Val s t → Stops s (w ++ r) → length o + depth t ≤ limit → Gap w r
+      → Front limit (g ++ (s ++ w)) r o (after o)
+  after_bracket : {g w r : List ℕ} {o : List Bracket} {a : Expects} (k : BracketKind) → Front limit g (opening k ∷ w ++ r) o a
+      → takes_value a ≡ true → length o < limit → Gap w r
+      → Front limit (g ++ opening k ∷ w) r (record { kind = k; before = g } ∷ o) (member_of k)
+  after_comma : {g w r : List ℕ} {b : Bracket} {o : List Bracket} → Front limit g (comma_sign ∷ w ++ r) (b ∷ o) comma → Gap w r
+      → Front limit (g ++ comma_sign ∷ w) r (b ∷ o) (member_of b.kind)
+  after_key : {g k w r u : List ℕ} {o : List Bracket} {plain : Bool} → Front limit g (k ++ (w ++ r)) o key → Key k (w ++ r) u plain → Gap w r
+      → Front limit (g ++ (k ++ w)) r o colon
+  after_colon : {g w r : List ℕ} {o : List Bracket} → Front limit g (colon_sign ∷ w ++ r) o colon → Gap w r
+      → Front limit (g ++ colon_sign ∷ w) r o value

@@ -22,6 +22,8 @@ pub mod Fronts
 pub mod Faults
 pub mod Blames
 pub mod Parts
+pub mod Refusals
+pub mod Commits
 pub mod Quoting
 pub mod Reading
 pub mod ReadBlanks

@@ -14,7 +14,8 @@ pub data Named : List ℕ → Type 0 where
 -- x, from a name's first character on, has this fault
 pub data NameFault : List ℕ → Option ErrorCode → Option (List ℕ) → List ℕ → List ℕ → Shown → Type 0 where
   -- in an escape
-  in_escape : {t x part : List ℕ} {code : Option ErrorCode} {place : Option (List ℕ)} {shown : Shown} → Named t → EscapeFault false x code place part shown
+  in_escape : {t x part : List ℕ} {code : Option ErrorCode} {place : Option (List ℕ)} {shown : Shown} → Named t
+      → EscapeFault false x code place part shown
       → NameFault (t ++ x) code (after_text t place) t part shown
   -- InvalidEscapeSequence at the character after a backslash that is no `u`
   no_unicode_escape : {t : List ℕ} (c : ℕ) (r : List ℕ) → Named t → c ≢ letter_u

@@ -24,7 +24,8 @@ pub data NumberWord : List ℕ → Type 0 where
 -- n is all of a decimal run: a sign, a point or digit, and more; a first `0` begins one only before `. e E`
 pub data Run : List ℕ → Type 0 where
   run : {s n : List ℕ} {m : Bool} {c : ℕ} → Sign s m → begins_run c ≡ true → c ≢ digit_zero → Each in_run n → Run (s ++ c ∷ n)
-  zero_run : {s n : List ℕ} {m : Bool} (c : ℕ) → Sign s m → ((c == point_sign) || ((c == letter_e) || (c == capital_e))) ≡ true → Each in_run n → Run (s ++ digit_zero ∷ c ∷ n)
+  zero_run : {s n : List ℕ} {m : Bool} (c : ℕ) → Sign s m → ((c == point_sign) || ((c == letter_e) || (c == capital_e))) ≡ true → Each in_run n
+      → Run (s ++ digit_zero ∷ c ∷ n)
 
 -- the text r ends or begins with a character that fails the test: that character, or nothing
 pub data RunEnd (p : ℕ → Bool) : List ℕ → List ℕ → Shown → Type 0 where
@@ -53,16 +54,25 @@ pub data NumberFault : List ℕ → Option ErrorCode → Option (List ℕ) → L
   hexadecimal_ends : (s : List ℕ) {m : Bool} (x : ℕ) → Sign s m → hex_start x ≡ true
       → NumberFault (s ++ digit_zero ∷ x ∷ []) (Some EofParsingNumber) None (s ++ digit_zero ∷ x ∷ []) by_end
   -- OverflowParsingNumber at the digit that takes a hexadecimal number past 128 bits
-  hexadecimal_overflows : (r s h : List ℕ) {m : Bool} (x c : ℕ) → Sign s m → hex_start x ≡ true → Each is_hex_digit h → is_hex_digit c ≡ true → spelled 16 0 h < 2 ^ 128 → 2 ^ 128 ≤ spelled 16 0 (h ++ c ∷ [])
-      → NumberFault (s ++ digit_zero ∷ x ∷ (h ++ c ∷ r)) (Some OverflowParsingNumber) (Some (s ++ digit_zero ∷ x ∷ h)) (s ++ digit_zero ∷ x ∷ (h ++ c ∷ [])) by_char
+  hexadecimal_overflows : (r s h : List ℕ) {m : Bool} (x c : ℕ) → Sign s m → hex_start x ≡ true → Each is_hex_digit h → is_hex_digit c ≡ true
+      → spelled 16 0 h < 2 ^ 128
+      → 2 ^ 128 ≤ spelled 16 0 (h ++ c ∷ [])
+      → NumberFault (s ++ digit_zero ∷ x ∷ (h ++ c ∷ r)) (Some OverflowParsingNumber) (Some (s ++ digit_zero ∷ x ∷ h))
+      (s ++ digit_zero ∷ x ∷ (h ++ c ∷ [])) by_char
   -- custom, at the sign: a negative hexadecimal number below -2^127 but within 128 bits
-  negative_too_large : (r h c : List ℕ) {shown : Shown} (x : ℕ) → hex_start x ≡ true → Each is_hex_digit h → 2 ^ 127 < spelled 16 0 h → spelled 16 0 h < 2 ^ 128 → RunEnd is_hex_digit r c shown
+  negative_too_large : (r h c : List ℕ) {shown : Shown} (x : ℕ) → hex_start x ≡ true → Each is_hex_digit h → 2 ^ 127 < spelled 16 0 h
+      → spelled 16 0 h < 2 ^ 128
+      → RunEnd is_hex_digit r c shown
       → NumberFault (minus_sign ∷ digit_zero ∷ x ∷ (h ++ r)) None (Some []) (minus_sign ∷ digit_zero ∷ x ∷ (h ++ c)) shown
   -- custom, at the number's start: a decimal run that is no literal
-  not_a_literal : (r n c : List ℕ) {shown : Shown} → Run n → ((s l i : List ℕ) (m : Bool) (d : Option (List ℕ)) (w : Option ℤ) → Sign s m → Literal l i d w → n ≡ s ++ l → ⊥) → RunEnd in_run r c shown
+  not_a_literal : (r n c : List ℕ) {shown : Shown} → Run n
+      → ((s l i : List ℕ) (m : Bool) (d : Option (List ℕ)) (w : Option ℤ) → Sign s m → Literal l i d w → n ≡ s ++ l → ⊥)
+      → RunEnd in_run r c shown
       → NumberFault (n ++ r) None (Some []) (n ++ c) shown
   -- OverflowParsingNumber at the number's start: a literal whose exponent is out of range
-  literal_overflows : (r s l i c : List ℕ) {shown : Shown} {m : Bool} {d : Option (List ℕ)} {w : Option ℤ} → Run (s ++ l) → Sign s m → Literal l i d w → ((n : Number) → Num (s ++ l) n → ⊥) → RunEnd in_run r c shown
+  literal_overflows : (r s l i c : List ℕ) {shown : Shown} {m : Bool} {d : Option (List ℕ)} {w : Option ℤ} → Run (s ++ l) → Sign s m
+      → Literal l i d w → ((n : Number) → Num (s ++ l) n → ⊥)
+      → RunEnd in_run r c shown
       → NumberFault ((s ++ l) ++ r) (Some OverflowParsingNumber) (Some []) ((s ++ l) ++ c) shown
   -- LeadingZero at the number's start: a digit after a first `0`
   leading_zero : (r s : List ℕ) {m : Bool} (c : ℕ) → Sign s m → is_digit c ≡ true

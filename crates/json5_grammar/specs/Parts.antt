@@ -22,7 +22,8 @@ pub data Nearly : List ℕ → List ℕ → Type 0 where
 pub data NumberPart : List ℕ → Type 0 where
   one_char : {c : ℕ} → NumberPart (c ∷ [])
   number_word : (s p w x : List ℕ) {m : Bool} → Sign s m → NumberWord w → IsPrefix p w → Nearly (s ++ p) x → NumberPart x
-  hexadecimal : (s h x : List ℕ) {m : Bool} (c : ℕ) → Sign s m → hex_start c ≡ true → Each is_hex_digit h → Nearly (s ++ digit_zero ∷ c ∷ h) x → NumberPart x
+  hexadecimal : (s h x : List ℕ) {m : Bool} (c : ℕ) → Sign s m → hex_start c ≡ true → Each is_hex_digit h → Nearly (s ++ digit_zero ∷ c ∷ h) x
+      → NumberPart x
   lone_zero_part : (s x : List ℕ) {m : Bool} → Sign s m → Nearly (s ++ digit_zero ∷ []) x → NumberPart x
   decimal_run : (n x : List ℕ) → Run n → Nearly n x → NumberPart x
 

@@ -1,7 +1,8 @@
 -- The steps of reading a value, the trees forgotten: what stands round the members of arrays and objects.
 use Rattle.std.specs.Prelude.{ℕ, suc, Bool, true, false, cond, ◌==◌, List, [], ◌∷◌, length, Option, Some, None}
 use Rattle.json5_grammar.specs.Characters.{comma_sign}
-use Rattle.json5_grammar.specs.Codes.{ErrorCode, EofParsingArray, EofParsingObject, ExpectedComma}
+use Rattle.json5_grammar.specs.Codes.{EofParsingObject, ExpectedComma}
+pub use Rattle.json5_grammar.specs.Faults.{eof_in}
 use Rattle.json5_grammar.specs.Fronts.{BracketKind, of_array, of_object, closing}
 use Rattle.json5_grammar.specs.Reading.{Read, and_then, here, inner, got, bad}
 use Rattle.json5_grammar.specs.ReadBlanks.{skip, between}
@@ -13,10 +14,6 @@ use Rattle.json5_grammar.specs.ReadValues.{read, items, entries, after_member, a
 abbrev pub forget : {A : Type 0} → Read A → Read (Unit {0})
 forget (got a r) = got tt r
 forget (bad e p) = bad e p
-
-abbrev pub eof_in : BracketKind → ErrorCode
-eof_in of_array = EofParsingArray
-eof_in of_object = EofParsingObject
 
 -- ---- the steps: true where a value comes next, and false where the bracket was closed
 

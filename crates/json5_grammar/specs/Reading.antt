@@ -1,5 +1,6 @@
--- Reading as functions on lists, which give what is at the front and what follows it, or the fault. Private clauses and proofs cite them. So do two public words of json5_de, `document_of` and
--- `ReadsTree`, whose meaning laws say: `document_keys` says which keys the one converts, and the law of a type what the other reads.
+-- Reading as functions on lists, which give what is at the front and what follows it, or the fault. Private clauses and proofs cite them.
+-- No public clause of a refusal does: these cite the fault table. Of the public words one does, `document_of` of json5_de, which says what
+-- a key converts to, and the law `document_keys` says of it which keys are documents.
 use Rattle.std.specs.Prelude.{◌≡◌, ℕ, List, ◌++◌, Option, Some, None}
 use Rattle.json5_grammar.specs.Codes.{ErrorCode}
 

@@ -3,14 +3,19 @@
 
 mod answers;
 mod hand_enums;
+mod hand_keys;
 mod hand_structs;
+mod objects;
+mod reaches;
 mod reads;
 mod rows;
 mod scans;
 mod sequences;
 mod spelling;
+mod steps;
 mod texts;
 mod writes;
+mod writings;
 
 use std::io::{self, BufRead, BufReader, BufWriter, Write};
 

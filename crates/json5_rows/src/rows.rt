@@ -2,7 +2,7 @@
 
 use crate::answers::{Answer, by_code, by_message};
 use crate::spelling::{shortened, unescaped};
-use crate::{reads, scans, sequences, texts, writes};
+use crate::{reaches, reads, scans, sequences, texts, writes, writings};
 use std::alloc::{AllocError, Global};
 
 /// Whether the line is a row: neither blank nor a comment.
@@ -29,8 +29,12 @@ fn answer(alloc: Global, call: &str, text: &str) -> Answer {
         "key" => writes::write_key(alloc, words, text),
         "display" => writes::display(alloc, text),
         "format" => json5::format(alloc, text),
+        "formatted" => read_formatted(alloc, words, text),
         "variant" => reads::read_variant(alloc, words, text),
         "sequence" => sequences::sequence(alloc, words, text),
+        "writing" => writings::writing(alloc, words),
+        "stops" => writings::stops(alloc, words, text),
+        "reaches" => reaches::reaches(alloc, words, text),
         "scan" => scans::scan(alloc, words, text),
         "position" => texts::position(alloc, words, text),
         "finite" => texts::finite(alloc, words, text),
@@ -38,4 +42,10 @@ fn answer(alloc: Global, call: &str, text: &str) -> Answer {
         "characters" => texts::characters(alloc, words, text),
         _ => reads::read(alloc, call, text),
     }
+}
+
+/// What `format` writes, read again as the type with this name.
+fn read_formatted(alloc: Global, name: &str, text: &str) -> Answer {
+    let formatted = json5::format(alloc, text)?;
+    reads::read(alloc, name, formatted.as_str())
 }

@@ -1,10 +1,14 @@
 //! Calls of one reader, one after another: `sequence u8 seq(u8,place,end) end|TEXT`.
 //!
-//! The calls in brackets are those of the access that the call opens. It is dropped where the last of them isn't `end`.
+//! The calls in brackets are those of the access that the call opens. It is dropped where the last of them isn't `end`, and leaked
+//! where that is `leak`.
 
 use crate::answers::{Answer, Any, Digits, Printed, push_answer, push_text, shown, unknown};
+use crate::objects;
+use crate::steps::{Close, split_close};
 use json5::{Deserializer, Error, ErrorCode, SeqAccess};
 use std::alloc::Global;
+use std::mem::forget;
 
 /// What each call answers.
 pub fn sequence(alloc: Global, names: &str, text: &str) -> Answer {
@@ -57,16 +61,18 @@ fn call_other(de: &mut Deserializer<&str>, name: &str) -> Answer {
         "option" => shown(alloc, de.deserialize_option::<bool>()),
         "unit_struct" => shown(alloc, de.deserialize_unit_struct("Unit")),
         "newtype_struct" => shown(alloc, de.deserialize_newtype_struct::<bool>("Newtype")),
+        "bytes" => shown(alloc, de.deserialize_bytes()),
+        "byte_buf" => shown(alloc, de.deserialize_byte_buf()),
         "end" => shown(alloc, de.end()),
         _ => unknown(alloc),
     }
 }
 
-/// Opens an array, and makes the calls of its access.
+/// Opens an array or an object, and makes the calls of its access.
 macro_rules! walk_opened {
-    ($opened:expr, $steps:ident, $alloc:ident, $answers:ident) => {
+    ($walk:expr, $opened:expr, $steps:ident, $alloc:ident, $answers:ident) => {
         match $opened {
-            Ok(access) => walk(access, $steps, $alloc, $answers),
+            Ok(access) => $walk(access, $steps, $alloc, $answers),
             Err(e) => push_answer($alloc, Err(e), $answers),
         }
     };
@@ -80,20 +86,21 @@ fn open(
 ) -> Printed<()> {
     let alloc = de.allocator();
     match opening {
-        "tuple" => walk_opened!(de.deserialize_tuple(2), steps, alloc, answers),
+        "tuple" => walk_opened!(walk, de.deserialize_tuple(2), steps, alloc, answers),
         "tuple_struct" => {
-            walk_opened!(
-                de.deserialize_tuple_struct("Pair", 2),
-                steps,
-                alloc,
-                answers
-            )
+            let opened = de.deserialize_tuple_struct("Pair", 2);
+            walk_opened!(walk, opened, steps, alloc, answers)
         }
-        _ => walk_opened!(de.deserialize_seq(), steps, alloc, answers),
+        "map" => walk_opened!(objects::walk, de.deserialize_map(), steps, alloc, answers),
+        "struct" => {
+            let opened = de.deserialize_struct("Pair", &["a", "b"]);
+            walk_opened!(objects::walk, opened, steps, alloc, answers)
+        }
+        _ => walk_opened!(walk, de.deserialize_seq(), steps, alloc, answers),
     }
 }
 
-/// Makes the calls of an access, and drops it where the last isn't `end`.
+/// Makes the calls of an array's access.
 fn walk(
     access: SeqAccess<'_, &str>,
     steps: &str,
@@ -101,14 +108,16 @@ fn walk(
     answers: &mut String,
 ) -> Printed<()> {
     let mut access = access;
+    let (steps, close) = split_close(steps);
     push_text("opened", answers)?;
-    match steps.strip_suffix("end)") {
-        Some(steps) => {
-            elements(&mut access, steps, alloc, answers)?;
-            push_answer(alloc, shown(alloc, access.end()), answers)
+    elements(&mut access, steps, alloc, answers)?;
+    match close {
+        Close::End => push_answer(alloc, shown(alloc, access.end()), answers),
+        Close::Leak => {
+            forget(access);
+            push_text("leaked", answers)
         }
-        None => {
-            elements(&mut access, steps.trim_end_matches(')'), alloc, answers)?;
+        Close::Drop => {
             drop(access);
             push_text("dropped", answers)
         }

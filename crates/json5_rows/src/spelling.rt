@@ -1,5 +1,5 @@
 //! How a row spells its text, so that it may hold any character: `\n`, `\r`, `\t`, `\u{2028}` for a character by its number,
-//! `\0{40}` for forty zeros, and a backslash and any other character for that character.
+//! `\0{40}` for forty zeros, `\[{40}` and `\]{40}` for forty brackets, and a backslash and any other character for that character.
 
 use std::alloc::{AllocError, Global};
 
@@ -12,8 +12,8 @@ enum Escape {
     Begun,
     /// The `u` after it, and the number so far.
     Code(u32),
-    /// The `0` after it, and the count so far.
-    Zeros(u32),
+    /// The character after it that is repeated, and the count so far.
+    Run(char, u32),
 }
 
 /// The text that the row spells.
@@ -25,7 +25,7 @@ pub fn unescaped(alloc: Global, spelled: &str) -> Result<String, AllocError> {
             Escape::Outside => outside(c, &mut text)?,
             Escape::Begun => begun(c, &mut text)?,
             Escape::Code(code) => in_code(code, c, &mut text)?,
-            Escape::Zeros(count) => in_zeros(count, c, &mut text)?,
+            Escape::Run(repeated, count) => in_run(repeated, count, c, &mut text)?,
         };
     }
     Ok(text)
@@ -42,7 +42,7 @@ fn outside(c: char, text: &mut String) -> Result<Escape, AllocError> {
 fn begun(c: char, text: &mut String) -> Result<Escape, AllocError> {
     match c {
         'u' => return Ok(Escape::Code(0)),
-        '0' => return Ok(Escape::Zeros(0)),
+        _ if is_repeated(c) => return Ok(Escape::Run(c, 0)),
         'n' => text.push('\n')?,
         'r' => text.push('\r')?,
         't' => text.push('\t')?,
@@ -60,46 +60,62 @@ fn in_code(code: u32, c: char, text: &mut String) -> Result<Escape, AllocError> 
     Ok(Escape::Outside)
 }
 
-fn in_zeros(count: u32, c: char, text: &mut String) -> Result<Escape, AllocError> {
+fn in_run(repeated: char, count: u32, c: char, text: &mut String) -> Result<Escape, AllocError> {
     match c.to_digit(10) {
-        Some(digit) => return Ok(Escape::Zeros(count.saturating_mul(10).saturating_add(digit))),
-        None if c == '{' => return Ok(Escape::Zeros(count)),
-        None => push_zeros(count, text)?,
+        Some(digit) => {
+            let count = count.saturating_mul(10).saturating_add(digit);
+            return Ok(Escape::Run(repeated, count));
+        }
+        None if c == '{' => return Ok(Escape::Run(repeated, count)),
+        None => push_all(repeated, count, text)?,
     }
     Ok(Escape::Outside)
 }
 
-fn push_zeros(count: u32, text: &mut String) -> Result<(), AllocError> {
+fn push_all(c: char, count: u32, text: &mut String) -> Result<(), AllocError> {
     for _ in 0..count {
-        text.push('0')?;
+        text.push(c)?;
     }
     Ok(())
 }
 
-/// The longest run of zeros that an answer spells out.
+/// Whether a run of this character is spelled by its length.
+fn is_repeated(c: char) -> bool {
+    matches!(c, '0' | '[' | ']')
+}
+
+/// The longest run that an answer spells out.
 const LONGEST_RUN: u32 = 40;
 
-/// The text, its longer runs of zeros as `\0{41}`.
+/// The text, its longer runs of zeros and brackets as `\0{41}`.
 pub fn shortened(alloc: Global, text: &str) -> Result<String, AllocError> {
     let mut short = String::new(alloc);
-    let mut zeros = 0u32;
+    let mut run = Run { c: '0', length: 0 };
     for c in text.chars() {
-        if c == '0' {
-            zeros = zeros.saturating_add(1);
-        } else {
-            push_run(zeros, &mut short)?;
-            zeros = 0;
-            short.push(c)?;
+        if c != run.c {
+            run.end(&mut short)?;
+            run = Run { c, length: 0 };
         }
+        run.length = run.length.saturating_add(1);
     }
-    push_run(zeros, &mut short)?;
+    run.end(&mut short)?;
     Ok(short)
 }
 
-fn push_run(zeros: u32, short: &mut String) -> Result<(), AllocError> {
-    if zeros > LONGEST_RUN {
-        write!(short, "\\0{{{zeros}}}")
-    } else {
-        push_zeros(zeros, short)
+/// One character, and how often it stood in a row.
+#[derive(Clone, Copy)]
+struct Run {
+    c: char,
+    length: u32,
+}
+
+impl Run {
+    fn end(self, short: &mut String) -> Result<(), AllocError> {
+        let Run { c, length } = self;
+        if is_repeated(c) && length > LONGEST_RUN {
+            write!(short, "\\{c}{{{length}}}")
+        } else {
+            push_all(c, length, short)
+        }
     }
 }

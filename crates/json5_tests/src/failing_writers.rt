@@ -1,28 +1,40 @@
 //! Writers that fail at each of their calls in turn.
 
-use crate::writers::{Slow, failed_write};
+use crate::writers::{Failure, Slow, failed_write};
 use indexmap::IndexMap;
-use json5::{ByteBuf, Serialize, to_writer};
+use json5::{ByteBuf, Error, ErrorCode, Result, Serialize, Serializer, Value, from_str, to_writer};
 use json5_own_type::{Id, Reminder};
 use std::alloc::Global;
 use std::test::Fail;
 
-/// Whether a writer that takes one byte a call and fails after so many was given just so many bytes of the text, and no call
-/// after the one that failed.
-fn stops_after<T: Serialize>(alloc: Global, value: &T, text: &[u8], count: usize) -> bool {
-    let mut slow = Slow::new(alloc, 1, count);
-    let failed = to_writer(&mut slow, value) == Err(failed_write());
+/// Whether a writer was given just so many bytes of the text, one a call, and no call after the one that failed.
+pub(crate) fn was_stopped(slow: &Slow, text: &[u8], count: usize) -> bool {
     match text.get(..count) {
-        Some(given) => failed && slow.was_given(given, given.len() + 1),
+        Some(given) => slow.was_given(given, given.len() + 1),
         None => false,
     }
+}
+
+/// Whether a writer that takes one byte a call and fails after so many is a failed write, and was stopped there.
+fn stops_after<T: Serialize>(
+    alloc: Global,
+    value: &T,
+    text: &[u8],
+    count: usize,
+    failure: Failure,
+) -> bool {
+    let mut slow = Slow::failing(alloc, 1, count, failure);
+    let failed = to_writer(&mut slow, value) == Err(failed_write());
+    failed && was_stopped(&slow, text, count)
 }
 
 /// Whether that is so at each of its calls, and a writer that doesn't fail gets the text whole, a byte a call.
 fn stops_anywhere<T: Serialize>(alloc: Global, value: &T, text: &str) -> bool {
     let text = text.as_bytes();
     for count in 0..text.len() {
-        if !stops_after(alloc, value, text, count) {
+        if !stops_after(alloc, value, text, count, Failure::Interrupted)
+            || !stops_after(alloc, value, text, count, Failure::TakesNothing)
+        {
             return false;
         }
     }
@@ -65,4 +77,39 @@ fn bytes_as_keys_are_bare_where_they_begin_with_a_letter(
         )
     );
     Ok(())
+}
+
+#[test]
+fn a_value_of_any_kind_stops_anywhere(rt: HostRuntime) -> std::result::Result<(), Fail> {
+    let value: Value = from_str(rt.alloc(), "{a:1}")?;
+    assert!(rt; stops_anywhere(rt.alloc(), &value, "{\n  a: 1,\n}"));
+    Ok(())
+}
+
+/// Writes an object and a list in it, member by member.
+fn write_by_hand(ser: &mut Serializer<Slow>) -> Result<()> {
+    let mut object = ser.serialize_map(None)?;
+    object.serialize_entry(&"a", &[0u8; 0])?;
+    object.serialize_key(&"b c")?;
+    object.serialize_value(&[true])?;
+    object.end()
+}
+
+const BY_HAND: &[u8] = b"{\n  a: [],\n  \"b c\": [\n    true,\n  ],\n}";
+
+/// Whether a serializer over a writer that fails after so many bytes refuses with a failed write, and then with `Failed`, and
+/// gives back a writer that was stopped there.
+fn stops_by_hand(alloc: Global, count: usize) -> bool {
+    let mut ser = Serializer::new(Slow::new(alloc, 1, count));
+    let stopped = write_by_hand(&mut ser) == Err(failed_write());
+    let refused = ser.serialize_unit() == Err(Error::new(ErrorCode::Failed));
+    let slow = ser.into_inner();
+    stopped && refused && was_stopped(&slow, BY_HAND, count)
+}
+
+#[test]
+fn a_collection_stops_anywhere(rt: HostRuntime) {
+    for count in 0..BY_HAND.len() {
+        assert!(rt; stops_by_hand(rt.alloc(), count), "at {count}");
+    }
 }

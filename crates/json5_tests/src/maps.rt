@@ -1,10 +1,11 @@
 //! Maps of many keys.
 
 use indexmap::IndexMap;
-use json5::{Result, from_str};
+use json5::{Deserializer, Result, from_str};
 use std::alloc::Global;
 use std::collections::{BTreeMap, HashMap};
 use std::fmt::Write;
+use std::hash::RandomState;
 use std::test::Fail;
 
 /// An object of so many pairs, whose keys all differ.
@@ -26,8 +27,34 @@ fn counts(alloc: Global, text: &str) -> Result<(usize, usize, usize)> {
 }
 
 #[test]
-fn maps_of_100_000_keys_are_read(rt: HostRuntime) -> std::result::Result<(), Fail> {
-    let text = object(rt.alloc(), 100_000)?;
-    assert!(rt; counts(rt.alloc(), text.as_str())? == (100_000, 100_000, 100_000));
+fn maps_of_10_000_keys_are_read(rt: HostRuntime) -> std::result::Result<(), Fail> {
+    let text = object(rt.alloc(), 10_000)?;
+    assert!(rt; counts(rt.alloc(), text.as_str())? == (10_000, 10_000, 10_000));
+    Ok(())
+}
+
+/// The pairs of the text in a map whose seed is the caller's.
+fn read_with_seed(
+    alloc: Global,
+    seed: RandomState,
+    text: &str,
+) -> Result<HashMap<String, u32, RandomState>> {
+    let mut de = Deserializer::from_str(alloc, text);
+    let mut pairs = de.deserialize_map()?;
+    let mut map = HashMap::with_hasher(alloc, seed);
+    while let Some(key) = pairs.next_key::<String>()? {
+        let value = pairs.next_value::<u32>()?;
+        map.insert(key, value)?;
+    }
+    pairs.end()?;
+    de.end()?;
+    Ok(map)
+}
+
+#[test]
+fn pairs_are_put_into_a_map_with_a_seed(rt: HostRuntime) -> std::result::Result<(), Fail> {
+    let seed = RandomState::new(&rt)?;
+    let map = read_with_seed(rt.alloc(), seed, "{a: 1, b: 2, a: 3}")?;
+    assert!(rt; map.len() == 2 && map.get("a") == Some(&3) && map.get("b") == Some(&2));
     Ok(())
 }

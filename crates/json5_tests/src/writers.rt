@@ -9,23 +9,60 @@ use std::alloc::Global;
 use std::io::{self, ErrorKind, Write};
 use std::test::Fail;
 
-/// Takes `step` bytes a call, and answers `Interrupted` once no call is left. It counts the calls.
+/// How a write fails.
+#[derive(Clone, Copy, Drop)]
+pub(crate) enum Failure {
+    Interrupted,
+    TakesNothing,
+}
+
+/// Takes `step` bytes a call. When so many calls were made, the next one fails, and later ones take bytes again. It counts the
+/// calls, those with no bytes among them, and the flushes.
 #[derive(Drop)]
 pub(crate) struct Slow {
     bytes: Vec<u8>,
     step: usize,
-    left: usize,
+    fails_after: usize,
+    failure: Failure,
     calls: usize,
+    empty: usize,
+    flushes: usize,
+}
+
+impl Failure {
+    fn answer(self) -> io::Result<usize> {
+        match self {
+            Failure::Interrupted => Err(io::Error::from(ErrorKind::Interrupted)),
+            Failure::TakesNothing => Ok(0),
+        }
+    }
 }
 
 impl Slow {
-    pub(crate) fn new(alloc: Global, step: usize, left: usize) -> Slow {
+    pub(crate) fn new(alloc: Global, step: usize, fails_after: usize) -> Slow {
+        Slow::failing(alloc, step, fails_after, Failure::Interrupted)
+    }
+
+    pub(crate) fn failing(
+        alloc: Global,
+        step: usize,
+        fails_after: usize,
+        failure: Failure,
+    ) -> Slow {
         Slow {
             bytes: Vec::new(alloc),
             step,
-            left,
+            fails_after,
+            failure,
             calls: 0,
+            empty: 0,
+            flushes: 0,
         }
+    }
+
+    /// Whether no call was without bytes, and none was a flush.
+    pub(crate) fn was_only_given_bytes(&self) -> bool {
+        self.empty == 0 && self.flushes == 0
     }
 
     pub(crate) fn was_given(&self, bytes: &[u8], calls: usize) -> bool {
@@ -35,17 +72,21 @@ impl Slow {
 
 impl Write for Slow {
     fn write(&mut self, buf: &[u8]) -> io::Result<usize> {
-        self.calls = self.calls.saturating_add(1);
-        if self.left == 0 {
-            return Err(io::Error::from(ErrorKind::Interrupted));
+        let before = self.calls;
+        self.calls = before.saturating_add(1);
+        if buf.is_empty() {
+            self.empty = self.empty.saturating_add(1);
+        }
+        if before == self.fails_after {
+            return self.failure.answer();
         }
         let count = self.step.min(buf.len());
         self.bytes.extend_from_slice(&buf[..count])?;
-        self.left -= 1;
         Ok(count)
     }
 
     fn flush(&mut self) -> io::Result<()> {
+        self.flushes = self.flushes.saturating_add(1);
         Ok(())
     }
 }

@@ -21,5 +21,13 @@ pub mod NumberLiterals
 pub mod NumberValues
 pub mod NumberJudged
 pub mod NumberCases
+pub mod DecimalRuns
 pub mod ScanNumbers
 pub mod ScanKeys
+pub mod StopRuns
+pub mod ByteSearch
+pub mod FirstBytes
+pub mod AsciiBlanks
+pub mod AsciiNames
+pub mod FewDigits
+pub mod ShortWholes

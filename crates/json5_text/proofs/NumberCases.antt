@@ -14,8 +14,8 @@ use Rattle.json5_grammar.specs.ReadNumbers.{word, front_of, rest_of, literal_at,
 
 -- ---- decimal runs
 
-pub run_refused : (q : List ℕ) (m : Bool) (x f : List ℕ) → f ≡ front_of in_run x → literal_at f ≡ None → decimal_run q m x ≡ bad None (here q)
-run_refused q m x f e h = ap (if_literal q m (rest_of in_run x)) (ap literal_at (sym e) ∙ h)
+pub run_refused : (q : List ℕ) (m : Bool) (x : List ℕ) → literal_at (front_of in_run x) ≡ None → decimal_run q m x ≡ bad None (here q)
+run_refused q m x h = ap (if_literal q m (rest_of in_run x)) h
 
 -- ---- after a first `0`
 

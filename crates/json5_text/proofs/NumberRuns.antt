@@ -8,7 +8,6 @@ use Rattle.std.proofs.lemmas.List.{append-nil, reverse-append, reverse-reverse, 
 use Rattle.std.proofs.lemmas.Bool.Decides.{nat_tests}
 use Rattle.std.proofs.lemmas.Str.{chars-IsAscii, chars-append, chars_from_encodes, encode_ascii, IsUtf8-drop, IsUtf8-from_ascii, IsCharBoundary-after_ascii, IsCharBoundary-at_seam}
 use Rattle.json5_grammar.specs.Characters.{is_digit, NotBegun, Each, no_char, char}
-use Rattle.json5_grammar.specs.Stops.{in_run}
 use Rattle.json5_grammar.specs.Numbers.{without_front_zeros}
 use Rattle.json5_grammar.specs.ReadNumbers.{front_of, rest_of}
 use Rattle.json5_grammar.proofs.NumberTests.{by_test, front_each, front_rest, front_all, rest_each, rest_all, rest_stops}
@@ -18,9 +17,6 @@ use Rattle.json5_grammar.proofs.DecimalsWritten.{Each-reverse}
 -- only ASCII characters pass the test
 abbrev pub PassesAscii : (ℕ → Bool) → Type 0
 PassesAscii p = (c : ℕ) → p c ≡ true → c < 128
-
-pub run_is_ascii : PassesAscii in_run
-run_is_ascii c h = grind (arith, nat_tests)
 
 pub digit_is_ascii : PassesAscii is_digit
 digit_is_ascii c h = grind (arith, nat_tests)
@@ -63,7 +59,7 @@ rest_cut p s k e = ap (λ n. drop n s) (front_count p s k e) ∙ ap (drop (lengt
 
 -- ---- the same of characters
 
-not_begun : (p : ℕ → Bool) (cs s : List ℕ) → PassesAscii p → encode_utf8_all cs ≡ s → NotBegun p s → NotBegun p cs
+pub not_begun : (p : ℕ → Bool) (cs s : List ℕ) → PassesAscii p → encode_utf8_all cs ≡ s → NotBegun p s → NotBegun p cs
 not_begun p [] s a e n = tt
 not_begun p (c ∷ t) s a e n = decide (p c) refl
   where
@@ -79,7 +75,7 @@ rest_chars_stop p s a u =
 pub front_alone : (p : ℕ → Bool) (s : List ℕ) → PassesAscii p → chars (front_of p s) ≡ front_of p s
 front_alone p s a = chars-IsAscii (front_of p s) (λ i. each_below a (front_each p s) i)
 
-chars_split : (p : ℕ → Bool) (s : List ℕ) → PassesAscii p → chars s ≡ front_of p s ++ chars (rest_of p s)
+pub chars_split : (p : ℕ → Bool) (s : List ℕ) → PassesAscii p → chars s ≡ front_of p s ++ chars (rest_of p s)
 chars_split p s a = ap chars (front_rest p s) ∙ chars-append (front_of p s) (rest_of p s) (each_utf8 a (front_each p s)) ∙ ap (λ z. z ++ chars (rest_of p s)) (front_alone p s a)
 
 pub front_chars : (p : ℕ → Bool) (s : List ℕ) → PassesAscii p → IsUtf8 s → front_of p s ≡ front_of p (chars s)

@@ -1,12 +1,13 @@
 -- A text is cut where its characters are.
-use Rattle.std.proofs.Common.{◌≡◌, ℕ, ◌+◌, ◌-◌, ◌≤◌, true, List, [], ◌∷◌, ◌++◌, length, take, drop, refl, ap, sym, ◌∙◌, subst, arith, append_assoc}
+use Rattle.std.proofs.Common.{◌≡◌, ℕ, ◌+◌, ◌-◌, ◌<◌, ◌≤◌, true, List, [], ◌∷◌, ◌++◌, length, take, drop, refl, ap, sym, ◌∙◌, subst, arith, append_assoc}
 use Rattle.std.specs.Char.{IsScalar}
+use Rattle.std.specs.Prelude.{slice_index}
 use Rattle.std.specs.List.{slice_range}
 use Rattle.std.proofs.lemmas.Grind.{common_steps}
 use Rattle.std.specs.Str.{IsUtf8, IsCharBoundary, chars, encode_utf8_all, all_scalars}
 use Rattle.std.proofs.Math.Seq.{take-append_seam, drop-append_seam}
 use Rattle.std.proofs.lemmas.List.{length-append, length-drop, length-take, take-append-drop}
-use Rattle.std.proofs.lemmas.Str.{encodes-chars, scalars-chars, chars-encodes, encodes-append, chars-append, IsUtf8-take, IsUtf8-drop, IsCharBoundary-at_seam}
+use Rattle.std.proofs.lemmas.Str.{chars_past_char, encode_ascii, IsCharBoundary-after_ascii, encodes-chars, scalars-chars, chars-encodes, encodes-append, chars-append, IsUtf8-take, IsUtf8-drop, IsCharBoundary-at_seam}
 use Rattle.json5_text.specs.Outcome.{bytes_in}
 use Rattle.json5_text.specs.Cursor.{IsOffset}
 use Rattle.json5_text.specs.Scan.{InText}
@@ -141,3 +142,17 @@ part_between {text = text} {x = x} u y h =
     ∙ ap (λ z. take (bytes_in u) (drop (bytes_in x) z)) whole
     ∙ ap (take (bytes_in u)) (drop-append_seam (encode_utf8_all x) (encode_utf8_all u ++ encode_utf8_all y))
     ∙ take-append_seam (encode_utf8_all u) (encode_utf8_all y)
+
+-- ---- an ASCII character in front
+
+pub first_cut : (s : List ℕ) → IsUtf8 s → 0 < length s → slice_index s 0 < 128 → IsCharBoundary s 1
+first_cut s u l h = IsCharBoundary-after_ascii s 0 u l h
+
+pub first_char : (s t : List ℕ) → IsUtf8 s → 0 < length s → slice_index s 0 < 128 → t ≡ drop 1 s → chars s ≡ slice_index s 0 ∷ chars t
+first_char [] t u l h d = absurd (omega arith)
+first_char (b ∷ s) t u l h d = chars_past_char (b ∷ s) s b u (ap (λ z. z ++ s) (sym (encode_ascii b h))) ∙ ap (λ z. b ∷ chars z) (sym d)
+
+pub no_chars : (s : List ℕ) → length s ≡ 0 → chars s ≡ []
+unfolding chars
+no_chars [] e = refl
+no_chars (b ∷ s) e = absurd (omega arith)

@@ -6,9 +6,9 @@ use Rattle.json5_grammar.specs.Reading.{Read, got, bad, Place, here, inner, IsAt
 use Rattle.json5_text.specs.declared.error.Error.{Error}
 use Rattle.json5_text.specs.declared.refusal.Refusal.{Refusal}
 use Rattle.json5_text.specs.declared.refusal.Refusal.TheVariants as refusal
-use Rattle.json5_text.specs.Errors.{place_of}
+use Rattle.json5_text.specs.Errors.{LacksMemory, place_of}
 use Rattle.json5_text.specs.Outcome.{Outcome, gave, failed, outcome, bytes_in, left_at}
-use Rattle.json5_text.specs.Cursor.{Cursor, Says, IsPlaced, IsOutOfMemory, Refused}
+use Rattle.json5_text.specs.Cursor.{Cursor, Says, IsPlaced, Refused}
 use Rattle.json5_text.specs.Refused.{Refuses}
 use Rattle.json5_text.specs.Scan.{HasCode, HasFault, Leaves, InUnread, IsThere, MadeOf}
 
@@ -84,7 +84,7 @@ end_refused A IsFault s err reason f p k e says none =
     record { reason = f; place = None; fault = subst (λ z. IsFault s.unread f z) unplaced (subst (λ z. IsFault s.unread z k.place) same.0 k.fault); says = says; placed = none }
 
 custom_refused : (A : Type 0) (IsFault : List ℕ → Option ErrorCode → Option (List ℕ) → Type 0) (s : Cursor) (err : Error) (res : Read A) (left : ℕ)
-    → FaultyIn IsFault s.unread res → outcome res ≡ failed None (Some left) → IsOutOfMemory err ⊎ (Says None err × IsThere s left err) → IsOutOfMemory err ⊎ Refused IsFault s err
+    → FaultyIn IsFault s.unread res → outcome res ≡ failed None (Some left) → LacksMemory err ⊎ (Says None err × IsThere s left err) → LacksMemory err ⊎ Refused IsFault s err
 custom_refused A IsFault s err res left k e (inl m) = inl m
 custom_refused A IsFault s err (got a r) left k e (inr t) = absurd (gave_failed A a r None (Some left) e)
 custom_refused A IsFault s err (bad f p) left k e (inr t) = inr (there_refused A IsFault s err f None p left k e t.0 t.1)
@@ -104,7 +104,7 @@ coded IsFault s err (refusal.UnpairedSurrogate u left) res k e h m = absurd h
 coded IsFault s err refusal.OutOfMemory res k e h m = absurd h
 
 pub refused : {A : Type 0} (IsFault : List ℕ → Option ErrorCode → Option (List ℕ) → Type 0) (s : Cursor) (err : Error) (r : Refusal) (res : Read A)
-    → FaultyIn IsFault s.unread res → Refuses r (outcome res) → MadeOf s r err → IsOutOfMemory err ⊎ Refused IsFault s err
+    → FaultyIn IsFault s.unread res → Refuses r (outcome res) → MadeOf s r err → LacksMemory err ⊎ Refused IsFault s err
 refused {A = A} IsFault s err (refusal.Code c left) res k e m = inr (code_refused A IsFault s err res c left k e m)
 refused {A = A} IsFault s err (refusal.InvalidNumber left) res k e m = custom_refused A IsFault s err res left k e m
 refused {A = A} IsFault s err (refusal.TooLarge left) res k e m = custom_refused A IsFault s err res left k e m

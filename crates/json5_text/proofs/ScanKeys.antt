@@ -20,7 +20,8 @@ use Rattle.json5_text.specs.declared.refusal.Refusal.{Refusal}
 use Rattle.json5_text.specs.declared.refusal.Refusal.TheVariants as refusal
 use Rattle.json5_text.specs.Answered.{IsCow, SparesPlain}
 use Rattle.json5_text.specs.Cows.{cow_bytes, is_borrowed}
-use Rattle.json5_text.specs.Cursor.{Cursor, IsOutOfMemory}
+use Rattle.json5_text.specs.Cursor.{Cursor}
+use Rattle.json5_text.specs.Errors.{LacksMemory}
 use Rattle.json5_text.specs.Keys.{StandsAt, KeyIs}
 use Rattle.json5_text.specs.Outcome.{bytes_in, outcome}
 use Rattle.json5_text.specs.Refused.{Refuses}
@@ -171,5 +172,5 @@ key_memory x y s u r plain e f h split k = of_memory e (u, plain) r (subst (λ z
 pub plain_key_memory : (x y s u r : List ℕ) (e : Refusal) → x ≡ y → Refuses e (outcome (key_at x)) → SparesPlain e (key_at x) → y ≡ s ++ r → Key s r u true → ⊥
 plain_key_memory x y s u r e f h spares split k = spares (key_memory x y s u r true e f h split k) u r (key_in_front f split k)
 
-pub made_of_memory : (s : Cursor) (r : Refusal) (e : Error) → r ≡ refusal.OutOfMemory → MadeOf s r e → IsOutOfMemory e
+pub made_of_memory : (s : Cursor) (r : Refusal) (e : Error) → r ≡ refusal.OutOfMemory → MadeOf s r e → LacksMemory e
 made_of_memory s r e h m = subst (λ z. MadeOf s z e) h m

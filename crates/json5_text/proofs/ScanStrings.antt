@@ -37,6 +37,14 @@ one_more p c x y z h (raw, e, k) f = (raw ++ c ∷ [], e ∙ ap (λ t. raw ++ t)
     each_more [] k = char h no_char
     each_more (d ∷ raw) (char i k) = char i (each_more raw k)
 
+-- more characters that pass it
+pub more_of : (p : ℕ → Bool) (x y z w : List ℕ) → (raw : List ℕ) × (x ≡ raw ++ y) × Each p raw → y ≡ w ++ z → Each p w → (raw : List ℕ) × (x ≡ raw ++ z) × Each p raw
+more_of p x y z w (raw, e, k) f h = (raw ++ w, e ∙ ap (λ t. raw ++ t) f ∙ sym (append_assoc raw w z), both raw k)
+  where
+    both : (raw : List ℕ) → Each p raw → Each p (raw ++ w)
+    both [] k = h
+    both (d ∷ raw) (char i k) = char i (both raw k)
+
 -- a run in front
 pub run_read : (q : ℕ) (raw x : List ℕ) → Each (is_raw q) raw → string (q ∷ raw ++ x) ≡ put raw true (string (q ∷ x))
 run_read q [] x k = put_none (string (q ∷ x))

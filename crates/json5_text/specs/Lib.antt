@@ -17,6 +17,7 @@ pub mod Answered
 pub mod Escapes
 pub mod Cows
 pub mod Bytes
+pub mod ByteRuns
 pub mod Compared
 pub mod Agreeing
 pub mod NumberParts

@@ -1,13 +1,16 @@
 -- A number in front of a text as code holds it. Private clauses and proofs alone cite it.
-use Rattle.std.specs.Prelude.{◌≡◌, ℕ, min, Bool, ℤ, pos, Option, Some, None, IfSome}
+use Rattle.std.specs.Prelude.{◌≡◌, ℕ, min, Bool, false, List, [], ◌∷◌, ℤ, pos, Option, Some, None, IfSome}
 use Rattle.std.specs.Option.{option_map}
+use Rattle.std.specs.Str.{IsUtf8, chars}
 use Rattle.json5_grammar.specs.Characters.{is_digit, Each}
 use Rattle.json5_grammar.specs.Numbers as numbers
 use Rattle.json5_grammar.specs.Numbers.{signed, spelled}
-use Rattle.json5_grammar.specs.ReadNumbers.{Parts, is_whole}
+use Rattle.json5_grammar.specs.ReadNumbers.{Parts, is_whole, front_of, rest_of}
+use Rattle.json5_grammar.specs.Stops.{in_run}
 use Rattle.json5_text.specs.declared.numbers.Exponent.{Exponent}
 use Rattle.json5_text.specs.declared.numbers.Literal.{Literal}
 use Rattle.json5_text.specs.declared.numbers.Scanned.{Scanned}
+use Rattle.json5_text.specs.declared.numbers.Tail.{Tail}
 use Rattle.json5_text.specs.declared.numbers.Scanned.TheVariants as scanned
 
 abbrev pub scanned_of : Scanned → numbers.Number
@@ -43,6 +46,24 @@ pub record HasDigits (l : Literal) : Type 0 where
   pub before : Each is_digit l.before.now
   pub after : IfSome l.after (λ digits. Each is_digit digits.now)
   pub exponent : IfSome l.exponent HasExponentDigits
+
+-- ---- a decimal run in front of a text
+
+-- the list begins with a character that passes the test
+abbrev pub begun : (ℕ → Bool) → List ℕ → Bool
+begun p [] = false
+begun p (c ∷ x) = p c
+
+abbrev pub run_of : List ℕ → List ℕ
+run_of x = front_of in_run x
+
+-- the rest is what follows the decimal run in front of the text
+pub record EndsRun (whole rest : List ℕ) : Type 0 where
+  pub follows : chars rest ≡ rest_of in_run (chars whole)
+  pub text : IsUtf8 rest
+
+abbrev pub raised_in : Tail → Option ℤ
+raised_in t = option_map raised_of t.exponent
 
 -- the literal, and that its parts are digits
 pub record IsLiteral (reading : Option Parts) (l : Literal) : Type 0 where

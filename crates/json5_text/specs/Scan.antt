@@ -1,5 +1,5 @@
 -- What private clauses of the scanner say.
-use Rattle.std.specs.Prelude.{◌≡◌, ℕ, Bool, List, [], ◌∷◌, ◌++◌, length, Option, Some, None, ◌⊎◌, ⊤}
+use Rattle.std.specs.Prelude.{◌≡◌, ◌≤◌, ℕ, Bool, List, [], ◌∷◌, ◌++◌, length, Option, Some, None, ◌⊎◌, ⊤}
 use Rattle.std.specs.Str.{IsUtf8, IsCharBoundary, chars}
 use Rattle.json5_grammar.specs.Characters.{backslash, NotBegun, Each}
 use Rattle.json5_grammar.specs.declared.position.Position.{Position}
@@ -7,9 +7,9 @@ use Rattle.json5_grammar.specs.Positions.{position_after}
 use Rattle.json5_text.specs.declared.error.Error.{Error}
 use Rattle.json5_text.specs.declared.refusal.Refusal.{Refusal}
 use Rattle.json5_text.specs.declared.refusal.Refusal.TheVariants as refusal
-use Rattle.json5_text.specs.Errors.{code, kind_of, place_of}
+use Rattle.json5_text.specs.Errors.{LacksMemory, code, kind_of, place_of}
 use Rattle.json5_text.specs.Outcome.{bytes_in}
-use Rattle.json5_text.specs.Cursor.{Cursor, Took, Says, IsOutOfMemory}
+use Rattle.json5_text.specs.Cursor.{Cursor, Took, Says}
 
 -- the offset lies between characters of the text, which has so many bytes
 pub record InText (text : List ℕ) (offset end : ℕ) : Type 0 where
@@ -64,10 +64,10 @@ IsThere s left e = (p : Position) × (place_of e ≡ Some p) × IsWhere s left p
 abbrev pub MadeOf : Cursor → Refusal → Error → Type 0
 MadeOf s (refusal.Code c None) e = (kind_of e ≡ code c) × (place_of e ≡ None)
 MadeOf s (refusal.Code c (Some left)) e = (kind_of e ≡ code c) × IsThere s left e
-MadeOf s (refusal.InvalidNumber left) e = IsOutOfMemory e ⊎ (Says None e × IsThere s left e)
-MadeOf s (refusal.TooLarge left) e = IsOutOfMemory e ⊎ (Says None e × IsThere s left e)
-MadeOf s (refusal.UnpairedSurrogate escape left) e = IsOutOfMemory e ⊎ (Says None e × IsThere s left e)
-MadeOf s refusal.OutOfMemory e = IsOutOfMemory e
+MadeOf s (refusal.InvalidNumber left) e = LacksMemory e ⊎ (Says None e × IsThere s left e)
+MadeOf s (refusal.TooLarge left) e = LacksMemory e ⊎ (Says None e × IsThere s left e)
+MadeOf s (refusal.UnpairedSurrogate escape left) e = LacksMemory e ⊎ (Says None e × IsThere s left e)
+MadeOf s refusal.OutOfMemory e = LacksMemory e
 
 -- all in front that passes the test is passed over
 pub record SkipsAll (p : ℕ → Bool) (whole rest : List ℕ) : Type 0 where
@@ -75,6 +75,13 @@ pub record SkipsAll (p : ℕ → Bool) (whole rest : List ℕ) : Type 0 where
   pub split : chars whole ≡ passed ++ chars rest
   pub each : Each p passed
   pub stops : NotBegun p (chars rest)
+
+-- only what passes the test is passed over
+pub record SkipsSome (p : ℕ → Bool) (whole rest : List ℕ) : Type 0 where
+  pub passed : List ℕ
+  pub split : chars whole ≡ passed ++ chars rest
+  pub each : Each p passed
+  pub shorter : length rest ≤ length whole
 
 -- what may be there, as a list
 abbrev pub in_list : Option ℕ → List ℕ

@@ -14,7 +14,8 @@ use Rattle.json5_text.specs.declared.error.Error.{Error}
 use Rattle.json5_text.specs.declared.key_text.KeyText.{KeyText}
 use Rattle.json5_text.specs.declared.number.Number.{Number}
 use Rattle.json5_text.specs.Cows.{cow_bytes, is_borrowed}
-use Rattle.json5_text.specs.Cursor.{Cursor, Refused, Took, IsOutOfMemory}
+use Rattle.json5_text.specs.Cursor.{Cursor, Refused, Took}
+use Rattle.json5_text.specs.Errors.{LacksMemory}
 use Rattle.json5_text.specs.Keys.{KeyIs}
 use Rattle.json5_text.specs.NumberViews.{number_of, keeps_digits, whole_in}
 use Rattle.json5_text.specs.Tokens.{FaultyBlanks, FaultyWord, FaultyNumber, FaultyString, FaultyName, FaultyKey}
@@ -34,20 +35,20 @@ pub record TakesWord (w : List ℕ) (ends differs : ErrorCode) (old new : Cursor
 -- a number is taken; memory is taken for digits that are kept, and at a refusal
 pub record TakesNumber (old new : Cursor) (result : Result Number Error) : Type 0 where
   pub taken : IfOk result (λ n. (s : List ℕ) × Took old s new × Num s (number_of n) × NotBegun (lengthens s) new.unread)
-  pub refused : IfErr result (λ e. IsOutOfMemory e ⊎ Refused FaultyNumber old e)
+  pub refused : IfErr result (λ e. LacksMemory e ⊎ Refused FaultyNumber old e)
   pub kept : OnErr result (new ≡ old)
   pub memory : (s r : List ℕ) (n : numbers.Number) → old.unread ≡ s ++ r → Num s n → NotBegun (lengthens s) r → keeps_digits n ≡ false → IsOk result
 
 -- a string is taken, its text in memory of its own
 pub record TakesOwned {A : Type 0} (old new : Cursor) (result : Result (String A) Error) : Type 0 where
   pub taken : IfOk result (λ t. (s u : List ℕ) × (plain : Bool) × Took old s new × Str s u plain × (string_bytes t ≡ encode_utf8_all u))
-  pub refused : IfErr result (λ e. IsOutOfMemory e ⊎ Refused FaultyString old e)
+  pub refused : IfErr result (λ e. LacksMemory e ⊎ Refused FaultyString old e)
   pub kept : OnErr result (new ≡ old)
 
 -- a string is taken, its text borrowed where it is plain; memory is taken where it isn't, and at a refusal
 pub record TakesString (old new : Cursor) (result : Result CowStr Error) : Type 0 where
   pub taken : IfOk result (λ t. (s u : List ℕ) × (plain : Bool) × Took old s new × Str s u plain × (is_borrowed t ≡ plain) × (cow_bytes t ≡ encode_utf8_all u))
-  pub refused : IfErr result (λ e. IsOutOfMemory e ⊎ Refused FaultyString old e)
+  pub refused : IfErr result (λ e. LacksMemory e ⊎ Refused FaultyString old e)
   pub kept : OnErr result (new ≡ old)
   pub plain : (s u r : List ℕ) → old.unread ≡ s ++ r → Str s u true → IsOk result
 
@@ -55,16 +56,16 @@ pub record TakesString (old new : Cursor) (result : Result CowStr Error) : Type 
 pub record TakesName (old new : Cursor) (result : Result CowStr Error) : Type 0 where
   pub taken : IfOk result (λ t. (s u : List ℕ) × (plain : Bool) × Took old s new × Ident s u plain × (is_borrowed t ≡ plain) × (cow_bytes t ≡ encode_utf8_all u))
   pub stops : OnOk result ((c : ℕ) × (r : List ℕ) × (new.unread ≡ c ∷ r) × (goes_on_name c ≡ false))
-  pub refused : IfErr result (λ e. IsOutOfMemory e ⊎ Refused FaultyName old e)
+  pub refused : IfErr result (λ e. LacksMemory e ⊎ Refused FaultyName old e)
   pub kept : OnErr result (new ≡ old)
   pub plain : (s u r : List ℕ) (c : ℕ) → old.unread ≡ s ++ c ∷ r → Ident s u true → goes_on_name c ≡ false → IsOk result
 
 -- a key is taken; memory is taken where its text isn't plain, and at a refusal
 pub record TakesKey (old new : Cursor) (result : Result KeyText Error) : Type 0 where
   pub taken : IfOk result (λ k. (s u : List ℕ) × (plain : Bool) × Took old s new × Key s new.unread u plain × KeyIs old.input u plain k)
-  pub refused : IfErr result (λ e. IsOutOfMemory e ⊎ Refused FaultyKey old e)
+  pub refused : IfErr result (λ e. LacksMemory e ⊎ Refused FaultyKey old e)
   pub kept : OnErr result (new ≡ old)
-  pub complete : (s u r : List ℕ) (plain : Bool) → old.unread ≡ s ++ r → Key s r u plain → IfErr result IsOutOfMemory
+  pub complete : (s u r : List ℕ) (plain : Bool) → old.unread ≡ s ++ r → Key s r u plain → IfErr result LacksMemory
   pub plain : (s u r : List ℕ) → old.unread ≡ s ++ r → Key s r u true → IsOk result
 
 -- ---- tokens that are passed over; memory is taken at a refusal alone
@@ -72,7 +73,7 @@ pub record TakesKey (old new : Cursor) (result : Result KeyText Error) : Type 0 
 -- a string is passed over
 pub record PassesString (old new : Cursor) (result : Result (Unit {0}) Error) : Type 0 where
   pub taken : OnOk result ((s u : List ℕ) × (plain : Bool) × Took old s new × Str s u plain)
-  pub refused : IfErr result (λ e. IsOutOfMemory e ⊎ Refused FaultyString old e)
+  pub refused : IfErr result (λ e. LacksMemory e ⊎ Refused FaultyString old e)
   pub kept : OnErr result (new ≡ old)
   pub memory : (s u r : List ℕ) (plain : Bool) → old.unread ≡ s ++ r → Str s u plain → IsOk result
 
@@ -80,13 +81,13 @@ pub record PassesString (old new : Cursor) (result : Result (Unit {0}) Error) : 
 pub record PassesName (old new : Cursor) (result : Result (Unit {0}) Error) : Type 0 where
   pub taken : OnOk result ((s u : List ℕ) × (plain : Bool) × Took old s new × Ident s u plain)
   pub stops : OnOk result ((c : ℕ) × (r : List ℕ) × (new.unread ≡ c ∷ r) × (goes_on_name c ≡ false))
-  pub refused : IfErr result (λ e. IsOutOfMemory e ⊎ Refused FaultyName old e)
+  pub refused : IfErr result (λ e. LacksMemory e ⊎ Refused FaultyName old e)
   pub kept : OnErr result (new ≡ old)
   pub memory : (s u r : List ℕ) (c : ℕ) (plain : Bool) → old.unread ≡ s ++ c ∷ r → Ident s u plain → goes_on_name c ≡ false → IsOk result
 
 -- a number is passed over, and the answer is the number if it is whole
 pub record PassesNumber (old new : Cursor) (result : Result (Option ℤ) Error) : Type 0 where
   pub taken : IfOk result (λ found. (s : List ℕ) × (n : numbers.Number) × Took old s new × Num s n × NotBegun (lengthens s) new.unread × (found ≡ whole_in n))
-  pub refused : IfErr result (λ e. IsOutOfMemory e ⊎ Refused FaultyNumber old e)
+  pub refused : IfErr result (λ e. LacksMemory e ⊎ Refused FaultyNumber old e)
   pub kept : OnErr result (new ≡ old)
   pub memory : (s r : List ℕ) (n : numbers.Number) → old.unread ≡ s ++ r → Num s n → NotBegun (lengthens s) r → IsOk result

@@ -5,6 +5,7 @@ ghost use Rattle.std.specs.Str.{chars};
 ghost use Rattle.json5_grammar.specs.Characters.{is_blank, is_terminator, is_identifier_start, is_identifier_part, is_start_category, is_part_category};
 ghost use Rattle.json5_text.specs.Escapes.{escape_of};
 
+use crate::bytes::{is_ascii_part, is_ascii_start};
 use unicode::properties::GeneralCategory;
 
 /// Whether the character is white space or a line terminator, as it may stand between tokens: U+0009 to U+000D, a space,
@@ -13,6 +14,9 @@ use unicode::properties::GeneralCategory;
 pub fn is_json5_whitespace(c: char) -> bool
     ensures { result ≡ is_blank c }
 {
+    if c >= '!' && c <= '~' {
+        return false;
+    }
     matches!(
         c,
         '\t'..='\r' | ' ' | '\u{a0}' | '\u{2028}' | '\u{2029}' | '\u{feff}'
@@ -28,20 +32,24 @@ pub fn is_json5_line_terminator(c: char) -> bool
 
 /// Whether an identifier may begin with the character: `$`, `_` and the categories Lu, Ll, Lt, Lm, Lo and Nl
 /// (ECMAScript 5.1 section 7.6).
-#[tactic(auto, unfolding(json5_grammar::specs::Characters::is_identifier_start))]
 pub fn is_json5_identifier_start(c: char) -> bool
     ensures { result ≡ is_identifier_start c }
 {
-    matches!(c, '$' | '_') || is_start_category(GeneralCategory::for_char(c))
+    if c < '\u{80}' {
+        return is_ascii_start(c as u8);
+    }
+    is_start_category(GeneralCategory::for_char(c))
 }
 
 /// Whether an identifier may go on with the character: what may begin one, U+200C, U+200D and the categories Mn, Mc, Nd
 /// and Pc (ECMAScript 5.1 section 7.6).
-#[tactic(auto, unfolding(json5_grammar::specs::Characters::is_identifier_part))]
 pub fn is_json5_identifier(c: char) -> bool
     ensures { result ≡ is_identifier_part c }
 {
-    is_json5_identifier_start(c)
+    if c < '\u{80}' {
+        return is_ascii_part(c as u8);
+    }
+    is_start_category(GeneralCategory::for_char(c))
         || matches!(c, '\u{200c}' | '\u{200d}')
         || is_part_category(GeneralCategory::for_char(c))
 }

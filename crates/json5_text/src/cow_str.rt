@@ -11,11 +11,11 @@ ghost use Rattle.std.proofs.Common.{rules};
 use std::cmp::Ordering;
 use std::hash::{Hash, Hasher};
 
-/// A text that was read: a slice of the input where no escape was used, else in memory of its own. Equality, order and hash
+/// A text that was read: borrowed from the input where no escape was used, else in memory of its own. Equality, order and hash
 /// are those of the text's bytes, borrowed or not.
 #[derive(Debug, Drop)]
 pub enum CowStr<'de> {
-    /// A slice of the text that was read.
+    /// A text that stands so in what was read.
     Borrowed(&'de str),
     /// A text in memory of its own: an escape spells a part of it, so that it doesn't stand so in what was read.
     Owned(String),

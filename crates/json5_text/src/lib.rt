@@ -3,6 +3,7 @@
 
 mod blanks;
 pub mod byte_buf;
+mod bytes;
 pub mod char;
 mod copies;
 pub mod cow_str;

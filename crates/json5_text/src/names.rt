@@ -4,9 +4,10 @@ ghost use Rattle.std.specs.Prelude.{◌≡◌, string_bytes};
 ghost use Rattle.std.specs.Str.{chars};
 ghost use Rattle.json5_grammar.specs.ReadTexts.{name_escape, identifier};
 ghost use Rattle.json5_text.specs.Answered.{Answers, AnswersCow, AnswersMore, Passes};
-ghost use Rattle.json5_text.specs.Scan.{AtEscape, SkipsAll};
+ghost use Rattle.json5_text.specs.Scan.{AtEscape, SkipsAll, SkipsSome};
 ghost use Rattle.json5_text.specs.ScanNames.{fits, is_raw_part, name_at, item, AnswersRun, PutsEscape};
 
+use crate::bytes::name_len;
 use crate::char::{is_json5_identifier, is_json5_identifier_start};
 use crate::cow_str::CowStr;
 use crate::escapes::unicode_escape;
@@ -188,16 +189,24 @@ fn read_parts(text: &str) -> Result<(&str, NameStop<'_>), Refusal>
     }
 }
 
+/// What follows the ASCII characters in front that go on a name.
+fn skip_ascii_parts(text: &str) -> &str
+    ensures { SkipsSome is_raw_part text.now result.now }
+{
+    let len = name_len(text.as_bytes());
+    text.split_at(len).1
+}
+
 /// What follows the characters in front that go on a name and stand for themselves.
 fn skip_parts(text: &str) -> &str
     ensures { SkipsAll is_raw_part text.now result.now }
 {
-    let mut rest = text;
+    let mut rest = skip_ascii_parts(text);
     while let Some((c, next)) = front(rest) {
         if !is_raw_part(c) {
             break;
         }
-        rest = next;
+        rest = skip_ascii_parts(next);
     }
     rest
 }

@@ -9,17 +9,18 @@ ghost use Rattle.json5_grammar.specs.Stops as stops;
 ghost use Rattle.json5_grammar.specs.Reading.{got, bad, here};
 ghost use Rattle.json5_grammar.specs.ReadNumbers as model;
 ghost use Rattle.json5_grammar.specs.NumberSteps.{checked};
-ghost use Rattle.json5_text.specs.Answered.{AnswersAs, AnswersNumber, AnswersWhole, Judges};
+ghost use Rattle.json5_text.specs.Answered.{Gives, AnswersAs, AnswersNumber, AnswersWhole, Judges};
 ghost use Rattle.json5_text.specs.NumberViews.{number_of, keeps_digits, whole_in};
-ghost use Rattle.json5_text.specs.NumberParts.{scanned_of, raised_of, parts_of, signed_limited, limited_exponent, is_whole_literal, HasExponentDigits, HasDigits, ReadsLiteral};
+ghost use Rattle.json5_text.specs.NumberParts.{scanned_of, raised_in, parts_of, begun, run_of, EndsRun, signed_limited, limited_exponent, is_whole_literal, HasExponentDigits, HasDigits, ReadsLiteral};
 ghost use Rattle.json5_text.specs.NumberSteps.{IsSmallExponent};
 ghost use Rattle.json5_text.specs.ScanNumbers.{GivesHex, Overflows};
 
+use crate::bytes::{begins_minus, short_digits};
 use crate::decimal::{Decimal, DecimalRef};
 use crate::front::front;
 use crate::number::Number;
 use crate::refusal::Refusal;
-use crate::runs::{split_digits, split_run};
+use crate::runs::split_digits;
 use crate::whole::Whole;
 use crate::words::skip_word;
 use json5_grammar::code::ErrorCode;
@@ -120,12 +121,37 @@ struct Exponent<'t> {
     digits: &'t str,
 }
 
-/// A decimal literal without its sign: the digits before the point, those after it, and the exponent.
+/// The end of a literal: its exponent, if any, and what follows the literal.
+#[derive(Clone, Copy)]
+struct Tail<'t> {
+    exponent: Option<Exponent<'t>>,
+    rest: &'t str,
+}
+
+/// A decimal literal without its sign: the digits before the point, those after it, and the exponent; and what follows the literal.
 #[derive(Clone, Copy)]
 struct Literal<'t> {
     before: &'t str,
     after: Option<&'t str>,
     exponent: Option<Exponent<'t>>,
+    rest: &'t str,
+}
+
+/// A character of a decimal run.
+fn is_in_run(c: char) -> bool
+    ensures { result ≡ stops.in_run c }
+{
+    matches!(c, '0'..='9' | '+' | '-' | '.' | 'e' | 'E')
+}
+
+/// Whether a decimal run is in front, or goes on there.
+fn goes_on(text: &str) -> bool
+    ensures { result ≡ begun stops.in_run (chars text.now) }
+{
+    match front(text) {
+        Some((c, _)) => is_in_run(c),
+        None => false,
+    }
 }
 
 /// `e` or `E`.
@@ -135,40 +161,49 @@ fn begins_exponent(c: char) -> bool
     c == 'e' || c == 'E'
 }
 
-/// The digits of an exponent, which are all of the text.
-fn read_exponent_digits(negative: bool, text: &str) -> Option<Exponent>
-    ensures read { model.exponent_digits negative (chars text.now) ≡ option_map (λ e. Some (raised_of e)) result }
-    ensures digits { IfSome result HasExponentDigits }
+/// The digits of an exponent, with which the decimal run in front ends.
+fn read_exponent_digits(negative: bool, text: &str) -> Option<Tail>
+    ensures read { model.exponent_digits negative (run_of (chars text.now)) ≡ option_map raised_in result }
+    ensures digits { IfSome result (λ t. IfSome t.exponent HasExponentDigits) }
+    ensures ends { IfSome result (λ t. EndsRun text.now t.rest.now) }
 {
     let (digits, rest) = split_digits(text);
     if digits.is_empty() {
         return None;
     }
-    if !rest.is_empty() {
+    if goes_on(rest) {
         return None;
     }
-    Some(Exponent { negative, digits })
+    Some(Tail {
+        exponent: Some(Exponent { negative, digits }),
+        rest,
+    })
 }
 
-/// The exponent that is all of the text, or Some(None) where the text is empty; None where it is neither.
-fn read_exponent(text: &str) -> Option<Option<Exponent>>
-    ensures read { model.exponent_at (chars text.now) ≡ option_map (option_map raised_of) result }
-    ensures digits { IfSome result (λ e. IfSome e HasExponentDigits) }
+/// The exponent that is all of the decimal run in front, none where there is no such run; None where the run is another.
+fn read_exponent(text: &str) -> Option<Tail>
+    ensures read { model.exponent_at (run_of (chars text.now)) ≡ option_map raised_in result }
+    ensures digits { IfSome result (λ t. IfSome t.exponent HasExponentDigits) }
+    ensures ends { IfSome result (λ t. EndsRun text.now t.rest.now) }
 {
-    let Some((mark, rest)) = front(text) else {
-        return Some(None);
-    };
+    if !goes_on(text) {
+        return Some(Tail {
+            exponent: None,
+            rest: text,
+        });
+    }
+    let (mark, rest) = front(text)?;
     if !begins_exponent(mark) {
         return None;
     }
     let (sign, digits) = front(rest)?;
     if sign == '+' {
-        return Some(Some(read_exponent_digits(false, digits)?));
+        return read_exponent_digits(false, digits);
     }
     if sign == '-' {
-        return Some(Some(read_exponent_digits(true, digits)?));
+        return read_exponent_digits(true, digits);
     }
-    Some(Some(read_exponent_digits(false, rest)?))
+    read_exponent_digits(false, rest)
 }
 
 /// `0`, or digits that begin with another one.
@@ -179,19 +214,21 @@ fn is_integer(digits: &str) -> bool
     bytes.len() == 1 || bytes.len() > 1 && bytes[0] != b'0'
 }
 
-/// The literal of these digits and of an exponent that is all of the rest.
-fn read_without_point<'t>(before: &'t str, rest: &'t str) -> Option<Literal<'t>>
+/// The literal of these digits and of an exponent, which ends the decimal run.
+fn read_without_point<'t>(before: &'t str, text: &'t str) -> Option<Literal<'t>>
     requires { Each is_digit before.now }
-    ensures { ReadsLiteral (model.no_point before.now (chars rest.now)) result }
+    ensures read { ReadsLiteral (model.no_point before.now (run_of (chars text.now))) result }
+    ensures ends { IfSome result (λ l. EndsRun text.now l.rest.now) }
 {
     if !is_integer(before) {
         return None;
     }
-    let exponent = read_exponent(rest)?;
+    let tail = read_exponent(text)?;
     Some(Literal {
         before,
         after: None,
-        exponent,
+        exponent: tail.exponent,
+        rest: tail.rest,
     })
 }
 
@@ -202,28 +239,30 @@ fn has_digits(before: &str, after: &str) -> bool
     is_integer(before) || before.is_empty() && !after.is_empty()
 }
 
-/// The literal that is all of the run.
-fn read_literal(run: &str) -> Option<Literal>
-    ensures { ReadsLiteral (model.literal_at (chars run.now)) result }
+/// The literal that is all of the decimal run in front.
+fn read_literal(text: &str) -> Option<Literal>
+    ensures read { ReadsLiteral (model.literal_at (run_of (chars text.now))) result }
+    ensures ends { IfSome result (λ l. EndsRun text.now l.rest.now) }
 {
-    let (before, rest) = split_digits(run);
-    let Some((point, tail)) = front(rest) else {
+    let (before, rest) = split_digits(text);
+    let Some((point, digits)) = front(rest) else {
         return read_without_point(before, rest);
     };
     if point != '.' {
         return read_without_point(before, rest);
     }
-    let (after, rest) = split_digits(tail);
+    let (after, rest) = split_digits(digits);
     if !has_digits(before, after) {
         return None;
     }
-    let Some(exponent) = read_exponent(rest) else {
+    let Some(tail) = read_exponent(rest) else {
         return None;
     };
     Some(Literal {
         before,
         after: Some(after),
-        exponent,
+        exponent: tail.exponent,
+        rest: tail.rest,
     })
 }
 
@@ -335,12 +374,11 @@ fn decimal_run<'t>(
 ) -> Result<(Scanned<'t>, &'t str), Refusal>
     ensures { AnswersAs scanned_of (model.decimal_run (chars start.now) negative (chars text.now)) result }
 {
-    let (run, rest) = split_run(text);
-    let Some(literal) = read_literal(run) else {
+    let Some(literal) = read_literal(text) else {
         return Err(Refusal::InvalidNumber(start.len()));
     };
     let number = judge(start, negative, &literal)?;
-    Ok((number, rest))
+    Ok((number, literal.rest))
 }
 
 // ---- numbers
@@ -462,10 +500,27 @@ fn scan(text: &str) -> Result<(Scanned<'_>, &str), Refusal>
     unsigned(text, false, text)
 }
 
+/// The number in front, where it is a whole one of few digits, and what follows it.
+#[inline(always)]
+fn short_whole(text: &str) -> Option<(Whole, &str)>
+    ensures { IfSome result (λ p. Gives (model.number (chars text.now)) (numbers.whole p.0) p.1.now) }
+{
+    if begins_minus(text.as_bytes()) {
+        let (magnitude, rest) = short_digits(text.split_at(1).1)?;
+        let whole = Whole::from_parts(true, u128::from(magnitude))?;
+        return Some((whole, rest));
+    }
+    let (magnitude, rest) = short_digits(text)?;
+    Some((Whole::from_u128(u128::from(magnitude)), rest))
+}
+
 /// The number in front, and what follows it. Whole numbers, infinity and not-a-number take no memory.
 pub(crate) fn number(alloc: Global, text: &str) -> Result<(Number, &str), Refusal>
     ensures { AnswersNumber number_of (model.number (chars text.now)) result }
 {
+    if let Some((whole, rest)) = short_whole(text) {
+        return Ok((Number::Whole(whole), rest));
+    }
     let (scanned, rest) = scan(text)?;
     let number = scanned.to_number(alloc)?;
     Ok((number, rest))

@@ -1,31 +1,17 @@
 //! Cutting a text after the ASCII characters in front that pass a test, and before those at its end.
 
-ghost use Rattle.std.specs.Prelude.{◌≡◌, ◌==◌, ◌≤◌, length, reverse};
+ghost use Rattle.std.specs.Prelude.{◌≡◌, ◌==◌, length, reverse};
 ghost use Rattle.std.specs.Str.{IsUtf8, chars};
 ghost use Rattle.std.specs.List.{take_while};
 ghost use Rattle.json5_grammar.specs.Characters as characters;
 ghost use Rattle.json5_grammar.specs.Characters.{Each};
-ghost use Rattle.json5_grammar.specs.Stops as stops;
 ghost use Rattle.json5_grammar.specs.Numbers as numbers;
 ghost use Rattle.json5_grammar.specs.ReadNumbers.{front_of, rest_of};
-
-/// A character of a decimal run.
-fn is_in_run(byte: u8) -> bool
-    ensures { result ≡ stops.in_run byte }
-{
-    matches!(byte, b'0'..=b'9' | b'+' | b'-' | b'.' | b'e' | b'E')
-}
 
 fn is_digit(byte: u8) -> bool
     ensures { result ≡ characters.is_digit byte }
 {
     matches!(byte, b'0'..=b'9')
-}
-
-fn run_len(bytes: &[u8]) -> usize
-    ensures { result ≡ length (take_while stops.in_run bytes.now) }
-{
-    bytes.iter().take_while(|byte| is_in_run(**byte)).count()
 }
 
 fn digits_len(bytes: &[u8]) -> usize
@@ -44,16 +30,6 @@ fn back_zeros_len(bytes: &[u8]) -> usize
     ensures { result ≡ length (take_while (λ byte. byte == characters.digit_zero) (reverse bytes.now)) }
 {
     bytes.iter().rev().take_while(|byte| **byte == b'0').count()
-}
-
-/// The decimal run in front, and what follows it.
-pub(crate) fn split_run(text: &str) -> (&str, &str)
-    ensures front { chars result.0.now ≡ front_of stops.in_run (chars text.now) }
-    ensures rest { chars result.1.now ≡ rest_of stops.in_run (chars text.now) }
-    ensures text { IsUtf8 result.0.now × IsUtf8 result.1.now }
-    ensures shorter { length result.1.now ≤ length text.now }
-{
-    text.split_at(run_len(text.as_bytes()))
 }
 
 /// The digits in front, and what follows them.

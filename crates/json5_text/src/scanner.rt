@@ -3,8 +3,8 @@
 ghost use Rattle.std.specs.Prelude.{◌≡◌, ℕ, List, [], ◌∷◌, ◌++◌, true, false, ◌==◌, ◌⊎◌, length, drop, Some, slice_get, IsTrue};
 ghost use Rattle.std.specs.Str.{all_scalars, chars, encode_utf8_all};
 ghost use Rattle.json5_grammar.specs.Characters.{NotBegun};
-ghost use Rattle.json5_text.specs.Cursor.{Cursor, offset_of, Took, IsOutOfMemory, Locates};
-ghost use Rattle.json5_text.specs.Errors.{IsCustomAt};
+ghost use Rattle.json5_text.specs.Cursor.{Cursor, offset_of, Took, Locates};
+ghost use Rattle.json5_text.specs.Errors.{IsCustomAt, LacksMemory};
 ghost use Rattle.json5_text.specs.Keys.{StandsAt, IsTextOf, IsCowOf};
 ghost use Rattle.json5_text.specs.Scan.{InText, Leaves, LeavesAt, InUnread, IsWhere, MadeOf};
 ghost use Rattle.json5_text.specs.Takes.{PassesBlanks, TakesWord, TakesNumber, TakesOwned, TakesString, TakesName, TakesKey, PassesString, PassesName, PassesNumber};
@@ -301,7 +301,7 @@ impl<I: Input> Scanner<I> {
 
     /// The custom fault with this message at this place; `OutOfMemory` where there is no memory for the message.
     fn custom<D: Display + Drop>(&self, position: Position, message: D) -> Error
-        ensures { IsOutOfMemory result ⊎ IsCustomAt (Some position) result }
+        ensures { LacksMemory result ⊎ IsCustomAt (Some position) result }
     {
         match Error::custom_at(self.alloc, position, message) {
             Ok(error) => error,

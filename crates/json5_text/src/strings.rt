@@ -1,6 +1,6 @@
 //! Strings (JSON5 section 5, ECMAScript 5.1 section 7.8.4).
 
-ghost use Rattle.std.specs.Prelude.{◌≡◌, ◌∷◌, ◌++◌, OnOk, string_bytes};
+ghost use Rattle.std.specs.Prelude.{◌≡◌, ◌∷◌, ◌++◌, true, OnOk, string_bytes};
 ghost use Rattle.std.specs.Str.{chars, encode_utf8_all};
 ghost use Rattle.json5_grammar.specs.Strings.{is_raw, is_quote};
 ghost use Rattle.json5_grammar.specs.ReadTexts.{string};
@@ -8,6 +8,7 @@ ghost use Rattle.json5_text.specs.Answered.{AnswersCow, AnswersOwned, AnswersMor
 ghost use Rattle.json5_text.specs.Scan.{SkipsAll, in_list};
 ghost use Rattle.json5_text.specs.ScanStrings.{AtEscapeIn, string_at, AnswersQuote, AnswersRun, PutsEscape};
 
+use crate::bytes::raw_end;
 use crate::cow_str::CowStr;
 use crate::escapes::read_escape;
 use crate::front::front;
@@ -137,6 +138,7 @@ fn put_escape<'t>(
     escape: &str,
     after: &'t str,
 ) -> Result<StringStop<'t>, Refusal>
+    requires { is_quote quote ≡ true }
     ensures { PutsEscape quote (chars escape.now) (chars after.now) (string_bytes text.old) (string_bytes text.new) result }
 {
     let (spelled, run) = read_escape(escape, after)?;
@@ -157,6 +159,7 @@ fn push_spelled(text: &mut String, spelled: Option<char>) -> Result<(), AllocErr
 
 /// The characters in front that stand for themselves between these quotes, and where they end.
 fn read_run(quote: char, text: &str) -> Result<(&str, StringStop<'_>), Refusal>
+    requires { is_quote quote ≡ true }
     ensures { AnswersRun quote text.now result }
 {
     let rest = skip_raw(quote, text);
@@ -174,21 +177,11 @@ fn read_run(quote: char, text: &str) -> Result<(&str, StringStop<'_>), Refusal>
 }
 
 /// What follows the characters in front that stand for themselves between these quotes.
+#[inline(always)]
 fn skip_raw(quote: char, text: &str) -> &str
+    requires { is_quote quote ≡ true }
     ensures { SkipsAll (is_raw quote) text.now result.now }
 {
-    let mut rest = text;
-    while let Some((c, next)) = front(rest) {
-        if !is_raw(quote, c) {
-            break;
-        }
-        rest = next;
-    }
-    rest
-}
-
-fn is_raw(quote: char, c: char) -> bool
-    ensures { result ≡ is_raw quote c }
-{
-    c != quote && !matches!(c, '\\' | '\n' | '\r')
+    let end = raw_end(quote as u8, text.as_bytes());
+    text.split_at(end).1
 }

@@ -1,13 +1,12 @@
-use Rattle.std.proofs.Common.{◌≡◌, true, [], refl, arith}
-use Rattle.json5_grammar.specs.Characters.{no_char}
+use Rattle.std.proofs.Common.{◌≡◌, true, arith}
 use Rattle.json5_text.specs.ScanNames.{is_raw_part}
-use Rattle.json5_text.proofs.ScanStrings.{one_more}
+use Rattle.json5_text.proofs.ScanStrings.{one_more, more_of}
 use Rattle.json5_text.proofs.names.skip_parts.Goals as goal
-
-pub loop-c-init : goal.loop-c-init
-loop-c-init c = (c.utf8.text, ([], refl, no_char))
 
 pub loop-c-preserved : goal.loop-c-preserved
 loop-c-preserved c =
     let h : is_raw_part c.in-Some.c ≡ true = grind arith in
-    (c.in-Some.ensures.text, one_more is_raw_part c.in-Some.c _ _ _ h c.loop-c.invariant.1 c.in-Some.ensures.chars)
+    let more = c.skip_ascii_parts-rest-in-Some.ensures in (
+      c.skip_ascii_parts-rest-in-Some.utf8,
+      more_of is_raw_part _ _ _ more.passed (one_more is_raw_part c.in-Some.c _ _ _ h c.loop-c.invariant.1 c.in-Some.ensures.chars) more.split more.each,
+    )

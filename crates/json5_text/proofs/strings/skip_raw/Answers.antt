@@ -1,13 +1,20 @@
-use Rattle.std.proofs.Common.{◌≡◌, true, [], refl, arith}
-use Rattle.json5_grammar.specs.Characters.{no_char}
+use Rattle.std.proofs.Common.{◌∙◌, ap, arith}
+use Rattle.std.specs.List.{prefix_len}
 use Rattle.json5_grammar.specs.Strings.{is_raw}
-use Rattle.json5_text.proofs.ScanStrings.{one_more}
+use Rattle.json5_text.proofs.StopRuns.{stop_boundary, stop_skips, raw_chars, quote_ascii}
 use Rattle.json5_text.proofs.strings.skip_raw.Goals as goal
 
-pub loop-c-init : goal.loop-c-init
-loop-c-init c = (c.utf8.text, ([], refl, no_char))
+pub overflow_cast-quote : goal.overflow_cast-quote
+overflow_cast-quote c = let k = quote_ascii c.args.quote c.requires in omega arith
 
-pub loop-c-preserved : goal.loop-c-preserved
-loop-c-preserved c =
-    let h : is_raw c.args.quote c.in-Some.c ≡ true = grind arith in
-    (c.in-Some.ensures.text, one_more (is_raw c.args.quote) c.in-Some.c _ _ _ h c.loop-c.invariant.1 c.in-Some.ensures.chars)
+pub split_at-requires : goal.split_at-requires
+split_at-requires c =
+    let q = c.args.quote in
+    stop_boundary (is_raw q) (is_raw q) c.args.text.now _ (raw_chars q (quote_ascii q c.requires)) c.utf8.text
+    (c.raw_end-end.ensures.value ∙ ap (prefix_len (is_raw q)) c.as_bytes.ensures.value)
+
+pub returns : goal.returns
+returns c =
+    let q = c.args.quote in
+    stop_skips (is_raw q) (is_raw q) c.args.text.now _ _ (raw_chars q (quote_ascii q c.requires)) c.utf8.text
+    (c.raw_end-end.ensures.value ∙ ap (prefix_len (is_raw q)) c.as_bytes.ensures.value) c.split_at.ensures.back

@@ -28,7 +28,7 @@ returns-in_err-text g c =
     rw (is, from) (record {
       taken = tt;
       refused = refused_or_memory c.args.self.now c.begin.new.self c.in_err-text.field-0.0 (λ x reason place f. f) passed c.in_err-text.ensures.refused;
-      complete = λ u plain r t live reads every. c.in_err-text.ensures.complete reads.spelling u r plain (key_after c.args.self.now c.begin.new.self u plain r passed reads) reads.key;
+      complete = λ u plain r t live reads every. let lacks = c.in_err-text.ensures.complete reads.spelling u r plain (key_after c.args.self.now c.begin.new.self u plain r passed reads) reads.key in lacks.kind;
       failed = given_up c.args.self.now c.begin.new.self c.key.new.self passed c.in_err-text.ensures.failed;
       before = λ h. absurd (true_false h passed.live);
     })

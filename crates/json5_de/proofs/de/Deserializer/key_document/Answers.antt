@@ -21,5 +21,5 @@ returns g c =
     let k = c.in_ok-key.ensures.taken in
     let new = c.found_key.new.self in
     let characters = key_characters c.args.self.now new c.in_ok-key.key c.key_text.result.now k (c.key_text.ensures k.text k.plain k.is_text) in
-    rw c.refuse.ensures.result (key_no_document g.T.FromText.kind g.T.FromText.content c.args.self.now new c.refuse.new.self c.in_ok-key.key (chars c.key_text.result.now) c.in-Err.e c.at-error.result c.position_of.result k characters
-    c.in-Err.ensures.complete c.in-Err.ensures.refused c.in-Err.ensures.unprompted c.position_of.ensures.inside c.at-error.ensures (gives_up new c.refuse.new.self c.refuse.ensures.state))
+    rw c.refuse.ensures.result (key_no_document g.T.FromText.kind g.T.FromText.content c.args.self.now new c.refuse.new.self c.in_ok-key.key (chars c.key_text.result.now) c.in-Err.e c.text_fault-error.result k characters
+    c.in-Err.ensures.complete c.in-Err.ensures.refused c.in-Err.ensures.unprompted c.text_fault-error.ensures (gives_up new c.refuse.new.self c.refuse.ensures.state))

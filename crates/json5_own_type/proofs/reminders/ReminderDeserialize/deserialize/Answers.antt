@@ -4,6 +4,7 @@ use Rattle.json5.specs.State.{State}
 use Rattle.json5.specs.Error.{Error}
 use Rattle.json5.specs.Enums.{SeenEnum}
 use Rattle.json5.specs.Variants.{FinishesVariant, names, at_place}
+use Rattle.json5.proofs.Structs.{still}
 use Rattle.json5.proofs.OwnEnums.{passed_place, finishes_same, enum_refused, enum_read, enum_completes, with_first, with_last, tuple_refused, tuple_begun, first_on, last_on, element_refused, element_missing, tuple_open, tuple_read, struct_refused, fields_refused, fields_unprompted, field_missing, struct_open, struct_content}
 use Rattle.json5_own_type.specs.Reminders.{reminders, reminded, weekly, once, off_read, daily_read, weekly_read, once_read, once_fields_read}
 use Rattle.json5_own_type.specs.declared.reminders.Reminder.{Reminder}
@@ -82,27 +83,28 @@ returns-in_err-day-in_default-clause-complete g c =
     enum_completes (names reminders) (at_place reminders) seen_enum _ c.in_ok-access.ensures.names c.variant.result (sym c.variant.ensures)
     (last_place {k = c.variant.result} (search rules) (search rules) (search rules)
     (field_missing once_fields_read seen_map c.in_ok-map-in_default.ensures.opens once reminded {new = (seen_map c.in_ok-map-in_default.map).at.reader} _ _ c.from_residual-in_err-day-in_default.ensures.1 c.in_ok-read_fields-in_default.ensures.reads
-    (rw c.in_err-day-in_default.ensures.found.0 refl) c.in_err-day-in_default.ensures.unprompted refl))
+    (rw (c.in_err-day-in_default.ensures.value.missing c.in_ok-read_fields-in_default.ensures.reads.live).0 refl) (c.in_err-day-in_default.ensures.value.unprompted c.in_ok-read_fields-in_default.ensures.reads.live) refl))
 
 pub returns-in_err-hour-in_default-clause-complete : goal.returns-in_err-hour-in_default-clause-complete
 returns-in_err-hour-in_default-clause-complete g c =
     enum_completes (names reminders) (at_place reminders) seen_enum _ c.in_ok-access.ensures.names c.variant.result (sym c.variant.ensures)
     (last_place {k = c.variant.result} (search rules) (search rules) (search rules)
-    (field_missing once_fields_read seen_map c.in_ok-map-in_default.ensures.opens once reminded {new = (seen_map c.in_ok-map-in_default.map).at.reader} _ _ c.from_residual-in_err-hour-in_default.ensures.1 c.in_ok-read_fields-in_default.ensures.reads
-    (rw (c.in_ok-day-in_default.ensures.found, c.in_err-hour-in_default.ensures.found.0) refl) c.in_err-hour-in_default.ensures.unprompted refl))
+    (field_missing once_fields_read seen_map c.in_ok-map-in_default.ensures.opens once reminded {new = (seen_map c.in_ok-map-in_default.map).at.reader} _ _ c.from_residual-in_err-hour-in_default.ensures.1 (still c.in_ok-day-in_default.ensures.value.same c.in_ok-read_fields-in_default.ensures.reads)
+    (let live = (still c.in_ok-day-in_default.ensures.value.same c.in_ok-read_fields-in_default.ensures.reads).live in rw (c.in_ok-day-in_default.ensures.found, (c.in_err-hour-in_default.ensures.value.missing live).0) refl) (c.in_err-hour-in_default.ensures.value.unprompted (still c.in_ok-day-in_default.ensures.value.same c.in_ok-read_fields-in_default.ensures.reads).live) refl))
 
 pub returns-in_err-end-in_default-clause-complete : goal.returns-in_err-end-in_default-clause-complete
 returns-in_err-end-in_default-clause-complete g c =
     enum_completes (names reminders) (at_place reminders) seen_enum _ c.in_ok-access.ensures.names c.variant.result (sym c.variant.ensures)
     (last_place {k = c.variant.result} (search rules) (search rules) (search rules)
-    (struct_open once_fields_read seen_map c.in_ok-map-in_default.ensures.opens once reminded _ _ c.from_residual-in_err-end-in_default.ensures.1 c.in_ok-read_fields-in_default.ensures.reads c.in_ok-read_fields-in_default.ensures.pending
-    c.in_ok-read_fields-in_default.ensures.access.same_text c.in_err-end-in_default.ensures))
+    (struct_open once_fields_read seen_map c.in_ok-map-in_default.ensures.opens once reminded _ _ c.from_residual-in_err-end-in_default.ensures.1 (still c.in_ok-hour-in_default.ensures.value.same (still c.in_ok-day-in_default.ensures.value.same c.in_ok-read_fields-in_default.ensures.reads)) (c.in_ok-hour-in_default.ensures.value.pending ∙ c.in_ok-day-in_default.ensures.value.pending ∙ c.in_ok-read_fields-in_default.ensures.pending)
+    (c.in_ok-hour-in_default.ensures.access.same_text ∙ c.in_ok-day-in_default.ensures.access.same_text ∙ c.in_ok-read_fields-in_default.ensures.access.same_text) c.in_err-end-in_default.ensures))
 
 pub returns-in_ok-end-in_default-clause-sound : goal.returns-in_ok-end-in_default-clause-sound
 returns-in_ok-end-in_default-clause-sound g c =
     enum_read (names reminders) (at_place reminders) seen_enum _ c.in_ok-access.ensures.names c.variant.result (sym c.variant.ensures)
     (last_place {k = c.variant.result} (search rules) (search rules) (search rules)
-    (struct_content once_fields_read seen_map c.in_ok-map-in_default.ensures.opens once reminded {v = Once c.in_ok-day-in_default.day c.in_ok-hour-in_default.hour} c.in_ok-read_fields-in_default.ensures.reads c.in_ok-read_fields-in_default.ensures.access.same_text c.in_ok-end-in_default.ensures (search rules)
+    (struct_content once_fields_read seen_map c.in_ok-map-in_default.ensures.opens once reminded {v = Once c.in_ok-day-in_default.day c.in_ok-hour-in_default.hour} (still c.in_ok-hour-in_default.ensures.value.same (still c.in_ok-day-in_default.ensures.value.same c.in_ok-read_fields-in_default.ensures.reads))
+    (c.in_ok-hour-in_default.ensures.access.same_text ∙ c.in_ok-day-in_default.ensures.access.same_text ∙ c.in_ok-read_fields-in_default.ensures.access.same_text) c.in_ok-end-in_default.ensures (search rules)
     (rw (c.in_ok-day-in_default.ensures.found, c.in_ok-hour-in_default.ensures.found) refl) refl))
 
 pub returns-in_err-read_fields-in_default-clause-unprompted : goal.returns-in_err-read_fields-in_default-clause-unprompted

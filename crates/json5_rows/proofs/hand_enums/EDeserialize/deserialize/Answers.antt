@@ -5,6 +5,7 @@ use Rattle.json5.specs.State.{State}
 use Rattle.json5.specs.Error.{Error}
 use Rattle.json5.specs.Enums.{SeenEnum}
 use Rattle.json5.specs.Variants.{FinishesVariant, names, at_place}
+use Rattle.json5.proofs.Structs.{still}
 use Rattle.json5.proofs.OwnEnums.{passed_place, finishes_same, enum_refused, enum_read, enum_completes, with_first, with_last, tuple_refused, tuple_begun, first_on, last_on, element_refused, element_missing, tuple_open, tuple_read, struct_refused, fields_refused, fields_unprompted, field_missing, struct_open, struct_content}
 use Rattle.json5_rows.specs.HandEnums.{e_variants, e_content, a_w, an_x, e_w, e_x, e_y, e_z, w_read}
 use Rattle.json5_rows.specs.declared.hand_enums.E.{E}
@@ -37,24 +38,25 @@ pub returns-in_err-a-in-0-clause-complete : goal.returns-in_err-a-in-0-clause-co
 returns-in_err-a-in-0-clause-complete g c =
     enum_completes (names e_variants) (at_place e_variants) seen_enum _ c.in_ok-access.ensures.names 0 (sym c.variant.ensures ∙ c.in-0.is)
     (field_missing w_read seen_map c.in_ok-map-in-0.ensures.opens a_w e_content {new = (seen_map c.in_ok-map-in-0.map).at.reader} _ _ c.from_residual-in_err-a-in-0.ensures.1 c.in_ok-read_fields-in-0.ensures.reads
-    (rw c.in_err-a-in-0.ensures.found.0 refl) c.in_err-a-in-0.ensures.unprompted refl)
+    (rw (c.in_err-a-in-0.ensures.value.missing c.in_ok-read_fields-in-0.ensures.reads.live).0 refl) (c.in_err-a-in-0.ensures.value.unprompted c.in_ok-read_fields-in-0.ensures.reads.live) refl)
 
 pub returns-in_err-b-in-0-clause-complete : goal.returns-in_err-b-in-0-clause-complete
 returns-in_err-b-in-0-clause-complete g c =
     enum_completes (names e_variants) (at_place e_variants) seen_enum _ c.in_ok-access.ensures.names 0 (sym c.variant.ensures ∙ c.in-0.is)
-    (field_missing w_read seen_map c.in_ok-map-in-0.ensures.opens a_w e_content {new = (seen_map c.in_ok-map-in-0.map).at.reader} _ _ c.from_residual-in_err-b-in-0.ensures.1 c.in_ok-read_fields-in-0.ensures.reads
-    (rw (c.in_ok-a-in-0.ensures.found, c.in_err-b-in-0.ensures.found.0) refl) c.in_err-b-in-0.ensures.unprompted refl)
+    (field_missing w_read seen_map c.in_ok-map-in-0.ensures.opens a_w e_content {new = (seen_map c.in_ok-map-in-0.map).at.reader} _ _ c.from_residual-in_err-b-in-0.ensures.1 (still c.in_ok-a-in-0.ensures.value.same c.in_ok-read_fields-in-0.ensures.reads)
+    (let live = (still c.in_ok-a-in-0.ensures.value.same c.in_ok-read_fields-in-0.ensures.reads).live in rw (c.in_ok-a-in-0.ensures.found, (c.in_err-b-in-0.ensures.value.missing live).0) refl) (c.in_err-b-in-0.ensures.value.unprompted (still c.in_ok-a-in-0.ensures.value.same c.in_ok-read_fields-in-0.ensures.reads).live) refl)
 
 pub returns-in_err-end-in-0-clause-complete : goal.returns-in_err-end-in-0-clause-complete
 returns-in_err-end-in-0-clause-complete g c =
     enum_completes (names e_variants) (at_place e_variants) seen_enum _ c.in_ok-access.ensures.names 0 (sym c.variant.ensures ∙ c.in-0.is)
-    (struct_open w_read seen_map c.in_ok-map-in-0.ensures.opens a_w e_content _ _ c.from_residual-in_err-end-in-0.ensures.1 c.in_ok-read_fields-in-0.ensures.reads c.in_ok-read_fields-in-0.ensures.pending
-    c.in_ok-read_fields-in-0.ensures.access.same_text c.in_err-end-in-0.ensures)
+    (struct_open w_read seen_map c.in_ok-map-in-0.ensures.opens a_w e_content _ _ c.from_residual-in_err-end-in-0.ensures.1 (still c.in_ok-b-in-0.ensures.value.same (still c.in_ok-a-in-0.ensures.value.same c.in_ok-read_fields-in-0.ensures.reads)) (c.in_ok-b-in-0.ensures.value.pending ∙ c.in_ok-a-in-0.ensures.value.pending ∙ c.in_ok-read_fields-in-0.ensures.pending)
+    (c.in_ok-b-in-0.ensures.access.same_text ∙ c.in_ok-a-in-0.ensures.access.same_text ∙ c.in_ok-read_fields-in-0.ensures.access.same_text) c.in_err-end-in-0.ensures)
 
 pub returns-in_ok-end-in-0-clause-sound : goal.returns-in_ok-end-in-0-clause-sound
 returns-in_ok-end-in-0-clause-sound g c =
     enum_read (names e_variants) (at_place e_variants) seen_enum _ c.in_ok-access.ensures.names 0 (sym c.variant.ensures ∙ c.in-0.is)
-    (struct_content w_read seen_map c.in_ok-map-in-0.ensures.opens a_w e_content {v = W (stored c.in_ok-a-in-0.a) (stored c.in_ok-b-in-0.b)} {d = (c.in_ok-a-in-0.a, c.in_ok-b-in-0.b)} c.in_ok-read_fields-in-0.ensures.reads c.in_ok-read_fields-in-0.ensures.access.same_text c.in_ok-end-in-0.ensures (search rules)
+    (struct_content w_read seen_map c.in_ok-map-in-0.ensures.opens a_w e_content {v = W (stored c.in_ok-a-in-0.a) (stored c.in_ok-b-in-0.b)} {d = (c.in_ok-a-in-0.a, c.in_ok-b-in-0.b)} (still c.in_ok-b-in-0.ensures.value.same (still c.in_ok-a-in-0.ensures.value.same c.in_ok-read_fields-in-0.ensures.reads))
+    (c.in_ok-b-in-0.ensures.access.same_text ∙ c.in_ok-a-in-0.ensures.access.same_text ∙ c.in_ok-read_fields-in-0.ensures.access.same_text) c.in_ok-end-in-0.ensures (search rules)
     (rw (c.in_ok-a-in-0.ensures.found, c.in_ok-b-in-0.ensures.found) refl) (both_stored a_w _ _ (search rules) (search rules)))
 
 pub returns-in_err-read_fields-in-0-clause-unprompted : goal.returns-in_err-read_fields-in-0-clause-unprompted

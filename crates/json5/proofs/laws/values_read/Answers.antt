@@ -1,0 +1,5 @@
+use Rattle.json5.proofs.AnyTexts.{reads_text}
+use Rattle.json5.proofs.laws.values_read.Goals as goal
+
+pub returns : goal.returns
+returns g c = λ x result k. reads_text x result k.sound k.complete k.refused k.unprompted

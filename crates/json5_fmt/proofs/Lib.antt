@@ -1,4 +1,0 @@
-pub mod PiecesJoined
-pub mod LinesJoined
-pub mod LinesWritten
-pub mod Refusals

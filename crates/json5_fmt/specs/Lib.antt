@@ -1,6 +1,0 @@
-pub mod Answers
-pub mod Formats
-pub mod Pieces
-pub mod Reports
-pub mod Runs
-pub mod Failures

@@ -1,0 +1,8 @@
+//! The program json5_fmt, run once with words: what is printed of files of which two are refused, and the greatest status.
+#![tactic(auto)]
+
+use std::process::ExitCode;
+
+fn main(rt: HostRuntime) -> ExitCode {
+    json5_formatter::program(&rt)
+}

@@ -1,0 +1,7 @@
+pub mod PiecesJoined
+pub mod LinesJoined
+pub mod LinesWritten
+pub mod Refusals
+pub mod Statuses
+pub mod FilesWorked
+pub mod WordsAnswered

@@ -1,0 +1,26 @@
+-- How a fault of the text ends the program.
+use Rattle.std.specs.Prelude.{⊤}
+use Rattle.json5.specs.ErrorCode.TheVariants as codes
+use Rattle.json5.specs.Error.{Error}
+use Rattle.json5.specs.Errors.{FaultKind, code, custom, failed_write, kind_of}
+use Rattle.json5.specs.Cursor.{IsOutOfMemory}
+use Rattle.json5_formatter.specs.declared.failure.Failure.{Failure}
+use Rattle.json5_formatter.specs.declared.failure.Failure.TheVariants as failure
+
+abbrev pub failure_of_kind : FaultKind → Error → Failure
+failure_of_kind (code codes.OutOfMemory) e = failure.NoMemory
+failure_of_kind (code _) e = failure.Text e
+failure_of_kind (custom text) e = failure.Text e
+failure_of_kind failed_write e = failure.Text e
+
+-- that memory ran out is no fault of the text
+abbrev pub failure_at : Error → Failure
+failure_at e = failure_of_kind (kind_of e) e
+
+-- where memory ran out the cause says so, and no text is blamed
+abbrev pub NamesMemory : Failure → Type 0
+NamesMemory failure.NotUtf8 = ⊤
+NamesMemory (failure.Text e) = ¬ (IsOutOfMemory e)
+NamesMemory failure.NoMemory = ⊤
+NamesMemory failure.Read = ⊤
+NamesMemory failure.Write = ⊤

@@ -1,0 +1,74 @@
+-- What a run reads and writes.
+use Rattle.std.specs.Prelude.{◌≡◌, ℕ, List, [], ◌∷◌, ◌++◌, Option, IfSome, Result, Ok, Err, ⊤}
+use Rattle.std.specs.Str.{chars, encode_utf8_all, IsUtf8}
+use Rattle.std.specs.Io.KnownBytes.{Appends, Keeps}
+use Rattle.json5.specs.Characters.{line_feed}
+use Rattle.json5.specs.Convert.{datum_of}
+use Rattle.json5.specs.Cursor.{IsOutOfMemory}
+use Rattle.json5.specs.Documents.{Doc, max_depth}
+use Rattle.json5.specs.Error.{Error}
+use Rattle.json5.specs.Marks.{unmarked}
+use Rattle.json5.specs.Out.{whole, text_of}
+use Rattle.json5.specs.Pieces.{AppendsFront}
+use Rattle.json5.specs.Trees.{Tree}
+use Rattle.json5.specs.Value.{Value}
+use Rattle.json5.specs.ValueViews.{value_of}
+use Rattle.json5.specs.WrittenTexts.{IsText}
+use Rattle.json5.specs.WrittenTrees.{Written}
+use Rattle.json5_formatter.specs.Formats.{Formats, Refuses}
+use Rattle.json5_formatter.specs.declared.failure.Failure.{Failure}
+use Rattle.json5_formatter.specs.declared.failure.Failure.TheVariants as failure
+
+abbrev pub line : List ℕ → List ℕ
+line text = text ++ line_feed ∷ []
+
+-- the written text of a tree, in UTF-8
+abbrev pub written_bytes : Written → List ℕ
+written_bytes t = encode_utf8_all (text_of t).text
+
+-- the bytes are a text, and what is written of it was written, and one LF
+abbrev pub WritesFormatted : Option (List ℕ) → Option (List ℕ) → List ℕ → Type 0
+WritesFormatted old new bytes = IsUtf8 bytes × ((output : List ℕ) × Formats bytes output × Appends old new (line output))
+
+-- the bytes are a document, and a prefix of the written text of its tree without marks and one LF was written
+abbrev pub BeginsFormatted : Option (List ℕ) → Option (List ℕ) → List ℕ → Type 0
+BeginsFormatted old new bytes = IsUtf8 bytes × ((t : Tree) × Doc max_depth (chars bytes) t × AppendsFront old new (line (written_bytes (unmarked t))))
+
+-- the text of a tree was written, and one LF; where the text is whole, a failed write leaves a prefix of both
+abbrev pub WritesLine : {A E : Type 0} → Written → Option (List ℕ) → Option (List ℕ) → Result A E → Type 0
+WritesLine t old new (Ok x) = IsText (text_of t) (written_bytes t) × Appends old new (line (written_bytes t))
+WritesLine t old new (Err e) = (text_of t).stop ≡ whole → AppendsFront old new (line (written_bytes t))
+
+-- all that was read is a text, and the value stands for its tree
+pub record HoldsValue (input : Option (List ℕ)) (v : Value) : Type 0 where
+  pub bytes : List ℕ
+  pub all : IfSome input (λ known. bytes ≡ known)
+  pub utf8 : IsUtf8 bytes
+  pub tree : Tree
+  pub document : Doc max_depth (chars bytes) tree
+  pub stands_for : value_of v ≡ datum_of tree
+
+-- the bytes are a text, and a document
+abbrev pub IsDocument : List ℕ → Type 0
+IsDocument bytes = IsUtf8 bytes × ((t : Tree) × Doc max_depth (chars bytes) t)
+
+-- the bytes are a text that is refused so, and a document only where memory ran out
+abbrev pub RefusesText : Error → List ℕ → Type 0
+RefusesText e bytes = IsUtf8 bytes × Refuses bytes e × ((t : Tree) → Doc max_depth (chars bytes) t → IsOutOfMemory e)
+
+-- no text was read
+abbrev pub NoText : Option (List ℕ) → Failure → Type 0
+NoText input failure.NotUtf8 = IfSome input (λ bytes. ¬ (IsUtf8 bytes))
+NoText input failure.NoMemory = ⊤
+NoText input failure.Read = ⊤
+NoText input _ = ⊥
+
+-- no document was read
+abbrev pub ReadFailure : Option (List ℕ) → Failure → Type 0
+ReadFailure input (failure.Text e) = ¬ (IsOutOfMemory e) × IfSome input (RefusesText e)
+ReadFailure input s = NoText input s
+
+-- nothing was written, but at a failed write
+abbrev pub RunFailure : Option (List ℕ) → Option (List ℕ) → Option (List ℕ) → Failure → Type 0
+RunFailure input old new failure.Write = IfSome input (BeginsFormatted old new)
+RunFailure input old new s = ReadFailure input s × Keeps old new

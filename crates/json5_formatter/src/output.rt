@@ -1,0 +1,20 @@
+//! Writing several texts.
+
+ghost use Rattle.json5.specs.Pieces.{Pushes};
+ghost use Rattle.json5_formatter.specs.Pieces.{joined_texts};
+
+use json5::ser::write_whole;
+use std::io::{self, Write};
+
+/// Writes the texts, one after the other.
+pub fn write_texts<W: Write>(writer: &mut W, texts: &[&str]) -> io::Result<()>
+    ensures { Pushes (W.contents writer.old) (W.contents writer.new) (joined_texts texts.now) result }
+{
+    for text in texts {
+        let written = write_whole(writer, text.as_bytes());
+        if written.is_err() {
+            return written;
+        }
+    }
+    Ok(())
+}

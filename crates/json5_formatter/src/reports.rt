@@ -1,0 +1,77 @@
+//! The lines on standard error.
+
+ghost use Rattle.std.specs.Prelude.{◌≡◌};
+ghost use Rattle.json5.specs.Pieces.{AppendsFront};
+ghost use Rattle.json5_formatter.specs.Pieces.{joined_texts};
+ghost use Rattle.json5_formatter.specs.Reports.{fault_line, report_line, status_of, usage_line};
+
+use crate::failure::Failure;
+use crate::output::write_texts;
+use itoa::Buffer;
+use json5::Error;
+use std::io::Write;
+
+/// Writes why the work on this input ended, as one line, and answers the status that the program ends with. A failed write
+/// changes nothing in the answer.
+pub fn report<E: Write>(name: &str, failure: &Failure, e: &mut E) -> u8
+    ensures status { result ≡ status_of failure.now }
+    ensures line { AppendsFront (E.contents e.old) (E.contents e.new) (report_line name.now failure.now) }
+{
+    match failure {
+        Failure::NotUtf8 => say(e, 1, &[name, ": not UTF-8\n"]),
+        Failure::Text(error) => say_fault(e, 1, name, error),
+        Failure::NoMemory => say(e, 2, &[name, ": out of memory\n"]),
+        Failure::Read => say(e, 2, &[name, ": cannot be read\n"]),
+        Failure::Write => say(e, 2, &["output: cannot be written\n"]),
+    }
+}
+
+/// Writes how the program is called, as one line, and answers the status 2, after a failed write too.
+pub fn usage<E: Write>(e: &mut E) -> u8
+    ensures status { result ≡ 2 }
+    ensures line { AppendsFront (E.contents e.old) (E.contents e.new) usage_line }
+{
+    say(
+        e,
+        2,
+        &["usage: json5_fmt [check FILE... or print FILE...]\n"],
+    )
+}
+
+/// Writes the texts, and answers the status, after a failed write too.
+fn say<E: Write>(e: &mut E, status: u8, texts: &[&str]) -> u8
+    ensures status { result ≡ status }
+    ensures line { AppendsFront (E.contents e.old) (E.contents e.new) (joined_texts texts.now) }
+{
+    let _ = write_texts(e, texts);
+    status
+}
+
+/// Writes what the fault prints, without memory, and answers the status.
+fn say_fault<E: Write>(e: &mut E, status: u8, name: &str, error: &Error) -> u8
+    ensures status { result ≡ status }
+    ensures line { AppendsFront (E.contents e.old) (E.contents e.new) (fault_line name.now error.now) }
+{
+    let message = error.message();
+    let Some(position) = error.position() else {
+        return say(e, status, &[name, ": ", message, "\n"]);
+    };
+    let mut line = Buffer::new();
+    let mut column = Buffer::new();
+    let line = line.format(position.line as u128 + 1);
+    let column = column.format(position.column as u128 + 1);
+    say(
+        e,
+        status,
+        &[
+            name,
+            ": ",
+            message,
+            " at line ",
+            line,
+            " column ",
+            column,
+            "\n",
+        ],
+    )
+}

@@ -1,0 +1,78 @@
+//! One text, from a reader, and formatted to a writer.
+
+ghost use Rattle.std.specs.Prelude.{◌≡◌, IfOk, IfErr, IfSome, OnOk, string_bytes};
+ghost use Rattle.json5.specs.ValueTrees.{value_tree};
+ghost use Rattle.json5_formatter.specs.Runs.{HoldsValue, IsDocument, NoText, ReadFailure, RunFailure, WritesFormatted, WritesLine};
+ghost use Rattle.json5_formatter.specs.Failures.{NamesMemory};
+
+use crate::failure::Failure;
+use json5::ser::write_whole;
+use json5::{Value, from_str, to_writer};
+use std::alloc::Global;
+use std::io::{ErrorKind, Read, Write};
+
+/// Reads all of `r`, writes the text of its value and one LF to `w` piece by piece, and flushes `w`.
+///
+/// `NotUtf8` and `Text` say that what was read is no text or no document; a text that is refused since memory ran out is
+/// `NoMemory`. At these and at `Read` nothing was written. At `Write` the writer failed, and a prefix of the output was written.
+pub fn run<R: Read, W: Write>(alloc: Global, r: &mut R, w: &mut W) -> Result<(), Failure>
+    ensures written { OnOk result (IfSome (R.remaining r.old) (WritesFormatted (W.contents w.old) (W.contents w.new))) }
+    ensures stopped { IfErr result (RunFailure (R.remaining r.old) (W.contents w.old) (W.contents w.new)) }
+    ensures memory { IfErr result NamesMemory }
+{
+    let value = read_value(alloc, r)?;
+    match write_value(w, &value) {
+        Ok(()) => Ok(()),
+        Err(_) => Err(Failure::Write),
+    }
+}
+
+/// Reads all of `r`, and says why it is no document. It writes nothing.
+///
+/// `NotUtf8` says that what was read is no text, `Text` that it is a text and no document.
+pub fn check<R: Read>(alloc: Global, r: &mut R) -> Result<(), Failure>
+    ensures read { OnOk result (IfSome (R.remaining r.old) IsDocument) }
+    ensures stopped { IfErr result (ReadFailure (R.remaining r.old)) }
+{
+    read_value(alloc, r)?;
+    Ok(())
+}
+
+/// The value of all that is left of the reader. Its text isn't kept.
+fn read_value<R: Read>(alloc: Global, r: &mut R) -> Result<Value, Failure>
+    ensures read { IfOk result (HoldsValue (R.remaining r.old)) }
+    ensures stopped { IfErr result (ReadFailure (R.remaining r.old)) }
+{
+    let text = read_text(alloc, r)?;
+    match from_str(alloc, text.as_str()) {
+        Ok(value) => Ok(value),
+        Err(e) => Err(Failure::at(e)),
+    }
+}
+
+/// All that is left of the reader, as text.
+fn read_text<R: Read>(alloc: Global, r: &mut R) -> Result<String, Failure>
+    ensures read { IfOk result (λ text. IfSome (R.remaining r.old) (λ bytes. string_bytes text ≡ bytes)) }
+    ensures stopped { IfErr result (NoText (R.remaining r.old)) }
+{
+    let mut bytes = Vec::new(alloc);
+    match r.read_to_end(&mut bytes) {
+        Ok(_) => {}
+        Err(e) if e.kind() == ErrorKind::OutOfMemory => return Err(Failure::NoMemory),
+        Err(_) => return Err(Failure::Read),
+    }
+    match String::from_utf8(bytes) {
+        Ok(text) => Ok(text),
+        Err(_) => Err(Failure::NotUtf8),
+    }
+}
+
+/// Writes the text of a value and one LF.
+fn write_value<W: Write>(w: &mut W, value: &Value) -> json5::Result<()>
+    ensures { WritesLine (value_tree value.now) (W.contents w.old) (W.contents w.new) result }
+{
+    to_writer(w, value)?;
+    write_whole(w, b"\n")?;
+    w.flush()?;
+    Ok(())
+}

@@ -1,0 +1,26 @@
+//! What the first word asks for.
+
+ghost use Rattle.std.specs.Prelude.{◌≡◌, ◌≢◌, MatchOption};
+ghost use Rattle.json5_formatter.specs.Words.{word_of};
+
+/// What is done with each file.
+#[derive(Clone, Copy, Debug, Drop)]
+pub enum Work {
+    /// Says why it is no document.
+    Check,
+    /// Writes it formatted.
+    Print,
+}
+
+impl Work {
+    /// The work with this name.
+    pub fn named(word: &str) -> Option<Work>
+        ensures { MatchOption result ((work : Work) → word.now ≢ word_of work) (λ work. word.now ≡ word_of work) }
+    {
+        match word {
+            "check" => Some(Work::Check),
+            "print" => Some(Work::Print),
+            _ => None,
+        }
+    }
+}

@@ -1,0 +1,82 @@
+-- ASCII blanks in front of a text.
+use Rattle.std.proofs.Common.{◌≡◌, ℕ, ◌<◌, ◌≤◌, true, false, subst, List, [], ◌∷◌, ◌++◌, length, drop, refl, ap, sym, ◌∙◌, arith}
+use Rattle.std.specs.List.{prefix_len, take_while}
+use Rattle.std.specs.Prelude.{◌==◌, slice_index}
+use Rattle.std.specs.Str.{chars, IsUtf8}
+use Rattle.std.proofs.lemmas.Str.{chars_past_char, encode_ascii}
+use Rattle.json5_grammar.specs.Blanks.{Solid}
+use Rattle.json5_grammar.specs.Reading.{got}
+use Rattle.json5_grammar.proofs.BlanksRead.{skip_rest, begins_solid, printable_solid}
+use Rattle.std.proofs.lemmas.List.{length-take, length-drop}
+use Rattle.std.proofs.lemmas.List.Sums.{prefix_len-le-length}
+use Rattle.std.proofs.lemmas.Bool.Decides.{nat_tests}
+use Rattle.json5_grammar.specs.Characters.{is_in, is_blank, is_terminator, Each, no_char, char}
+use Rattle.json5_grammar.specs.ReadBlanks.{skip, between, Mode}
+use Rattle.json5_grammar.specs.ReadNumbers.{front_of, rest_of}
+use Rattle.json5_grammar.proofs.NumberTests.{front_each}
+use Rattle.json5_text.specs.ByteRuns.{is_ascii_blank, is_line_part, is_no_star, BeginsSolid}
+use Rattle.json5_text.specs.Scan.{SkipsAll}
+use Rattle.json5_text.proofs.NumberRuns.{PassesAscii, chars_split, rest_cut, rest_shorter}
+use Rattle.json5_text.proofs.ScanSteps.{blank_more, line_more, block_more}
+
+pub blank_is_ascii : PassesAscii is_ascii_blank
+blank_is_ascii c h = grind (arith, nat_tests)
+
+ascii_is_blank : (c : ℕ) → is_ascii_blank c ≡ true → is_blank c ≡ true
+ascii_is_blank c h = grind (arith, nat_tests)
+
+pub blanks_counted : (s : List ℕ) (n : ℕ) → n ≡ prefix_len is_ascii_blank s → n ≡ length (take_while is_ascii_blank s)
+blanks_counted s n e = let k = length-take (prefix_len is_ascii_blank s) s in let l = prefix_len-le-length is_ascii_blank s in omega (arith, e, k, l)
+
+pass : (w x : List ℕ) → Each is_ascii_blank w → skip between (w ++ x) ≡ skip between x
+pass [] x no_char = refl
+pass (c ∷ w) x (char h e) = blank_more c (c ∷ (w ++ x)) (w ++ x) refl (ascii_is_blank c h) ∙ pass w x e
+
+pub blanks_passed : (s r : List ℕ) (n : ℕ) → n ≡ length (take_while is_ascii_blank s) → r ≡ drop n s → skip between (chars s) ≡ skip between (chars r)
+blanks_passed s r n e d =
+    ap (skip between) (chars_split is_ascii_blank s blank_is_ascii)
+    ∙ pass (front_of is_ascii_blank s) (chars (rest_of is_ascii_blank s)) (front_each is_ascii_blank s)
+    ∙ ap (λ z. skip between (chars z)) (sym (d ∙ rest_cut is_ascii_blank s n e))
+
+pub blanks_shorter : (s r : List ℕ) (n : ℕ) → n ≡ length (take_while is_ascii_blank s) → r ≡ drop n s → length r ≤ length s
+blanks_shorter s r n e d = let k = rest_shorter is_ascii_blank s in let l = ap length (d ∙ rest_cut is_ascii_blank s n e) in omega (arith, k, l)
+
+-- ---- a solid character in front
+
+ascii_front : (r : List ℕ) → IsUtf8 r → 0 < length r → slice_index r 0 < 128 → (y : List ℕ) × (chars r ≡ slice_index r 0 ∷ y)
+ascii_front [] u l h = absurd (omega arith)
+ascii_front (b ∷ s) u l h = (chars s, chars_past_char (b ∷ s) s b u (ap (λ z. z ++ s) (sym (encode_ascii b h))))
+
+pub at_solid_text : (r : List ℕ) → IsUtf8 r → BeginsSolid r → skip between (chars r) ≡ got tt (chars r)
+at_solid_text r u k =
+    let front = ascii_front r u k.some (let h = k.high in omega arith) in
+    let printable : is_in 33 126 (slice_index r 0) ≡ true = grind (arith, nat_tests, k.low, k.high) in
+    let other : (slice_index r 0 == 47) ≡ false = grind (arith, nat_tests, k.no_slash) in
+    skip_rest (chars r) (subst Solid (sym front.1) (begins_solid (slice_index r 0) front.0 (printable_solid (slice_index r 0) printable other)))
+
+-- ---- in a comment up to the line's end
+
+no_terminator : (c : ℕ) → is_line_part c ≡ true → is_terminator c ≡ false
+no_terminator c h = grind (arith, nat_tests)
+
+pass_line : (w x : List ℕ) → Each is_line_part w → skip Mode.line (w ++ x) ≡ skip Mode.line x
+pass_line [] x no_char = refl
+pass_line (c ∷ w) x (char h e) = line_more c (c ∷ (w ++ x)) (w ++ x) refl (no_terminator c h) ∙ pass_line w x e
+
+pub line_passed : (s r : List ℕ) → SkipsAll is_line_part s r → skip Mode.line (chars s) ≡ skip Mode.line (chars r)
+line_passed s r k = ap (skip Mode.line) k.split ∙ pass_line k.passed (chars r) k.each
+
+-- ---- in a comment up to a star
+
+star_from : (c : ℕ) → is_no_star c ≡ true → c ≡ 42 → ⊥
+star_from c h e = grind (arith, nat_tests)
+
+pass_block : (w x : List ℕ) → Each is_no_star w → skip Mode.block (w ++ x) ≡ skip Mode.block x
+pass_block [] x no_char = refl
+pass_block (c ∷ w) x (char h e) = block_more c (c ∷ (w ++ x)) (w ++ x) refl (star_from c h) ∙ pass_block w x e
+
+pub block_passed : (s r : List ℕ) → SkipsAll is_no_star s r → skip Mode.block (chars s) ≡ skip Mode.block (chars r)
+block_passed s r k = ap (skip Mode.block) k.split ∙ pass_block k.passed (chars r) k.each
+
+pub drop_shorter : (s r : List ℕ) (n : ℕ) → r ≡ drop n s → length r ≤ length s
+drop_shorter s r n d = let k = length-drop n s in let l = ap length d in omega (arith, k, l)

@@ -1,0 +1,217 @@
+//! Runs of bytes.
+
+ghost use Rattle.std.specs.Prelude.{◌≡◌, ◌≤◌, ◌+◌, ◌<◌, length, drop, map, true, false, slice_index, IfSome};
+ghost use Rattle.json5_grammar.specs.Characters.{is_digit, NotBegun};
+ghost use Rattle.std.specs.List.{prefix_len};
+ghost use Rattle.std.specs.Simd.Lanes.{mask_l};
+ghost use Rattle.json5_grammar.specs.Strings.{is_raw};
+ghost use Rattle.json5_text.specs.ByteRuns.{ends_raw, is_ascii_blank, is_ascii_start, is_ascii_part, is_in_line, is_no_star, lengthens_digits, SpellsFront, IsUnpadded, IsFewDigits, IsShort, BeginsSolid};
+
+use memchr::{memchr, memchr3};
+use std::simd::prelude::*;
+
+/// U+0009 to U+000D and the space.
+#[inline(always)]
+fn is_ascii_blank(byte: u8) -> bool
+    ensures { result ≡ is_ascii_blank byte }
+{
+    byte == b' ' || byte >= 9 && byte <= 13
+}
+
+/// How many ASCII blanks stand in front.
+#[inline(always)]
+pub(crate) fn blanks_len(bytes: &[u8]) -> usize
+    ensures { result ≡ prefix_len is_ascii_blank bytes.now }
+{
+    let mut i = 0;
+    while i < bytes.len() && is_ascii_blank(bytes[i]) {
+        i += 1;
+    }
+    i
+}
+
+/// An ASCII character that may begin a name.
+pub(crate) fn is_ascii_start(byte: u8) -> bool
+    ensures { result ≡ is_ascii_start byte }
+{
+    matches!(byte, b'$' | b'_' | b'A'..=b'Z' | b'a'..=b'z')
+}
+
+/// An ASCII character that may go on a name.
+pub(crate) fn is_ascii_part(byte: u8) -> bool
+    ensures { result ≡ is_ascii_part byte }
+{
+    is_ascii_start(byte) || is_digit(byte)
+}
+
+/// How many ASCII characters stand in front that may go on a name.
+pub(crate) fn name_len(bytes: &[u8]) -> usize
+    ensures { result ≡ prefix_len is_ascii_part bytes.now }
+{
+    let mut i = 0;
+    while i < bytes.len() && is_ascii_part(bytes[i]) {
+        i += 1;
+    }
+    i
+}
+
+/// How many bytes stand in front of the first that is LF or CR or begins a character from U+2000 to U+2FFF, as U+2028 and U+2029.
+pub(crate) fn line_len(bytes: &[u8]) -> usize
+    ensures { result ≡ prefix_len is_in_line bytes.now }
+{
+    memchr3(b'\n', b'\r', 0xE2, bytes).unwrap_or(bytes.len())
+}
+
+/// How many bytes stand in front of the first star.
+pub(crate) fn star_place(bytes: &[u8]) -> usize
+    ensures { result ≡ prefix_len is_no_star bytes.now }
+{
+    memchr(b'*', bytes).unwrap_or(bytes.len())
+}
+
+/// Which of the bytes end a run of a string between these quotes.
+#[inline(always)]
+fn stops(quote: u8, bytes: u8x16) -> u64
+    ensures { result ≡ mask_l (map (ends_raw quote) bytes) }
+{
+    (bytes.simd_eq(u8x16::splat(quote))
+        | bytes.simd_eq(u8x16::splat(b'\\'))
+        | bytes.simd_eq(u8x16::splat(b'\n'))
+        | bytes.simd_eq(u8x16::splat(b'\r'))).to_bitmask()
+}
+
+/// The same as `raw_end` from there on, byte by byte.
+#[inline(never)]
+fn raw_end_slowly(quote: u8, bytes: &[u8], from: usize) -> usize
+    requires { from ≤ length bytes.now }
+    ensures { result ≡ from + prefix_len (is_raw quote) (drop from bytes.now) }
+{
+    let mut i = from;
+    while i < bytes.len()
+        && bytes[i] != quote
+        && bytes[i] != b'\\'
+        && bytes[i] != b'\n'
+        && bytes[i] != b'\r'
+    {
+        i += 1;
+    }
+    i
+}
+
+/// Where the bytes in front end that stand for themselves between these quotes.
+#[inline(always)]
+pub(crate) fn raw_end(quote: u8, bytes: &[u8]) -> usize
+    ensures value { result ≡ prefix_len (is_raw quote) bytes.now }
+    ensures bound { result ≤ length bytes.now }
+{
+    let mut i = 0;
+    while bytes.len() - i >= 16 {
+        let found = stops(quote, u8x16::from_slice(&bytes[i..]));
+        if found != 0 {
+            return i + found.trailing_zeros() as usize;
+        }
+        i += 16;
+    }
+    raw_end_slowly(quote, bytes, i)
+}
+
+/// A number of at most 19 decimal digits, and how many digits these are.
+#[derive(Clone, Copy)]
+pub(crate) struct FewDigits {
+    pub(crate) value: u64,
+    pub(crate) len: usize,
+}
+
+/// A digit.
+#[inline(always)]
+fn is_digit(byte: u8) -> bool
+    ensures { result ≡ is_digit byte }
+{
+    byte >= b'0' && byte <= b'9'
+}
+
+/// What may go on with a number after its digits.
+#[inline(always)]
+fn lengthens_digits(byte: u8) -> bool
+    ensures { result ≡ lengthens_digits byte }
+{
+    matches!(
+        byte,
+        b'0'..=b'9' | b'+' | b'-' | b'.' | b'e' | b'E' | b'x' | b'X'
+    )
+}
+
+/// Digits in front, as many as 64 bits can surely hold.
+#[inline(always)]
+fn front_digits(bytes: &[u8]) -> FewDigits
+    ensures { SpellsFront bytes.now result }
+{
+    let mut i = 0;
+    let mut value: u64 = 0;
+    while i < bytes.len() && is_digit(bytes[i]) && value < 1_000_000_000_000_000_000 {
+        value = value * 10 + u64::from(bytes[i] - b'0');
+        i += 1;
+    }
+    FewDigits { value, len: i }
+}
+
+/// Whether something goes on there with a number after its digits.
+#[inline(always)]
+fn goes_on(bytes: &[u8], place: usize) -> bool
+    ensures { result ≡ false → NotBegun lengthens_digits (drop place bytes.now) }
+{
+    place < bytes.len() && lengthens_digits(bytes[place])
+}
+
+/// Whether the first of several digits is a zero.
+#[inline(always)]
+fn is_padded(bytes: &[u8], len: usize) -> bool
+    requires { len ≤ length bytes.now }
+    ensures { result ≡ false → IsUnpadded bytes.now len }
+{
+    len > 1 && bytes[0] == b'0'
+}
+
+/// The digits in front, where they are few and are a whole number: none but the first of several is zero, and nothing goes on with
+/// them.
+#[inline(always)]
+pub(crate) fn few_digits(bytes: &[u8]) -> Option<FewDigits>
+    ensures { IfSome result (IsFewDigits bytes.now) }
+{
+    let found = front_digits(bytes);
+    if found.len == 0 {
+        return None;
+    }
+    if goes_on(bytes, found.len) {
+        return None;
+    }
+    if is_padded(bytes, found.len) {
+        return None;
+    }
+    Some(found)
+}
+
+/// The number of few digits in front, and what follows it.
+#[inline(always)]
+pub(crate) fn short_digits(text: &str) -> Option<(u64, &str)>
+    ensures { IfSome result (λ p. IsShort text.now p.0 p.1.now) }
+{
+    let found = few_digits(text.as_bytes())?;
+    Some((found.value, text.split_at(found.len).1))
+}
+
+/// Whether a minus is in front.
+#[inline(always)]
+pub(crate) fn begins_minus(bytes: &[u8]) -> bool
+    ensures { result ≡ true → (0 < length bytes.now) × (slice_index bytes.now 0 ≡ 45) }
+{
+    !bytes.is_empty() && bytes[0] == b'-'
+}
+
+/// Whether a character from `!` to `~` is in front that is no slash.
+#[inline(always)]
+pub(crate) fn begins_solid(bytes: &[u8]) -> bool
+    ensures { result ≡ true → BeginsSolid bytes.now }
+{
+    !bytes.is_empty() && bytes[0] > b' ' && bytes[0] <= b'~' && bytes[0] != b'/'
+}
