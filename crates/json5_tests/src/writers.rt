@@ -30,7 +30,11 @@ pub(crate) struct Slow {
 }
 
 impl Failure {
-    fn answer(self) -> io::Result<usize> {
+    ghost use Rattle.std.specs.Prelude.{◌≡◌, IfOk};
+
+    fn answer(self) -> io::Result<usize>
+        ensures nothing { IfOk result (λ count. count ≡ 0) }
+    {
         match self {
             Failure::Interrupted => Err(io::Error::from(ErrorKind::Interrupted)),
             Failure::TakesNothing => Ok(0),
