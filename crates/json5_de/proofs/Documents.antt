@@ -8,19 +8,18 @@ use Rattle.json5_grammar.specs.Trees.{Tree, depth}
 use Rattle.json5_grammar.specs.Values.{Reads}
 use Rattle.json5_grammar.specs.Documents.{Doc, max_depth}
 use Rattle.json5_grammar.proofs.Unique.{document_phrase, phrase_document, one_phrase}
-use Rattle.json5_de.specs.State.{State}
+use Rattle.json5_de.specs.State.{State, at_start}
 use Rattle.json5_de.specs.Law.{TookValue, Gives, Completes}
 use Rattle.json5_de.specs.Faults.{AfterBlanks, AtEnd, RefusedBy, Trailing}
-use Rattle.json5_de.specs.Texts.{at_start}
 use Rattle.json5_de.proofs.Taken.{input_of}
 use Rattle.std.proofs.lemmas.Option.{same_Some}
 use Rattle.json5_de.proofs.Arrays.{failed_of}
 
 -- what was read up to the end is a document
-pub read_document : (s mid : State) (x : List ℕ) (t : Tree) → s ≡ at_start x → TookValue s t mid → AtEnd mid → Doc max_depth x t
-read_document s mid x t e took (live, last) =
-    phrase_document max_depth x mid.unread t (subst (λ z. Reads z t mid.unread) (ap (λ (s : State). s.unread) e) took.reads) last
-    (let level = ap (λ (s : State). s.level) e in let shallow = took.shallow in omega (arith, level, shallow))
+pub read_document : (limit : ℕ) (s mid : State) (x : List ℕ) (t : Tree) → limit ≤ max_depth → s ≡ at_start limit x → TookValue s t mid → AtEnd mid → Doc limit x t
+read_document limit s mid x t bound e took (live, last) =
+    phrase_document limit x mid.unread t (subst (λ z. Reads z t mid.unread) (ap (λ (s : State). s.unread) e) took.reads) last
+    (let level = ap (λ (s : State). s.level) e in let shallow = took.shallow in omega (arith, bound, level, shallow))
 
 -- a document can be read
 pub record Readable (s : State) (t : Tree) : Type 0 where
@@ -30,21 +29,21 @@ pub record Readable (s : State) (t : Tree) : Type 0 where
   pub last : LastBlanks rest
   pub shallow : s.level + depth t ≤ max_depth
 
-pub readable : (s : State) (x : List ℕ) (t : Tree) → s ≡ at_start x → Doc max_depth x t → Readable s t
-readable s x t e doc =
-    let (r, reads, last, shallow) = document_phrase max_depth x t doc in
+pub readable : (limit : ℕ) (s : State) (x : List ℕ) (t : Tree) → limit ≤ max_depth → s ≡ at_start limit x → Doc limit x t → Readable s t
+readable limit s x t bound e doc =
+    let (r, reads, last, shallow) = document_phrase limit x t doc in
     record {
       rest = r;
       live = ap (λ (s : State). s.failed) e;
       reads = subst (λ z. Reads z t r) (sym (ap (λ (s : State). s.unread) e)) reads;
       last = last;
-      shallow = let level = ap (λ (s : State). s.level) e in omega (arith, level, shallow);
+      shallow = let level = ap (λ (s : State). s.level) e in omega (arith, bound, level, shallow);
     }
 
 -- what was read of a document is its tree, and nothing but blanks follows
-pub the_document : (s mid : State) (x : List ℕ) (t u : Tree) → s ≡ at_start x → Doc max_depth x t → TookValue s u mid → (t ≡ u) × AtEnd mid
-the_document s mid x t u e doc took =
-    let k = readable s x t e doc in
+pub the_document : (limit : ℕ) (s mid : State) (x : List ℕ) (t u : Tree) → limit ≤ max_depth → s ≡ at_start limit x → Doc limit x t → TookValue s u mid → (t ≡ u) × AtEnd mid
+the_document limit s mid x t u bound e doc took =
+    let k = readable limit s x t bound e doc in
     let one = one_phrase s.unread k.rest mid.unread t u k.reads took.reads in
     (one.0, (failed_of took.rest ∙ k.live, subst LastBlanks one.1 k.last))
 
@@ -53,22 +52,22 @@ the_document s mid x t u e doc took =
 abbrev cursor_at : List ℕ → List ℕ → Cursor
 cursor_at x r = record { input = x; unread = r }
 
-pub live_after : (s mid : State) (x : List ℕ) (u : Tree) → s ≡ at_start x → TookValue s u mid → mid.failed ≡ false
-live_after s mid x u e took = failed_of took.rest ∙ failed_of e
+pub live_after : (limit : ℕ) (s mid : State) (x : List ℕ) (u : Tree) → s ≡ at_start limit x → TookValue s u mid → mid.failed ≡ false
+live_after limit s mid x u e took = failed_of took.rest ∙ failed_of e
 
 -- a value that converts isn't refused, unless memory runs out
-pub blames_value : (V : Type 0) {C : Type 0} {convert : Tree → Option C} (s : State) (x : List ℕ) (t : Tree) (r : List ℕ) (c : C) (e : Error) → s ≡ at_start x → Reads x t r → depth t ≤ max_depth → convert t ≡ Some c → Completes {V = V} convert s (Err e)
+pub blames_value : (V : Type 0) {C : Type 0} {convert : Tree → Option C} (limit : ℕ) (s : State) (x : List ℕ) (t : Tree) (r : List ℕ) (c : C) (e : Error) → limit ≤ max_depth → s ≡ at_start limit x → Reads x t r → depth t ≤ limit → convert t ≡ Some c → Completes {V = V} convert s (Err e)
     → IsOutOfMemory e ⊎ Refused (AfterBlanks Trailing) (record { input = x; unread = r }) e
-blames_value V s x t r c e is reads shallow converts complete =
-    inl (complete t r c (failed_of is) (subst (λ z. Reads z t r) (sym (ap (λ (s : State). s.unread) is)) reads) (let level = ap (λ (s : State). s.level) is in omega (arith, level, shallow)) converts)
+blames_value V limit s x t r c e bound is reads shallow converts complete =
+    inl (complete t r c (failed_of is) (subst (λ z. Reads z t r) (sym (ap (λ (s : State). s.unread) is)) reads) (let level = ap (λ (s : State). s.level) is in omega (arith, bound, level, shallow)) converts)
 
 -- what stands after it is
-pub blames_rest : (s mid : State) (x : List ℕ) (t u : Tree) (r : List ℕ) (e : Error) → s ≡ at_start x → Reads x t r → TookValue s u mid → RefusedBy Trailing mid e
+pub blames_rest : (limit : ℕ) (s mid : State) (x : List ℕ) (t u : Tree) (r : List ℕ) (e : Error) → s ≡ at_start limit x → Reads x t r → TookValue s u mid → RefusedBy Trailing mid e
     → IsOutOfMemory e ⊎ Refused (AfterBlanks Trailing) (record { input = x; unread = r }) e
-blames_rest s mid x t u r e is reads took f =
+blames_rest limit s mid x t u r e is reads took f =
     let (same_tree, rest) = one_phrase x r mid.unread t u reads (subst (λ z. Reads z u mid.unread) (ap (λ (s : State). s.unread) is) took.reads) in
     let input = input_of took.rest ∙ ap (λ (s : State). s.input) is in
-    inr (subst (λ k. Refused (AfterBlanks Trailing) k e) (cursor input (sym rest)) (f (live_after s mid x u is took)))
+    inr (subst (λ k. Refused (AfterBlanks Trailing) k e) (cursor input (sym rest)) (f (live_after limit s mid x u is took)))
   where
     cursor : {a b c d : List ℕ} → a ≡ b → c ≡ d → cursor_at a c ≡ cursor_at b d
     cursor {b = b} {c = c} i u = ap (λ z. cursor_at z c) i ∙ ap (λ z. cursor_at b z) u

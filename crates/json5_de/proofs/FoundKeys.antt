@@ -198,12 +198,12 @@ key_is_document row content old new key v x k same (t, doc, is) =
     key_ok content (document_of row.convert) _ old new v (k.text, k.plain, took_key old new key k, converts row.convert k.text k.plain t (content v) (subst (λ z. Doc max_depth z t) same doc) is)
 
 -- it isn't
-pub key_no_document : {V C : Type 0} (row : Row C) (content : V → C) (old new last : State) (key : FoundKey) (x : List ℕ) (own e : Error) → (k : TookKeyAt old new key) → x ≡ k.text → ReadsDocument content row.convert x (Err own)
-    → RefusesReading row.convert (RefusedAs row) x own → IsUnprompted own → IsTextFault new.input key.start own e → GivesUp new last → ReadsKeyAs (document_key row) content old last (Err e)
+pub key_no_document : {V C : Type 0} (row : Row C) (content : V → C) (old new last : State) (key : FoundKey) (x : List ℕ) (own e : Error) → (k : TookKeyAt old new key) → x ≡ k.text → ReadsDocument content row.convert max_depth x (Err own)
+    → RefusesReading row.convert (RefusedAs row) max_depth x own → IsUnprompted own → IsTextFault new.input key.start own e → GivesUp new last → ReadsKeyAs (document_key row) content old last (Err e)
 key_no_document {C = C} row content old new last key x own e k same complete refuses other fault failed = let gives_up = given_up_after old k.between new last k.spelling k.passed k.took failed in record {
   sound = tt;
   complete = λ u plain r c live reads is. lacks fault (completes u plain r c reads is);
-  refused = refused fault (refused_text row k.text k.plain own (subst (λ z. RefusesReading row.convert (RefusedAs row) z own) same refuses));
+  refused = refused fault (refused_text row k.text k.plain own (subst (λ z. RefusesReading row.convert (RefusedAs row) max_depth z own) same refuses));
   unprompted = λ live. not_failed fault;
   same_text = gives_up.same_text;
   failed = gives_up.failed;

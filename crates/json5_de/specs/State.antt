@@ -1,14 +1,19 @@
 -- What contracts see of a reader.
-use Rattle.std.specs.Prelude.{◌≡◌, ℕ, List, Bool, true, Option, Result, slice_get, IsErrAnd}
+use Rattle.std.specs.Prelude.{◌≡◌, ℕ, ◌-◌, List, Bool, true, false, Option, Result, slice_get, IsErrAnd}
+use Rattle.json5_grammar.specs.Documents.{max_depth}
 use Rattle.json5_text.specs.declared.error.Error.{Error}
 use Rattle.json5_text.specs.Cursor.{Cursor}
 
--- the whole text, what is unread of it, the count of open brackets, and whether a call refused, or an access holds the reader or was dropped before its end
+-- the whole text, what is unread of it, how many of 128 brackets are taken (those that are open, and those past the reader's own limit, which is 128 where none was named), and whether a call refused, or an access holds the reader or was dropped before its end
 pub record State : Type 0 where
   pub input : List ℕ
   pub unread : List ℕ
   pub level : ℕ
   pub failed : Bool
+
+-- a reader within a limit, at the start of the text: all brackets are taken but those that it may open
+abbrev pub at_start : ℕ → List ℕ → State
+at_start limit x = record { input = x; unread = x; level = max_depth - limit; failed = false }
 
 abbrev pub cursor_of : State → Cursor
 cursor_of s = record { input = s.input; unread = s.unread }

@@ -1,30 +1,26 @@
 -- How a whole text is read, and why it is refused.
 use Rattle.std.specs.Prelude.{◌≡◌, ◌⊎◌, ℕ, ◌≤◌, false, List, [], Option, Some, Result, MatchResult, IfOk, IfErr, OnOk, OnErr, IsOk}
-use Rattle.json5_grammar.specs.Documents.{Doc, max_depth}
+use Rattle.json5_grammar.specs.Documents.{Doc}
 use Rattle.json5_grammar.specs.Trees.{Tree, depth}
 use Rattle.json5_grammar.specs.Values.{Reads}
 use Rattle.json5_text.specs.declared.error.Error.{Error}
 use Rattle.json5_text.specs.Cursor.{Refused, IsOutOfMemory}
-use Rattle.json5_de.specs.State.{State, GivesUp}
+use Rattle.json5_de.specs.State.{State, GivesUp, at_start}
 use Rattle.json5_de.specs.Law.{TookValue, StaysFailed, IsUnprompted}
 use Rattle.json5_de.specs.Faults.{AfterBlanks, RefusedBy, AtEnd, Trailing}
 
--- a reader at the start of the text
-abbrev pub at_start : List ℕ → State
-at_start x = record { input = x; unread = x; level = 0; failed = false }
-
--- a document whose tree converts is read as what it converts to, unless memory runs out
-abbrev pub ReadsDocument : {V C : Type 0} → (V → C) → (Tree → Option C) → List ℕ → Result V Error → Type 0
-ReadsDocument {C = C} content convert x result = (t : Tree) (c : C) → Doc max_depth x t → convert t ≡ Some c → MatchResult result (λ v. content v ≡ c) IsOutOfMemory
+-- a document within the limit whose tree converts is read as what it converts to, unless memory runs out
+abbrev pub ReadsDocument : {V C : Type 0} → (V → C) → (Tree → Option C) → ℕ → List ℕ → Result V Error → Type 0
+ReadsDocument {C = C} content convert limit x result = (t : Tree) (c : C) → Doc limit x t → convert t ≡ Some c → MatchResult result (λ v. content v ≡ c) IsOutOfMemory
 
 -- the value is refused, or what stands after one that converts
-pub data RefusesReading {C : Type 0} (convert : Tree → Option C) (refuses : State → Error → State → Type 0) (x : List ℕ) (e : Error) : Type 0 where
-  in_value : (new : State) → refuses (at_start x) e new → RefusesReading convert refuses x e
-  after_value : (t : Tree) (c : C) (new : State) → TookValue (at_start x) t new → convert t ≡ Some c → RefusedBy Trailing new e → RefusesReading convert refuses x e
+pub data RefusesReading {C : Type 0} (convert : Tree → Option C) (refuses : State → Error → State → Type 0) (limit : ℕ) (x : List ℕ) (e : Error) : Type 0 where
+  in_value : (new : State) → refuses (at_start limit x) e new → RefusesReading convert refuses limit x e
+  after_value : (t : Tree) (c : C) (new : State) → TookValue (at_start limit x) t new → convert t ≡ Some c → RefusedBy Trailing new e → RefusesReading convert refuses limit x e
 
--- where a value that converts stands in front, the fault is that of what stands after it, unless memory runs out
-abbrev pub BlamesRest : {C : Type 0} → (Tree → Option C) → List ℕ → Error → Type 0
-BlamesRest {C = C} convert x e = (t : Tree) (r : List ℕ) (c : C) → Reads x t r → depth t ≤ max_depth → convert t ≡ Some c
+-- where a value within the limit that converts stands in front, the fault is that of what stands after it, unless memory runs out
+abbrev pub BlamesRest : {C : Type 0} → (Tree → Option C) → ℕ → List ℕ → Error → Type 0
+BlamesRest {C = C} convert limit x e = (t : Tree) (r : List ℕ) (c : C) → Reads x t r → depth t ≤ limit → convert t ≡ Some c
     → IsOutOfMemory e ⊎ Refused (AfterBlanks Trailing) (record { input = x; unread = r }) e
 
 -- the blanks at the end are taken, and nothing else may be left
@@ -35,9 +31,9 @@ pub record ReadsEnd (old new : State) (result : Result (Unit {0}) Error) : Type 
   pub failed : OnErr result (GivesUp old new)
   pub before : StaysFailed old new result
 
--- the whole text is read as one value
-pub record ReadsWholeText {V C : Type 0} (content : V → C) (convert : Tree → Option C) (refuses : State → Error → State → Type 0) (x : List ℕ) (result : Result V Error) : Type 0 where
-  pub sound : IfOk result (λ v. (t : Tree) × Doc max_depth x t × (convert t ≡ Some (content v)))
-  pub complete : ReadsDocument content convert x result
-  pub refused : IfErr result (RefusesReading convert refuses x)
+-- the whole text is read as one value within the limit
+pub record ReadsWholeText {V C : Type 0} (content : V → C) (convert : Tree → Option C) (refuses : State → Error → State → Type 0) (limit : ℕ) (x : List ℕ) (result : Result V Error) : Type 0 where
+  pub sound : IfOk result (λ v. (t : Tree) × Doc limit x t × (convert t ≡ Some (content v)))
+  pub complete : ReadsDocument content convert limit x result
+  pub refused : IfErr result (RefusesReading convert refuses limit x)
   pub unprompted : IfErr result IsUnprompted

@@ -314,7 +314,7 @@ impl<I: Input> Deserializer<I> {
     /// object, whose pairs keep their order and their equal keys.
     ///
     /// Beside the faults of comments and tokens it refuses with `ExpectedValue`, `ExpectedIdentifier`, `ExpectedColon` or
-    /// `ExpectedComma` at the character that stands in their place, with `TooDeep` at the 129th open bracket, and with
+    /// `ExpectedComma` at the character that stands in their place, with `TooDeep` at the bracket past the limit, and with
     /// `OutOfMemory`. Where the text ends, an `EofParsing` code has the place of the innermost bracket that the value opened,
     /// or none outside of all.
     pub fn deserialize_any(&mut self) -> Result<Value>

@@ -6,7 +6,7 @@ ghost use Rattle.json5_text.specs.Errors.{FaultKind, kind_of};
 ghost use Rattle.json5_text.specs.Cursor.{IsPlaced, IsOffset, Locates};
 ghost use Rattle.json5_grammar.specs.Documents.{max_depth};
 ghost use Rattle.json5_grammar.specs.declared.code.ErrorCode.TheVariants as codes;
-ghost use Rattle.json5_de.specs.State.{State, SameText, GivesUpWith, cursor_of, next};
+ghost use Rattle.json5_de.specs.State.{State, SameText, GivesUpWith, cursor_of, next, at_start};
 ghost use Rattle.json5_de.specs.Faults.{IsUnplaced};
 ghost use Rattle.json5_de.specs.Law.{Gives, Completes, CompletesFree, Unprompted};
 ghost use Rattle.json5_de.specs.Steps.{Eats, IsCount, IsMismatch};
@@ -20,6 +20,7 @@ use json5_text::cow_str::CowStr;
 use json5_text::error::{Error, Result};
 use json5_text::input::{Borrows, Input};
 use json5_text::key_text::KeyText;
+use json5_text::nesting::Limit;
 use json5_text::number::Number;
 use json5_text::scanner::Scanner;
 use json5_text::{ErrorCode, Position};
@@ -81,18 +82,31 @@ impl<I: Input> Model for Deserializer<I> {
 }
 
 impl<I: Input> Deserializer<I> {
-    /// A reader at the start of the text.
+    /// A reader at the start of the text, at the full limit of 128 brackets.
     pub fn from_str(alloc: Global, input: I) -> Deserializer<I>
-        ensures { result ≡ record { input = chars (I.text input); unread = chars (I.text input); level = 0; failed = false } }
+        ensures { result ≡ at_start max_depth (chars (I.text input)) }
+    {
+        Deserializer::within(alloc, Limit::full(), input)
+    }
+
+    /// A reader at the start of the text that opens no more brackets at once than the limit, and refuses the next with
+    /// `TooDeep`. Of 128 brackets those past its limit count as taken, so that its law is that of every reader.
+    ///
+    /// ```text
+    /// let mut de = Deserializer::within(alloc, Limit::new(2).unwrap(), "[[[");    // `TooDeep` at the third bracket
+    /// ```
+    pub fn within(alloc: Global, limit: Limit, input: I) -> Deserializer<I>
+        ensures starts { result ≡ at_start limit (chars (I.text input)) }
+        ensures bound { limit ≤ max_depth }
     {
         Deserializer {
             scanner: Scanner::new(alloc, input),
-            level: 0,
+            level: 128 - usize::from(limit.get()),
             failed: false,
         }
     }
 
-    /// The allocator of what is read. At any time at most 128 brackets are open.
+    /// The allocator of what is read. At any time no more brackets are open than the limit: with those past it they are at most 128.
     pub fn allocator(&self) -> Global
         ensures { self.now.level ≤ max_depth }
     {

@@ -282,7 +282,7 @@ impl<'a, I: Input> EnumAccess<'a, I> {
 
     /// Reads a variant whose content is an array, element by element. Its `end` closes the array and the variant's brace, before
     /// which a comma may stand. The length changes nothing. `ExpectedOpeningBracket` stands at another character, `TooDeep` at
-    /// the 129th open bracket; a fault without a place gets the opening brace's. A text is a custom fault where it stands.
+    /// the bracket past the limit; a fault without a place gets the opening brace's. A text is a custom fault where it stands.
     pub fn tuple_variant(self, _length: usize) -> Result<SeqAccess<'a, I, InVariant>>
         ensures* lends { sem 𝓛 (lends_reader I.row I.Input (reader_of self.entry) result) }
         ensures same_reference { IfOk result (Holds (reader_of self.entry)) }
@@ -314,8 +314,8 @@ impl<'a, I: Input> EnumAccess<'a, I> {
     }
 
     /// Reads a variant whose content is an object, pair by pair. Its `end` closes the object and the variant's brace, before which a
-    /// comma may stand. The fields change nothing. `ExpectedOpeningBrace` stands at another character, `TooDeep` at the 129th
-    /// open bracket; a fault without a place gets the variant's opening brace's. A text is a custom fault where it stands.
+    /// comma may stand. The fields change nothing. `ExpectedOpeningBrace` stands at another character, `TooDeep` at the bracket
+    /// past the limit; a fault without a place gets the variant's opening brace's. A text is a custom fault where it stands.
     pub fn struct_variant(
         self,
         _fields: &'static [&'static str],

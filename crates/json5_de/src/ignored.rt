@@ -262,7 +262,7 @@ impl<I: Input> Deserializer<I> {
     /// Passes over a value of any kind, nested or not (JSON5 sections 2 to 4). Takes no memory where it succeeds.
     ///
     /// Beside the faults of comments and tokens it refuses with `ExpectedValue`, `ExpectedIdentifier`, `ExpectedColon` or
-    /// `ExpectedComma` at the character that stands in their place, and with `TooDeep` at the 129th open bracket. Where the text
+    /// `ExpectedComma` at the character that stands in their place, and with `TooDeep` at the bracket past the limit. Where the text
     /// ends, an `EofParsing` code has the place of the innermost bracket that the value opened, or none outside of all.
     pub fn deserialize_ignored_any(&mut self) -> Result<()>
         ensures { ReadsTree nothing every_value every_tree self.old self.new result }

@@ -8,6 +8,7 @@ use std::alloc::Global;
 /// A type that a whole text is read as: one value of its kind, with blanks and comments round it.
 pub(crate) trait FromText: Sized + Drop {
     ghost use Rattle.std.specs.Str.{chars};
+    ghost use Rattle.json5_grammar.specs.Documents.{max_depth};
     ghost use Rattle.json5_de.specs.Rows.{Row, RefusedAs};
     ghost use Rattle.json5_de.specs.Texts.{ReadsWholeText};
 
@@ -21,7 +22,7 @@ pub(crate) trait FromText: Sized + Drop {
 
     /// The value that the text holds.
     fn from_text(alloc: Global, text: &str) -> Result<Self>
-        ensures { ReadsWholeText content kind.convert (RefusedAs kind) (chars text.now) result };
+        ensures { ReadsWholeText content kind.convert (RefusedAs kind) max_depth (chars text.now) result };
 }
 
 impl FromText for () {

@@ -45,4 +45,4 @@ pub use map::MapAccess;
 pub use reading::read;
 pub use seq::SeqAccess;
 pub use spans::Spanned;
-pub use text::from_str;
+pub use text::{from_str, from_str_within};

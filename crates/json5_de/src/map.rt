@@ -96,7 +96,7 @@ impl<I: Input> Deserializer<I> {
     ghost use Rattle.json5_de.specs.Lending.{seen_map, HoldsMapBlocked, lends_to_map};
 
     /// Opens an object, and blocks the reader while the access reads its pairs. `ExpectedOpeningBrace` stands at another
-    /// character, `TooDeep` at the 129th open bracket; `EofParsingObject` at the end has no place.
+    /// character, `TooDeep` at the bracket past the limit; `EofParsingObject` at the end has no place.
     pub fn deserialize_map(&mut self) -> Result<MapAccess<'_, I>>
         ensures* lends { sem 𝓛 (lends_to_map I.row I.Input self.entry result) }
         ensures opens { OpensMap (HoldsMapBlocked self.entry) seen_map self.old result }

@@ -71,7 +71,7 @@ impl<I: Input> Deserializer<I> {
     }
 
     /// Opens an array, and blocks the reader while the access reads its elements. `ExpectedOpeningBracket` stands at another
-    /// character, `TooDeep` at the 129th open bracket; `EofParsingArray` at the end has no place.
+    /// character, `TooDeep` at the bracket past the limit; `EofParsingArray` at the end has no place.
     pub fn deserialize_seq(&mut self) -> Result<SeqAccess<'_, I>>
         ensures* lends { sem 𝓛 (lends_reader I.row I.Input self.entry result) }
         ensures opens { OpensArray (HoldsBlocked self.entry) seen self.old result }

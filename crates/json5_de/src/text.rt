@@ -9,25 +9,49 @@ ghost use Rattle.json5_de.specs.Texts.{ReadsDocument, RefusesReading, BlamesRest
 
 use crate::de::{Deserialize, Deserializer};
 use json5_text::error::Result;
+use json5_text::nesting::Limit;
 use std::alloc::Global;
 
 /// The value that a text holds: the text is one value with blanks and comments round it (JSON5 section 2), nested at most 128 deep.
 ///
-/// It is Ok exactly where the text is such a document and its tree converts to the type, unless memory runs out. Else the fault
-/// is the one with which the type refuses, or that of what stands after the value.
+/// It is `from_str_within` at the full limit.
 ///
 /// ```text
 /// let port: u16 = json5::from_str(alloc, "/* default */ 8080")?;
 /// ```
 pub fn from_str<'de, T: Deserialize<&'de str>>(alloc: Global, input: &'de str) -> Result<T>
     ensures sound { IfOk result (λ v. (t : Tree) × Doc max_depth (chars input.now) t × (T.convert t ≡ Some (T.content v))) }
-    ensures complete { ReadsDocument T.content T.convert (chars input.now) result }
+    ensures complete { ReadsDocument T.content T.convert max_depth (chars input.now) result }
     ensures no_memory { (t : Tree) (c : T.Content) → Doc max_depth (chars input.now) t → T.convert t ≡ Some c → T.free t ≡ true → IsOk result }
-    ensures refused { IfErr result (RefusesReading T.convert T.refuses (chars input.now)) }
-    ensures after_value { IfErr result (BlamesRest T.convert (chars input.now)) }
+    ensures refused { IfErr result (RefusesReading T.convert T.refuses max_depth (chars input.now)) }
+    ensures after_value { IfErr result (BlamesRest T.convert max_depth (chars input.now)) }
     ensures unprompted { IfErr result IsUnprompted }
 {
-    let mut de = Deserializer::from_str(alloc, input);
+    from_str_within(alloc, Limit::full(), input)
+}
+
+/// The value that a text holds, nested no deeper than the limit: for hostile text on a small stack, or a schema that is at most so
+/// deep.
+///
+/// It is Ok exactly where the text is such a document and its tree converts to the type, unless memory runs out. Else the fault
+/// is the one with which the type refuses, or that of what stands after the value.
+///
+/// ```text
+/// let none: Result<Value> = json5::from_str_within(alloc, Limit::new(2).unwrap(), "[[[");    // `TooDeep` at the third bracket
+/// ```
+pub fn from_str_within<'de, T: Deserialize<&'de str>>(
+    alloc: Global,
+    limit: Limit,
+    input: &'de str,
+) -> Result<T>
+    ensures sound { IfOk result (λ v. (t : Tree) × Doc limit (chars input.now) t × (T.convert t ≡ Some (T.content v))) }
+    ensures complete { ReadsDocument T.content T.convert limit (chars input.now) result }
+    ensures no_memory { (t : Tree) (c : T.Content) → Doc limit (chars input.now) t → T.convert t ≡ Some c → T.free t ≡ true → IsOk result }
+    ensures refused { IfErr result (RefusesReading T.convert T.refuses limit (chars input.now)) }
+    ensures after_value { IfErr result (BlamesRest T.convert limit (chars input.now)) }
+    ensures unprompted { IfErr result IsUnprompted }
+{
+    let mut de = Deserializer::within(alloc, limit, input);
     let value = T::deserialize(&mut de)?;
     de.end()?;
     Ok(value)

@@ -161,4 +161,4 @@ pub left_none : (d : Decimal) (o m : Seen) (rest : List ℕ) → IsLeft d o m re
 left_none d o m rest h e =
     let none : Reaches (piece (decimal_text d)) o m (piece []) = subst (λ t. Reaches (piece (decimal_text d)) o m (piece t)) e h.reaches in
     let ready : m.failed ≡ false = h.started (rw e (some_decimal d)) in
-    none.wrote m (record { was = ready; stop = refl; chars = refl; bytes = Appends-nil m.known; depth = refl; failed = ready })
+    none.wrote m (record { was = ready; stop = refl; chars = refl; bytes = Appends-nil m.known; depth = refl; limit = refl; failed = ready })

@@ -5,10 +5,10 @@ use Rattle.std.specs.Str.{chars}
 use Rattle.json5_grammar.specs.Characters.{left_bracket, left_brace}
 use Rattle.json5_grammar.proofs.Basics.{lt_from}
 use Rattle.json5_grammar.specs.Trees.{depth, depths, pair_depths}
-use Rattle.json5_grammar.specs.Documents.{Doc, max_depth}
+use Rattle.json5_grammar.specs.Documents.{Doc}
 use Rattle.json5_grammar.proofs.ScalarsWritten.{alone}
 use Rattle.json5_ser.specs.WrittenTrees.{Written, null, boolean, number, text, array, object, Elements, no_element, element, Fields, no_field, field, named, bad}
-use Rattle.json5_ser.specs.Out.{Out, Stop, whole, invalid_key, too_deep, piece, stopped, after, ◌then◌, out, text_of, elements_out, fields_out, opening, closing, element_out, key_part, value_part}
+use Rattle.json5_ser.specs.Out.{Out, Stop, whole, invalid_key, too_deep, piece, stopped, after, ◌then◌, out, text_within, elements_out, fields_out, opening, closing, element_out, key_part, value_part}
 use Rattle.json5_ser.specs.Texts.{IsText}
 use Rattle.json5_ser.specs.Marks.{marks, element_marks, field_marks, IsSpelled, AreSpelled, FieldsAreSpelled}
 use Rattle.json5_ser.proofs.Writables.{number_piece, number_whole}
@@ -212,5 +212,5 @@ pub piece_whole : (o : Out) → o.stop ≡ whole → o ≡ piece o.text
 piece_whole o h = ap (λ s. record { text = o.text; stop = s }) h
 
 -- the text of a whole tree, by its bytes
-pub text_document : (t : Written) (bytes : List ℕ) → IsText (text_of t) bytes → Doc max_depth (chars bytes) (marks t)
-text_document t bytes w = subst (λ x. Doc max_depth x (marks t)) (sym w.characters) (whole_document max_depth 0 t (text_of t).text (piece_whole (text_of t) w.stop))
+pub text_document : (limit : ℕ) (t : Written) (bytes : List ℕ) → IsText (text_within limit t) bytes → Doc limit (chars bytes) (marks t)
+text_document limit t bytes w = subst (λ x. Doc limit x (marks t)) (sym w.characters) (whole_document limit 0 t (text_within limit t).text (piece_whole (text_within limit t) w.stop))

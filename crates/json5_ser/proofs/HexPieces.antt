@@ -60,7 +60,7 @@ pub digits_exit : {A : Type 0} (all : Out) (o m n : Seen) (left chunk rest t : L
 digits_exit all o m n left chunk rest t e r is f h q p = Reaches-exit all (piece (chars t)) (piece (encode_lower rest)) o m n e r (parted all o m left chunk rest t is f h) q p
 
 nothing : (m : Seen) → m.failed ≡ false → Wrote (piece []) m m
-nothing m was = record { was = was; stop = refl; chars = refl; bytes = Appends-nil m.known; depth = refl; failed = was }
+nothing m was = record { was = was; stop = refl; chars = refl; bytes = Appends-nil m.known; depth = refl; limit = refl; failed = was }
 
 -- none is left
 pub digits_all : (all : Out) (o m : Seen) (left : List ℕ) → length left ≡ 0 → m.failed ≡ false → Reaches all o m (piece (encode_lower left)) → Wrote all o m

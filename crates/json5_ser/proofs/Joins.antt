@@ -33,7 +33,7 @@ encoded-append o n m s t p q = subst (Appends o m) (sym (encodes-append s t)) (A
 pub Wrote-then : (a b : Out) (o m n : Seen) → Wrote a o m → Wrote b m n → Wrote (a then b) o n
 Wrote-then a b o m n p q =
     subst (λ x. Wrote x o n) (sym (after_whole a b p.stop))
-    (record { was = p.was; stop = q.stop; chars = scalars-append a.text b.text p.chars q.chars; bytes = encoded-append _ _ _ a.text b.text p.bytes q.bytes; depth = q.depth ∙ p.depth; failed = q.failed })
+    (record { was = p.was; stop = q.stop; chars = scalars-append a.text b.text p.chars q.chars; bytes = encoded-append _ _ _ a.text b.text p.bytes q.bytes; depth = q.depth ∙ p.depth; limit = q.limit ∙ p.limit; failed = q.failed })
 
 Broke-after : (s : List ℕ) (e : Stop) (b : Out) (o n : Seen) → Broke (record { text = s; stop = e }) o n → Broke (after s e b) o n
 Broke-after s whole b o n p =

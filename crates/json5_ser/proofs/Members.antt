@@ -5,7 +5,6 @@ use Rattle.std.specs.Result.{IsErrAnd}
 use Rattle.std.specs.Borrow.{GName, MutBor}
 use Rattle.json5_text.specs.declared.error.Error.{Error}
 use Rattle.json5_grammar.specs.Characters.{comma_sign, colon_sign, space, left_bracket, right_bracket, left_brace, right_brace}
-use Rattle.json5_grammar.specs.Documents.{max_depth}
 use Rattle.json5_ser.specs.WrittenTrees.{Written, array, object, tuple_variant, struct_variant, Elements, no_element, element, elements_of, Fields, no_field, field, fields_of, Key, named}
 use Rattle.json5_ser.specs.Out.{Out, piece, ◌then◌, opening, closing, out, elements_out, fields_out, element_out, key_part, value_part, entry_out, variant_opening}
 use Rattle.json5_ser.specs.Writes.{Seen, Refuses, Writes, WritesTree}
@@ -16,18 +15,19 @@ use Rattle.json5_ser.proofs.Remains.{Rest, Remains, elements, fields, value, Beg
 
 -- ---- what a call writes is what remains first
 
-first_element : (t : Written) (ts : Elements) (d e : ℕ) (started : Bool) → e ≡ d + 1 → BeginsWith (element_out e (out max_depth t e)) (elements ts) (elements (element t ts)) d started
-first_element t ts d e started same = ap (λ k. element_out k (out max_depth t k) then elements_out max_depth ts d true) (sym same)
+first_element : (t : Written) (ts : Elements) (d e l n : ℕ) (started : Bool) → e ≡ d + 1 → n ≡ l → BeginsWith l (element_out e (out n t e)) (elements ts) (elements (element t ts)) d started
+first_element t ts d e l n started same is = ap (λ k. element_out k (out l t k) then elements_out l ts d true) (sym same) ∙ ap (λ m. element_out e (out m t e) then elements_out l ts d true) (sym is)
 
-first_key : (k : Key) (t : Written) (fs : Fields) (d e : ℕ) (started : Bool) → e ≡ d + 1 → BeginsWith (key_part e k) (value t fs) (fields (field k t fs)) d started
-first_key k t fs d e started same = ap (λ j. key_part j k then (value_part (out max_depth t (d + 1)) then fields_out max_depth fs d true)) (sym same)
+first_key : (k : Key) (t : Written) (fs : Fields) (d e l : ℕ) (started : Bool) → e ≡ d + 1 → BeginsWith l (key_part e k) (value t fs) (fields (field k t fs)) d started
+first_key k t fs d e l started same = ap (λ j. key_part j k then (value_part (out l t (d + 1)) then fields_out l fs d true)) (sym same)
 
-first_value : (t : Written) (fs : Fields) (d e : ℕ) (started : Bool) → e ≡ d + 1 → BeginsWith (value_part (out max_depth t e)) (fields fs) (value t fs) d started
-first_value t fs d e started same = ap (λ k. value_part (out max_depth t k) then fields_out max_depth fs d true) (sym same)
+first_value : (t : Written) (fs : Fields) (d e l n : ℕ) (started : Bool) → e ≡ d + 1 → n ≡ l → BeginsWith l (value_part (out n t e)) (fields fs) (value t fs) d started
+first_value t fs d e l n started same is = ap (λ k. value_part (out l t k) then fields_out l fs d true) (sym same) ∙ ap (λ m. value_part (out m t e) then fields_out l fs d true) (sym is)
 
-first_entry : (k : Key) (t : Written) (fs : Fields) (d e : ℕ) (started : Bool) → e ≡ d + 1 → BeginsWith (entry_out e k t) (fields fs) (fields (field k t fs)) d started
-first_entry k t fs d e started same =
-    sym (then_assoc (key_part (d + 1) k) (value_part (out max_depth t (d + 1))) (fields_out max_depth fs d true)) ∙ ap (λ j. entry_out j k t then fields_out max_depth fs d true) (sym same)
+first_entry : (k : Key) (t : Written) (fs : Fields) (d e l n : ℕ) (started : Bool) → e ≡ d + 1 → n ≡ l → BeginsWith l (entry_out n e k t) (fields fs) (fields (field k t fs)) d started
+first_entry k t fs d e l n started same is =
+    sym (then_assoc (key_part (d + 1) k) (value_part (out l t (d + 1))) (fields_out l fs d true)) ∙ ap (λ j. entry_out l j k t then fields_out l fs d true) (sym same)
+    ∙ ap (λ m. entry_out m e k t then fields_out l fs d true) (sym is)
 
 -- the parts of a variant's object
 variant_parts : (a b c d e f g : Out) → a then (b then ((c then ((d then e) then f)) then g)) ≡ (a then (b then (c then d))) then (e then (f then g))
@@ -36,30 +36,30 @@ variant_parts a b c d e f g =
     let inside = then_assoc c ((d then e) then f) g ∙ ap (λ o. c then o) (then_assoc (d then e) f g ∙ then_assoc d e (f then g)) in
     ap (λ o. a then (b then o)) inside ∙ sym (then_assoc a (b then (c then d)) x ∙ ap (λ o. a then o) (then_assoc b (c then d) x ∙ ap (λ o. b then o) (then_assoc c d x)))
 
-variant_list : (u : List ℕ) (ts : Elements) (d : ℕ) → out max_depth (tuple_variant u ts) d ≡ variant_opening u left_bracket d then (elements_out max_depth ts (d + 1) false then (piece (comma_sign ∷ []) then closing d true right_brace))
-variant_list u ts d =
-    variant_parts (opening max_depth d left_brace) (key_part (d + 1) (named u)) (piece (colon_sign ∷ space ∷ [])) (opening max_depth (d + 1) left_bracket) (elements_out max_depth ts (d + 1) false) (piece (comma_sign ∷ [])) (closing d true right_brace)
+variant_list : (l : ℕ) (u : List ℕ) (ts : Elements) (d : ℕ) → out l (tuple_variant u ts) d ≡ variant_opening l u left_bracket d then (elements_out l ts (d + 1) false then (piece (comma_sign ∷ []) then closing d true right_brace))
+variant_list l u ts d =
+    variant_parts (opening l d left_brace) (key_part (d + 1) (named u)) (piece (colon_sign ∷ space ∷ [])) (opening l (d + 1) left_bracket) (elements_out l ts (d + 1) false) (piece (comma_sign ∷ [])) (closing d true right_brace)
 
-variant_object : (u : List ℕ) (fs : Fields) (d : ℕ) → out max_depth (struct_variant u fs) d ≡ variant_opening u left_brace d then (fields_out max_depth fs (d + 1) false then (piece (comma_sign ∷ []) then closing d true right_brace))
-variant_object u fs d =
-    variant_parts (opening max_depth d left_brace) (key_part (d + 1) (named u)) (piece (colon_sign ∷ space ∷ [])) (opening max_depth (d + 1) left_brace) (fields_out max_depth fs (d + 1) false) (piece (comma_sign ∷ [])) (closing d true right_brace)
+variant_object : (l : ℕ) (u : List ℕ) (fs : Fields) (d : ℕ) → out l (struct_variant u fs) d ≡ variant_opening l u left_brace d then (fields_out l fs (d + 1) false then (piece (comma_sign ∷ []) then closing d true right_brace))
+variant_object l u fs d =
+    variant_parts (opening l d left_brace) (key_part (d + 1) (named u)) (piece (colon_sign ∷ space ∷ [])) (opening l (d + 1) left_brace) (fields_out l fs (d + 1) false) (piece (comma_sign ∷ [])) (closing d true right_brace)
 
 -- ---- no collection was begun
 
 refused_first : {A : Type 0} (all o rest : Out) (at last : Seen) (e : Error) (result : Result A Error) → all ≡ o then rest → Refuses o at e last → IsErrAnd result (λ y. y ≡ e) → Writes all at result last
 refused_first all o rest at last e result same p is = Writes-handed all at last e result is (subst (λ x. Refuses x at e last) (sym same) (Refuses-before o rest at last e p))
 
-pub list_refused : {A : Type 0} (ts : Elements) (at last : Seen) (e : Error) (result : Result A Error) → Refuses (opening max_depth at.depth left_bracket) at e last → IsErrAnd result (λ y. y ≡ e) → WritesTree (array ts) at result last
-list_refused ts at last e result p is = refused_first _ (opening max_depth at.depth left_bracket) (elements_out max_depth ts at.depth false) at last e result refl p is
+pub list_refused : {A : Type 0} (ts : Elements) (at last : Seen) (e : Error) (result : Result A Error) → Refuses (opening at.limit at.depth left_bracket) at e last → IsErrAnd result (λ y. y ≡ e) → WritesTree (array ts) at result last
+list_refused ts at last e result p is = refused_first _ (opening at.limit at.depth left_bracket) (elements_out at.limit ts at.depth false) at last e result refl p is
 
-pub object_refused : {A : Type 0} (fs : Fields) (at last : Seen) (e : Error) (result : Result A Error) → Refuses (opening max_depth at.depth left_brace) at e last → IsErrAnd result (λ y. y ≡ e) → WritesTree (object fs) at result last
-object_refused fs at last e result p is = refused_first _ (opening max_depth at.depth left_brace) (fields_out max_depth fs at.depth false) at last e result refl p is
+pub object_refused : {A : Type 0} (fs : Fields) (at last : Seen) (e : Error) (result : Result A Error) → Refuses (opening at.limit at.depth left_brace) at e last → IsErrAnd result (λ y. y ≡ e) → WritesTree (object fs) at result last
+object_refused fs at last e result p is = refused_first _ (opening at.limit at.depth left_brace) (fields_out at.limit fs at.depth false) at last e result refl p is
 
-pub variant_list_refused : {A : Type 0} (u : List ℕ) (ts : Elements) (at last : Seen) (e : Error) (result : Result A Error) → Refuses (variant_opening u left_bracket at.depth) at e last → IsErrAnd result (λ y. y ≡ e) → WritesTree (tuple_variant u ts) at result last
-variant_list_refused u ts at last e result p is = refused_first _ (variant_opening u left_bracket at.depth) _ at last e result (variant_list u ts at.depth) p is
+pub variant_list_refused : {A : Type 0} (u : List ℕ) (ts : Elements) (at last : Seen) (e : Error) (result : Result A Error) → Refuses (variant_opening at.limit u left_bracket at.depth) at e last → IsErrAnd result (λ y. y ≡ e) → WritesTree (tuple_variant u ts) at result last
+variant_list_refused u ts at last e result p is = refused_first _ (variant_opening at.limit u left_bracket at.depth) _ at last e result (variant_list at.limit u ts at.depth) p is
 
-pub variant_object_refused : {A : Type 0} (u : List ℕ) (fs : Fields) (at last : Seen) (e : Error) (result : Result A Error) → Refuses (variant_opening u left_brace at.depth) at e last → IsErrAnd result (λ y. y ≡ e) → WritesTree (struct_variant u fs) at result last
-variant_object_refused u fs at last e result p is = refused_first _ (variant_opening u left_brace at.depth) _ at last e result (variant_object u fs at.depth) p is
+pub variant_object_refused : {A : Type 0} (u : List ℕ) (fs : Fields) (at last : Seen) (e : Error) (result : Result A Error) → Refuses (variant_opening at.limit u left_brace at.depth) at e last → IsErrAnd result (λ y. y ≡ e) → WritesTree (struct_variant u fs) at result last
+variant_object_refused u fs at last e result p is = refused_first _ (variant_opening at.limit u left_brace at.depth) _ at last e result (variant_object at.limit u fs at.depth) p is
 
 item_first : {A : Type 0} (xs : List A) (i : ℕ) (x : A) → i < length xs → x ≡ get_or xs i x → drop i xs ≡ x ∷ drop (i + 1) xs
 item_first xs i x h e = rw add-one (drop-cons xs i x h ∙ ap (λ y. y ∷ drop (suc i) xs) (sym e))
@@ -74,26 +74,26 @@ module _ {W : Type 0} where
   object_begun fs {ser} {c} o = remains_all (object fs) ser c (fields fs) (object_opening ser) false refl o refl
 
   pub variant_list_begun : (u : List ℕ) (ts : Elements) {ser : MutBor Seen} {c : SerializeCollection W} → VariantListBegun u ser c → Remains (tuple_variant u ts) ser.ghost_name ser.now c (elements ts)
-  variant_list_begun u ts {ser} {c} o = remains_all _ ser c (elements ts) (variant_opening u left_bracket ser.now.depth) true (variant_list u ts ser.now.depth) o refl
+  variant_list_begun u ts {ser} {c} o = remains_all _ ser c (elements ts) (variant_opening ser.now.limit u left_bracket ser.now.depth) true (variant_list ser.now.limit u ts ser.now.depth) o refl
 
   pub variant_object_begun : (u : List ℕ) (fs : Fields) {ser : MutBor Seen} {c : SerializeCollection W} → VariantObjectBegun u ser c → Remains (struct_variant u fs) ser.ghost_name ser.now c (fields fs)
-  variant_object_begun u fs {ser} {c} o = remains_all _ ser c (fields fs) (variant_opening u left_brace ser.now.depth) true (variant_object u fs ser.now.depth) o refl
+  variant_object_begun u fs {ser} {c} o = remains_all _ ser c (fields fs) (variant_opening ser.now.limit u left_brace ser.now.depth) true (variant_object ser.now.limit u fs ser.now.depth) o refl
 
   -- ---- elements
 
-  pub element_on : {t u : Written} {name : GName} {at : Seen} {c n : SerializeCollection W} {ts : Elements} {x : ⊤} → Remains t name at c (elements (element u ts)) → Steps (element_out (seen c).depth (out max_depth u (seen c).depth)) false c (Ok x) n → Remains t name at n (elements ts)
+  pub element_on : {t u : Written} {name : GName} {at : Seen} {c n : SerializeCollection W} {ts : Elements} {x : ⊤} → Remains t name at c (elements (element u ts)) → Steps (element_out (seen c).depth (out (seen c).limit u (seen c).depth)) false c (Ok x) n → Remains t name at n (elements ts)
   element_on {t} {u} {name} {at} {c} {n} {ts} {x} h s =
-      remains_on t name at c n (elements (element u ts)) (elements ts) (element_out (seen c).depth (out max_depth u (seen c).depth)) x (first_element u ts (inner (in_variant c) at.depth) (seen c).depth (has_member c) h.depth) refl h s
+      remains_on t name at c n (elements (element u ts)) (elements ts) (element_out (seen c).depth (out (seen c).limit u (seen c).depth)) x (first_element u ts (inner (in_variant c) at.depth) (seen c).depth at.limit (seen c).limit (has_member c) h.depth h.limit) refl h s
 
   pub element_refused : {A : Type 0} {t u : Written} {name : GName} {at : Seen} {c n : SerializeCollection W} {ts : Elements} {e : Error} (result : Result A Error) → Remains t name at c (elements (element u ts))
-      → Steps (element_out (seen c).depth (out max_depth u (seen c).depth)) false c (Err e) n → IsErrAnd result (λ y. y ≡ e) → {last lent : Seen} → lent ≡ held n → (name ≡ reference_of n → last ≡ lent) → WritesTree t at result last
+      → Steps (element_out (seen c).depth (out (seen c).limit u (seen c).depth)) false c (Err e) n → IsErrAnd result (λ y. y ≡ e) → {last lent : Seen} → lent ≡ held n → (name ≡ reference_of n → last ≡ lent) → WritesTree t at result last
   element_refused {A} {t} {u} {name} {at} {c} {n} {ts} {e} result h s is {last} {lent} dropped follows =
-      remains_refused t name at last lent c n (elements (element u ts)) (elements ts) (element_out (seen c).depth (out max_depth u (seen c).depth)) false e result (first_element u ts (inner (in_variant c) at.depth) (seen c).depth (has_member c) h.depth) h s is dropped follows
+      remains_refused t name at last lent c n (elements (element u ts)) (elements ts) (element_out (seen c).depth (out (seen c).limit u (seen c).depth)) false e result (first_element u ts (inner (in_variant c) at.depth) (seen c).depth at.limit (seen c).limit (has_member c) h.depth h.limit) h s is dropped follows
 
   pub list_ended : {A : Type 0} {t : Written} {name : GName} {at : Seen} {c : SerializeCollection W} (n : Seen) (r : Result A Error) → Remains t name at c (elements no_element) → Writes (ending c) (outside c) r n → {last : Seen} → (name ≡ reference_of c → last ≡ n) → WritesTree t at r last
   list_ended {A} {t} {name} {at} {c} n r h w {last} follows =
-      let whole_tree = ends_whole (in_variant c) (has_member c) c.brackets right_bracket (out max_depth t at.depth) at (seen c) n r h.depth (closes_list c.brackets h.list) h.reaches w in
-      subst (Writes (out max_depth t at.depth) at r) (sym (follows (sym h.same_reference))) whole_tree
+      let whole_tree = ends_whole (in_variant c) (has_member c) c.brackets right_bracket (out at.limit t at.depth) at (seen c) n r h.depth (closes_list c.brackets h.list) h.reaches w in
+      subst (Writes (out at.limit t at.depth) at r) (sym (follows (sym h.same_reference))) whole_tree
 
   pub next_item : {A : Type 0} (tree : A → Written) (xs : List A) (i : ℕ) (x : A) {t : Written} {name : GName} {at : Seen} {c : SerializeCollection W} → i < length xs → x ≡ get_or xs i x → Remains t name at c (elements (elements_of tree (drop i xs)))
       → Remains t name at c (elements (element (tree x) (elements_of tree (drop (i + 1) xs))))
@@ -106,30 +106,30 @@ module _ {W : Type 0} where
 
   pub key_on : {t u : Written} {k : Key} {name : GName} {at : Seen} {c n : SerializeCollection W} {fs : Fields} {x : ⊤} → Remains t name at c (fields (field k u fs)) → Steps (key_part (seen c).depth k) true c (Ok x) n → Remains t name at n (value u fs)
   key_on {t} {u} {k} {name} {at} {c} {n} {fs} {x} h s =
-      remains_on t name at c n (fields (field k u fs)) (value u fs) (key_part (seen c).depth k) x (first_key k u fs (inner (in_variant c) at.depth) (seen c).depth (has_member c) h.depth) refl h s
+      remains_on t name at c n (fields (field k u fs)) (value u fs) (key_part (seen c).depth k) x (first_key k u fs (inner (in_variant c) at.depth) (seen c).depth at.limit (has_member c) h.depth) refl h s
 
   pub key_refused : {A : Type 0} {t u : Written} {k : Key} {name : GName} {at : Seen} {c n : SerializeCollection W} {fs : Fields} {e : Error} (result : Result A Error) → Remains t name at c (fields (field k u fs))
       → Steps (key_part (seen c).depth k) true c (Err e) n → IsErrAnd result (λ y. y ≡ e) → {last lent : Seen} → lent ≡ held n → (name ≡ reference_of n → last ≡ lent) → WritesTree t at result last
   key_refused {A} {t} {u} {k} {name} {at} {c} {n} {fs} {e} result h s is {last} {lent} dropped follows =
-      remains_refused t name at last lent c n (fields (field k u fs)) (value u fs) (key_part (seen c).depth k) true e result (first_key k u fs (inner (in_variant c) at.depth) (seen c).depth (has_member c) h.depth) h s is dropped follows
+      remains_refused t name at last lent c n (fields (field k u fs)) (value u fs) (key_part (seen c).depth k) true e result (first_key k u fs (inner (in_variant c) at.depth) (seen c).depth at.limit (has_member c) h.depth) h s is dropped follows
 
-  pub value_on : {t u : Written} {name : GName} {at : Seen} {c n : SerializeCollection W} {fs : Fields} {x : ⊤} → Remains t name at c (value u fs) → Steps (value_part (out max_depth u (seen c).depth)) false c (Ok x) n → Remains t name at n (fields fs)
+  pub value_on : {t u : Written} {name : GName} {at : Seen} {c n : SerializeCollection W} {fs : Fields} {x : ⊤} → Remains t name at c (value u fs) → Steps (value_part (out (seen c).limit u (seen c).depth)) false c (Ok x) n → Remains t name at n (fields fs)
   value_on {t} {u} {name} {at} {c} {n} {fs} {x} h s =
-      remains_on t name at c n (value u fs) (fields fs) (value_part (out max_depth u (seen c).depth)) x (first_value u fs (inner (in_variant c) at.depth) (seen c).depth (has_member c) h.depth) refl h s
+      remains_on t name at c n (value u fs) (fields fs) (value_part (out (seen c).limit u (seen c).depth)) x (first_value u fs (inner (in_variant c) at.depth) (seen c).depth at.limit (seen c).limit (has_member c) h.depth h.limit) refl h s
 
   pub value_refused : {A : Type 0} {t u : Written} {name : GName} {at : Seen} {c n : SerializeCollection W} {fs : Fields} {e : Error} (result : Result A Error) → Remains t name at c (value u fs)
-      → Steps (value_part (out max_depth u (seen c).depth)) false c (Err e) n → IsErrAnd result (λ y. y ≡ e) → {last lent : Seen} → lent ≡ held n → (name ≡ reference_of n → last ≡ lent) → WritesTree t at result last
+      → Steps (value_part (out (seen c).limit u (seen c).depth)) false c (Err e) n → IsErrAnd result (λ y. y ≡ e) → {last lent : Seen} → lent ≡ held n → (name ≡ reference_of n → last ≡ lent) → WritesTree t at result last
   value_refused {A} {t} {u} {name} {at} {c} {n} {fs} {e} result h s is {last} {lent} dropped follows =
-      remains_refused t name at last lent c n (value u fs) (fields fs) (value_part (out max_depth u (seen c).depth)) false e result (first_value u fs (inner (in_variant c) at.depth) (seen c).depth (has_member c) h.depth) h s is dropped follows
+      remains_refused t name at last lent c n (value u fs) (fields fs) (value_part (out (seen c).limit u (seen c).depth)) false e result (first_value u fs (inner (in_variant c) at.depth) (seen c).depth at.limit (seen c).limit (has_member c) h.depth h.limit) h s is dropped follows
 
-  pub field_on : {t u : Written} {k : Key} {name : GName} {at : Seen} {c n : SerializeCollection W} {fs : Fields} {x : ⊤} → Remains t name at c (fields (field k u fs)) → Steps (entry_out (seen c).depth k u) false c (Ok x) n → Remains t name at n (fields fs)
+  pub field_on : {t u : Written} {k : Key} {name : GName} {at : Seen} {c n : SerializeCollection W} {fs : Fields} {x : ⊤} → Remains t name at c (fields (field k u fs)) → Steps (entry_out (seen c).limit (seen c).depth k u) false c (Ok x) n → Remains t name at n (fields fs)
   field_on {t} {u} {k} {name} {at} {c} {n} {fs} {x} h s =
-      remains_on t name at c n (fields (field k u fs)) (fields fs) (entry_out (seen c).depth k u) x (first_entry k u fs (inner (in_variant c) at.depth) (seen c).depth (has_member c) h.depth) refl h s
+      remains_on t name at c n (fields (field k u fs)) (fields fs) (entry_out (seen c).limit (seen c).depth k u) x (first_entry k u fs (inner (in_variant c) at.depth) (seen c).depth at.limit (seen c).limit (has_member c) h.depth h.limit) refl h s
 
   pub field_refused : {A : Type 0} {t u : Written} {k : Key} {name : GName} {at : Seen} {c n : SerializeCollection W} {fs : Fields} {e : Error} (result : Result A Error) → Remains t name at c (fields (field k u fs))
-      → Steps (entry_out (seen c).depth k u) false c (Err e) n → IsErrAnd result (λ y. y ≡ e) → {last lent : Seen} → lent ≡ held n → (name ≡ reference_of n → last ≡ lent) → WritesTree t at result last
+      → Steps (entry_out (seen c).limit (seen c).depth k u) false c (Err e) n → IsErrAnd result (λ y. y ≡ e) → {last lent : Seen} → lent ≡ held n → (name ≡ reference_of n → last ≡ lent) → WritesTree t at result last
   field_refused {A} {t} {u} {k} {name} {at} {c} {n} {fs} {e} result h s is {last} {lent} dropped follows =
-      remains_refused t name at last lent c n (fields (field k u fs)) (fields fs) (entry_out (seen c).depth k u) false e result (first_entry k u fs (inner (in_variant c) at.depth) (seen c).depth (has_member c) h.depth) h s is dropped follows
+      remains_refused t name at last lent c n (fields (field k u fs)) (fields fs) (entry_out (seen c).limit (seen c).depth k u) false e result (first_entry k u fs (inner (in_variant c) at.depth) (seen c).depth at.limit (seen c).limit (has_member c) h.depth h.limit) h s is dropped follows
 
   -- fields that may be left out: what remains where it is known which are
   pub same_fields : {t : Written} {name : GName} {at : Seen} {c : SerializeCollection W} {fs gs : Fields} → fs ≡ gs → Remains t name at c (fields fs) → Remains t name at c (fields gs)
@@ -140,8 +140,8 @@ module _ {W : Type 0} where
 
   pub object_ended : {A : Type 0} {t : Written} {name : GName} {at : Seen} {c : SerializeCollection W} (n : Seen) (r : Result A Error) → Remains t name at c (fields no_field) → Writes (ending c) (outside c) r n → {last : Seen} → (name ≡ reference_of c → last ≡ n) → WritesTree t at r last
   object_ended {A} {t} {name} {at} {c} n r h w {last} follows =
-      let whole_tree = ends_whole (in_variant c) (has_member c) c.brackets right_brace (out max_depth t at.depth) at (seen c) n r h.depth (closes_object c.brackets h.list) h.reaches w in
-      subst (Writes (out max_depth t at.depth) at r) (sym (follows (sym h.same_reference))) whole_tree
+      let whole_tree = ends_whole (in_variant c) (has_member c) c.brackets right_brace (out at.limit t at.depth) at (seen c) n r h.depth (closes_object c.brackets h.list) h.reaches w in
+      subst (Writes (out at.limit t at.depth) at r) (sym (follows (sym h.same_reference))) whole_tree
 
   -- ---- loops
 

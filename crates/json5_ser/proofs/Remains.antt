@@ -5,7 +5,6 @@ use Rattle.std.specs.Result.{IsErrAnd}
 use Rattle.std.specs.Borrow.{GName, MutBor}
 use Rattle.json5_text.specs.declared.error.Error.{Error}
 use Rattle.json5_grammar.specs.Characters.{comma_sign, right_bracket, right_brace}
-use Rattle.json5_grammar.specs.Documents.{max_depth}
 use Rattle.json5_ser.specs.WrittenTrees.{Written, Elements, Fields}
 use Rattle.json5_ser.specs.Out.{Out, Stop, whole, invalid_key, too_deep, no_number, after, piece, ◌then◌, closing, out, elements_out, fields_out, value_part}
 use Rattle.json5_ser.specs.Writes.{Seen, Wrote, Refusal, by_key, by_depth, by_writer, by_refusal, by_none, refusal_of, RefusesBy, Refuses, Writes, WritesTree, at_depth}
@@ -34,22 +33,23 @@ is_value (fields fs) = false
 is_value (value t fs) = true
 
 -- its text in a collection within d others; the test says that something stands in it already
-abbrev pub rest_out : Rest → ℕ → Bool → Out
-rest_out (elements ts) d started = elements_out max_depth ts d started
-rest_out (fields fs) d started = fields_out max_depth fs d started
-rest_out (value t fs) d started = value_part (out max_depth t (d + 1)) then fields_out max_depth fs d true
+abbrev pub rest_out : ℕ → Rest → ℕ → Bool → Out
+rest_out limit (elements ts) d started = elements_out limit ts d started
+rest_out limit (fields fs) d started = fields_out limit fs d started
+rest_out limit (value t fs) d started = value_part (out limit t (d + 1)) then fields_out limit fs d true
 
 -- of the tree t, which was begun at `at`, this remains to be written in the collection, which holds the reference of this name
 pub record Remains {W : Type 0} (t : Written) (name : GName) (at : Seen) (c : SerializeCollection W) (r : Rest) : Type 0 where
   pub same_reference : reference_of c ≡ name
-  pub reaches : Reaches (out max_depth t at.depth) at (at_depth at.depth (seen c)) (within_variant (in_variant c) at.depth (rest_out r (inner (in_variant c) at.depth) (has_member c)))
+  pub reaches : Reaches (out at.limit t at.depth) at (at_depth at.depth (seen c)) (within_variant (in_variant c) at.depth (rest_out at.limit r (inner (in_variant c) at.depth) (has_member c)))
   pub depth : (seen c).depth ≡ inner (in_variant c) at.depth + 1
+  pub limit : (seen c).limit ≡ at.limit
   pub list : is_list c ≡ is_of_list r
   pub pending : key_pending c ≡ is_value r
 
 -- the same with another count of brackets
 pub Wrote-at : (d : ℕ) (w : Out) (o n : Seen) → Wrote w o n → Wrote w (at_depth d o) (at_depth d n)
-Wrote-at d w o n p = record { was = p.was; stop = p.stop; chars = p.chars; bytes = p.bytes; depth = refl; failed = p.failed }
+Wrote-at d w o n p = record { was = p.was; stop = p.stop; chars = p.chars; bytes = p.bytes; depth = refl; limit = p.limit; failed = p.failed }
 
 RefusesBy-at : (d e : ℕ) (w : Out) (o n : Seen) (r : Refusal) → RefusesBy w o r n → RefusesBy w (at_depth d o) r (at_depth e n)
 RefusesBy-at d e w o n by_key p = record { was = p.was; stop = p.stop; bytes = p.bytes; failed = p.failed }
@@ -105,15 +105,15 @@ variant_then true d a b = then_assoc a b (piece (comma_sign ∷ []) then closing
 variant_then false d a b = refl
 
 -- the text of what remains, and of what closes after it
-abbrev pub rest_in : Bool → ℕ → Rest → Bool → Out
-rest_in v d r started = within_variant v d (rest_out r (inner v d) started)
+abbrev pub rest_in : ℕ → Bool → ℕ → Rest → Bool → Out
+rest_in limit v d r started = within_variant v d (rest_out limit r (inner v d) started)
 
 -- a part, and then this rest
-abbrev pub BeginsWith : Out → Rest → Rest → ℕ → Bool → Type 0
-BeginsWith part rest r d started = rest_out r d started ≡ part then rest_out rest d true
+abbrev pub BeginsWith : ℕ → Out → Rest → Rest → ℕ → Bool → Type 0
+BeginsWith limit part rest r d started = rest_out limit r d started ≡ part then rest_out limit rest d true
 
-left_first : (all part : Out) (at o : Seen) (v : Bool) (r rest : Rest) (started : Bool) → BeginsWith part rest r (inner v at.depth) started → Reaches all at o (rest_in v at.depth r started) → Reaches all at o (part then rest_in v at.depth rest true)
-left_first all part at o v r rest started e h = subst (Reaches all at o) (ap (within_variant v at.depth) e ∙ variant_then v at.depth part (rest_out rest (inner v at.depth) true)) h
+left_first : (all part : Out) (at o : Seen) (v : Bool) (r rest : Rest) (started : Bool) → BeginsWith at.limit part rest r (inner v at.depth) started → Reaches all at o (rest_in at.limit v at.depth r started) → Reaches all at o (part then rest_in at.limit v at.depth rest true)
+left_first all part at o v r rest started e h = subst (Reaches all at o) (ap (within_variant v at.depth) e ∙ variant_then v at.depth part (rest_out at.limit rest (inner v at.depth) true)) h
 
 -- the serializer that a collection holds stands as failed after a refusal too
 lender-by : (w : Out) (o n : Seen) (d : ℕ) (f : Bool) (r : Refusal) → n.failed ≡ true → RefusesBy w o r (record n { depth = d; failed = f }) → RefusesBy w o r n
@@ -130,40 +130,42 @@ same_inner : (v w : Bool) (d : ℕ) → w ≡ v → inner v d ≡ inner w d
 same_inner v w d e = ap (λ b. inner b d) (sym e)
 
 module _ {W : Type 0} where
-  pub remains_on : (t : Written) (name : GName) (at : Seen) (c n : SerializeCollection W) (r rest : Rest) (part : Out) (x : ⊤) → BeginsWith part rest r (inner (in_variant c) at.depth) (has_member c) → is_of_list r ≡ is_of_list rest
+  pub remains_on : (t : Written) (name : GName) (at : Seen) (c n : SerializeCollection W) (r rest : Rest) (part : Out) (x : ⊤) → BeginsWith at.limit part rest r (inner (in_variant c) at.depth) (has_member c) → is_of_list r ≡ is_of_list rest
       → Remains t name at c r → Steps part (is_value rest) c (Ok x) n → Remains t name at n rest
   remains_on t name at c n r rest part x e same h s =
-      let all = out max_depth t at.depth in
+      let all = out at.limit t at.depth in
       let d = at.depth in
-      let on = Reaches-next all part (rest_in (in_variant c) d rest true) at (at_depth d (seen c)) (at_depth d (seen n)) (left_first all part at (at_depth d (seen c)) (in_variant c) r rest (has_member c) e h.reaches) (Wrote-at d part (seen c) (seen n) s.writes) in
+      let on = Reaches-next all part (rest_in at.limit (in_variant c) d rest true) at (at_depth d (seen c)) (at_depth d (seen n)) (left_first all part at (at_depth d (seen c)) (in_variant c) r rest (has_member c) e h.reaches) (Wrote-at d part (seen c) (seen n) s.writes) in
       record {
         same_reference = s.same_reference ∙ h.same_reference;
-        reaches = subst (λ v. Reaches all at (at_depth d (seen n)) (rest_in v d rest (has_member n))) (sym s.variant) (subst (λ b. Reaches all at (at_depth d (seen n)) (rest_in (in_variant c) d rest b)) (sym s.started) on);
+        reaches = subst (λ v. Reaches all at (at_depth d (seen n)) (rest_in at.limit v d rest (has_member n))) (sym s.variant) (subst (λ b. Reaches all at (at_depth d (seen n)) (rest_in at.limit (in_variant c) d rest b)) (sym s.started) on);
         depth = s.writes.depth ∙ (h.depth ∙ ap (λ k. k + 1) (same_inner (in_variant c) (in_variant n) d s.variant));
+        limit = s.writes.limit ∙ h.limit;
         list = s.list ∙ (h.list ∙ same);
         pending = s.pending;
       }
 
   pub remains_refused : {A : Type 0} (t : Written) (name : GName) (at last lent : Seen) (c n : SerializeCollection W) (r rest : Rest) (part : Out) (pending : Bool) (e : Error) (result : Result A Error)
-      → BeginsWith part rest r (inner (in_variant c) at.depth) (has_member c) → Remains t name at c r → Steps part pending c (Err e) n → IsErrAnd result (λ y. y ≡ e) → lent ≡ held n → (name ≡ reference_of n → last ≡ lent) → WritesTree t at result last
+      → BeginsWith at.limit part rest r (inner (in_variant c) at.depth) (has_member c) → Remains t name at c r → Steps part pending c (Err e) n → IsErrAnd result (λ y. y ≡ e) → lent ≡ held n → (name ≡ reference_of n → last ≡ lent) → WritesTree t at result last
   remains_refused t name at last lent c n r rest part pending e result b h s is dropped follows =
-      let all = out max_depth t at.depth in
+      let all = out at.limit t at.depth in
       let d = at.depth in
       let left = left_first all part at (at_depth d (seen c)) (in_variant c) r rest (has_member c) b h.reaches in
-      let refused = left.refused (at_depth d (seen n)) e (Refuses-before part (rest_in (in_variant c) d rest true) (at_depth d (seen c)) (at_depth d (seen n)) e (Refuses-at d d part (seen c) (seen n) e s.writes)) in
+      let refused = left.refused (at_depth d (seen n)) e (Refuses-before part (rest_in at.limit (in_variant c) d rest true) (at_depth d (seen c)) (at_depth d (seen n)) e (Refuses-at d d part (seen c) (seen n) e s.writes)) in
       let where_left = Writes-handed all at (held n) e result is (Refuses-lender all at (held n) d (seen n).failed e s.blocks refused) in
       subst (Writes all at result) (sym (follows (sym (s.same_reference ∙ h.same_reference)) ∙ dropped)) where_left
 
-  pub remains_all : (t : Written) (ser : MutBor Seen) (c : SerializeCollection W) (r : Rest) (o : Out) (v : Bool) → out max_depth t ser.now.depth ≡ o then rest_in v ser.now.depth r false → Opened o (is_of_list r) v ser c → is_value r ≡ false → Remains t ser.ghost_name ser.now c r
+  pub remains_all : (t : Written) (ser : MutBor Seen) (c : SerializeCollection W) (r : Rest) (o : Out) (v : Bool) → out ser.now.limit t ser.now.depth ≡ o then rest_in ser.now.limit v ser.now.depth r false → Opened o (is_of_list r) v ser c → is_value r ≡ false → Remains t ser.ghost_name ser.now c r
   remains_all t ser c r o v e p first =
       let at = ser.now in
       let d = at.depth in
-      let all = out max_depth t d in
-      let begun = subst (λ x. Reaches x at (at_depth d (seen c)) (rest_in v d r false)) (sym e) (Reaches-first o (rest_in v d r false) at (at_depth d (seen c)) p.wrote) in
+      let all = out at.limit t d in
+      let begun = subst (λ x. Reaches x at (at_depth d (seen c)) (rest_in at.limit v d r false)) (sym e) (Reaches-first o (rest_in at.limit v d r false) at (at_depth d (seen c)) p.wrote) in
       record {
         same_reference = p.same_reference;
-        reaches = subst (λ b. Reaches all at (at_depth d (seen c)) (rest_in b d r (has_member c))) (sym p.variant) (subst (λ b. Reaches all at (at_depth d (seen c)) (rest_in v d r b)) (sym p.empty) begun);
+        reaches = subst (λ b. Reaches all at (at_depth d (seen c)) (rest_in at.limit b d r (has_member c))) (sym p.variant) (subst (λ b. Reaches all at (at_depth d (seen c)) (rest_in at.limit v d r b)) (sym p.empty) begun);
         depth = p.depth ∙ ap (λ k. k + 1) (same_inner v (in_variant c) d p.variant);
+        limit = p.wrote.limit;
         list = p.list;
         pending = p.pending ∙ sym first;
       }

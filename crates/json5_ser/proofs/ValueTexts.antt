@@ -4,7 +4,7 @@ use Rattle.json5_text.specs.declared.value.Value.{Value}
 use Rattle.json5_text.specs.ValueViews as datum
 use Rattle.json5_text.specs.ValueViews.{Datum, Items, no_item, item, value_of}
 use Rattle.json5_ser.specs.WrittenTrees.{Written, null, boolean, number, text, array, object, Elements, no_element, element, Fields, no_field, field, named, bad}
-use Rattle.json5_ser.specs.Out.{Out, Stop, whole, invalid_key, too_deep, no_number, piece, stopped, after, ◌then◌, out, elements_out, fields_out, opening, closing, element_out, value_part, text_of}
+use Rattle.json5_ser.specs.Out.{Out, Stop, whole, invalid_key, too_deep, no_number, piece, stopped, after, ◌then◌, out, elements_out, fields_out, opening, closing, element_out, value_part, text_within}
 use Rattle.json5_ser.specs.Writable.{is_writable}
 use Rattle.json5_grammar.specs.NumberText.{number_text}
 use Rattle.json5_ser.specs.ValueTrees.{datum_tree, items_tree, fields_tree, value_tree}
@@ -50,10 +50,10 @@ mutual
 pub one_datum : (x y : Datum) → datum_tree x ≡ datum_tree y → x ≡ y
 one_datum x y e = sym (datum_again x) ∙ (ap tree_datum e ∙ datum_again y)
 
-pub one_value : (v w : Value) → (text_of (value_tree v)).stop ≡ whole → text_of (value_tree v) ≡ text_of (value_tree w) ↔ value_of v ≡ value_of w
-one_value v w h = (
-  λ e. let p = piece_whole (text_of (value_tree v)) h in one_datum (value_of v) (value_of w) (one_tree_written 128 128 0 0 _ _ _ p (sym e ∙ p)),
-  λ e. ap (λ d. text_of (datum_tree d)) e,
+pub one_value : (limit : ℕ) (v w : Value) → (text_within limit (value_tree v)).stop ≡ whole → text_within limit (value_tree v) ≡ text_within limit (value_tree w) ↔ value_of v ≡ value_of w
+one_value limit v w h = (
+  λ e. let p = piece_whole (text_within limit (value_tree v)) h in one_datum (value_of v) (value_of w) (one_tree_written limit limit 0 0 _ _ _ p (sym e ∙ p)),
+  λ e. ap (λ d. text_within limit (datum_tree d)) e,
 )
 
 -- ---- each key of a value has a text

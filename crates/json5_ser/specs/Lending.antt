@@ -3,7 +3,6 @@ use Rattle.std.specs.Prelude.{◌≡◌, ℕ, ◌+◌, ◌-◌, List, [], ◌∷
 use Rattle.std.specs.Borrow.{Fml, GName, RattleType, MutBor, RestsIfErr}
 use Rattle.std.specs.declared.io.Write as write
 use Rattle.json5_grammar.specs.Characters.{comma_sign, left_bracket, left_brace, right_brace}
-use Rattle.json5_grammar.specs.Documents.{max_depth}
 use Rattle.json5_text.specs.declared.error.Error.{Error}
 use Rattle.json5_ser.specs.Out.{Out, piece, ◌then◌, opening, closing, variant_opening}
 use Rattle.json5_ser.specs.Writes.{Seen, Wrote, Refuses, Writes, at_depth}
@@ -25,10 +24,10 @@ inner false d = d
 
 -- the bracket of a list, and of an object, with which this serializer goes on
 abbrev pub list_opening : MutBor Seen → Out
-list_opening ser = opening max_depth ser.now.depth left_bracket
+list_opening ser = opening ser.now.limit ser.now.depth left_bracket
 
 abbrev pub object_opening : MutBor Seen → Out
-object_opening ser = opening max_depth ser.now.depth left_brace
+object_opening ser = opening ser.now.limit ser.now.depth left_brace
 
 module _ {W : Type 0} where
   -- the serializer itself, as the collection holds it
@@ -78,10 +77,10 @@ module _ {W : Type 0} where
 
   -- the same as what a variant of this name holds
   abbrev pub VariantListBegun : List ℕ → MutBor Seen → SerializeCollection W → Type 0
-  VariantListBegun name ser c = Opened (variant_opening name left_bracket ser.now.depth) true true ser c
+  VariantListBegun name ser c = Opened (variant_opening ser.now.limit name left_bracket ser.now.depth) true true ser c
 
   abbrev pub VariantObjectBegun : List ℕ → MutBor Seen → SerializeCollection W → Type 0
-  VariantObjectBegun name ser c = Opened (variant_opening name left_brace ser.now.depth) false true ser c
+  VariantObjectBegun name ser c = Opened (variant_opening ser.now.limit name left_brace ser.now.depth) false true ser c
 
   -- a call that has this text to write, after which a key waits for its value or none does. It blocks the serializer again
   pub record Steps (o : Out) (pending_next : Bool) (old : SerializeCollection W) (result : Result ⊤ Error) (new : SerializeCollection W) : Type 0 where
@@ -127,4 +126,4 @@ module _ (W : RattleType) (g : write.Ghosts W.Denot) where
   lends_object ser result = lends_serializer (object_opening ser) ser result
 
   abbrev pub lends_variant : List ℕ → ℕ → MutBor Seen → Result (SerializeCollection W.Denot) Error → Fml
-  lends_variant name bracket ser result = lends_serializer (variant_opening name bracket ser.now.depth) ser result
+  lends_variant name bracket ser result = lends_serializer (variant_opening ser.now.limit name bracket ser.now.depth) ser result

@@ -94,14 +94,17 @@ abbrev mutual
   fields_out limit no_field d started = closing d started right_brace
   fields_out limit (field k t fs) d started = key_part (d + 1) k then (value_part (out limit t (d + 1)) then fields_out limit fs d true)
 
--- the text of a whole tree
+-- the text of a whole tree, within a limit and at the full one
+abbrev pub text_within : ℕ → Written → Out
+text_within limit t = out limit t 0
+
 abbrev pub text_of : Written → Out
-text_of t = out max_depth t 0
+text_of = text_within max_depth
 
 -- a key of an object within d brackets, and its value
-abbrev pub entry_out : ℕ → Key → Written → Out
-entry_out d k t = key_part d k then value_part (out max_depth t d)
+abbrev pub entry_out : ℕ → ℕ → Key → Written → Out
+entry_out limit d k t = key_part d k then value_part (out limit t d)
 
 -- within d others, the object of a variant up to the bracket that opens what the variant holds
-abbrev pub variant_opening : List ℕ → ℕ → ℕ → Out
-variant_opening name bracket d = opening max_depth d left_brace then (key_part (d + 1) (named name) then (piece (colon_sign ∷ space ∷ []) then opening max_depth (d + 1) bracket))
+abbrev pub variant_opening : ℕ → List ℕ → ℕ → ℕ → Out
+variant_opening limit name bracket d = opening limit d left_brace then (key_part (d + 1) (named name) then (piece (colon_sign ∷ space ∷ []) then opening limit (d + 1) bracket))

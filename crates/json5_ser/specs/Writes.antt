@@ -9,10 +9,11 @@ use Rattle.json5_grammar.specs.Documents.{max_depth}
 use Rattle.json5_ser.specs.WrittenTrees.{Written}
 use Rattle.json5_ser.specs.Out.{Out, Stop, whole, invalid_key, too_deep, out}
 
--- the bytes that the writer holds, where they are known; how many brackets are open; whether a call was refused
+-- the bytes that the writer holds, where they are known; how many brackets are open; how many may be; whether a call was refused
 pub record Seen : Type 0 where
   pub known : Option (List ℕ)
   pub depth : ℕ
+  pub limit : ℕ
   pub failed : Bool
 
 -- the whole text was written, in UTF-8
@@ -22,6 +23,7 @@ pub record Wrote (o : Out) (old new : Seen) : Type 0 where
   pub chars : all_scalars o.text ≡ true
   pub bytes : Appends old.known new.known (encode_utf8_all o.text)
   pub depth : new.depth ≡ old.depth
+  pub limit : new.limit ≡ old.limit
   pub failed : new.failed ≡ false
 
 -- the text stops here, and was written up to there
@@ -80,18 +82,24 @@ abbrev pub Writes : {A : Type 0} → Out → Seen → Result A Error → Seen �
 Writes o old (Ok x) new = Wrote o old new
 Writes o old (Err e) new = Refuses o old e new
 
--- what a call did that writes this tree within the brackets that are open
+-- what a call did that writes this tree within the brackets that are open, and within the limit of the serializer
 abbrev pub WritesTree : {A : Type 0} → Written → Seen → Result A Error → Seen → Type 0
-WritesTree t old result new = Writes (out max_depth t old.depth) old result new
+WritesTree t old result new = Writes (out old.limit t old.depth) old result new
 
--- nothing is written yet
+-- nothing is written yet, within a limit and at the full one
+abbrev pub fresh_within : ℕ → Option (List ℕ) → Seen
+fresh_within limit known = record { known = known; depth = 0; limit = limit; failed = false }
+
 abbrev pub fresh : Option (List ℕ) → Seen
-fresh known = record { known = known; depth = 0; failed = false }
+fresh = fresh_within max_depth
 
 -- a whole text was written, or refused
+abbrev pub ended_within : {A : Type 0} → ℕ → Option (List ℕ) → Result A Error → Seen
+ended_within limit known (Ok x) = record { known = known; depth = 0; limit = limit; failed = false }
+ended_within limit known (Err e) = record { known = known; depth = 0; limit = limit; failed = true }
+
 abbrev pub ended : {A : Type 0} → Option (List ℕ) → Result A Error → Seen
-ended known (Ok x) = record { known = known; depth = 0; failed = false }
-ended known (Err e) = record { known = known; depth = 0; failed = true }
+ended = ended_within max_depth
 
 -- the same with so many brackets open
 abbrev pub at_depth : ℕ → Seen → Seen

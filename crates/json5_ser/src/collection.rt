@@ -2,7 +2,6 @@
 
 ghost use Rattle.std.specs.Prelude.{◌≡◌, true, false, IfOk};
 ghost use Rattle.std.specs.Borrow.{sem};
-ghost use Rattle.json5_grammar.specs.Documents.{max_depth};
 ghost use Rattle.std.specs.Str.{chars};
 ghost use Rattle.json5_grammar.specs.Characters.{left_bracket, left_brace};
 ghost use Rattle.json5_ser.specs.Brackets.{opening_sign};
@@ -50,15 +49,15 @@ impl<W: Write + Drop> Serializer<W> {
 
     /// A member of a list.
     fn element<T: Serialize>(&mut self, value: &T) -> Result<()>
-        ensures { Writes (element_out self.old.depth (out max_depth (T.tree value.now) self.old.depth)) self.old result self.new }
+        ensures { Writes (element_out self.old.depth (out self.old.limit (T.tree value.now) self.old.depth)) self.old result self.new }
     {
         self.start_line()?;
         value.serialize(self)?;
         self.put(",")
     }
 
-    /// Begins a list, and blocks the serializer while the collection writes its elements. It refuses with `TooDeep` where 128
-    /// brackets are open. The length changes nothing.
+    /// Begins a list, and blocks the serializer while the collection writes its elements. It refuses with `TooDeep` where as many
+    /// brackets are open as the limit allows. The length changes nothing.
     pub fn serialize_seq(&mut self, _len: Option<usize>) -> Result<SerializeCollection<'_, W>>
         ensures* lends { sem 𝓛 (lends_list W.row W.Write self.entry result) }
         ensures begun { IfOk result (ListBegun self.entry) }
@@ -95,7 +94,7 @@ impl<W: Write + Drop> Serializer<W> {
     }
 
     /// Begins an object, and blocks the serializer while the collection writes its keys and values. It refuses with `TooDeep`
-    /// where 128 brackets are open. The length changes nothing.
+    /// where as many brackets are open as the limit allows. The length changes nothing.
     pub fn serialize_map(&mut self, _len: Option<usize>) -> Result<SerializeCollection<'_, W>>
         ensures* lends { sem 𝓛 (lends_object W.row W.Write self.entry result) }
         ensures begun { IfOk result (ObjectBegun self.entry) }
@@ -124,7 +123,7 @@ impl<W: Write + Drop> Serializer<W> {
     }
 
     /// Begins an object with one key, the variant's name, whose value is the list. `end` of the list closes the object too. It
-    /// refuses with `TooDeep` where 127 brackets are open, after the key. The type's name, the index and the length change nothing.
+    /// refuses with `TooDeep` at the bracket past the limit, at the list's after the key. The type's name, the index and the length change nothing.
     pub fn serialize_tuple_variant(
         &mut self,
         _name: &'static str,
@@ -207,7 +206,7 @@ impl<W: Write + Drop> SerializeCollection<'_, W> {
     /// every later call answers `Failed`.
     pub fn serialize_element<T: Serialize>(&mut self, value: &T) -> Result<()>
         requires list { is_list self.old ≡ true }
-        ensures { Steps (element_out (seen self.old).depth (out max_depth (T.tree value.now) (seen self.old).depth)) false self.old result self.new }
+        ensures { Steps (element_out (seen self.old).depth (out (seen self.old).limit (T.tree value.now) (seen self.old).depth)) false self.old result self.new }
     {
         self.ser.set_failed(self.failed);
         let written = self.ser.element(value);
@@ -229,7 +228,7 @@ impl<W: Write + Drop> SerializeCollection<'_, W> {
     /// Writes the value of the key that waits for it, after `: ` and with a comma after it.
     pub fn serialize_value<T: Serialize>(&mut self, value: &T) -> Result<()>
         requires { key_pending self.old ≡ true }
-        ensures { Steps (value_part (out max_depth (T.tree value.now) (seen self.old).depth)) false self.old result self.new }
+        ensures { Steps (value_part (out (seen self.old).limit (T.tree value.now) (seen self.old).depth)) false self.old result self.new }
     {
         self.ser.set_failed(self.failed);
         let written = self.ser.value(value);
@@ -244,7 +243,7 @@ impl<W: Write + Drop> SerializeCollection<'_, W> {
     ) -> Result<()>
         requires object { is_list self.old ≡ false }
         requires no_key { key_pending self.old ≡ false }
-        ensures { Steps (entry_out (seen self.old).depth (K.as_key key.now) (T.tree value.now)) false self.old result self.new }
+        ensures { Steps (entry_out (seen self.old).limit (seen self.old).depth (K.as_key key.now) (T.tree value.now)) false self.old result self.new }
     {
         self.ser.set_failed(self.failed);
         let written = self.ser.entry(key, value);
@@ -255,7 +254,7 @@ impl<W: Write + Drop> SerializeCollection<'_, W> {
     pub fn serialize_field<T: Serialize>(&mut self, key: &'static str, value: &T) -> Result<()>
         requires object { is_list self.old ≡ false }
         requires no_key { key_pending self.old ≡ false }
-        ensures { Steps (entry_out (seen self.old).depth (named (chars key.now)) (T.tree value.now)) false self.old result self.new }
+        ensures { Steps (entry_out (seen self.old).limit (seen self.old).depth (named (chars key.now)) (T.tree value.now)) false self.old result self.new }
     {
         self.serialize_entry(&key, value)
     }

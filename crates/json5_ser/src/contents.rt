@@ -54,7 +54,7 @@ impl<W: Write + Drop> Serializer<W> {
         value.serialize(self)
     }
 
-    /// Writes an object with one key, the variant's name, and the value. It refuses with `TooDeep` where 128 brackets are open. The
+    /// Writes an object with one key, the variant's name, and the value. It refuses with `TooDeep` at the bracket past the limit. The
     /// type's name and the index change nothing.
     pub fn serialize_newtype_variant<T: Serialize>(
         &mut self,

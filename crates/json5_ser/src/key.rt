@@ -6,7 +6,6 @@ ghost use Rattle.hex.specs.Hex.{encode_lower};
 ghost use Rattle.json5_grammar.specs.NumberText.{decimal_text};
 ghost use Rattle.json5_ser.specs.WrittenTrees.{Key, named, option_key};
 ghost use Rattle.json5_ser.specs.Out.{out, key_part, value_part, entry_out, variant_opening, bool_text};
-ghost use Rattle.json5_grammar.specs.Documents.{max_depth};
 ghost use Rattle.json5_ser.specs.Brackets.{opening_sign};
 ghost use Rattle.json5_ser.specs.Writes.{Writes, at_depth};
 ghost use Rattle.json5_ser.specs.Keys.{WritesKey};
@@ -87,7 +86,7 @@ impl<W: Write + Drop> Serializer<W> {
 
     /// A key, and its value.
     pub(crate) fn entry<K: SerializeKey, T: Serialize>(&mut self, key: &K, value: &T) -> Result<()>
-        ensures { Writes (entry_out self.old.depth (K.as_key key.now) (T.tree value.now)) self.old result self.new }
+        ensures { Writes (entry_out self.old.limit self.old.depth (K.as_key key.now) (T.tree value.now)) self.old result self.new }
     {
         self.key(key)?;
         self.value(value)
@@ -95,7 +94,7 @@ impl<W: Write + Drop> Serializer<W> {
 
     /// Opens the object of a variant, and what the variant holds.
     pub(crate) fn open_variant(&mut self, variant: &'static str, brackets: Brackets) -> Result<()>
-        ensures opens { Writes (variant_opening (chars variant.now) (opening_sign brackets) self.old.depth) self.old result (at_depth self.old.depth self.new) }
+        ensures opens { Writes (variant_opening self.old.limit (chars variant.now) (opening_sign brackets) self.old.depth) self.old result (at_depth self.old.depth self.new) }
         ensures deeper { OnOk result (self.new.depth ≡ self.old.depth + 1 + 1) }
     {
         self.open(Brackets::Curly)?;
@@ -106,7 +105,7 @@ impl<W: Write + Drop> Serializer<W> {
 
     /// The value after a key.
     pub(crate) fn value<T: Serialize>(&mut self, value: &T) -> Result<()>
-        ensures { Writes (value_part (out max_depth (T.tree value.now) self.old.depth)) self.old result self.new }
+        ensures { Writes (value_part (out self.old.limit (T.tree value.now) self.old.depth)) self.old result self.new }
     {
         self.put(": ")?;
         value.serialize(self)?;

@@ -27,4 +27,4 @@ pub use collection::SerializeCollection;
 pub use key::{MapKey, SerializeKey};
 pub use serialize::Serialize;
 pub use serializer::Serializer;
-pub use texts::{to_string, to_writer};
+pub use texts::{to_string, to_string_within, to_writer, to_writer_within};

@@ -12,7 +12,7 @@ ghost use Rattle.json5_text.specs.Errors.{code, kind_of, place_of};
 ghost use Rattle.json5_grammar.specs.Characters.{comma_sign, right_brace};
 ghost use Rattle.json5_ser.specs.Brackets.{opening_sign, closing_sign};
 ghost use Rattle.json5_ser.specs.Stages.{is_started};
-ghost use Rattle.json5_ser.specs.Writes.{Seen, Writes, WritesTree, fresh, at_depth};
+ghost use Rattle.json5_ser.specs.Writes.{Seen, Writes, WritesTree, fresh, fresh_within, at_depth};
 
 use crate::Serialize;
 use crate::brackets::Brackets;
@@ -23,6 +23,7 @@ use crate::stage::Stage;
 use itoa::{Buffer, Integer};
 use json5_text::ErrorCode;
 use json5_text::error::{Error, Result};
+use json5_text::nesting::Limit;
 use std::io::Write;
 use std::marker::Model;
 
@@ -33,25 +34,35 @@ use std::marker::Model;
 pub struct Serializer<W: Write + Drop> {
     writer: W,
     depth: u8,
+    limit: Limit,
     failed: bool,
 }
 
 impl<W: Write + Drop> Model for Serializer<W> {
     ghost Value = { Seen };
 
-    ghost view = { λ s. record { known = W.contents s.writer; depth = s.depth; failed = s.failed } };
+    ghost view = { λ s. record { known = W.contents s.writer; depth = s.depth; limit = s.limit; failed = s.failed } };
 
     ghost invariant = { λ s. s.depth ≤ max_depth };
 }
 
 impl<W: Write + Drop> Serializer<W> {
-    /// A serializer that writes to this writer. Nothing is written yet.
+    /// A serializer that writes to this writer, at the full limit of 128 brackets. Nothing is written yet.
     pub fn new(writer: W) -> Self
         ensures { result ≡ fresh (W.contents writer) }
+    {
+        Serializer::within(writer, Limit::full())
+    }
+
+    /// A serializer that opens no more brackets at once than the limit, and refuses the next with `TooDeep`. Nothing is
+    /// written yet.
+    pub fn within(writer: W, limit: Limit) -> Self
+        ensures { result ≡ fresh_within limit (W.contents writer) }
     {
         Serializer {
             writer,
             depth: 0,
+            limit,
             failed: false,
         }
     }
@@ -63,6 +74,7 @@ impl<W: Write + Drop> Serializer<W> {
         let Serializer {
             writer,
             depth: _,
+            limit: _,
             failed: _,
         } = self;
         writer
@@ -252,10 +264,10 @@ impl<W: Write + Drop> Serializer<W> {
 
     /// Opens a collection.
     pub(crate) fn open(&mut self, brackets: Brackets) -> Result<()>
-        ensures opens { Writes (opening max_depth self.old.depth (opening_sign brackets)) self.old result (at_depth self.old.depth self.new) }
+        ensures opens { Writes (opening self.old.limit self.old.depth (opening_sign brackets)) self.old result (at_depth self.old.depth self.new) }
         ensures deeper { OnOk result (self.new.depth ≡ self.old.depth + 1) }
     {
-        if self.depth >= 128 {
+        if self.depth >= self.limit.get() {
             return self.refuse(ErrorCode::TooDeep);
         }
         self.put(brackets.opening())?;

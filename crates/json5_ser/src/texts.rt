@@ -2,16 +2,17 @@
 
 ghost use Rattle.std.specs.Prelude.{string_bytes, IfOk, IfErr};
 ghost use Rattle.std.specs.Str.{chars};
-ghost use Rattle.json5_grammar.specs.Documents.{Doc};
+ghost use Rattle.json5_grammar.specs.Documents.{Doc, max_depth};
 ghost use Rattle.json5_ser.specs.Marks.{marks};
-ghost use Rattle.json5_ser.specs.Out.{text_of};
-ghost use Rattle.json5_ser.specs.Writes.{WritesTree, fresh, ended};
+ghost use Rattle.json5_ser.specs.Out.{text_of, text_within};
+ghost use Rattle.json5_ser.specs.Writes.{WritesTree, fresh, fresh_within, ended, ended_within};
 ghost use Rattle.json5_ser.specs.Texts.{IsText, RefusesText};
 ghost use Rattle.json5_ser.specs.Named.{named};
 
 use crate::{Serialize, Serializer};
 use json5_text::ErrorCode;
 use json5_text::error::{Error, Result};
+use json5_text::nesting::Limit;
 use std::alloc::Global;
 use std::io;
 use std::io::Write;
@@ -36,7 +37,8 @@ impl<W: Write> Write for Lent<'_, W> {
 }
 
 /// Writes the text of a value. After a refusal the writer holds a prefix of the text: exactly
-/// the text before the key or the bracket at `InvalidKey` or `TooDeep`. `flush` isn't called.
+/// the text before the key or the bracket at `InvalidKey` or `TooDeep`. `flush` isn't called. It is `to_writer_within` at the
+/// full limit of 128 brackets.
 ///
 /// ```text
 /// json5::to_writer(&mut rt.stdout(), &port)?;
@@ -44,7 +46,19 @@ impl<W: Write> Write for Lent<'_, W> {
 pub fn to_writer<T: Serialize, W: Write>(w: &mut W, value: &T) -> Result<()>
     ensures { WritesTree (T.tree value.now) (fresh (W.contents w.old)) result (ended (W.contents w.new) result) }
 {
-    let mut ser = Serializer::new(Lent { writer: w });
+    to_writer_within(w, Limit::full(), value)
+}
+
+/// As `to_writer`, with no more brackets open at once than the limit: the next is refused with `TooDeep`, and the writer holds
+/// exactly the text before it.
+///
+/// ```text
+/// json5::to_writer_within(&mut rt.stdout(), Limit::new(1).unwrap(), &ports)?;
+/// ```
+pub fn to_writer_within<T: Serialize, W: Write>(w: &mut W, limit: Limit, value: &T) -> Result<()>
+    ensures { WritesTree (T.tree value.now) (fresh_within limit (W.contents w.old)) result (ended_within limit (W.contents w.new) result) }
+{
+    let mut ser = Serializer::within(Lent { writer: w }, limit);
     let result = value.serialize(&mut ser);
     let Lent { writer } = ser.into_inner();
     let _ = &*writer;
@@ -53,7 +67,7 @@ pub fn to_writer<T: Serialize, W: Write>(w: &mut W, value: &T) -> Result<()>
 
 /// The text of a value, on one line where it is no list and no object. It refuses with `InvalidKey` or `TooDeep` where the text
 /// stops, and with `OutOfMemory` where memory ran out; no refusal has a place. The text is a document (JSON5 section 2), and reads
-/// back as the tree that was written.
+/// back as the tree that was written. It is `to_string_within` at the full limit of 128 brackets.
 ///
 /// ```text
 /// json5::to_string(alloc, &8080u16)?    // 8080
@@ -61,10 +75,24 @@ pub fn to_writer<T: Serialize, W: Write>(w: &mut W, value: &T) -> Result<()>
 /// ```
 pub fn to_string<T: Serialize>(alloc: Global, value: &T) -> Result<String>
     ensures whole { IfOk result (λ s. IsText (text_of (T.tree value.now)) (string_bytes s)) }
-    ensures reads_back { IfOk result (λ s. Doc 128 (chars (string_bytes s)) (marks (T.tree value.now))) }
+    ensures reads_back { IfOk result (λ s. Doc max_depth (chars (string_bytes s)) (marks (T.tree value.now))) }
     ensures refused { IfErr result (RefusesText (text_of (T.tree value.now))) }
 {
-    let mut ser = Serializer::new(Vec::new(alloc));
+    to_string_within(alloc, Limit::full(), value)
+}
+
+/// As `to_string`, with no more brackets open at once than the limit: the next is refused with `TooDeep`. The text is a document
+/// within the same limit.
+///
+/// ```text
+/// json5::to_string_within(alloc, Limit::new(0).unwrap(), &8080u16)?    // 8080
+/// ```
+pub fn to_string_within<T: Serialize>(alloc: Global, limit: Limit, value: &T) -> Result<String>
+    ensures whole { IfOk result (λ s. IsText (text_within limit (T.tree value.now)) (string_bytes s)) }
+    ensures reads_back { IfOk result (λ s. Doc limit (chars (string_bytes s)) (marks (T.tree value.now))) }
+    ensures refused { IfErr result (RefusesText (text_within limit (T.tree value.now))) }
+{
+    let mut ser = Serializer::within(Vec::new(alloc), limit);
     let written = value.serialize(&mut ser);
     let bytes = ser.into_inner();
     match written {

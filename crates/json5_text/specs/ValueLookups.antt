@@ -24,9 +24,13 @@ abbrev mutual
   fields_depth no_field = 0
   fields_depth (field u x fs) = max (datum_depth x) (fields_depth fs)
 
--- no more than 128 brackets are open anywhere
+-- no more brackets are open anywhere than the limit
+abbrev pub fits_within : ℕ → Datum → Bool
+fits_within limit x = nat_le (datum_depth x) limit
+
+-- no more than 128 are
 abbrev pub fits : Datum → Bool
-fits x = nat_le (datum_depth x) max_depth
+fits x = fits_within max_depth x
 
 -- ---- what is found
 

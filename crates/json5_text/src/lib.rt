@@ -17,7 +17,7 @@ mod keys;
 pub mod laws;
 pub mod lookup;
 mod names;
-mod nesting;
+pub mod nesting;
 pub mod number;
 mod numbers;
 pub mod pieces;

@@ -1,24 +1,84 @@
 //! How deep values are nested.
 
-ghost use Rattle.std.specs.Prelude.{◌≡◌, suc, nat_le};
+ghost use Rattle.std.specs.Prelude.{◌≡◌, ◌≤◌, ◌<◌, suc, nat_le, MatchOption};
+ghost use Rattle.json5_grammar.specs.Documents.{max_depth};
 ghost use Rattle.json5_text.specs.ValueViews.{value_of, items_view, fields_view};
-ghost use Rattle.json5_text.specs.ValueLookups.{datum_depth, items_depth, fields_depth, fits};
+ghost use Rattle.json5_text.specs.ValueLookups.{datum_depth, items_depth, fields_depth, fits, fits_within};
 
 use crate::value::Value;
+use std::marker::Model;
+
+/// How many brackets may be open at once, at most 128. The bracket after them is refused with `TooDeep`.
+///
+/// ```text
+/// Limit::new(16)     // Some: sixteen arrays and objects, one in the other
+/// Limit::new(129)    // None
+/// ```
+#[derive(Clone, Copy, Debug, PartialEq, Eq)]
+pub struct Limit {
+    brackets: u8,
+}
+
+impl Model for Limit {
+    ghost use Rattle.std.specs.Prelude.{ℕ, ◌≤◌};
+    ghost use Rattle.json5_grammar.specs.Documents.{max_depth};
+
+    ghost Value = { ℕ };
+
+    ghost view = { λ l. l.brackets };
+
+    ghost invariant = { λ l. l.brackets ≤ max_depth };
+
+    ghost inverse = { λ n. record { brackets = n } };
+}
+
+impl Limit {
+    /// So many brackets, where they are at most 128. With none, only values without a bracket pass.
+    pub fn new(n: u8) -> Option<Limit>
+        ensures { MatchOption result (max_depth < n) (λ limit. (limit ≡ n) × (n ≤ max_depth)) }
+    {
+        if n > 128 {
+            return None;
+        }
+        Some(Limit { brackets: n })
+    }
+
+    /// 128 brackets, the limit of every call that names none.
+    pub fn full() -> Limit
+        ensures { result ≡ max_depth }
+    {
+        Limit { brackets: 128 }
+    }
+
+    /// How many brackets.
+    pub fn get(self) -> u8
+        ensures number { result ≡ self }
+        ensures bound { result ≤ max_depth }
+    {
+        self.brackets
+    }
+}
 
 impl Value {
     /// Whether no more than 128 brackets are open anywhere in it: the deepest that can be read and written.
     pub fn fits(&self) -> bool
         ensures { result ≡ fits (value_of self.now) }
     {
-        fits_within(self, 128)
+        self.fits_within(Limit::full())
+    }
+
+    /// Whether no more brackets are open anywhere in it than the limit allows.
+    pub fn fits_within(&self, limit: Limit) -> bool
+        ensures { result ≡ fits_within limit (value_of self.now) }
+    {
+        is_within(self, usize::from(limit.get()))
     }
 }
 
 /// Whether it is nested no deeper than this.
 #[cycle(depth)]
 #[tactic(auto, using(crate::proofs::DeepestInside::nested))]
-fn fits_within(value: &Value, room: usize) -> bool
+fn is_within(value: &Value, room: usize) -> bool
     ensures { result ≡ nat_le (datum_depth (value_of value.now)) room }
 {
     match value {
@@ -37,7 +97,7 @@ fn items_fit(items: &[Value], room: usize) -> bool
         return false;
     }
     for item in items {
-        if !fits_within(item, room - 1) {
+        if !is_within(item, room - 1) {
             return false;
         }
     }
@@ -53,7 +113,7 @@ fn fields_fit(fields: &[(String, Value)], room: usize) -> bool
         return false;
     }
     for (_, value) in fields {
-        if !fits_within(value, room - 1) {
+        if !is_within(value, room - 1) {
             return false;
         }
     }

@@ -3,4 +3,4 @@ use Rattle.json5_ser.proofs.ValueTexts.{datum_named}
 use Rattle.json5_ser.proofs.laws.value_keys.Goals as goal
 
 pub returns : goal.returns
-returns c v h = datum_named 128 (value_of v) 0 h
+returns c limit v h = datum_named limit (value_of v) 0 h

@@ -7,7 +7,7 @@ use Rattle.json5_ser.proofs.serializer.Serializer.put.Goals as goal
 pub returns-in-Ok : goal.returns-in-Ok
 returns-in-Ok g c =
     let bytes = rw c.as_bytes.ensures.value at c.in-Ok.ensures in
-    rw (← c.self.view_is) (wrote_piece c.args.text.now _ _ c.utf8.text c.if-self.false c.if-self.false refl bytes)
+    rw (← c.self.view_is) (wrote_piece c.args.text.now _ _ c.utf8.text c.if-self.false c.if-self.false refl refl bytes)
 
 pub returns-in-Err : goal.returns-in-Err
 returns-in-Err g c =
