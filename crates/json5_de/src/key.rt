@@ -11,6 +11,7 @@ ghost use Rattle.json5_de.specs.Keys.{GivesKey, CompletesKey, ReadsKeyOf, ReadsO
 ghost use Rattle.json5_de.specs.KeyRows.{string_key, char_key, plain_key, variant_key, ignored_key, document_key, some_of};
 
 use crate::de::Deserializer;
+use crate::key_documents::FromText;
 use json5_text::byte_buf::ByteBuf;
 use json5_text::cow_str::CowStr;
 use json5_text::decimal::Decimal;
@@ -138,6 +139,13 @@ impl<I: Input> MapKey<'_, I> {
         ensures { ReadsBytesKey self.old self.new result }
     {
         self.deserialize_bytes()
+    }
+
+    /// Reads the key's text as a document.
+    pub(crate) fn document<T: FromText>(&mut self) -> Result<T>
+        ensures { KeyReads (document_key T.kind) T.content self.old self.new result }
+    {
+        self.de.key_document()
     }
 
     /// Reads the key's text as a document, which is `null`. Its faults have their codes and the key's place, as those of the other

@@ -1,12 +1,14 @@
 //! Types that a key's text is read as, a document of its own.
 
+use crate::key::{DeserializeKey, MapKey};
 use crate::text::from_str;
 use json5_text::decimal::Decimal;
 use json5_text::error::Result;
+use json5_text::input::Input;
 use std::alloc::Global;
 
 /// A type that a whole text is read as: one value of its kind, with blanks and comments round it.
-pub(crate) trait FromText: Sized + Drop {
+pub trait FromText: Sized + Drop {
     ghost use Rattle.std.specs.Str.{chars};
     ghost use Rattle.json5_grammar.specs.Documents.{max_depth};
     ghost use Rattle.json5_de.specs.Rows.{Row, RefusedAs};
@@ -23,6 +25,23 @@ pub(crate) trait FromText: Sized + Drop {
     /// The value that the text holds.
     fn from_text(alloc: Global, text: &str) -> Result<Self>
         ensures { ReadsWholeText content kind.convert (RefusedAs kind) max_depth (chars text.now) result };
+}
+
+/// A key whose text is a document of the kind.
+impl<I: Input, T: FromText> DeserializeKey<I> for T {
+    ghost use Rattle.json5_de.specs.KeyRows.{document_key, RefusedAsKey};
+
+    ghost Content = { T.Content };
+
+    ghost content = { T.content };
+
+    ghost convert = { (document_key T.kind).convert };
+
+    ghost refuses = { RefusedAsKey (document_key T.kind) };
+
+    fn deserialize_key(key: &mut MapKey<'_, I>) -> Result<T> {
+        key.document()
+    }
 }
 
 impl FromText for () {
