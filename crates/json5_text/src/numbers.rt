@@ -81,12 +81,13 @@ fn one_more(value: u128, digit: u32) -> Option<u128>
     value.checked_mul(16)?.checked_add(u128::from(digit))
 }
 
-/// The value of the hexadecimal digits in front and what follows them, or what begins with the digit that takes it past `u128`.
+/// The value of a first hexadecimal digit and those in front, and what follows them; or what begins with the digit that takes it
+/// past `u128`.
 #[tactic(auto, using(crate::proofs::NumberSteps::hexadecimal_steps))]
-fn hexadecimal_digits(text: &str) -> Result<(u128, &str), &str>
-    ensures { MatchResult result (λ p. GivesHex (chars text.now) p.0 p.1.now) (λ rest. Overflows (chars text.now) rest.now) }
+fn hexadecimal_digits(first: u32, text: &str) -> Result<(u128, &str), &str>
+    ensures { MatchResult result (λ p. GivesHex first (chars text.now) p.0 p.1.now) (λ rest. Overflows first (chars text.now) rest.now) }
 {
-    let mut value: u128 = 0;
+    let mut value = u128::from(first);
     let mut rest = text;
     while let Some((c, next)) = front(rest) {
         let Some(digit) = c.to_digit(16) else {
@@ -105,13 +106,13 @@ fn hexadecimal_digits(text: &str) -> Result<(u128, &str), &str>
 fn hexadecimal<'t>(start: &str, negative: bool, text: &'t str) -> Result<(Whole, &'t str), Refusal>
     ensures { AnswersAs numbers.whole (model.hexadecimal (chars start.now) negative (chars text.now)) result }
 {
-    let Some((first, _)) = front(text) else {
+    let Some((first, digits)) = front(text) else {
         return Err(Refusal::Code(ErrorCode::EofParsingNumber, None));
     };
-    let Some(_digit) = first.to_digit(16) else {
+    let Some(digit) = first.to_digit(16) else {
         return Err(Refusal::Code(ErrorCode::ExpectedNumber, Some(text.len())));
     };
-    match hexadecimal_digits(text) {
+    match hexadecimal_digits(digit, digits) {
         Ok((magnitude, rest)) => match Whole::from_parts(negative, magnitude) {
             Some(number) => Ok((number, rest)),
             None => Err(Refusal::TooLarge(start.len())),
