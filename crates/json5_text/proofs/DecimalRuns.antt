@@ -1,16 +1,16 @@
 -- A decimal run in front of a text, read from its front on.
-use Rattle.std.proofs.Common.{◌≡◌, ℕ, Bool, true, false, ◌||◌, List, [], ◌∷◌, refl, ap, sym, ◌∙◌, Option, Some, None, ◌≢◌}
-use Rattle.std.specs.Prelude.{◌==◌, IfSome}
+use Rattle.std.proofs.Common.{◌≡◌, ℕ, Bool, true, false, ◌||◌, List, [], ◌∷◌, refl, ap, sym, ◌∙◌, subst, arith, Option, Some, None, ◌≢◌}
+use Rattle.std.specs.Prelude.{◌==◌}
 use Rattle.std.specs.Str.{chars}
+use Rattle.std.proofs.lemmas.Bool.Decides.{nat_tests}
 use Rattle.json5_grammar.specs.Characters.{is_digit, NotBegun}
 use Rattle.json5_grammar.specs.Numbers.{is_empty}
 use Rattle.json5_grammar.specs.Stops.{in_run}
-use Rattle.json5_grammar.specs.ReadNumbers.{front_of, rest_of, exponent_digits, exponent_sign, exponent_at, no_point, at_point, literal_at}
-use Rattle.json5_grammar.proofs.Basics.{not_eq}
-use Rattle.json5_grammar.proofs.NumberTests.{digit_in_run, e_in_run, rest_none, front_none}
+use Rattle.json5_grammar.specs.ReadNumbers.{Parts, front_of, rest_of, exponent_digits, exponent_sign, exponent_at, no_point, at_point, literal_at}
+use Rattle.json5_grammar.proofs.NumberTests.{by_test, digit_in_run, e_in_run, rest_none, front_none}
 use Rattle.json5_text.specs.declared.numbers.Literal.{Literal}
 use Rattle.json5_text.specs.declared.numbers.Tail.{Tail}
-use Rattle.json5_text.specs.NumberParts.{begun, run_of, EndsRun}
+use Rattle.json5_text.specs.NumberParts.{begun, after_sign, run_of, EndsRun, ReadsTail, ReadsLiteral}
 use Rattle.json5_text.proofs.NumberLiterals.{literal_ends, literal_plain, literal_pointed}
 
 -- ---- one step into a run
@@ -109,13 +109,10 @@ ends_after x s e h = sym (rest_all s h) ∙ ap (rest_of in_run) e ∙ sym (rest_
 pub same_end : (x y r : List ℕ) → rest_of in_run (chars x) ≡ rest_of in_run (chars y) → EndsRun y r → EndsRun x r
 same_end x y r e k = record { follows = k.follows ∙ sym e; text = k.text }
 
-pub end_of_tail : (x y : List ℕ) (t : Option Tail) → rest_of in_run (chars x) ≡ rest_of in_run (chars y) → IfSome t (λ u. EndsRun y u.rest.now) → IfSome t (λ u. EndsRun x u.rest.now)
-end_of_tail x y None e k = tt
-end_of_tail x y (Some t) e k = same_end x y t.rest.now e k
-
-pub end_of_literal : (x y : List ℕ) (l : Option Literal) → rest_of in_run (chars x) ≡ rest_of in_run (chars y) → IfSome l (λ u. EndsRun y u.rest.now) → IfSome l (λ u. EndsRun x u.rest.now)
-end_of_literal x y None e k = tt
-end_of_literal x y (Some l) e k = same_end x y l.rest.now e k
+-- the literal of a run whose end the rest has
+pub whole_literal : (x y : List ℕ) (n m : Option Parts) (l : Option Literal) → n ≡ m → rest_of in_run (chars x) ≡ rest_of in_run (chars y) → ReadsLiteral m y l → ReadsLiteral n x l
+whole_literal x y n m None e f h = e ∙ h
+whole_literal x y n m (Some l) e f h = record { read = e ∙ h.read; digits = h.digits; ends = same_end x y l.rest.now f h.ends }
 
 -- after digits, a point and digits
 pub ends_pointed : (x s t z : List ℕ) (c : ℕ) → s ≡ rest_of is_digit x → s ≡ c ∷ t → c ≡ 46 → z ≡ rest_of is_digit t → rest_of in_run z ≡ rest_of in_run x
@@ -136,25 +133,44 @@ at_mark x y c e k = ap exponent_at (run_more x y c e (e_in_run c k)) ∙ rw k re
 pub past_mark : (x y : List ℕ) (c : ℕ) → x ≡ c ∷ y → ((c == 101) || (c == 69)) ≡ true → rest_of in_run x ≡ rest_of in_run y
 past_mark x y c e k = rest_more x y c e (e_in_run c k)
 
-pub sign_none : (y : List ℕ) → y ≡ [] → exponent_sign (run_of y) ≡ None
-unfolding front_of
-sign_none y e = rw e refl
+-- an exponent's sign as that of a number
+abbrev PastSign : List ℕ → Bool × List ℕ → Type 0
+PastSign y p = (exponent_sign (run_of y) ≡ exponent_digits p.0 (run_of p.1)) × (rest_of in_run y ≡ rest_of in_run p.1)
 
-pub sign_plus : (y z : List ℕ) (d : ℕ) → y ≡ d ∷ z → d ≡ 43 → (exponent_sign (run_of y) ≡ exponent_digits false (run_of z)) × (rest_of in_run y ≡ rest_of in_run z)
-sign_plus y z d e h = let k : y ≡ 43 ∷ z = e ∙ ap (λ n. n ∷ z) h in (ap exponent_sign (run_more y z 43 k refl), rest_more y z 43 k refl)
+past_plus : (d : ℕ) (z : List ℕ) → d ≡ 43 → PastSign (d ∷ z) (false, z)
+past_plus d z h = let k : d ∷ z ≡ 43 ∷ z = ap (λ n. n ∷ z) h in (ap exponent_sign (run_more (d ∷ z) z 43 k refl), rest_more (d ∷ z) z 43 k refl)
 
-pub sign_minus : (y z : List ℕ) (d : ℕ) → y ≡ d ∷ z → d ≡ 45 → (exponent_sign (run_of y) ≡ exponent_digits true (run_of z)) × (rest_of in_run y ≡ rest_of in_run z)
-sign_minus y z d e h = let k : y ≡ 45 ∷ z = e ∙ ap (λ n. n ∷ z) h in (ap exponent_sign (run_more y z 45 k refl), rest_more y z 45 k refl)
+past_minus : (d : ℕ) (z : List ℕ) → d ≡ 45 → PastSign (d ∷ z) (true, z)
+past_minus d z h = let k : d ∷ z ≡ 45 ∷ z = ap (λ n. n ∷ z) h in (ap exponent_sign (run_more (d ∷ z) z 45 k refl), rest_more (d ∷ z) z 45 k refl)
 
-pub sign_other : (y z : List ℕ) (d : ℕ) → y ≡ d ∷ z → d ≢ 43 → d ≢ 45 → exponent_sign (run_of y) ≡ exponent_digits false (run_of y)
-sign_other y z d e p m = by (in_run d) refl
+past_none : (d : ℕ) (z : List ℕ) → (d == 43) ≡ false → (d == 45) ≡ false → PastSign (d ∷ z) (false, d ∷ z)
+past_none d z a b = (by (in_run d) refl, refl)
   where
     plain : exponent_sign (d ∷ run_of z) ≡ exponent_digits false (d ∷ run_of z)
-    plain = let a = not_eq d 43 p in let b = not_eq d 45 m in rw (a, b) refl
+    plain = rw (a, b) refl
 
-    by : (b : Bool) → in_run d ≡ b → exponent_sign (run_of y) ≡ exponent_digits false (run_of y)
-    by true h = let k = run_more y z d e h in ap exponent_sign k ∙ plain ∙ ap (exponent_digits false) (sym k)
-    by false h = let k = no_run y (ap (begun in_run) e ∙ h) in ap exponent_sign k ∙ ap (exponent_digits false) (sym k)
+    by : (t : Bool) → in_run d ≡ t → exponent_sign (run_of (d ∷ z)) ≡ exponent_digits false (run_of (d ∷ z))
+    by true h = let k = run_more (d ∷ z) z d refl h in ap exponent_sign k ∙ plain ∙ ap (exponent_digits false) (sym k)
+    by false h = let k = no_run (d ∷ z) h in ap exponent_sign k ∙ ap (exponent_digits false) (sym k)
+
+past_sign_at : (y : List ℕ) → PastSign y (after_sign y)
+unfolding front_of
+past_sign_at [] = (refl, refl)
+past_sign_at (d ∷ z) =
+    by_test (PastSign (d ∷ z)) (d == 43) (false, z) _ (λ h. past_plus d z (grind (arith, nat_tests)))
+    (λ a. by_test (PastSign (d ∷ z)) (d == 45) (true, z) (false, d ∷ z) (λ h. past_minus d z (grind (arith, nat_tests))) (λ b. past_none d z a b))
+
+pub past_sign : (y z : List ℕ) (m : Bool) → after_sign y ≡ (m, z) → PastSign y (m, z)
+past_sign y z m e = subst (PastSign y) e (past_sign_at y)
+
+pub signed_tail : (x y z : List ℕ) (c : ℕ) (m : Bool) (t : Option Tail) → chars x ≡ c ∷ y → ((c == 101) || (c == 69)) ≡ true → after_sign y ≡ (m, chars z)
+    → ReadsTail (exponent_digits m (run_of (chars z))) z t → ReadsTail (exponent_at (run_of (chars x))) x t
+signed_tail x y z c m None e k s h = at_mark (chars x) y c e k ∙ (past_sign y (chars z) m s).0 ∙ h
+signed_tail x y z c m (Some t) e k s h = record {
+  read = at_mark (chars x) y c e k ∙ (past_sign y (chars z) m s).0 ∙ h.read;
+  digits = h.digits;
+  ends = same_end x z t.rest.now (past_mark (chars x) y c e k ∙ (past_sign y (chars z) m s).1) h.ends;
+}
 
 -- ---- a literal
 

@@ -1,5 +1,5 @@
 -- Reading a number by its first characters.
-use Rattle.std.proofs.Common.{◌≡◌, ℕ, Bool, true, false, ◌||◌, List, [], ◌∷◌, refl, ap, sym, ◌∙◌, ◌≢◌, Some, None}
+use Rattle.std.proofs.Common.{◌≡◌, ℕ, Bool, true, false, cond, ◌||◌, List, [], ◌∷◌, refl, ap, sym, ◌∙◌, ◌≢◌, Some, None}
 use Rattle.std.specs.Prelude.{◌==◌}
 use lib.Chars.{codes}
 use Rattle.json5_grammar.specs.declared.code.ErrorCode.TheVariants.{EofParsingNumber, ExpectedNumber, LeadingZero}
@@ -10,6 +10,7 @@ use Rattle.json5_grammar.specs.Reading.{bad, here, inner}
 use Rattle.std.specs.Str.{chars}
 use Rattle.json5_grammar.proofs.Basics.{not_eq}
 use Rattle.json5_text.proofs.NumberSteps.{infinity_rest, nan_rest}
+use Rattle.json5_text.specs.NumberParts.{after_sign}
 use Rattle.json5_grammar.specs.ReadNumbers.{word, front_of, rest_of, literal_at, if_literal, decimal_run, at_zero, unsigned, number}
 
 -- ---- decimal runs
@@ -59,18 +60,15 @@ unsigned_other q m x y c b e i n z f h = let k = sym f ∙ h in let o = not_eq c
 
 -- ---- with a sign
 
-pub number_ends : (x : List ℕ) → x ≡ [] → number x ≡ bad (Some EofParsingNumber) inner
-unfolding number
-number_ends x e = rw e refl
+after_cond : {A B : Type 0} (f : A → B) (a b : Bool) (u v w : A) → cond a (f u) (cond b (f v) (f w)) ≡ f (cond a u (cond b v w))
+after_cond f true b u v w = refl
+after_cond f false true u v w = refl
+after_cond f false false u v w = refl
 
-pub number_plus : (x y : List ℕ) (c : ℕ) → x ≡ c ∷ y → c ≡ 43 → number x ≡ unsigned x false y
-unfolding number
-number_plus x y c e h = rw (e, h) refl
+signed_at : (x : List ℕ) → number x ≡ unsigned x (after_sign x).0 (after_sign x).1
+unfolding number unsigned
+signed_at [] = refl
+signed_at (c ∷ r) = after_cond {A = Bool × List ℕ} (λ p. unsigned (c ∷ r) p.0 p.1) (c == 43) (c == 45) (false, r) (true, r) (false, c ∷ r)
 
-pub number_minus : (x y : List ℕ) (c : ℕ) → x ≡ c ∷ y → c ≡ 45 → number x ≡ unsigned x true y
-unfolding number
-number_minus x y c e h = rw (e, h) refl
-
-pub number_bare : (x y : List ℕ) (c : ℕ) → x ≡ c ∷ y → c ≢ 43 → c ≢ 45 → number x ≡ unsigned x false x
-unfolding number
-number_bare x y c e p m = let o = not_eq c 43 p in let r = not_eq c 45 m in rw e (rw (o, r) refl)
+pub number_signed : (x y : List ℕ) (m : Bool) → after_sign x ≡ (m, y) → number x ≡ unsigned x m y
+number_signed x y m e = signed_at x ∙ ap (λ (p : Bool × List ℕ). unsigned x p.0 p.1) e

@@ -57,10 +57,10 @@ hexadecimal_ends q xs m e = rw e refl
 pub hexadecimal_other : (q xs ys : List ℕ) (m : Bool) (c : ℕ) → xs ≡ c ∷ ys → 16 ≤ digit_value c → hexadecimal q m xs ≡ bad (Some ExpectedNumber) (here xs)
 hexadecimal_other q xs ys m c e h = rw e (rw (no_hex c h) refl)
 
-hexadecimal_read : (q xs ys : List ℕ) (m : Bool) (c : ℕ) (r : Read ℕ) → xs ≡ c ∷ ys → digit_value c < 16 → hex_digits 0 xs ≡ r → hexadecimal q m xs ≡ hex_judged q m r
-hexadecimal_read q xs ys m c r e h k = let f : hex_digits 0 (c ∷ ys) ≡ r = ap (hex_digits 0) (sym e) ∙ k in rw e (rw (hex_value c h, f) refl)
+hexadecimal_read : (q xs ys : List ℕ) (m : Bool) (c : ℕ) (r : Read ℕ) → xs ≡ c ∷ ys → digit_value c < 16 → hex_digits (digit_value c) ys ≡ r → hexadecimal q m xs ≡ hex_judged q m r
+hexadecimal_read q xs ys m c r e h k = let f : hex_digits 0 (c ∷ ys) ≡ r = hex_more 0 (digit_value c) c (c ∷ ys) ys refl h (omega arith) (omega arith) ∙ k in rw e (rw (hex_value c h, f) refl)
 
-pub hexadecimal_past : (q xs ys : List ℕ) (m : Bool) (c : ℕ) (e : Option ErrorCode) (p : Place) → xs ≡ c ∷ ys → digit_value c < 16 → hex_digits 0 xs ≡ bad e p → hexadecimal q m xs ≡ bad e p
+pub hexadecimal_past : (q xs ys : List ℕ) (m : Bool) (c : ℕ) (e : Option ErrorCode) (p : Place) → xs ≡ c ∷ ys → digit_value c < 16 → hex_digits (digit_value c) ys ≡ bad e p → hexadecimal q m xs ≡ bad e p
 hexadecimal_past q xs ys m c e p f h k = hexadecimal_read q xs ys m c (bad e p) f h k ∙ hex_judged_bad q m e p
 
 judged_large : (q : List ℕ) (m : Bool) (n : ℕ) (r : List ℕ) → n < 2 ^ 128 → (InWhole (signed m n) → ⊥) → hex_judged q m (got n r) ≡ bad None (here q)
@@ -71,8 +71,15 @@ judged_large q true n r l h = by (nat_le n (2 ^ 127)) refl
     by true e = let k : n ≤ 2 ^ 127 = grind (arith, nat_tests) in absurd (h (omega (arith, ints), omega (arith, ints)))
     by false e = refl
 
-pub hexadecimal_large : (q xs ys : List ℕ) (m : Bool) (c n : ℕ) (r : List ℕ) → xs ≡ c ∷ ys → digit_value c < 16 → hex_digits 0 xs ≡ got n r → n < 2 ^ 128 → (InWhole (signed m n) → ⊥) → hexadecimal q m xs ≡ bad None (here q)
+pub hexadecimal_large : (q xs ys : List ℕ) (m : Bool) (c n : ℕ) (r : List ℕ) → xs ≡ c ∷ ys → digit_value c < 16 → hex_digits (digit_value c) ys ≡ got n r → n < 2 ^ 128 → (InWhole (signed m n) → ⊥) → hexadecimal q m xs ≡ bad None (here q)
 hexadecimal_large q xs ys m c n r e h k l i = hexadecimal_read q xs ys m c (got n r) e h k ∙ judged_large q m n r l i
+
+judged_whole : (q : List ℕ) (m : Bool) (n : ℕ) (r : List ℕ) → InWhole (signed m n) → hex_judged q m (got n r) ≡ got (whole (signed m n)) r
+judged_whole q false n r h = refl
+judged_whole q true n r h = let k : n ≤ 2 ^ 127 = let a = h.0 in omega (arith, ints) in let a : nat_le n (2 ^ 127) ≡ true = grind (arith, nat_tests) in rw a refl
+
+pub hexadecimal_whole : (q xs ys : List ℕ) (m : Bool) (c n : ℕ) (r : List ℕ) → xs ≡ c ∷ ys → digit_value c < 16 → hex_digits (digit_value c) ys ≡ got n r → InWhole (signed m n) → hexadecimal q m xs ≡ got (whole (signed m n)) r
+hexadecimal_whole q xs ys m c n r e h k i = hexadecimal_read q xs ys m c (got n r) e h k ∙ judged_whole q m n r i
 
 -- ---- words
 

@@ -1,8 +1,8 @@
 -- A number in front of a text as code holds it. Private clauses and proofs alone cite it.
-use Rattle.std.specs.Prelude.{◌≡◌, ℕ, min, Bool, false, List, [], ◌∷◌, ℤ, pos, Option, Some, None, IfSome}
+use Rattle.std.specs.Prelude.{◌≡◌, ◌==◌, ℕ, min, Bool, true, false, cond, List, [], ◌∷◌, ℤ, pos, Option, Some, None, IfSome}
 use Rattle.std.specs.Option.{option_map}
 use Rattle.std.specs.Str.{IsUtf8, chars}
-use Rattle.json5_grammar.specs.Characters.{is_digit, Each}
+use Rattle.json5_grammar.specs.Characters.{plus_sign, minus_sign, is_digit, Each}
 use Rattle.json5_grammar.specs.Numbers as numbers
 use Rattle.json5_grammar.specs.Numbers.{signed, spelled}
 use Rattle.json5_grammar.specs.ReadNumbers.{Parts, is_whole, front_of, rest_of}
@@ -54,6 +54,11 @@ abbrev pub begun : (ℕ → Bool) → List ℕ → Bool
 begun p [] = false
 begun p (c ∷ x) = p c
 
+-- whether a minus is in front, and what follows the sign in front, if there is one
+abbrev pub after_sign : List ℕ → Bool × List ℕ
+after_sign [] = (false, [])
+after_sign (c ∷ x) = cond (c == plus_sign) (false, x) (cond (c == minus_sign) (true, x) (false, c ∷ x))
+
 abbrev pub run_of : List ℕ → List ℕ
 run_of x = front_of in_run x
 
@@ -65,12 +70,24 @@ pub record EndsRun (whole rest : List ℕ) : Type 0 where
 abbrev pub raised_in : Tail → Option ℤ
 raised_in t = option_map raised_of t.exponent
 
--- the literal, and that its parts are digits
-pub record IsLiteral (reading : Option Parts) (l : Literal) : Type 0 where
+-- the exponent, that it is digits, and what follows the decimal run in front of the text
+pub record IsTail (reading : Option (Option ℤ)) (whole : List ℕ) (t : Tail) : Type 0 where
+  pub read : reading ≡ Some (raised_in t)
+  pub digits : IfSome t.exponent HasExponentDigits
+  pub ends : EndsRun whole t.rest.now
+
+-- the tail, if reading gives one
+abbrev pub ReadsTail : Option (Option ℤ) → List ℕ → Option Tail → Type 0
+ReadsTail reading whole None = reading ≡ None
+ReadsTail reading whole (Some t) = IsTail reading whole t
+
+-- the literal, that its parts are digits, and what follows the decimal run in front of the text
+pub record IsLiteral (reading : Option Parts) (whole : List ℕ) (l : Literal) : Type 0 where
   pub read : reading ≡ Some (parts_of l)
   pub digits : HasDigits l
+  pub ends : EndsRun whole l.rest.now
 
 -- the literal, if reading gives one
-abbrev pub ReadsLiteral : Option Parts → Option Literal → Type 0
-ReadsLiteral reading None = reading ≡ None
-ReadsLiteral reading (Some l) = IsLiteral reading l
+abbrev pub ReadsLiteral : Option Parts → List ℕ → Option Literal → Type 0
+ReadsLiteral reading whole None = reading ≡ None
+ReadsLiteral reading whole (Some l) = IsLiteral reading whole l

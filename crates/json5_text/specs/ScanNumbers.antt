@@ -5,13 +5,13 @@ use Rattle.json5_grammar.specs.declared.code.ErrorCode.TheVariants.{OverflowPars
 use Rattle.json5_grammar.specs.Reading.{got, bad, here}
 use Rattle.json5_grammar.specs.ReadNumbers.{hex_digits}
 
--- the digits of x have this value, within 128 bits, and the rest follows them
-pub record GivesHex (x : List ℕ) (value : ℕ) (rest : List ℕ) : Type 0 where
-  pub read : hex_digits 0 x ≡ got value (chars rest)
+-- a first digit and those of x have this value, within 128 bits, and the rest follows them
+pub record GivesHex (first : ℕ) (x : List ℕ) (value : ℕ) (rest : List ℕ) : Type 0 where
+  pub read : hex_digits first x ≡ got value (chars rest)
   pub bound : value < 2 ^ 128
   pub text : IsUtf8 rest
 
 -- the digit with which the rest begins takes the value past 128 bits
-pub record Overflows (x rest : List ℕ) : Type 0 where
-  pub read : hex_digits 0 x ≡ bad (Some OverflowParsingNumber) (here (chars rest))
+pub record Overflows (first : ℕ) (x rest : List ℕ) : Type 0 where
+  pub read : hex_digits first x ≡ bad (Some OverflowParsingNumber) (here (chars rest))
   pub text : IsUtf8 rest

@@ -1,7 +1,6 @@
 //! Reading numbers: JSON5 section 6, ECMAScript 5.1 section 7.8.3.
 
 ghost use Rattle.std.specs.Prelude.{◌≡◌, ◌==◌, ◌||◌, ◌&&◌, not, ◌∷◌, ◌^◌, ◌+◌, ◌*◌, ◌≤◌, ◌<◌, min, MatchOption, MatchResult, IfOk, IfErr, IfSome, IsSome, Some, None, ℕ, List, true, pos, neg_ℤ, ◌-ℤ◌, ◌≤ℤ◌, ◌↔◌};
-ghost use Rattle.std.specs.Option.{option_map};
 ghost use Rattle.std.specs.Str.{IsUtf8, chars};
 ghost use Rattle.json5_grammar.specs.Characters.{point_sign, digit_zero, capital_e, letter_e, is_digit, Each};
 ghost use Rattle.json5_grammar.specs.Numbers as numbers;
@@ -11,7 +10,7 @@ ghost use Rattle.json5_grammar.specs.ReadNumbers as model;
 ghost use Rattle.json5_grammar.specs.NumberSteps.{checked};
 ghost use Rattle.json5_text.specs.Answered.{Gives, AnswersAs, AnswersNumber, AnswersWhole, Judges};
 ghost use Rattle.json5_text.specs.NumberViews.{number_of, keeps_digits, whole_in};
-ghost use Rattle.json5_text.specs.NumberParts.{scanned_of, raised_in, parts_of, begun, run_of, EndsRun, signed_limited, limited_exponent, is_whole_literal, HasExponentDigits, HasDigits, ReadsLiteral};
+ghost use Rattle.json5_text.specs.NumberParts.{scanned_of, parts_of, begun, run_of, after_sign, signed_limited, limited_exponent, is_whole_literal, HasExponentDigits, HasDigits, ReadsTail, ReadsLiteral};
 ghost use Rattle.json5_text.specs.NumberSteps.{IsSmallExponent};
 ghost use Rattle.json5_text.specs.ScanNumbers.{GivesHex, Overflows};
 
@@ -61,6 +60,18 @@ impl<'t> Scanned<'t> {
     }
 }
 
+/// Whether a minus is in front, and what follows the sign in front, if there is one.
+fn after_sign(text: &str) -> (bool, &str)
+    ensures sign { after_sign (chars text.now) ≡ (result.0, chars result.1.now) }
+    ensures text { IsUtf8 result.1.now }
+{
+    match front(text) {
+        Some(('+', rest)) => (false, rest),
+        Some(('-', rest)) => (true, rest),
+        _ => (false, text),
+    }
+}
+
 // ---- hexadecimal numbers
 
 /// One more digit, if the value stays within `u128`.
@@ -70,12 +81,13 @@ fn one_more(value: u128, digit: u32) -> Option<u128>
     value.checked_mul(16)?.checked_add(u128::from(digit))
 }
 
-/// The value of the hexadecimal digits in front and what follows them, or what begins with the digit that takes it past `u128`.
+/// The value of a first hexadecimal digit and those in front, and what follows them; or what begins with the digit that takes it
+/// past `u128`.
 #[tactic(auto, using(crate::proofs::NumberSteps::hexadecimal_steps))]
-fn hexadecimal_digits(text: &str) -> Result<(u128, &str), &str>
-    ensures { MatchResult result (λ p. GivesHex (chars text.now) p.0 p.1.now) (λ rest. Overflows (chars text.now) rest.now) }
+fn hexadecimal_digits(first: u32, text: &str) -> Result<(u128, &str), &str>
+    ensures { MatchResult result (λ p. GivesHex first (chars text.now) p.0 p.1.now) (λ rest. Overflows first (chars text.now) rest.now) }
 {
-    let mut value: u128 = 0;
+    let mut value = u128::from(first);
     let mut rest = text;
     while let Some((c, next)) = front(rest) {
         let Some(digit) = c.to_digit(16) else {
@@ -94,13 +106,13 @@ fn hexadecimal_digits(text: &str) -> Result<(u128, &str), &str>
 fn hexadecimal<'t>(start: &str, negative: bool, text: &'t str) -> Result<(Whole, &'t str), Refusal>
     ensures { AnswersAs numbers.whole (model.hexadecimal (chars start.now) negative (chars text.now)) result }
 {
-    let Some((first, _)) = front(text) else {
+    let Some((first, digits)) = front(text) else {
         return Err(Refusal::Code(ErrorCode::EofParsingNumber, None));
     };
-    let Some(_digit) = first.to_digit(16) else {
+    let Some(digit) = first.to_digit(16) else {
         return Err(Refusal::Code(ErrorCode::ExpectedNumber, Some(text.len())));
     };
-    match hexadecimal_digits(text) {
+    match hexadecimal_digits(digit, digits) {
         Ok((magnitude, rest)) => match Whole::from_parts(negative, magnitude) {
             Some(number) => Ok((number, rest)),
             None => Err(Refusal::TooLarge(start.len())),
@@ -163,9 +175,7 @@ fn begins_exponent(c: char) -> bool
 
 /// The digits of an exponent, with which the decimal run in front ends.
 fn read_exponent_digits(negative: bool, text: &str) -> Option<Tail>
-    ensures read { model.exponent_digits negative (run_of (chars text.now)) ≡ option_map raised_in result }
-    ensures digits { IfSome result (λ t. IfSome t.exponent HasExponentDigits) }
-    ensures ends { IfSome result (λ t. EndsRun text.now t.rest.now) }
+    ensures { ReadsTail (model.exponent_digits negative (run_of (chars text.now))) text.now result }
 {
     let (digits, rest) = split_digits(text);
     if digits.is_empty() {
@@ -182,9 +192,7 @@ fn read_exponent_digits(negative: bool, text: &str) -> Option<Tail>
 
 /// The exponent that is all of the decimal run in front, none where there is no such run; None where the run is another.
 fn read_exponent(text: &str) -> Option<Tail>
-    ensures read { model.exponent_at (run_of (chars text.now)) ≡ option_map raised_in result }
-    ensures digits { IfSome result (λ t. IfSome t.exponent HasExponentDigits) }
-    ensures ends { IfSome result (λ t. EndsRun text.now t.rest.now) }
+    ensures { ReadsTail (model.exponent_at (run_of (chars text.now))) text.now result }
 {
     if !goes_on(text) {
         return Some(Tail {
@@ -196,14 +204,8 @@ fn read_exponent(text: &str) -> Option<Tail>
     if !begins_exponent(mark) {
         return None;
     }
-    let (sign, digits) = front(rest)?;
-    if sign == '+' {
-        return read_exponent_digits(false, digits);
-    }
-    if sign == '-' {
-        return read_exponent_digits(true, digits);
-    }
-    read_exponent_digits(false, rest)
+    let (negative, digits) = after_sign(rest);
+    read_exponent_digits(negative, digits)
 }
 
 /// `0`, or digits that begin with another one.
@@ -217,8 +219,7 @@ fn is_integer(digits: &str) -> bool
 /// The literal of these digits and of an exponent, which ends the decimal run.
 fn read_without_point<'t>(before: &'t str, text: &'t str) -> Option<Literal<'t>>
     requires { Each is_digit before.now }
-    ensures read { ReadsLiteral (model.no_point before.now (run_of (chars text.now))) result }
-    ensures ends { IfSome result (λ l. EndsRun text.now l.rest.now) }
+    ensures { ReadsLiteral (model.no_point before.now (run_of (chars text.now))) text.now result }
 {
     if !is_integer(before) {
         return None;
@@ -241,8 +242,7 @@ fn has_digits(before: &str, after: &str) -> bool
 
 /// The literal that is all of the decimal run in front.
 fn read_literal(text: &str) -> Option<Literal>
-    ensures read { ReadsLiteral (model.literal_at (run_of (chars text.now))) result }
-    ensures ends { IfSome result (λ l. EndsRun text.now l.rest.now) }
+    ensures { ReadsLiteral (model.literal_at (run_of (chars text.now))) text.now result }
 {
     let (before, rest) = split_digits(text);
     let Some((point, digits)) = front(rest) else {
@@ -488,16 +488,8 @@ fn unsigned<'t>(
 fn scan(text: &str) -> Result<(Scanned<'_>, &str), Refusal>
     ensures { AnswersAs scanned_of (model.number (chars text.now)) result }
 {
-    let Some((sign, rest)) = front(text) else {
-        return Err(Refusal::Code(ErrorCode::EofParsingNumber, None));
-    };
-    if sign == '+' {
-        return unsigned(text, false, rest);
-    }
-    if sign == '-' {
-        return unsigned(text, true, rest);
-    }
-    unsigned(text, false, text)
+    let (negative, rest) = after_sign(text);
+    unsigned(text, negative, rest)
 }
 
 /// The number in front, where it is a whole one of few digits, and what follows it.

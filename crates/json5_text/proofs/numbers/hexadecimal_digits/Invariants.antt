@@ -8,7 +8,7 @@ use Rattle.json5_text.proofs.numbers.hexadecimal_digits.Given as goal
 abbrev pub invariant-loop-c : goal.invariant-loop-c
 invariant-loop-c l = record {
   text : shadow (Utf8 l.rest);
-  same : hex_digits l.value (chars l.rest) ≡ hex_digits 0 (chars l.fn.text);
+  same : hex_digits l.value (chars l.rest) ≡ hex_digits l.fn.first (chars l.fn.text);
   bound : l.value < 2 ^ 128;
 }
 

@@ -6,24 +6,22 @@ use Rattle.json5_text.proofs.DecimalRuns.{front_is, more_follows, none_follows, 
 use Rattle.json5_text.specs.NumberParts.{run_of}
 use Rattle.json5_text.proofs.numbers.read_exponent_digits.Goals as goal
 
-pub returns-then-is_empty-clause-read : goal.returns-then-is_empty-clause-read
-returns-then-is_empty-clause-read c =
+pub returns-then-is_empty : goal.returns-then-is_empty
+returns-then-is_empty c =
     let x = chars c.args.text.now in
     exponent_no_digit c.args.negative (run_of x) _ (front_is x _ c.split_digits.ensures.front) (is_none _ _ c.is_empty.ensures c.if-is_empty.true)
 
-pub returns-then-goes_on-clause-read : goal.returns-then-goes_on-clause-read
-returns-then-goes_on-clause-read c =
+pub returns-then-goes_on : goal.returns-then-goes_on
+returns-then-goes_on c =
     let x = chars c.args.text.now in
     exponent_more c.args.negative (run_of x) (more_follows x _ c.split_digits.ensures.rest (sym c.goes_on.ensures ∙ c.if-goes_on.true))
 
-pub returns-clause-read : goal.returns-clause-read
-returns-clause-read c =
+pub returns : goal.returns
+returns c =
     let x = chars c.args.text.now in
-    exponent_found c.args.negative (run_of x) _ (front_is x _ c.split_digits.ensures.front) (is_some _ _ c.is_empty.ensures c.if-is_empty.false)
-    (none_follows x _ c.split_digits.ensures.rest (sym c.goes_on.ensures ∙ c.if-goes_on.false))
-
-pub returns-clause-ends : goal.returns-clause-ends
-returns-clause-ends c = record {
-  follows = ends_after (chars c.args.text.now) _ c.split_digits.ensures.rest (sym c.goes_on.ensures ∙ c.if-goes_on.false);
-  text = c.split_digits.ensures.text;
-}
+    let none = sym c.goes_on.ensures ∙ c.if-goes_on.false in
+    record {
+      read = exponent_found c.args.negative (run_of x) _ (front_is x _ c.split_digits.ensures.front) (is_some _ _ c.is_empty.ensures c.if-is_empty.false) (none_follows x _ c.split_digits.ensures.rest none);
+      digits = c.split_digits.ensures.digits;
+      ends = record { follows = ends_after x _ c.split_digits.ensures.rest none; text = c.split_digits.ensures.text };
+    }
