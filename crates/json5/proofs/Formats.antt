@@ -12,7 +12,7 @@ use Rattle.json5_text.specs.Errors.{FaultKind, code, custom, failed_write, kind_
 use Rattle.json5_text.specs.ValueViews.{Datum}
 use Rattle.json5_de.specs.Convert.{datum_of, items_of, fields_of}
 use Rattle.json5_ser.specs.Marks.{marks, unmarked, unmarked_elements, unmarked_fields}
-use Rattle.json5_ser.specs.Out.{Out, whole, invalid_key, too_deep, text_of}
+use Rattle.json5_ser.specs.Out.{Out, whole, invalid_key, too_deep, text_of, text_within}
 use Rattle.json5_ser.specs.Pieces.{AppendsFront, Pushes}
 use Rattle.json5_ser.specs.Texts.{IsText, RefusesText, StopsAs}
 use Rattle.json5_ser.specs.ValueTrees.{datum_tree, items_tree, fields_tree}
@@ -20,7 +20,7 @@ use Rattle.json5_ser.specs.Writes.{Seen, Writes, Refusal, by_key, by_depth, by_w
 use Rattle.json5_ser.proofs.Depths.{text_document}
 use Rattle.json5_ser.proofs.ReadTrees.{read_written}
 use Rattle.json5_ser.proofs.Unmarked.{tree_again}
-use Rattle.json5.specs.Formatted.{IsFormatted}
+use Rattle.json5.specs.Formatted.{IsFormatted, IsFormattedWithin}
 
 -- ---- the tree that is written
 
@@ -47,26 +47,32 @@ pub written_tree : (t : Tree) (d : Datum) → d ≡ datum_of t → datum_tree d 
 written_tree t d e = ap datum_tree e ∙ same_tree t
 
 -- its text is whole
-pub value_whole : (x : List ℕ) (t : Tree) (d : Datum) → Doc max_depth x t → d ≡ datum_of t → (text_of (datum_tree d)).stop ≡ whole
-value_whole x t d doc e = subst (λ z. (text_of z).stop ≡ whole) (sym (written_tree t d e)) (read_written max_depth x t doc)
+pub value_within : (limit : ℕ) (x : List ℕ) (t : Tree) (d : Datum) → Doc limit x t → d ≡ datum_of t → (text_within limit (datum_tree d)).stop ≡ whole
+value_within limit x t d doc e = subst (λ z. (text_within limit z).stop ≡ whole) (sym (written_tree t d e)) (read_written limit x t doc)
 
-pub formatted : (x bytes : List ℕ) (t : Tree) (d : Datum) → Doc max_depth x t → d ≡ datum_of t → IsText (text_of (datum_tree d)) bytes → IsFormatted x bytes
-formatted x bytes t d doc e w = record {
+pub value_whole : (x : List ℕ) (t : Tree) (d : Datum) → Doc max_depth x t → d ≡ datum_of t → (text_of (datum_tree d)).stop ≡ whole
+value_whole = value_within max_depth
+
+pub formatted_within : (limit : ℕ) (x bytes : List ℕ) (t : Tree) (d : Datum) → Doc limit x t → d ≡ datum_of t → IsText (text_within limit (datum_tree d)) bytes → IsFormattedWithin limit x bytes
+formatted_within limit x bytes t d doc e w = record {
   tree = t;
   document = doc;
-  written = subst (λ z. IsText (text_of z) bytes) (written_tree t d e) w;
+  written = subst (λ z. IsText (text_within limit z) bytes) (written_tree t d e) w;
   again = marks (datum_tree d);
-  reads_back = text_document (datum_tree d) bytes w;
-  same = tree_again max_depth (datum_tree d) 0 w.stop ∙ written_tree t d e;
+  reads_back = text_document limit (datum_tree d) bytes w;
+  same = tree_again limit (datum_tree d) 0 w.stop ∙ written_tree t d e;
 }
+
+pub formatted : (x bytes : List ℕ) (t : Tree) (d : Datum) → Doc max_depth x t → d ≡ datum_of t → IsText (text_of (datum_tree d)) bytes → IsFormatted x bytes
+formatted = formatted_within max_depth
 
 -- ---- formatting twice
 
 -- what is written of a formatted text is the text
-pub formatted_again : (x bytes other : List ℕ) → IsFormatted x bytes → IsFormatted (chars bytes) other → other ≡ bytes
-formatted_again x bytes other f g =
-    let tree = one_tree max_depth max_depth (chars bytes) g.tree f.again g.document f.reads_back in
-    g.written.encoded ∙ (ap (λ t. encode_utf8_all (text_of t).text) (ap unmarked tree ∙ f.same) ∙ sym f.written.encoded)
+pub formatted_again : (limit : ℕ) (x bytes other : List ℕ) → IsFormattedWithin limit x bytes → IsFormattedWithin limit (chars bytes) other → other ≡ bytes
+formatted_again limit x bytes other f g =
+    let tree = one_tree limit limit (chars bytes) g.tree f.again g.document f.reads_back in
+    g.written.encoded ∙ (ap (λ t. encode_utf8_all (text_within limit t).text) (ap unmarked tree ∙ f.same) ∙ sym f.written.encoded)
 
 -- ---- where a text is whole
 
@@ -79,15 +85,15 @@ kind_of_whole o (code _) w h = absurd h
 kind_of_whole o failed_write w h = absurd h
 kind_of_whole o (custom _) w h = absurd h
 
-pub only_memory : (x : List ℕ) (t : Tree) (d : Datum) (e : Error) → Doc max_depth x t → d ≡ datum_of t → RefusesText (text_of (datum_tree d)) e → IsOutOfMemory e
-only_memory x t d e doc is h = kind_of_whole (text_of (datum_tree d)) (kind_of e) (value_whole x t d doc is) h.stops
+pub only_memory : (limit : ℕ) (x : List ℕ) (t : Tree) (d : Datum) (e : Error) → Doc limit x t → d ≡ datum_of t → RefusesText (text_within limit (datum_tree d)) e → IsOutOfMemory e
+only_memory limit x t d e doc is h = kind_of_whole (text_within limit (datum_tree d)) (kind_of e) (value_within limit x t d doc is) h.stops
 
 -- what is written of a document's value
-pub completed : {S : Type 0} (bytes : S → List ℕ) (x : List ℕ) (t u : Tree) (d : Datum) (r : Result S Error) → Doc max_depth x t → Doc max_depth x u → d ≡ datum_of t
-    → IfOk r (λ s. IsText (text_of (datum_tree d)) (bytes s)) → IfErr r (λ e. RefusesText (text_of (datum_tree d)) e)
-    → MatchResult r (λ s. IsText (text_of (unmarked u)) (bytes s)) IsOutOfMemory
-completed bytes x t u d (Ok s) a b is w k = subst (λ z. IsText (text_of z) (bytes s)) (written_tree t d is ∙ ap unmarked (one_tree max_depth max_depth x t u a b)) w
-completed bytes x t u d (Err e) a b is w k = only_memory x t d e a is k
+pub completed : {S : Type 0} (limit : ℕ) (bytes : S → List ℕ) (x : List ℕ) (t u : Tree) (d : Datum) (r : Result S Error) → Doc limit x t → Doc limit x u → d ≡ datum_of t
+    → IfOk r (λ s. IsText (text_within limit (datum_tree d)) (bytes s)) → IfErr r (λ e. RefusesText (text_within limit (datum_tree d)) e)
+    → MatchResult r (λ s. IsText (text_within limit (unmarked u)) (bytes s)) IsOutOfMemory
+completed limit bytes x t u d (Ok s) a b is w k = subst (λ z. IsText (text_within limit z) (bytes s)) (written_tree t d is ∙ ap unmarked (one_tree limit limit x t u a b)) w
+completed limit bytes x t u d (Err e) a b is w k = only_memory limit x t d e a is k
 
 -- a failed write alone refuses it to a writer, which holds a prefix
 front_of_whole : (o : Out) (r : Refusal) (old new : Seen) → o.stop ≡ whole → old.failed ≡ false → RefusesBy o old r new → AppendsFront old.known new.known (encode_utf8_all o.text)

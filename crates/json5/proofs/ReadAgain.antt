@@ -99,6 +99,6 @@ pub only_memory : (t : Written) (e : Error) → HasKeys t → depth (marks t) �
 only_memory t e s l h = memory_by (text_of t) (kind_of e) (not_refused max_depth t 0 s (omega (arith, l))) h.stops
 
 -- a document that was written of a value that reads back is read as its content
-pub read_again : {V C : Type 0} (tree : V → Written) (convert : Tree → Option C) (content : V → C) (v : V) (x : List ℕ) (result : Result V Error) → ReadsBack tree convert content v → Doc max_depth x (marks (tree v)) → ReadsDocument content convert x result
+pub read_again : {V C : Type 0} (tree : V → Written) (convert : Tree → Option C) (content : V → C) (v : V) (x : List ℕ) (result : Result V Error) → ReadsBack tree convert content v → Doc max_depth x (marks (tree v)) → ReadsDocument content convert max_depth x result
     → MatchResult result (λ w. content w ≡ content v) IsOutOfMemory
 read_again tree convert content v x result back document reads = reads (marks (tree v)) (content v) document back

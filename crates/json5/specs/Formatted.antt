@@ -3,19 +3,24 @@ use Rattle.std.specs.Prelude.{◌≡◌, ℕ, List}
 use Rattle.std.specs.Str.{chars}
 use Rattle.json5_grammar.specs.Trees.{Tree}
 use Rattle.json5_grammar.specs.Documents.{Doc, max_depth}
-use Rattle.json5_ser.specs.Out.{text_of}
+use Rattle.json5_ser.specs.Out.{text_within}
 use Rattle.json5_ser.specs.Marks.{unmarked}
 use Rattle.json5_ser.specs.Texts.{IsText}
 
 -- the bytes are the written text of the tree without its marks
-abbrev pub WritesTree : Tree → List ℕ → Type 0
-WritesTree t bytes = IsText (text_of (unmarked t)) bytes
+abbrev pub WritesTree : ℕ → Tree → List ℕ → Type 0
+WritesTree limit t bytes = IsText (text_within limit (unmarked t)) bytes
 
--- x is a document, the bytes are the written text of its tree without marks, and they are again a document of that tree
-pub record IsFormatted (x bytes : List ℕ) : Type 0 where
+-- x is a document within the limit, the bytes are the written text of its tree without marks, and they are again a document of
+-- that tree
+pub record IsFormattedWithin (limit : ℕ) (x bytes : List ℕ) : Type 0 where
   pub tree : Tree
-  pub document : Doc max_depth x tree
-  pub written : WritesTree tree bytes
+  pub document : Doc limit x tree
+  pub written : WritesTree limit tree bytes
   pub again : Tree
-  pub reads_back : Doc max_depth (chars bytes) again
+  pub reads_back : Doc limit (chars bytes) again
   pub same : unmarked again ≡ unmarked tree
+
+-- the same at the full limit
+abbrev pub IsFormatted : List ℕ → List ℕ → Type 0
+IsFormatted = IsFormattedWithin max_depth

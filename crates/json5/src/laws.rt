@@ -16,7 +16,7 @@ ghost use Rattle.json5_ser.specs.WrittenTrees.{null, boolean, number, text, natu
 ghost use Rattle.json5_ser.specs.Marks.{marks, is_plain};
 ghost use Rattle.json5_ser.specs.ValueTrees.{datum_tree};
 ghost use Rattle.json5.specs.AnyText.{FaultyDocument, IsOneFault, IsNoDocument, ReadsEachText};
-ghost use Rattle.json5.specs.Formatted.{IsFormatted};
+ghost use Rattle.json5.specs.Formatted.{IsFormattedWithin};
 ghost use Rattle.json5.specs.ReadsBack.{ReadsBack, KeyReadsBack, PairsReadBack, OrderStays, TurnStays, list_tree, list_of};
 
 use json5_de::{Deserialize, DeserializeKey};
@@ -78,20 +78,20 @@ pub fn values_read_back()
     ensures { (d : Datum) → ReadsBack datum_tree every_datum (λ d. d) d }
 {}
 
-/// What the clauses of `from_str` come to at `Value`. Exactly the documents are read, each as the value of its tree, unless memory
+/// What the clauses of `from_str_within` come to at `Value`, for every limit. Exactly the documents within it are read, each as the value of its tree, unless memory
 /// runs out. Any other text is refused with its one fault of the fault table, at its place; what stands before the faulty part begins
 /// a document, and no document goes on past the character that shows the fault.
 pub fn values_read<I: Input>()
     ensures { ReadsEachText ⟦<Value as Deserialize<I>>⟧.convert ⟦<Value as Deserialize<I>>⟧.refuses }
 {}
 
-/// A text has one fault at most, of one code and one place, and then it is no document.
+/// Within a limit a text has one fault at most, of one code and one place, and then it is no document.
 pub fn one_refusal()
     ensures same { IsOneFault FaultyDocument }
     ensures none { IsNoDocument FaultyDocument }
 {}
 
-/// Formatting twice changes nothing: what is written of a formatted text is that text.
+/// Formatting twice within one limit changes nothing: what is written of a formatted text is that text.
 pub fn formatted_once()
-    ensures { (x bytes other : List ℕ) → IsFormatted x bytes → IsFormatted (chars bytes) other → other ≡ bytes }
+    ensures { (limit : ℕ) (x bytes other : List ℕ) → IsFormattedWithin limit x bytes → IsFormattedWithin limit (chars bytes) other → other ≡ bytes }
 {}

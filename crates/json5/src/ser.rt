@@ -2,5 +2,6 @@
 
 pub use json5_ser::output::write_whole;
 pub use json5_ser::{
-    MapKey, Serialize, SerializeCollection, SerializeKey, Serializer, to_string, to_writer,
+    MapKey, Serialize, SerializeCollection, SerializeKey, Serializer, to_string, to_string_within,
+    to_writer, to_writer_within,
 };

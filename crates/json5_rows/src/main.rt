@@ -5,6 +5,7 @@ mod answers;
 mod hand_enums;
 mod hand_keys;
 mod hand_structs;
+mod limits;
 mod objects;
 mod reaches;
 mod reads;

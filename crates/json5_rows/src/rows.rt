@@ -2,7 +2,7 @@
 
 use crate::answers::{Answer, by_code, by_message};
 use crate::spelling::{shortened, unescaped};
-use crate::{reaches, reads, scans, sequences, texts, writes, writings};
+use crate::{limits, reaches, reads, scans, sequences, texts, writes, writings};
 use std::alloc::{AllocError, Global};
 
 /// Whether the line is a row: neither blank nor a comment.
@@ -34,6 +34,10 @@ fn answer(alloc: Global, call: &str, text: &str) -> Answer {
         "sequence" => sequences::sequence(alloc, words, text),
         "writing" => writings::writing(alloc, words),
         "stops" => writings::stops(alloc, words, text),
+        "within" | "written" | "format_within" | "fits_within" => {
+            limits::limited(alloc, name, words, text)
+        }
+        "limit" => limits::limit(alloc, words),
         "reaches" => reaches::reaches(alloc, words, text),
         "scan" => scans::scan(alloc, words, text),
         "position" => texts::position(alloc, words, text),

@@ -29,7 +29,7 @@ pub fn writing(alloc: Global, names: &str) -> Answer {
 }
 
 /// The bytes as text.
-fn held(alloc: Global, bytes: Vec<u8>) -> Answer {
+pub fn held(alloc: Global, bytes: Vec<u8>) -> Answer {
     match String::from_utf8(bytes) {
         Ok(text) => shown(alloc, Ok(text)),
         Err(_) => unknown(alloc),

@@ -2,4 +2,4 @@ use Rattle.json5.proofs.AnyTexts.{reads_text}
 use Rattle.json5.proofs.laws.values_read.Goals as goal
 
 pub returns : goal.returns
-returns g c = λ x result k. reads_text x result k.sound k.complete k.refused k.unprompted
+returns g c = λ limit x result bound k. reads_text limit x result bound k.sound k.complete k.refused k.unprompted

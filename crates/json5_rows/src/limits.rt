@@ -1,0 +1,112 @@
+//! Calls within a limit: `within 2 Value` reads, `written 1 Value` writes what is read at the full limit.
+
+use crate::answers::{Answer, Any, push_answer, shown, unknown};
+use crate::hand_enums::E;
+use crate::hand_structs::Config;
+use crate::writings::held;
+use json5::{
+    Deserialize, IgnoredAny, Limit, Serialize, Value, format_within, from_str, from_str_within,
+    to_string_within, to_writer_within,
+};
+use std::alloc::Global;
+use std::collections::BTreeMap;
+use std::fmt::Debug;
+
+/// Makes the call with the limit, a number; an unknown one where no limit is so large.
+pub fn limited(alloc: Global, name: &str, words: &str, text: &str) -> Answer {
+    let (number, target) = words.split_once(' ').unwrap_or((words, ""));
+    let Some(limit) = number.parse::<u8>().ok().and_then(Limit::new) else {
+        return unknown(alloc);
+    };
+    match name {
+        "within" => read(alloc, limit, target, text),
+        "written" => write(alloc, limit, target, text),
+        "format_within" => format_within(alloc, limit, text),
+        "fits_within" => fits(alloc, limit, text),
+        _ => unknown(alloc),
+    }
+}
+
+/// Whether there is a limit of so many brackets, and how many it is.
+pub fn limit(alloc: Global, number: &str) -> Answer {
+    let Ok(number) = number.parse::<u8>() else {
+        return unknown(alloc);
+    };
+    match Limit::new(number) {
+        Some(limit) => shown(alloc, Ok((limit.get(), limit == Limit::full()))),
+        None => shown(alloc, Ok(())),
+    }
+}
+
+fn fits(alloc: Global, limit: Limit, text: &str) -> Answer {
+    let value = from_str::<Value>(alloc, text)?;
+    shown(alloc, Ok(value.fits_within(limit)))
+}
+
+fn read(alloc: Global, limit: Limit, name: &str, text: &str) -> Answer {
+    match name {
+        "Value" => shown(alloc, from_str_within(alloc, limit, text).map(Any)),
+        "IgnoredAny" => read_as::<IgnoredAny>(alloc, limit, text),
+        "Vec<Vec<i32>>" => read_as::<Vec<Vec<i32>>>(alloc, limit, text),
+        "BTreeMap<u8, String>" => read_as::<BTreeMap<u8, String>>(alloc, limit, text),
+        "Config" => read_as::<Config>(alloc, limit, text),
+        "E" => read_as::<E>(alloc, limit, text),
+        _ => read_scalar(alloc, limit, name, text),
+    }
+}
+
+fn read_scalar(alloc: Global, limit: Limit, name: &str, text: &str) -> Answer {
+    match name {
+        "()" => read_as::<()>(alloc, limit, text),
+        "bool" => read_as::<bool>(alloc, limit, text),
+        "u8" => read_as::<u8>(alloc, limit, text),
+        "String" => read_as::<String>(alloc, limit, text),
+        _ => unknown(alloc),
+    }
+}
+
+fn read_as<'de, T: Deserialize<&'de str> + Debug>(
+    alloc: Global,
+    limit: Limit,
+    text: &'de str,
+) -> Answer {
+    shown(alloc, from_str_within::<T>(alloc, limit, text))
+}
+
+fn write(alloc: Global, limit: Limit, name: &str, text: &str) -> Answer {
+    match name {
+        "Value" => write_as::<Value>(alloc, limit, text),
+        "Vec<Vec<i32>>" => write_as::<Vec<Vec<i32>>>(alloc, limit, text),
+        "BTreeMap<u8, String>" => write_as::<BTreeMap<u8, String>>(alloc, limit, text),
+        "Config" => write_as::<Config>(alloc, limit, text),
+        "E" => write_as::<E>(alloc, limit, text),
+        _ => write_scalar(alloc, limit, name, text),
+    }
+}
+
+fn write_scalar(alloc: Global, limit: Limit, name: &str, text: &str) -> Answer {
+    match name {
+        "()" => write_as::<()>(alloc, limit, text),
+        "bool" => write_as::<bool>(alloc, limit, text),
+        "u8" => write_as::<u8>(alloc, limit, text),
+        "String" => write_as::<String>(alloc, limit, text),
+        _ => unknown(alloc),
+    }
+}
+
+/// What `to_string_within` and `to_writer_within` answer, and then what the writer holds.
+fn write_as<'de, T: Deserialize<&'de str> + Serialize>(
+    alloc: Global,
+    limit: Limit,
+    text: &'de str,
+) -> Answer {
+    let value = from_str::<T>(alloc, text)?;
+    let mut answers = String::new(alloc);
+    let text = to_string_within(alloc, limit, &value);
+    push_answer(alloc, shown(alloc, text), &mut answers)?;
+    let mut writer = Vec::new(alloc);
+    let written = to_writer_within(&mut writer, limit, &value);
+    push_answer(alloc, shown(alloc, written), &mut answers)?;
+    push_answer(alloc, held(alloc, writer), &mut answers)?;
+    Ok(answers)
+}
