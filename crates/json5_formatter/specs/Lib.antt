@@ -6,3 +6,4 @@ pub mod Runs
 pub mod Failures
 pub mod Words
 pub mod Files
+pub mod Inputs

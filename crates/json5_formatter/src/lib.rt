@@ -10,6 +10,7 @@ mod failure;
 #[cfg(test)]
 mod file_tests;
 mod files;
+mod input;
 mod output;
 mod programs;
 mod reports;

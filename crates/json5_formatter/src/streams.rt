@@ -6,10 +6,11 @@ ghost use Rattle.json5_formatter.specs.Runs.{HoldsValue, IsDocument, NoText, Rea
 ghost use Rattle.json5_formatter.specs.Failures.{NamesMemory};
 
 use crate::failure::Failure;
+use crate::input::read_whole;
 use json5::ser::write_whole;
 use json5::{Value, from_str, to_writer};
 use std::alloc::Global;
-use std::io::{ErrorKind, Read, Write};
+use std::io::{Read, Write};
 
 /// Reads all of `r`, writes the text of its value and one LF to `w` piece by piece, and flushes `w`.
 ///
@@ -55,12 +56,7 @@ fn read_text<R: Read>(alloc: Global, r: &mut R) -> Result<String, Failure>
     ensures read { IfOk result (λ text. IfSome (R.remaining r.old) (λ bytes. string_bytes text ≡ bytes)) }
     ensures stopped { IfErr result (NoText (R.remaining r.old)) }
 {
-    let mut bytes = Vec::new(alloc);
-    match r.read_to_end(&mut bytes) {
-        Ok(_) => {}
-        Err(e) if e.kind() == ErrorKind::OutOfMemory => return Err(Failure::NoMemory),
-        Err(_) => return Err(Failure::Read),
-    }
+    let bytes = read_whole(alloc, r)?;
     match String::from_utf8(bytes) {
         Ok(text) => Ok(text),
         Err(_) => Err(Failure::NotUtf8),

@@ -48,10 +48,11 @@ fn each_cause_has_its_line_and_status(rt: HostRuntime) -> Result<(), Fail> {
     Ok(())
 }
 
-/// A reader that gives one byte a call, and fails in this way at one call.
+/// A reader that gives one byte a call, and fails in this way at one call. It keeps how many bytes the last call asked for.
 #[derive(Drop)]
 pub struct Trickle<'a> {
     bytes: &'a [u8],
+    room: usize,
     calls: usize,
     fails_at: usize,
     kind: ErrorKind,
@@ -66,6 +67,7 @@ impl Trickle<'_> {
     fn failing(bytes: &[u8], fails_at: usize, kind: ErrorKind) -> Trickle<'_> {
         Trickle {
             bytes,
+            room: 0,
             calls: 0,
             fails_at,
             kind,
@@ -76,6 +78,7 @@ impl Trickle<'_> {
 impl Read for Trickle<'_> {
     fn read(&mut self, buf: &mut [u8]) -> io::Result<usize> {
         self.calls = self.calls.saturating_add(1);
+        self.room = buf.len();
         if self.calls == self.fails_at {
             return Err(io::Error::new(self.kind, "no"));
         }
@@ -158,7 +161,11 @@ fn ends_with(alloc: Global, kind: ErrorKind, line: &str) -> Result<bool, Fail> {
 
 #[test]
 fn a_failed_read_is_no_want_of_memory(rt: HostRuntime) -> Result<(), Fail> {
-    for kind in [ErrorKind::Other, ErrorKind::IsADirectory] {
+    for kind in [
+        ErrorKind::Other,
+        ErrorKind::IsADirectory,
+        ErrorKind::Interrupted,
+    ] {
         assert!(rt; ends_with(rt.alloc(), kind, "stdin: cannot be read\n")?);
     }
     Ok(())
@@ -168,6 +175,13 @@ fn a_failed_read_is_no_want_of_memory(rt: HostRuntime) -> Result<(), Fail> {
 fn want_of_memory_is_no_failed_read(rt: HostRuntime) -> Result<(), Fail> {
     assert!(rt; ends_with(rt.alloc(), ErrorKind::OutOfMemory, "stdin: out of memory\n")?);
     Ok(())
+}
+
+#[test]
+fn reads_ask_for_64_kib(rt: HostRuntime) {
+    let mut input = Trickle::whole(b"null");
+    assert!(rt; run(rt.alloc(), &mut input, &mut Vec::new(rt.alloc())).is_ok());
+    assert_eq!(rt; (input.room, input.calls), (64 * 1024, 5));
 }
 
 /// A writer that takes one byte a call, and fails once it has so many.
