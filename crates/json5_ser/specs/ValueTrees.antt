@@ -1,10 +1,11 @@
 -- The tree of a value of any kind.
-use Rattle.std.specs.Prelude.{String, string_bytes}
+use Rattle.std.specs.Prelude.{ℕ, String, string_bytes}
 use Rattle.std.specs.declared.alloc.Global.{Global}
 use Rattle.std.specs.Str.{chars}
 use Rattle.json5_text.specs.declared.value.Value.{Value}
 use Rattle.json5_text.specs.ValueViews as datum
 use Rattle.json5_text.specs.ValueViews.{Datum, Items, no_item, item, no_field, field, value_of}
+use Rattle.json5_ser.specs.Out.{Out, text_within}
 use Rattle.json5_ser.specs.WrittenTrees as written
 use Rattle.json5_ser.specs.WrittenTrees.{Key, Written, Elements, Fields, named, null, boolean, number, text, array, object, no_element, element}
 
@@ -27,6 +28,10 @@ abbrev mutual
 
 abbrev pub value_tree : Value → Written
 value_tree v = datum_tree (value_of v)
+
+-- the text of a value of any kind, within a limit
+abbrev pub value_text : ℕ → Value → Out
+value_text limit v = text_within limit (value_tree v)
 
 -- the key that is a text
 abbrev pub text_key : String Global → Key

@@ -9,9 +9,9 @@ ghost use Rattle.json5_grammar.specs.Values.{Val, KeyText};
 ghost use Rattle.json5_grammar.specs.Documents.{Doc};
 ghost use Rattle.json5_text.specs.declared.value.Value.{Value};
 ghost use Rattle.json5_text.specs.ValueViews.{value_of};
-ghost use Rattle.json5_ser.specs.ValueTrees.{value_tree};
+ghost use Rattle.json5_ser.specs.ValueTrees.{value_text};
 ghost use Rattle.json5_ser.specs.WrittenTrees.{Written, number};
-ghost use Rattle.json5_ser.specs.Out.{out, text_within, piece, whole, invalid_key, too_deep};
+ghost use Rattle.json5_ser.specs.Out.{out, piece, whole, invalid_key, too_deep};
 ghost use Rattle.json5_ser.specs.Marks.{marks, unmarked, is_plain_key, IsSpelled};
 
 /// A number's text is whole exactly when it is a whole number in range, or a decimal in normal form.
@@ -37,7 +37,7 @@ pub fn written_reads_back()
 
 /// Each key of a value of any kind has a text, so that the value is written unless it is too deep.
 pub fn value_keys()
-    ensures { (limit : ℕ) (v : Value) → (text_within limit (value_tree v)).stop ≢ invalid_key }
+    ensures { (limit : ℕ) (v : Value) → (value_text limit v).stop ≢ invalid_key }
 {}
 
 /// The tree of a document can be written: its text is whole.
@@ -47,7 +47,7 @@ pub fn read_is_written()
 
 /// Equal texts are written of equal trees, whatever their levels, and for values of any kind exactly of equal ones.
 pub fn one_tree_written()
-    ensures values { (limit : ℕ) (v w : Value) → (text_within limit (value_tree v)).stop ≡ whole → text_within limit (value_tree v) ≡ text_within limit (value_tree w) ↔ value_of v ≡ value_of w }
+    ensures values { (limit : ℕ) (v w : Value) → (value_text limit v).stop ≡ whole → value_text limit v ≡ value_text limit w ↔ value_of v ≡ value_of w }
     ensures trees { (limit other d e : ℕ) (t u : Written) (s : List ℕ) → out limit t d ≡ piece s → out other u e ≡ piece s → t ≡ u }
 {}
 
