@@ -21,6 +21,9 @@ impl<K: Eq + Hash + Drop, V: Drop> Gathers<K, V> for IndexMap<K, V> {
 }
 
 /// An object, in the order in which keys first came. Of pairs with equal keys the first gives the key and the last the value.
+///
+/// The hasher has a fixed seed that everyone knows, so that keys chosen for it make reading slow. Read a text from strangers as
+/// `BTreeMap` or `Value`.
 impl<I: Input, K: DeserializeKey<I> + Eq + Hash, V: Deserialize<I>> Deserialize<I>
     for IndexMap<K, V> {
     ghost use Rattle.std.specs.Prelude.{List, map};

@@ -1,8 +1,8 @@
 //! Reading all that a reader gives.
 
-ghost use Rattle.std.specs.Prelude.{◌≡◌, ◌++◌, ◌<◌, List, IfOk, IfErr, IfSome, length, take, vec_len};
-ghost use Rattle.std.specs.Io.KnownBytes.{Consumes, IsAtEnd};
-ghost use Rattle.json5_formatter.specs.Inputs.{IsReadFault};
+ghost use Rattle.std.specs.Prelude.{◌≡◌, ◌<◌, IfOk, IfErr, IfSome, length, take, vec_len};
+ghost use Rattle.std.specs.Io.KnownBytes.{IsAtEnd};
+ghost use Rattle.json5_formatter.specs.Inputs.{ReadsPiece, IsReadFault};
 
 use crate::failure::Failure;
 use std::alloc::Global;
@@ -40,7 +40,7 @@ fn new_piece(alloc: Global) -> Result<Vec<u8>, Failure>
 
 /// One read into the piece, whose bytes are put behind the others; it answers how many there were.
 fn read_piece<R: Read>(r: &mut R, piece: &mut [u8], bytes: &mut Vec<u8>) -> Result<usize, Failure>
-    ensures read { IfOk result (λ count. (bytes.new.items ≡ bytes.old.items ++ take count piece.new) × Consumes (R.remaining r.old) (R.remaining r.new) (take count piece.new)) }
+    ensures read { IfOk result (λ count. ReadsPiece (take count piece.new) bytes.old.items bytes.new.items (R.remaining r.old) (R.remaining r.new)) }
     ensures end { IfOk result (λ count. count ≡ 0 → 0 < length piece.old → IsAtEnd (R.remaining r.new)) }
     ensures stopped { IfErr result IsReadFault }
 {

@@ -2,7 +2,7 @@
 
 use crate::writers::{Failure, Slow, failed_write};
 use indexmap::IndexMap;
-use json5::{ByteBuf, Error, ErrorCode, Result, Serialize, Serializer, Value, from_str, to_writer};
+use json5::{ByteBuf, Error, ErrorCode, Result, Serialize, Serializer, Value, from_str, to_string, to_writer};
 use json5_own_type::{Id, Reminder};
 use std::alloc::Global;
 use std::test::Fail;
@@ -99,8 +99,8 @@ const BY_HAND: &[u8] = b"{\n  a: [],\n  \"b c\": [\n    true,\n  ],\n}";
 
 /// Whether a serializer over a writer that fails after so many bytes refuses with a failed write, and then with `Failed`, and
 /// gives back a writer that was stopped there.
-fn stops_by_hand(alloc: Global, count: usize) -> bool {
-    let mut ser = Serializer::new(Slow::new(alloc, 1, count));
+fn stops_by_hand(alloc: Global, count: usize, failure: Failure) -> bool {
+    let mut ser = Serializer::new(Slow::failing(alloc, 1, count, failure));
     let stopped = write_by_hand(&mut ser) == Err(failed_write());
     let refused = ser.serialize_unit() == Err(Error::new(ErrorCode::Failed));
     let slow = ser.into_inner();
@@ -110,6 +110,39 @@ fn stops_by_hand(alloc: Global, count: usize) -> bool {
 #[test]
 fn a_collection_stops_anywhere(rt: HostRuntime) {
     for count in 0..BY_HAND.len() {
-        assert!(rt; stops_by_hand(rt.alloc(), count), "at {count}");
+        let interrupted = stops_by_hand(rt.alloc(), count, Failure::Interrupted);
+        let took_nothing = stops_by_hand(rt.alloc(), count, Failure::TakesNothing);
+        assert!(rt; interrupted && took_nothing, "at {count}");
     }
+}
+
+/// Whether a collection whose write failed refuses each later call with `Failed`.
+fn refuses_after_a_failed_write(ser: &mut Serializer<Slow>) -> Result<bool> {
+    let failed = Err(Error::new(ErrorCode::Failed));
+    let mut object = ser.serialize_map(None)?;
+    let stopped = object.serialize_entry(&"a", &1u8) == Err(failed_write());
+    let again = object.serialize_entry(&"b", &2u8) == failed;
+    Ok(stopped && again && object.end() == failed)
+}
+
+#[test]
+fn a_collection_stays_failed(rt: HostRuntime) -> std::result::Result<(), Fail> {
+    let mut ser = Serializer::new(Slow::new(rt.alloc(), 1, 5));
+    assert!(rt; refuses_after_a_failed_write(&mut ser)?);
+    let slow = ser.into_inner();
+    assert!(rt; was_stopped(&slow, b"{\n  a: 1", 5));
+    Ok(())
+}
+
+#[test]
+fn a_long_list_stops_late(rt: HostRuntime) -> std::result::Result<(), Fail> {
+    let mut list = Vec::new(rt.alloc());
+    for n in 0..10_000u32 {
+        list.push(n)?;
+    }
+    let text = to_string(rt.alloc(), &list)?;
+    let bytes = text.as_bytes();
+    assert!(rt; stops_after(rt.alloc(), &list, bytes, 50_000, Failure::Interrupted));
+    assert!(rt; stops_after(rt.alloc(), &list, bytes, 50_001, Failure::TakesNothing));
+    Ok(())
 }
