@@ -1,5 +1,5 @@
 -- What reading a whole text as a value of any kind comes to.
-use Rattle.std.proofs.Common.{◌≡◌, ℕ, ◌-◌, ◌≤◌, List, [], ◌++◌, refl, sym, ◌∙◌, subst, append_assoc, arith, ◌⊎◌, inl, inr, Option, Some}
+use Rattle.std.proofs.Common.{◌≡◌, ℕ, ◌-◌, ◌≤◌, List, ◌++◌, refl, sym, ◌∙◌, subst, append_assoc, arith, ◌⊎◌, inl, inr, Option, Some}
 use Rattle.std.specs.Prelude.{Result, Ok, Err, IfOk, IfErr}
 use Rattle.std.proofs.lemmas.Option.{same_Some}
 use Rattle.json5_grammar.specs.Codes.{after_text}
@@ -22,7 +22,7 @@ use Rattle.json5_de.specs.AnyTree.{RefusesTree, ReadingRefuses, RefusedInReading
 use Rattle.json5_de.specs.Convert.{datum_of, every_datum}
 use Rattle.json5_de.specs.Faults.{AfterBlanks, in_blanks, after_gap, Trailing, trailing, RefusedBy}
 use Rattle.json5_de.specs.Law.{TookValue, IsUnprompted}
-use Rattle.json5_de.specs.State.{State, cursor_of, at_start}
+use Rattle.json5_de.specs.State.{State, at_start}
 use Rattle.json5_de.specs.Texts.{ReadsDocument, RefusesReading, in_value, after_value}
 use Rattle.json5_de.proofs.Arrays.{failed_of}
 use Rattle.json5_de.proofs.TreeFaults.{as_reading}

@@ -10,7 +10,7 @@ use Rattle.json5_text.specs.declared.error.Error.{Error}
 use Rattle.json5_text.specs.Errors.{code, kind_of}
 use Rattle.json5_de.specs.State.{State, SameText}
 use Rattle.json5_de.specs.ConvertLists.{if_some}
-use Rattle.json5_de.specs.Faults.{RefusedBy, RefusedByOrMemory}
+use Rattle.json5_de.specs.Faults.{RefusedBy}
 use Rattle.json5_de.specs.Access.{NotOpened, IsAtBracket}
 use Rattle.json5_de.specs.AnyTree.{RefusesTree}
 use Rattle.json5_de.specs.Brackets.{curly}

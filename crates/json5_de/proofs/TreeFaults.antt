@@ -1,13 +1,11 @@
 -- What reading on lists refuses a value with is its fault, and the other way round.
-use Rattle.std.proofs.Common.{◌≡◌, ℕ, ◌-◌, false, List, ◌++◌, refl, ap, sym, ◌∙◌, subst, ◌⊎◌, inl, inr, Option, Some, None}
+use Rattle.std.proofs.Common.{◌≡◌, ℕ, ◌-◌, List, ◌++◌, refl, ap, sym, ◌∙◌, subst, inl, inr, Option, Some, None}
 use Rattle.json5_grammar.specs.Blanks.{Gap, Solid}
 use Rattle.json5_grammar.specs.declared.code.ErrorCode.{ErrorCode}
-use Rattle.json5_grammar.specs.Codes.{after_text}
 use Rattle.json5_grammar.specs.Documents.{max_depth}
 use Rattle.json5_grammar.specs.Reading.{Read, Place, here, inner, got, bad, and_then, IsAt}
 use Rattle.json5_grammar.specs.ReadBlanks.{skip, between}
 use Rattle.json5_grammar.specs.ReadValues.{read}
-use Rattle.json5_grammar.specs.Trees.{Tree}
 use Rattle.json5_grammar.proofs.Basics.{at_after}
 use Rattle.json5_grammar.proofs.BlanksSound.{BlanksSound, skip_sound, blank_refused, gap_read}
 use Rattle.json5_grammar.proofs.Found.{IsIn}
@@ -16,10 +14,9 @@ use Rattle.json5_grammar.proofs.TextsBlamed.{blames_value, value_refuses}
 use Rattle.json5_grammar.proofs.Unique.{phrase_reader}
 use Rattle.json5_grammar.proofs.ValuesSound.{read_place}
 use Rattle.json5_text.specs.declared.error.Error.{Error}
-use Rattle.json5_text.specs.Cursor.{Refused, IsOutOfMemory}
-use Rattle.json5_de.specs.AnyTree.{FaultyTree, RefusesTree, ReadingRefuses, RefusedInReading}
+use Rattle.json5_de.specs.AnyTree.{RefusesTree, ReadingRefuses, RefusedInReading}
 use Rattle.json5_de.specs.Faults.{AfterBlanks, in_blanks, after_gap}
-use Rattle.json5_de.specs.State.{State, cursor_of}
+use Rattle.json5_de.specs.State.{State}
 
 -- a comment's fault, or that of the value after the blanks, is what reading refuses
 from_blanks : (level : ℕ) (x : List ℕ) (reason : Option ErrorCode) (place : Option (List ℕ)) → AfterBlanks (ReadingRefuses level) x reason place

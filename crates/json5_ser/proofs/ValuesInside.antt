@@ -1,11 +1,11 @@
 -- The trees of the values inside a value.
-use Rattle.std.proofs.Common.{◌≡◌, ◌∙◌, List, [], ◌∷◌, refl, ap, sym, rules, Vec, Global, String, string_bytes}
+use Rattle.std.proofs.Common.{◌≡◌, ◌∙◌, List, [], ◌∷◌, refl, ap, Vec, Global, String, string_bytes}
 use Rattle.std.specs.Str.{chars}
 use Rattle.json5_text.specs.declared.value.Value.{Value, Array, Object}
 use Rattle.json5_text.specs.declared.value.Value as value
-use Rattle.json5_text.specs.ValueViews.{value_of, items_view, fields_view}
+use Rattle.json5_text.specs.ValueViews.{items_view, fields_view}
 use Rattle.json5_text.proofs.ValuesCompared.{view-String, view-Array, view-Object}
-use Rattle.json5_ser.specs.WrittenTrees.{text, array, object, element, field, named, elements_of, fields_of}
+use Rattle.json5_ser.specs.WrittenTrees.{text, array, object, element, field, elements_of, fields_of}
 use Rattle.json5_ser.specs.ValueTrees.{value_tree, datum_tree, items_tree, fields_tree, text_key}
 
 items_inside : (vs : List Value) → items_tree (items_view vs) ≡ elements_of value_tree vs

@@ -1,4 +1,4 @@
-use Rattle.std.proofs.Common.{rules, refl, sym, ap, subst, ◌∙◌, ◌≡◌, ◌<◌, ◌≤◌, length, drop, [], drop_of_length-le}
+use Rattle.std.proofs.Common.{rules, sym, ap, subst, ◌∙◌, ◌≡◌, ◌<◌, length, drop, [], drop_of_length-le}
 use Rattle.std.specs.Str.{chars}
 use Rattle.json5_text.proofs.LookedUp.{from_here}
 use Rattle.json5_ser.specs.WrittenTrees.{text, fields_of}

@@ -1,4 +1,4 @@
-use Rattle.std.proofs.Common.{◌≡◌, drop}
+use Rattle.std.proofs.Common.{drop}
 use Rattle.json5_ser.specs.WrittenTrees.{object, fields_of}
 use Rattle.json5_ser.specs.ValueTrees.{value_tree, text_key}
 use Rattle.json5_ser.proofs.Remains.{Remains, fields}

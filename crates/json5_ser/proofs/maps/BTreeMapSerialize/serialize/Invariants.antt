@@ -1,4 +1,3 @@
-use Rattle.std.proofs.Common.{◌≡◌}
 use Rattle.json5_ser.specs.WrittenTrees.{object, fields_of}
 use Rattle.json5_ser.proofs.Remains.{Remains, fields}
 use Rattle.json5_ser.proofs.maps.BTreeMapSerialize.serialize.Given as goal

@@ -1,4 +1,4 @@
-use Rattle.std.proofs.Common.{rules, refl, sym, ◌∙◌, ◌≡◌}
+use Rattle.std.proofs.Common.{rules, sym, ◌≡◌}
 use Rattle.json5_ser.specs.WrittenTrees.{fields_of}
 use Rattle.json5_ser.proofs.Members.{object_refused, object_begun, in_loop, out_of_loop, same_entries, field_on, field_refused, object_ended}
 use Rattle.json5_ser.proofs.maps.IndexMapSerialize.serialize.Goals as goal

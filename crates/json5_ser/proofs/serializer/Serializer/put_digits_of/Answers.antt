@@ -1,5 +1,5 @@
-use Rattle.std.proofs.Common.{rules, refl, ◌≡◌, sym, ap, ◌∙◌, subst}
-use Rattle.std.specs.Str.{IsUtf8, chars}
+use Rattle.std.proofs.Common.{rules, ◌≡◌, sym, ◌∙◌, subst}
+use Rattle.std.specs.Str.{IsUtf8}
 use Rattle.std.specs.Slice.Iter.{chunks_rest}
 use Rattle.hex.specs.Hex.{encode_lower}
 use Rattle.json5_ser.specs.Out.{piece}
