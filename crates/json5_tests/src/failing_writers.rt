@@ -2,7 +2,9 @@
 
 use crate::writers::{Failure, Slow, failed_write};
 use indexmap::IndexMap;
-use json5::{ByteBuf, Error, ErrorCode, Result, Serialize, Serializer, Value, from_str, to_string, to_writer};
+use json5::{
+    ByteBuf, Error, ErrorCode, Result, Serialize, Serializer, Value, from_str, to_string, to_writer,
+};
 use json5_own_type::{Id, Reminder};
 use std::alloc::Global;
 use std::test::Fail;
