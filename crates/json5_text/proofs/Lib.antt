@@ -31,3 +31,4 @@ pub mod AsciiBlanks
 pub mod AsciiNames
 pub mod FewDigits
 pub mod ShortWholes
+pub mod ShortWays

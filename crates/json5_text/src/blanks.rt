@@ -86,7 +86,7 @@ fn skip_comment(text: &str) -> Result<&str, Refusal>
 
 /// What follows the ASCII blanks in front.
 #[inline(always)]
-fn skip_ascii(text: &str) -> &str
+pub(crate) fn skip_ascii(text: &str) -> &str
     ensures { Continues between text.now result.now }
 {
     let count = blanks_len(text.as_bytes());

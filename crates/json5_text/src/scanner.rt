@@ -37,7 +37,7 @@ use std::marker::Model;
 /// `OutOfMemory` without a place.
 #[derive(Drop)]
 pub struct Scanner<I: Input> {
-    input: I,
+    pub(crate) input: I,
     /// The text's length in bytes.
     end: usize,
     /// The count of bytes that are read; a character begins there, or the text ends.
@@ -248,7 +248,7 @@ impl<I: Input> Scanner<I> {
     }
 
     /// What is unread of the text.
-    fn rest<'t>(&self, text: &'t str) -> &'t str
+    pub(crate) fn rest<'t>(&self, text: &'t str) -> &'t str
         requires { chars text.now ≡ self.now.input }
         ensures { chars result.now ≡ self.now.unread }
     {
@@ -256,7 +256,7 @@ impl<I: Input> Scanner<I> {
     }
 
     /// Leaves so many bytes unread.
-    fn leave_unread(&mut self, left: usize)
+    pub(crate) fn leave_unread(&mut self, left: usize)
         requires { Leaves self.old left }
         ensures { LeavesAt self.old left self.new }
     {
