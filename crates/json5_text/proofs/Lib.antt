@@ -32,3 +32,4 @@ pub mod AsciiNames
 pub mod FewDigits
 pub mod ShortWholes
 pub mod ShortWays
+pub mod ShortSteps

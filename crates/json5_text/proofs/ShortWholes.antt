@@ -30,7 +30,7 @@ len_counted s found k = let a = length-take (prefix_len is_digit s) s in let l =
 lengthens_ascii : PassesAscii lengthens_digits
 lengthens_ascii c h = grind (arith, nat_tests)
 
-ends_chars : (p : ℕ → Bool) (r : List ℕ) → PassesAscii p → IsUtf8 r → NotBegun p r → NotBegun p (chars r)
+pub ends_chars : (p : ℕ → Bool) (r : List ℕ) → PassesAscii p → IsUtf8 r → NotBegun p r → NotBegun p (chars r)
 ends_chars p r a v n = subst (NotBegun p) (chars_from_encodes v.0 r v v.1.1) (not_begun p v.0 r a v.1.1 n)
 
 whole_digits : (ds : List ℕ) → Each is_digit ds → model.is_integer ds ≡ true → Integer ds

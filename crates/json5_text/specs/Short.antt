@@ -1,13 +1,17 @@
 -- What the short ways promise: a token is taken with the ASCII blanks before it, or nothing is.
-use Rattle.std.specs.Prelude.{◌≡◌, ℕ, ◌^◌, List, ◌++◌, length, ℤ, pos, neg_ℤ, ◌≤ℤ◌, Option, MatchOption}
-use Rattle.std.specs.Str.{chars}
-use Rattle.json5_grammar.specs.Characters.{NotBegun}
-use Rattle.json5_grammar.specs.Blanks.{Gap}
+use Rattle.std.specs.Prelude.{◌≡◌, ℕ, ◌^◌, Bool, true, false, ◌==◌, List, ◌∷◌, ◌++◌, length, drop, ℤ, pos, neg_ℤ, ◌≤ℤ◌, Option, MatchOption}
+use Rattle.std.specs.Str.{IsUtf8, IsCharBoundary, chars}
+use Rattle.json5_grammar.specs.Characters.{NotBegun, comma_sign}
+use Rattle.json5_grammar.specs.Blanks.{Gap, Solid}
+use Rattle.json5_grammar.specs.Members.{IsSign, IsEnd}
 use Rattle.json5_grammar.specs.Numbers.{Num, whole}
 use Rattle.json5_grammar.specs.Stops.{lengthens}
 use Rattle.json5_grammar.specs.ReadBlanks.{skip, between}
 use Rattle.json5_grammar.specs.ReadNumbers as model
+use Rattle.json5_text.specs.declared.short.ShortStep.{ShortStep}
+use Rattle.json5_text.specs.declared.short.ShortStep.TheVariants as short
 use Rattle.json5_text.specs.declared.short.ShortWhole.{ShortWhole}
+use Rattle.json5_text.specs.declared.short.Step.{Step}
 use Rattle.json5_text.specs.Answered.{Gives}
 use Rattle.json5_text.specs.Cursor.{Cursor}
 
@@ -44,3 +48,46 @@ pub record GivesSpaced (text : List ℕ) (found : ShortWhole) : Type 0 where
   pub passed : skip between (chars text) ≡ skip between (chars spaced)
   pub short : IsShortWhole spaced found.number rest
   pub counted : found.left ≡ length rest
+
+-- ---- a step to the next member of an array or an object
+
+-- y is what follows blanks at the front of x
+pub record AfterGap (x y : List ℕ) : Type 0 where
+  pub gap : List ℕ
+  pub split : x ≡ gap ++ y
+  pub is_gap : Gap gap y
+  pub solid : Solid y
+
+-- y is where a member of x may begin, after the comma that is due
+abbrev pub StepsTo : Bool → List ℕ → List ℕ → Type 0
+StepsTo false x y = AfterGap x y
+StepsTo true x y = (z : List ℕ) × IsSign comma_sign x z × AfterGap z y
+
+-- the closing sign is next in y, after the comma that may stand there; or a member may begin in y
+abbrev pub IsStep : ℕ → Bool → Bool → List ℕ → List ℕ → Type 0
+IsStep closing due true x y = (r : List ℕ) × IsEnd closing due x r × (y ≡ closing ∷ r)
+IsStep closing due false x y = StepsTo due x y × NotBegun (λ c. c == closing) y
+
+pub record Stepped (closing : ℕ) (due at_closing : Bool) (old new : Cursor) : Type 0 where
+  pub step : IsStep closing due at_closing old.unread new.unread
+  pub same : new.input ≡ old.input
+
+-- a step to a member or to the closing sign is taken, or nothing
+abbrev pub TakesShortStep : ℕ → Bool → Cursor → Cursor → ShortStep → Type 0
+TakesShortStep closing due old new short.Member = Stepped closing due false old new
+TakesShortStep closing due old new short.Closing = Stepped closing due true old new
+TakesShortStep closing due old new short.Other = new ≡ old
+
+-- a step is found in front, and so many bytes are left after it
+pub record FindsStep (closing : ℕ) (due : Bool) (text : List ℕ) (found : Step) : Type 0 where
+  pub passed : List ℕ
+  pub rest : List ℕ
+  pub split : chars text ≡ passed ++ chars rest
+  pub step : IsStep closing due found.at_closing (chars text) (chars rest)
+  pub counted : found.left ≡ length rest
+  pub text_rest : IsUtf8 rest
+
+-- whether the ASCII character is in front
+abbrev pub IsInFront : ℕ → List ℕ → Bool → Type 0
+IsInFront sign text true = IsCharBoundary text 1 × (chars text ≡ sign ∷ chars (drop 1 text))
+IsInFront sign text false = NotBegun (λ c. c == sign) (chars text)

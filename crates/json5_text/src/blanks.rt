@@ -95,7 +95,7 @@ pub(crate) fn skip_ascii(text: &str) -> &str
 
 /// What follows ASCII blanks, where it begins with a character that is surely neither blank nor a slash.
 #[inline(always)]
-fn skip_to_solid(text: &str) -> Option<&str>
+pub(crate) fn skip_to_solid(text: &str) -> Option<&str>
     ensures { IfSome result (λ rest. Gives (skip between (chars text.now)) tt rest.now) }
 {
     let rest = skip_ascii(text);

@@ -24,7 +24,7 @@ pub mod pieces;
 mod refusal;
 mod runs;
 pub mod scanner;
-mod short;
+pub mod short;
 pub mod strings;
 pub mod value;
 pub mod whole;

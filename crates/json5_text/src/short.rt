@@ -1,10 +1,10 @@
 //! Short ways: tokens that are taken at once where no fault can come. They answer numbers alone, so that no fault stands in the
 //! frame of the caller; where they answer nothing they take nothing, and the scanner's other calls say what is there.
 
-ghost use Rattle.std.specs.Prelude.{IfSome};
-ghost use Rattle.json5_text.specs.Short.{IsShortWhole, GivesSpaced, TakesShortWhole};
+ghost use Rattle.std.specs.Prelude.{◌<◌, true, false, IfSome};
+ghost use Rattle.json5_text.specs.Short.{IsShortWhole, GivesSpaced, TakesShortWhole, IsInFront, FindsStep, TakesShortStep};
 
-use crate::blanks::skip_ascii;
+use crate::blanks::{skip_ascii, skip_to_solid};
 use crate::bytes::{begins_minus, short_digits};
 use crate::input::Input;
 use crate::scanner::Scanner;
@@ -41,6 +41,81 @@ fn spaced_whole(text: &str) -> Option<ShortWhole>
     })
 }
 
+/// What a step to the next member of an array or an object came to.
+#[derive(Clone, Copy, Debug, PartialEq, Eq)]
+pub enum ShortStep {
+    /// A member may begin here.
+    Member,
+    /// The closing bracket is next.
+    Closing,
+    /// Anything else is in front, and nothing was taken.
+    Other,
+}
+
+/// A step, and how many bytes are left after it.
+#[derive(Clone, Copy)]
+struct Step {
+    at_closing: bool,
+    left: usize,
+}
+
+/// Whether the ASCII character is in front.
+#[inline(always)]
+fn is_in_front(sign: u8, text: &str) -> bool
+    requires { sign < 128 }
+    ensures { IsInFront sign text.now result }
+{
+    let bytes = text.as_bytes();
+    !bytes.is_empty() && bytes[0] == sign
+}
+
+/// A step where no comma is due.
+#[inline(always)]
+fn member_step(closing: u8, text: &str) -> Option<Step>
+    requires { closing < 128 }
+    ensures { IfSome result (FindsStep closing false text.now) }
+{
+    let solid = skip_to_solid(text)?;
+    Some(Step {
+        at_closing: is_in_front(closing, solid),
+        left: solid.len(),
+    })
+}
+
+/// A step where a comma is due.
+#[inline(always)]
+fn comma_step(closing: u8, text: &str) -> Option<Step>
+    requires { closing < 128 }
+    ensures { IfSome result (FindsStep closing true text.now) }
+{
+    let solid = skip_to_solid(text)?;
+    if is_in_front(closing, solid) {
+        return Some(Step {
+            at_closing: true,
+            left: solid.len(),
+        });
+    }
+    if !is_in_front(b',', solid) {
+        return None;
+    }
+    member_step(closing, solid.split_at(1).1)
+}
+
+/// A step, where the closing sign is an ASCII character.
+#[inline(always)]
+fn find_step(closing: u8, due: bool, text: &str) -> Option<Step>
+    ensures { IfSome result (FindsStep closing due text.now) }
+{
+    if closing >= 128 {
+        return None;
+    }
+    if due {
+        comma_step(closing, text)
+    } else {
+        member_step(closing, text)
+    }
+}
+
 impl<I: Input> Scanner<I> {
     /// Takes ASCII blanks and a whole number of at most 19 digits from `min` to `max`, up to where a number can't go on. Returns
     /// None where anything else is in front, and takes nothing then.
@@ -54,5 +129,22 @@ impl<I: Input> Scanner<I> {
         }
         self.leave_unread(found.left);
         Some(found.number)
+    }
+
+    /// Takes ASCII blanks up to the next member of an array or an object, and before it the comma where one is due. The closing
+    /// bracket stays unread. Returns `Other` where anything else is in front, and takes nothing then.
+    #[inline(always)]
+    pub fn short_step(&mut self, closing: u8, due: bool) -> ShortStep
+        ensures { TakesShortStep closing due self.old self.new result }
+    {
+        let Some(step) = find_step(closing, due, self.rest(self.input.as_text())) else {
+            return ShortStep::Other;
+        };
+        self.leave_unread(step.left);
+        if step.at_closing {
+            ShortStep::Closing
+        } else {
+            ShortStep::Member
+        }
     }
 }
