@@ -102,7 +102,7 @@ module _ {S : Type 0} {step : Step S} {start : S} {old : SeenMap} where
 
 -- ---- the struct
 
-module _ {I E : Type 0} {Held : MapAccess I E → Type 0} {old : State} (map : MapAccess I E) (opens : OpensMap Held seen_map old (Ok map)) where
+module _ {I : Type 0} {Held : MapAccess I → Type 0} {old : State} (map : MapAccess I) (opens : OpensMap Held seen_map old (Ok map)) where
   opened_object : OpenedObject old (seen_map map)
   opened_object = record { opened = opens.bracket.opened.0; start = opens.bracket.start; read = opens.read }
 
@@ -120,13 +120,13 @@ module _ {S D : Type 0} (plan : Plan S D) (faults : ValueFaults) {old : State} {
   pub unopened : RefusedBy (NotOpened curly old.level) old e → HasFault plan faults old result
   unopened refused = struct_fault (λ live. not_opened refused)
 
-  module _ {I E : Type 0} {Held : MapAccess I E → Type 0} (map : MapAccess I E) (opens : OpensMap Held seen_map old (Ok map)) where
+  module _ {I : Type 0} {Held : MapAccess I → Type 0} (map : MapAccess I) (opens : OpensMap Held seen_map old (Ok map)) where
     -- its pairs were refused
     pub pairs_refused : RefusesPairs plan.step faults plan.start (seen_map map) (Err e) → HasFault plan faults old result
     pairs_refused refuses = struct_fault (λ live. in_pairs (seen_map map) (opened_object map opens) (refuses.cause (begun_live map opens)))
 
     -- a field is missing, once all were read
-    pub missing_refused : {n : S} {now : MapAccess I E} → KeepsMap map now → ReadsPairs plan.step plan.start n (seen_map map) (seen_map now) (Ok tt) → plan.build n ≡ None → IsOwnAtBracket (seen_map now).at e → HasFault plan faults old result
+    pub missing_refused : {n : S} {now : MapAccess I} → KeepsMap map now → ReadsPairs plan.step plan.start n (seen_map map) (seen_map now) (Ok tt) → plan.build n ≡ None → IsOwnAtBracket (seen_map now).at e → HasFault plan faults old result
     missing_refused {n = n} {now = now} keeps reads none own = struct_fault (λ live.
         let (ps, are, on) = reads.read in
         let (r, at) = reads.at_brace in

@@ -329,7 +329,7 @@ pub or_default : {V C : Type 0} (content : V → C) (field : Option V) (default 
 or_default content None default = refl
 or_default content (Some v) default = refl
 
-module _ {S D : Type 0} (plan : Plan S D) {I E : Type 0} {Held : MapAccess I E → Type 0} {old : State} (map : MapAccess I E) (opens : OpensMap Held seen_map old (Ok map)) where
+module _ {S D : Type 0} (plan : Plan S D) {I : Type 0} {Held : MapAccess I → Type 0} {old : State} (map : MapAccess I) (opens : OpensMap Held seen_map old (Ok map)) where
   opened_live : (seen_map map).at.reader.failed ≡ false
   opened_live = ap (λ (s : State). s.failed) opens.read.rest ∙ opens.read.live
 

@@ -1,5 +1,5 @@
 -- The content of a variant that is read through an access: how it is opened and closed.
-use Rattle.std.proofs.Common.{◌≡◌, ℕ, Bool, true, false, refl, sym, ◌∙◌, subst, None, Result, Ok, Err}
+use Rattle.std.proofs.Common.{◌≡◌, ℕ, Bool, true, false, refl, sym, ◌∙◌, subst, Some, None, Result, Ok, Err}
 use Rattle.json5_grammar.specs.declared.position.Position.{Position}
 use Rattle.json5_grammar.specs.Trees.{array, object, no_pair}
 use Rattle.json5_grammar.specs.Members.{IsBrace}
@@ -14,7 +14,7 @@ use Rattle.json5_de.specs.declared.brackets.Brackets.{Brackets}
 use Rattle.json5_de.specs.Brackets.{AreSigns, square, curly}
 use Rattle.json5_de.specs.Access.{Seen, IsStart, Opened, OpensAs, ClosesArray}
 use Rattle.json5_de.specs.Objects.{SeenMap, ClosesMap, LeftAfter}
-use Rattle.json5_de.specs.Enums.{SeenEnum, no_content, in_content, ClosesLast, ClosesContent, not_ended, brace_open, ClosesTuple, ClosesStruct, OpensContent, OpensTuple, OpensStruct}
+use Rattle.json5_de.specs.Enums.{SeenEnum, no_content, in_content, ClosesLast, ClosesContent, not_ended, brace_open, ClosesTuple, ClosesStruct, EndsArray, EndsObject, OpensContent, OpensTuple, OpensStruct}
 use Rattle.json5_de.proofs.Arrays.{failed_of}
 use Rattle.json5_de.proofs.Elements as elements
 use Rattle.json5_de.proofs.Elements.{closes_array, refuses_end, more_and_less}
@@ -51,6 +51,19 @@ struct_closed brace old new (Ok tt) k = record {
   left = λ x r none l close. refl;
 }
 struct_closed brace old new (Err e) k = record { bracket = k; read = tt; left = λ x r none l close. k.complete x r l.live (subst (λ p. LeftAfter p no_pair old.at.due old.at.reader.unread x) none l.tail) close }
+
+-- at the end of an access
+pub array_ends : (old : Seen) (new : State) (result : Result (Unit {0}) Error) → ClosesLast square old.due old.reader new result → EndsArray None old new result
+array_ends old new result k = record { alone = λ none. array_closed old new result k; in_variant = λ start some. absurd (cc) }
+
+pub tuple_ends : (brace : ℕ) (old : Seen) (new : State) (result : Result (Unit {0}) Error) → ClosesContent square old.due brace old.reader new result → EndsArray (Some brace) old new result
+tuple_ends brace old new result k = record { alone = λ none. absurd (cc); in_variant = λ start some. let same : brace ≡ start = cc in subst (λ b. ClosesTuple b old new result) same (tuple_closed brace old new result k) }
+
+pub object_ends : (old : SeenMap) (new : State) (result : Result (Unit {0}) Error) → ClosesLast curly old.at.due old.at.reader new result → EndsObject None old new result
+object_ends old new result k = record { alone = λ none. object_closed old new result k; in_variant = λ start some. absurd (cc) }
+
+pub struct_ends : (brace : ℕ) (old : SeenMap) (new : State) (result : Result (Unit {0}) Error) → ClosesContent curly old.at.due brace old.at.reader new result → EndsObject (Some brace) old new result
+struct_ends brace old new result k = record { alone = λ none. absurd (cc); in_variant = λ start some. let same : brace ≡ start = cc in subst (λ b. ClosesStruct b old new result) same (struct_closed brace old new result k) }
 
 module _ (b : Brackets) (signs : AreSigns b) (due : Bool) (brace : ℕ) (old : State) where
   -- the own bracket isn't there

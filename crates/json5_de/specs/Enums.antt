@@ -255,14 +255,14 @@ pub record ClosesStruct (brace : ℕ) (old : SeenMap) (new : State) (result : Re
   pub read : OnOk result ((from content : State) (u : List ℕ) (plain : Bool) (ps : Pairs) → AtContent from u plain content → PairsRead content ps None old → TookValue from (object (pair u plain (object ps) no_pair)) new)
   pub left : (x r : List ℕ) → old.pending ≡ false → PairsLeft no_pair x old → IsBrace true x r → IsOk result
 
--- what the end of an access closes: its own bracket, and where there is one the brace of the variant whose content it is
-abbrev pub EndsArray : Option ℕ → Seen → State → Result (Unit {0}) Error → Type 0
-EndsArray None old new result = ClosesArray old new result
-EndsArray (Some brace) old new result = ClosesTuple brace old new result
+-- the end of an access closes its own bracket, and where there is one the brace of the variant whose content it is
+pub record EndsArray (brace : Option ℕ) (old : Seen) (new : State) (result : Result (Unit {0}) Error) : Type 0 where
+  pub alone : brace ≡ None → ClosesArray old new result
+  pub in_variant : (start : ℕ) → brace ≡ Some start → ClosesTuple start old new result
 
-abbrev pub EndsObject : Option ℕ → SeenMap → State → Result (Unit {0}) Error → Type 0
-EndsObject None old new result = ClosesMap old new result
-EndsObject (Some brace) old new result = ClosesStruct brace old new result
+pub record EndsObject (brace : Option ℕ) (old : SeenMap) (new : State) (result : Result (Unit {0}) Error) : Type 0 where
+  pub alone : brace ≡ None → ClosesMap old new result
+  pub in_variant : (start : ℕ) → brace ≡ Some start → ClosesStruct start old new result
 
 -- the content of a variant is opened, which begins with this bracket
 pub record OpensContent {A : Type 0} (b : Brackets) (seen : A → Seen) (old : SeenEnum) (result : Result A Error) : Type 0 where

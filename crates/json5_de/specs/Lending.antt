@@ -1,6 +1,6 @@
 -- An access and the reader that is lent to it.
-use Rattle.std.specs.Prelude.{◌≡◌, ℕ, true, false, Result}
-use Rattle.std.specs.Borrow.{Fml, RattleType, MutBor, RestsIfErr}
+use Rattle.std.specs.Prelude.{◌≡◌, ℕ, true, false, Option, Result}
+use Rattle.std.specs.Borrow.{Fml, GName, RattleType, MutBor, RestsIfErr}
 use Rattle.json5_text.specs.declared.error.Error.{Error}
 use Rattle.json5_text.specs.declared.byte_buf.ByteBuf.{ByteBuf}
 use Rattle.json5_text.specs.declared.cow_str.CowStr.{CowStr}
@@ -14,7 +14,6 @@ use Rattle.json5_de.specs.Rows.{null_row}
 use Rattle.json5_de.specs.KeyRows.{KeyRow, RefusedAsKey, bytes_key, cow_key, document_key}
 use Rattle.json5_de.specs.Objects.{SeenMap}
 use Rattle.json5_de.specs.Enums.{SeenEnum}
-use Rattle.json5_de.specs.declared.ending.InVariant.{InVariant}
 use Rattle.json5_de.specs.declared.enums.EnumAccess.{EnumAccess}
 use Rattle.json5_de.specs.declared.enums.Named.{Named}
 use Rattle.json5_de.specs.declared.key.MapKey.{MapKey}
@@ -22,47 +21,54 @@ use Rattle.json5_de.specs.declared.map.MapAccess.{MapAccess}
 use Rattle.json5_de.specs.declared.seq.SeqAccess.{SeqAccess}
 use Rattle.json5_de.specs.contracts.de.Deserializer.{the_row}
 
-module _ {I E : Type 0} where
-  abbrev pub seen : SeqAccess I E → Seen
+module _ {I : Type 0} where
+  abbrev pub seen : SeqAccess I → Seen
   seen s = record { reader = record s.de.now { failed = s.failed }; start = s.start; due = s.due }
 
-  -- what its end closes beside its bracket
-  abbrev pub ending : SeqAccess I E → E
-  ending s = s.around
+  -- the count of bytes before the brace that its end closes too: that of the variant whose content it reads
+  abbrev pub brace_of : SeqAccess I → Option ℕ
+  brace_of s = s.brace
 
-  abbrev pub map_ending : MapAccess I E → E
-  map_ending m = m.around
+  abbrev pub map_brace : MapAccess I → Option ℕ
+  map_brace m = m.brace
 
   -- the reader itself, as the access holds it
-  abbrev pub held : SeqAccess I E → State
+  abbrev pub held : SeqAccess I → State
   held s = s.de.now
 
-  abbrev pub held_by_map : MapAccess I E → State
+  abbrev pub held_by_map : MapAccess I → State
   held_by_map m = m.de.now
 
   -- the access holds this reader
-  abbrev pub Holds : MutBor State → SeqAccess I E → Type 0
+  abbrev pub Holds : MutBor State → SeqAccess I → Type 0
   Holds reader s = s.de.ghost_name ≡ reader.ghost_name
 
-  -- it still holds the same one
-  abbrev pub HoldsTheSame : SeqAccess I E → SeqAccess I E → Type 0
-  HoldsTheSame old new = new.de.ghost_name ≡ old.de.ghost_name
+  -- the reference that it holds, and that brace
+  abbrev pub holding : SeqAccess I → GName × Option ℕ
+  holding s = (s.de.ghost_name, s.brace)
+
+  -- it still holds the same one, and its end closes the same
+  abbrev pub HoldsTheSame : SeqAccess I → SeqAccess I → Type 0
+  HoldsTheSame old new = holding new ≡ holding old
 
   -- the reader itself stands as failed while the access holds it
-  abbrev pub BlocksReader : SeqAccess I E → Type 0
+  abbrev pub BlocksReader : SeqAccess I → Type 0
   BlocksReader s = s.de.now.failed ≡ true
 
-  abbrev pub seen_map : MapAccess I E → SeenMap
+  abbrev pub seen_map : MapAccess I → SeenMap
   seen_map m = record { at = record { reader = record m.de.now { failed = m.failed }; start = m.start; due = m.due }; pending = m.pending }
 
   -- the same of an access to an object
-  abbrev pub HoldsMap : MutBor State → MapAccess I E → Type 0
+  abbrev pub HoldsMap : MutBor State → MapAccess I → Type 0
   HoldsMap reader m = m.de.ghost_name ≡ reader.ghost_name
 
-  abbrev pub HoldsTheSameMap : MapAccess I E → MapAccess I E → Type 0
-  HoldsTheSameMap old new = new.de.ghost_name ≡ old.de.ghost_name
+  abbrev pub held_with_map : MapAccess I → GName × Option ℕ
+  held_with_map m = (m.de.ghost_name, m.brace)
 
-  abbrev pub BlocksMapReader : MapAccess I E → Type 0
+  abbrev pub HoldsTheSameMap : MapAccess I → MapAccess I → Type 0
+  HoldsTheSameMap old new = held_with_map new ≡ held_with_map old
+
+  abbrev pub BlocksMapReader : MapAccess I → Type 0
   BlocksMapReader m = m.de.now.failed ≡ true
 
 module _ {I : Type 0} where
@@ -82,10 +88,6 @@ module _ {I : Type 0} where
 
   abbrev pub BlocksEnumReader : EnumAccess I → Type 0
   BlocksEnumReader a = a.de.now.failed ≡ true
-
--- the count of bytes before the brace of the variant whose content an access reads
-abbrev pub brace_of : InVariant → ℕ
-brace_of v = v.start
 
 -- a name that was read, and the reader after it
 abbrev pub seen_named : State → Named → SeenEnum
@@ -118,23 +120,25 @@ ReadsBytesKey old new result = KeyReads bytes_key bytes_of old new result
 abbrev pub ReadsCowKey : {I : Type 0} → MapKey I → MapKey I → Result CowStr Error → Type 0
 ReadsCowKey old new result = KeyReads cow_key (λ t. (cow_bytes t, is_borrowed t)) old new result
 
--- the access holds this reader, and blocks it
-pub record HoldsBlocked {I E : Type 0} (reader : MutBor State) (s : SeqAccess I E) : Type 0 where
+-- the access holds this reader, and blocks it; its end closes such a brace too, or none
+pub record HoldsBlocked {I : Type 0} (reader : MutBor State) (brace : Option ℕ) (s : SeqAccess I) : Type 0 where
   pub same_reference : Holds reader s
   pub blocks : BlocksReader s
+  pub closes : brace_of s ≡ brace
 
-pub record HoldsMapBlocked {I E : Type 0} (reader : MutBor State) (m : MapAccess I E) : Type 0 where
+pub record HoldsMapBlocked {I : Type 0} (reader : MutBor State) (brace : Option ℕ) (m : MapAccess I) : Type 0 where
   pub same_reference : HoldsMap reader m
   pub blocks : BlocksMapReader m
+  pub closes : map_brace m ≡ brace
 
 -- a call of the access keeps its reference, blocks the reader, and leaves the bracket and the text where they were
-pub record KeepsAccess {I E : Type 0} (old new : SeqAccess I E) : Type 0 where
+pub record KeepsAccess {I : Type 0} (old new : SeqAccess I) : Type 0 where
   pub same_reference : HoldsTheSame old new
   pub blocks : BlocksReader new
   pub start : (seen new).start ≡ (seen old).start
   pub same_text : SameText (seen old).reader (seen new).reader
 
-pub record KeepsMap {I E : Type 0} (old new : MapAccess I E) : Type 0 where
+pub record KeepsMap {I : Type 0} (old new : MapAccess I) : Type 0 where
   pub same_reference : HoldsTheSameMap old new
   pub blocks : BlocksMapReader new
   pub start : (seen_map new).at.start ≡ (seen_map old).at.start
@@ -142,10 +146,10 @@ pub record KeepsMap {I E : Type 0} (old new : MapAccess I E) : Type 0 where
 
 module _ (I : RattleType) (g : input.Ghosts I.Denot) where
   -- the reader ends as the access leaves it, and after a refusal it has given up
-  abbrev pub lends_reader : {X E : Type 0} → MutBor State → Result (SeqAccess I.Denot X) E → Fml
+  abbrev pub lends_reader : {E : Type 0} → MutBor State → Result (SeqAccess I.Denot) E → Fml
   lends_reader reader result = RestsIfErr (the_row I g) reader (λ s. s.de.ghost_name) result (λ n. GivesUp reader.now n)
 
-  abbrev pub lends_to_map : {X E : Type 0} → MutBor State → Result (MapAccess I.Denot X) E → Fml
+  abbrev pub lends_to_map : {E : Type 0} → MutBor State → Result (MapAccess I.Denot) E → Fml
   lends_to_map reader result = RestsIfErr (the_row I g) reader (λ m. m.de.ghost_name) result (λ n. GivesUp reader.now n)
 
   abbrev pub lends_to_enum : {E : Type 0} → MutBor State → Result (EnumAccess I.Denot) E → Fml

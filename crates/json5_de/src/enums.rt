@@ -1,6 +1,6 @@
 //! Reading of enums: the name of a variant, and then its content.
 
-ghost use Rattle.std.specs.Prelude.{◌≡◌, true, false, IfOk, OnErr};
+ghost use Rattle.std.specs.Prelude.{◌≡◌, true, false, Some, IfOk, OnErr};
 ghost use Rattle.std.specs.Borrow.{sem};
 ghost use Rattle.json5_grammar.specs.declared.code.ErrorCode.TheVariants as codes;
 ghost use Rattle.json5_grammar.specs.Values.{Reads};
@@ -16,7 +16,6 @@ ghost use Rattle.json5_grammar.specs.Strings.{is_quote};
 
 use crate::brackets::BracketKind;
 use crate::de::{Deserialize, Deserializer};
-use crate::ending::InVariant;
 use crate::map::MapAccess;
 use crate::mismatch::Mismatch;
 use crate::seq::SeqAccess;
@@ -233,7 +232,7 @@ impl<I: Input> Deserializer<I> {
 }
 
 impl<'a, I: Input> EnumAccess<'a, I> {
-    ghost use Rattle.json5_de.specs.Lending.{seen, seen_map, seen_enum, reader_of, ending, map_ending, brace_of, Holds, HoldsMap, BlocksReader, BlocksMapReader, lends_reader, lends_to_map};
+    ghost use Rattle.json5_de.specs.Lending.{seen, seen_map, seen_enum, reader_of, HoldsBlocked, HoldsMapBlocked, lends_reader, lends_to_map};
 
     /// The first place of the name among the variants, counted from 0.
     pub fn variant(&self) -> usize
@@ -283,11 +282,9 @@ impl<'a, I: Input> EnumAccess<'a, I> {
     /// Reads a variant whose content is an array, element by element. Its `end` closes the array and the variant's brace, before
     /// which a comma may stand. The length changes nothing. `ExpectedOpeningBracket` stands at another character, `TooDeep` at
     /// the bracket past the limit; a fault without a place gets the opening brace's. A text is a custom fault where it stands.
-    pub fn tuple_variant(self, _length: usize) -> Result<SeqAccess<'a, I, InVariant>>
+    pub fn tuple_variant(self, _length: usize) -> Result<SeqAccess<'a, I>>
         ensures* lends { sem 𝓛 (lends_reader I.row I.Input (reader_of self.entry) result) }
-        ensures same_reference { IfOk result (Holds (reader_of self.entry)) }
-        ensures blocks { IfOk result BlocksReader }
-        ensures brace { IfOk result (λ a. brace_of (ending a) ≡ (seen_enum self.entry).start) }
+        ensures held { IfOk result (HoldsBlocked (reader_of self.entry) (Some (seen_enum self.entry).start)) }
         ensures opens { OpensTuple seen (seen_enum self.entry) result }
     {
         let EnumAccess {
@@ -309,21 +306,16 @@ impl<'a, I: Input> EnumAccess<'a, I> {
             start,
             due: false,
             failed: false,
-            around: InVariant { start: brace },
+            brace: Some(brace),
         })
     }
 
     /// Reads a variant whose content is an object, pair by pair. Its `end` closes the object and the variant's brace, before which a
     /// comma may stand. The fields change nothing. `ExpectedOpeningBrace` stands at another character, `TooDeep` at the bracket
     /// past the limit; a fault without a place gets the variant's opening brace's. A text is a custom fault where it stands.
-    pub fn struct_variant(
-        self,
-        _fields: &'static [&'static str],
-    ) -> Result<MapAccess<'a, I, InVariant>>
+    pub fn struct_variant(self, _fields: &'static [&'static str]) -> Result<MapAccess<'a, I>>
         ensures* lends { sem 𝓛 (lends_to_map I.row I.Input (reader_of self.entry) result) }
-        ensures same_reference { IfOk result (HoldsMap (reader_of self.entry)) }
-        ensures blocks { IfOk result BlocksMapReader }
-        ensures brace { IfOk result (λ a. brace_of (map_ending a) ≡ (seen_enum self.entry).start) }
+        ensures held { IfOk result (HoldsMapBlocked (reader_of self.entry) (Some (seen_enum self.entry).start)) }
         ensures opens { OpensStruct seen_map (seen_enum self.entry) result }
     {
         let EnumAccess {
@@ -346,7 +338,7 @@ impl<'a, I: Input> EnumAccess<'a, I> {
             due: false,
             pending: false,
             failed: false,
-            around: InVariant { start: brace },
+            brace: Some(brace),
         })
     }
 }

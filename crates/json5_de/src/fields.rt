@@ -11,7 +11,6 @@ ghost use Rattle.json5_de.specs.StructFaults.{RefusesPairs};
 ghost use Rattle.json5_de.specs.Lending.{seen_map, KeepsMap};
 
 use crate::de::Deserialize;
-use crate::ending::Ending;
 use crate::ignored::IgnoredAny;
 use crate::map::MapAccess;
 use json5_text::ErrorCode;
@@ -39,7 +38,7 @@ pub trait Fields<I: Input>: Sized + Drop {
 
     /// Reads the value of the key that was read last, which has this name: into its field by `MapAccess::next_field`, or past
     /// it where there is none.
-    fn read<E: Ending>(&mut self, map: &mut MapAccess<'_, I, E>, name: &str) -> Result<()>
+    fn read(&mut self, map: &mut MapAccess<'_, I>, name: &str) -> Result<()>
         requires key { (seen_map map.old).pending ≡ true }
         ensures access { KeepsMap map.old map.new }
         ensures pending { IfOk result (λ _. (seen_map map.new).pending ≡ false) }
@@ -47,7 +46,7 @@ pub trait Fields<I: Input>: Sized + Drop {
         ensures refused { RefusesPair refuses step (content self.old) name.now (seen_map map.old) result };
 }
 
-impl<'a, I: Input, E: Ending> MapAccess<'a, I, E> {
+impl<'a, I: Input> MapAccess<'a, I> {
     /// A custom fault at the opening brace.
     fn own_fault<D: fmt::Display + Drop>(&self, message: D) -> Error
         ensures own { IsOwnAtBracket (seen_map self.now).at result }

@@ -7,7 +7,6 @@ mod btree_map;
 mod bytes;
 mod de;
 mod decimals;
-mod ending;
 mod enums;
 mod fields;
 mod gather;
@@ -35,7 +34,6 @@ mod types;
 mod variants;
 
 pub use de::{Deserialize, Deserializer};
-pub use ending::{Alone, Ending, InVariant};
 pub use enums::EnumAccess;
 pub use fields::Fields;
 pub use ignored::IgnoredAny;

@@ -1,6 +1,6 @@
 //! Reading of objects, one pair after another.
 
-ghost use Rattle.std.specs.Prelude.{◌≡◌, ◌<◌, true, false, ℕ, List, length, is_some, IfOk, IfErr, OnOk, OnErr, IsOk, IfSome};
+ghost use Rattle.std.specs.Prelude.{◌≡◌, ◌<◌, true, false, ℕ, List, None, length, is_some, IfOk, IfErr, OnOk, OnErr, IsOk, IfSome};
 ghost use Rattle.std.specs.Borrow.{sem};
 ghost use Rattle.json5_grammar.specs.declared.code.ErrorCode.TheVariants as codes;
 ghost use Rattle.json5_grammar.specs.Trees.{Tree, Pairs};
@@ -19,7 +19,6 @@ ghost use Rattle.json5_de.specs.ObjectFaults.{BeginsKey, GoesToKey, NoColon, NoK
 
 use crate::brackets::BracketKind;
 use crate::de::{Deserialize, Deserializer};
-use crate::ending::{Alone, Ending};
 use crate::key::DeserializeKey;
 use json5_text::char::is_json5_identifier_start;
 use json5_text::error::{Error, Result};
@@ -28,7 +27,7 @@ use json5_text::{ErrorCode, Position};
 
 /// The pairs of an object, one after another: a key, then its value. The reader answers `Failed` until `end`, and for good where
 /// the access is dropped or leaked before.
-pub struct MapAccess<'a, I: Input, E: Ending = Alone> {
+pub struct MapAccess<'a, I: Input> {
     pub(crate) de: &'a mut Deserializer<I>,
     /// The count of bytes before the opening brace.
     pub(crate) start: usize,
@@ -38,12 +37,12 @@ pub struct MapAccess<'a, I: Input, E: Ending = Alone> {
     pub(crate) pending: bool,
     /// Whether a call of the access was refused.
     pub(crate) failed: bool,
-    /// What its end closes beside its brace.
-    pub(crate) around: E,
+    /// The count of bytes before the brace of the variant whose content it reads, which its end closes too.
+    pub(crate) brace: Option<usize>,
 }
 
 /// Dropped before its end, it leaves the reader blocked.
-impl<I: Input, E: Ending> Drop for MapAccess<'_, I, E> {
+impl<I: Input> Drop for MapAccess<'_, I> {
     ghost use Rattle.json5_de.specs.Lending.{held_by_map};
 
     fn drop(self)
@@ -55,7 +54,7 @@ impl<I: Input, E: Ending> Drop for MapAccess<'_, I, E> {
             due: _,
             pending: _,
             failed: _,
-            around: _,
+            brace: _,
         } = self;
     }
 }
@@ -99,7 +98,7 @@ impl<I: Input> Deserializer<I> {
     /// character, `TooDeep` at the bracket past the limit; `EofParsingObject` at the end has no place.
     pub fn deserialize_map(&mut self) -> Result<MapAccess<'_, I>>
         ensures* lends { sem 𝓛 (lends_to_map I.row I.Input self.entry result) }
-        ensures opens { OpensMap (HoldsMapBlocked self.entry) seen_map self.old result }
+        ensures opens { OpensMap (HoldsMapBlocked self.entry None) seen_map self.old result }
     {
         let start = self.open(BracketKind::Object)?;
         self.set_failed(true);
@@ -109,7 +108,7 @@ impl<I: Input> Deserializer<I> {
             due: false,
             pending: false,
             failed: false,
-            around: Alone,
+            brace: None,
         })
     }
 
@@ -120,7 +119,7 @@ impl<I: Input> Deserializer<I> {
         _fields: &'static [&'static str],
     ) -> Result<MapAccess<'_, I>>
         ensures* lends { sem 𝓛 (lends_to_map I.row I.Input self.entry result) }
-        ensures opens { OpensMap (HoldsMapBlocked self.entry) seen_map self.old result }
+        ensures opens { OpensMap (HoldsMapBlocked self.entry None) seen_map self.old result }
     {
         self.deserialize_map()
     }
@@ -208,8 +207,8 @@ impl<I: Input> Deserializer<I> {
     }
 }
 
-impl<'a, I: Input, E: Ending> MapAccess<'a, I, E> {
-    ghost use Rattle.json5_de.specs.Lending.{seen_map, map_ending, KeepsMap};
+impl<'a, I: Input> MapAccess<'a, I> {
+    ghost use Rattle.json5_de.specs.Lending.{seen_map, map_brace, KeepsMap};
 
     /// The next key; none where the closing brace is next, which stays unread. Its value has to be read next. After a pair
     /// `ExpectedComma` stands at what is neither a comma nor the brace, else `ExpectedIdentifier` at what begins no key, and
@@ -304,7 +303,7 @@ impl<'a, I: Input, E: Ending> MapAccess<'a, I, E> {
     /// brace without a place gets the variant's.
     pub fn end(self) -> Result<()>
         requires no_key { (seen_map self).pending ≡ false }
-        ensures { EndsObject (E.around (map_ending self.entry)) (seen_map self.entry) self.exit.0.now result }
+        ensures { EndsObject (map_brace self.entry) (seen_map self.entry) self.exit.0.now result }
     {
         let MapAccess {
             de,
@@ -312,10 +311,10 @@ impl<'a, I: Input, E: Ending> MapAccess<'a, I, E> {
             due,
             pending: _,
             failed,
-            around,
+            brace,
         } = self;
         de.set_failed(failed);
-        match around.brace() {
+        match brace {
             None => de.close_last(BracketKind::Object, due),
             Some(brace) => de.close_content(BracketKind::Object, due, brace),
         }

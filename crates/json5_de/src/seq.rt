@@ -1,6 +1,6 @@
 //! Reading of arrays, one element after another.
 
-ghost use Rattle.std.specs.Prelude.{◌≡◌, ◌<◌, ◌||◌, false, ℕ, List, Some, length, is_some, IfOk, IfErr, IfSome};
+ghost use Rattle.std.specs.Prelude.{◌≡◌, ◌<◌, ◌||◌, false, ℕ, List, None, Some, length, is_some, IfOk, IfErr, IfSome};
 ghost use Rattle.std.specs.Borrow.{sem};
 ghost use Rattle.json5_grammar.specs.declared.code.ErrorCode.TheVariants as codes;
 ghost use Rattle.json5_grammar.specs.Trees.{Trees};
@@ -15,7 +15,6 @@ ghost use Rattle.json5_de.specs.Seq.{RefusesElement, RefusesNext};
 
 use crate::brackets::BracketKind;
 use crate::de::{Deserialize, Deserializer};
-use crate::ending::{Alone, Ending};
 use json5_text::error::{Error, Result};
 use json5_text::input::Input;
 use json5_text::{ErrorCode, Position};
@@ -23,7 +22,7 @@ use std::alloc::Global;
 
 /// The elements of an array, one after another. The reader answers `Failed` until `end`, and for good where the access is
 /// dropped or leaked before.
-pub struct SeqAccess<'a, I: Input, E: Ending = Alone> {
+pub struct SeqAccess<'a, I: Input> {
     pub(crate) de: &'a mut Deserializer<I>,
     /// The count of bytes before the opening bracket.
     pub(crate) start: usize,
@@ -31,12 +30,12 @@ pub struct SeqAccess<'a, I: Input, E: Ending = Alone> {
     pub(crate) due: bool,
     /// Whether a call of the access was refused.
     pub(crate) failed: bool,
-    /// What its end closes beside its bracket.
-    pub(crate) around: E,
+    /// The count of bytes before the brace of the variant whose content it reads, which its end closes too.
+    pub(crate) brace: Option<usize>,
 }
 
 /// Dropped before its end, it leaves the reader blocked.
-impl<I: Input, E: Ending> Drop for SeqAccess<'_, I, E> {
+impl<I: Input> Drop for SeqAccess<'_, I> {
     ghost use Rattle.json5_de.specs.Lending.{held};
 
     fn drop(self)
@@ -47,7 +46,7 @@ impl<I: Input, E: Ending> Drop for SeqAccess<'_, I, E> {
             start: _,
             due: _,
             failed: _,
-            around: _,
+            brace: _,
         } = self;
     }
 }
@@ -74,7 +73,7 @@ impl<I: Input> Deserializer<I> {
     /// character, `TooDeep` at the bracket past the limit; `EofParsingArray` at the end has no place.
     pub fn deserialize_seq(&mut self) -> Result<SeqAccess<'_, I>>
         ensures* lends { sem 𝓛 (lends_reader I.row I.Input self.entry result) }
-        ensures opens { OpensArray (HoldsBlocked self.entry) seen self.old result }
+        ensures opens { OpensArray (HoldsBlocked self.entry None) seen self.old result }
     {
         let start = self.open(BracketKind::Array)?;
         self.set_failed(true);
@@ -83,14 +82,14 @@ impl<I: Input> Deserializer<I> {
             start,
             due: false,
             failed: false,
-            around: Alone,
+            brace: None,
         })
     }
 
     /// As `deserialize_seq`. The length changes nothing.
     pub fn deserialize_tuple(&mut self, _length: usize) -> Result<SeqAccess<'_, I>>
         ensures* lends { sem 𝓛 (lends_reader I.row I.Input self.entry result) }
-        ensures opens { OpensArray (HoldsBlocked self.entry) seen self.old result }
+        ensures opens { OpensArray (HoldsBlocked self.entry None) seen self.old result }
     {
         self.deserialize_seq()
     }
@@ -102,14 +101,14 @@ impl<I: Input> Deserializer<I> {
         length: usize,
     ) -> Result<SeqAccess<'_, I>>
         ensures* lends { sem 𝓛 (lends_reader I.row I.Input self.entry result) }
-        ensures opens { OpensArray (HoldsBlocked self.entry) seen self.old result }
+        ensures opens { OpensArray (HoldsBlocked self.entry None) seen self.old result }
     {
         self.deserialize_tuple(length)
     }
 }
 
-impl<'a, I: Input, E: Ending> SeqAccess<'a, I, E> {
-    ghost use Rattle.json5_de.specs.Lending.{seen, ending, HoldsTheSame, BlocksReader, KeepsAccess};
+impl<'a, I: Input> SeqAccess<'a, I> {
+    ghost use Rattle.json5_de.specs.Lending.{seen, brace_of, HoldsTheSame, BlocksReader, KeepsAccess};
 
     /// The next element; none where the closing bracket is next, which stays unread. After an element `ExpectedComma` stands at
     /// what is neither a comma nor the bracket, and `EofParsingArray` says that the text ends; else the element's own faults come.
@@ -196,17 +195,17 @@ impl<'a, I: Input, E: Ending> SeqAccess<'a, I, E> {
     /// stand: a fault of the bracket without a place gets that brace's; `ExpectedClosingBrace` stands at another character than
     /// the closing brace, and `EofParsingObject` at the end has no place.
     pub fn end(self) -> Result<()>
-        ensures { EndsArray (E.around (ending self.entry)) (seen self.entry) self.exit.0.now result }
+        ensures { EndsArray (brace_of self.entry) (seen self.entry) self.exit.0.now result }
     {
         let SeqAccess {
             de,
             start: _,
             due,
             failed,
-            around,
+            brace,
         } = self;
         de.set_failed(failed);
-        match around.brace() {
+        match brace {
             None => de.close_last(BracketKind::Array, due),
             Some(brace) => de.close_content(BracketKind::Array, due, brace),
         }

@@ -1,6 +1,6 @@
 //! A struct of a list, a text and a map.
 
-use json5::de::{Ending, Fields};
+use json5::de::Fields;
 use json5::{Decimal, Deserialize, Deserializer, Input, MapAccess, Result};
 use std::collections::BTreeMap;
 
@@ -31,7 +31,7 @@ impl<I: Input> Fields<I> for Found {
 
     ghost step = { (sample ⟦<Vec<u8> as Deserialize<I>>⟧.convert ⟦<String as Deserialize<I>>⟧.convert ⟦<BTreeMap<String, Decimal> as Deserialize<I>>⟧.convert).step };
 
-    fn read<E: Ending>(&mut self, map: &mut MapAccess<'_, I, E>, name: &str) -> Result<()> {
+    fn read(&mut self, map: &mut MapAccess<'_, I>, name: &str) -> Result<()> {
         match name {
             "a" => map.next_field(name, &mut self.a),
             "s" => map.next_field(name, &mut self.s),

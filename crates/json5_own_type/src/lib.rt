@@ -21,7 +21,7 @@ pub use articles::Article;
 pub use at_most::AtMost;
 pub use colors::{Color, colors_read_back};
 pub use ids::Id;
-use json5::de::{Ending, value_codes};
+use json5::de::value_codes;
 use json5::{Deserialize, Deserializer, Error, Input, Result, SeqAccess};
 pub use levels::Level;
 pub use ports::{Endpoint, OpenPort, PortRange, endpoint_again};
@@ -41,7 +41,7 @@ pub struct Bounds<T> {
 }
 
 /// The fault of a list that ended too early, at its bracket.
-fn missing<I: Input, E: Ending>(seq: &SeqAccess<'_, I, E>, alloc: Global, field: &str) -> Error
+fn missing<I: Input>(seq: &SeqAccess<'_, I>, alloc: Global, field: &str) -> Error
     ensures { IsUnprompted result }
 {
     match Error::custom(alloc, format_args!("missing field `{field}`")) {

@@ -6,7 +6,7 @@ ghost use Rattle.json5.specs.Writes.{WritesTree};
 ghost use Rattle.json5_own_type.specs.Reminders.{reminded, off_read, daily_read, weekly_tree, once_tree};
 
 use crate::missing;
-use json5::de::{Ending, Fields};
+use json5::de::Fields;
 use json5::{
     Deserialize, Deserializer, EnumAccess, Input, MapAccess, Result, Serialize, Serializer,
 };
@@ -106,7 +106,7 @@ impl<I: Input> Fields<I> for Found {
 
     ghost step = { once_fields_read.step };
 
-    fn read<E: Ending>(&mut self, map: &mut MapAccess<'_, I, E>, name: &str) -> Result<()> {
+    fn read(&mut self, map: &mut MapAccess<'_, I>, name: &str) -> Result<()> {
         match name {
             "day" => map.next_field(name, &mut self.day),
             "hour" => map.next_field(name, &mut self.hour),

@@ -1,7 +1,7 @@
 //! What a server is started with.
 
 use crate::ports::OpenPort;
-use json5::de::{Ending, Fields};
+use json5::de::Fields;
 use json5::{Deserialize, Deserializer, Input, MapAccess, Result};
 
 /// What a server is started with, written as an object: `{ host: 'localhost', port: 8080 }`.
@@ -36,7 +36,7 @@ impl<I: Input> Fields<I> for Found {
 
     ghost refuses = { settings_faults ⟦<String as Deserialize<I>>⟧.refuses ⟦<OpenPort as Deserialize<I>>⟧.refuses };
 
-    fn read<E: Ending>(&mut self, map: &mut MapAccess<'_, I, E>, name: &str) -> Result<()> {
+    fn read(&mut self, map: &mut MapAccess<'_, I>, name: &str) -> Result<()> {
         match name {
             "host" => map.next_field(name, &mut self.host),
             "port" => map.next_field(name, &mut self.port),

@@ -7,7 +7,7 @@ ghost use Rattle.json5.specs.Writes.{WritesTree};
 ghost use Rattle.json5_rows.specs.HandEnums.{f_content, f_a, f_b, f_c};
 ghost use Rattle.json5_rows.specs.HandEnums.{e_content, e_y, e_z, x_tree, w_tree};
 
-use json5::de::{Ending, Fields, MapKey};
+use json5::de::{Fields, MapKey};
 use json5::{
     Deserialize, DeserializeKey, Deserializer, EnumAccess, Error, Input, MapAccess, Result,
     SeqAccess, Serialize, SerializeKey, Serializer, ser,
@@ -195,7 +195,7 @@ impl<I: Input> Fields<I> for WFound {
 
     ghost step = { w_read.step };
 
-    fn read<End: Ending>(&mut self, map: &mut MapAccess<'_, I, End>, name: &str) -> Result<()> {
+    fn read(&mut self, map: &mut MapAccess<'_, I>, name: &str) -> Result<()> {
         match name {
             "a" => map.next_field(name, &mut self.a),
             "b" => map.next_field(name, &mut self.b),
@@ -205,11 +205,7 @@ impl<I: Input> Fields<I> for WFound {
 }
 
 /// The fault of an `X` that has only this many elements, at its bracket.
-fn too_short<I: Input, End: Ending>(
-    seq: &SeqAccess<'_, I, End>,
-    alloc: Global,
-    length: usize,
-) -> Error
+fn too_short<I: Input>(seq: &SeqAccess<'_, I>, alloc: Global, length: usize) -> Error
     ensures { IsUnprompted result }
 {
     let expected = "tuple variant E::X with 2 elements";

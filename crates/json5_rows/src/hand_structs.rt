@@ -1,6 +1,6 @@
 //! Structs of one's own, read by the names of their fields.
 
-use json5::de::{Ending, Fields};
+use json5::de::Fields;
 use json5::{Borrows, Deserialize, Deserializer, Input, MapAccess, Result, Serialize, Serializer};
 use std::io::Write;
 
@@ -29,7 +29,7 @@ impl<I: Input> Fields<I> for PersonFound {
 
     ghost step = { person.step };
 
-    fn read<E: Ending>(&mut self, map: &mut MapAccess<'_, I, E>, name: &str) -> Result<()> {
+    fn read(&mut self, map: &mut MapAccess<'_, I>, name: &str) -> Result<()> {
         match name {
             "name" => map.next_field(name, &mut self.name),
             "age" => map.next_field(name, &mut self.age),
@@ -89,7 +89,7 @@ impl<I: Input> Fields<I> for LettersFound {
 
     ghost step = { letters.step };
 
-    fn read<E: Ending>(&mut self, map: &mut MapAccess<'_, I, E>, name: &str) -> Result<()> {
+    fn read(&mut self, map: &mut MapAccess<'_, I>, name: &str) -> Result<()> {
         match name {
             "a" => map.next_field(name, &mut self.a),
             "b" => map.next_field(name, &mut self.b),
@@ -146,7 +146,7 @@ impl<'de, I: Borrows<'de>> Fields<I> for ConfigFound<'de> {
 
     ghost step = { config.step };
 
-    fn read<E: Ending>(&mut self, map: &mut MapAccess<'_, I, E>, name: &str) -> Result<()> {
+    fn read(&mut self, map: &mut MapAccess<'_, I>, name: &str) -> Result<()> {
         match name {
             "foo" => map.next_field(name, &mut self.foo),
             "bar" => map.next_field(name, &mut self.bar),

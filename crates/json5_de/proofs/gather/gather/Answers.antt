@@ -44,15 +44,15 @@ returns-in_err-value-clause-refused g c =
 
 pub returns-in_err-end-clause-complete : goal.returns-in_err-end-clause-complete
 returns-in_err-end-clause-complete g c =
-    end_completes _ _ c.from_residual-in_err-end.ensures.1 c.loop-map.invariant.reading (rw c.in_default.is at c.in_ok-key.ensures.left) (λ r left. c.in_err-end.ensures.left r (rw c.in_default.is at c.in_ok-key.ensures.pending) left)
+    end_completes _ _ c.from_residual-in_err-end.ensures.1 c.loop-map.invariant.reading (rw c.in_default.is at c.in_ok-key.ensures.left) (λ r left. (c.in_err-end.ensures.alone (search rules)).left r (rw c.in_default.is at c.in_ok-key.ensures.pending) left)
 
 pub returns-in_err-end-clause-refused : goal.returns-in_err-end-clause-refused
 returns-in_err-end-clause-refused g c =
-    let (at, due, none) = rw c.in_default.is at c.in_ok-key.ensures.sound in closes_there (seen_map c.loop-map.map) (seen_map c.next_key.new.self) _ _ at c.in_err-end.ensures
+    let (at, due, none) = rw c.in_default.is at c.in_ok-key.ensures.sound in closes_there (seen_map c.loop-map.map) (seen_map c.next_key.new.self) _ _ at (c.in_err-end.ensures.alone (search rules))
 
 pub returns-clause-sound : goal.returns-clause-sound
 returns-clause-sound g c = (
   c.loop-map.invariant.pairs,
   c.loop-map.invariant.gathered,
-  stops g.K.DeserializeKey.content g.V.Deserialize.content g.K.DeserializeKey.convert g.V.Deserialize.convert c.loop-map.invariant.reading (search rules) (rw c.in_default.is at c.in_ok-key.ensures.read) c.in_ok-end.ensures.read,
+  stops g.K.DeserializeKey.content g.V.Deserialize.content g.K.DeserializeKey.convert g.V.Deserialize.convert c.loop-map.invariant.reading (search rules) (rw c.in_default.is at c.in_ok-key.ensures.read) (c.in_ok-end.ensures.alone (search rules)).read,
 )

@@ -22,6 +22,6 @@ returns g c =
       (refl, λ w. refl, tt),
       record {
         lends = tt;
-        opens = opens_array _ seen c.args.self.now c.in_ok-start.start _ (record { same_reference = refl; blocks = failed_of c.set_failed.ensures }) (opened_seen square c.args.self.now c.open.new.self c.set_failed.new.self c.in_ok-start.start opened c.set_failed.ensures) opens;
+        opens = opens_array _ seen c.args.self.now c.in_ok-start.start _ (record { same_reference = refl; blocks = failed_of c.set_failed.ensures; closes = refl }) (opened_seen square c.args.self.now c.open.new.self c.set_failed.new.self c.in_ok-start.start opened c.set_failed.ensures) opens;
       },
     )

@@ -13,7 +13,7 @@ returns-in_err-start g c =
     let opens = rw c.set_failed.ensures at c.in_err-start.ensures.opens in
     rw (is, from) (
       (refl, λ w. tt, given_up_lent (held_by_enum c.args.self) c.set_failed.new.self c.open_content.new.self c.set_failed.ensures c.in_err-start.ensures.failed),
-      record { lends = tt; same_reference = tt; blocks = tt; brace = tt; opens = tuple_not_opened _ seen (seen_enum c.args.self) c.in_err-start.field-0.0 opens },
+      record { lends = tt; held = tt; opens = tuple_not_opened _ seen (seen_enum c.args.self) c.in_err-start.field-0.0 opens },
     )
 
 pub returns : goal.returns
@@ -23,9 +23,7 @@ returns g c =
       (refl, λ w. refl, tt),
       record {
         lends = tt;
-        same_reference = refl;
-        blocks = failed_of c.set_failed-2.ensures;
-        brace = refl;
+        held = record { same_reference = refl; blocks = failed_of c.set_failed-2.ensures; closes = refl };
         opens = tuple_opened _ seen (seen_enum c.args.self) c.in_ok-start.start _ (opened_seen square (seen_enum c.args.self).reader c.open_content.new.self c.set_failed-2.new.self c.in_ok-start.start opened c.set_failed-2.ensures) opens;
       },
     )

@@ -1,16 +1,16 @@
-use Rattle.std.proofs.Common.{subst, sym, ◌∙◌}
+use Rattle.std.proofs.Common.{sym, subst}
 use Rattle.json5_de.specs.Enums.{EndsArray}
 use Rattle.json5_de.specs.Lending.{seen}
-use Rattle.json5_de.proofs.VariantEnds.{array_closed, tuple_closed}
+use Rattle.json5_de.proofs.VariantEnds.{array_ends, tuple_ends}
 use Rattle.json5_de.proofs.seq.SeqAccess.end.Goals as goal
 use Rattle.json5_de.proofs.seq.SeqAccess.end.Goals.{in-None, in-Some}
 
 pub returns : goal.returns
 returns g c = elim c.match-brace.branch [
   | in-None w ↦
-      let closed = array_closed (seen c.args.self) w.close_last.new.self w.close_last.result (rw c.set_failed.ensures at w.close_last.ensures) in
-      rw (w.result-is, w.de-is) (subst (λ o. EndsArray o (seen c.args.self) w.close_last.new.self w.close_last.result) (sym w.in-None.is ∙ c.brace.ensures) closed)
+      let ends = array_ends (seen c.args.self) w.close_last.new.self w.close_last.result (rw c.set_failed.ensures at w.close_last.ensures) in
+      rw (w.result-is, w.de-is) (subst (λ o. EndsArray o (seen c.args.self) w.close_last.new.self w.close_last.result) (sym w.in-None.is) ends)
   | in-Some w ↦
-      let closed = tuple_closed w.in-Some.brace (seen c.args.self) w.close_content.new.self w.close_content.result (rw c.set_failed.ensures at w.close_content.ensures) in
-      rw (w.result-is, w.de-is) (subst (λ o. EndsArray o (seen c.args.self) w.close_content.new.self w.close_content.result) (sym w.in-Some.is ∙ c.brace.ensures) closed)
+      let ends = tuple_ends w.in-Some.brace (seen c.args.self) w.close_content.new.self w.close_content.result (rw c.set_failed.ensures at w.close_content.ensures) in
+      rw (w.result-is, w.de-is) (subst (λ o. EndsArray o (seen c.args.self) w.close_content.new.self w.close_content.result) (sym w.in-Some.is) ends)
 ]

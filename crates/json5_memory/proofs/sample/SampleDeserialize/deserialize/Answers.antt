@@ -28,12 +28,12 @@ pub returns-in_err-end-clause-complete : goal.returns-in_err-end-clause-complete
 returns-in_err-end-clause-complete g c =
     let reads = still c.in_ok-b.ensures.value.same (still c.in_ok-s.ensures.value.same (still c.in_ok-a.ensures.value.same c.in_ok-read_fields.ensures.reads)) in
     let pending = c.in_ok-b.ensures.value.pending ∙ c.in_ok-s.ensures.value.pending ∙ c.in_ok-a.ensures.value.pending ∙ c.in_ok-read_fields.ensures.pending in
-    end_completes (sample _ _ _) c.in_ok-map.map c.in_ok-map.ensures.opens _ _ c.from_residual-in_err-end.ensures.1 reads (λ r left. c.in_err-end.ensures.left r pending left)
+    end_completes (sample _ _ _) c.in_ok-map.map c.in_ok-map.ensures.opens _ _ c.from_residual-in_err-end.ensures.1 reads (λ r left. (c.in_err-end.ensures.alone (search rules)).left r pending left)
 
 pub returns-clause-sound : goal.returns-clause-sound
 returns-clause-sound g c =
     let reads = still c.in_ok-b.ensures.value.same (still c.in_ok-s.ensures.value.same (still c.in_ok-a.ensures.value.same c.in_ok-read_fields.ensures.reads)) in
-    struct_read (sample _ _ _) c.in_ok-map.map c.in_ok-map.ensures.opens reads (search rules) c.in_ok-end.ensures.read
+    struct_read (sample _ _ _) c.in_ok-map.map c.in_ok-map.ensures.opens reads (search rules) (c.in_ok-end.ensures.alone (search rules)).read
     (rw (c.in_ok-a.ensures.found, c.in_ok-s.ensures.found, c.in_ok-b.ensures.found) refl)
 
 pub returns-in_err-read_fields-clause-unprompted : goal.returns-in_err-read_fields-clause-unprompted

@@ -41,9 +41,9 @@ returns-then-len-clause-complete g c =
 pub returns-in_err-end-clause-complete : goal.returns-in_err-end-clause-complete
 returns-in_err-end-clause-complete g c =
     end_completes (λ (s : Spanned _). g.T.Deserialize.content s.value) (at_most g.row.N g.T.Deserialize.convert) _ _ c.from_residual-in_err-end.ensures.1 (has_contents g.T.Deserialize.convert g.row.N) c.loop-seq.invariant.reading
-    (rw c.in_default.is at c.in_ok-next.ensures.left) c.in_err-end.ensures.left
+    (rw c.in_default.is at c.in_ok-next.ensures.left) (c.in_err-end.ensures.alone (search rules)).left
 
 pub returns-clause-sound : goal.returns-clause-sound
 returns-clause-sound g c =
-    stops c.loop-seq.invariant.reading (search rules) (λ ts k. c.in_ok-end.ensures.read c.args.de.now ts (rw c.in_default.is at c.in_ok-next.ensures.read c.args.de.now ts k))
+    stops c.loop-seq.invariant.reading (search rules) (λ ts k. (c.in_ok-end.ensures.alone (search rules)).read c.args.de.now ts (rw c.in_default.is at c.in_ok-next.ensures.read c.args.de.now ts k))
     (λ ts are. few_values g.T.Deserialize.convert g.row.N ts _ are (rw (length-map c.loop-seq.values.items g.T.Deserialize.content) c.loop-seq.invariant.few))

@@ -53,13 +53,13 @@ pub returns-in_err-end-in-2-clause-complete : goal.returns-in_err-end-in-2-claus
 returns-in_err-end-in-2-clause-complete g c =
     let day = first_on (tuple_begun seen c.in_ok-seq-in-2.ensures.opens) (rw c.in-Some.is at c.in_ok-day-in-2.ensures.read) (rw c.in-Some.is at c.in_ok-day-in-2.ensures.left) in
     let hour = last_on day (rw c.in-Some-2.is at c.in_ok-hour-in-2.ensures.read) (rw c.in-Some-2.is at c.in_ok-hour-in-2.ensures.left) in
-    enum_completes (names reminders) (at_place reminders) seen_enum _ c.in_ok-access.ensures.names 2 (sym c.variant.ensures ∙ c.in-2.is) (tuple_open weekly reminded _ _ c.from_residual-in_err-end-in-2.ensures.1 hour c.in_err-end-in-2.ensures)
+    enum_completes (names reminders) (at_place reminders) seen_enum _ c.in_ok-access.ensures.names 2 (sym c.variant.ensures ∙ c.in-2.is) (tuple_open weekly reminded _ _ c.from_residual-in_err-end-in-2.ensures.1 hour (c.in_err-end-in-2.ensures.in_variant (seen_enum c.in_ok-access.access).start (search rules)))
 
 pub returns-in_ok-end-in-2-clause-sound : goal.returns-in_ok-end-in-2-clause-sound
 returns-in_ok-end-in-2-clause-sound g c =
     let day = first_on (tuple_begun seen c.in_ok-seq-in-2.ensures.opens) (rw c.in-Some.is at c.in_ok-day-in-2.ensures.read) (rw c.in-Some.is at c.in_ok-day-in-2.ensures.left) in
     let hour = last_on day (rw c.in-Some-2.is at c.in_ok-hour-in-2.ensures.read) (rw c.in-Some-2.is at c.in_ok-hour-in-2.ensures.left) in
-    enum_read (names reminders) (at_place reminders) seen_enum _ c.in_ok-access.ensures.names 2 (sym c.variant.ensures ∙ c.in-2.is) (tuple_read weekly reminded {v = Weekly c.in-Some.day c.in-Some-2.hour} hour c.in_ok-end-in-2.ensures (search rules) refl)
+    enum_read (names reminders) (at_place reminders) seen_enum _ c.in_ok-access.ensures.names 2 (sym c.variant.ensures ∙ c.in-2.is) (tuple_read weekly reminded {v = Weekly c.in-Some.day c.in-Some-2.hour} hour (c.in_ok-end-in-2.ensures.in_variant (seen_enum c.in_ok-access.access).start (search rules)) (search rules) refl)
 
 -- ---- once
 
@@ -97,14 +97,14 @@ returns-in_err-end-in_default-clause-complete g c =
     enum_completes (names reminders) (at_place reminders) seen_enum _ c.in_ok-access.ensures.names c.variant.result (sym c.variant.ensures)
     (last_place {k = c.variant.result} (search rules) (search rules) (search rules)
     (struct_open once_fields_read seen_map c.in_ok-map-in_default.ensures.opens once reminded _ _ c.from_residual-in_err-end-in_default.ensures.1 (still c.in_ok-hour-in_default.ensures.value.same (still c.in_ok-day-in_default.ensures.value.same c.in_ok-read_fields-in_default.ensures.reads)) (c.in_ok-hour-in_default.ensures.value.pending ∙ c.in_ok-day-in_default.ensures.value.pending ∙ c.in_ok-read_fields-in_default.ensures.pending)
-    (c.in_ok-hour-in_default.ensures.access.same_text ∙ c.in_ok-day-in_default.ensures.access.same_text ∙ c.in_ok-read_fields-in_default.ensures.access.same_text) c.in_err-end-in_default.ensures))
+    (c.in_ok-hour-in_default.ensures.access.same_text ∙ c.in_ok-day-in_default.ensures.access.same_text ∙ c.in_ok-read_fields-in_default.ensures.access.same_text) (c.in_err-end-in_default.ensures.in_variant (seen_enum c.in_ok-access.access).start (search rules))))
 
 pub returns-in_ok-end-in_default-clause-sound : goal.returns-in_ok-end-in_default-clause-sound
 returns-in_ok-end-in_default-clause-sound g c =
     enum_read (names reminders) (at_place reminders) seen_enum _ c.in_ok-access.ensures.names c.variant.result (sym c.variant.ensures)
     (last_place {k = c.variant.result} (search rules) (search rules) (search rules)
     (struct_content once_fields_read seen_map c.in_ok-map-in_default.ensures.opens once reminded {v = Once c.in_ok-day-in_default.day c.in_ok-hour-in_default.hour} (still c.in_ok-hour-in_default.ensures.value.same (still c.in_ok-day-in_default.ensures.value.same c.in_ok-read_fields-in_default.ensures.reads))
-    (c.in_ok-hour-in_default.ensures.access.same_text ∙ c.in_ok-day-in_default.ensures.access.same_text ∙ c.in_ok-read_fields-in_default.ensures.access.same_text) c.in_ok-end-in_default.ensures (search rules)
+    (c.in_ok-hour-in_default.ensures.access.same_text ∙ c.in_ok-day-in_default.ensures.access.same_text ∙ c.in_ok-read_fields-in_default.ensures.access.same_text) (c.in_ok-end-in_default.ensures.in_variant (seen_enum c.in_ok-access.access).start (search rules)) (search rules)
     (rw (c.in_ok-day-in_default.ensures.found, c.in_ok-hour-in_default.ensures.found) refl) refl))
 
 pub returns-in_err-read_fields-in_default-clause-unprompted : goal.returns-in_err-read_fields-in_default-clause-unprompted

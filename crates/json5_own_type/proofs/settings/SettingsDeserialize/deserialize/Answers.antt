@@ -15,11 +15,11 @@ returns-in_err-host-clause-complete g c =
 pub returns-in_err-end-clause-complete : goal.returns-in_err-end-clause-complete
 returns-in_err-end-clause-complete g c =
     end_completes settings c.in_ok-map.map c.in_ok-map.ensures.opens _ _ c.from_residual-in_err-end.ensures.1 (still c.in_ok-host.ensures.value.same c.in_ok-read_fields.ensures.reads)
-    (λ r left. c.in_err-end.ensures.left r (c.in_ok-host.ensures.value.pending ∙ c.in_ok-read_fields.ensures.pending) left)
+    (λ r left. (c.in_err-end.ensures.alone (search rules)).left r (c.in_ok-host.ensures.value.pending ∙ c.in_ok-read_fields.ensures.pending) left)
 
 pub returns-clause-sound : goal.returns-clause-sound
 returns-clause-sound g c =
-    struct_read settings c.in_ok-map.map c.in_ok-map.ensures.opens (still c.in_ok-host.ensures.value.same c.in_ok-read_fields.ensures.reads) (search rules) c.in_ok-end.ensures.read
+    struct_read settings c.in_ok-map.map c.in_ok-map.ensures.opens (still c.in_ok-host.ensures.value.same c.in_ok-read_fields.ensures.reads) (search rules) (c.in_ok-end.ensures.alone (search rules)).read
     (rw (c.in_ok-host.ensures.found, or_default {C = ℕ} (λ (p : OpenPort). p.number) c.read_fields.new.fields.port (record { number = 80 }), c.unwrap_or.ensures) refl)
 
 pub returns-in_err-map-clause-refused : goal.returns-in_err-map-clause-refused
@@ -35,7 +35,7 @@ returns-in_err-host-clause-refused g c =
     missing_refused settings (settings_faults _ _) _ _ c.from_residual-in_err-host.ensures.1 c.in_ok-map.map c.in_ok-map.ensures.opens c.in_ok-read_fields.ensures.access c.in_ok-read_fields.ensures.reads (rw missing.0 refl) missing.1
 
 pub returns-in_err-end-clause-refused : goal.returns-in_err-end-clause-refused
-returns-in_err-end-clause-refused g c = closes_there (still c.in_ok-host.ensures.value.same c.in_ok-read_fields.ensures.reads) c.in_err-end.ensures
+returns-in_err-end-clause-refused g c = closes_there (still c.in_ok-host.ensures.value.same c.in_ok-read_fields.ensures.reads) (c.in_err-end.ensures.alone (search rules))
 
 pub returns-in_err-read_fields-clause-unprompted : goal.returns-in_err-read_fields-clause-unprompted
 returns-in_err-read_fields-clause-unprompted g c = fields_unprompted settings c.in_ok-map.map c.in_ok-map.ensures.opens _ _ c.from_residual-in_err-read_fields.ensures.1 c.in_err-read_fields.ensures.reads

@@ -50,13 +50,13 @@ pub returns-in_err-end-in-0-clause-complete : goal.returns-in_err-end-in-0-claus
 returns-in_err-end-in-0-clause-complete g c =
     enum_completes (names e_variants) (at_place e_variants) seen_enum _ c.in_ok-access.ensures.names 0 (sym c.variant.ensures ∙ c.in-0.is)
     (struct_open w_read seen_map c.in_ok-map-in-0.ensures.opens a_w e_content _ _ c.from_residual-in_err-end-in-0.ensures.1 (still c.in_ok-b-in-0.ensures.value.same (still c.in_ok-a-in-0.ensures.value.same c.in_ok-read_fields-in-0.ensures.reads)) (c.in_ok-b-in-0.ensures.value.pending ∙ c.in_ok-a-in-0.ensures.value.pending ∙ c.in_ok-read_fields-in-0.ensures.pending)
-    (c.in_ok-b-in-0.ensures.access.same_text ∙ c.in_ok-a-in-0.ensures.access.same_text ∙ c.in_ok-read_fields-in-0.ensures.access.same_text) c.in_err-end-in-0.ensures)
+    (c.in_ok-b-in-0.ensures.access.same_text ∙ c.in_ok-a-in-0.ensures.access.same_text ∙ c.in_ok-read_fields-in-0.ensures.access.same_text) (c.in_err-end-in-0.ensures.in_variant (seen_enum c.in_ok-access.access).start (search rules)))
 
 pub returns-in_ok-end-in-0-clause-sound : goal.returns-in_ok-end-in-0-clause-sound
 returns-in_ok-end-in-0-clause-sound g c =
     enum_read (names e_variants) (at_place e_variants) seen_enum _ c.in_ok-access.ensures.names 0 (sym c.variant.ensures ∙ c.in-0.is)
     (struct_content w_read seen_map c.in_ok-map-in-0.ensures.opens a_w e_content {v = W (stored c.in_ok-a-in-0.a) (stored c.in_ok-b-in-0.b)} {d = (c.in_ok-a-in-0.a, c.in_ok-b-in-0.b)} (still c.in_ok-b-in-0.ensures.value.same (still c.in_ok-a-in-0.ensures.value.same c.in_ok-read_fields-in-0.ensures.reads))
-    (c.in_ok-b-in-0.ensures.access.same_text ∙ c.in_ok-a-in-0.ensures.access.same_text ∙ c.in_ok-read_fields-in-0.ensures.access.same_text) c.in_ok-end-in-0.ensures (search rules)
+    (c.in_ok-b-in-0.ensures.access.same_text ∙ c.in_ok-a-in-0.ensures.access.same_text ∙ c.in_ok-read_fields-in-0.ensures.access.same_text) (c.in_ok-end-in-0.ensures.in_variant (seen_enum c.in_ok-access.access).start (search rules)) (search rules)
     (rw (c.in_ok-a-in-0.ensures.found, c.in_ok-b-in-0.ensures.found) refl) (both_stored a_w _ _ (search rules) (search rules)))
 
 pub returns-in_err-read_fields-in-0-clause-unprompted : goal.returns-in_err-read_fields-in-0-clause-unprompted
@@ -96,13 +96,13 @@ pub returns-in_err-end-in-1-clause-complete : goal.returns-in_err-end-in-1-claus
 returns-in_err-end-in-1-clause-complete g c =
     let first = first_on (tuple_begun seen c.in_ok-seq-in-1.ensures.opens) (rw c.in-Some.is at c.in_ok-first-in-1.ensures.read) (rw c.in-Some.is at c.in_ok-first-in-1.ensures.left) in
     let second = last_on first (rw c.in-Some-2.is at c.in_ok-second-in-1.ensures.read) (rw c.in-Some-2.is at c.in_ok-second-in-1.ensures.left) in
-    enum_completes (names e_variants) (at_place e_variants) seen_enum _ c.in_ok-access.ensures.names 1 (sym c.variant.ensures ∙ c.in-1.is) (tuple_open an_x e_content _ _ c.from_residual-in_err-end-in-1.ensures.1 second c.in_err-end-in-1.ensures)
+    enum_completes (names e_variants) (at_place e_variants) seen_enum _ c.in_ok-access.ensures.names 1 (sym c.variant.ensures ∙ c.in-1.is) (tuple_open an_x e_content _ _ c.from_residual-in_err-end-in-1.ensures.1 second (c.in_err-end-in-1.ensures.in_variant (seen_enum c.in_ok-access.access).start (search rules)))
 
 pub returns-in_ok-end-in-1-clause-sound : goal.returns-in_ok-end-in-1-clause-sound
 returns-in_ok-end-in-1-clause-sound g c =
     let first = first_on (tuple_begun seen c.in_ok-seq-in-1.ensures.opens) (rw c.in-Some.is at c.in_ok-first-in-1.ensures.read) (rw c.in-Some.is at c.in_ok-first-in-1.ensures.left) in
     let second = last_on first (rw c.in-Some-2.is at c.in_ok-second-in-1.ensures.read) (rw c.in-Some-2.is at c.in_ok-second-in-1.ensures.left) in
-    enum_read (names e_variants) (at_place e_variants) seen_enum _ c.in_ok-access.ensures.names 1 (sym c.variant.ensures ∙ c.in-1.is) (tuple_read an_x e_content {v = X (stored c.in-Some.first) (stored c.in-Some-2.second)} second c.in_ok-end-in-1.ensures (search rules) (both_stored an_x _ _ (search rules) (search rules)))
+    enum_read (names e_variants) (at_place e_variants) seen_enum _ c.in_ok-access.ensures.names 1 (sym c.variant.ensures ∙ c.in-1.is) (tuple_read an_x e_content {v = X (stored c.in-Some.first) (stored c.in-Some-2.second)} second (c.in_ok-end-in-1.ensures.in_variant (seen_enum c.in_ok-access.access).start (search rules)) (search rules) (both_stored an_x _ _ (search rules) (search rules)))
 
 -- ---- Y and Z
 

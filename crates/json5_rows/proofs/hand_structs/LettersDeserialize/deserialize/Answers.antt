@@ -17,11 +17,11 @@ returns-in_err-b-clause-complete g c =
 pub returns-in_err-end-clause-complete : goal.returns-in_err-end-clause-complete
 returns-in_err-end-clause-complete g c =
     end_completes letters c.in_ok-map.map c.in_ok-map.ensures.opens _ _ c.from_residual-in_err-end.ensures.1 (still c.in_ok-b.ensures.value.same (still c.in_ok-a.ensures.value.same c.in_ok-read_fields.ensures.reads))
-    (λ r left. c.in_err-end.ensures.left r (c.in_ok-b.ensures.value.pending ∙ c.in_ok-a.ensures.value.pending ∙ c.in_ok-read_fields.ensures.pending) left)
+    (λ r left. (c.in_err-end.ensures.alone (search rules)).left r (c.in_ok-b.ensures.value.pending ∙ c.in_ok-a.ensures.value.pending ∙ c.in_ok-read_fields.ensures.pending) left)
 
 pub returns-clause-sound : goal.returns-clause-sound
 returns-clause-sound g c =
-    struct_read letters c.in_ok-map.map c.in_ok-map.ensures.opens (still c.in_ok-b.ensures.value.same (still c.in_ok-a.ensures.value.same c.in_ok-read_fields.ensures.reads)) (search rules) c.in_ok-end.ensures.read
+    struct_read letters c.in_ok-map.map c.in_ok-map.ensures.opens (still c.in_ok-b.ensures.value.same (still c.in_ok-a.ensures.value.same c.in_ok-read_fields.ensures.reads)) (search rules) (c.in_ok-end.ensures.alone (search rules)).read
     (rw (c.in_ok-a.ensures.found, c.in_ok-b.ensures.found) refl)
 
 pub returns-in_err-read_fields-clause-unprompted : goal.returns-in_err-read_fields-clause-unprompted

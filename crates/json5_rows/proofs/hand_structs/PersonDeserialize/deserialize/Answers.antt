@@ -17,11 +17,11 @@ returns-in_err-age-clause-complete g c =
 pub returns-in_err-end-clause-complete : goal.returns-in_err-end-clause-complete
 returns-in_err-end-clause-complete g c =
     end_completes person c.in_ok-map.map c.in_ok-map.ensures.opens _ _ c.from_residual-in_err-end.ensures.1 (still c.in_ok-age.ensures.value.same (still c.in_ok-name.ensures.value.same c.in_ok-read_fields.ensures.reads))
-    (λ r left. c.in_err-end.ensures.left r (c.in_ok-age.ensures.value.pending ∙ c.in_ok-name.ensures.value.pending ∙ c.in_ok-read_fields.ensures.pending) left)
+    (λ r left. (c.in_err-end.ensures.alone (search rules)).left r (c.in_ok-age.ensures.value.pending ∙ c.in_ok-name.ensures.value.pending ∙ c.in_ok-read_fields.ensures.pending) left)
 
 pub returns-clause-sound : goal.returns-clause-sound
 returns-clause-sound g c =
-    struct_read person c.in_ok-map.map c.in_ok-map.ensures.opens (still c.in_ok-age.ensures.value.same (still c.in_ok-name.ensures.value.same c.in_ok-read_fields.ensures.reads)) (search rules) c.in_ok-end.ensures.read
+    struct_read person c.in_ok-map.map c.in_ok-map.ensures.opens (still c.in_ok-age.ensures.value.same (still c.in_ok-name.ensures.value.same c.in_ok-read_fields.ensures.reads)) (search rules) (c.in_ok-end.ensures.alone (search rules)).read
     (rw (c.in_ok-name.ensures.found, c.in_ok-age.ensures.found) refl)
 
 pub returns-in_err-read_fields-clause-unprompted : goal.returns-in_err-read_fields-clause-unprompted
