@@ -11,6 +11,7 @@ pub mod Options
 pub mod Brackets
 pub mod Access
 pub mod Seq
+pub mod Short
 pub mod Lists
 pub mod Keys
 pub mod KeyRows

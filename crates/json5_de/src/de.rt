@@ -64,9 +64,9 @@ pub trait Deserialize<I: Input>: Sized + Drop {
 /// Reads values from the front of a text.
 #[derive(Drop)]
 pub struct Deserializer<I: Input> {
-    scanner: Scanner<I>,
+    pub(crate) scanner: Scanner<I>,
     level: usize,
-    failed: bool,
+    pub(crate) failed: bool,
 }
 
 impl<I: Input> Model for Deserializer<I> {

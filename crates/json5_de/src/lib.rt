@@ -26,6 +26,7 @@ mod option;
 mod reading;
 mod scalars;
 mod seq;
+mod short;
 mod spans;
 mod text;
 mod texts;
