@@ -21,6 +21,7 @@ pub mod WithoutMemory
 pub mod ArrayCodes
 pub mod OtherCodes
 pub mod Rows
+pub mod ShortReads
 pub mod OpenClose
 pub mod Next
 pub mod Required

@@ -1,0 +1,11 @@
+use Rattle.std.proofs.Common.{ap, subst}
+use Rattle.json5_text.specs.Short.{TakesShortStep}
+use Rattle.json5_de.specs.Brackets.{brackets_of}
+use Rattle.json5_de.specs.declared.brackets.Brackets.{Brackets}
+use Rattle.json5_de.proofs.ShortReads.{short_step}
+use Rattle.json5_de.proofs.de.Deserializer.short_step.Goals as goal
+
+pub returns : goal.returns
+returns g c =
+    short_step (brackets_of c.args.kind) c.args.due c.self.inside.scanner c.short_step.new.self c.self.inside.level c.self.inside.failed c.args.self.now c.short_step.result c.self.view_is c.if-self.false
+    (subst (λ n. TakesShortStep n c.args.due c.self.inside.scanner c.short_step.new.self c.short_step.result) (ap (λ (b : Brackets). b.closing) c.brackets.ensures) c.short_step.ensures)
