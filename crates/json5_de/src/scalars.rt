@@ -67,6 +67,7 @@ impl<I: Input> Deserializer<I> {
     }
 
     /// Reads a whole number from 0 to `max`.
+    #[inline(never)]
     fn natural(&mut self, max: u128, name: &str) -> Result<u128>
         ensures reads { ReadsAs (natural_row (max + 1)) (λ n. n) self.old self.new result }
         ensures fits { IfOk result (λ n. n ≤ max) }
@@ -79,6 +80,7 @@ impl<I: Input> Deserializer<I> {
     }
 
     /// Reads a whole number from `-max - 1` to `max`.
+    #[inline(never)]
     fn signed_integer(&mut self, max: i128, name: &str) -> Result<i128>
         requires { pos 0 ≤ℤ max }
         ensures reads { ReadsAs (integer_row (nat_abs max + 1)) (λ n. n) self.old self.new result }
@@ -93,9 +95,13 @@ impl<I: Input> Deserializer<I> {
     }
 
     /// Reads a whole number as `u8`, which takes no memory; another one is a custom fault at its start.
+    #[inline(always)]
     pub fn deserialize_u8(&mut self) -> Result<u8>
         ensures { ReadsAs (natural_row (2 ^ 8)) (λ n. n) self.old self.new result }
     {
+        if let Some(natural) = self.short_natural(0xff) {
+            return Ok(natural as u8);
+        }
         match self.natural(0xff, "u8") {
             Ok(natural) => Ok(natural as u8),
             Err(e) => Err(e),
@@ -103,9 +109,13 @@ impl<I: Input> Deserializer<I> {
     }
 
     /// Reads a whole number as `u16`, which takes no memory; another one is a custom fault at its start.
+    #[inline(always)]
     pub fn deserialize_u16(&mut self) -> Result<u16>
         ensures { ReadsAs (natural_row (2 ^ 16)) (λ n. n) self.old self.new result }
     {
+        if let Some(natural) = self.short_natural(0xffff) {
+            return Ok(natural as u16);
+        }
         match self.natural(0xffff, "u16") {
             Ok(natural) => Ok(natural as u16),
             Err(e) => Err(e),
@@ -113,9 +123,13 @@ impl<I: Input> Deserializer<I> {
     }
 
     /// Reads a whole number as `u32`, which takes no memory; another one is a custom fault at its start.
+    #[inline(always)]
     pub fn deserialize_u32(&mut self) -> Result<u32>
         ensures { ReadsAs (natural_row (2 ^ 32)) (λ n. n) self.old self.new result }
     {
+        if let Some(natural) = self.short_natural(0xffffffff) {
+            return Ok(natural as u32);
+        }
         match self.natural(0xffffffff, "u32") {
             Ok(natural) => Ok(natural as u32),
             Err(e) => Err(e),
@@ -123,9 +137,13 @@ impl<I: Input> Deserializer<I> {
     }
 
     /// Reads a whole number as `u64`, which takes no memory; another one is a custom fault at its start.
+    #[inline(always)]
     pub fn deserialize_u64(&mut self) -> Result<u64>
         ensures { ReadsAs (natural_row (2 ^ 64)) (λ n. n) self.old self.new result }
     {
+        if let Some(natural) = self.short_natural(0xffffffffffffffff) {
+            return Ok(natural);
+        }
         match self.natural(0xffffffffffffffff, "u64") {
             Ok(natural) => Ok(natural as u64),
             Err(e) => Err(e),
@@ -140,9 +158,13 @@ impl<I: Input> Deserializer<I> {
     }
 
     /// Reads a whole number as `i8`, which takes no memory; another one is a custom fault at its start.
+    #[inline(always)]
     pub fn deserialize_i8(&mut self) -> Result<i8>
         ensures { ReadsAs (integer_row (2 ^ 7)) (λ n. n) self.old self.new result }
     {
+        if let Some(integer) = self.short_integer(0x7f) {
+            return Ok(integer as i8);
+        }
         match self.signed_integer(0x7f, "i8") {
             Ok(integer) => Ok(integer as i8),
             Err(e) => Err(e),
@@ -150,9 +172,13 @@ impl<I: Input> Deserializer<I> {
     }
 
     /// Reads a whole number as `i16`, which takes no memory; another one is a custom fault at its start.
+    #[inline(always)]
     pub fn deserialize_i16(&mut self) -> Result<i16>
         ensures { ReadsAs (integer_row (2 ^ 15)) (λ n. n) self.old self.new result }
     {
+        if let Some(integer) = self.short_integer(0x7fff) {
+            return Ok(integer as i16);
+        }
         match self.signed_integer(0x7fff, "i16") {
             Ok(integer) => Ok(integer as i16),
             Err(e) => Err(e),
@@ -160,9 +186,13 @@ impl<I: Input> Deserializer<I> {
     }
 
     /// Reads a whole number as `i32`, which takes no memory; another one is a custom fault at its start.
+    #[inline(always)]
     pub fn deserialize_i32(&mut self) -> Result<i32>
         ensures { ReadsAs (integer_row (2 ^ 31)) (λ n. n) self.old self.new result }
     {
+        if let Some(integer) = self.short_integer(0x7fffffff) {
+            return Ok(integer as i32);
+        }
         match self.signed_integer(0x7fffffff, "i32") {
             Ok(integer) => Ok(integer as i32),
             Err(e) => Err(e),
@@ -170,9 +200,13 @@ impl<I: Input> Deserializer<I> {
     }
 
     /// Reads a whole number as `i64`, which takes no memory; another one is a custom fault at its start.
+    #[inline(always)]
     pub fn deserialize_i64(&mut self) -> Result<i64>
         ensures { ReadsAs (integer_row (2 ^ 63)) (λ n. n) self.old self.new result }
     {
+        if let Some(integer) = self.short_integer(0x7fffffffffffffff) {
+            return Ok(integer as i64);
+        }
         match self.signed_integer(0x7fffffffffffffff, "i64") {
             Ok(integer) => Ok(integer as i64),
             Err(e) => Err(e),
