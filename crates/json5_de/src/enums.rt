@@ -85,7 +85,7 @@ impl<I: Input> Deserializer<I> {
         let start = self.open(BracketKind::Object)?;
         match self.only_key(variants) {
             Ok(variant) => Ok(variant),
-            Err(e) => Err(e.with_position(self.position_of(start))),
+            Err(e) => Err(self.place_after(start, e)),
         }
     }
 
@@ -195,7 +195,7 @@ impl<I: Input> Deserializer<I> {
     {
         match self.close_last(kind, due) {
             Ok(()) => self.close_last(BracketKind::Object, true),
-            Err(e) => Err(e.with_position(self.position_of(brace))),
+            Err(e) => Err(self.place_after(brace, e)),
         }
     }
 
@@ -210,7 +210,7 @@ impl<I: Input> Deserializer<I> {
         }
         match self.open(kind) {
             Ok(start) => Ok(start),
-            Err(e) => Err(e.with_position(self.position_of(name.start))),
+            Err(e) => Err(self.place_after(name.start, e)),
         }
     }
 
@@ -224,7 +224,7 @@ impl<I: Input> Deserializer<I> {
                 Ok(value)
             }
             Err(e) => {
-                let error = e.with_position(self.position_of(start));
+                let error = self.place_after(start, e);
                 self.refuse(error)
             }
         }
