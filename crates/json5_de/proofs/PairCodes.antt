@@ -31,6 +31,7 @@ use Rattle.json5_de.specs.Faults.{AfterBlanks, in_blanks, after_gap, RefusedBy, 
 use Rattle.json5_de.specs.Access.{Unexpected, at_end, at_char, AtClose, StartsAfter, PlacedAtBracket}
 use Rattle.json5_de.specs.Seq.{IsAfterGap, Begun, AtMember, NothingNext, NoNext, no_comma, comma_missing, in_blanks_after}
 use Rattle.json5_de.specs.Objects.{SeenMap, bare_map, TookPairKey, AfterColon, TookPairValue, GivesPairKey, GivesPairValue, CompletesPairKey}
+use Rattle.json5_de.proofs.Offsets.{placed_where}
 use Rattle.json5_de.specs.ObjectFaults.{begins_key, AtKey, NoKeyHere, no_key, key_missing, NoKey, no_next, not_here, not_after_comma, PlacedAtKey, at_key, as_it_is, RefusesPairKey, not_reached, in_key, begins_next_key, no_key_code, RefusesNextKey, NoColon, no_colon, colon_missing, is_colon, RefusesPairValue, no_value, in_value, RefusesNextValue}
 use Rattle.json5_de.proofs.Expected.{Expected, end_fault, other_fault}
 use Rattle.json5_de.proofs.Taken.{input_of, placed_after, refused_token}
@@ -287,12 +288,7 @@ key_kind IsBefore own e (as_it_is h kind place) = kind
 -- the key stands where the reader stood
 placed_before : (mid end : State) (offset : ℕ) (own e : Error) → SameText mid end → ((before : List ℕ) → mid.input ≡ before ++ mid.unread → offset ≡ length (encode_utf8_all before)) → PlacedAtKey (StartsAfter end.input offset) own e
     → PlacedAtKey (λ before. mid.input ≡ before ++ mid.unread) own e
-placed_before mid end offset own e same counted (at_key h p) = at_key h (record {
-  kind = p.kind;
-  there = p.there;
-  place = p.place;
-  is_there = λ before split. p.is_there before (record { rest = mid.unread; split = same ∙ split; counted = counted before split });
-})
+placed_before mid end offset own e same counted (at_key h p) = at_key h (placed_where (λ before split. record { rest = mid.unread; split = same ∙ split; counted = counted before split }) p)
 placed_before mid end offset own e same counted (as_it_is h kind place) = as_it_is h kind place
 
 -- what a key's type reads at a key

@@ -71,10 +71,14 @@ module _ {I : Type 0} where
   abbrev pub BlocksMapReader : MapAccess I → Type 0
   BlocksMapReader m = m.de.now.failed ≡ true
 
+-- a name that was read, and the reader after it
+abbrev pub seen_named : State → Named → SeenEnum
+seen_named reader n = record { reader = reader; start = n.start; variant = n.variant; has_content = n.has_content }
+
 module _ {I : Type 0} where
   -- the same of an access to a variant, which no call has failed
   abbrev pub seen_enum : EnumAccess I → SeenEnum
-  seen_enum a = record { reader = record a.de.now { failed = false }; start = a.start; variant = a.variant; has_content = a.has_content }
+  seen_enum a = seen_named (record a.de.now { failed = false }) a.name
 
   -- the reader that it was given, and the same as it stands
   abbrev pub reader_of : EnumAccess I → MutBor State
@@ -88,10 +92,6 @@ module _ {I : Type 0} where
 
   abbrev pub BlocksEnumReader : EnumAccess I → Type 0
   BlocksEnumReader a = a.de.now.failed ≡ true
-
--- a name that was read, and the reader after it
-abbrev pub seen_named : State → Named → SeenEnum
-seen_named reader n = record { reader = reader; start = n.start; variant = n.variant; has_content = n.has_content }
 
 -- the reader that is lent to a key, which stands before it
 abbrev pub waiting : {I : Type 0} → MapKey I → State

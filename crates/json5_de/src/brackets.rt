@@ -61,7 +61,8 @@ impl BracketKind {
 }
 
 impl<I: Input> Deserializer<I> {
-    ghost use Rattle.json5_de.specs.Access.{Closed, OpensAs, NotClosed};
+    ghost use Rattle.json5_de.specs.Access.{Closed, OpensAs, NotClosed, StartsAfter};
+    ghost use Rattle.json5_de.specs.Options.{PlacedAt};
     ghost use Rattle.json5_de.specs.Seq.{IsUnexpected, TakesClosing, GoesOn, NothingNext, NoNext};
 
     /// Refuses what is next: `differs` at the character, or `ends` at the end, without a place.
@@ -74,6 +75,16 @@ impl<I: Input> Deserializer<I> {
         };
         self.set_failed(true);
         error
+    }
+
+    /// The fault, at the place after so many bytes where it has none.
+    pub(crate) fn place_after(&self, offset: usize, error: Error) -> Error
+        ensures { PlacedAt (StartsAfter self.now.input offset) error result }
+    {
+        match error.position() {
+            Some(_) => error,
+            None => error.at(self.position_of(offset)),
+        }
     }
 
     /// Takes an opening bracket, and gives the count of bytes before it.

@@ -28,12 +28,7 @@ use json5_text::strings::is_quote;
 /// `Failed` until then, and for good where the access is dropped or leaked.
 pub struct EnumAccess<'a, I: Input> {
     de: &'a mut Deserializer<I>,
-    /// The count of bytes before the text or the opening brace.
-    start: usize,
-    /// The first place of the name among the variants.
-    variant: usize,
-    /// Whether the name is a key, whose value is the content.
-    has_content: bool,
+    name: Named,
 }
 
 /// Dropped before its content is read, it leaves the reader blocked.
@@ -43,20 +38,18 @@ impl<I: Input> Drop for EnumAccess<'_, I> {
     fn drop(self)
         ensures { self.exit.0.now ≡ held_by_enum self.entry }
     {
-        let EnumAccess {
-            de: _,
-            start: _,
-            variant: _,
-            has_content: _,
-        } = self;
+        let EnumAccess { de: _, name: _ } = self;
     }
 }
 
 /// The name of a variant that was read.
 #[derive(Drop)]
 struct Named {
+    /// The count of bytes before the text or the opening brace.
     start: usize,
+    /// The first place of the name among the variants.
     variant: usize,
+    /// Whether the name is a key, whose value is the content.
     has_content: bool,
 }
 
@@ -85,7 +78,7 @@ impl<I: Input> Deserializer<I> {
         let start = self.open(BracketKind::Object)?;
         match self.only_key(variants) {
             Ok(variant) => Ok(variant),
-            Err(e) => Err(e.with_position(self.position_of(start))),
+            Err(e) => Err(self.place_after(start, e)),
         }
     }
 
@@ -164,18 +157,9 @@ impl<I: Input> Deserializer<I> {
         ensures blocks { IfOk result BlocksEnumReader }
         ensures names { NamesVariant (spelled variants.now) seen_enum self.old result }
     {
-        let Named {
-            start,
-            variant,
-            has_content,
-        } = self.named(variants)?;
+        let name = self.named(variants)?;
         self.set_failed(true);
-        Ok(EnumAccess {
-            de: self,
-            start,
-            variant,
-            has_content,
-        })
+        Ok(EnumAccess { de: self, name })
     }
 
     /// Takes a closing bracket, and before it the comma that may stand there; a refusal is for good.
@@ -195,7 +179,7 @@ impl<I: Input> Deserializer<I> {
     {
         match self.close_last(kind, due) {
             Ok(()) => self.close_last(BracketKind::Object, true),
-            Err(e) => Err(e.with_position(self.position_of(brace))),
+            Err(e) => Err(self.place_after(brace, e)),
         }
     }
 
@@ -210,7 +194,7 @@ impl<I: Input> Deserializer<I> {
         }
         match self.open(kind) {
             Ok(start) => Ok(start),
-            Err(e) => Err(e.with_position(self.position_of(name.start))),
+            Err(e) => Err(self.place_after(name.start, e)),
         }
     }
 
@@ -224,7 +208,7 @@ impl<I: Input> Deserializer<I> {
                 Ok(value)
             }
             Err(e) => {
-                let error = e.with_position(self.position_of(start));
+                let error = self.place_after(start, e);
                 self.refuse(error)
             }
         }
@@ -238,7 +222,7 @@ impl<'a, I: Input> EnumAccess<'a, I> {
     pub fn variant(&self) -> usize
         ensures { result ≡ (seen_enum self.now).variant }
     {
-        self.variant
+        self.name.variant
     }
 
     /// Reads a variant without content: nothing more of a text; of an object `null`, and the closing brace, before which a comma may
@@ -247,17 +231,12 @@ impl<'a, I: Input> EnumAccess<'a, I> {
     pub fn unit_variant(self) -> Result<()>
         ensures { ReadsVariant (λ _. tt) unit_content (content_free every_tree) (RefusedAs null_row) (seen_enum self.entry) self.exit.0.now result }
     {
-        let EnumAccess {
-            de,
-            start,
-            variant: _,
-            has_content,
-        } = self;
+        let EnumAccess { de, name } = self;
         de.set_failed(false);
-        if !has_content {
+        if !name.has_content {
             return Ok(());
         }
-        de.in_brace::<()>(start)
+        de.in_brace::<()>(name.start)
     }
 
     /// Reads a variant that holds a T, and the closing brace, before which a comma may stand. A fault of the T without a place gets
@@ -266,17 +245,12 @@ impl<'a, I: Input> EnumAccess<'a, I> {
     pub fn newtype_variant<T: Deserialize<I>>(self) -> Result<T>
         ensures { ReadsVariant T.content (content_of T.convert) (content_free T.free) T.refuses (seen_enum self.entry) self.exit.0.now result }
     {
-        let EnumAccess {
-            de,
-            start,
-            variant: _,
-            has_content,
-        } = self;
+        let EnumAccess { de, name } = self;
         de.set_failed(false);
-        if !has_content {
-            return de.mismatch(start, &Mismatch::WithoutContent("newtype"));
+        if !name.has_content {
+            return de.mismatch(name.start, &Mismatch::WithoutContent("newtype"));
         }
-        de.in_brace(start)
+        de.in_brace(name.start)
     }
 
     /// Reads a variant whose content is an array, element by element. Its `end` closes the array and the variant's brace, before
@@ -287,18 +261,8 @@ impl<'a, I: Input> EnumAccess<'a, I> {
         ensures held { IfOk result (HoldsBlocked (reader_of self.entry) (Some (seen_enum self.entry).start)) }
         ensures opens { OpensTuple seen (seen_enum self.entry) result }
     {
-        let EnumAccess {
-            de,
-            start: brace,
-            variant,
-            has_content,
-        } = self;
+        let EnumAccess { de, name } = self;
         de.set_failed(false);
-        let name = Named {
-            start: brace,
-            variant,
-            has_content,
-        };
         let start = de.open_content(BracketKind::Array, &name, "tuple")?;
         de.set_failed(true);
         Ok(SeqAccess {
@@ -306,7 +270,7 @@ impl<'a, I: Input> EnumAccess<'a, I> {
             start,
             due: false,
             failed: false,
-            brace: Some(brace),
+            brace: Some(name.start),
         })
     }
 
@@ -318,18 +282,8 @@ impl<'a, I: Input> EnumAccess<'a, I> {
         ensures held { IfOk result (HoldsMapBlocked (reader_of self.entry) (Some (seen_enum self.entry).start)) }
         ensures opens { OpensStruct seen_map (seen_enum self.entry) result }
     {
-        let EnumAccess {
-            de,
-            start: brace,
-            variant,
-            has_content,
-        } = self;
+        let EnumAccess { de, name } = self;
         de.set_failed(false);
-        let name = Named {
-            start: brace,
-            variant,
-            has_content,
-        };
         let start = de.open_content(BracketKind::Object, &name, "struct")?;
         de.set_failed(true);
         Ok(MapAccess {
@@ -338,7 +292,7 @@ impl<'a, I: Input> EnumAccess<'a, I> {
             due: false,
             pending: false,
             failed: false,
-            brace: Some(brace),
+            brace: Some(name.start),
         })
     }
 }

@@ -158,7 +158,7 @@ impl<I: Input> Deserializer<I> {
         if is_unplaced(&error) {
             error
         } else {
-            error.with_position(self.position_of(start))
+            self.place_after(start, error)
         }
     }
 
@@ -286,7 +286,7 @@ impl<'a, I: Input> MapAccess<'a, I> {
     pub fn place(&self, error: Error) -> Error
         ensures { PlacedAtBracket (seen_map self.now).at error result }
     {
-        error.with_position(self.de.position_of(self.start))
+        self.de.place_after(self.start, error)
     }
 
     /// The position of an offset in bytes, as that of a value which `Spanned` gives; the end's, where no character begins there.

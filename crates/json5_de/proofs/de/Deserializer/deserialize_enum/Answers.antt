@@ -6,18 +6,18 @@ use Rattle.json5_de.proofs.Arrays.{failed_of}
 use Rattle.json5_de.proofs.VariantNames.{named_seen, unnamed_seen, lent_name}
 use Rattle.json5_de.proofs.de.Deserializer.deserialize_enum.Goals as goal
 
-pub returns-in_err-start : goal.returns-in_err-start
-returns-in_err-start g c =
+pub returns-in_err-name : goal.returns-in_err-name
+returns-in_err-name g c =
     let (y, is, from) = err_from_is_err_and c.from_residual.result c.from_residual.ensures.1 in
     rw (is, from) (
-      (refl, λ w. tt, c.in_err-start.ensures.failed),
-      (tt, (tt, unnamed_seen (spelled c.args.variants.now) _ seen_enum c.args.self.now c.in_err-start.field-0.0 c.in_err-start.ensures.names)),
+      (refl, λ w. tt, c.in_err-name.ensures.failed),
+      (tt, (tt, unnamed_seen (spelled c.args.variants.now) _ seen_enum c.args.self.now c.in_err-name.field-0.0 c.in_err-name.ensures.names)),
     )
 
 pub returns : goal.returns
 returns g c =
-    let names = c.in_ok-start.ensures.names in
-    let seen = seen_named c.named.new.self c.in_ok-start.field-0 in (
+    let names = c.in_ok-name.ensures.names in
+    let seen = seen_named c.named.new.self c.in_ok-name.name in (
       (refl, λ w. refl, tt),
-      (refl, (failed_of c.set_failed.ensures, named_seen (spelled c.args.variants.now) _ seen_enum c.args.self.now c.in_ok-start.field-0 _ (lent_name (spelled c.args.variants.now) c.args.self.now seen c.set_failed.new.self names.read c.set_failed.ensures) names)),
+      (refl, (failed_of c.set_failed.ensures, named_seen (spelled c.args.variants.now) _ seen_enum c.args.self.now c.in_ok-name.name _ (lent_name (spelled c.args.variants.now) c.args.self.now seen c.set_failed.new.self names.read c.set_failed.ensures) names)),
     )

@@ -10,6 +10,7 @@ use Rattle.json5_de.specs.Steps.{TookText}
 use Rattle.json5_de.proofs.Expected.{end_fault, wrongly_refused}
 use Rattle.json5_de.proofs.Expects.{expects_null}
 use Rattle.json5_de.proofs.Taken.{took_leaf, refused_blanks, refused_token, null_stops, chars_null}
+use Rattle.json5_de.proofs.Offsets.{placed_where}
 use Rattle.json5_de.proofs.Places.{none_next, some_next}
 use Rattle.json5_de.proofs.Rows.{given_up, gives_up}
 use Rattle.json5_de.proofs.Options.{expects_nothing, blanks_no_value, end_next, value_no_end, null_next, null_not_next, option_some, null_unit, took_after, reads_option, refuses_option, refuses_some, missing_there, null_there, other_sign}
@@ -87,14 +88,9 @@ returns-in-Err-clause-reads g c =
     let start = c.begin.new.self in
     let after = c.deserialize.new.de in
     let (m, next) = some_next start.unread c.in-Some.next (sym c.peek.ensures ∙ c.in-Some.is) in
-    rw c.refuse-in-Err.ensures.result (refuses_some g.T.Deserialize.content g.T.Deserialize.convert g.T.Deserialize.free g.T.Deserialize.refuses c.args.self.now start after c.refuse-in-Err.new.self c.in-Err.e c.with_position-error.result c.in-Some.next m
+    rw c.refuse-in-Err.ensures.result (refuses_some g.T.Deserialize.content g.T.Deserialize.convert g.T.Deserialize.free g.T.Deserialize.refuses c.args.self.now start after c.refuse-in-Err.new.self c.in-Err.e c.place_after-error.result c.in-Some.next m
     c.in_ok-begin.ensures.passed next (other_sign c.in-Some.next 110 c.if-next-eq110.false) c.in-Err.ensures.refused c.in-Err.ensures.complete c.in-Err.ensures.no_memory c.in-Err.ensures.unprompted c.in-Err.ensures.same_text c.refuse-in-Err.ensures.state
-    (record {
-      kind = c.with_position-error.ensures.kind;
-      there = c.position_of.result;
-      place = c.with_position-error.ensures.place;
-      is_there = λ before split. c.position_of.ensures.inside before start.unread (c.in-Err.ensures.same_text ∙ split) (c.offset-start.ensures.counted before split);
-    }))
+    (placed_where (λ before split. record { rest = start.unread; split = c.in-Err.ensures.same_text ∙ split; counted = c.offset-start.ensures.counted before split }) c.place_after-error.ensures))
 
 pub returns-in-Err-clause-ends : goal.returns-in-Err-clause-ends
 returns-in-Err-clause-ends g c = λ at.

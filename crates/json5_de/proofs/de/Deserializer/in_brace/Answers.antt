@@ -1,5 +1,7 @@
-use Rattle.std.proofs.Common.{◌∙◌}
+use Rattle.std.proofs.Common.{subst}
 use Rattle.std.proofs.lemmas.Result.{err_from_is_err_and}
+use Rattle.json5_de.specs.Access.{StartsAfter}
+use Rattle.json5_de.specs.Options.{PlacedAt}
 use Rattle.json5_de.proofs.VariantContents.{brace_missing, content_refused}
 use Rattle.json5_de.proofs.de.Deserializer.in_brace.Goals as goal
 
@@ -13,11 +15,6 @@ returns-in_err-close_last-in-Ok g c =
 pub returns-in-Err : goal.returns-in-Err
 returns-in-Err g c =
     let t = g.T.Deserialize in
-    rw c.refuse.ensures.result (content_refused t.content t.convert t.free t.refuses c.args.start c.args.self.now c.deserialize.new.de c.refuse.new.self c.in-Err.e c.with_position-error.result
+    rw c.refuse.ensures.result (content_refused t.content t.convert t.free t.refuses c.args.start c.args.self.now c.deserialize.new.de c.refuse.new.self c.in-Err.e c.place_after-error.result
     c.in-Err.ensures.refused c.in-Err.ensures.complete c.in-Err.ensures.no_memory c.in-Err.ensures.unprompted c.in-Err.ensures.same_text c.refuse.ensures.state
-    (record {
-      kind = c.with_position-error.ensures.kind;
-      there = c.position_of.result;
-      place = c.with_position-error.ensures.place;
-      is_there = λ before b. c.position_of.ensures.inside before b.rest (c.in-Err.ensures.same_text ∙ b.split) b.counted;
-    }))
+    (subst (λ x. PlacedAt (StartsAfter x c.args.start) c.in-Err.e c.place_after-error.result) c.in-Err.ensures.same_text c.place_after-error.ensures))

@@ -1,4 +1,4 @@
-use Rattle.std.proofs.Common.{refl, subst}
+use Rattle.std.proofs.Common.{refl, subst, rules}
 use Rattle.json5_de.specs.State.{State}
 use Rattle.json5_de.specs.Convert.{unit_of}
 use Rattle.json5_de.specs.Enums.{ReadsInBrace, unit_content, content_free}
@@ -9,5 +9,5 @@ use Rattle.json5_de.proofs.enums.EnumAccess.unit_variant.Goals as goal
 
 pub returns : goal.returns
 returns g c =
-    variant_read (λ v. tt) unit_of every_tree (RefusedAs null_row) unit_content (content_free every_tree) (λ t. refl) (λ t. refl) (seen_enum c.args.self) c.in_brace.new.self c.in_brace.result c.if-not-has_content.false
+    variant_read (λ v. tt) unit_of every_tree (RefusedAs null_row) unit_content (content_free every_tree) (λ t. refl) (λ t. refl) (seen_enum c.args.self) c.in_brace.new.self c.in_brace.result (search rules)
     (subst (λ (s : State). ReadsInBrace (λ v. tt) unit_of every_tree (RefusedAs null_row) (seen_enum c.args.self).start s c.in_brace.new.self c.in_brace.result) c.set_failed.ensures c.in_brace.ensures)
