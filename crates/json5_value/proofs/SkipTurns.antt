@@ -1,0 +1,263 @@
+-- The open brackets round a value that is passed over, and what they make of what is read within.
+use Rattle.std.proofs.Common.{◌≡◌, ℕ, suc, ◌+◌, ◌-◌, ◌<◌, ◌≤◌, Bool, true, false, cond, List, [], ◌∷◌, ◌++◌, length, refl, ap, sym, ◌∙◌, subst, append_assoc, arith, length-append, inl, inr, Option, Some, None}
+use Rattle.std.specs.Prelude.{◌==◌, Result, Ok, Err, IsSome, ◌↔◌}
+use Rattle.json5_grammar.specs.declared.code.ErrorCode.TheVariants as codes
+use Rattle.json5_grammar.specs.Documents.{max_depth}
+use Rattle.json5_grammar.specs.Fronts.{opening}
+use Rattle.json5_grammar.specs.Fronts as fronts
+use Rattle.json5_grammar.specs.Reading.{Read, here, got, bad, and_then, placed}
+use Rattle.json5_grammar.specs.ReadBlanks.{skip, between}
+use Rattle.json5_grammar.specs.ReadSteps.{forget, colon_after, pair_head, member_head, member_at, comma_at, separator, next_value, rest_of}
+use Rattle.json5_grammar.specs.ReadTexts.{key}
+use Rattle.json5_grammar.specs.ReadValues.{read, colon_at}
+use Rattle.json5_grammar.proofs.Found.{Found}
+use Rattle.json5_grammar.proofs.ValuesSound.{IsGap, IsKeyAt, gap_found, key_found, read_sound}
+use Rattle.json5_grammar.proofs.ValueSteps.{turn, rest_step, read_opened}
+use Rattle.json5_text.specs.declared.error.Error.{Error}
+use Rattle.json5_text.specs.Cursor.{Cursor, Took}
+use Rattle.json5_value.specs.declared.brackets.OpenBracket.{OpenBracket}
+use Rattle.json5_value.specs.Brackets.{bracket_of}
+use Rattle.json5_value.specs.Nesting.{Nested, Within}
+use Rattle.json5_value.specs.Opening.{OpenedAt}
+use Rattle.json5_value.specs.Places.{StartsAfter, PlacedAt}
+use Rattle.json5_value.specs.Skipping.{start_of, rest_in, rest_at, Skipping, SkippingInside, Turns, TurnsInside, PlacedWithin}
+use Rattle.json5_value.specs.Steps.{IsInside, SameText, Blames, Gave, value_at}
+use Rattle.json5_value.proofs.Nesting.{value_reached, closed, inside_blamed, value_ended, value_opened, whole_blamed, innermost_blamed, starts, ends_inside}
+use Rattle.json5_value.proofs.Steps.{blames_as, forget_got}
+
+-- ---- what is left is no longer than before
+
+abbrev Short : {A : Type 0} → ℕ → Read A → Type 0
+Short n (got a r) = length r ≤ n
+Short n (bad e p) = Unit {0}
+
+short_then : {A B : Type 0} (n : ℕ) (m : Read A) (f : A → List ℕ → Read B) → Short n m → ((a : A) (r : List ℕ) → length r ≤ n → Short n (f a r)) → Short n (and_then m f)
+short_then n (got a r) f h k = k a r h
+short_then n (bad e p) f h k = tt
+
+short_within : {A : Type 0} (n m : ℕ) (read : Read A) → Short n read → n ≤ m → Short m read
+short_within n m (got a r) h l = omega (arith, h, l)
+short_within n m (bad e p) h l = tt
+
+short_skip : (x : List ℕ) → Short (length x) (skip between x)
+short_skip x = by_answer (skip between x) (gap_found x)
+  where
+    by_answer : (m : Read (Unit {0})) → Found (IsGap x) x m → Short (length x) m
+    by_answer (got u r) g = omega (arith, ap length g.1, length-append g.0 r)
+    by_answer (bad e p) g = tt
+
+short_key : (x : List ℕ) → Short (length x) (key x)
+unfolding key
+short_key [] = tt
+short_key (c ∷ r) = by_answer (key (c ∷ r)) (key_found c r)
+  where
+    by_answer : (m : Read (List ℕ × Bool)) → Found (IsKeyAt (c ∷ r)) (c ∷ r) m → Short (length (c ∷ r)) m
+    by_answer (got a y) g = omega (arith, ap length g.1, length-append g.0 y)
+    by_answer (bad e p) g = tt
+
+short_colon : (x : List ℕ) → Short (length x) (colon_at x)
+short_colon [] = tt
+short_colon (c ∷ r) = by_test (c == 58)
+  where
+    by_test : (b : Bool) → Short (length (c ∷ r)) (cond {A = Read (Unit {0})} b (got tt r) (bad (Some codes.ExpectedColon) (here (c ∷ r))))
+    by_test true = omega arith
+    by_test false = tt
+
+short_member : (k : fronts.BracketKind) (x : List ℕ) → Short (length x) (member_at k x)
+unfolding member_at
+short_member k x = short_then (length x) (skip between x) (λ u y. member_head k y) (short_skip x) (λ u y l. short_within (length y) (length x) (member_head k y) (head k y) l)
+  where
+    pair : (y : List ℕ) → Short (length y) (pair_head y)
+    pair y = short_then (length y) (key y) _ (short_key y) (λ a r l. short_then (length y) (colon_after r) _
+        (short_then (length y) (skip between r) _ (short_within (length r) (length y) (skip between r) (short_skip r) l)
+        (λ u z m. short_then (length y) (colon_at z) _ (short_within (length z) (length y) (colon_at z) (short_colon z) m) (λ v q o. short_within (length q) (length y) (skip between q) (short_skip q) o)))
+        (λ u z m. m))
+
+    closes : (b : Bool) (c : ℕ) (r : List ℕ) (m : Read Bool) → Short (length (c ∷ r)) m → Short (length (c ∷ r)) (cond b (got false r) m)
+    closes true c r m h = omega arith
+    closes false c r m h = h
+
+    head : (k : fronts.BracketKind) (y : List ℕ) → Short (length y) (member_head k y)
+    head fronts.of_array [] = omega arith
+    head fronts.of_object [] = tt
+    head fronts.of_array (c ∷ r) = closes (c == 93) c r (got true (c ∷ r)) (omega arith)
+    head fronts.of_object (c ∷ r) = closes (c == 125) c r (pair_head (c ∷ r)) (pair (c ∷ r))
+
+-- less is left where something was taken
+abbrev Shorter : {A : Type 0} → ℕ → Read A → Type 0
+Shorter n (got a r) = length r < n
+Shorter n (bad e p) = Unit {0}
+
+shorter_then : {A B : Type 0} (n : ℕ) (m : Read A) (f : A → List ℕ → Read B) → Short n m → ((a : A) (r : List ℕ) → length r ≤ n → Shorter n (f a r)) → Shorter n (and_then m f)
+shorter_then n (got a r) f h k = k a r h
+shorter_then n (bad e p) f h k = tt
+
+then_short : {A B : Type 0} (n : ℕ) (m : Read A) (f : A → List ℕ → Read B) → Shorter n m → ((a : A) (r : List ℕ) → length r < n → Shorter n (f a r)) → Shorter n (and_then m f)
+then_short n (got a r) f h k = k a r h
+then_short n (bad e p) f h k = tt
+
+below : {A : Type 0} (n m : ℕ) (read : Read A) → Short n read → n < m → Shorter m read
+below n m (got a r) h l = omega (arith, h, l)
+below n m (bad e p) h l = tt
+
+shorter_separator : (k : fronts.BracketKind) (x : List ℕ) → Shorter (length x) (separator k x)
+unfolding separator
+shorter_separator k x = shorter_then (length x) (skip between x) (λ u y. comma_at k y) (short_skip x) (λ u y l. comma y l)
+  where
+    comma : (y : List ℕ) → length y ≤ length x → Shorter (length x) (comma_at k y)
+    comma [] l = tt
+    comma (c ∷ r) l = by_tests (c == 44) (c == fronts.closing k)
+      where
+        by_tests : (a b : Bool) → Shorter (length x) (cond a (got true r) (cond b (got false r) (bad (Some codes.ExpectedComma) (here (c ∷ r)))))
+        by_tests true b = omega (arith, l)
+        by_tests false true = omega (arith, l)
+        by_tests false false = tt
+
+shorter_next : (k : fronts.BracketKind) (x : List ℕ) → Shorter (length x) (next_value k true x)
+shorter_next k x = then_short (length x) (separator k x) _ (shorter_separator k x) (λ goes y l. by_test goes y l)
+  where
+    by_test : (goes : Bool) (y : List ℕ) → length y < length x → Shorter (length x) (cond goes (member_at k y) (got false y))
+    by_test true y l = below (length y) (length x) (member_at k y) (short_member k y) l
+    by_test false y l = l
+
+-- a comma and what follows it, or the closing sign, take something
+pub next_shorter : (k : fronts.BracketKind) (due b : Bool) (x r : List ℕ) → next_value k due x ≡ got b r → due ≡ true → length r < length x
+next_shorter k due b x r e is = by_answer (next_value k true x) (shorter_next k x) (sym (ap (λ d. next_value k d x) is) ∙ e)
+  where
+    by_answer : (m : Read Bool) → Shorter (length x) m → m ≡ got b r → length r < length x
+    by_answer (got a y) h f = let same : y ≡ r = cc in omega (arith, h, ap length same)
+    by_answer (bad c p) h f = absurd (cc)
+
+-- ---- going on in a bracket
+
+module _ (room : ℕ) (bs : List OpenBracket) (f : OpenBracket) (due : Bool) (old : Cursor) where
+  abbrev left : ℕ
+  left = room - length bs - 1
+
+  -- what is left of it, by what comes next
+  rest_is : (goes : Bool) (new : Cursor) → Gave (next_value (bracket_of f.kind) due old.unread) goes old new → rest_at room bs f due old ≡ turn (bracket_of f.kind) left goes new.unread
+  rest_is goes new g = rest_step (bracket_of f.kind) due left old.unread ∙ ap (λ m. and_then m (turn (bracket_of f.kind) left)) g.reads
+
+  rest_bad : (own : Error) → Blames old.input (next_value (bracket_of f.kind) due old.unread) own → Blames old.input (rest_at room bs f due old) own
+  rest_bad own b = blames_as old.input old.input (next_value (bracket_of f.kind) due old.unread) (rest_at room bs f due old) own refl
+      (λ c p is. rest_step (bracket_of f.kind) due left old.unread ∙ ap (λ m. and_then m (turn (bracket_of f.kind) left)) is) b
+
+  -- a value comes next
+  value_is : (goes : Bool) (new : Cursor) → goes ≡ true → Gave (next_value (bracket_of f.kind) due old.unread) goes old new → rest_at room bs f due old ≡ and_then (value_at left new) (rest_in f left)
+  value_is goes new is g = rest_is goes new g ∙ ap (λ b. turn (bracket_of f.kind) left b new.unread) is
+
+room_within : (room : ℕ) (bs : List OpenBracket) (f : OpenBracket) → room - length (bs ++ f ∷ []) ≡ room - length bs - 1
+room_within room bs f = omega (arith, length-append bs (f ∷ []))
+
+pub no_more_left : (old new : Cursor) (s : List ℕ) → Took old s new → length new.unread ≤ length old.unread
+no_more_left old new s t = omega (arith, ap length t.split, length-append s new.unread)
+
+pub inside_goes : (due goes : Bool) (f : OpenBracket) (bs after : List OpenBracket) (old new : Cursor) → goes ≡ true → Gave (next_value (bracket_of f.kind) due old.unread) goes old new → after ≡ bs ++ f ∷ [] → TurnsInside due f bs after old new (Ok goes)
+inside_goes due goes f bs after old new is g grown = record {
+  goes = λ room w q h. subst (λ z. Skipping room w z goes new) (sym grown)
+      (subst (λ b. Skipping room w (bs ++ f ∷ []) b new) (sym is)
+      (subst (λ d. Within start_of rest_in room w (bs ++ f ∷ []) (value_at d new) new) (sym (room_within room bs f))
+      (value_reached start_of rest_in room old w (rest_at room bs f due old) bs f.start q h f new (value_at (room - length bs - 1) new) g.taken refl g.took (value_is room bs f due old goes new is g))));
+  refused = tt;
+  same_text = g.took.same;
+  shorter = λ d. next_shorter (bracket_of f.kind) due goes old.unread new.unread g.reads d;
+  no_longer = no_more_left old new g.taken g.took;
+}
+
+pub inside_closed : (due goes : Bool) (f : OpenBracket) (bs : List OpenBracket) (old new : Cursor) → goes ≡ false → Gave (next_value (bracket_of f.kind) due old.unread) goes old new → TurnsInside due f bs bs old new (Ok goes)
+inside_closed due goes f bs old new is g = record {
+  goes = λ room w q h. subst (λ b. Skipping room w bs b new) (sym is)
+      (closed start_of rest_in room old w (rest_at room bs f due old) bs f.start q h new tt g.taken g.took (rest_is room bs f due old goes new g ∙ ap (λ b. turn (bracket_of f.kind) (room - length bs - 1) b new.unread) is));
+  refused = tt;
+  same_text = g.took.same;
+  shorter = λ d. next_shorter (bracket_of f.kind) due goes old.unread new.unread g.reads d;
+  no_longer = no_more_left old new g.taken g.took;
+}
+
+pub inside_refused : (due : Bool) (f : OpenBracket) (bs after : List OpenBracket) (old new : Cursor) (own e : Error) → Blames old.input (next_value (bracket_of f.kind) due old.unread) own → SameText old new → PlacedAt (StartsAfter new.input f.start) own e
+    → TurnsInside due f bs after old new (Err e)
+inside_refused due f bs after old new own e b same k = record {
+  goes = tt;
+  refused = λ room w q h. inside_blamed start_of rest_in room old w (rest_at room bs f due old) bs f.start q h new.input own e (rest_bad room bs f due old own b) k same;
+  same_text = same;
+  shorter = tt;
+  no_longer = tt;
+}
+
+-- ---- a value's beginning within brackets
+
+pub first_scalar : (room : ℕ) (bs after : List OpenBracket) (old new : Cursor) (u : Unit {0}) → Gave (value_at (room - length bs) old) u old new → after ≡ bs → length new.unread < length old.unread → Turns room bs after old new (Ok false)
+first_scalar room bs after old new u g same less = record {
+  goes = λ w h. subst (λ fs. Skipping room w fs false new) (sym same) (value_ended start_of rest_in room old new w (value_at (room - length bs) old) bs u h g);
+  refused = tt;
+  same_text = g.took.same;
+  shorter = less;
+}
+
+-- after an opening bracket the rest is the end of the text too
+pub ready_opened : (room : ℕ) (f : OpenBracket) (old mid : Cursor) → IsInside old → OpenedAt room f old mid → IsInside mid
+ready_opened room f old mid r o = record {
+  before = r.before ++ opening (bracket_of f.kind) ∷ [];
+  inside = o.same_text ∙ r.inside ∙ ap (λ z. r.before ++ z) o.sign ∙ sym (append_assoc r.before (opening (bracket_of f.kind) ∷ []) mid.unread);
+}
+
+inside_of : (room : ℕ) (w : Read (Unit {0})) (bs : List OpenBracket) (f : OpenBracket) (old mid : Cursor) → Skipping room w bs true old → OpenedAt (room - length bs) f old mid → SkippingInside room w bs f false old.unread mid
+inside_of room w bs f old mid h o =
+    let d = o.room_left in
+    let more : room - length bs ≡ suc (room - length bs - 1) = omega (arith, d) in
+    value_opened start_of rest_in room old mid w (value_at (room - length bs) old) (rest_at room bs f false mid) bs f.start h (ready_opened (room - length bs) f old mid h.ready o) o.counted o.same_text o.room_left
+    (ap (λ k. forget (read k old.unread)) more ∙ ap (λ z. forget (read (suc (room - length bs - 1)) z)) o.sign ∙ read_opened (bracket_of f.kind) (room - length bs - 1) mid.unread
+    ∙ ap (λ z. placed z (rest_of (bracket_of f.kind) false (room - length bs - 1) mid.unread)) (sym o.sign))
+
+pub first_bracket : (room : ℕ) (bs after : List OpenBracket) (f : OpenBracket) (old mid new : Cursor) (result : Result Bool Error) → OpenedAt (room - length bs) f old mid → length mid.unread < length old.unread → TurnsInside false f bs after mid new result → Turns room bs after old new result
+first_bracket room bs after f old mid new (Ok goes) o less t = record {
+  goes = λ w h. t.goes room w old.unread (inside_of room w bs f old mid h o);
+  refused = tt;
+  same_text = t.same_text ∙ o.same_text;
+  shorter = let k = t.no_longer in omega (arith, less, k);
+}
+first_bracket room bs after f old mid new (Err e) o less t = record {
+  goes = tt;
+  refused = λ w h. subst (λ z. Blames z w e) o.same_text (t.refused room w old.unread (inside_of room w bs f old mid h o));
+  same_text = t.same_text ∙ o.same_text;
+  shorter = tt;
+}
+
+-- no bracket is open
+pub none_open : (bs : List OpenBracket) (o : Option OpenBracket) → o ≡ None → IsSome o ↔ (0 < length bs) → bs ≡ []
+none_open [] o is k = refl
+none_open (f ∷ fs) o is k = absurd (none o is (k.1 (omega arith)))
+  where
+    none : (o : Option OpenBracket) → o ≡ None → IsSome o → ⊥
+    none None is e = cc
+    none (Some g) is e = cc
+
+value_blamed : (room : ℕ) (old : Cursor) (w : Read (Unit {0})) (bs : List OpenBracket) (own e : Error) → Blames old.input (value_at (room - length bs) old) own → PlacedWithin old.input bs own e → Skipping room w bs true old → Blames old.input w e
+value_blamed room old w bs own e b (inl (none, same)) h = whole_blamed start_of rest_in room old w (value_at (room - length bs) old) bs e h none (subst (λ z. Blames old.input (value_at (room - length bs) old) z) (sym same) b)
+value_blamed room old w bs own e b (inr (fs, f, is, k)) h = innermost_blamed start_of rest_in room old w (value_at (room - length bs) old) bs fs f own e h is b k
+
+pub first_refused : (room : ℕ) (bs after : List OpenBracket) (old new : Cursor) (own e : Error) → Blames old.input (value_at (room - length bs) old) own → SameText old new → PlacedWithin new.input bs own e → Turns room bs after old new (Err e)
+first_refused room bs after old new own e b same k = record {
+  goes = tt;
+  refused = λ w h. value_blamed room old w bs own e b (subst (λ z. PlacedWithin z bs own e) same k) h;
+  same_text = same;
+  shorter = tt;
+}
+
+-- ---- the whole
+
+-- nothing is open at the start
+pub begins : (room : ℕ) (s : Cursor) → IsInside s → Skipping room (value_at room s) [] true s
+begins room s ready = subst (λ d. Within start_of rest_in room (value_at room s) [] (value_at d s) s) (omega arith) (starts start_of rest_in room s (value_at room s) ready)
+
+-- a value ended in the innermost bracket
+pub ended_inside : (room : ℕ) (now : Cursor) (w : Read (Unit {0})) (bs fs : List OpenBracket) (f : OpenBracket) → bs ≡ fs ++ f ∷ [] → Skipping room w bs false now → (q : List ℕ) × SkippingInside room w fs f true q now
+ended_inside room now w bs fs f is h = ends_inside start_of rest_in room now w bs fs f tt is h
+
+-- the value itself ended
+pub ends_whole : (room : ℕ) (old now : Cursor) (bs : List OpenBracket) → bs ≡ [] → SameText old now → Skipping room (value_at room old) bs false now → Gave (value_at room old) tt old now
+ends_whole room old now bs none same h =
+    let reads : value_at room old ≡ got tt now.unread = subst (λ fs. Nested start_of rest_in now.input room fs (got tt now.unread) (value_at room old)) none h.nested in
+    let (t, is) = forget_got (read room old.unread) tt now.unread reads in
+    let v = read_sound room old.unread now.unread t is in
+    record { reads = reads; taken = v.0; took = record { split = v.1; same = same } }
