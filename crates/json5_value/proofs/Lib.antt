@@ -1,7 +1,11 @@
 pub mod OtherCodes
 pub mod Steps
+pub mod TokenSteps
+pub mod Signs
 pub mod Places
-pub mod Nesting
 pub mod EntrySteps
+pub mod EntryValues
+pub mod Nesting
 pub mod Scalars
+pub mod Shorter
 pub mod SkipTurns

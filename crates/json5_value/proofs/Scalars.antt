@@ -1,7 +1,7 @@
 -- How a value begins that is passed over: as a scalar, or with an opening bracket.
 use Rattle.std.proofs.Common.{◌≡◌, ◌≢◌, ℕ, ◌+◌, ◌-◌, ◌<◌, Bool, true, false, cond, ◌||◌, List, [], ◌∷◌, ◌++◌, length, refl, ap, sym, ◌∙◌, subst, arith, length-append, Option, Some, None}
-use Rattle.std.specs.Prelude.{◌==◌, slice_get, Result, Ok, Err, IfErr, OnOk, OnErr}
-use Rattle.std.specs.Str.{chars, encode_utf8_all}
+use Rattle.std.specs.Prelude.{◌==◌, ℤ, slice_get, Result, Ok, Err, IfErr, OnOk, OnErr}
+use Rattle.std.specs.Str.{encode_utf8_all}
 use Rattle.json5_grammar.specs.declared.code.ErrorCode.{ErrorCode}
 use Rattle.json5_grammar.specs.declared.code.ErrorCode.TheVariants as codes
 use Rattle.json5_grammar.specs.declared.position.Position.{Position}
@@ -17,7 +17,6 @@ use Rattle.json5_grammar.specs.ReadTexts.{string}
 use Rattle.json5_grammar.specs.ReadValues.{read, word_at}
 use Rattle.json5_grammar.specs.Strings.{is_quote}
 use Rattle.json5_grammar.specs.Trees.{Tree}
-use Rattle.json5_grammar.specs.Values.{null_text, true_text, false_text}
 use Rattle.json5_grammar.proofs.Basics.{eq_from, same_char}
 use Rattle.json5_grammar.proofs.ValueHeads.{val_head}
 use Rattle.json5_grammar.proofs.ValuesSound.{IsValue, read_sound}
@@ -27,56 +26,33 @@ use Rattle.std.proofs.lemmas.List.{append-nil}
 use Rattle.json5_text.specs.declared.error.Error.{Error}
 use Rattle.json5_text.specs.Errors.{code, kind_of, place_of}
 use Rattle.json5_text.specs.Cursor.{Refused, IsPlaced}
-use Rattle.json5_text.specs.Tokens.{FaultyWord}
+use Rattle.json5_text.specs.Takes.{TakesWord, PassesString, PassesNumber}
 use Rattle.json5_text.specs.Cursor.{Cursor, Took, offset_of}
-use Rattle.std.proofs.lemmas.Str.{encodes-append}
+use Rattle.json5_value.specs.declared.kinds.Literal.{Literal}
+use Rattle.json5_value.specs.declared.kinds.Literal.TheVariants as literal
 use Rattle.json5_value.specs.declared.kinds.ValueKind.{ValueKind}
 use Rattle.json5_value.specs.declared.kinds.ValueKind.TheVariants as kind
 use Rattle.json5_value.specs.declared.brackets.OpenBracket.{OpenBracket}
 use Rattle.json5_value.specs.Brackets.{bracket_of}
-use Rattle.json5_value.specs.Kinds.{kind_at}
+use Rattle.json5_value.specs.Kinds.{kind_at, word_of, ends_of, differs_of}
 use Rattle.json5_value.specs.Opening.{OpenedAt, Opens}
 use Rattle.json5_value.specs.Skipping.{SkipsOrOpens}
 use Rattle.json5_value.specs.Steps.{IsInside, SameText, Blames, Gave, Steps, value_at}
-use Rattle.json5_value.proofs.Steps.{same_step, refused_step, forget_got, word_step}
-use Rattle.json5_value.proofs.EntrySteps.{blames_made, none_next, some_next}
-
--- ---- offsets
-
-bytes_apart : (x y : List ℕ) → length (encode_utf8_all (x ++ y)) ≡ length (encode_utf8_all x) + length (encode_utf8_all y)
-bytes_apart x y = ap length (encodes-append x y) ∙ length-append (encode_utf8_all x) (encode_utf8_all y)
-
-pub counted_before : (s : Cursor) (before : List ℕ) (offset : ℕ) → offset ≡ offset_of s → s.input ≡ before ++ s.unread → offset ≡ length (encode_utf8_all before)
-counted_before s before offset e split =
-    let apart = ap (λ x. length (encode_utf8_all x)) split ∙ bytes_apart before s.unread in
-    omega (arith, e, apart)
-
--- ---- the words
-
-chars_null : chars null_text ≡ null_text
-unfolding chars
-chars_null = refl
-
-chars_true : chars true_text ≡ true_text
-unfolding chars
-chars_true = refl
-
-chars_false : chars false_text ≡ false_text
-unfolding chars
-chars_false = refl
+use Rattle.json5_value.proofs.Steps.{same_step, refused_step, forget_got, blames_made, none_next, some_next, counted_before}
+use Rattle.json5_value.proofs.TokenSteps.{string_step, number_step, word_step, without}
 
 -- ---- what a character begins
 
 -- what the tests say of each kind
 abbrev Tests : Bool → Bool → Bool → Bool → Bool → ValueKind → Type 0
-Tests a b d q m kind.Null = a ≡ true
-Tests a b d q m kind.True = b ≡ true
-Tests a b d q m kind.False = d ≡ true
-Tests a b d q m kind.Text = q ≡ true
+Tests a b d q m (kind.Literal literal.Null) = a ≡ true
+Tests a b d q m (kind.Literal literal.True) = b ≡ true
+Tests a b d q m (kind.Literal literal.False) = d ≡ true
+Tests a b d q m kind.String = q ≡ true
 Tests a b d q m kind.Number = m ≡ true
 Tests a b d q m kind.Other = (a ≡ false) × (b ≡ false) × (d ≡ false) × (q ≡ false) × (m ≡ false)
 
-kind_tests : (a b d q m : Bool) → Tests a b d q m (cond a kind.Null (cond b kind.True (cond d kind.False (cond q kind.Text (cond m kind.Number kind.Other)))))
+kind_tests : (a b d q m : Bool) → Tests a b d q m (cond a (kind.Literal literal.Null) (cond b (kind.Literal literal.True) (cond d (kind.Literal literal.False) (cond q kind.String (cond m kind.Number kind.Other)))))
 kind_tests true b d q m = refl
 kind_tests false true d q m = refl
 kind_tests false false true q m = refl
@@ -89,47 +65,52 @@ tests_of c found k at is = subst (Tests (c == 110) (c == 116) (c == 102) (is_quo
 
 -- ---- scalars
 
+-- the character that a literal begins with
+abbrev letter_of : Literal → ℕ
+letter_of literal.Null = 110
+letter_of literal.True = 116
+letter_of literal.False = 102
+
+literal_first : (l : Literal) (c : ℕ) → Tests (c == 110) (c == 116) (c == 102) (is_quote c) (is_sign c || begins_number c) (kind.Literal l) → c ≡ letter_of l
+literal_first literal.Null c t = eq_from c 110 t
+literal_first literal.True c t = eq_from c 116 t
+literal_first literal.False c t = eq_from c 102 t
+
+literal_read : (l : Literal) (room : ℕ) (r : List ℕ) → forget (read room (letter_of l ∷ r)) ≡ word_at (ends_of l) (differs_of l) (word_of l) (letter_of l ∷ r)
+literal_read literal.Null room r = read_word_null room r
+literal_read literal.True room r = read_word_true room r
+literal_read literal.False room r = read_word_false room r
+
+pub literal_ends : (l : Literal) → ends_of l ≢ codes.Failed
+literal_ends literal.Null e = absurd (cc)
+literal_ends literal.True e = absurd (cc)
+literal_ends literal.False e = absurd (cc)
+
+pub literal_differs : (l : Literal) → differs_of l ≢ codes.Failed
+literal_differs literal.Null e = absurd (cc)
+literal_differs literal.True e = absurd (cc)
+literal_differs literal.False e = absurd (cc)
+
 module _ (room : ℕ) (old new : Cursor) (c : ℕ) (first : slice_get old.unread 0 ≡ Some c) (found : ValueKind) (at : found ≡ kind_at c) where
-  module _ (result : Result (Unit {0}) Error) (ready : IsInside old) (kept : OnErr result (new ≡ old)) where
-    -- a word
-    word_value : (w v : List ℕ) (ends differs : ErrorCode) → ends ≢ codes.Failed → differs ≢ codes.Failed → v ≡ w → value_at room old ≡ word_at ends differs w old.unread
-        → OnOk result (Took old v new) → IfErr result (λ e. Refused (FaultyWord v ends differs) old e) → Steps (value_at room old) old new result
-    word_value w v ends differs a b same is taken refused =
-        same_step old new (value_at room old) (word_at ends differs w old.unread) result is
-        (word_step w ends differs old new result a b ready (subst (λ z. OnOk result (Took old z new)) same taken) (subst (λ z. IfErr result (λ e. Refused (FaultyWord z ends differs) old e)) same refused) kept)
-
-    pub null_value : found ≡ kind.Null → OnOk result (Took old (chars null_text) new) → IfErr result (λ e. Refused (FaultyWord (chars null_text) codes.EofParsingNull codes.ExpectedNull) old e) → Steps (value_at room old) old new result
-    null_value is =
-        let (r, x) = some_next old.unread c first in
-        let whole : old.unread ≡ 110 ∷ r = x ∙ ap (λ z. z ∷ r) (eq_from c 110 (tests_of c found kind.Null at is)) in
-        word_value null_text (chars null_text) codes.EofParsingNull codes.ExpectedNull (λ e. absurd (cc)) (λ e. absurd (cc)) chars_null
-        (ap (λ z. forget (read room z)) whole ∙ read_word_null room r ∙ ap (word_at codes.EofParsingNull codes.ExpectedNull null_text) (sym whole))
-
-    pub true_value : found ≡ kind.True → OnOk result (Took old (chars true_text) new) → IfErr result (λ e. Refused (FaultyWord (chars true_text) codes.EofParsingBool codes.ExpectedBool) old e) → Steps (value_at room old) old new result
-    true_value is =
-        let (r, x) = some_next old.unread c first in
-        let whole : old.unread ≡ 116 ∷ r = x ∙ ap (λ z. z ∷ r) (eq_from c 116 (tests_of c found kind.True at is)) in
-        word_value true_text (chars true_text) codes.EofParsingBool codes.ExpectedBool (λ e. absurd (cc)) (λ e. absurd (cc)) chars_true
-        (ap (λ z. forget (read room z)) whole ∙ read_word_true room r ∙ ap (word_at codes.EofParsingBool codes.ExpectedBool true_text) (sym whole))
-
-    pub false_value : found ≡ kind.False → OnOk result (Took old (chars false_text) new) → IfErr result (λ e. Refused (FaultyWord (chars false_text) codes.EofParsingBool codes.ExpectedBool) old e) → Steps (value_at room old) old new result
-    false_value is =
-        let (r, x) = some_next old.unread c first in
-        let whole : old.unread ≡ 102 ∷ r = x ∙ ap (λ z. z ∷ r) (eq_from c 102 (tests_of c found kind.False at is)) in
-        word_value false_text (chars false_text) codes.EofParsingBool codes.ExpectedBool (λ e. absurd (cc)) (λ e. absurd (cc)) chars_false
-        (ap (λ z. forget (read room z)) whole ∙ read_word_false room r ∙ ap (word_at codes.EofParsingBool codes.ExpectedBool false_text) (sym whole))
-
-  pub text_value : (result : Result (Unit {0}) Error) → found ≡ kind.Text → ((d : ℕ) (r : List ℕ) → old.unread ≡ d ∷ r → is_quote d ≡ true → Steps (forget (string old.unread)) old new result) → Steps (value_at room old) old new result
-  text_value result is steps =
+  pub literal_value : (l : Literal) (result : Result (Unit {0}) Error) → IsInside old → found ≡ kind.Literal l → TakesWord (word_of l) (ends_of l) (differs_of l) old new result → Steps (value_at room old) old new result
+  literal_value l result ready is k =
       let (r, x) = some_next old.unread c first in
-      let quote : is_quote c ≡ true = tests_of c found kind.Text at is in
-      same_step old new (value_at room old) (forget (string old.unread)) result (ap (λ z. forget (read room z)) x ∙ read_quote room c r quote ∙ ap (λ z. forget (string z)) (sym x)) (steps c r x quote)
+      let whole : old.unread ≡ letter_of l ∷ r = x ∙ ap (λ z. z ∷ r) (literal_first l c (tests_of c found (kind.Literal l) at is)) in
+      same_step old new (value_at room old) (word_at (ends_of l) (differs_of l) (word_of l) old.unread) result
+      (ap (λ z. forget (read room z)) whole ∙ literal_read l room r ∙ ap (word_at (ends_of l) (differs_of l) (word_of l)) (sym whole))
+      (word_step (word_of l) (ends_of l) (differs_of l) old new result (literal_ends l) (literal_differs l) ready k)
 
-  pub number_value : (result : Result (Unit {0}) Error) → found ≡ kind.Number → ((d : ℕ) (r : List ℕ) → old.unread ≡ d ∷ r → (is_sign d || begins_number d) ≡ true → Steps (forget (reading.number old.unread)) old new result) → Steps (value_at room old) old new result
-  number_value result is steps =
+  pub string_value : (result : Result (Unit {0}) Error) → IsInside old → found ≡ kind.String → PassesString old new result → Steps (value_at room old) old new result
+  string_value result ready is k =
+      let (r, x) = some_next old.unread c first in
+      let quote : is_quote c ≡ true = tests_of c found kind.String at is in
+      same_step old new (value_at room old) (forget (string old.unread)) result (ap (λ z. forget (read room z)) x ∙ read_quote room c r quote ∙ ap (λ z. forget (string z)) (sym x)) (string_step old new result c r ready x quote k)
+
+  pub number_value : (result : Result (Option ℤ) Error) → IsInside old → found ≡ kind.Number → PassesNumber old new result → Steps (value_at room old) old new (without result)
+  number_value result ready is k =
       let (r, x) = some_next old.unread c first in
       let begins : (is_sign c || begins_number c) ≡ true = tests_of c found kind.Number at is in
-      same_step old new (value_at room old) (forget (reading.number old.unread)) result (ap (λ z. forget (read room z)) x ∙ read_numeral room c r begins ∙ ap (λ z. forget (reading.number z)) (sym x)) (steps c r x begins)
+      same_step old new (value_at room old) (forget (reading.number old.unread)) (without result) (ap (λ z. forget (read room z)) x ∙ read_numeral room c r begins ∙ ap (λ z. forget (reading.number z)) (sym x)) (number_step old new result c r ready x begins k)
 
   -- a character that begins no value
   pub other_value : (e : Error) → IsInside old → found ≡ kind.Other → ((c == 91) || (c == 123)) ≡ false → kind_of e ≡ code codes.ExpectedValue → IsPlaced old (Some []) e → new ≡ old → Steps (value_at room old) old new (Err e)

@@ -1,18 +1,14 @@
 -- A step over a text does what reading on lists does.
-use Rattle.std.specs.Prelude.{◌≡◌, ◌≢◌, ◌⊎◌, ℕ, List, [], ◌∷◌, ◌++◌, Option, Some, None, Result, IfOk, IfErr, OnOk, OnErr, IsOk}
+use Rattle.std.specs.Prelude.{◌≡◌, ◌≢◌, ◌⊎◌, ℕ, List, [], ◌∷◌, ◌++◌, Option, Some, None, Result, IfOk, IfErr, OnErr}
 use Rattle.json5_grammar.specs.declared.code.ErrorCode.{ErrorCode}
 use Rattle.json5_grammar.specs.declared.code.ErrorCode.TheVariants as codes
-use Rattle.json5_grammar.specs.Characters.{NotBegun}
-use Rattle.json5_grammar.specs.Numbers.{Number, Num}
 use Rattle.json5_grammar.specs.Positions.{position_after}
 use Rattle.json5_grammar.specs.Reading.{Read, Place, here, inner, got, bad}
 use Rattle.json5_grammar.specs.ReadSteps.{forget}
 use Rattle.json5_grammar.specs.ReadValues.{read}
-use Rattle.json5_grammar.specs.Stops.{lengthens}
 use Rattle.json5_text.specs.declared.error.Error.{Error}
 use Rattle.json5_text.specs.Cursor.{Cursor, Took, Says, Refused, IsOutOfMemory}
 use Rattle.json5_text.specs.Errors.{LacksMemory, code, kind_of, place_of}
-use Rattle.json5_text.specs.Tokens.{FaultyNumber}
 
 -- what is unread is the end of the text
 pub record IsInside (s : Cursor) : Type 0 where
@@ -60,15 +56,6 @@ pub data Unexpected (ends differs : ErrorCode) : List ℕ → Option ErrorCode �
   at_end : Unexpected ends differs [] (Some ends) None
   at_char : (c : ℕ) (r : List ℕ) → Unexpected ends differs (c ∷ r) (Some differs) (Some [])
 
--- ---- tokens
-
 -- the token in front is refused with one of its faults, or memory ran out
 abbrev pub RefusesToken : (List ℕ → Option ErrorCode → Option (List ℕ) → Type 0) → Cursor → Error → Type 0
 RefusesToken IsFault old e = LacksMemory e ⊎ Refused IsFault old e
-
--- a number is passed over
-pub record OverNumber (old new : Cursor) (result : Result (Unit {0}) Error) : Type 0 where
-  pub taken : OnOk result ((s : List ℕ) × (n : Number) × Took old s new × Num s n × NotBegun (lengthens s) new.unread)
-  pub refused : IfErr result (RefusesToken FaultyNumber old)
-  pub kept : OnErr result (new ≡ old)
-  pub memory : (s r : List ℕ) (n : Number) → old.unread ≡ s ++ r → Num s n → NotBegun (lengthens s) r → IsOk result

@@ -34,12 +34,12 @@ pub fn fault_here<I: Input>(scanner: &Scanner<I>, code: ErrorCode) -> Error
     Error::new_at(scanner.position_of(offset), code)
 }
 
-/// The fault, at the bracket that begins after so many bytes where it has no place.
+/// The fault, at the bracket that begins after so many bytes where it has no place. Else the lines before it are not counted.
 pub fn place_at<I: Input>(scanner: &Scanner<I>, start: usize, error: Error) -> Error
     ensures { PlacedAt (StartsAfter scanner.now.input start) error result }
 {
-    if error.position().is_some() {
-        return error;
+    match error.position() {
+        Some(_) => error,
+        None => error.at(scanner.position_of(start)),
     }
-    error.at(scanner.position_of(start))
 }

@@ -3,7 +3,7 @@
 ghost use Rattle.std.specs.Prelude.{◌<◌, ◌≤◌, length};
 ghost use Rattle.json5_grammar.specs.Documents.{max_depth};
 ghost use Rattle.json5_value.specs.Opening.{AtScalar};
-ghost use Rattle.json5_value.specs.Steps.{IsInside, OverNumber, Steps, value_at};
+ghost use Rattle.json5_value.specs.Steps.{IsInside, Steps, value_at};
 ghost use Rattle.json5_value.specs.Skipping.{SkipsOrOpens, Turns, TurnsInside, PlacedWithin, Skips};
 
 use crate::brackets::{BracketKind, OpenBracket, open_bracket};
@@ -19,16 +19,6 @@ use json5_text::scanner::Scanner;
 /// The open brackets, the outermost first.
 type OpenBrackets = ArrayVec<OpenBracket, 128>;
 
-/// Passes over a number.
-fn skip_number<I: Input>(scanner: &mut Scanner<I>) -> Result<()>
-    ensures { OverNumber scanner.old scanner.new result }
-{
-    match scanner.skip_number() {
-        Ok(_) => Ok(()),
-        Err(e) => Err(e),
-    }
-}
-
 /// Passes over a value that is no collection and begins with the character.
 fn skip_scalar<I: Input>(scanner: &mut Scanner<I>, room: usize, c: char) -> Result<()>
     requires { AtScalar c scanner.old }
@@ -37,7 +27,10 @@ fn skip_scalar<I: Input>(scanner: &mut Scanner<I>, room: usize, c: char) -> Resu
     match kind_at(c) {
         ValueKind::Literal(literal) => skip_literal(scanner, literal),
         ValueKind::String => scanner.skip_string(),
-        ValueKind::Number => skip_number(scanner),
+        ValueKind::Number => {
+            scanner.skip_number()?;
+            Ok(())
+        }
         ValueKind::Other => Err(fault_here(scanner, ErrorCode::ExpectedValue)),
     }
 }

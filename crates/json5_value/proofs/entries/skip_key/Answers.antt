@@ -1,5 +1,5 @@
-use Rattle.json5_value.proofs.EntrySteps.{key_at_end, key_is_string, key_is_name}
-use Rattle.json5_value.proofs.Steps.{string_step, name_step}
+use Rattle.json5_value.proofs.EntryValues.{key_at_end, key_is_string, key_is_name}
+use Rattle.json5_value.proofs.TokenSteps.{string_step, name_step}
 use Rattle.json5_value.proofs.entries.skip_key.Goals as goal
 
 pub returns-in_default : goal.returns-in_default
@@ -7,16 +7,10 @@ returns-in_default g c = key_at_end c.args.scanner.now c.peek.result c.new.resul
 
 pub returns-then-is_quote : goal.returns-then-is_quote
 returns-then-is_quote g c =
-    let old = c.args.scanner.now in
-    let new = c.skip_string.new.self in
-    let e = c.skip_string.ensures in
-    key_is_string old new c.skip_string.result c.peek.result c.in-Some.c c.is_quote.result c.peek.ensures c.in-Some.is c.is_quote.ensures c.if-is_quote.true
-    (λ d r x h. string_step old new c.skip_string.result d r c.requires x h e.taken e.refused e.kept e.memory)
+    key_is_string c.args.scanner.now c.skip_string.new.self c.skip_string.result c.peek.result c.in-Some.c c.is_quote.result c.peek.ensures c.in-Some.is c.is_quote.ensures c.if-is_quote.true
+    (λ d r x h. string_step c.args.scanner.now c.skip_string.new.self c.skip_string.result d r c.requires x h c.skip_string.ensures)
 
 pub returns : goal.returns
 returns g c =
-    let old = c.args.scanner.now in
-    let new = c.skip_identifier.new.self in
-    let e = c.skip_identifier.ensures in
-    key_is_name old new c.skip_identifier.result c.peek.result c.in-Some.c c.is_quote.result c.peek.ensures c.in-Some.is c.is_quote.ensures c.if-is_quote.false
-    (name_step old new c.skip_identifier.result c.requires e.taken e.stops e.refused e.kept e.memory)
+    key_is_name c.args.scanner.now c.skip_identifier.new.self c.skip_identifier.result c.peek.result c.in-Some.c c.is_quote.result c.peek.ensures c.in-Some.is c.is_quote.ensures c.if-is_quote.false
+    (name_step c.args.scanner.now c.skip_identifier.new.self c.skip_identifier.result c.requires c.skip_identifier.ensures)

@@ -1,7 +1,8 @@
 use Rattle.std.proofs.Common.{ap}
 use Rattle.std.proofs.lemmas.Result.{err_from_is_err_and}
 use Rattle.json5_value.specs.Brackets.{bracket_of}
-use Rattle.json5_value.proofs.EntrySteps.{ready_next, next_refused, next_closed, array_member, key_refused, colon_refused, object_goes_on}
+use Rattle.json5_value.proofs.EntryValues.{next_refused, next_closed, element_reached, key_refused, colon_refused, member_reached}
+use Rattle.json5_value.proofs.Steps.{ready_next}
 use Rattle.json5_value.proofs.entries.skip_to_value.Goals as goal
 
 pub returns-in_err-more : goal.returns-in_err-more
@@ -31,9 +32,9 @@ returns-in_err-skip_colon-in-Object g c =
     c.skip_key.new.scanner c.skip_colon.new.scanner tt c.in_err-skip_colon-in-Object.field-0.0 c.in_ok-skip_key-in-Object.ensures.given c.in_err-skip_colon-in-Object.ensures.refused c.in_err-skip_colon-in-Object.ensures.same_text)
 
 pub returns-in-Array : goal.returns-in-Array
-returns-in-Array g c = array_member (bracket_of c.args.kind) c.args.due c.in_ok-more.more c.args.scanner.now c.skip_to_entry.new.scanner (ap bracket_of c.in-Array.is) c.if-not-more.false c.in_ok-more.ensures.given
+returns-in-Array g c = element_reached (bracket_of c.args.kind) c.args.due c.in_ok-more.more c.args.scanner.now c.skip_to_entry.new.scanner (ap bracket_of c.in-Array.is) c.if-not-more.false c.in_ok-more.ensures.given
 
 pub returns-in_ok-skip_colon-in-Object : goal.returns-in_ok-skip_colon-in-Object
 returns-in_ok-skip_colon-in-Object g c =
-    object_goes_on (bracket_of c.args.kind) c.args.due c.in_ok-more.more c.args.scanner.now c.skip_to_entry.new.scanner (ap bracket_of c.in-Object.is) c.if-not-more.false c.in_ok-more.ensures.given
+    member_reached (bracket_of c.args.kind) c.args.due c.in_ok-more.more c.args.scanner.now c.skip_to_entry.new.scanner (ap bracket_of c.in-Object.is) c.if-not-more.false c.in_ok-more.ensures.given
     c.skip_key.new.scanner c.skip_colon.new.scanner tt tt c.in_ok-skip_key-in-Object.ensures.given c.in_ok-skip_colon-in-Object.ensures.given

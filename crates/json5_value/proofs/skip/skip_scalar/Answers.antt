@@ -1,30 +1,22 @@
-use Rattle.std.proofs.Common.{refl}
-use Rattle.json5_value.proofs.Steps.{string_step, number_step}
-use Rattle.json5_value.proofs.Scalars.{null_value, true_value, false_value, text_value, number_value, other_value}
+use Rattle.std.proofs.Common.{refl, Ok, Err}
+use Rattle.std.proofs.lemmas.Result.{err_from_is_err_and}
+use Rattle.json5_value.proofs.Scalars.{literal_value, string_value, number_value, other_value}
 use Rattle.json5_value.proofs.skip.skip_scalar.Goals as goal
 
-pub returns-in-Null : goal.returns-in-Null
-returns-in-Null g c = null_value c.args.room c.args.scanner.now c.word.new.self c.args.c c.requires.first c.kind_at.result c.kind_at.ensures c.word.result c.requires.ready c.word.ensures.kept c.in-Null.is c.word.ensures.taken c.word.ensures.refused
+pub returns-in-Literal : goal.returns-in-Literal
+returns-in-Literal g c = literal_value c.args.room c.args.scanner.now c.skip_literal.new.scanner c.args.c c.requires.first c.kind_at.result c.kind_at.ensures c.in-Literal.literal c.skip_literal.result c.requires.ready c.in-Literal.is c.skip_literal.ensures
 
-pub returns-in-True : goal.returns-in-True
-returns-in-True g c = true_value c.args.room c.args.scanner.now c.word-in-True.new.self c.args.c c.requires.first c.kind_at.result c.kind_at.ensures c.word-in-True.result c.requires.ready c.word-in-True.ensures.kept c.in-True.is c.word-in-True.ensures.taken c.word-in-True.ensures.refused
+pub returns-in-String : goal.returns-in-String
+returns-in-String g c = string_value c.args.room c.args.scanner.now c.skip_string.new.self c.args.c c.requires.first c.kind_at.result c.kind_at.ensures c.skip_string.result c.requires.ready c.in-String.is c.skip_string.ensures
 
-pub returns-in-False : goal.returns-in-False
-returns-in-False g c = false_value c.args.room c.args.scanner.now c.word-in-False.new.self c.args.c c.requires.first c.kind_at.result c.kind_at.ensures c.word-in-False.result c.requires.ready c.word-in-False.ensures.kept c.in-False.is c.word-in-False.ensures.taken c.word-in-False.ensures.refused
+pub returns-in_ok-skip_number-in-Number : goal.returns-in_ok-skip_number-in-Number
+returns-in_ok-skip_number-in-Number g c =
+    number_value c.args.room c.args.scanner.now c.skip_number.new.self c.args.c c.requires.first c.kind_at.result c.kind_at.ensures (Ok c.in_ok-skip_number-in-Number.field-0.0) c.requires.ready c.in-Number.is c.in_ok-skip_number-in-Number.ensures
 
-pub returns-in-Text : goal.returns-in-Text
-returns-in-Text g c =
-    let old = c.args.scanner.now in
-    let new = c.skip_string.new.self in
-    let e = c.skip_string.ensures in
-    text_value c.args.room old new c.args.c c.requires.first c.kind_at.result c.kind_at.ensures c.skip_string.result c.in-Text.is (λ d r x h. string_step old new c.skip_string.result d r c.requires.ready x h e.taken e.refused e.kept e.memory)
-
-pub returns-in-Number : goal.returns-in-Number
-returns-in-Number g c =
-    let old = c.args.scanner.now in
-    let new = c.skip_number.new.scanner in
-    let e = c.skip_number.ensures in
-    number_value c.args.room old new c.args.c c.requires.first c.kind_at.result c.kind_at.ensures c.skip_number.result c.in-Number.is (λ d r x h. number_step old new c.skip_number.result d r c.requires.ready x h e.taken e.refused e.kept e.memory)
+pub returns-in_err-skip_number-in-Number : goal.returns-in_err-skip_number-in-Number
+returns-in_err-skip_number-in-Number g c =
+    let (y, is, from) = err_from_is_err_and c.from_residual.result c.from_residual.ensures.1 in
+    rw (is, from) (number_value c.args.room c.args.scanner.now c.skip_number.new.self c.args.c c.requires.first c.kind_at.result c.kind_at.ensures (Err c.in_err-skip_number-in-Number.field-0.0) c.requires.ready c.in-Number.is c.in_err-skip_number-in-Number.ensures)
 
 pub returns-in-Other : goal.returns-in-Other
 returns-in-Other g c =
