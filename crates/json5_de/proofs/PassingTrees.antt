@@ -20,11 +20,12 @@ use Rattle.json5_text.specs.declared.error.Error.{Error}
 use Rattle.json5_text.specs.Cursor.{Refused, Says, IsOutOfMemory}
 use Rattle.json5_text.specs.Tokens.{FaultyBlanks}
 use Rattle.json5_de.proofs.TreeFaults.{as_fault}
+use Rattle.json5_value.specs.Skipping.{Skips}
 use Rattle.json5_de.specs.AnyTree.{ReadingRefuses, RefusedInReading, ReadsTree, nothing, every_value}
 use Rattle.json5_de.specs.Law.{TookValue, StaysFailed, Unprompted}
-use Rattle.json5_de.specs.Passing.{IsReady, StandsAt, Blames, Gave, Whole, value_at}
+use Rattle.json5_de.specs.Passing.{IsReady, StandsAt, Blames, value_at}
 use Rattle.json5_de.specs.Rows.{every_tree}
-use Rattle.json5_de.specs.State.{State, cursor_of, OnlyRead, GivesUp}
+use Rattle.json5_de.specs.State.{State, Calls, cursor_of, OnlyRead, GivesUp}
 use Rattle.json5_de.specs.Steps.{PassedGap}
 use Rattle.json5_de.proofs.Options.{blanks_no_value}
 use Rattle.json5_de.proofs.PassingSteps.{forget_got}
@@ -64,12 +65,6 @@ tree_read content convert free old mid new t v p e rest is = record {
   failed = tt;
   before = λ f. true_false f p.live;
 }
-
--- a value of any tree was passed over
-pub tree_passed : {V C : Type 0} (content : V → C) (convert : Tree → Option C) (free : Tree → Bool) (old mid new : State) (v : V) (u : Unit {0}) → PassedGap old mid → Gave (value_at mid) u mid new → ((t : Tree) → convert t ≡ Some (content v)) → ReadsTree content convert free old new (Ok v)
-tree_passed content convert free old mid new v u p g is =
-    let (t, e) = forget_got (read (max_depth - mid.level) mid.unread) u new.unread g.reads in
-    tree_read content convert free old mid new t v p e g.took.rest (is t)
 
 -- ---- refused
 
@@ -165,6 +160,8 @@ refused_as content other convert free old new e k = record {
 }
 
 -- a value of any kind was passed over, or refused
-pub tree_result : (old mid new : State) (result : Result (Unit {0}) Error) → PassedGap old mid → Whole mid new result → ReadsTree nothing every_value every_tree old new result
-tree_result old mid new (Ok u) p k = tree_passed nothing every_value every_tree old mid new u u p k.given (λ t. refl)
-tree_result old mid new (Err e) p k = tree_refused nothing every_value every_tree old mid new e p k.refused k.failed
+pub tree_result : (old mid new : State) (result : Result (Unit {0}) Error) → PassedGap old mid → Calls (Skips (max_depth - mid.level)) mid new result → ReadsTree nothing every_value every_tree old new result
+tree_result old mid new (Ok u) p k =
+    let (t, e) = forget_got (read (max_depth - mid.level) mid.unread) u new.unread k.call.given.reads in
+    tree_read nothing every_value every_tree old mid new t u p e k.read refl
+tree_result old mid new (Err e) p k = tree_refused nothing every_value every_tree old mid new e p k.call.refused k.failed

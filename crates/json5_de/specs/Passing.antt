@@ -21,6 +21,7 @@ use Rattle.json5_de.specs.Options.{PlacedAt}
 use Rattle.json5_de.specs.State.{State, GivesUp}
 use Rattle.json5_de.specs.Law.{IsUnprompted}
 use Rattle.json5_de.specs.Steps.{TookText}
+pub use Rattle.json5_value.specs.Steps.{StandsAt, Blames}
 
 abbrev pub kind_of : BracketKind → fronts.BracketKind
 kind_of kind.Array = of_array
@@ -34,19 +35,6 @@ pub record IsReady (s : State) : Type 0 where
   pub shallow : s.level ≤ max_depth
   pub before : List ℕ
   pub inside : s.input ≡ before ++ s.unread
-
--- the fault's place is where this rest of the text begins, or it has none
-abbrev pub StandsAt : List ℕ → Place → Error → Type 0
-StandsAt input (here q) e = (before : List ℕ) × (input ≡ before ++ q) × (place_of e ≡ Some (position_after before))
-StandsAt input inner e = place_of e ≡ None
-
--- reading gives this fault, or memory ran out for its text
-pub record Blames {A : Type 0} (input : List ℕ) (reading : Read A) (e : Error) : Type 0 where
-  pub reason : Option ErrorCode
-  pub place : Place
-  pub is_bad : reading ≡ bad reason place
-  pub says : IsOutOfMemory e ⊎ (Says reason e × StandsAt input place e)
-  pub unprompted : IsUnprompted e
 
 -- what reading gives was taken
 pub record Gave {A : Type 0} (reading : Read A) (a : A) (old new : State) : Type 0 where

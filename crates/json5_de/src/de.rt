@@ -6,7 +6,8 @@ ghost use Rattle.json5_text.specs.Errors.{FaultKind, kind_of};
 ghost use Rattle.json5_text.specs.Cursor.{IsPlaced, IsOffset, Locates};
 ghost use Rattle.json5_grammar.specs.Documents.{max_depth};
 ghost use Rattle.json5_grammar.specs.declared.code.ErrorCode.TheVariants as codes;
-ghost use Rattle.json5_de.specs.State.{State, SameText, GivesUpWith, cursor_of, next, at_start};
+ghost use Rattle.json5_value.specs.Skipping.{Skips};
+ghost use Rattle.json5_de.specs.State.{State, SameText, Calls, GivesUpWith, cursor_of, next, at_start};
 ghost use Rattle.json5_de.specs.Faults.{IsUnplaced};
 ghost use Rattle.json5_de.specs.Law.{Gives, Completes, CompletesFree, Unprompted};
 ghost use Rattle.json5_de.specs.Steps.{Eats, IsCount, IsMismatch};
@@ -24,6 +25,7 @@ use json5_text::nesting::Limit;
 use json5_text::number::Number;
 use json5_text::scanner::Scanner;
 use json5_text::{ErrorCode, Position};
+use json5_value::skip::skip_value;
 use std::alloc::Global;
 use std::marker::Model;
 
@@ -208,6 +210,16 @@ impl<I: Input> Deserializer<I> {
     {
         match self.scanner.skip_number() {
             Ok(_) => Ok(()),
+            Err(e) => self.refuse(e),
+        }
+    }
+
+    /// Passes over the value in front.
+    pub(crate) fn skip_value(&mut self) -> Result<()>
+        ensures { Calls (Skips (max_depth - self.old.level)) self.old self.new result }
+    {
+        match skip_value(&mut self.scanner, 128 - self.level) {
+            Ok(()) => Ok(()),
             Err(e) => self.refuse(e),
         }
     }

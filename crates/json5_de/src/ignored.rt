@@ -268,8 +268,7 @@ impl<I: Input> Deserializer<I> {
         ensures { ReadsTree nothing every_value every_tree self.old self.new result }
     {
         self.begin()?;
-        let _offset = self.offset();
-        self.pass_value()
+        self.skip_value()
     }
 }
 

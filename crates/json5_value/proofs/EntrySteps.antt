@@ -1,7 +1,6 @@
 -- What stands round an entry of brackets is passed over: the colon of a member, commas, and the blanks before an entry.
-use Rattle.std.proofs.Common.{◌≡◌, ℕ, Bool, true, false, cond, List, [], ◌∷◌, refl, ap, sym, ◌∙◌, subst}
+use Rattle.std.proofs.Common.{◌≡◌, ℕ, Bool, true, false, cond, List, [], ◌∷◌, refl, ap, ◌∙◌, subst}
 use Rattle.std.specs.Prelude.{◌==◌, Result, Ok, Err, not}
-use Rattle.json5_grammar.specs.declared.code.ErrorCode.{ErrorCode}
 use Rattle.json5_grammar.specs.declared.code.ErrorCode.TheVariants as codes
 use Rattle.json5_grammar.specs.Characters.{NotBegun}
 use Rattle.json5_grammar.specs.Fronts.{BracketKind, of_array, of_object, closing}
@@ -116,4 +115,3 @@ entry_found k due more old mid next new u c false is g h at took kept =
     after_comma k due more old mid new (Ok true) is g
     (then_step mid next new (skip between mid.unread) u (λ u y. entry_front k y) (Ok true) h
     (took_step next new (entry_front k next.unread) true [] (front_goes k next.unread (subst (λ z. NotBegun (λ d. d == z) next.unread) at n) ∙ ap (got true) t.split) t))
-

@@ -1,6 +1,7 @@
 pub mod OtherCodes
 pub mod Steps
 pub mod TokenSteps
+pub mod Literals
 pub mod Signs
 pub mod Places
 pub mod EntrySteps

@@ -9,21 +9,18 @@ use Rattle.json5_text.specs.Errors.{kind_of, place_of, or_place}
 use Rattle.json5_value.specs.Places.{StartsAfter, PlacedAt}
 
 -- the text before so many bytes
-text_before : ℕ → List ℕ → List ℕ
+abbrev text_before : ℕ → List ℕ → List ℕ
 text_before zero x = []
 text_before (suc n) [] = []
 text_before (suc n) (c ∷ x) = c ∷ text_before (suc n - length (encode_utf8_all (c ∷ []))) x
 
+bytes_apart : (c : ℕ) (x : List ℕ) → length (encode_utf8_all (c ∷ x)) ≡ length (encode_utf8_all (c ∷ [])) + length (encode_utf8_all x)
+bytes_apart c x = ap length (encodes-append (c ∷ []) x) ∙ length-append (encode_utf8_all (c ∷ [])) (encode_utf8_all x)
+
 text_before_is : (before rest : List ℕ) (n : ℕ) → n ≡ length (encode_utf8_all before) → text_before n (before ++ rest) ≡ before
 text_before_is [] rest n e = ap (λ k. text_before k rest) e
-text_before_is (c ∷ before) rest n e = by_count n e
-  where
-    apart : length (encode_utf8_all (c ∷ before)) ≡ length (encode_utf8_all (c ∷ [])) + length (encode_utf8_all before)
-    apart = ap length (encodes-append (c ∷ []) before) ∙ length-append (encode_utf8_all (c ∷ [])) (encode_utf8_all before)
-
-    by_count : (n : ℕ) → n ≡ length (encode_utf8_all (c ∷ before)) → text_before n (c ∷ (before ++ rest)) ≡ c ∷ before
-    by_count zero k = absurd (omega (arith, k, apart, length-le-encodes (c ∷ [])))
-    by_count (suc m) k = ap (λ z. c ∷ z) (text_before_is before rest (suc m - length (encode_utf8_all (c ∷ []))) (omega (arith, k, apart)))
+text_before_is (c ∷ before) rest zero e = absurd (omega (arith, e, bytes_apart c before, length-le-encodes (c ∷ [])))
+text_before_is (c ∷ before) rest (suc n) e = ap (λ z. c ∷ z) (text_before_is before rest (suc n - length (encode_utf8_all (c ∷ []))) (omega (arith, e, bytes_apart c before)))
 
 -- it has one
 pub place_kept : (input : List ℕ) (start : ℕ) (own : Error) (p : Position) → place_of own ≡ Some p → PlacedAt (StartsAfter input start) own own

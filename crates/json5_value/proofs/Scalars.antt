@@ -1,12 +1,10 @@
 -- How a value begins that is passed over: as a scalar, or with an opening bracket.
-use Rattle.std.proofs.Common.{◌≡◌, ◌≢◌, ℕ, ◌+◌, ◌-◌, ◌<◌, Bool, true, false, cond, ◌||◌, List, [], ◌∷◌, ◌++◌, length, refl, ap, sym, ◌∙◌, subst, arith, length-append, Option, Some, None}
-use Rattle.std.specs.Prelude.{◌==◌, ℤ, slice_get, Result, Ok, Err, IfErr, OnOk, OnErr}
+use Rattle.std.proofs.Common.{◌≡◌, ◌≢◌, ℕ, ◌<◌, Bool, true, false, cond, ◌||◌, List, [], ◌∷◌, ◌++◌, length, refl, ap, sym, ◌∙◌, subst, arith, length-append, Option, Some, None}
+use Rattle.std.specs.Prelude.{◌==◌, ℤ, slice_get, Result, Ok, Err}
 use Rattle.std.specs.Str.{encode_utf8_all}
-use Rattle.json5_grammar.specs.declared.code.ErrorCode.{ErrorCode}
 use Rattle.json5_grammar.specs.declared.code.ErrorCode.TheVariants as codes
 use Rattle.json5_grammar.specs.declared.position.Position.{Position}
 use Rattle.json5_grammar.specs.Characters.{NotBegun}
-use Rattle.json5_grammar.specs.Documents.{max_depth}
 use Rattle.json5_grammar.specs.Fronts.{BracketKind, opening}
 use Rattle.json5_grammar.specs.NumberFaults.{is_sign, begins_number}
 use Rattle.json5_grammar.specs.Positions.{position_after}
@@ -25,7 +23,7 @@ use Rattle.std.proofs.lemmas.Bool.{or_parts, both_ways}
 use Rattle.std.proofs.lemmas.List.{append-nil}
 use Rattle.json5_text.specs.declared.error.Error.{Error}
 use Rattle.json5_text.specs.Errors.{code, kind_of, place_of}
-use Rattle.json5_text.specs.Cursor.{Refused, IsPlaced}
+use Rattle.json5_text.specs.Cursor.{IsPlaced}
 use Rattle.json5_text.specs.Takes.{TakesWord, PassesString, PassesNumber}
 use Rattle.json5_text.specs.Cursor.{Cursor, Took, offset_of}
 use Rattle.json5_value.specs.declared.kinds.Literal.{Literal}

@@ -1,5 +1,5 @@
 -- What is left is no longer than before, and shorter after a comma or a closing bracket.
-use Rattle.std.proofs.Common.{◌≡◌, ℕ, ◌<◌, ◌≤◌, Bool, true, false, cond, List, [], ◌∷◌, length, ap, sym, ◌∙◌, arith, length-append, Option, Some, None}
+use Rattle.std.proofs.Common.{◌≡◌, ℕ, ◌<◌, ◌≤◌, Bool, true, false, cond, List, [], ◌∷◌, length, ap, sym, ◌∙◌, arith, length-append, Some}
 use Rattle.std.specs.Prelude.{◌==◌}
 use Rattle.json5_grammar.specs.declared.code.ErrorCode.TheVariants as codes
 use Rattle.json5_grammar.specs.Fronts as fronts
@@ -113,4 +113,3 @@ next_shorter k due b x r e is = by_answer (next_value k true x) (shorter_next k 
     by_answer : (m : Read Bool) → Shorter (length x) m → m ≡ got b r → length r < length x
     by_answer (got a y) h f = let same : y ≡ r = cc in omega (arith, h, ap length same)
     by_answer (bad c p) h f = absurd (cc)
-

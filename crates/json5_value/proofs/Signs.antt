@@ -85,4 +85,3 @@ colon_refuses x reason place a (at_char c r) = (here (c ∷ r), rw a refl, refl)
 -- no colon
 pub no_colon : (s : Cursor) (e : Error) → IsInside s → NotBegun (λ d. d == 58) s.unread → Refused (Unexpected codes.EofParsingObject codes.ExpectedColon) s e → Blames s.input (colon_at s.unread) e
 no_colon s e ready a f = blames_refused s (colon_at s.unread) e ready (unexpected_lacks (λ e. absurd (cc)) (λ e. absurd (cc))) (λ reason place g. colon_refuses s.unread reason place a g) f
-

@@ -1,16 +1,10 @@
 -- The open brackets round a value that is passed over, and what they make of what is read within.
-use Rattle.std.proofs.Common.{◌≡◌, ℕ, suc, ◌+◌, ◌-◌, ◌<◌, ◌≤◌, Bool, true, false, cond, List, [], ◌∷◌, ◌++◌, length, refl, ap, sym, ◌∙◌, subst, append_assoc, arith, length-append, inl, inr, Option, Some, None}
-use Rattle.std.specs.Prelude.{◌==◌, Result, Ok, Err, IsSome, ◌↔◌}
-use Rattle.json5_grammar.specs.declared.code.ErrorCode.TheVariants as codes
-use Rattle.json5_grammar.specs.Documents.{max_depth}
+use Rattle.std.proofs.Common.{◌≡◌, ℕ, suc, ◌-◌, ◌<◌, ◌≤◌, Bool, true, false, List, [], ◌∷◌, ◌++◌, length, refl, ap, sym, ◌∙◌, subst, append_assoc, arith, length-append, inl, inr, Option, Some, None}
+use Rattle.std.specs.Prelude.{Result, Ok, Err, IsSome, ◌↔◌}
 use Rattle.json5_grammar.specs.Fronts.{opening}
-use Rattle.json5_grammar.specs.Fronts as fronts
-use Rattle.json5_grammar.specs.Reading.{Read, here, got, bad, and_then, placed}
-use Rattle.json5_grammar.specs.ReadBlanks.{skip, between}
-use Rattle.json5_grammar.specs.ReadSteps.{forget, colon_after, pair_head, member_head, member_at, comma_at, separator, next_value, rest_of}
-use Rattle.json5_grammar.specs.ReadTexts.{key}
-use Rattle.json5_grammar.specs.ReadValues.{read, colon_at}
-use Rattle.json5_grammar.proofs.Found.{Found}
+use Rattle.json5_grammar.specs.Reading.{Read, got, and_then, placed}
+use Rattle.json5_grammar.specs.ReadSteps.{forget, next_value, rest_of}
+use Rattle.json5_grammar.specs.ReadValues.{read}
 use Rattle.json5_grammar.proofs.ValuesSound.{read_sound}
 use Rattle.json5_grammar.proofs.ValueSteps.{turn, rest_step, read_opened}
 use Rattle.json5_text.specs.declared.error.Error.{Error}
@@ -50,22 +44,20 @@ room_within room bs f = omega (arith, length-append bs (f ∷ []))
 pub no_more_left : (old new : Cursor) (s : List ℕ) → Took old s new → length new.unread ≤ length old.unread
 no_more_left old new s t = omega (arith, ap length t.split, length-append s new.unread)
 
-pub inside_goes : (due goes : Bool) (f : OpenBracket) (bs after : List OpenBracket) (old new : Cursor) → goes ≡ true → Gave (next_value (bracket_of f.kind) due old.unread) goes old new → after ≡ bs ++ f ∷ [] → TurnsInside due f bs after old new (Ok goes)
+pub inside_goes : (due goes : Bool) (f : OpenBracket) (bs after : List OpenBracket) (old new : Cursor) → goes ≡ true → Gave (next_value (bracket_of f.kind) due old.unread) goes old new → after ≡ bs ++ f ∷ [] → TurnsInside due f bs after old new (Ok true)
 inside_goes due goes f bs after old new is g grown = record {
-  goes = λ room w q h. subst (λ z. Skipping room w z goes new) (sym grown)
-      (subst (λ b. Skipping room w (bs ++ f ∷ []) b new) (sym is)
+  goes = λ room w q h. subst (λ z. Skipping room w z true new) (sym grown)
       (subst (λ d. Within start_of rest_in room w (bs ++ f ∷ []) (value_at d new) new) (sym (room_within room bs f))
-      (value_reached start_of rest_in room old w (rest_at room bs f due old) bs f.start q h f new (value_at (room - length bs - 1) new) g.taken refl g.took (value_is room bs f due old goes new is g))));
+      (value_reached start_of rest_in room old w (rest_at room bs f due old) bs f.start q h f new (value_at (room - length bs - 1) new) g.taken refl g.took (value_is room bs f due old goes new is g)));
   refused = tt;
   same_text = g.took.same;
   shorter = λ d. next_shorter (bracket_of f.kind) due goes old.unread new.unread g.reads d;
   no_longer = no_more_left old new g.taken g.took;
 }
 
-pub inside_closed : (due goes : Bool) (f : OpenBracket) (bs : List OpenBracket) (old new : Cursor) → goes ≡ false → Gave (next_value (bracket_of f.kind) due old.unread) goes old new → TurnsInside due f bs bs old new (Ok goes)
+pub inside_closed : (due goes : Bool) (f : OpenBracket) (bs : List OpenBracket) (old new : Cursor) → goes ≡ false → Gave (next_value (bracket_of f.kind) due old.unread) goes old new → TurnsInside due f bs bs old new (Ok false)
 inside_closed due goes f bs old new is g = record {
-  goes = λ room w q h. subst (λ b. Skipping room w bs b new) (sym is)
-      (closed start_of rest_in room old w (rest_at room bs f due old) bs f.start q h new tt g.taken g.took (rest_is room bs f due old goes new g ∙ ap (λ b. turn (bracket_of f.kind) (room - length bs - 1) b new.unread) is));
+  goes = λ room w q h. closed start_of rest_in room old w (rest_at room bs f due old) bs f.start q h new tt g.taken g.took (rest_is room bs f due old goes new g ∙ ap (λ b. turn (bracket_of f.kind) (room - length bs - 1) b new.unread) is);
   refused = tt;
   same_text = g.took.same;
   shorter = λ d. next_shorter (bracket_of f.kind) due goes old.unread new.unread g.reads d;

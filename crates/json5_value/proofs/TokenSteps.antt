@@ -1,5 +1,5 @@
 -- The tokens that are passed over are those that reading on lists gives.
-use Rattle.std.proofs.Common.{◌≡◌, ◌≢◌, ℕ, Bool, true, false, cond, ◌||◌, List, [], ◌∷◌, ◌++◌, refl, ap, sym, ◌∙◌, subst, Option, Some, None}
+use Rattle.std.proofs.Common.{◌≡◌, ◌≢◌, ℕ, Bool, true, false, cond, ◌||◌, List, [], ◌∷◌, ◌++◌, refl, ap, sym, ◌∙◌, subst, Option, Some}
 use Rattle.std.specs.Prelude.{◌==◌, ℤ, Result, Ok, Err, IsOk, IfOk, IfErr, OnOk, OnErr}
 use Rattle.std.proofs.lemmas.Bool.{both_ways, false≢true}
 use Rattle.json5_grammar.specs.declared.code.ErrorCode.{ErrorCode}
@@ -28,7 +28,7 @@ use Rattle.json5_grammar.proofs.StringsRead.{string_complete, string_refused}
 use Rattle.json5_grammar.proofs.StringsSound.{StringSound, string_sound}
 use Rattle.json5_grammar.proofs.WordsRead.{differs_at, ends_in, word_complete}
 use Rattle.json5_text.specs.declared.error.Error.{Error}
-use Rattle.json5_text.specs.Cursor.{Cursor, Took, Refused}
+use Rattle.json5_text.specs.Cursor.{Cursor, Took}
 use Rattle.json5_text.specs.Takes.{PassesBlanks, PassesString, PassesName, PassesNumber, TakesWord}
 use Rattle.json5_text.specs.NumberViews.{whole_in}
 use Rattle.json5_text.specs.Tokens.{FaultyBlanks, FaultyWord, word_differs, word_ends, FaultyNumber, no_number, number_missing, FaultyString, no_quote, string_missing, FaultyName, no_name, name_missing}

@@ -12,11 +12,7 @@ use json5_text::input::Input;
 use json5_text::scanner::Scanner;
 
 /// The fault of what is next and isn't expected: `differs` at the character, or `ends` at the end, without a place.
-pub fn unexpected_here<I: Input>(
-    scanner: &Scanner<I>,
-    ends: ErrorCode,
-    differs: ErrorCode,
-) -> Error
+pub fn unexpected_here<I: Input>(scanner: &Scanner<I>, ends: ErrorCode, differs: ErrorCode) -> Error
     ensures { Refused (Unexpected ends differs) scanner.now result }
 {
     match scanner.peek() {

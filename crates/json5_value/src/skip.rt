@@ -81,14 +81,14 @@ fn resume_bracket<I: Input>(
     requires place { length brackets.old.items < 128 }
     ensures { TurnsInside due bracket brackets.old.items brackets.new.items scanner.old scanner.new result }
 {
-    let at_value = match skip_to_value(scanner, bracket.kind, due) {
-        Ok(at_value) => at_value,
-        Err(e) => return Err(place_at(scanner, bracket.start, e)),
-    };
-    if at_value {
-        brackets.push(bracket);
+    match skip_to_value(scanner, bracket.kind, due) {
+        Ok(true) => {
+            brackets.push(bracket);
+            Ok(true)
+        }
+        Ok(false) => Ok(false),
+        Err(e) => Err(place_at(scanner, bracket.start, e)),
     }
-    Ok(at_value)
 }
 
 /// Begins the value in front within the open brackets, and says whether a value is next.

@@ -1,4 +1,4 @@
-use Rattle.std.proofs.Common.{refl, arith}
+use Rattle.std.proofs.Common.{arith}
 use Rattle.json5_value.specs.Brackets.{bracket_of}
 use Rattle.json5_value.proofs.Scalars.{bracket_too_deep, bracket_opened}
 use Rattle.json5_value.proofs.Signs.{opening_is}

@@ -1,4 +1,4 @@
-use Rattle.std.proofs.Common.{◌≡◌, ◌-◌, ◌<◌, ◌∙◌, refl, sym, ap, subst, length, arith, Ok, Err}
+use Rattle.std.proofs.Common.{◌≡◌, ◌-◌, ◌∙◌, refl, ap, subst, length, arith}
 use Rattle.json5_value.specs.Opening.{OpenedAt}
 use Rattle.json5_value.specs.Steps.{value_at, Blames, Gave}
 use Rattle.json5_value.proofs.SkipTurns.{first_refused, first_scalar, first_bracket, ready_opened}

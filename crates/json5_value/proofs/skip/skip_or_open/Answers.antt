@@ -1,6 +1,4 @@
-use Rattle.std.proofs.Common.{rules, sym, ◌∙◌}
-use Rattle.std.proofs.lemmas.Result.{err_from_is_err_and}
-use Rattle.json5_value.proofs.Scalars.{value_missing, scalar_passed, scalar_refused}
+use Rattle.json5_value.proofs.Scalars.{value_missing, scalar_passed}
 use Rattle.json5_value.proofs.skip.skip_or_open.Goals as goal
 
 pub returns-in_default : goal.returns-in_default

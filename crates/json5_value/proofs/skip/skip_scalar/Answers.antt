@@ -11,7 +11,7 @@ returns-in-String g c = string_value c.args.room c.args.scanner.now c.skip_strin
 
 pub returns-in_ok-skip_number-in-Number : goal.returns-in_ok-skip_number-in-Number
 returns-in_ok-skip_number-in-Number g c =
-    number_value c.args.room c.args.scanner.now c.skip_number.new.self c.args.c c.requires.first c.kind_at.result c.kind_at.ensures (Ok c.in_ok-skip_number-in-Number.field-0.0) c.requires.ready c.in-Number.is c.in_ok-skip_number-in-Number.ensures
+    number_value c.args.room c.args.scanner.now c.skip_number.new.self c.args.c c.requires.first c.kind_at.result c.kind_at.ensures (Ok c.in_ok-skip_number-in-Number.field-0) c.requires.ready c.in-Number.is c.in_ok-skip_number-in-Number.ensures
 
 pub returns-in_err-skip_number-in-Number : goal.returns-in_err-skip_number-in-Number
 returns-in_err-skip_number-in-Number g c =

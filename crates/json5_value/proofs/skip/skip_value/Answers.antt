@@ -1,7 +1,7 @@
-use Rattle.std.proofs.Common.{◌∙◌, ◌≡◌, [], ◌∷◌, ap, length, length-append, subst, arith}
+use Rattle.std.proofs.Common.{◌∙◌, [], ◌∷◌, ap, length, length-append, subst, arith}
 use Rattle.std.proofs.lemmas.Result.{err_from_is_err_and}
 use Rattle.json5_value.specs.Steps.{value_at, Blames}
-use Rattle.json5_value.proofs.SkipTurns.{none_open, ends_whole, ended_inside, begins}
+use Rattle.json5_value.proofs.SkipTurns.{none_open, ends_whole, ended_inside}
 use Rattle.json5_value.proofs.skip.skip_value.Goals as goal
 
 pub returns-in_default : goal.returns-in_default
