@@ -15,12 +15,13 @@ use Rattle.json5_grammar.specs.ReadNumbers as reading
 use Rattle.json5_grammar.specs.ReadSteps.{forget, colon_after, key_head, key_at, member_head, member_at, next_value, separator}
 use Rattle.json5_grammar.specs.ReadTexts.{key, string, identifier}
 use Rattle.json5_grammar.specs.ReadValues.{read}
-use Rattle.json5_grammar.specs.Strings.{is_quote}
-use Rattle.json5_grammar.specs.Trees.{Tree, depth}
-use Rattle.json5_grammar.specs.Values.{Val, Stops}
+use Rattle.json5_grammar.specs.Strings.{Str, is_quote}
+use Rattle.json5_grammar.specs.Trees.{Tree, null, boolean, text, depth}
+use Rattle.json5_grammar.specs.Values.{Val, Stops, is_null, is_true, is_false, is_text, null_text, true_text, false_text}
 use Rattle.json5_grammar.proofs.KeysRead.{key_complete}
 use Rattle.json5_grammar.proofs.Refusals.{Refuses}
 use Rattle.json5_grammar.proofs.ValuesRead.{read_complete}
+use Rattle.json5_grammar.proofs.ValuesSound.{text_stops}
 use Rattle.json5_grammar.proofs.ValueSteps.{read_quote, read_numeral}
 use Rattle.json5_text.specs.declared.error.Error.{Error}
 use Rattle.json5_text.specs.declared.key_text.KeyText.{KeyText}
@@ -30,14 +31,19 @@ use Rattle.json5_text.specs.Errors.{LacksMemory, code, kind_of, place_of}
 use Rattle.json5_text.specs.Keys.{KeyIs}
 use Rattle.json5_text.specs.Takes.{TakesKey}
 use Rattle.json5_text.specs.Tokens.{FaultyKey, at_quote, at_name, FaultyNumber, FaultyString}
+use Rattle.json5_text.specs.declared.value.Value as value
 use Rattle.json5_text.specs.ValueViews.{value_of}
-use Rattle.json5_text.proofs.TextScalars.{key_scalars}
+use Rattle.json5_text.specs.ValueViews as datum
+use Rattle.json5_text.proofs.TextScalars.{text_characters, key_scalars}
+use Rattle.json5_text.proofs.ValuesCompared.{view-String}
+use Rattle.json5_value.specs.declared.kinds.Literal.{Literal}
+use Rattle.json5_value.specs.declared.kinds.Literal.TheVariants as literal
 use Rattle.json5_value.specs.declared.kinds.ValueKind.{ValueKind}
 use Rattle.json5_value.specs.declared.kinds.ValueKind.TheVariants as kind
 use Rattle.json5_value.specs.Data.{datum_of}
 use Rattle.json5_value.specs.Entries.{entry_front, entry_start, next_entry}
-use Rattle.json5_value.specs.Keeping.{BlamesOrMemory, Keeps, IsFoundKey, IsKeyText, IsNextKey, IsOfTree, next_key, as_datum, tree_at, datum_at}
-use Rattle.json5_value.specs.Kinds.{kind_at}
+use Rattle.json5_value.specs.Keeping.{BlamesOrMemory, Keeps, IsFoundKey, IsKeyText, IsNextKey, IsOfTree, next_key, as_datum, tree_at, datum_at, datum_of_literal}
+use Rattle.json5_value.specs.Kinds.{kind_at, word_of}
 use Rattle.json5_value.specs.Steps.{IsInside, SameText, Blames, Gave, Steps, RefusesToken, value_at}
 use Rattle.json5_value.proofs.EntryValues.{key_missing, key_string, key_name}
 use Rattle.json5_value.proofs.OtherCodes.{Lacks, key_lacks, faulty_number_lacks, faulty_string_lacks}
@@ -192,6 +198,18 @@ module _ (due goes : Bool) (old mid : Cursor) (is : goes ≡ true) (g : Gave (ne
 
 -- ---- values of one token
 
+null_stops : (r : List ℕ) → Stops null_text r
+null_stops [] = tt
+null_stops (c ∷ r) = refl
+
+true_stops : (r : List ℕ) → Stops true_text r
+true_stops [] = tt
+true_stops (c ∷ r) = refl
+
+false_stops : (r : List ℕ) → Stops false_text r
+false_stops [] = tt
+false_stops (c ∷ r) = refl
+
 pub forget_bad : {A : Type 0} (m : Read A) (c : Option ErrorCode) (p : Place) → forget m ≡ bad c p → m ≡ bad c p
 forget_bad (got a r) c p e = absurd (cc)
 forget_bad {A = A} (bad d q) c p e = let a : d ≡ c = cc in let b : q ≡ p = cc in renamed (bad d q) refl a b
@@ -210,6 +228,16 @@ pub scalar_taken : (room : ℕ) (old new : Cursor) (s : List ℕ) (t : Tree) (v 
 scalar_taken room old new s t v flat took val stops is =
     takes old new (tree_at room old) t v is
     (gave_text old new (tree_at room old) t s (ap (read room) took.split ∙ read_complete val new.unread stops room (omega (arith, flat))) took)
+
+-- a literal, a string
+pub literal_taken : (room : ℕ) (old new : Cursor) (l : Literal) (v : Value) → Took old (word_of l) new → value_of v ≡ datum_of_literal l → Keeps IsOfTree (tree_at room old) old new (Ok v)
+literal_taken room old new literal.Null v took is = scalar_taken room old new null_text null v refl took is_null (null_stops new.unread) is
+literal_taken room old new literal.True v took is = scalar_taken room old new true_text (boolean true) v refl took is_true (true_stops new.unread) is
+literal_taken room old new literal.False v took is = scalar_taken room old new false_text (boolean false) v refl took is_false (false_stops new.unread) is
+
+pub text_taken : (room : ℕ) (old new : Cursor) (t : String Global) → all_scalars old.unread ≡ true → (s u : List ℕ) × (plain : Bool) × Took old s new × Str s u plain × (string_bytes t ≡ encode_utf8_all u) → Keeps IsOfTree (tree_at room old) old new (Ok (value.String t))
+text_taken room old new t scalars (s, u, plain, took, str, bytes) =
+    scalar_taken room old new s (text u plain) (value.String t) refl took (is_text str) (text_stops new.unread str) (view-String t ∙ ap datum.text (text_characters old.unread new.unread (string_bytes t) took.split scalars str bytes))
 
 -- a step that passes over it is refused
 pub scalar_refused : (room : ℕ) (old new : Cursor) (e : Error) → Steps (value_at room old) old new (Err e) → Keeps IsOfTree (tree_at room old) old new (Err e)

@@ -94,15 +94,14 @@ fn resume_array<I: Input>(
     requires { IsInside scanner.old }
     ensures { TurnsInside (array_at elements.items due scanner.old) start due stack.old.items stack.new.items scanner.old scanner.new result }
 {
-    let at_value = match skip_to_value(scanner, BracketKind::Array, due) {
-        Ok(at_value) => at_value,
-        Err(e) => return Err(place_at(scanner, start, e)),
-    };
-    if !at_value {
-        return Ok(Some(Value::Array(elements)));
+    match skip_to_value(scanner, BracketKind::Array, due) {
+        Ok(true) => {
+            stack.push(Unfinished::Array { start, elements })?;
+            Ok(None)
+        }
+        Ok(false) => Ok(Some(Value::Array(elements))),
+        Err(e) => Err(place_at(scanner, start, e)),
     }
-    stack.push(Unfinished::Array { start, elements })?;
-    Ok(None)
 }
 
 /// Goes on in an object with these members: to the value of the next, and then the object is on the stack; or the object ends.
@@ -116,15 +115,14 @@ fn resume_object<I: Input>(
     requires { IsInside scanner.old }
     ensures { TurnsInside (object_at members.items due scanner.old) start due stack.old.items stack.new.items scanner.old scanner.new result }
 {
-    let next = match next_member_key(scanner, due) {
-        Ok(next) => next,
-        Err(e) => return Err(place_at(scanner, start, e)),
-    };
-    let Some(key) = next else {
-        return Ok(Some(Value::Object(members)));
-    };
-    stack.push(Unfinished::Object { start, members, key })?;
-    Ok(None)
+    match next_member_key(scanner, due) {
+        Ok(Some(key)) => {
+            stack.push(Unfinished::Object { start, members, key })?;
+            Ok(None)
+        }
+        Ok(None) => Ok(Some(Value::Object(members))),
+        Err(e) => Err(place_at(scanner, start, e)),
+    }
 }
 
 /// Begins the value in front, and gives it where it ends at once.
