@@ -47,7 +47,7 @@ use Rattle.json5_de.proofs.PassingValues.{tests_of}
 use Rattle.json5_de.proofs.Places.{none_next, some_next}
 use Rattle.json5_de.proofs.Rows.{gives_up}
 use Rattle.json5_de.proofs.Taken.{input_of}
-use Rattle.json5_de.proofs.TextScalars.{key_scalars}
+use Rattle.json5_text.proofs.TextScalars.{key_scalars}
 
 -- ---- one step after another
 

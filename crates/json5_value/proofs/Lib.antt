@@ -10,3 +10,6 @@ pub mod Nesting
 pub mod Scalars
 pub mod Shorter
 pub mod SkipTurns
+pub mod BuildRests
+pub mod BuildSteps
+pub mod BuildTurns

@@ -6,3 +6,6 @@ pub mod Entries
 pub mod Opening
 pub mod Nesting
 pub mod Skipping
+pub mod Data
+pub mod Keeping
+pub mod Building
