@@ -3,7 +3,7 @@ use Rattle.json5_text.specs.ValueViews.{value_of}
 use Rattle.json5_de.specs.Convert.{every_datum}
 use Rattle.json5_de.specs.Rows.{no_tree}
 use Rattle.json5_de.proofs.BuildingTurns.{any_result}
-use Rattle.json5_de.proofs.PassingTrees.{ready_passed, tree_not_begun}
+use Rattle.json5_de.proofs.TreesRead.{ready_passed, tree_not_begun}
 use Rattle.json5_de.proofs.de.Deserializer.deserialize_any.Goals as goal
 
 pub returns-in_err-begin : goal.returns-in_err-begin
