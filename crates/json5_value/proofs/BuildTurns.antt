@@ -2,6 +2,7 @@
 use Rattle.std.proofs.Common.{◌≡◌, ℕ, suc, ◌-◌, ◌<◌, Bool, true, false, List, [], ◌∷◌, ◌++◌, length, refl, ap, sym, ◌∙◌, subst, arith, length-append, ◌⊎◌, inl, inr, Option, Some, None, Vec, String}
 use Rattle.std.specs.Prelude.{slice_get, Result, Ok, Err, is_some}
 use Rattle.std.specs.declared.alloc.Global.{Global}
+use Rattle.std.specs.Vec.{vec_len}
 use Rattle.json5_grammar.specs.declared.code.ErrorCode.TheVariants as codes
 use Rattle.json5_grammar.specs.Fronts.{of_array, opening}
 use Rattle.json5_grammar.specs.Reading.{Read, inner, got, bad, and_then, placed}
@@ -33,7 +34,7 @@ use Rattle.json5_value.specs.Places.{StartsAfter, PlacedAt}
 use Rattle.json5_value.specs.Steps.{IsInside, SameText, Blames, Gave, value_at}
 use Rattle.json5_value.proofs.BuildRests.{array_turn, array_step, no_more_elements, array_grown, array_opened, object_turn, object_step, no_more_members, object_grown, object_opened}
 use Rattle.json5_value.proofs.BuildSteps.{or_blames, tree_blamed, datum_blamed, key_shorter}
-use Rattle.json5_value.proofs.Nesting.{value_reached, closed, inside_blamed, value_ended, value_opened, whole_blamed, innermost_blamed, starts, ends_inside}
+use Rattle.json5_value.proofs.Nesting.{value_reached, closed, inside_blamed, value_ended, value_opened, whole_blamed, innermost_blamed, ends_inside}
 use Rattle.json5_value.proofs.Scalars.{value_shorter}
 use Rattle.json5_value.proofs.Shorter.{next_shorter}
 use Rattle.json5_value.proofs.SkipTurns.{no_more_left, ready_opened}
@@ -212,6 +213,10 @@ bracket_not_begun room old new e b g = record { begun = tt; refused = inr (datum
 
 -- ---- the first turn of a value
 
+-- how many brackets may be open in it
+pub room_left : (room : ℕ) (stack : Vec Unfinished Global) (count left : ℕ) → count ≡ vec_len stack → left ≡ room - count → left ≡ room - length stack.items
+room_left room stack count left is less = let same = stack.ok in omega (arith, is, less, same)
+
 pub first_scalar : (room : ℕ) (fs after : List Unfinished) (old new : Cursor) (v : Value) → Gave (datum_at (room - length fs) old) (value_of v) old new → after ≡ fs → length new.unread < length old.unread → Turns room fs after old new (Ok (Some v))
 first_scalar room fs after old new v g same less = record {
   goes = λ w h. subst (λ z. Building room w z (Some v) new) (sym same) (value_ended start_of value_in room old new w (datum_at (room - length fs) old) fs (value_of v) h g);
@@ -272,10 +277,6 @@ first_refused room fs after old new own e b g k = record { goes = tt; refused = 
 
 -- ---- the whole
 
--- nothing is open at the start
-pub begins : (room : ℕ) (s : Cursor) (fs : List Unfinished) → fs ≡ [] → IsInside s → Building room (datum_at room s) fs None s
-begins room s fs none ready = subst (λ gs. Building room (datum_at room s) gs None s) (sym none) (subst (λ d. Within start_of value_in room (datum_at room s) [] (datum_at d s) s) (omega arith) (starts start_of value_in room s (datum_at room s) ready))
-
 -- the value itself ended
 pub value_read : (room : ℕ) (old now : Cursor) (fs : List Unfinished) (v : Value) → fs ≡ [] → SameText old now → Building room (datum_at room old) fs (Some v) now → ReadsDatum room old now (Ok v)
 value_read room old now fs v none same h =
@@ -283,15 +284,6 @@ value_read room old now fs v none same h =
     let (t, is, view) = datum_got (read room old.unread) (value_of v) now.unread reads in
     let k = read_sound room old.unread now.unread t is in
     record { given = record { reads = reads; taken = k.0; took = record { split = k.1; same = same } }; refused = tt; same_text = same }
-
--- a turn of the value was refused
-pub turn_not_read : (room : ℕ) (old now new : Cursor) (fs : List Unfinished) (e : Error) → Building room (datum_at room old) fs None now → SameText old now → IsOutOfMemory e ⊎ ((w : Read Datum) → Building room w fs None now → Blames now.input w e) → SameText now new
-    → ReadsDatum room old new (Err e)
-turn_not_read room old now new fs e h same b g = record { given = tt; refused = by_cause b; same_text = g ∙ same }
-  where
-    by_cause : IsOutOfMemory e ⊎ ((w : Read Datum) → Building room w fs None now → Blames now.input w e) → BlamesOrMemory old.input (datum_at room old) e
-    by_cause (inl memory) = inl memory
-    by_cause (inr k) = inr (subst (λ z. Blames z (datum_at room old) e) same (k (datum_at room old) h))
 
 -- what stands round a value that ended
 pub ended_inside : (room : ℕ) (w : Read Datum) (now : Cursor) (gs fs : List Unfinished) (f : Unfinished) (v : Value) → gs ≡ fs ++ f ∷ [] → Building room w gs (Some v) now → (q : List ℕ) × BuildingInside room w fs (start_of f) (value_in_at f v now) q now
