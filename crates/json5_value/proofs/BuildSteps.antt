@@ -1,6 +1,6 @@
 -- The steps that keep what they read: keys and values of one token.
 use Rattle.std.proofs.Common.{◌≡◌, ℕ, ◌<◌, length, Bool, true, false, cond, List, [], ◌∷◌, refl, ap, sym, ◌∙◌, subst, arith, inl, inr, Option, Some, None, String, string_bytes}
-use Rattle.std.specs.Prelude.{◌==◌, ◌||◌, slice_get, Result, Ok, Err, IfOk, IfErr, OnErr, MatchResult, is_some, not}
+use Rattle.std.specs.Prelude.{◌==◌, ◌||◌, slice_get, Result, Ok, Err, MatchResult, is_some, not}
 use Rattle.std.specs.declared.alloc.Global.{Global}
 use Rattle.std.specs.Str.{all_scalars, chars, encode_utf8_all}
 use Rattle.std.proofs.lemmas.Str.{chars-encodes}

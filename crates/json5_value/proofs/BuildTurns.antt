@@ -1,6 +1,6 @@
 -- The turns of the loop that reads a value of any kind.
 use Rattle.std.proofs.Common.{◌≡◌, ℕ, suc, ◌-◌, ◌<◌, Bool, true, false, List, [], ◌∷◌, ◌++◌, length, refl, ap, sym, ◌∙◌, subst, arith, length-append, ◌⊎◌, inl, inr, Option, Some, None, Vec, String}
-use Rattle.std.specs.Prelude.{slice_get, Result, Ok, Err, is_some}
+use Rattle.std.specs.Prelude.{slice_get, Result, Ok, Err}
 use Rattle.std.specs.declared.alloc.Global.{Global}
 use Rattle.std.specs.Vec.{vec_len}
 use Rattle.json5_grammar.specs.declared.code.ErrorCode.TheVariants as codes
@@ -25,7 +25,7 @@ use Rattle.json5_value.specs.declared.read.Unfinished.{Unfinished}
 use Rattle.json5_value.specs.declared.read.Unfinished.TheVariants as unfinished
 use Rattle.json5_value.specs.declared.read.ValueStart.TheVariants as start
 use Rattle.json5_value.specs.Brackets.{bracket_of}
-use Rattle.json5_value.specs.Building.{elements_before, members_before, object_with, array_at, object_at, value_in_at, start_of, value_in, ended_or_next, Building, BuildingInside, PlacedIn, Turns, TurnsInside}
+use Rattle.json5_value.specs.Building.{elements_before, members_before, object_with, array_at, object_at, value_in_at, start_of, value_in, Building, BuildingInside, PlacedIn, Turns, TurnsInside}
 use Rattle.json5_value.specs.Data.{datum_of}
 use Rattle.json5_value.specs.Keeping.{BlamesOrMemory, IsNextKey, IsOfTree, next_key, as_datum, tree_at, datum_at, ReadsOrOpens, ReadsDatum}
 use Rattle.json5_value.specs.Nesting.{Nested, Within}
