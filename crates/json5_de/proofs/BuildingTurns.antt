@@ -349,34 +349,3 @@ member_not_taken old now new fs at m q e h b g = record { given = tt; refused = 
     by_cause : IsOutOfMemory e ⊎ ((from : State) (w : Read Datum) (q : List ℕ) → BuildsInside from w fs at m q now → Blames from.input w e) → BlamesOrMemory old.input (datum_at old) e
     by_cause (inl memory) = inl memory
     by_cause (inr k) = inr (k old (datum_at old) q h)
-
--- ---- the law
-
-tree_bad : (m : Read Tree) (c : _) (p : _) → as_datum m ≡ bad c p → forget m ≡ bad c p
-tree_bad (got t r) c p e = absurd (cc)
-tree_bad (bad d q) c p e = let a : d ≡ c = cc in let b : q ≡ p = cc in ap (λ z. bad z q) a ∙ ap (λ z. bad c z) b
-
--- memory ran out, and no tree is read without it
-lacks_memory : (old mid new : State) (e : Error) → PassedGap old mid → IsOutOfMemory e → GivesUp mid new → ReadsTree value_of every_datum no_tree old new (Err e)
-lacks_memory old mid new e p memory g = record {
-  sound = tt;
-  complete = λ t r c live reads shallow is. memory;
-  no_memory = λ t r c live reads shallow is free. absurd (false≢true free);
-  refused = inl memory;
-  unprompted = λ live. memory_other e memory;
-  same_text = g.same_text ∙ input_of p.rest;
-  failed = g.failed;
-  before = λ h. true_false h p.live;
-}
-
--- a value of any kind was read, or refused
-pub any_result : (old mid new : State) (result : Result Value Error) → PassedGap old mid → Keeps IsDatum (datum_at mid) mid new result → ReadsTree value_of every_datum no_tree old new result
-any_result old mid new (Ok v) p k =
-    let (x, is, g) = k.given in
-    let (t, reads, same) = datum_got (read (max_depth - mid.level) mid.unread) x new.unread g.reads in
-    tree_read value_of every_datum no_tree old mid new t v p reads g.took.rest (ap Some (same ∙ sym is))
-any_result old mid new (Err e) p k = by_cause k.refused
-  where
-    by_cause : BlamesOrMemory mid.input (datum_at mid) e → ReadsTree value_of every_datum no_tree old new (Err e)
-    by_cause (inl memory) = lacks_memory old mid new e p memory k.failed
-    by_cause (inr b) = tree_refused value_of every_datum no_tree old mid new e p (blames_as mid.input mid.input (datum_at mid) (value_at mid) e refl (tree_bad (read (max_depth - mid.level) mid.unread)) b) k.failed

@@ -34,6 +34,7 @@ pub mod Nesting
 pub mod PassingBrackets
 pub mod TreeFaults
 pub mod PassingTrees
+pub mod AnyValues
 pub mod BuildingSteps
 pub mod BuildingRests
 pub mod BuildingTurns

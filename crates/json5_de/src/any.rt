@@ -321,7 +321,6 @@ impl<I: Input> Deserializer<I> {
         ensures { ReadsTree value_of every_datum no_tree self.old self.new result }
     {
         self.begin()?;
-        let _offset = self.offset();
-        self.take_value()
+        self.read_value()
     }
 }

@@ -6,6 +6,7 @@ ghost use Rattle.json5_text.specs.Errors.{FaultKind, kind_of};
 ghost use Rattle.json5_text.specs.Cursor.{IsPlaced, IsOffset, Locates};
 ghost use Rattle.json5_grammar.specs.Documents.{max_depth};
 ghost use Rattle.json5_grammar.specs.declared.code.ErrorCode.TheVariants as codes;
+ghost use Rattle.json5_value.specs.Keeping.{ReadsDatum};
 ghost use Rattle.json5_value.specs.Skipping.{Skips};
 ghost use Rattle.json5_de.specs.State.{State, SameText, Calls, GivesUpWith, cursor_of, next, at_start};
 ghost use Rattle.json5_de.specs.Faults.{IsUnplaced};
@@ -24,7 +25,9 @@ use json5_text::key_text::KeyText;
 use json5_text::nesting::Limit;
 use json5_text::number::Number;
 use json5_text::scanner::Scanner;
+use json5_text::value::Value;
 use json5_text::{ErrorCode, Position};
+use json5_value::read::read_value;
 use json5_value::skip::skip_value;
 use std::alloc::Global;
 use std::marker::Model;
@@ -210,6 +213,16 @@ impl<I: Input> Deserializer<I> {
     {
         match self.scanner.skip_number() {
             Ok(_) => Ok(()),
+            Err(e) => self.refuse(e),
+        }
+    }
+
+    /// Reads the value in front.
+    pub(crate) fn read_value(&mut self) -> Result<Value>
+        ensures { Calls (ReadsDatum (max_depth - self.old.level)) self.old self.new result }
+    {
+        match read_value(&mut self.scanner, 128 - self.level) {
+            Ok(value) => Ok(value),
             Err(e) => self.refuse(e),
         }
     }
