@@ -13,7 +13,7 @@ use Rattle.json5_text.specs.declared.value.Value.{Value}
 use Rattle.json5_text.specs.Cursor.{IsOutOfMemory}
 use Rattle.json5_text.specs.ValueViews.{value_of}
 use Rattle.json5_value.specs.Keeping.{BlamesOrMemory, as_datum, datum_at, ReadsDatum}
-use Rattle.json5_value.proofs.BuildTurns.{datum_got}
+use Rattle.json5_value.proofs.BuildScalars.{datum_got}
 use Rattle.json5_value.proofs.Steps.{blames_as}
 use Rattle.json5_de.specs.AnyTree.{ReadsTree}
 use Rattle.json5_de.specs.Convert.{every_datum}
