@@ -6,7 +6,7 @@ ghost use Rattle.json5_text.specs.Errors.{FaultKind, kind_of};
 ghost use Rattle.json5_text.specs.Cursor.{IsPlaced, IsOffset, Locates};
 ghost use Rattle.json5_grammar.specs.Documents.{max_depth};
 ghost use Rattle.json5_grammar.specs.declared.code.ErrorCode.TheVariants as codes;
-ghost use Rattle.json5_value.specs.Keeping.{ReadsDatum};
+ghost use Rattle.json5_value.specs.Keeping.{OwnsKey, ReadsDatum};
 ghost use Rattle.json5_value.specs.Skipping.{Skips};
 ghost use Rattle.json5_de.specs.State.{State, SameText, Calls, GivesUpWith, cursor_of, next, at_start};
 ghost use Rattle.json5_de.specs.Faults.{IsUnplaced};
@@ -29,6 +29,7 @@ use json5_text::value::Value;
 use json5_text::{ErrorCode, Position};
 use json5_value::read::read_value;
 use json5_value::skip::skip_value;
+use json5_value::tokens::key_owned;
 use std::alloc::Global;
 use std::marker::Model;
 
@@ -252,6 +253,13 @@ impl<I: Input> Deserializer<I> {
         ensures { SpellsKey self.now key.now result.now }
     {
         self.scanner.text_of(key)
+    }
+
+    /// The text of a key that was taken, in memory of its own.
+    pub(crate) fn own_key_text(&self, key: KeyText) -> Result<String>
+        ensures { OwnsKey self.now.input key result }
+    {
+        key_owned(&self.scanner, key)
     }
 
     /// A fault at the next character.
