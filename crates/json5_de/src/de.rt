@@ -6,7 +6,7 @@ ghost use Rattle.json5_text.specs.Errors.{FaultKind, kind_of};
 ghost use Rattle.json5_text.specs.Cursor.{IsPlaced, IsOffset, Locates};
 ghost use Rattle.json5_grammar.specs.Documents.{max_depth};
 ghost use Rattle.json5_grammar.specs.declared.code.ErrorCode.TheVariants as codes;
-ghost use Rattle.json5_value.specs.Keeping.{ReadsDatum};
+ghost use Rattle.json5_value.specs.Keeping.{OwnsKey, ReadsDatum};
 ghost use Rattle.json5_value.specs.Kinds.{word_of, ends_of, differs_of};
 ghost use Rattle.json5_value.specs.Places.{PlacedAt, StartsAfter};
 ghost use Rattle.json5_value.specs.Skipping.{Skips};
@@ -34,6 +34,7 @@ use json5_value::faults::{fault_here, place_at, unexpected_here};
 use json5_value::kinds::{Literal, skip_literal};
 use json5_value::read::read_value;
 use json5_value::skip::skip_value;
+use json5_value::tokens::key_owned;
 use std::alloc::Global;
 use std::marker::Model;
 
@@ -227,6 +228,13 @@ impl<I: Input> Deserializer<I> {
         ensures { SpellsKey self.now key.now result.now }
     {
         self.scanner.text_of(key)
+    }
+
+    /// The text of a key that was taken, in memory of its own.
+    pub(crate) fn own_key_text(&self, key: KeyText) -> Result<String>
+        ensures { OwnsKey self.now.input key result }
+    {
+        key_owned(&self.scanner, key)
     }
 
     /// A fault at the next character.

@@ -1,44 +1,30 @@
--- The turns of the loop that reads a value of any kind.
-use Rattle.std.proofs.Common.{◌≡◌, ℕ, suc, ◌-◌, ◌<◌, Bool, true, false, List, [], ◌∷◌, ◌++◌, length, refl, ap, sym, ◌∙◌, subst, arith, length-append, ◌⊎◌, inl, inr, Option, Some, None, Vec, String}
-use Rattle.std.specs.Prelude.{slice_get, Result, Ok, Err, is_some}
+-- The turns of the loop that reads a value of any kind: going on in an array or an object.
+use Rattle.std.proofs.Common.{◌≡◌, ℕ, ◌-◌, ◌<◌, Bool, true, false, List, [], ◌∷◌, ◌++◌, length, refl, ap, sym, ◌∙◌, subst, arith, length-append, ◌⊎◌, inl, inr, Option, Some, None, Vec, String}
+use Rattle.std.specs.Prelude.{Result, Ok, Err}
 use Rattle.std.specs.declared.alloc.Global.{Global}
-use Rattle.std.specs.Vec.{vec_len}
-use Rattle.json5_grammar.specs.declared.code.ErrorCode.TheVariants as codes
-use Rattle.json5_grammar.specs.Fronts.{of_array, opening}
-use Rattle.json5_grammar.specs.Reading.{Read, inner, got, bad, and_then, placed}
-use Rattle.json5_grammar.specs.ReadSteps.{forget, next_value, pairs_after}
-use Rattle.json5_grammar.specs.ReadValues.{read}
-use Rattle.json5_grammar.specs.Trees.{Tree}
-use Rattle.json5_grammar.proofs.ValueSteps.{read_missing}
-use Rattle.json5_grammar.proofs.ValuesSound.{read_sound}
+use Rattle.json5_grammar.specs.Fronts.{of_array}
+use Rattle.json5_grammar.specs.Reading.{Read, got, and_then}
+use Rattle.json5_grammar.specs.ReadSteps.{next_value, pairs_after}
 use Rattle.json5_text.specs.declared.error.Error.{Error}
 use Rattle.json5_text.specs.Cursor.{Cursor, Took, IsOutOfMemory}
-use Rattle.json5_text.specs.Errors.{code, kind_of, place_of}
 use Rattle.json5_text.specs.declared.value.Value.{Value}
 use Rattle.json5_text.specs.declared.value.Value as value
 use Rattle.json5_text.specs.ValueViews.{Datum, value_of}
 use Rattle.json5_text.specs.ValueViews as views
 use Rattle.json5_text.proofs.ValuesCompared.{view-Array, view-Object}
-use Rattle.json5_value.specs.declared.brackets.BracketKind.TheVariants as bracket
-use Rattle.json5_value.specs.declared.brackets.OpenBracket.{OpenBracket}
 use Rattle.json5_value.specs.declared.read.Unfinished.{Unfinished}
 use Rattle.json5_value.specs.declared.read.Unfinished.TheVariants as unfinished
-use Rattle.json5_value.specs.declared.read.ValueStart.TheVariants as start
-use Rattle.json5_value.specs.Brackets.{bracket_of}
-use Rattle.json5_value.specs.Building.{elements_before, members_before, object_with, array_at, object_at, value_in_at, start_of, value_in, ended_or_next, Building, BuildingInside, PlacedIn, Turns, TurnsInside}
-use Rattle.json5_value.specs.Data.{datum_of}
-use Rattle.json5_value.specs.Keeping.{BlamesOrMemory, IsNextKey, IsOfTree, next_key, as_datum, tree_at, datum_at, ReadsOrOpens, ReadsDatum}
-use Rattle.json5_value.specs.Nesting.{Nested, Within}
-use Rattle.json5_value.specs.Opening.{OpenedAt}
+use Rattle.json5_value.specs.Building.{elements_before, members_before, object_with, array_at, object_at, value_in_at, start_of, value_in, Building, BuildingInside, TurnsInside}
+use Rattle.json5_value.specs.Keeping.{BlamesOrMemory, IsNextKey, next_key, datum_at}
+use Rattle.json5_value.specs.Nesting.{Within}
 use Rattle.json5_value.specs.Places.{StartsAfter, PlacedAt}
-use Rattle.json5_value.specs.Steps.{IsInside, SameText, Blames, Gave, value_at}
-use Rattle.json5_value.proofs.BuildRests.{array_turn, array_step, no_more_elements, array_grown, array_opened, object_turn, object_step, no_more_members, object_grown, object_opened}
-use Rattle.json5_value.proofs.BuildSteps.{or_blames, tree_blamed, datum_blamed, key_shorter}
-use Rattle.json5_value.proofs.Nesting.{value_reached, closed, inside_blamed, value_ended, value_opened, whole_blamed, innermost_blamed, ends_inside}
-use Rattle.json5_value.proofs.Scalars.{value_shorter}
+use Rattle.json5_value.specs.Steps.{SameText, Blames, Gave}
+use Rattle.json5_value.proofs.BuildRests.{array_turn, array_step, no_more_elements, array_grown, object_turn, object_step, no_more_members, object_grown}
+use Rattle.json5_value.proofs.Nesting.{value_reached, closed, inside_blamed}
 use Rattle.json5_value.proofs.Shorter.{next_shorter}
-use Rattle.json5_value.proofs.SkipTurns.{no_more_left, ready_opened}
-use Rattle.json5_value.proofs.Steps.{none_next, blames_as, blames_made}
+use Rattle.json5_value.proofs.SkipTurns.{no_more_left}
+use Rattle.json5_value.proofs.Steps.{blames_as}
+use Rattle.json5_value.proofs.BuildKeys.{key_shorter}
 
 -- ---- going on within an array or an object
 
@@ -177,122 +163,3 @@ pub member_attached : (f : Unfinished) (at : ℕ) (members grown : Vec (String G
 member_attached f at members grown key v fs after old new result is more k =
     subst (λ g. TurnsInside (value_in_at g v old) (start_of g) true fs after old new result) (sym is)
     (turns_as (value_in_at (unfinished.Object at members key) v old) (object_at grown.items true old) at true fs after old new result (λ d. sym (object_grown members.items grown.items key v d old.unread more)) k)
-
--- ---- how a value begins
-
--- nothing is left
-pub nothing_left : (room : ℕ) (old : Cursor) (next : Option ℕ) (e : Error) → next ≡ slice_get old.unread 0 → next ≡ None → kind_of e ≡ code codes.EofParsingValue → place_of e ≡ None → ReadsOrOpens room old old (Err e)
-nothing_left room old next e peeked is says place = record {
-  begun = tt;
-  refused = inr (datum_blamed room old e (tree_blamed room old e (blames_made old.input (value_at room old) e codes.EofParsingValue inner (ap (λ z. forget (read room z)) (none_next old.unread (sym peeked ∙ is)) ∙ read_missing room) (λ e. absurd (cc)) says place)));
-  same_text = refl;
-  shorter = tt;
-}
-
--- what is read as a datum is read as a tree
-pub datum_got : (m : Read Tree) (x : Datum) (r : List ℕ) → as_datum m ≡ got x r → (t : Tree) × (m ≡ got t r) × (datum_of t ≡ x)
-datum_got (got t y) x r e = let k : y ≡ r = cc in let l : datum_of t ≡ x = cc in (t, ap (got t) k, l)
-datum_got (bad c p) x r e = absurd (cc)
-
-pub scalar_begun : (room : ℕ) (old new : Cursor) (v : Value) → (t : Tree) × IsOfTree v t × Gave (tree_at room old) t old new → ReadsOrOpens room old new (Ok (start.Scalar v))
-scalar_begun room old new v (t, is, g) = record {
-  begun = record { reads = ap as_datum g.reads ∙ ap (λ x. got x new.unread) (sym is); taken = g.taken; took = g.took };
-  refused = tt;
-  same_text = tt;
-  shorter = value_shorter room old.unread new.unread tt (ap forget g.reads);
-}
-
-pub scalar_not_begun : (room : ℕ) (old new : Cursor) (e : Error) → BlamesOrMemory old.input (tree_at room old) e → SameText old new → ReadsOrOpens room old new (Err e)
-scalar_not_begun room old new e b g = record { begun = tt; refused = or_blames old.input old.input (tree_at room old) (datum_at room old) e (datum_blamed room old e) b; same_text = g; shorter = tt }
-
-pub bracket_begun : (room : ℕ) (old new : Cursor) (f : OpenBracket) → OpenedAt room f old new → ReadsOrOpens room old new (Ok (start.Bracket f))
-bracket_begun room old new f o = record { begun = o; refused = tt; same_text = tt; shorter = let k = o.sign in omega (arith, ap length k) }
-
-pub bracket_not_begun : (room : ℕ) (old new : Cursor) (e : Error) → Blames old.input (value_at room old) e → SameText old new → ReadsOrOpens room old new (Err e)
-bracket_not_begun room old new e b g = record { begun = tt; refused = inr (datum_blamed room old e (tree_blamed room old e b)); same_text = g; shorter = tt }
-
--- ---- the first turn of a value
-
--- how many brackets may be open in it
-pub room_left : (room : ℕ) (stack : Vec Unfinished Global) (count left : ℕ) → count ≡ vec_len stack → left ≡ room - count → left ≡ room - length stack.items
-room_left room stack count left is less = let same = stack.ok in omega (arith, is, less, same)
-
-pub first_scalar : (room : ℕ) (fs after : List Unfinished) (old new : Cursor) (v : Value) → Gave (datum_at (room - length fs) old) (value_of v) old new → after ≡ fs → length new.unread < length old.unread → Turns room fs after old new (Ok (Some v))
-first_scalar room fs after old new v g same less = record {
-  goes = λ w h. subst (λ z. Building room w z (Some v) new) (sym same) (value_ended start_of value_in room old new w (datum_at (room - length fs) old) fs (value_of v) h g);
-  refused = tt;
-  same_text = g.took.same;
-  shorter = less;
-}
-
--- after its bracket m is left of it
-module _ (room : ℕ) (fs : List Unfinished) (f : OpenBracket) (m : ℕ → Read Datum) (old mid : Cursor) (ready : IsInside old) (o : OpenedAt (room - length fs) f old mid)
-    (reads : (d : ℕ) → as_datum (read (suc d) (opening (bracket_of f.kind) ∷ mid.unread)) ≡ placed (opening (bracket_of f.kind) ∷ mid.unread) (m d)) where
-  inside_of : (w : Read Datum) → Building room w fs None old → BuildingInside room w fs f.start m old.unread mid
-  inside_of w h =
-      let d = o.room_left in
-      let more : room - length fs ≡ suc (room - length fs - 1) = omega (arith, d) in
-      value_opened start_of value_in room old mid w (datum_at (room - length fs) old) (m (room - length fs - 1)) fs f.start h (ready_opened (room - length fs) f old mid ready o) o.counted o.same_text o.room_left
-      (ap (λ k. as_datum (read k old.unread)) more ∙ ap (λ z. as_datum (read (suc (room - length fs - 1)) z)) o.sign ∙ reads (room - length fs - 1) ∙ ap (λ z. placed z (m (room - length fs - 1))) (sym o.sign))
-
-  first_bracket : (after : List Unfinished) (new : Cursor) (result : Result (Option Value) Error) → length mid.unread < length old.unread → TurnsInside m f.start false fs after mid new result → Turns room fs after old new result
-  first_bracket after new (Ok ended) less t = record {
-    goes = λ w h. t.goes room w old.unread (inside_of w h);
-    refused = tt;
-    same_text = t.same_text ∙ o.same_text;
-    shorter = let k = t.no_longer in omega (arith, less, k);
-  }
-  first_bracket after new (Err e) less t = record { goes = tt; refused = by_cause t.refused; same_text = t.same_text ∙ o.same_text; shorter = tt }
-    where
-      by_cause : IsOutOfMemory e ⊎ ((room : ℕ) (w : Read Datum) (q : List ℕ) → BuildingInside room w fs f.start m q mid → Blames mid.input w e) → IsOutOfMemory e ⊎ ((w : Read Datum) → Building room w fs None old → Blames old.input w e)
-      by_cause (inl memory) = inl memory
-      by_cause (inr k) = inr (λ w h. subst (λ z. Blames z w e) o.same_text (k room w old.unread (inside_of w h)))
-
--- an array or an object without a member so far is what stands after its bracket
-pub array_begun : (room : ℕ) (fs after : List Unfinished) (f : OpenBracket) (elements : Vec Value Global) (old mid new : Cursor) (result : Result (Option Value) Error) → IsInside old → OpenedAt (room - length fs) f old mid → f.kind ≡ bracket.Array → elements.items ≡ []
-    → length mid.unread < length old.unread → TurnsInside (array_at elements.items false mid) f.start false fs after mid new result → Turns room fs after old new result
-array_begun room fs after f elements old mid new result ready o is none less t =
-    first_bracket room fs f (array_at elements.items false mid) old mid ready o
-    (subst (λ vs. (d : ℕ) → as_datum (read (suc d) (opening (bracket_of f.kind) ∷ mid.unread)) ≡ placed (opening (bracket_of f.kind) ∷ mid.unread) (array_at vs false mid d)) (sym none)
-    (subst (λ k. (d : ℕ) → as_datum (read (suc d) (opening (bracket_of k) ∷ mid.unread)) ≡ placed (opening (bracket_of k) ∷ mid.unread) (array_at [] false mid d)) (sym is) (λ d. array_opened d mid.unread)))
-    after new result less t
-
-pub object_begun : (room : ℕ) (fs after : List Unfinished) (f : OpenBracket) (members : Vec (String Global × Value) Global) (old mid new : Cursor) (result : Result (Option Value) Error) → IsInside old → OpenedAt (room - length fs) f old mid → f.kind ≡ bracket.Object
-    → members.items ≡ [] → length mid.unread < length old.unread → TurnsInside (object_at members.items false mid) f.start false fs after mid new result → Turns room fs after old new result
-object_begun room fs after f members old mid new result ready o is none less t =
-    first_bracket room fs f (object_at members.items false mid) old mid ready o
-    (subst (λ vs. (d : ℕ) → as_datum (read (suc d) (opening (bracket_of f.kind) ∷ mid.unread)) ≡ placed (opening (bracket_of f.kind) ∷ mid.unread) (object_at vs false mid d)) (sym none)
-    (subst (λ k. (d : ℕ) → as_datum (read (suc d) (opening (bracket_of k) ∷ mid.unread)) ≡ placed (opening (bracket_of k) ∷ mid.unread) (object_at [] false mid d)) (sym is) (λ d. object_opened d mid.unread)))
-    after new result less t
-
--- the value is refused before a bracket of it is open
-pub first_refused : (room : ℕ) (fs after : List Unfinished) (old new : Cursor) (own e : Error) → BlamesOrMemory old.input (datum_at (room - length fs) old) own → SameText old new → PlacedIn new.input fs own e → Turns room fs after old new (Err e)
-first_refused room fs after old new own e b g k = record { goes = tt; refused = by_cause b (subst (λ z. PlacedIn z fs own e) g k); same_text = g; shorter = tt }
-  where
-    by_cause : BlamesOrMemory old.input (datum_at (room - length fs) old) own → PlacedIn old.input fs own e → IsOutOfMemory e ⊎ ((w : Read Datum) → Building room w fs None old → Blames old.input w e)
-    by_cause (inl memory) (inl (none, same)) = inl (ap kind_of same ∙ memory)
-    by_cause (inl memory) (inr (gs, f, is, p)) = inl (p.kind ∙ memory)
-    by_cause (inr b) (inl (none, same)) = inr (λ w h. whole_blamed start_of value_in room old w (datum_at (room - length fs) old) fs e h none (subst (λ z. Blames old.input (datum_at (room - length fs) old) z) (sym same) b))
-    by_cause (inr b) (inr (gs, f, is, p)) = inr (λ w h. innermost_blamed start_of value_in room old w (datum_at (room - length fs) old) fs gs f own e h is b p)
-
--- ---- the whole
-
--- the value itself ended
-pub value_read : (room : ℕ) (old now : Cursor) (fs : List Unfinished) (v : Value) → fs ≡ [] → SameText old now → Building room (datum_at room old) fs (Some v) now → ReadsDatum room old now (Ok v)
-value_read room old now fs v none same h =
-    let reads : datum_at room old ≡ got (value_of v) now.unread = subst (λ gs. Nested start_of value_in now.input room gs (got (value_of v) now.unread) (datum_at room old)) none h.nested in
-    let (t, is, view) = datum_got (read room old.unread) (value_of v) now.unread reads in
-    let k = read_sound room old.unread now.unread t is in
-    record { given = record { reads = reads; taken = k.0; took = record { split = k.1; same = same } }; refused = tt; same_text = same }
-
--- what stands round a value that ended
-pub ended_inside : (room : ℕ) (w : Read Datum) (now : Cursor) (gs fs : List Unfinished) (f : Unfinished) (v : Value) → gs ≡ fs ++ f ∷ [] → Building room w gs (Some v) now → (q : List ℕ) × BuildingInside room w fs (start_of f) (value_in_at f v now) q now
-ended_inside room w now gs fs f v is h = ends_inside start_of value_in room now w gs fs f (value_of v) is h
-
-pub member_not_read : (room : ℕ) (old now new : Cursor) (fs : List Unfinished) (at : ℕ) (m : ℕ → Read Datum) (q : List ℕ) (e : Error) → BuildingInside room (datum_at room old) fs at m q now → SameText old now
-    → IsOutOfMemory e ⊎ ((room : ℕ) (w : Read Datum) (q : List ℕ) → BuildingInside room w fs at m q now → Blames now.input w e) → SameText now new → ReadsDatum room old new (Err e)
-member_not_read room old now new fs at m q e h same b g = record { given = tt; refused = by_cause b; same_text = g ∙ same }
-  where
-    by_cause : IsOutOfMemory e ⊎ ((room : ℕ) (w : Read Datum) (q : List ℕ) → BuildingInside room w fs at m q now → Blames now.input w e) → BlamesOrMemory old.input (datum_at room old) e
-    by_cause (inl memory) = inl memory
-    by_cause (inr k) = inr (subst (λ z. Blames z (datum_at room old) e) same (k room (datum_at room old) q h))

@@ -12,4 +12,7 @@ pub mod Shorter
 pub mod SkipTurns
 pub mod BuildRests
 pub mod BuildSteps
+pub mod BuildKeys
+pub mod BuildScalars
 pub mod BuildTurns
+pub mod BuildValues

@@ -1,5 +1,5 @@
 -- Steps that keep what they read: a key, a value that is no collection.
-use Rattle.std.specs.Prelude.{◌≡◌, ◌⊎◌, ℕ, ◌<◌, Bool, true, false, cond, List, length, Option, Some, None, Result, IfOk, IfErr, OnErr, String, string_bytes}
+use Rattle.std.specs.Prelude.{◌≡◌, ◌⊎◌, ℕ, ◌<◌, Bool, true, false, cond, List, length, Option, Some, None, Result, MatchResult, IfOk, IfErr, OnErr, String, string_bytes}
 use Rattle.std.specs.declared.alloc.Global.{Global}
 use Rattle.std.specs.Str.{chars, encode_utf8_all}
 use Rattle.json5_grammar.specs.Fronts.{of_object}
@@ -11,6 +11,7 @@ use Rattle.json5_text.specs.declared.error.Error.{Error}
 use Rattle.json5_text.specs.declared.key_text.KeyText.{KeyText}
 use Rattle.json5_text.specs.declared.value.Value.{Value}
 use Rattle.json5_text.specs.Cursor.{Cursor, IsOutOfMemory}
+use Rattle.json5_text.specs.Errors.{LacksMemory}
 use Rattle.json5_text.specs.Keys.{KeyIs}
 use Rattle.json5_text.specs.ValueViews.{Datum, value_of}
 use Rattle.json5_text.specs.ValueViews as datum
@@ -33,6 +34,10 @@ pub record Keeps {V A : Type 0} (Is : V → A → Type 0) (reading : Read A) (ol
   pub same_text : OnErr result (SameText old new)
 
 -- ---- keys
+
+-- the text of a key in memory of its own, or memory ran out
+abbrev pub OwnsKey : List ℕ → KeyText → Result (String Global) Error → Type 0
+OwnsKey input key result = (u : List ℕ) (plain : Bool) → KeyIs input u plain key → MatchResult result (λ t. string_bytes t ≡ encode_utf8_all u) LacksMemory
 
 -- a key that was found, or its text
 abbrev pub IsFoundKey : List ℕ → KeyText → List ℕ × Bool → Type 0

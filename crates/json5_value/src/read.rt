@@ -117,7 +117,11 @@ fn resume_object<I: Input>(
 {
     match next_member_key(scanner, due) {
         Ok(Some(key)) => {
-            stack.push(Unfinished::Object { start, members, key })?;
+            stack.push(Unfinished::Object {
+                start,
+                members,
+                key,
+            })?;
             Ok(None)
         }
         Ok(None) => Ok(Some(Value::Object(members))),

@@ -1,14 +1,11 @@
 //! Keys and values of one token, which are kept.
 
-ghost use Rattle.std.specs.Prelude.{◌≡◌, ℕ, Bool, List, MatchResult, string_bytes};
-ghost use Rattle.std.specs.Str.{encode_utf8_all};
+ghost use Rattle.std.specs.Prelude.{◌≡◌};
 ghost use Rattle.json5_grammar.specs.ReadTexts.{key};
-ghost use Rattle.json5_text.specs.Errors.{LacksMemory};
-ghost use Rattle.json5_text.specs.Keys.{KeyIs};
 ghost use Rattle.json5_text.specs.NumberViews.{number_of};
 ghost use Rattle.json5_text.specs.ValueViews as datum;
 ghost use Rattle.json5_text.specs.ValueViews.{value_of};
-ghost use Rattle.json5_value.specs.Keeping.{Keeps, IsKeyText, IsNextKey, ReadsScalar, datum_of_literal, next_key};
+ghost use Rattle.json5_value.specs.Keeping.{Keeps, OwnsKey, IsKeyText, IsNextKey, ReadsScalar, datum_of_literal, next_key};
 ghost use Rattle.json5_value.specs.Opening.{AtScalar};
 ghost use Rattle.json5_value.specs.Steps.{IsInside};
 
@@ -26,7 +23,7 @@ use json5_text::value::Value;
 
 /// The text of a key that the scanner took, in memory of its own.
 pub fn key_owned<I: Input>(scanner: &Scanner<I>, key: KeyText) -> Result<String>
-    ensures { (u : List ℕ) (plain : Bool) → KeyIs scanner.now.input u plain key → MatchResult result (λ t. string_bytes t ≡ encode_utf8_all u) LacksMemory }
+    ensures { OwnsKey scanner.now.input key result }
 {
     if let KeyText::Escaped(text) = key {
         return Ok(text);

@@ -1,5 +1,5 @@
 use Rattle.std.proofs.lemmas.Result.{err_from_is_err_and}
-use Rattle.json5_value.proofs.BuildTurns.{nothing_left, scalar_begun, scalar_not_begun}
+use Rattle.json5_value.proofs.BuildScalars.{nothing_left, scalar_begun, scalar_not_begun}
 use Rattle.json5_value.proofs.read.read_or_open.Goals as goal
 
 pub returns-in_default : goal.returns-in_default

@@ -1,5 +1,5 @@
 use Rattle.std.proofs.lemmas.Result.{err_from_is_err_and}
-use Rattle.json5_value.proofs.BuildSteps.{entry_refused, brace_closed, next_key_refused, next_colon_refused, next_key_taken}
+use Rattle.json5_value.proofs.BuildKeys.{entry_refused, brace_closed, next_key_refused, next_colon_refused, next_key_taken}
 use Rattle.json5_value.proofs.Steps.{ready_next}
 use Rattle.json5_value.proofs.tokens.next_member_key.Goals as goal
 

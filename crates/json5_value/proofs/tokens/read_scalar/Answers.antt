@@ -1,11 +1,9 @@
-use Rattle.std.proofs.Common.{refl, Ok, Err, string_bytes}
-use Rattle.std.specs.Str.{chars}
+use Rattle.std.proofs.Common.{refl, Err}
 use Rattle.std.proofs.lemmas.Result.{err_from_is_err_and}
 use Rattle.json5_grammar.specs.Trees as trees
-use Rattle.json5_grammar.specs.Values.{is_number, is_text}
+use Rattle.json5_grammar.specs.Values.{is_number}
 use Rattle.json5_text.specs.NumberViews.{number_of}
-use Rattle.json5_text.specs.declared.value.Value as value
-use Rattle.json5_value.proofs.BuildSteps.{scalar_taken, scalar_refused, literal_taken, text_taken, text_refused, number_refused}
+use Rattle.json5_value.proofs.BuildScalars.{scalar_taken, scalar_refused, literal_taken, text_taken, text_refused, number_refused}
 use Rattle.json5_value.proofs.Scalars.{literal_value, other_value}
 use Rattle.json5_value.proofs.tokens.read_scalar.Goals as goal
 
