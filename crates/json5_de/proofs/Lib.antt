@@ -28,16 +28,8 @@ pub mod Required
 pub mod ListFaults
 pub mod Loops
 pub mod Own
-pub mod PassingSteps
-pub mod PassingMembers
-pub mod PassingValues
-pub mod Nesting
-pub mod PassingBrackets
 pub mod TreeFaults
-pub mod PassingTrees
-pub mod BuildingSteps
-pub mod BuildingRests
-pub mod BuildingTurns
+pub mod TreesRead
 pub mod TreeCodes
 pub mod BytesDecoded
 pub mod Pairs

@@ -1,15 +1,11 @@
 -- Offsets in bytes, and the places that they name.
-use Rattle.std.proofs.Common.{◌≡◌, ℕ, ◌+◌, ◌-◌, ◌≤◌, true, cond, eqb, List, [], ◌∷◌, ◌++◌, length, refl, ap, sym, ◌∙◌, arith}
+use Rattle.std.proofs.Common.{◌≡◌, ℕ, ◌+◌, ◌-◌, true, List, ◌++◌, length, ap, sym, ◌∙◌, arith}
 use Rattle.std.specs.Str.{all_scalars, encode_utf8_all}
 use Rattle.std.proofs.lemmas.List.{length-append}
-use Rattle.std.proofs.lemmas.Bool.Decides.{nat_tests}
-use Rattle.std.proofs.lemmas.Str.{encodes-append, length-le-encodes}
-use Rattle.json5_grammar.specs.declared.position.Position.{Position}
-use Rattle.json5_grammar.specs.Positions.{position_after}
+use Rattle.std.proofs.lemmas.Str.{encodes-append}
 use Rattle.json5_text.specs.Cursor.{Cursor, offset_of}
 use Rattle.json5_de.specs.State.{State}
-use Rattle.json5_de.specs.Access.{StartsAfter}
-use Rattle.json5_de.specs.Options.{PlacedAt}
+use Rattle.json5_value.specs.Places.{PlacedAt}
 use Rattle.json5_text.specs.declared.error.Error.{Error}
 use Rattle.json5_de.specs.Steps.{IsCount}
 use Rattle.json5_text.specs.Cursor.{IsOffset}
@@ -39,27 +35,6 @@ is_count s cursor offset same_input same_unread counted (before, split) scalars 
       suffix = (before, sym same_input ∙ split ∙ ap (λ z. before ++ z) same_unread);
       scalars = ap all_scalars (sym same_unread) ∙ scalars;
     }
-
--- ---- what stands before an offset
-
--- the characters of a text that so many bytes hold
-abbrev before_offset : ℕ → List ℕ → List ℕ
-before_offset n [] = []
-before_offset n (c ∷ x) = cond (eqb n 0) [] (c ∷ before_offset (n - length (encode_utf8_all (c ∷ []))) x)
-
-one_first : (n : ℕ) (c : ℕ) (x y : List ℕ) (k : ℕ) → 1 ≤ k → n ≡ k + length (encode_utf8_all y) → before_offset (n - k) x ≡ y → cond (eqb n 0) [] (c ∷ before_offset (n - k) x) ≡ c ∷ y
-one_first n c x y k some counted same = grind (arith, nat_tests)
-
-stands_before : (n : ℕ) (before rest : List ℕ) → n ≡ length (encode_utf8_all before) → before_offset n (before ++ rest) ≡ before
-stands_before n [] [] counted = refl
-stands_before n [] (c ∷ rest) counted = rw counted refl
-stands_before n (c ∷ before) rest counted =
-    let split : n ≡ length (encode_utf8_all (c ∷ [])) + length (encode_utf8_all before) = counted ∙ bytes_apart (c ∷ []) before in
-    one_first n c (before ++ rest) before (length (encode_utf8_all (c ∷ []))) (length-le-encodes (c ∷ [])) split (stands_before (n - length (encode_utf8_all (c ∷ []))) before rest (omega (arith, split)))
-
--- there is a place that each text of so many bytes stands before
-pub some_place : (input : List ℕ) (offset : ℕ) → (there : Position) × ((before : List ℕ) → StartsAfter input offset before → there ≡ position_after before)
-some_place input offset = (position_after (before_offset offset input), λ before s. ap position_after (ap (before_offset offset) s.split ∙ stands_before offset before s.rest s.counted))
 
 -- a place that each of other texts stands before as well
 pub placed_where : {IsBefore OtherBefore : List ℕ → Type 0} {own e : Error} → ((before : List ℕ) → OtherBefore before → IsBefore before) → PlacedAt IsBefore own e → PlacedAt OtherBefore own e

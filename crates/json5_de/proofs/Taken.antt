@@ -6,7 +6,6 @@ use Rattle.json5_grammar.specs.Blanks.{Blanks, Gap}
 use Rattle.json5_grammar.specs.Positions.{position_after}
 use Rattle.json5_grammar.specs.Trees.{Tree, depth}
 use Rattle.json5_grammar.specs.Values.{Val, Stops, null_text, true_text, false_text}
-use Rattle.std.specs.Str.{chars}
 use Rattle.std.specs.Prelude.{◌==◌, slice_get, if◌then◌else◌}
 use Rattle.std.specs.Option.{option_eq}
 use Rattle.json5_grammar.specs.declared.code.ErrorCode.TheVariants as codes_of
@@ -76,18 +75,6 @@ true_stops (c ∷ r) = refl
 pub false_stops : (r : List ℕ) → Stops false_text r
 false_stops [] = tt
 false_stops (c ∷ r) = refl
-
-pub chars_null : chars null_text ≡ null_text
-unfolding chars
-chars_null = refl
-
-pub chars_true : chars true_text ≡ true_text
-unfolding chars
-chars_true = refl
-
-pub chars_false : chars false_text ≡ false_text
-unfolding chars
-chars_false = refl
 
 first_is : (c : ℕ) (x : List ℕ) → option_eq ◌==◌ (slice_get x 0) (Some c) ≡ begins_with c x
 first_is c [] = refl

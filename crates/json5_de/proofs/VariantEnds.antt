@@ -1,16 +1,17 @@
 -- The content of a variant that is read through an access: how it is opened and closed.
-use Rattle.std.proofs.Common.{◌≡◌, ℕ, Bool, true, false, refl, sym, ◌∙◌, subst, Some, None, Result, Ok, Err}
+use Rattle.std.proofs.Common.{◌≡◌, ℕ, Bool, true, false, refl, sym, ◌∙◌, subst, None, Result, Ok, Err}
 use Rattle.json5_grammar.specs.Trees.{array, object, no_pair}
 use Rattle.json5_grammar.specs.Members.{IsBrace}
 use Rattle.json5_grammar.proofs.Basics.{true_false}
 use Rattle.json5_grammar.proofs.MembersPassed.{one_end}
 use Rattle.json5_text.specs.declared.error.Error.{Error}
+use Rattle.json5_value.specs.Places.{StartsAfter, PlacedAt}
 use Rattle.json5_de.specs.State.{State, GivesUp}
 use Rattle.json5_de.specs.Steps.{IsMismatch}
-use Rattle.json5_de.specs.declared.brackets.Brackets.{Brackets}
-use Rattle.json5_de.specs.Brackets.{AreSigns, square, curly}
-use Rattle.json5_de.specs.Access.{Seen, IsStart, Opened, OpensAs, ClosesArray, StartsAfter}
-use Rattle.json5_de.specs.Options.{PlacedAt}
+use Rattle.json5_value.specs.declared.brackets.Brackets.{Brackets}
+use Rattle.json5_de.specs.Brackets.{AreSigns}
+use Rattle.json5_value.specs.Brackets.{square, curly}
+use Rattle.json5_de.specs.Access.{Seen, IsStart, Opened, OpensAs, ClosesArray}
 use Rattle.json5_de.specs.Objects.{SeenMap, ClosesMap, LeftAfter}
 use Rattle.json5_de.specs.Enums.{SeenEnum, no_content, in_content, ClosesLast, ClosesContent, not_ended, brace_open, ClosesTuple, ClosesStruct, EndsArray, EndsObject, OpensContent, OpensTuple, OpensStruct}
 use Rattle.json5_de.proofs.Arrays.{failed_of}
@@ -69,7 +70,7 @@ module _ (b : Brackets) (signs : AreSigns b) (due : Bool) (brace : ℕ) (old : S
   content_not_ended new own e k placed = record {
     closed = tt;
     complete = λ x r live end close. let ok = k.closes.complete x live end in absurd (cc);
-    refused = not_ended own k.closes.refused (subst (λ x. PlacedAt (StartsAfter x brace) own e) k.same_text placed);
+    refused = not_ended own k.closes.refused (subst (λ z. PlacedAt (StartsAfter z brace) own e) k.same_text placed);
     unprompted = λ live h. k.closes.unprompted live (sym placed.kind ∙ h);
     same_text = k.same_text;
     failed = k.failed;
@@ -112,7 +113,7 @@ module _ (b : Brackets) (old : SeenEnum) where
     opened = tt;
     start = tt;
     complete = λ r h live sign room. let ok = o.complete r live sign room in absurd (cc);
-    refused = in_content own new has o.refused (subst (λ x. PlacedAt (StartsAfter x old.start) own e) failed.same_text placed);
+    refused = in_content own new has o.refused (subst (λ z. PlacedAt (StartsAfter z old.start) own e) failed.same_text placed);
     unprompted = λ live h. o.unprompted live (sym placed.kind ∙ h);
   }
 

@@ -22,7 +22,7 @@ use Rattle.json5_grammar.proofs.MembersPairs.{opening_brace_solid, colon_solid, 
 use Rattle.json5_grammar.proofs.Unique.{one_phrase}
 use Rattle.json5_text.specs.declared.error.Error.{Error}
 use Rattle.json5_text.specs.Cursor.{Refused, IsOutOfMemory}
-use Rattle.json5_de.proofs.Offsets.{placed_where}
+use Rattle.json5_value.specs.Places.{StartsAfter, PlacedAt}
 use Rattle.json5_text.specs.Tokens.{FaultyBlanks}
 use Rattle.json5_de.specs.State.{State, SameText, GivesUp, cursor_of}
 use Rattle.json5_de.specs.Law.{TookValue, IsUnprompted, Unprompted}
@@ -30,9 +30,9 @@ use Rattle.json5_de.specs.Steps.{PassedGap}
 use Rattle.json5_de.specs.Convert.{as_text, place_among}
 use Rattle.json5_de.specs.ConvertLists.{if_some}
 use Rattle.json5_de.specs.Faults.{RefusedBy, AtEnd, AtOther, IsUnplaced}
-use Rattle.json5_de.specs.Brackets.{curly}
-use Rattle.json5_de.specs.Access.{Seen, StartsAfter, OpensAs, NotOpened, Closed, Unexpected, at_end, at_char}
-use Rattle.json5_de.specs.Options.{PlacedAt}
+use Rattle.json5_value.specs.Brackets.{curly}
+use Rattle.json5_de.specs.Access.{Seen, OpensAs, NotOpened, Closed}
+use Rattle.json5_value.specs.Steps.{Unexpected, at_end, at_char}
 use Rattle.json5_de.specs.Rows.{ReadsAs, variant_row}
 use Rattle.json5_de.specs.Keys.{TookKey, GivesKey}
 use Rattle.json5_de.specs.KeyRows.{ReadsKeyAs, variant_key}
@@ -43,7 +43,7 @@ use Rattle.json5_de.proofs.Arrays.{only_read, level_of, failed_of, sign_next, af
 use Rattle.json5_de.proofs.Elements.{still_live, same_level}
 use Rattle.json5_de.proofs.Expected.{Expected, end_fault, other_fault}
 use Rattle.json5_de.proofs.Options.{end_next, value_next, value_no_end, took_after}
-use Rattle.json5_de.proofs.OtherCodes.{Lacks}
+use Rattle.json5_value.proofs.OtherCodes.{Lacks}
 use Rattle.json5_de.proofs.PairCodes.{value_read, key_there, no_key_begun, pair_key_found}
 use Rattle.json5_de.proofs.Pairs.{pair_read, all_read, key_read, opens_map, refuses_map}
 use Rattle.json5_de.proofs.Places.{refused_as}
@@ -403,7 +403,12 @@ only_key_refused names old inside new start o own e k placed =
         opened = opened;
         own = own;
         cause = k.refused live;
-        placed = placed_where (λ before split. record { rest = 123 ∷ inside.unread; split = k.failed.same_text ∙ split; counted = o.start before (sym (input_of opened.rest) ∙ split) }) placed;
+        placed = record {
+          kind = placed.kind;
+          there = placed.there;
+          place = placed.place;
+          is_there = λ before split. placed.is_there before (record { rest = 123 ∷ inside.unread; split = k.failed.same_text ∙ split; counted = o.start before (sym (input_of opened.rest) ∙ split) });
+        };
       });
       unprompted = λ alive h. k.unprompted live (sym placed.kind ∙ h);
       failed = record { failed = k.failed.failed; same_text = k.failed.same_text ∙ input_of opened.rest };

@@ -7,9 +7,9 @@ use Rattle.std.specs.Result.{result_ok}
 use Rattle.std.specs.Str.{bytes_eq, encode_utf8_all}
 use Rattle.hex.specs.Hex.{decode_of}
 use Rattle.json5_grammar.specs.Numbers.{Number, Decimal, whole, decimal, finite, without_zeros, normal_exponent}
-use Rattle.json5_grammar.specs.Trees.{Tree, Trees, Pairs, null, boolean, number, text, array, object, no_more, more, no_pair, pair}
-use Rattle.json5_text.specs.ValueViews.{Datum, Items, Fields, no_item, item, no_field, field}
-use Rattle.json5_text.specs.ValueViews as datum
+use Rattle.json5_grammar.specs.Trees.{Tree, null, boolean, number, text}
+use Rattle.json5_text.specs.ValueViews.{Datum}
+pub use Rattle.json5_value.specs.Data.{datum_of, items_of, fields_of}
 
 -- null
 abbrev pub unit_of : Tree → Option (Unit {0})
@@ -121,24 +121,6 @@ abbrev pub byte_buf_of : Tree → Option (List ℕ)
 byte_buf_of = as_text digits_bytes
 
 -- ---- values of any kind
-
--- what a tree stands for, without the marks
-abbrev mutual
-  pub datum_of : Tree → Datum
-  datum_of null = datum.null
-  datum_of (boolean b) = datum.boolean b
-  datum_of (number n) = datum.number n
-  datum_of (text u plain) = datum.text u
-  datum_of (array ts) = datum.array (items_of ts)
-  datum_of (object ps) = datum.object (fields_of ps)
-
-  pub items_of : Trees → Items
-  items_of no_more = no_item
-  items_of (more t ts) = item (datum_of t) (items_of ts)
-
-  pub fields_of : Pairs → Fields
-  fields_of no_pair = no_field
-  fields_of (pair u plain t ps) = field u (datum_of t) (fields_of ps)
 
 abbrev pub every_datum : Tree → Option Datum
 every_datum t = Some (datum_of t)

@@ -1,5 +1,5 @@
 -- What contracts see of a reader.
-use Rattle.std.specs.Prelude.{◌≡◌, ℕ, ◌-◌, List, Bool, true, false, Option, Result, slice_get, IsErrAnd}
+use Rattle.std.specs.Prelude.{◌≡◌, ℕ, ◌-◌, List, Bool, true, false, Option, Result, slice_get, OnOk, OnErr, IsErrAnd}
 use Rattle.json5_grammar.specs.Documents.{max_depth}
 use Rattle.json5_text.specs.declared.error.Error.{Error}
 use Rattle.json5_text.specs.Cursor.{Cursor}
@@ -34,6 +34,12 @@ SameText old new = new.input ≡ old.input
 pub record GivesUp (old new : State) : Type 0 where
   pub failed : new.failed ≡ true
   pub same_text : SameText old new
+
+-- the reader's scanner is called: nothing else changes where the call succeeds, and the reader has failed where it refuses
+pub record Calls {A : Type 0} (IsCall : Cursor → Cursor → Result A Error → Type 0) (old new : State) (result : Result A Error) : Type 0 where
+  pub call : IsCall (cursor_of old) (cursor_of new) result
+  pub read : OnOk result (OnlyRead old new)
+  pub failed : OnErr result (GivesUp old new)
 
 -- it refuses with such a fault, and has failed
 pub record GivesUpWith {V : Type 0} (IsFault : Error → Type 0) (old new : State) (result : Result V Error) : Type 0 where

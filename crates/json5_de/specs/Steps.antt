@@ -7,7 +7,6 @@ use Rattle.json5_grammar.specs.Characters.{NotBegun}
 use Rattle.json5_grammar.specs.declared.code.ErrorCode.{ErrorCode}
 use Rattle.json5_grammar.specs.declared.code.ErrorCode.TheVariants.{InvalidBytes}
 use Rattle.json5_grammar.specs.Stops.{lengthens}
-use Rattle.json5_grammar.specs.Names.{Ident, goes_on_name}
 use Rattle.json5_grammar.specs.Strings.{Str}
 use Rattle.json5_text.specs.declared.cow_str.CowStr.{CowStr}
 use Rattle.json5_text.specs.declared.number.Number as token
@@ -19,7 +18,7 @@ use Rattle.json5_text.specs.Errors.{LacksMemory, place_of}
 use Rattle.json5_text.specs.Cursor.{Says, Refused, IsOffset}
 use Rattle.json5_grammar.specs.Blanks.{Gap, Solid}
 use Rattle.json5_grammar.specs.Documents.{max_depth}
-use Rattle.json5_grammar.specs.Numbers.{Number, Num, whole}
+use Rattle.json5_grammar.specs.Numbers.{Num, whole}
 use Rattle.json5_grammar.specs.Values.{Stops}
 use Rattle.json5_de.specs.State.{State, OnlyRead, cursor_of}
 use Rattle.json5_de.specs.Faults.{FaultRelation}
@@ -54,16 +53,6 @@ TookCow old new t = (s u : List ℕ) × (plain : Bool) × TookText old s new × 
 -- the same, by the characters of its text
 abbrev pub TookCharacters : {A : Type 0} → State → State → String A → Type 0
 TookCharacters old new t = (s : List ℕ) × (plain : Bool) × TookText old s new × Str s (chars (string_bytes t)) plain
-
--- a string, a name or a number was taken, and nothing is kept of it
-abbrev pub PassedString : State → State → Type 0
-PassedString old new = (s u : List ℕ) × (plain : Bool) × TookText old s new × Str s u plain
-
-abbrev pub PassedName : State → State → Type 0
-PassedName old new = (s u : List ℕ) × (plain : Bool) × TookText old s new × Ident s u plain × (c : ℕ) × (r : List ℕ) × (new.unread ≡ c ∷ r) × (goes_on_name c ≡ false)
-
-abbrev pub PassedNumber : State → State → Type 0
-PassedNumber old new = (s : List ℕ) × (n : Number) × TookText old s new × Num s n × NotBegun (lengthens s) new.unread
 
 -- the token in front is refused with one of its faults, or memory ran out
 abbrev pub RefusesToken : FaultRelation → State → Error → Type 0

@@ -1,8 +1,8 @@
 -- What the reader's calls for one token mean: it is taken, or refused with one of its faults, and then the reader has failed.
-use Rattle.std.specs.Prelude.{◌≡◌, ℕ, Bool, true, false, List, ◌∷◌, ◌++◌, String, Result, IfOk, IfErr, OnOk, OnErr, IsOk}
+use Rattle.std.specs.Prelude.{◌≡◌, ℕ, Bool, true, false, List, ◌++◌, String, Result, IfOk, IfErr, OnOk, OnErr, IsOk}
 use Rattle.json5_grammar.specs.declared.code.ErrorCode.{ErrorCode}
 use Rattle.json5_grammar.specs.Characters.{NotBegun}
-use Rattle.json5_grammar.specs.Names.{Ident, Key, goes_on_name}
+use Rattle.json5_grammar.specs.Names.{Key}
 use Rattle.json5_grammar.specs.Numbers.{Number, Num}
 use Rattle.json5_grammar.specs.Stops.{lengthens}
 use Rattle.json5_grammar.specs.Strings.{Str}
@@ -13,11 +13,11 @@ use Rattle.json5_text.specs.declared.number.Number as token
 use Rattle.json5_text.specs.Cursor.{Refused}
 use Rattle.json5_text.specs.Errors.{LacksMemory}
 use Rattle.json5_text.specs.NumberViews.{keeps_digits}
-use Rattle.json5_text.specs.Tokens.{FaultyBlanks, FaultyWord, FaultyNumber, FaultyString, FaultyName, FaultyKey}
+use Rattle.json5_text.specs.Tokens.{FaultyBlanks, FaultyWord, FaultyNumber, FaultyString, FaultyKey}
 use Rattle.json5_de.specs.State.{State, GivesUp, cursor_of}
 use Rattle.json5_de.specs.Faults.{FaultRelation}
 use Rattle.json5_de.specs.Law.{StaysFailed, Unprompted}
-use Rattle.json5_de.specs.Steps.{PassedGap, TookText, TookNumber, TookOwned, TookCharacters, TookCow, PassedString, PassedName, PassedNumber, RefusesToken}
+use Rattle.json5_de.specs.Steps.{PassedGap, TookText, TookNumber, TookOwned, TookCharacters, TookCow, RefusesToken}
 use Rattle.json5_de.specs.KeySteps.{TookKeyText}
 
 -- blanks are passed over, where there was no refusal before
@@ -71,21 +71,3 @@ string = record { Took = TookCow; IsFault = FaultyString; Completes = λ x resul
 -- a key
 abbrev pub key : Token KeyText
 key = record { Took = TookKeyText; IsFault = FaultyKey; Completes = λ x result. (s u r : List ℕ) (plain : Bool) → x ≡ s ++ r → Key s r u plain → IfErr result LacksMemory }
-
--- a string, a name or a number of which nothing is kept; only a custom fault takes memory
-abbrev pub string_passed : Token (Unit {0})
-string_passed = record { Took = λ old new v. PassedString old new; IsFault = FaultyString; Completes = λ x result. (s u r : List ℕ) (plain : Bool) → x ≡ s ++ r → Str s u plain → IsOk result }
-
-abbrev pub name_passed : Token (Unit {0})
-name_passed = record {
-  Took = λ old new v. PassedName old new;
-  IsFault = FaultyName;
-  Completes = λ x result. (s u r : List ℕ) (c : ℕ) (plain : Bool) → x ≡ s ++ c ∷ r → Ident s u plain → goes_on_name c ≡ false → IsOk result;
-}
-
-abbrev pub number_passed : Token (Unit {0})
-number_passed = record {
-  Took = λ old new v. PassedNumber old new;
-  IsFault = FaultyNumber;
-  Completes = λ x result. (s r : List ℕ) (n : Number) → x ≡ s ++ r → Num s n → NotBegun (lengthens s) r → IsOk result;
-}

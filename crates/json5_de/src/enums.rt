@@ -8,13 +8,12 @@ ghost use Rattle.json5_grammar.specs.Members.{ReadsKey, IsBrace};
 ghost use Rattle.json5_de.specs.State.{GivesUp};
 ghost use Rattle.json5_de.specs.Convert.{spelled, place_among};
 ghost use Rattle.json5_de.specs.Faults.{IsUnplaced};
-ghost use Rattle.json5_de.specs.Brackets.{brackets_of};
+ghost use Rattle.json5_value.specs.Brackets.{brackets_of};
 ghost use Rattle.json5_de.specs.Access.{ClosesAs};
 ghost use Rattle.json5_de.specs.Rows.{RefusedAs, null_row, every_tree};
 ghost use Rattle.json5_de.specs.Enums.{NamesVariant, ReadsVariant, ReadsOnlyKey, ReadsKeyed, ReadsInBrace, ClosesLast, ClosesContent, OpensContent, OpensTuple, OpensStruct, content_of, unit_content, content_free, is_left_brace};
 ghost use Rattle.json5_grammar.specs.Strings.{is_quote};
 
-use crate::brackets::BracketKind;
 use crate::de::{Deserialize, Deserializer};
 use crate::map::MapAccess;
 use crate::mismatch::Mismatch;
@@ -23,6 +22,7 @@ use json5_text::ErrorCode;
 use json5_text::error::Result;
 use json5_text::input::Input;
 use json5_text::strings::is_quote;
+use json5_value::brackets::BracketKind;
 
 /// A variant whose name was read, and whose content is to be read: by one of the four calls that take the access. The reader answers
 /// `Failed` until then, and for good where the access is dropped or leaked.
@@ -78,7 +78,7 @@ impl<I: Input> Deserializer<I> {
         let start = self.open(BracketKind::Object)?;
         match self.only_key(variants) {
             Ok(variant) => Ok(variant),
-            Err(e) => Err(self.place_after(start, e)),
+            Err(e) => Err(self.place_at(start, e)),
         }
     }
 
@@ -179,7 +179,7 @@ impl<I: Input> Deserializer<I> {
     {
         match self.close_last(kind, due) {
             Ok(()) => self.close_last(BracketKind::Object, true),
-            Err(e) => Err(self.place_after(brace, e)),
+            Err(e) => Err(self.place_at(brace, e)),
         }
     }
 
@@ -194,7 +194,7 @@ impl<I: Input> Deserializer<I> {
         }
         match self.open(kind) {
             Ok(start) => Ok(start),
-            Err(e) => Err(self.place_after(name.start, e)),
+            Err(e) => Err(self.place_at(name.start, e)),
         }
     }
 
@@ -208,7 +208,7 @@ impl<I: Input> Deserializer<I> {
                 Ok(value)
             }
             Err(e) => {
-                let error = self.place_after(start, e);
+                let error = self.place_at(start, e);
                 self.refuse(error)
             }
         }

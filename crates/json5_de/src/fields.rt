@@ -10,8 +10,8 @@ ghost use Rattle.json5_de.specs.Plans.{PassesPair, ReadsPairs};
 ghost use Rattle.json5_de.specs.StructFaults.{RefusesPairs};
 ghost use Rattle.json5_de.specs.Lending.{seen_map, KeepsMap};
 
+use crate::any::IgnoredAny;
 use crate::de::Deserialize;
-use crate::ignored::IgnoredAny;
 use crate::map::MapAccess;
 use json5_text::ErrorCode;
 use json5_text::error::{Error, Result};

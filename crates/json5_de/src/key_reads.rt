@@ -1,11 +1,9 @@
 //! Reading of keys.
 
-ghost use Rattle.std.specs.Prelude.{◌≡◌, ℕ, Bool, List, string_bytes, MatchResult};
-ghost use Rattle.std.specs.Str.{encode_utf8_all};
+ghost use Rattle.std.specs.Prelude.{◌≡◌, string_bytes};
 ghost use Rattle.json5_text.specs.Bytes.{bytes_of};
 ghost use Rattle.json5_text.specs.Cows.{cow_bytes, is_borrowed};
-ghost use Rattle.json5_text.specs.Errors.{LacksMemory, kind_of};
-ghost use Rattle.json5_text.specs.Keys.{KeyIs};
+ghost use Rattle.json5_text.specs.Errors.{kind_of};
 ghost use Rattle.json5_de.specs.Convert.{spelled};
 ghost use Rattle.json5_de.specs.KeyRows.{ReadsKeyAs, string_key, char_key, plain_key, cow_key, variant_key, ignored_key, bytes_key, document_key};
 ghost use Rattle.json5_de.specs.KeySteps.{FindsKey, IsTextFault, is_out_of_memory};
@@ -47,17 +45,6 @@ impl<I: Input> Deserializer<I> {
         let start = self.offset();
         let text = self.key()?;
         Ok(FoundKey { start, text })
-    }
-
-    /// The text of a key in memory of its own.
-    pub(crate) fn own_key_text(&self, key: KeyText) -> Result<String>
-        ensures { (u : List ℕ) (plain : Bool) → KeyIs self.now.input u plain key → MatchResult result (λ t. string_bytes t ≡ encode_utf8_all u) LacksMemory }
-    {
-        if let KeyText::Escaped(text) = key {
-            return Ok(text);
-        }
-        let text = String::from_str(self.allocator(), self.key_text(&key))?;
-        Ok(text)
     }
 
     /// Reads a key as a text.

@@ -10,20 +10,21 @@ ghost use Rattle.json5_text.specs.Errors.{kind_of};
 ghost use Rattle.json5_de.specs.State.{GivesUp};
 ghost use Rattle.json5_de.specs.Law.{Steady};
 ghost use Rattle.json5_de.specs.Faults.{RefusedBy};
-ghost use Rattle.json5_de.specs.Brackets.{curly};
-ghost use Rattle.json5_de.specs.Access.{bare, StartsAfter, PlacedAtBracket, CompletesClose};
+ghost use Rattle.json5_value.specs.Brackets.{curly};
+ghost use Rattle.json5_de.specs.Access.{bare, PlacedAtBracket, CompletesClose};
+ghost use Rattle.json5_value.specs.Places.{StartsAfter};
 ghost use Rattle.json5_de.specs.Objects.{AfterColon, bare_map, OpensMap, GivesPairKey, GivesPairValue, CompletesPairKey, CompletesPairValue, ReadsPairKey, ReadsPairValue, PairsLeft, ReadsAKey, ReadsAPair, LeavesAValue, LeavesOthers};
 ghost use Rattle.json5_de.specs.Enums.{EndsObject};
 ghost use Rattle.json5_de.specs.ObjectFaults as faults;
 ghost use Rattle.json5_de.specs.ObjectFaults.{BeginsKey, GoesToKey, NoColon, NoKey, PlacedAtKey, is_unplaced, RefusesPairKey, RefusesPairValue, RefusesNextKey, RefusesNextValue};
 
-use crate::brackets::BracketKind;
 use crate::de::{Deserialize, Deserializer};
 use crate::key::DeserializeKey;
 use json5_text::char::is_json5_identifier_start;
 use json5_text::error::{Error, Result};
 use json5_text::input::Input;
 use json5_text::{ErrorCode, Position};
+use json5_value::brackets::BracketKind;
 
 /// The pairs of an object, one after another: a key, then its value. The reader answers `Failed` until `end`, and for good where
 /// the access is dropped or leaked before.
@@ -158,7 +159,7 @@ impl<I: Input> Deserializer<I> {
         if is_unplaced(&error) {
             error
         } else {
-            self.place_after(start, error)
+            self.place_at(start, error)
         }
     }
 
@@ -286,7 +287,7 @@ impl<'a, I: Input> MapAccess<'a, I> {
     pub fn place(&self, error: Error) -> Error
         ensures { PlacedAtBracket (seen_map self.now).at error result }
     {
-        self.de.place_after(self.start, error)
+        self.de.place_at(self.start, error)
     }
 
     /// The position of an offset in bytes, as that of a value which `Spanned` gives; the end's, where no character begins there.

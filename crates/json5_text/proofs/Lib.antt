@@ -4,6 +4,7 @@ pub mod NumberWritten
 pub mod NumberPieces
 pub mod ScanSteps
 pub mod ScanBytes
+pub mod TextScalars
 pub mod ScanFaults
 pub mod ScanTokens
 pub mod EscapesSpelled

@@ -8,7 +8,8 @@ use Rattle.json5_de.specs.Faults.{faulty_text}
 use Rattle.json5_de.specs.Rows.{no_tree, char_row}
 use Rattle.json5_de.proofs.Taken.{took_leaf, refused_or_memory}
 use Rattle.json5_de.proofs.ExpectsTexts.{text_stops}
-use Rattle.json5_de.proofs.TextScalars.{text_characters, same_character}
+use Rattle.json5_text.proofs.TextScalars.{text_characters}
+use Rattle.json5_de.proofs.TextScalars.{same_character}
 use Rattle.json5_de.proofs.Rows.{lawful_text, not_begun, refuses_value, not_text, reads_ok}
 use Rattle.json5_de.proofs.de.Deserializer.deserialize_char.Goals as goal
 

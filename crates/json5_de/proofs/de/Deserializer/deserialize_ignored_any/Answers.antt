@@ -1,7 +1,7 @@
 use Rattle.std.proofs.lemmas.Result.{err_from_is_err_and}
 use Rattle.json5_de.specs.AnyTree.{nothing, every_value}
 use Rattle.json5_de.specs.Rows.{every_tree}
-use Rattle.json5_de.proofs.PassingTrees.{ready_passed, tree_not_begun, tree_result}
+use Rattle.json5_de.proofs.TreesRead.{tree_not_begun, tree_result}
 use Rattle.json5_de.proofs.de.Deserializer.deserialize_ignored_any.Goals as goal
 
 pub returns-in_err-begin : goal.returns-in_err-begin
@@ -9,8 +9,5 @@ returns-in_err-begin g c =
     let (y, is, from) = err_from_is_err_and c.from_residual.result c.from_residual.ensures.1 in
     rw (is, from) (tree_not_begun nothing every_value every_tree c.args.self.now c.begin.new.self c.in_err-begin.field-0.0 c.in_err-begin.ensures.refused c.in_err-begin.ensures.failed c.in_err-begin.ensures.before c.in_err-begin.ensures.unprompted)
 
-pub pass_value-requires : goal.pass_value-requires
-pass_value-requires g c = ready_passed c.args.self.now c.begin.new.self c.in_ok-begin.ensures.passed c.offset-offset.ensures.suffix
-
 pub returns : goal.returns
-returns g c = tree_result c.args.self.now c.begin.new.self c.pass_value.new.self c.pass_value.result c.in_ok-begin.ensures.passed c.pass_value.ensures
+returns g c = tree_result c.args.self.now c.begin.new.self c.skip_value.new.self c.skip_value.result c.in_ok-begin.ensures.passed c.skip_value.ensures

@@ -4,7 +4,7 @@ use Rattle.json5_grammar.proofs.Basics.{true_false}
 use Rattle.json5_text.specs.Cursor.{IsOffset}
 use Rattle.json5_text.specs.Keys.{KeyIs}
 use Rattle.json5_de.proofs.Taken.{input_of, refused_blanks, refused_or_memory}
-use Rattle.json5_de.proofs.TextScalars.{key_scalars}
+use Rattle.json5_text.proofs.TextScalars.{key_scalars}
 use Rattle.json5_de.proofs.FoundKeys.{key_after, no_fault_before}
 use Rattle.json5_de.proofs.Rows.{given_up}
 use Rattle.json5_de.proofs.de.Deserializer.found_key.Goals as goal

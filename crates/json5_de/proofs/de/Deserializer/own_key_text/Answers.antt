@@ -1,5 +1,7 @@
-use Rattle.std.proofs.Common.{◌∙◌}
+use Rattle.std.proofs.Common.{ap, sym, subst}
+use Rattle.json5_text.specs.Keys.{KeyIs}
+use Rattle.json5_de.specs.State.{State}
 use Rattle.json5_de.proofs.de.Deserializer.own_key_text.Goals as goal
 
 pub returns : goal.returns
-returns g c u plain k = c.in_ok-text.ensures.ok ∙ c.key_text.ensures u plain k
+returns g c u plain k = c.key_owned.ensures u plain (subst (λ x. KeyIs x u plain c.args.key) (sym (ap (λ (s : State). s.input) c.self.view_is)) k)

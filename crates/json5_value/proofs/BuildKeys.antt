@@ -1,0 +1,184 @@
+-- The steps that keep a key.
+use Rattle.std.proofs.Common.{◌≡◌, ℕ, ◌<◌, length, Bool, true, false, cond, List, [], ◌∷◌, refl, ap, sym, ◌∙◌, subst, inl, inr, Option, Some, None, String}
+use Rattle.std.specs.Prelude.{◌==◌, slice_get, Result, Ok, Err, is_some, not}
+use Rattle.std.specs.declared.alloc.Global.{Global}
+use Rattle.std.specs.Str.{all_scalars, chars}
+use Rattle.std.proofs.lemmas.Str.{chars-encodes}
+use Rattle.json5_grammar.specs.declared.code.ErrorCode.{ErrorCode}
+use Rattle.json5_grammar.specs.declared.code.ErrorCode.TheVariants as codes
+use Rattle.json5_grammar.specs.Characters.{NotBegun}
+use Rattle.json5_grammar.specs.Fronts.{of_object, closing}
+use Rattle.json5_grammar.specs.Reading.{Read, inner, got, bad, and_then}
+use Rattle.json5_grammar.specs.ReadBlanks.{skip, between}
+use Rattle.json5_grammar.specs.ReadSteps.{colon_after, key_head, key_at, member_head, member_at, next_value, separator}
+use Rattle.json5_grammar.specs.ReadTexts.{key, string, identifier}
+use Rattle.json5_grammar.specs.Strings.{is_quote}
+use Rattle.json5_grammar.proofs.KeysRead.{key_complete}
+use Rattle.json5_grammar.proofs.Refusals.{Refuses}
+use Rattle.json5_text.specs.declared.error.Error.{Error}
+use Rattle.json5_text.specs.declared.key_text.KeyText.{KeyText}
+use Rattle.json5_text.specs.Cursor.{Cursor}
+use Rattle.json5_text.specs.Errors.{code, kind_of, place_of}
+use Rattle.json5_text.specs.Keys.{KeyIs}
+use Rattle.json5_text.specs.Takes.{TakesKey}
+use Rattle.json5_text.specs.Tokens.{FaultyKey, at_quote, at_name}
+use Rattle.json5_text.proofs.TextScalars.{key_scalars}
+use Rattle.json5_value.specs.Entries.{entry_front, entry_start, next_entry}
+use Rattle.json5_value.specs.Keeping.{BlamesOrMemory, Keeps, OwnsKey, IsFoundKey, IsKeyText, IsNextKey, next_key}
+use Rattle.json5_value.specs.Steps.{IsInside, SameText, Blames, Gave, RefusesToken}
+use Rattle.json5_value.proofs.EntryValues.{key_missing, key_string, key_name}
+use Rattle.json5_value.proofs.OtherCodes.{key_lacks}
+use Rattle.json5_value.proofs.Shorter.{next_shorter}
+use Rattle.json5_value.proofs.Steps.{same_of, none_next, some_next, blames_made, blames_refused}
+use Rattle.json5_value.proofs.TokenSteps.{string_fault_refuses, name_refuses}
+use Rattle.json5_value.proofs.BuildSteps.{takes_then, first_not_taken, taken_as, takes, not_taken, gave_text}
+
+-- ---- keys
+
+none_from : (o : Option ℕ) (b : Bool) → is_some o ≡ not b → b ≡ true → o ≡ None
+none_from None b e is = refl
+none_from (Some c) b e is = let clash : true ≡ false = e ∙ ap not is in absurd (cc)
+
+some_from : (o : Option ℕ) (b : Bool) → is_some o ≡ not b → b ≡ false → (c : ℕ) × (o ≡ Some c)
+some_from None b e is = let clash : false ≡ true = e ∙ ap not is in absurd (cc)
+some_from (Some c) b e is = (c, refl)
+
+-- the text has ended
+pub no_key_left : {V : Type 0} {Is : V → List ℕ × Bool → Type 0} (old : Cursor) (next : Option ℕ) (none : Bool) (e : Error) → next ≡ slice_get old.unread 0 → is_some next ≡ not none → none ≡ true → kind_of e ≡ code codes.EofParsingObject → place_of e ≡ None → Keeps Is (key old.unread) old old (Err e)
+no_key_left old next none e peeked test is says place =
+    not_taken old old (key old.unread) e
+    (inr (blames_made old.input (key old.unread) e codes.EofParsingObject inner (ap key (none_next old.unread (sym peeked ∙ none_from next none test is)) ∙ key_missing) (λ e. absurd (cc)) says place))
+    refl
+
+key_refuses : (c : ℕ) (r x : List ℕ) (reason : Option ErrorCode) (place : Option (List ℕ)) → x ≡ c ∷ r → FaultyKey x reason place → Refuses (key x) x reason place
+key_refuses c r x reason place e (at_quote q y split h f) =
+    subst (λ z. Refuses z x reason place) (ap string split ∙ sym (key_string q y h) ∙ ap key (sym split)) (string_fault_refuses q y h x reason place split f)
+key_refuses c r x reason place e (at_name h f) =
+    subst (λ z. Refuses z x reason place) (ap identifier e ∙ sym (key_name c r (subst (NotBegun is_quote) e h)) ∙ ap key (sym e)) (name_refuses x reason place f)
+
+-- a key was found, or refused
+pub key_taken : (old new : Cursor) (next : Option ℕ) (none : Bool) (result : Result KeyText Error) → next ≡ slice_get old.unread 0 → is_some next ≡ not none → none ≡ false → IsInside old → all_scalars old.unread ≡ true → TakesKey old new result
+    → Keeps (IsFoundKey old.input) (key old.unread) old new result
+key_taken old new next none (Ok k) peeked test is ready scalars t =
+    let (s, u, plain, took, spelled, same_text) = t.taken in
+    takes old new (key old.unread) (u, plain) k (same_text, chars-encodes u (key_scalars old.unread new.unread took.split scalars spelled)) (gave_text old new (key old.unread) (u, plain) s (ap key took.split ∙ key_complete spelled) took)
+key_taken old new next none (Err e) peeked test is ready scalars t = not_taken old new (key old.unread) e (by_cause t.refused) (same_of t.kept)
+  where
+    by_cause : RefusesToken FaultyKey old e → BlamesOrMemory old.input (key old.unread) e
+    by_cause (inl memory) = inl memory.kind
+    by_cause (inr f) =
+        let (c, found) = some_from next none test is in
+        let (r, x) = some_next old.unread c (sym peeked ∙ found) in
+        inr (blames_refused old (key old.unread) e ready key_lacks (λ reason place g. key_refuses c r old.unread reason place x g) f)
+
+-- its text is in memory of its own, or memory ran out for it
+pub key_kept : (old mid : Cursor) (k : KeyText) (result : Result (String Global) Error) (given : (a : List ℕ × Bool) × IsFoundKey old.input k a × Gave (key old.unread) a old mid) → OwnsKey mid.input k result
+    → Keeps IsKeyText (key old.unread) old mid result
+key_kept old mid k (Ok t) (a, (is, same), g) copied =
+    takes old mid (key old.unread) a t (ap chars (copied a.0 a.1 (subst (λ z. KeyIs z a.0 a.1 k) (sym g.took.same) is)) ∙ same) g
+key_kept old mid k (Err e) (a, (is, same), g) copied =
+    let lacks = copied a.0 a.1 (subst (λ z. KeyIs z a.0 a.1 k) (sym g.took.same) is) in
+    not_taken old mid (key old.unread) e (inl lacks.kind) g.took.same
+
+-- ---- the next key
+
+abbrev key_and_colon : List ℕ × Bool → List ℕ → Read (Option (List ℕ × Bool))
+key_and_colon a r = and_then (colon_after r) (λ u y. got (Some a) y)
+
+abbrev key_or_end : Bool → List ℕ → Read (Option (List ℕ × Bool))
+key_or_end goes y = cond goes (and_then (key y) key_and_colon) (got None y)
+
+head_is : (y : List ℕ) → key_head y ≡ and_then (entry_front of_object y) key_or_end
+head_is [] = sym (ap (λ m. and_then m key_and_colon) key_missing)
+head_is (c ∷ r) = by_test (c == closing of_object)
+  where
+    by_test : (b : Bool) → cond b (got None r) (and_then (key (c ∷ r)) key_and_colon) ≡ and_then (cond b (got false r) (got true (c ∷ r))) key_or_end
+    by_test true = refl
+    by_test false = refl
+
+start_is : (m : Read (Unit {0})) → and_then m (λ u y. key_head y) ≡ and_then (and_then m (λ u y. entry_front of_object y)) key_or_end
+start_is (got u y) = head_is y
+start_is (bad c p) = refl
+
+key_at_is : (x : List ℕ) → key_at x ≡ and_then (entry_start of_object x) key_or_end
+unfolding key_at
+key_at_is x = start_is (skip between x)
+
+next_is : (due : Bool) (x : List ℕ) → next_key due x ≡ and_then (next_entry of_object due x) key_or_end
+next_is false x = key_at_is x
+next_is true x = by_comma (separator of_object x)
+  where
+    by_comma : (m : Read Bool) → and_then m (λ goes y. cond goes (key_at y) (got None y)) ≡ and_then (and_then m (λ more y. cond more (entry_start of_object y) (got false y))) key_or_end
+    by_comma (got true y) = key_at_is y
+    by_comma (got false y) = refl
+    by_comma (bad c p) = refl
+
+pub entry_refused : (due : Bool) (old new : Cursor) (e : Error) → Blames old.input (next_entry of_object due old.unread) e → SameText old new → Keeps IsNextKey (next_key due old.unread) old new (Err e)
+entry_refused due old new e b g = taken_as old new (next_key due old.unread) (and_then (next_entry of_object due old.unread) key_or_end) (Err e) (next_is due old.unread) (first_not_taken old new (next_entry of_object due old.unread) key_or_end e (inr b) g)
+
+pub brace_closed : (due goes : Bool) (old new : Cursor) → goes ≡ false → Gave (next_entry of_object due old.unread) goes old new → Keeps IsNextKey (next_key due old.unread) old new (Ok None)
+brace_closed due goes old new e g =
+    takes old new (next_key due old.unread) None None tt
+    (gave_text old new (next_key due old.unread) None g.taken (next_is due old.unread ∙ ap (λ m. and_then m key_or_end) (g.reads ∙ ap (λ b. got b new.unread) e)) g.took)
+
+module _ (due goes : Bool) (old mid : Cursor) (is : goes ≡ true) (g : Gave (next_entry of_object due old.unread) goes old mid) where
+  key_next : (new : Cursor) (result : Result (Option (String Global)) Error) → Keeps IsNextKey (and_then (key mid.unread) key_and_colon) mid new result → Keeps IsNextKey (next_key due old.unread) old new result
+  key_next new result k =
+      taken_as old new (next_key due old.unread) (and_then (next_entry of_object due old.unread) key_or_end) result (next_is due old.unread)
+      (takes_then old mid new (next_entry of_object due old.unread) goes key_or_end result g (taken_as mid new (key_or_end goes mid.unread) (and_then (key mid.unread) key_and_colon) result (ap (λ b. key_or_end b mid.unread) is) k))
+
+  -- the key is refused, or its colon is
+  pub next_key_refused : (new : Cursor) (e : Error) → BlamesOrMemory mid.input (key mid.unread) e → SameText mid new → Keeps IsNextKey (next_key due old.unread) old new (Err e)
+  next_key_refused new e b f = key_next new (Err e) (first_not_taken mid new (key mid.unread) key_and_colon e b f)
+
+  pub next_colon_refused : (last new : Cursor) (t : String Global) (e : Error) → (a : List ℕ × Bool) × IsKeyText t a × Gave (key mid.unread) a mid last → Blames last.input (colon_after last.unread) e → SameText last new → Keeps IsNextKey (next_key due old.unread) old new (Err e)
+  next_colon_refused last new t e (a, same, k) b f =
+      key_next new (Err e) (takes_then mid last new (key mid.unread) a key_and_colon (Err e) k (first_not_taken last new (colon_after last.unread) (λ u y. got (Some a) y) e (inr b) f))
+
+  pub next_key_taken : (last new : Cursor) (v : Unit {0}) (t : String Global) → (a : List ℕ × Bool) × IsKeyText t a × Gave (key mid.unread) a mid last → Gave (colon_after last.unread) v last new → Keeps IsNextKey (next_key due old.unread) old new (Ok (Some t))
+  next_key_taken last new v t (a, same, k) c =
+      key_next new (Ok (Some t))
+      (takes_then mid last new (key mid.unread) a key_and_colon (Ok (Some t)) k
+      (takes last new (key_and_colon a last.unread) (Some a) (Some t) same (gave_text last new (key_and_colon a last.unread) (Some a) c.taken (ap (λ m. and_then m (λ u y. got (Some a) y)) c.reads) c.took)))
+
+-- ---- a key takes something
+
+-- a key was found
+abbrev has_key : Option (List ℕ × Bool) → List ℕ → Read Bool
+has_key o y = got (is_some o) y
+
+key_or_value : (m : Read (List ℕ × Bool)) → and_then m (λ a r. and_then (colon_after r) (λ u y. got true y)) ≡ and_then (and_then m (λ a r. and_then (colon_after r) (λ u y. got (Some a) y))) has_key
+key_or_value (got a r) = by_colon (colon_after r)
+  where
+    by_colon : (m : Read (Unit {0})) → and_then m (λ u y. got true y) ≡ and_then (and_then m (λ u y. got (Some a) y)) has_key
+    by_colon (got u y) = refl
+    by_colon (bad e p) = refl
+key_or_value (bad e p) = refl
+
+head_or_value : (y : List ℕ) → member_head of_object y ≡ and_then (key_head y) has_key
+head_or_value [] = refl
+head_or_value (c ∷ r) = by_test (c == 125)
+  where
+    by_test : (b : Bool) → cond b (got false r) (and_then (key (c ∷ r)) (λ a r. and_then (colon_after r) (λ u y. got true y))) ≡ and_then (cond b (got None r) (and_then (key (c ∷ r)) (λ a r. and_then (colon_after r) (λ u y. got (Some a) y)))) has_key
+    by_test true = refl
+    by_test false = key_or_value (key (c ∷ r))
+
+member_or_key : (x : List ℕ) → member_at of_object x ≡ and_then (key_at x) has_key
+unfolding member_at key_at
+member_or_key x = by_gap (skip between x)
+  where
+    by_gap : (m : Read (Unit {0})) → and_then m (λ u y. member_head of_object y) ≡ and_then (and_then m (λ u y. key_head y)) has_key
+    by_gap (got u y) = head_or_value y
+    by_gap (bad e p) = refl
+
+value_or_key : (due : Bool) (x : List ℕ) → next_value of_object due x ≡ and_then (next_key due x) has_key
+value_or_key false x = member_or_key x
+value_or_key true x = by_comma (separator of_object x)
+  where
+    by_comma : (m : Read Bool) → and_then m (λ goes y. cond goes (member_at of_object y) (got false y)) ≡ and_then (and_then m (λ goes y. cond goes (key_at y) (got None y))) has_key
+    by_comma (got true y) = member_or_key y
+    by_comma (got false y) = refl
+    by_comma (bad e p) = refl
+
+pub key_shorter : (due : Bool) (o : Option (List ℕ × Bool)) (x r : List ℕ) → next_key due x ≡ got o r → due ≡ true → length r < length x
+key_shorter due o x r e is = next_shorter of_object due (is_some o) x r (value_or_key due x ∙ ap (λ m. and_then m has_key) e) is

@@ -1,0 +1,149 @@
+-- How a value begins that is kept: as one of one token, or with an opening bracket.
+use Rattle.std.proofs.Common.{◌≡◌, ℕ, length, Bool, true, false, List, [], ◌∷◌, refl, ap, sym, ◌∙◌, subst, arith, inl, inr, Option, Some, None, String, string_bytes}
+use Rattle.std.specs.Prelude.{◌||◌, slice_get, Ok, Err}
+use Rattle.std.specs.declared.alloc.Global.{Global}
+use Rattle.std.specs.Str.{all_scalars, encode_utf8_all}
+use Rattle.json5_grammar.specs.declared.code.ErrorCode.{ErrorCode}
+use Rattle.json5_grammar.specs.declared.code.ErrorCode.TheVariants as codes
+use Rattle.json5_grammar.specs.NumberFaults.{is_sign, begins_number}
+use Rattle.json5_grammar.specs.Reading.{Read, Place, inner, got, bad}
+use Rattle.json5_grammar.specs.ReadNumbers as reading
+use Rattle.json5_grammar.specs.ReadSteps.{forget}
+use Rattle.json5_grammar.specs.ReadTexts.{string}
+use Rattle.json5_grammar.specs.ReadValues.{read}
+use Rattle.json5_grammar.specs.Strings.{Str, is_quote}
+use Rattle.json5_grammar.specs.Trees.{Tree, null, boolean, text, depth}
+use Rattle.json5_grammar.specs.Values.{Val, Stops, is_null, is_true, is_false, is_text, null_text, true_text, false_text}
+use Rattle.json5_grammar.proofs.Refusals.{Refuses}
+use Rattle.json5_grammar.proofs.ValuesRead.{read_complete}
+use Rattle.json5_grammar.proofs.ValuesSound.{text_stops}
+use Rattle.json5_grammar.proofs.ValueSteps.{read_quote, read_numeral, read_missing}
+use Rattle.json5_text.specs.declared.error.Error.{Error}
+use Rattle.json5_text.specs.declared.value.Value.{Value}
+use Rattle.json5_text.specs.Cursor.{Cursor, Took}
+use Rattle.json5_text.specs.Errors.{code, kind_of, place_of}
+use Rattle.json5_text.specs.Tokens.{FaultyNumber, FaultyString}
+use Rattle.json5_text.specs.declared.value.Value as value
+use Rattle.json5_text.specs.ValueViews.{value_of, Datum}
+use Rattle.json5_text.specs.ValueViews as datum
+use Rattle.json5_text.proofs.TextScalars.{text_characters}
+use Rattle.json5_text.proofs.ValuesCompared.{view-String}
+use Rattle.json5_value.specs.declared.kinds.Literal.{Literal}
+use Rattle.json5_value.specs.declared.kinds.Literal.TheVariants as literal
+use Rattle.json5_value.specs.declared.kinds.ValueKind.{ValueKind}
+use Rattle.json5_value.specs.declared.kinds.ValueKind.TheVariants as kind
+use Rattle.json5_value.specs.Data.{datum_of}
+use Rattle.json5_value.specs.Keeping.{BlamesOrMemory, Keeps, IsOfTree, as_datum, tree_at, datum_at, datum_of_literal, ReadsOrOpens}
+use Rattle.json5_value.specs.Kinds.{kind_at, word_of}
+use Rattle.json5_value.specs.Steps.{IsInside, SameText, Blames, Gave, Steps, RefusesToken, value_at}
+use Rattle.json5_value.proofs.OtherCodes.{Lacks, faulty_number_lacks, faulty_string_lacks}
+use Rattle.json5_value.proofs.Scalars.{tests_of, value_shorter}
+use Rattle.json5_value.proofs.Steps.{same_of, none_next, some_next, blames_as, blames_made, blames_refused}
+use Rattle.json5_value.proofs.TokenSteps.{string_fault_refuses, number_fault_refuses}
+use Rattle.json5_value.specs.declared.brackets.OpenBracket.{OpenBracket}
+use Rattle.json5_value.specs.declared.read.ValueStart.TheVariants as start
+use Rattle.json5_value.specs.Opening.{OpenedAt}
+use Rattle.json5_value.proofs.BuildSteps.{or_blames, takes, not_taken, gave_text}
+
+-- ---- values of one token
+
+null_stops : (r : List ℕ) → Stops null_text r
+null_stops [] = tt
+null_stops (c ∷ r) = refl
+
+true_stops : (r : List ℕ) → Stops true_text r
+true_stops [] = tt
+true_stops (c ∷ r) = refl
+
+false_stops : (r : List ℕ) → Stops false_text r
+false_stops [] = tt
+false_stops (c ∷ r) = refl
+
+pub forget_bad : {A : Type 0} (m : Read A) (c : Option ErrorCode) (p : Place) → forget m ≡ bad c p → m ≡ bad c p
+forget_bad (got a r) c p e = absurd (cc)
+forget_bad {A = A} (bad d q) c p e = let a : d ≡ c = cc in let b : q ≡ p = cc in renamed (bad d q) refl a b
+  where
+    renamed : (m : Read A) → m ≡ bad d q → d ≡ c → q ≡ p → m ≡ bad c p
+    renamed m is a b = subst (λ z. m ≡ bad z p) a (subst (λ z. m ≡ bad d z) b is)
+
+pub tree_blamed : (room : ℕ) (old : Cursor) (e : Error) → Blames old.input (value_at room old) e → Blames old.input (tree_at room old) e
+tree_blamed room old e b = blames_as old.input old.input (value_at room old) (tree_at room old) e refl (λ c p is. forget_bad (tree_at room old) c p is) b
+
+pub datum_blamed : (room : ℕ) (old : Cursor) (e : Error) → Blames old.input (tree_at room old) e → Blames old.input (datum_at room old) e
+datum_blamed room old e b = blames_as old.input old.input (tree_at room old) (datum_at room old) e refl (λ c p is. ap as_datum is) b
+
+-- one of this tree was taken
+pub scalar_taken : (room : ℕ) (old new : Cursor) (s : List ℕ) (t : Tree) (v : Value) → depth t ≡ 0 → Took old s new → Val s t → Stops s new.unread → value_of v ≡ datum_of t → Keeps IsOfTree (tree_at room old) old new (Ok v)
+scalar_taken room old new s t v flat took val stops is =
+    takes old new (tree_at room old) t v is
+    (gave_text old new (tree_at room old) t s (ap (read room) took.split ∙ read_complete val new.unread stops room (omega (arith, flat))) took)
+
+-- a literal, a string
+pub literal_taken : (room : ℕ) (old new : Cursor) (l : Literal) (v : Value) → Took old (word_of l) new → value_of v ≡ datum_of_literal l → Keeps IsOfTree (tree_at room old) old new (Ok v)
+literal_taken room old new literal.Null v took is = scalar_taken room old new null_text null v refl took is_null (null_stops new.unread) is
+literal_taken room old new literal.True v took is = scalar_taken room old new true_text (boolean true) v refl took is_true (true_stops new.unread) is
+literal_taken room old new literal.False v took is = scalar_taken room old new false_text (boolean false) v refl took is_false (false_stops new.unread) is
+
+pub text_taken : (room : ℕ) (old new : Cursor) (t : String Global) → all_scalars old.unread ≡ true → (s u : List ℕ) × (plain : Bool) × Took old s new × Str s u plain × (string_bytes t ≡ encode_utf8_all u) → Keeps IsOfTree (tree_at room old) old new (Ok (value.String t))
+text_taken room old new t scalars (s, u, plain, took, str, bytes) =
+    scalar_taken room old new s (text u plain) (value.String t) refl took (is_text str) (text_stops new.unread str) (view-String t ∙ ap datum.text (text_characters old.unread new.unread (string_bytes t) took.split scalars str bytes))
+
+-- a step that passes over it is refused
+pub scalar_refused : (room : ℕ) (old new : Cursor) (e : Error) → Steps (value_at room old) old new (Err e) → Keeps IsOfTree (tree_at room old) old new (Err e)
+scalar_refused room old new e k = not_taken old new (tree_at room old) e (inr (tree_blamed room old e k.refused)) k.same_text
+
+module _ (room : ℕ) (old new : Cursor) (c : ℕ) (first : slice_get old.unread 0 ≡ Some c) (found : ValueKind) (at : found ≡ kind_at c) (e : Error) (ready : IsInside old) (kept : new ≡ old) where
+  -- memory ran out in a token, or it is refused as reading does
+  token_refused : {A : Type 0} {F : _} (m : Read A) → Lacks F → ((reason : Option ErrorCode) (place : Option (List ℕ)) → F old.unread reason place → Refuses m old.unread reason place) → value_at room old ≡ forget m → RefusesToken F old e
+      → Keeps IsOfTree (tree_at room old) old new (Err e)
+  token_refused m l k is (inl memory) = not_taken old new (tree_at room old) e (inl memory.kind) (same_of kept)
+  token_refused m l k is (inr f) =
+      not_taken old new (tree_at room old) e
+      (inr (tree_blamed room old e (blames_as old.input old.input m (value_at room old) e refl (λ r p b. is ∙ ap forget b) (blames_refused old m e ready l k f)))) (same_of kept)
+
+  pub text_refused : found ≡ kind.String → RefusesToken FaultyString old e → Keeps IsOfTree (tree_at room old) old new (Err e)
+  text_refused is k =
+      let (r, x) = some_next old.unread c first in
+      let quote : is_quote c ≡ true = tests_of c found kind.String at is in
+      token_refused (string old.unread) faulty_string_lacks (λ reason place f. string_fault_refuses c r quote old.unread reason place x f)
+      (ap (λ z. forget (read room z)) x ∙ read_quote room c r quote ∙ ap (λ z. forget (string z)) (sym x)) k
+
+  pub number_refused : found ≡ kind.Number → RefusesToken FaultyNumber old e → Keeps IsOfTree (tree_at room old) old new (Err e)
+  number_refused is k =
+      let (r, x) = some_next old.unread c first in
+      let begins : (is_sign c || begins_number c) ≡ true = tests_of c found kind.Number at is in
+      token_refused (reading.number old.unread) faulty_number_lacks (λ reason place f. number_fault_refuses c r begins old.unread reason place x f)
+      (ap (λ z. forget (read room z)) x ∙ read_numeral room c r begins ∙ ap (λ z. forget (reading.number z)) (sym x)) k
+
+-- ---- how a value begins
+
+-- nothing is left
+pub nothing_left : (room : ℕ) (old : Cursor) (next : Option ℕ) (e : Error) → next ≡ slice_get old.unread 0 → next ≡ None → kind_of e ≡ code codes.EofParsingValue → place_of e ≡ None → ReadsOrOpens room old old (Err e)
+nothing_left room old next e peeked is says place = record {
+  begun = tt;
+  refused = inr (datum_blamed room old e (tree_blamed room old e (blames_made old.input (value_at room old) e codes.EofParsingValue inner (ap (λ z. forget (read room z)) (none_next old.unread (sym peeked ∙ is)) ∙ read_missing room) (λ e. absurd (cc)) says place)));
+  same_text = refl;
+  shorter = tt;
+}
+
+-- what is read as a datum is read as a tree
+pub datum_got : (m : Read Tree) (x : Datum) (r : List ℕ) → as_datum m ≡ got x r → (t : Tree) × (m ≡ got t r) × (datum_of t ≡ x)
+datum_got (got t y) x r e = let k : y ≡ r = cc in let l : datum_of t ≡ x = cc in (t, ap (got t) k, l)
+datum_got (bad c p) x r e = absurd (cc)
+
+pub scalar_begun : (room : ℕ) (old new : Cursor) (v : Value) → (t : Tree) × IsOfTree v t × Gave (tree_at room old) t old new → ReadsOrOpens room old new (Ok (start.Scalar v))
+scalar_begun room old new v (t, is, g) = record {
+  begun = record { reads = ap as_datum g.reads ∙ ap (λ x. got x new.unread) (sym is); taken = g.taken; took = g.took };
+  refused = tt;
+  same_text = tt;
+  shorter = value_shorter room old.unread new.unread tt (ap forget g.reads);
+}
+
+pub scalar_not_begun : (room : ℕ) (old new : Cursor) (e : Error) → BlamesOrMemory old.input (tree_at room old) e → SameText old new → ReadsOrOpens room old new (Err e)
+scalar_not_begun room old new e b g = record { begun = tt; refused = or_blames old.input old.input (tree_at room old) (datum_at room old) e (datum_blamed room old e) b; same_text = g; shorter = tt }
+
+pub bracket_begun : (room : ℕ) (old new : Cursor) (f : OpenBracket) → OpenedAt room f old new → ReadsOrOpens room old new (Ok (start.Bracket f))
+bracket_begun room old new f o = record { begun = o; refused = tt; same_text = tt; shorter = let k = o.sign in omega (arith, ap length k) }
+
+pub bracket_not_begun : (room : ℕ) (old new : Cursor) (e : Error) → Blames old.input (value_at room old) e → SameText old new → ReadsOrOpens room old new (Err e)
+bracket_not_begun room old new e b g = record { begun = tt; refused = inr (datum_blamed room old e (tree_blamed room old e b)); same_text = g; shorter = tt }

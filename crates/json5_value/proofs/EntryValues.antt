@@ -1,0 +1,134 @@
+-- The value of an entry is reached: of an element at once, of a member over its key and its colon.
+use Rattle.std.proofs.Common.{◌≡◌, ℕ, Bool, true, false, cond, List, [], ◌∷◌, refl, ap, sym, ◌∙◌, Option, Some, None}
+use Rattle.std.specs.Prelude.{◌==◌, slice_get, Result, Ok, Err}
+use Rattle.json5_grammar.specs.declared.code.ErrorCode.TheVariants as codes
+use Rattle.json5_grammar.specs.Fronts.{BracketKind, of_array, of_object, closing}
+use Rattle.json5_grammar.specs.Reading.{Read, inner, got, bad, and_then}
+use Rattle.json5_grammar.specs.ReadBlanks.{skip, between}
+use Rattle.json5_grammar.specs.ReadSteps.{forget, colon_after, pair_head, member_head, member_at, separator, next_value}
+use Rattle.json5_grammar.specs.ReadTexts.{key, string, identifier}
+use Rattle.json5_grammar.specs.Strings.{is_quote}
+use Rattle.json5_text.specs.declared.error.Error.{Error}
+use Rattle.json5_text.specs.Errors.{code, kind_of, place_of}
+use Rattle.json5_text.specs.Cursor.{Cursor}
+use Rattle.json5_value.specs.Entries.{entry_front, entry_start, next_entry}
+use Rattle.json5_value.specs.Steps.{SameText, Blames, Gave, Steps}
+use Rattle.json5_value.proofs.EntrySteps.{start_or_end}
+use Rattle.json5_value.proofs.Steps.{none_next, some_next, blames_made, then_step, first_step_refused, same_step, took_step, refused_step, took_nothing}
+
+-- ---- before the value
+
+pub key_missing : key [] ≡ bad (Some codes.EofParsingObject) inner
+unfolding key
+key_missing = refl
+
+-- what stands before the value of a member that begins here
+abbrev head_of : BracketKind → List ℕ → Read Bool
+head_of of_array y = got true y
+head_of of_object y = pair_head y
+
+abbrev head_or_end : BracketKind → Bool → List ℕ → Read Bool
+head_or_end k goes y = cond goes (head_of k y) (got false y)
+
+head_is : (k : BracketKind) (y : List ℕ) → member_head k y ≡ and_then (entry_front k y) (head_or_end k)
+head_is of_array [] = refl
+head_is of_object [] = sym (ap (λ m. and_then m (λ a r. and_then (colon_after r) (λ u y. got true y))) key_missing)
+head_is of_array (c ∷ r) = by_test (c == closing of_array)
+  where
+    by_test : (b : Bool) → cond b (got false r) (got true (c ∷ r)) ≡ and_then (cond b (got false r) (got true (c ∷ r))) (head_or_end of_array)
+    by_test true = refl
+    by_test false = refl
+head_is of_object (c ∷ r) = by_test (c == closing of_object)
+  where
+    by_test : (b : Bool) → cond b (got false r) (pair_head (c ∷ r)) ≡ and_then (cond b (got false r) (got true (c ∷ r))) (head_or_end of_object)
+    by_test true = refl
+    by_test false = refl
+
+start_is : (k : BracketKind) (m : Read (Unit {0})) → and_then m (λ u y. member_head k y) ≡ and_then (and_then m (λ u y. entry_front k y)) (head_or_end k)
+start_is k (got u y) = head_is k y
+start_is k (bad c p) = refl
+
+entry_is : (k : BracketKind) (x : List ℕ) → member_at k x ≡ and_then (entry_start k x) (head_or_end k)
+unfolding member_at
+entry_is k x = start_is k (skip between x)
+
+next_is : (k : BracketKind) (due : Bool) (x : List ℕ) → next_value k due x ≡ and_then (next_entry k due x) (head_or_end k)
+next_is k false x = entry_is k x
+next_is k true x = by_comma (separator k x)
+  where
+    by_comma : (m : Read Bool) → and_then m (λ more y. cond more (member_at k y) (got false y)) ≡ and_then (and_then m (start_or_end k)) (head_or_end k)
+    by_comma (got true y) = entry_is k y
+    by_comma (got false y) = refl
+    by_comma (bad c p) = refl
+
+pub next_refused : (k : BracketKind) (due : Bool) (old new : Cursor) (e : Error) → Blames old.input (next_entry k due old.unread) e → SameText old new → Steps (next_value k due old.unread) old new (Err e)
+next_refused k due old new e b g = same_step old new (next_value k due old.unread) _ (Err e) (next_is k due old.unread) (first_step_refused old new (next_entry k due old.unread) (head_or_end k) e b g)
+
+pub next_closed : (k : BracketKind) (due goes : Bool) (old new : Cursor) → goes ≡ false → Gave (next_entry k due old.unread) goes old new → Steps (next_value k due old.unread) old new (Ok false)
+next_closed k due goes old new e g =
+    took_step old new (next_value k due old.unread) false g.taken (next_is k due old.unread ∙ ap (λ m. and_then m (head_or_end k)) (g.reads ∙ ap (λ b. got b new.unread) e)) g.took
+
+next_found : (k l : BracketKind) (due goes : Bool) (old mid new : Cursor) (result : Result Bool Error) → k ≡ l → goes ≡ true → Gave (next_entry k due old.unread) goes old mid → Steps (head_of l mid.unread) mid new result → Steps (next_value k due old.unread) old new result
+next_found k l due goes old mid new result e is g s =
+    same_step old new (next_value k due old.unread) _ result (next_is k due old.unread)
+    (then_step old mid new (next_entry k due old.unread) goes (head_or_end k) result g
+    (same_step mid new (head_or_end k goes mid.unread) (head_of l mid.unread) result (ap (λ b. head_or_end k b mid.unread) is ∙ ap (λ z. head_of z mid.unread) e) s))
+
+-- an element is its value
+pub element_reached : (k : BracketKind) (due goes : Bool) (old mid : Cursor) → k ≡ of_array → goes ≡ true → Gave (next_entry k due old.unread) goes old mid → Steps (next_value k due old.unread) old mid (Ok true)
+element_reached k due goes old mid e is g = next_found k of_array due goes old mid mid (Ok true) e is g (took_step mid mid (got true mid.unread) true [] refl (took_nothing mid mid refl))
+
+forget_then : {A B : Type 0} (m : Read A) (f : List ℕ → Read B) → and_then m (λ a r. f r) ≡ and_then (forget m) (λ u r. f r)
+forget_then (got a r) f = refl
+forget_then (bad e p) f = refl
+
+abbrev after_key : List ℕ → Read Bool
+after_key r = and_then (colon_after r) (λ u y. got true y)
+
+module _ (k : BracketKind) (due goes : Bool) (old mid : Cursor) (e : k ≡ of_object) (is : goes ≡ true) (g : Gave (next_entry k due old.unread) goes old mid) where
+  of_member : (new : Cursor) (result : Result Bool Error) → Steps (and_then (forget (key mid.unread)) (λ v r. after_key r)) mid new result → Steps (next_value k due old.unread) old new result
+  of_member new result s = next_found k of_object due goes old mid new result e is g (same_step mid new (pair_head mid.unread) _ result (forget_then (key mid.unread) after_key) s)
+
+  -- its key is refused
+  pub key_refused : (new : Cursor) (own : Error) → Blames mid.input (forget (key mid.unread)) own → SameText mid new → Steps (next_value k due old.unread) old new (Err own)
+  key_refused new own b f = of_member new (Err own) (first_step_refused mid new (forget (key mid.unread)) (λ v r. after_key r) own b f)
+
+  -- its colon is refused
+  pub colon_refused : (last new : Cursor) (v : Unit {0}) (own : Error) → Gave (forget (key mid.unread)) v mid last → Blames last.input (colon_after last.unread) own → SameText last new → Steps (next_value k due old.unread) old new (Err own)
+  colon_refused last new v own name b f =
+      of_member new (Err own) (then_step mid last new (forget (key mid.unread)) v (λ v r. after_key r) (Err own) name (first_step_refused last new (colon_after last.unread) (λ u y. got true y) own b f))
+
+  -- its value is next
+  pub member_reached : (last new : Cursor) (v w : Unit {0}) → Gave (forget (key mid.unread)) v mid last → Gave (colon_after last.unread) w last new → Steps (next_value k due old.unread) old new (Ok true)
+  member_reached last new v w name colon =
+      of_member new (Ok true) (then_step mid last new (forget (key mid.unread)) v (λ v r. after_key r) (Ok true) name
+      (took_step last new (after_key last.unread) true colon.taken (ap (λ m. and_then m (λ u y. got true y)) colon.reads) colon.took))
+
+-- ---- keys
+
+pub key_at_end : (old : Cursor) (next : Option ℕ) (e : Error) → next ≡ slice_get old.unread 0 → next ≡ None → kind_of e ≡ code codes.EofParsingObject → place_of e ≡ None → Steps (forget (key old.unread)) old old (Err e)
+key_at_end old next e peeked is kind place =
+    refused_step old old (forget (key old.unread)) e
+    (blames_made old.input (forget (key old.unread)) e codes.EofParsingObject inner (ap forget (ap key (none_next old.unread (sym peeked ∙ is)) ∙ key_missing)) (λ e. absurd (cc)) kind place)
+    refl
+
+pub key_string : (c : ℕ) (r : List ℕ) → is_quote c ≡ true → key (c ∷ r) ≡ string (c ∷ r)
+unfolding key
+key_string c r h = rw h refl
+
+pub key_name : (c : ℕ) (r : List ℕ) → is_quote c ≡ false → key (c ∷ r) ≡ identifier (c ∷ r)
+unfolding key
+key_name c r h = rw h refl
+
+pub key_is_string : (old new : Cursor) (result : Result (Unit {0}) Error) (next : Option ℕ) (c : ℕ) (b : Bool) → next ≡ slice_get old.unread 0 → next ≡ Some c → b ≡ is_quote c → b ≡ true
+    → ((d : ℕ) (r : List ℕ) → old.unread ≡ d ∷ r → is_quote d ≡ true → Steps (forget (string old.unread)) old new result) → Steps (forget (key old.unread)) old new result
+key_is_string old new result next c b peeked is test true_is steps =
+    let (r, x) = some_next old.unread c (sym peeked ∙ is) in
+    let quote : is_quote c ≡ true = sym test ∙ true_is in
+    same_step old new (forget (key old.unread)) (forget (string old.unread)) result (ap forget (ap key x ∙ key_string c r quote ∙ sym (ap string x))) (steps c r x quote)
+
+pub key_is_name : (old new : Cursor) (result : Result (Unit {0}) Error) (next : Option ℕ) (c : ℕ) (b : Bool) → next ≡ slice_get old.unread 0 → next ≡ Some c → b ≡ is_quote c → b ≡ false
+    → Steps (forget (identifier old.unread)) old new result → Steps (forget (key old.unread)) old new result
+key_is_name old new result next c b peeked is test false_is steps =
+    let (r, x) = some_next old.unread c (sym peeked ∙ is) in
+    same_step old new (forget (key old.unread)) (forget (identifier old.unread)) result (ap forget (ap key x ∙ key_name c r (sym test ∙ false_is) ∙ sym (ap identifier x))) steps

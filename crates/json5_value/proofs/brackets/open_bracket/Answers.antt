@@ -1,0 +1,15 @@
+use Rattle.std.proofs.Common.{arith}
+use Rattle.json5_value.specs.Brackets.{bracket_of}
+use Rattle.json5_value.proofs.Scalars.{bracket_too_deep, bracket_opened}
+use Rattle.json5_value.proofs.Signs.{opening_is}
+use Rattle.json5_value.proofs.brackets.open_bracket.Goals as goal
+
+pub returns-then-room-eq0 : goal.returns-then-room-eq0
+returns-then-room-eq0 g c =
+    bracket_too_deep c.args.room c.args.scanner.now (bracket_of c.args.kind) c.offset-start.result c.new_at.result c.position_of.result c.requires.ready c.requires.sign c.if-room-eq0.true c.offset-start.ensures.counted
+    c.position_of.ensures.inside c.new_at.ensures.kind c.new_at.ensures.place
+
+pub returns : goal.returns
+returns g c =
+    let some = c.if-room-eq0.false in
+    bracket_opened c.args.room c.args.scanner.now c.eat.new.self _ c.brackets.result.opening c.eat.result c.requires.ready c.requires.sign (omega (arith, some)) c.offset-start.ensures.counted (opening_is c.args.kind c.brackets.result c.brackets.ensures) c.eat.ensures.taken c.eat.ensures.kept

@@ -1,0 +1,25 @@
+-- The two kinds of brackets.
+use Rattle.json5_grammar.specs.declared.code.ErrorCode.TheVariants as codes
+use Rattle.json5_grammar.specs.Characters.{left_bracket, right_bracket, left_brace, right_brace}
+use Rattle.json5_grammar.specs.Fronts.{of_array, of_object}
+use Rattle.json5_grammar.specs.Fronts as fronts
+use Rattle.json5_value.specs.declared.brackets.Brackets.{Brackets}
+use Rattle.json5_value.specs.declared.brackets.BracketKind.{BracketKind}
+use Rattle.json5_value.specs.declared.brackets.BracketKind.TheVariants as kind
+
+-- an array's
+abbrev pub square : Brackets
+square = record { opening = left_bracket; closing = right_bracket; ends = codes.EofParsingArray; not_opened = codes.ExpectedOpeningBracket; not_closed = codes.ExpectedClosingBracket }
+
+-- an object's
+abbrev pub curly : Brackets
+curly = record { opening = left_brace; closing = right_brace; ends = codes.EofParsingObject; not_opened = codes.ExpectedOpeningBrace; not_closed = codes.ExpectedClosingBrace }
+
+abbrev pub brackets_of : BracketKind → Brackets
+brackets_of kind.Array = square
+brackets_of kind.Object = curly
+
+-- the kind in the words of the grammar
+abbrev pub bracket_of : BracketKind → fronts.BracketKind
+bracket_of kind.Array = of_array
+bracket_of kind.Object = of_object

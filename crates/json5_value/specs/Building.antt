@@ -1,0 +1,100 @@
+-- What unfinished arrays and objects make of what is to come.
+use Rattle.std.specs.Prelude.{◌≡◌, ◌⊎◌, ℕ, ◌-◌, ◌<◌, ◌≤◌, Bool, true, false, List, [], ◌∷◌, ◌++◌, length, Option, Some, None, Result, IfOk, IfErr, String, string_bytes}
+use Rattle.std.specs.declared.alloc.Global.{Global}
+use Rattle.std.specs.Str.{chars}
+use Rattle.json5_grammar.specs.Reading.{Read, got, and_then}
+use Rattle.json5_grammar.specs.ReadSteps.{trees_of, trees_after, pairs_of, pairs_after}
+use Rattle.json5_grammar.specs.Trees.{Trees, Pairs}
+use Rattle.json5_text.specs.declared.error.Error.{Error}
+use Rattle.json5_text.specs.declared.value.Value.{Value}
+use Rattle.json5_text.specs.Cursor.{Cursor, IsOutOfMemory}
+use Rattle.json5_text.specs.ValueViews.{Datum, Items, Fields, array, object, item, field, value_of}
+use Rattle.json5_value.specs.declared.read.Unfinished.{Unfinished}
+use Rattle.json5_value.specs.declared.read.Unfinished.TheVariants as unfinished
+use Rattle.json5_value.specs.Data.{items_of, fields_of}
+use Rattle.json5_value.specs.Keeping.{datum_at}
+use Rattle.json5_value.specs.Nesting.{Within, Inside}
+use Rattle.json5_value.specs.Places.{StartsAfter, PlacedAt}
+use Rattle.json5_value.specs.Steps.{SameText, Blames}
+
+-- ---- what is left
+
+-- these elements and then others; these members and then others
+abbrev pub elements_before : List Value → Items → Items
+elements_before [] xs = xs
+elements_before (v ∷ vs) xs = item (value_of v) (elements_before vs xs)
+
+abbrev pub members_before : List (String Global × Value) → Fields → Fields
+members_before [] xs = xs
+members_before (f ∷ fs) xs = field (chars (string_bytes f.0)) (value_of f.1) (members_before fs xs)
+
+-- an array of these elements and of those that are read; an object
+abbrev pub array_with : (Items → Items) → Read Trees → Read Datum
+array_with before m = and_then m (λ ts z. got (array (before (items_of ts))) z)
+
+abbrev pub object_with : (Fields → Fields) → Read Pairs → Read Datum
+object_with before m = and_then m (λ ps z. got (object (before (fields_of ps))) z)
+
+-- what is left of an array after these elements, of an object after these members
+abbrev pub rest_of_array : List Value → Bool → ℕ → List ℕ → Read Datum
+rest_of_array vs false d x = array_with (elements_before vs) (trees_of d x)
+rest_of_array vs true d x = array_with (elements_before vs) (trees_after d x)
+
+abbrev pub rest_of_object : List (String Global × Value) → Bool → ℕ → List ℕ → Read Datum
+rest_of_object fs false d x = object_with (members_before fs) (pairs_of d x)
+rest_of_object fs true d x = object_with (members_before fs) (pairs_after d x)
+
+-- the same of a scanner, by how many brackets may be open at once in a value
+abbrev pub array_at : List Value → Bool → Cursor → ℕ → Read Datum
+array_at vs due s d = rest_of_array vs due d s.unread
+
+abbrev pub object_at : List (String Global × Value) → Bool → Cursor → ℕ → Read Datum
+object_at fs due s d = rest_of_object fs due d s.unread
+
+-- ---- unfinished arrays and objects
+
+abbrev pub start_of : Unfinished → ℕ
+start_of (unfinished.Array start elements) = start
+start_of (unfinished.Object start members key) = start
+
+-- what a value makes of the one that it stands in
+abbrev pub value_in : Unfinished → ℕ → Datum → List ℕ → Read Datum
+value_in (unfinished.Array start elements) d x y = array_with (λ xs. elements_before elements.items (item x xs)) (trees_after d y)
+value_in (unfinished.Object start members key) d x y = object_with (λ xs. members_before members.items (field (chars (string_bytes key)) x xs)) (pairs_after d y)
+
+abbrev pub value_in_at : Unfinished → Value → Cursor → ℕ → Read Datum
+value_in_at f v s d = value_in f d (value_of v) s.unread
+
+-- a value has ended, or one is next
+abbrev pub ended_or_next : ℕ → Option Value → Cursor → Read Datum
+ended_or_next room (Some v) now = got (value_of v) now.unread
+ended_or_next room None now = datum_at room now
+
+-- these are unfinished, and a value that has ended or is next makes w of the whole
+abbrev pub Building : ℕ → Read Datum → List Unfinished → Option Value → Cursor → Type 0
+Building room w fs ended now = Within start_of value_in room w fs (ended_or_next (room - length fs) ended now) now
+
+-- the same within one more, which was opened before q and of which m is left
+abbrev pub BuildingInside : ℕ → Read Datum → List Unfinished → ℕ → (ℕ → Read Datum) → List ℕ → Cursor → Type 0
+BuildingInside room w fs start m q now = Inside start_of value_in room w fs start (m (room - length fs - 1)) q now
+
+-- the fault gets the place of the innermost that is unfinished, where it has none
+abbrev pub PlacedIn : List ℕ → List Unfinished → Error → Error → Type 0
+PlacedIn input fs own e = ((fs ≡ []) × (e ≡ own)) ⊎ ((gs : List Unfinished) × (f : Unfinished) × (fs ≡ gs ++ f ∷ []) × PlacedAt (StartsAfter input (start_of f)) own e)
+
+-- ---- turns
+
+-- a turn goes on, and answers the value that ended if one did; or what is refused makes a fault of the whole, or memory ran out
+pub record Turns (room : ℕ) (fs after : List Unfinished) (old new : Cursor) (result : Result (Option Value) Error) : Type 0 where
+  pub goes : IfOk result (λ ended. (w : Read Datum) → Building room w fs None old → Building room w after ended new)
+  pub refused : IfErr result (λ e. IsOutOfMemory e ⊎ ((w : Read Datum) → Building room w fs None old → Blames old.input w e))
+  pub same_text : SameText old new
+  pub shorter : IfOk result (λ ended. length new.unread < length old.unread)
+
+-- the same within one more, of which m is left
+pub record TurnsInside (m : ℕ → Read Datum) (start : ℕ) (due : Bool) (fs after : List Unfinished) (old new : Cursor) (result : Result (Option Value) Error) : Type 0 where
+  pub goes : IfOk result (λ ended. (room : ℕ) (w : Read Datum) (q : List ℕ) → BuildingInside room w fs start m q old → Building room w after ended new)
+  pub refused : IfErr result (λ e. IsOutOfMemory e ⊎ ((room : ℕ) (w : Read Datum) (q : List ℕ) → BuildingInside room w fs start m q old → Blames old.input w e))
+  pub same_text : SameText old new
+  pub shorter : IfOk result (λ ended. due ≡ true → length new.unread < length old.unread)
+  pub no_longer : IfOk result (λ ended. length new.unread ≤ length old.unread)

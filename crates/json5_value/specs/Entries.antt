@@ -1,0 +1,24 @@
+-- Where the entries of brackets begin: the elements of an array and the members of an object.
+use Rattle.std.specs.Prelude.{ℕ, Bool, true, false, cond, List, [], ◌∷◌, ◌==◌}
+use Rattle.json5_grammar.specs.Fronts.{BracketKind, closing}
+use Rattle.json5_grammar.specs.Reading.{Read, got, and_then}
+use Rattle.json5_grammar.specs.ReadBlanks.{skip, between}
+use Rattle.json5_grammar.specs.ReadSteps.{separator}
+
+-- past the closing bracket, or an entry begins here
+abbrev pub entry_front : BracketKind → List ℕ → Read Bool
+entry_front k [] = got true []
+entry_front k (c ∷ r) = cond (c == closing k) (got false r) (got true (c ∷ r))
+
+-- the same after blanks
+abbrev pub entry_start : BracketKind → List ℕ → Read Bool
+entry_start k x = and_then (skip between x) (λ u y. entry_front k y)
+
+-- a comma, or past the closing bracket, where one is due
+abbrev pub due_comma : BracketKind → Bool → List ℕ → Read Bool
+due_comma k false x = got true x
+due_comma k true x = separator k x
+
+-- where the next entry begins, after a comma where one is due, or past the closing bracket
+abbrev pub next_entry : BracketKind → Bool → List ℕ → Read Bool
+next_entry k due x = and_then (due_comma k due x) (λ more y. cond more (entry_start k y) (got false y))

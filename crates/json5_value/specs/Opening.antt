@@ -1,0 +1,28 @@
+-- How a value begins: with a character of its own, or with an opening bracket.
+use Rattle.std.specs.Prelude.{◌≡◌, ℕ, ◌<◌, false, ◌∷◌, Some, Result, IfOk, IfErr, OnErr, ◌==◌, ◌||◌, slice_get}
+use Rattle.json5_grammar.specs.Fronts.{of_array, of_object, opening}
+use Rattle.json5_text.specs.declared.error.Error.{Error}
+use Rattle.json5_text.specs.Cursor.{Cursor}
+use Rattle.json5_value.specs.declared.brackets.OpenBracket.{OpenBracket}
+use Rattle.json5_value.specs.Brackets.{bracket_of}
+use Rattle.json5_value.specs.Places.{CountsTo}
+use Rattle.json5_value.specs.Steps.{IsInside, SameText, Blames, value_at}
+
+-- a value that is no collection begins here with this character
+pub record AtScalar (c : ℕ) (s : Cursor) : Type 0 where
+  pub ready : IsInside s
+  pub first : slice_get s.unread 0 ≡ Some c
+  pub other : ((c == opening of_array) || (c == opening of_object)) ≡ false
+
+-- an opening bracket was taken
+pub record OpenedAt (room : ℕ) (bracket : OpenBracket) (old new : Cursor) : Type 0 where
+  pub sign : old.unread ≡ opening (bracket_of bracket.kind) ∷ new.unread
+  pub counted : CountsTo old.input bracket.start old.unread
+  pub room_left : 0 < room
+  pub same_text : SameText old new
+
+-- an opening bracket was taken, or there was no room for it
+pub record Opens (room : ℕ) (old new : Cursor) (result : Result OpenBracket Error) : Type 0 where
+  pub opened : IfOk result (λ bracket. OpenedAt room bracket old new)
+  pub refused : IfErr result (Blames old.input (value_at room old))
+  pub same_text : OnErr result (SameText old new)

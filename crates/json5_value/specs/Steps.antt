@@ -1,0 +1,61 @@
+-- A step over a text does what reading on lists does.
+use Rattle.std.specs.Prelude.{◌≡◌, ◌≢◌, ◌⊎◌, ℕ, List, [], ◌∷◌, ◌++◌, Option, Some, None, Result, IfOk, IfErr, OnErr}
+use Rattle.json5_grammar.specs.declared.code.ErrorCode.{ErrorCode}
+use Rattle.json5_grammar.specs.declared.code.ErrorCode.TheVariants as codes
+use Rattle.json5_grammar.specs.Positions.{position_after}
+use Rattle.json5_grammar.specs.Reading.{Read, Place, here, inner, got, bad}
+use Rattle.json5_grammar.specs.ReadSteps.{forget}
+use Rattle.json5_grammar.specs.ReadValues.{read}
+use Rattle.json5_text.specs.declared.error.Error.{Error}
+use Rattle.json5_text.specs.Cursor.{Cursor, Took, Says, Refused, IsOutOfMemory}
+use Rattle.json5_text.specs.Errors.{LacksMemory, code, kind_of, place_of}
+
+-- what is unread is the end of the text
+pub record IsInside (s : Cursor) : Type 0 where
+  pub before : List ℕ
+  pub inside : s.input ≡ before ++ s.unread
+
+abbrev pub SameText : Cursor → Cursor → Type 0
+SameText old new = new.input ≡ old.input
+
+-- the fault isn't that of a reader that had failed
+abbrev pub IsUnprompted : Error → Type 0
+IsUnprompted e = kind_of e ≢ code codes.Failed
+
+-- the fault's place is where this rest of the text begins, or it has none
+abbrev pub StandsAt : List ℕ → Place → Error → Type 0
+StandsAt input (here q) e = (before : List ℕ) × (input ≡ before ++ q) × (place_of e ≡ Some (position_after before))
+StandsAt input inner e = place_of e ≡ None
+
+-- reading gives this fault, or memory ran out for its text
+pub record Blames {A : Type 0} (input : List ℕ) (reading : Read A) (e : Error) : Type 0 where
+  pub reason : Option ErrorCode
+  pub place : Place
+  pub is_bad : reading ≡ bad reason place
+  pub says : IsOutOfMemory e ⊎ (Says reason e × StandsAt input place e)
+  pub unprompted : IsUnprompted e
+
+-- what reading gives was taken
+pub record Gave {A : Type 0} (reading : Read A) (a : A) (old new : Cursor) : Type 0 where
+  pub reads : reading ≡ got a new.unread
+  pub taken : List ℕ
+  pub took : Took old taken new
+
+-- a step does what reading on lists does
+pub record Steps {A : Type 0} (reading : Read A) (old new : Cursor) (result : Result A Error) : Type 0 where
+  pub given : IfOk result (λ a. Gave reading a old new)
+  pub refused : IfErr result (Blames old.input reading)
+  pub same_text : OnErr result (SameText old new)
+
+-- what the value in front is read as, in which so many brackets may be open at once
+abbrev pub value_at : ℕ → Cursor → Read (Unit {0})
+value_at room s = forget (read room s.unread)
+
+-- what stands here isn't expected
+pub data Unexpected (ends differs : ErrorCode) : List ℕ → Option ErrorCode → Option (List ℕ) → Type 0 where
+  at_end : Unexpected ends differs [] (Some ends) None
+  at_char : (c : ℕ) (r : List ℕ) → Unexpected ends differs (c ∷ r) (Some differs) (Some [])
+
+-- the token in front is refused with one of its faults, or memory ran out
+abbrev pub RefusesToken : (List ℕ → Option ErrorCode → Option (List ℕ) → Type 0) → Cursor → Error → Type 0
+RefusesToken IsFault old e = LacksMemory e ⊎ Refused IsFault old e

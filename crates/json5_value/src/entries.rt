@@ -1,0 +1,104 @@
+//! What stands round the entries of brackets: the elements of an array and the members of an object.
+
+ghost use Rattle.json5_grammar.specs.ReadSteps.{forget, colon_after, next_value};
+ghost use Rattle.json5_grammar.specs.ReadTexts.{key};
+ghost use Rattle.json5_value.specs.Brackets.{bracket_of};
+ghost use Rattle.json5_value.specs.Entries.{due_comma, next_entry};
+ghost use Rattle.json5_value.specs.Steps.{IsInside, Steps};
+
+use crate::brackets::BracketKind;
+use crate::faults::unexpected_here;
+use json5_text::ErrorCode;
+use json5_text::error::{Error, Result};
+use json5_text::input::Input;
+use json5_text::scanner::Scanner;
+use json5_text::strings::is_quote;
+
+/// Passes over a key.
+fn skip_key<I: Input>(scanner: &mut Scanner<I>) -> Result<()>
+    requires { IsInside scanner.old }
+    ensures { Steps (forget (key scanner.old.unread)) scanner.old scanner.new result }
+{
+    let Some(c) = scanner.peek() else {
+        return Err(Error::new(ErrorCode::EofParsingObject));
+    };
+    if is_quote(c) {
+        return scanner.skip_string();
+    }
+    scanner.skip_identifier()
+}
+
+/// Passes over blanks, a colon and blanks.
+pub(crate) fn skip_colon<I: Input>(scanner: &mut Scanner<I>) -> Result<()>
+    requires { IsInside scanner.old }
+    ensures { Steps (colon_after scanner.old.unread) scanner.old scanner.new result }
+{
+    scanner.skip_blank()?;
+    if !scanner.eat(':') {
+        return Err(unexpected_here(
+            scanner,
+            ErrorCode::EofParsingObject,
+            ErrorCode::ExpectedColon,
+        ));
+    }
+    scanner.skip_blank()
+}
+
+/// Where a comma is due, passes over it and says true, or over the closing bracket and says false. Says true where none is.
+fn skip_comma<I: Input>(scanner: &mut Scanner<I>, kind: BracketKind, due: bool) -> Result<bool>
+    requires { IsInside scanner.old }
+    ensures { Steps (due_comma (bracket_of kind) due scanner.old.unread) scanner.old scanner.new result }
+{
+    if !due {
+        return Ok(true);
+    }
+    scanner.skip_blank()?;
+    if scanner.eat(',') {
+        return Ok(true);
+    }
+    let brackets = kind.brackets();
+    if scanner.eat(brackets.closing) {
+        return Ok(false);
+    }
+    Err(unexpected_here(scanner, brackets.ends, ErrorCode::ExpectedComma))
+}
+
+/// Goes to the next entry, after a comma where one is due, and says true; or passes over the closing bracket and says false.
+pub(crate) fn skip_to_entry<I: Input>(
+    scanner: &mut Scanner<I>,
+    kind: BracketKind,
+    due: bool,
+) -> Result<bool>
+    requires { IsInside scanner.old }
+    ensures { Steps (next_entry (bracket_of kind) due scanner.old.unread) scanner.old scanner.new result }
+{
+    let more = skip_comma(scanner, kind, due)?;
+    if !more {
+        return Ok(false);
+    }
+    scanner.skip_blank()?;
+    Ok(!scanner.eat(kind.brackets().closing))
+}
+
+/// The same, but goes to the entry's value: over the key and the colon of a member too.
+pub(crate) fn skip_to_value<I: Input>(
+    scanner: &mut Scanner<I>,
+    kind: BracketKind,
+    due: bool,
+) -> Result<bool>
+    requires { IsInside scanner.old }
+    ensures { Steps (next_value (bracket_of kind) due scanner.old.unread) scanner.old scanner.new result }
+{
+    let more = skip_to_entry(scanner, kind, due)?;
+    if !more {
+        return Ok(false);
+    }
+    match kind {
+        BracketKind::Array => Ok(true),
+        BracketKind::Object => {
+            skip_key(scanner)?;
+            skip_colon(scanner)?;
+            Ok(true)
+        }
+    }
+}

@@ -1,0 +1,41 @@
+//! Faults at the next character and at a bracket.
+
+ghost use Rattle.std.specs.Prelude.{◌≡◌, [], Some};
+ghost use Rattle.json5_text.specs.Cursor.{Refused, IsPlaced};
+ghost use Rattle.json5_text.specs.Errors.{FaultKind, kind_of};
+ghost use Rattle.json5_value.specs.Places.{PlacedAt, StartsAfter};
+ghost use Rattle.json5_value.specs.Steps.{Unexpected};
+
+use json5_text::ErrorCode;
+use json5_text::error::Error;
+use json5_text::input::Input;
+use json5_text::scanner::Scanner;
+
+/// The fault of what is next and isn't expected: `differs` at the character, or `ends` at the end, without a place.
+pub fn unexpected_here<I: Input>(scanner: &Scanner<I>, ends: ErrorCode, differs: ErrorCode) -> Error
+    ensures { Refused (Unexpected ends differs) scanner.now result }
+{
+    match scanner.peek() {
+        Some(_) => Error::new_at(scanner.position_of(scanner.offset()), differs),
+        None => Error::new(ends),
+    }
+}
+
+/// A fault at the next character.
+pub fn fault_here<I: Input>(scanner: &Scanner<I>, code: ErrorCode) -> Error
+    ensures kind { kind_of result ≡ FaultKind.code code }
+    ensures placed { IsPlaced scanner.now (Some []) result }
+{
+    let offset = scanner.offset();
+    Error::new_at(scanner.position_of(offset), code)
+}
+
+/// The fault, at the bracket that begins after so many bytes where it has no place. Else the lines before it are not counted.
+pub fn place_at<I: Input>(scanner: &Scanner<I>, start: usize, error: Error) -> Error
+    ensures { PlacedAt (StartsAfter scanner.now.input start) error result }
+{
+    match error.position() {
+        Some(_) => error,
+        None => error.at(scanner.position_of(start)),
+    }
+}

@@ -1,0 +1,52 @@
+//! What a value begins with, and the literals.
+
+ghost use Rattle.std.specs.Prelude.{◌≡◌};
+ghost use Rattle.json5_text.specs.Takes.{TakesWord};
+ghost use Rattle.json5_value.specs.Kinds.{kind_at, word_of, ends_of, differs_of};
+
+use json5_text::ErrorCode;
+use json5_text::error::Result;
+use json5_text::input::Input;
+use json5_text::scanner::Scanner;
+
+/// A literal: null or a boolean.
+#[derive(Clone, Copy, Drop)]
+pub enum Literal {
+    Null,
+    True,
+    False,
+}
+
+/// What a character begins.
+#[derive(Clone, Copy, Drop)]
+pub enum ValueKind {
+    Literal(Literal),
+    String,
+    Number,
+    Other,
+}
+
+/// What the character begins.
+pub fn kind_at(c: char) -> ValueKind
+    ensures { result ≡ kind_at c }
+{
+    match c {
+        'n' => ValueKind::Literal(Literal::Null),
+        't' => ValueKind::Literal(Literal::True),
+        'f' => ValueKind::Literal(Literal::False),
+        '"' | '\'' => ValueKind::String,
+        '+' | '-' | '.' | 'I' | 'N' | '0'..='9' => ValueKind::Number,
+        _ => ValueKind::Other,
+    }
+}
+
+/// Passes over the literal in front.
+pub fn skip_literal<I: Input>(scanner: &mut Scanner<I>, literal: Literal) -> Result<()>
+    ensures { TakesWord (word_of literal) (ends_of literal) (differs_of literal) scanner.old scanner.new result }
+{
+    match literal {
+        Literal::Null => scanner.word("null", ErrorCode::EofParsingNull, ErrorCode::ExpectedNull),
+        Literal::True => scanner.word("true", ErrorCode::EofParsingBool, ErrorCode::ExpectedBool),
+        Literal::False => scanner.word("false", ErrorCode::EofParsingBool, ErrorCode::ExpectedBool),
+    }
+}

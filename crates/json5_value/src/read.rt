@@ -1,0 +1,212 @@
+//! Reading of values of any kind.
+
+ghost use Rattle.std.specs.Prelude.{◌≡◌, true};
+ghost use Rattle.json5_value.specs.Building.{PlacedIn, Turns, TurnsInside, array_at, object_at, start_of, value_in_at};
+ghost use Rattle.json5_value.specs.Keeping.{ReadsDatum, ReadsOrOpens};
+ghost use Rattle.json5_value.specs.Steps.{IsInside};
+
+use crate::brackets::{BracketKind, OpenBracket, open_bracket};
+use crate::entries::skip_to_value;
+use crate::faults::place_at;
+use crate::tokens::{next_member_key, read_scalar};
+use json5_text::ErrorCode;
+use json5_text::error::{Error, Result};
+use json5_text::input::Input;
+use json5_text::scanner::Scanner;
+use json5_text::value::Value;
+
+/// How a value begins: it is a whole scalar, or a bracket is open.
+#[derive(Drop)]
+enum ValueStart {
+    Scalar(Value),
+    Bracket(OpenBracket),
+}
+
+/// An array or an object in which a value is being read. `start` is the count of bytes before its bracket.
+#[derive(Drop)]
+enum Unfinished {
+    Array {
+        start: usize,
+        elements: Vec<Value>,
+    },
+    /// `key` is that of the value.
+    Object {
+        start: usize,
+        members: Vec<(String, Value)>,
+        key: String,
+    },
+}
+
+impl Unfinished {
+    /// The count of bytes before its bracket.
+    fn start(&self) -> usize
+        ensures { result ≡ start_of self.now }
+    {
+        match self {
+            Unfinished::Array { start, .. } => *start,
+            Unfinished::Object { start, .. } => *start,
+        }
+    }
+}
+
+/// Takes a value that is no collection, or an opening bracket.
+fn read_or_open<I: Input>(scanner: &mut Scanner<I>, room: usize) -> Result<ValueStart>
+    requires { IsInside scanner.old }
+    ensures { ReadsOrOpens room scanner.old scanner.new result }
+{
+    let Some(c) = scanner.peek() else {
+        return Err(Error::new(ErrorCode::EofParsingValue));
+    };
+    if c == '[' {
+        let bracket = open_bracket(scanner, room, BracketKind::Array)?;
+        return Ok(ValueStart::Bracket(bracket));
+    }
+    if c == '{' {
+        let bracket = open_bracket(scanner, room, BracketKind::Object)?;
+        return Ok(ValueStart::Bracket(bracket));
+    }
+    let value = read_scalar(scanner, c)?;
+    Ok(ValueStart::Scalar(value))
+}
+
+/// The fault, at the innermost bracket where it has no place and one is open.
+fn place_at_innermost<I: Input>(
+    scanner: &Scanner<I>,
+    stack: &mut Vec<Unfinished>,
+    error: Error,
+) -> Error
+    ensures { PlacedIn scanner.now.input stack.old.items error result }
+{
+    match stack.pop() {
+        Some(unfinished) => place_at(scanner, unfinished.start(), error),
+        None => error,
+    }
+}
+
+/// Goes on in an array with these elements: to the next, and then the array is on the stack; or the array ends.
+fn resume_array<I: Input>(
+    scanner: &mut Scanner<I>,
+    stack: &mut Vec<Unfinished>,
+    start: usize,
+    elements: Vec<Value>,
+    due: bool,
+) -> Result<Option<Value>>
+    requires { IsInside scanner.old }
+    ensures { TurnsInside (array_at elements.items due scanner.old) start due stack.old.items stack.new.items scanner.old scanner.new result }
+{
+    match skip_to_value(scanner, BracketKind::Array, due) {
+        Ok(true) => {
+            stack.push(Unfinished::Array { start, elements })?;
+            Ok(None)
+        }
+        Ok(false) => Ok(Some(Value::Array(elements))),
+        Err(e) => Err(place_at(scanner, start, e)),
+    }
+}
+
+/// Goes on in an object with these members: to the value of the next, and then the object is on the stack; or the object ends.
+fn resume_object<I: Input>(
+    scanner: &mut Scanner<I>,
+    stack: &mut Vec<Unfinished>,
+    start: usize,
+    members: Vec<(String, Value)>,
+    due: bool,
+) -> Result<Option<Value>>
+    requires { IsInside scanner.old }
+    ensures { TurnsInside (object_at members.items due scanner.old) start due stack.old.items stack.new.items scanner.old scanner.new result }
+{
+    match next_member_key(scanner, due) {
+        Ok(Some(key)) => {
+            stack.push(Unfinished::Object {
+                start,
+                members,
+                key,
+            })?;
+            Ok(None)
+        }
+        Ok(None) => Ok(Some(Value::Object(members))),
+        Err(e) => Err(place_at(scanner, start, e)),
+    }
+}
+
+/// Begins the value in front, and gives it where it ends at once.
+fn begin_value<I: Input>(
+    scanner: &mut Scanner<I>,
+    room: usize,
+    stack: &mut Vec<Unfinished>,
+) -> Result<Option<Value>>
+    requires { IsInside scanner.old }
+    ensures { Turns room stack.old.items stack.new.items scanner.old scanner.new result }
+{
+    let open = stack.len();
+    let left = room.saturating_sub(open);
+    let begun = match read_or_open(scanner, left) {
+        Ok(begun) => begun,
+        Err(e) => return Err(place_at_innermost(scanner, stack, e)),
+    };
+    let bracket = match begun {
+        ValueStart::Scalar(value) => return Ok(Some(value)),
+        ValueStart::Bracket(bracket) => bracket,
+    };
+    let alloc = scanner.allocator();
+    match bracket.kind {
+        BracketKind::Array => resume_array(scanner, stack, bracket.start, Vec::new(alloc), false),
+        BracketKind::Object => resume_object(scanner, stack, bracket.start, Vec::new(alloc), false),
+    }
+}
+
+/// Puts the value into what it stands in, and goes on there.
+fn attach_value<I: Input>(
+    scanner: &mut Scanner<I>,
+    stack: &mut Vec<Unfinished>,
+    unfinished: Unfinished,
+    value: Value,
+) -> Result<Option<Value>>
+    requires { IsInside scanner.old }
+    ensures { TurnsInside (value_in_at unfinished value scanner.old) (start_of unfinished) true stack.old.items stack.new.items scanner.old scanner.new result }
+{
+    match unfinished {
+        Unfinished::Array {
+            start,
+            mut elements,
+        } => {
+            elements.push(value)?;
+            resume_array(scanner, stack, start, elements, true)
+        }
+        Unfinished::Object {
+            start,
+            mut members,
+            key,
+        } => {
+            members.push((key, value))?;
+            resume_object(scanner, stack, start, members, true)
+        }
+    }
+}
+
+/// Reads the value in front, in which so many brackets may be open at once: null, a boolean, a number, a text, an array or an
+/// object, whose members keep their order and their equal keys. The arrays and objects that it opens are on a stack, the outermost
+/// first.
+///
+/// Beside the faults of comments and tokens it refuses with `ExpectedValue`, `ExpectedIdentifier`, `ExpectedColon` or
+/// `ExpectedComma` at the character that stands in their place, with `TooDeep` at the bracket that there is no room for, and with
+/// `OutOfMemory`. Where the text ends, an `EofParsing` code has the place of the innermost bracket that the value opened, or none
+/// outside of all.
+pub fn read_value<I: Input>(scanner: &mut Scanner<I>, room: usize) -> Result<Value>
+    ensures { ReadsDatum room scanner.old scanner.new result }
+{
+    let _offset = scanner.offset();
+    let mut stack = Vec::new(scanner.allocator());
+    let mut ended = None;
+    loop {
+        match ended {
+            None => ended = begin_value(scanner, room, &mut stack)?,
+            Some(value) => {
+                let Some(unfinished) = stack.pop() else {
+                    return Ok(value);
+                };
+                ended = attach_value(scanner, &mut stack, unfinished, value)?;
+            }
+        }
+    }
+}

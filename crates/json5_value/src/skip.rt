@@ -1,0 +1,138 @@
+//! Passing over values of any kind.
+
+ghost use Rattle.std.specs.Prelude.{◌<◌, ◌≤◌, length};
+ghost use Rattle.json5_grammar.specs.Documents.{max_depth};
+ghost use Rattle.json5_value.specs.Opening.{AtScalar};
+ghost use Rattle.json5_value.specs.Steps.{IsInside, Steps, value_at};
+ghost use Rattle.json5_value.specs.Skipping.{SkipsOrOpens, Turns, TurnsInside, PlacedWithin, Skips};
+
+use crate::brackets::{BracketKind, OpenBracket, open_bracket};
+use crate::entries::skip_to_value;
+use crate::faults::{fault_here, place_at};
+use crate::kinds::{ValueKind, kind_at, skip_literal};
+use arrayvec::ArrayVec;
+use json5_text::ErrorCode;
+use json5_text::error::{Error, Result};
+use json5_text::input::Input;
+use json5_text::scanner::Scanner;
+
+/// The open brackets, the outermost first.
+type OpenBrackets = ArrayVec<OpenBracket, 128>;
+
+/// Passes over a value that is no collection and begins with the character.
+fn skip_scalar<I: Input>(scanner: &mut Scanner<I>, room: usize, c: char) -> Result<()>
+    requires { AtScalar c scanner.old }
+    ensures { Steps (value_at room scanner.old) scanner.old scanner.new result }
+{
+    match kind_at(c) {
+        ValueKind::Literal(literal) => skip_literal(scanner, literal),
+        ValueKind::String => scanner.skip_string(),
+        ValueKind::Number => {
+            scanner.skip_number()?;
+            Ok(())
+        }
+        ValueKind::Other => Err(fault_here(scanner, ErrorCode::ExpectedValue)),
+    }
+}
+
+/// Passes over a value that is no collection, or takes an opening bracket.
+fn skip_or_open<I: Input>(scanner: &mut Scanner<I>, room: usize) -> Result<Option<OpenBracket>>
+    requires { IsInside scanner.old }
+    ensures { SkipsOrOpens room scanner.old scanner.new result }
+{
+    let Some(c) = scanner.peek() else {
+        return Err(Error::new(ErrorCode::EofParsingValue));
+    };
+    if c == '[' {
+        let bracket = open_bracket(scanner, room, BracketKind::Array)?;
+        return Ok(Some(bracket));
+    }
+    if c == '{' {
+        let bracket = open_bracket(scanner, room, BracketKind::Object)?;
+        return Ok(Some(bracket));
+    }
+    skip_scalar(scanner, room, c)?;
+    Ok(None)
+}
+
+/// The fault, at the innermost bracket where it has no place and one is open.
+fn place_at_innermost<I: Input>(
+    scanner: &Scanner<I>,
+    brackets: &mut OpenBrackets,
+    error: Error,
+) -> Error
+    ensures { PlacedWithin scanner.now.input brackets.old.items error result }
+{
+    match brackets.pop() {
+        Some(bracket) => place_at(scanner, bracket.start, error),
+        None => error,
+    }
+}
+
+/// Goes on in a bracket that isn't among the open ones: to a value, which the answer true says, and then the bracket is
+/// among them; or past its closing sign.
+fn resume_bracket<I: Input>(
+    scanner: &mut Scanner<I>,
+    brackets: &mut OpenBrackets,
+    bracket: OpenBracket,
+    due: bool,
+) -> Result<bool>
+    requires ready { IsInside scanner.old }
+    requires place { length brackets.old.items < 128 }
+    ensures { TurnsInside due bracket brackets.old.items brackets.new.items scanner.old scanner.new result }
+{
+    match skip_to_value(scanner, bracket.kind, due) {
+        Ok(true) => {
+            brackets.push(bracket);
+            Ok(true)
+        }
+        Ok(false) => Ok(false),
+        Err(e) => Err(place_at(scanner, bracket.start, e)),
+    }
+}
+
+/// Begins the value in front within the open brackets, and says whether a value is next.
+fn begin_value<I: Input>(
+    scanner: &mut Scanner<I>,
+    room: usize,
+    brackets: &mut OpenBrackets,
+) -> Result<bool>
+    requires ready { IsInside scanner.old }
+    requires room { room ≤ max_depth }
+    ensures { Turns room brackets.old.items brackets.new.items scanner.old scanner.new result }
+{
+    let open = brackets.len();
+    let left = room.saturating_sub(open);
+    let begun = match skip_or_open(scanner, left) {
+        Ok(begun) => begun,
+        Err(e) => return Err(place_at_innermost(scanner, brackets, e)),
+    };
+    let Some(bracket) = begun else {
+        return Ok(false);
+    };
+    resume_bracket(scanner, brackets, bracket, false)
+}
+
+/// Passes over the value in front, in which so many brackets may be open at once. Takes no memory where it succeeds.
+///
+/// Beside the faults of comments and tokens it refuses with `ExpectedValue`, `ExpectedIdentifier`, `ExpectedColon` or
+/// `ExpectedComma` at the character that stands in their place, and with `TooDeep` at the bracket that there is no room for. Where
+/// the text ends, an `EofParsing` code has the place of the innermost bracket that the value opened, or none outside of all.
+pub fn skip_value<I: Input>(scanner: &mut Scanner<I>, room: usize) -> Result<()>
+    requires { room ≤ max_depth }
+    ensures { Skips room scanner.old scanner.new result }
+{
+    let _offset = scanner.offset();
+    let mut brackets = OpenBrackets::new();
+    let mut at_value = true;
+    loop {
+        if at_value {
+            at_value = begin_value(scanner, room, &mut brackets)?;
+        } else {
+            let Some(bracket) = brackets.pop() else {
+                return Ok(());
+            };
+            at_value = resume_bracket(scanner, &mut brackets, bracket, true)?;
+        }
+    }
+}
