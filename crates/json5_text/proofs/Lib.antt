@@ -10,12 +10,11 @@ pub mod EscapesSpelled
 pub mod FaultsCompared
 pub mod TextsCompared
 pub mod ScanEscapes
-pub mod ScanStrings
+pub mod ScanTexts
 pub mod Copied
 pub mod DeepestInside
 pub mod LookedUp
 pub mod ValuesCompared
-pub mod ScanNames
 pub mod NumberSteps
 pub mod NumberLiterals
 pub mod NumberValues

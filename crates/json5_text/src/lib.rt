@@ -25,6 +25,7 @@ mod refusal;
 mod runs;
 pub mod scanner;
 pub mod strings;
+mod texts;
 pub mod value;
 pub mod whole;
 mod words;

@@ -3,7 +3,7 @@ use Rattle.std.specs.Str.{chars}
 use Rattle.json5_grammar.specs.declared.code.ErrorCode.TheVariants.{InvalidEscapeSequence}
 use Rattle.json5_text.specs.Outcome.{outcome}
 use Rattle.json5_text.proofs.ScanEscapes.{refused_here}
-use Rattle.json5_text.proofs.ScanNames.{escape_none, escape_other, escape_unicode}
+use Rattle.json5_text.proofs.ScanTexts.{escape_none, escape_other, escape_unicode}
 use Rattle.json5_text.proofs.names.read_escape.Goals as goal
 
 pub returns-in_default : goal.returns-in_default

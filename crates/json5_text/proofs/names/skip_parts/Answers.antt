@@ -1,6 +1,6 @@
 use Rattle.std.proofs.Common.{◌≡◌, true, arith}
-use Rattle.json5_text.specs.ScanNames.{is_raw_part}
-use Rattle.json5_text.proofs.ScanStrings.{one_more, more_of}
+use Rattle.json5_text.specs.ScanTexts.{is_raw_part}
+use Rattle.json5_text.proofs.ScanTexts.{one_more, more_of}
 use Rattle.json5_text.proofs.names.skip_parts.Goals as goal
 
 pub loop-c-preserved : goal.loop-c-preserved

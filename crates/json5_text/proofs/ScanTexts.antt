@@ -1,0 +1,249 @@
+-- Steps of reading strings and names.
+use Rattle.std.proofs.Common.{◌≡◌, ℕ, suc, ◌+◌, ◌<◌, ◌≤◌, Bool, true, false, List, [], ◌∷◌, ◌++◌, length, refl, ap, sym, ◌∙◌, append_assoc, subst, arith, Option, Some}
+use Rattle.std.specs.Prelude.{◌==◌, ◌||◌, ◌&&◌, not, Result, Ok, Err}
+use Rattle.std.specs.Str.{IsUtf8, chars, encode_utf8_all}
+use Rattle.std.proofs.lemmas.Bool.Decides.{nat_tests}
+use Rattle.std.proofs.lemmas.Str.{encodes-append, encodes-chars}
+use Rattle.json5_grammar.specs.Characters.{NotBegun, Each, no_char, char, is_identifier_start, is_identifier_part}
+use Rattle.json5_grammar.specs.declared.code.ErrorCode.{ErrorCode}
+use Rattle.json5_grammar.specs.declared.code.ErrorCode.TheVariants.{EofParsingIdentifier, EofParsingString, ExpectedIdentifier, ExpectedString, InvalidEscapeSequence, LineTerminatorInString}
+use Rattle.json5_grammar.specs.Strings.{is_raw, is_quote}
+use Rattle.json5_grammar.specs.Reading.{Read, Place, got, bad, here, inner, and_then}
+use Rattle.json5_grammar.specs.ReadTexts.{escape_at, name_escape, unicode_at, fit, one_char, put, string, identifier}
+use Rattle.json5_grammar.proofs.EscapesSound.{EscapeSound, escape_sound}
+use Rattle.json5_grammar.proofs.NamesRead.{unicode_head}
+use Rattle.json5_grammar.proofs.NamesSound.{EscapedSound, escaped_sound}
+use Rattle.json5_grammar.proofs.StringsRead.{escape_head, put_none, raw_fails, quote_no_backslash}
+use Rattle.json5_grammar.proofs.StringsSound.{shorter}
+use Rattle.json5_grammar.proofs.Turns.{string_is, rest_end, rest_quote, rest_line, rest_raw, rest_bad, rest_escape, name_rest, name_end, name_stops, name_raw, name_escaped, name_bad, start_raw, start_escaped, start_bad}
+use Rattle.json5_text.specs.declared.refusal.Refusal.{Refusal}
+use Rattle.json5_text.specs.declared.texts.Kind.{Kind}
+use Rattle.json5_text.specs.declared.texts.Kind.TheVariants as kind
+use Rattle.json5_text.specs.declared.texts.Quote.{Quote}
+use Rattle.json5_text.specs.declared.texts.Quote.TheVariants as quotes
+use Rattle.json5_text.specs.declared.texts.Stop.{Stop}
+use Rattle.json5_text.specs.declared.texts.Stop.TheVariants as stop
+use Rattle.json5_text.specs.Outcome.{outcome}
+use Rattle.json5_text.specs.Refused.{Refuses}
+use Rattle.json5_text.specs.Scan.{SkipsAll}
+use Rattle.json5_text.specs.ScanTexts.{quote_of, rest_of, past, ends_early, text_at, string_at, fits, is_raw_part, is_raw_in, Run, SkipsRaw, item_of_name, item, GoesOn}
+use Rattle.json5_text.proofs.ScanEscapes.{refuses_as}
+
+-- ---- characters that stand for themselves
+
+pub quote_is : (q : Quote) → is_quote (quote_of q) ≡ true
+quote_is quotes.Double = refl
+quote_is quotes.Single = refl
+
+rest_twice : (k : Kind) → rest_of (rest_of k) ≡ rest_of k
+rest_twice kind.Name = refl
+rest_twice kind.NameRest = refl
+rest_twice (kind.String q) = refl
+
+pub past_rest : (k : Kind) (raw : List ℕ) → past (rest_of k) raw ≡ rest_of k
+past_rest k [] = refl
+past_rest k (c ∷ raw) = rest_twice k
+
+rest_is : (x : List ℕ) → text_at kind.NameRest x ≡ name_rest x
+unfolding name_rest
+rest_is x = refl
+
+both : (a b : Bool) → (not a && b) ≡ true → (a ≡ false) × (b ≡ true)
+both true b h = absurd (cc)
+both false b h = (refl, h)
+
+one_raw : (k : Kind) (c : ℕ) (x : List ℕ) → is_raw_in k c ≡ true → text_at k (c ∷ x) ≡ put (c ∷ []) true (text_at (rest_of k) x)
+one_raw kind.Name c x h = let f = both (c == 92) (is_identifier_start c) h in start_raw c x f.0 f.1 ∙ ap (put (c ∷ []) true) (sym (rest_is x))
+one_raw kind.NameRest c x h = let f = both (c == 92) (is_identifier_part c) h in rest_is (c ∷ x) ∙ name_raw c x f.0 f.1 ∙ ap (put (c ∷ []) true) (sym (rest_is x))
+one_raw (kind.String q) c x h =
+    let f = raw_fails (quote_of q) c h in
+    string_is (quote_of q) (c ∷ x) ∙ rest_raw (quote_of q) c x f.0 f.1 f.2 ∙ ap (put (c ∷ []) true) (sym (string_is (quote_of q) x))
+
+put_put : (u v : List ℕ) (p q : Bool) (m : Read (List ℕ × Bool)) → put u p (put v q m) ≡ put (u ++ v) (p && q) m
+put_put u v true q (got a r) = ap (λ t. got (t, q && a.1) r) (sym (append_assoc u v a.0))
+put_put u v false q (got a r) = ap (λ t. got (t, false) r) (sym (append_assoc u v a.0))
+put_put u v p q (bad e z) = refl
+
+each_read : (k : Kind) (raw x : List ℕ) → Each (is_raw_in (rest_of k)) raw → text_at (rest_of k) (raw ++ x) ≡ put raw true (text_at (rest_of k) x)
+each_read k [] x e = put_none (text_at (rest_of k) x)
+each_read k (c ∷ raw) x (char h e) =
+    one_raw (rest_of k) c (raw ++ x) h ∙ ap (λ j. put (c ∷ []) true (text_at j (raw ++ x))) (rest_twice k) ∙ ap (put (c ∷ []) true) (each_read k raw x e) ∙ put_put (c ∷ []) raw true true (text_at (rest_of k) x)
+
+pub run_read : (k : Kind) (raw x : List ℕ) → Run k raw → text_at k (raw ++ x) ≡ put raw true (text_at (past k raw) x)
+run_read k [] x e = put_none (text_at k x)
+run_read k (c ∷ raw) x e = one_raw k c (raw ++ x) e.0 ∙ ap (put (c ∷ []) true) (each_read k raw x e.1) ∙ put_put (c ∷ []) raw true true (text_at (rest_of k) x)
+
+run_each : (k : Kind) (raw : List ℕ) → Each (is_raw_in (rest_of k)) raw → Run (rest_of k) raw
+run_each k [] e = tt
+run_each k (c ∷ raw) (char h e) = (h, subst (λ j. Each (is_raw_in j) raw) (sym (rest_twice k)) e)
+
+pub all_raw : (k : Kind) (whole rest : List ℕ) → SkipsAll (is_raw_in (rest_of k)) whole rest → SkipsRaw (rest_of k) whole rest
+all_raw k whole rest s = record {
+  passed = s.passed;
+  split = s.split;
+  each = run_each k s.passed s.each;
+  stops = subst (λ j. NotBegun (is_raw_in j) (chars rest)) (sym (past_rest k s.passed)) s.stops;
+}
+
+-- ---- what ends a run
+
+pub stop_none : (k : Kind) (x : List ℕ) → x ≡ [] → text_at k x ≡ bad (Some (ends_early k)) inner
+unfolding identifier
+stop_none kind.Name x e = rw e refl
+stop_none kind.NameRest x e = rw e (rest_is [] ∙ name_end)
+stop_none (kind.String q) x e = rw e (string_is (quote_of q) [] ∙ rest_end (quote_of q))
+
+other : (a b : Bool) → a ≡ false → (not a && b) ≡ false → b ≡ false
+other true b i h = absurd (cc)
+other false b i h = h
+
+pub no_start : (c : ℕ) (x r : List ℕ) → x ≡ c ∷ r → NotBegun (is_raw_in kind.Name) x → (c ≡ 92 → ⊥) → text_at kind.Name x ≡ bad (Some ExpectedIdentifier) (here x)
+unfolding identifier
+no_start c x r e s n =
+    let t : (c == 92) ≡ false = grind arith in
+    let h : is_identifier_start c ≡ false = other (c == 92) (is_identifier_start c) t (subst (NotBegun (is_raw_in kind.Name)) e s) in
+    rw e (rw (t, h) refl)
+
+pub no_part : (c : ℕ) (x r : List ℕ) → x ≡ c ∷ r → NotBegun (is_raw_in kind.NameRest) x → (c ≡ 92 → ⊥) → text_at kind.NameRest x ≡ got ([], true) x
+no_part c x r e s n =
+    let t : (c == 92) ≡ false = grind arith in
+    let h : is_identifier_part c ≡ false = other (c == 92) (is_identifier_part c) t (subst (NotBegun (is_raw_in kind.NameRest)) e s) in
+    rw e (rest_is (c ∷ r) ∙ name_stops c r t h)
+
+pub at_quote : (q : Quote) (c : ℕ) (x r : List ℕ) → x ≡ c ∷ r → c ≡ quote_of q → text_at (kind.String q) x ≡ got ([], true) r
+at_quote q c x r e f = rw e (string_is (quote_of q) (c ∷ r) ∙ rest_quote (quote_of q) c r (grind arith))
+
+not_raw : (q c : ℕ) → is_raw q c ≡ false → (c == q) ≡ false → (c == 92) ≡ false → ((c == 10) || (c == 13)) ≡ true
+not_raw q c h i j = grind (arith, nat_tests)
+
+pub at_line_end : (q : Quote) (c : ℕ) (x r : List ℕ) → x ≡ c ∷ r → NotBegun (is_raw_in (kind.String q)) x → (c ≡ quote_of q → ⊥) → (c ≡ 92 → ⊥) → text_at (kind.String q) x ≡ bad (Some LineTerminatorInString) (here x)
+at_line_end q c x r e s m n =
+    let a : (c == quote_of q) ≡ false = grind arith in
+    let b : (c == 92) ≡ false = grind arith in
+    let h : is_raw (quote_of q) c ≡ false = subst (NotBegun (is_raw_in (kind.String q))) e s in
+    rw e (string_is (quote_of q) (c ∷ r) ∙ rest_line (quote_of q) c r a b (not_raw (quote_of q) c h a b))
+
+-- ---- escapes
+
+one_read : (res : Read ℕ) (v z : List ℕ) → and_then res one_char ≡ got v z → (n : ℕ) × (res ≡ got n z) × (v ≡ n ∷ [])
+one_read (got n r) v z e = (n, cc, cc)
+one_read (bad c p) v z e = absurd (cc)
+
+one_refused : (res : Read ℕ) (c : Option ErrorCode) (p : Place) → and_then res one_char ≡ bad c p → res ≡ bad c p
+one_refused (got n r) c p e = absurd (cc)
+one_refused (bad d q) c p e = cc
+
+-- an escape that is read, and then the rest
+item_at : (k : Kind) (y v z : List ℕ) → item k (92 ∷ y) y ≡ got v z → (text_at k (92 ∷ y) ≡ put v false (text_at (rest_of k) z)) × (length z ≤ length y)
+item_at kind.Name y v z h =
+    let n = one_read _ v z h in
+    let s = subst (EscapedSound (fits true) (92 ∷ y)) n.1 (escaped_sound (fits true) y) in
+    let l : length z < length (92 ∷ y) = shorter (92 ∷ y) s.0 z s.1 (unicode_head s.2) in
+    (start_escaped y z n.0 n.1 ∙ ap (λ w. put w false (name_rest z)) (sym n.2) ∙ ap (put v false) (sym (rest_is z)), omega arith)
+item_at kind.NameRest y v z h =
+    let n = one_read _ v z h in
+    let s = subst (EscapedSound (fits false) (92 ∷ y)) n.1 (escaped_sound (fits false) y) in
+    let l : length z < length (92 ∷ y) = shorter (92 ∷ y) s.0 z s.1 (unicode_head s.2) in
+    (rest_is (92 ∷ y) ∙ name_escaped y z n.0 n.1 ∙ ap (λ w. put w false (name_rest z)) (sym n.2) ∙ ap (put v false) (sym (rest_is z)), omega arith)
+item_at (kind.String q) y v z h =
+    let s = subst (EscapeSound (92 ∷ y)) h (escape_sound y) in
+    let l : length z < length (92 ∷ y) = shorter (92 ∷ y) s.0 z s.1 (escape_head s.2) in
+    (string_is (quote_of q) (92 ∷ y) ∙ rest_escape (quote_of q) y v z (quote_no_backslash (quote_of q) (quote_is q)) h ∙ ap (put v false) (sym (string_is (quote_of q) z)), omega arith)
+
+fault_at : (k : Kind) (y : List ℕ) (c : Option ErrorCode) (p : Place) → item k (92 ∷ y) y ≡ bad c p → text_at k (92 ∷ y) ≡ bad c p
+fault_at kind.Name y c p h = start_bad y c p (one_refused _ c p h)
+fault_at kind.NameRest y c p h = rest_is (92 ∷ y) ∙ name_bad y c p (one_refused _ c p h)
+fault_at (kind.String q) y c p h = string_is (quote_of q) (92 ∷ y) ∙ rest_bad (quote_of q) y c p (quote_no_backslash (quote_of q) (quote_is q)) h
+
+pub item_read : (k : Kind) (x y v z : List ℕ) → x ≡ 92 ∷ y → item k x y ≡ got v z → (text_at k x ≡ put v false (text_at (rest_of k) z)) × (length z ≤ length y)
+item_read k x y v z e = subst (λ t. item k t y ≡ got v z → (text_at k t ≡ put v false (text_at (rest_of k) z)) × (length z ≤ length y)) (sym e) (item_at k y v z)
+
+pub item_refused : (k : Kind) (r : Refusal) (x y : List ℕ) → x ≡ 92 ∷ y → Refuses r (outcome (item k x y)) → Refuses r (outcome (text_at k x))
+item_refused k r x y e = refuses_as r (item k x y) (text_at k x) (λ c p. subst (λ t. item k t y ≡ bad c p → text_at k t ≡ bad c p) (sym e) (fault_at k y c p))
+
+-- ---- what is read up to an escape, and from there on
+
+pub goes_past : (whole next : Read (List ℕ × Bool)) (u v : List ℕ) (p q : Bool) (s : Stop) → whole ≡ put u p next → GoesOn next v q s → GoesOn whole (u ++ v) (p && q) s
+goes_past whole next u v p q (stop.End rest) e g = record { read = e ∙ ap (put u p) g.read; text = g.text }
+goes_past whole next u v p q (stop.Escape k x y) e g = record {
+  read = e ∙ ap (put u p) g.read ∙ put_put u v p q (text_at k (chars x.now));
+  sign = g.sign;
+  text = g.text;
+  after_text = g.after_text;
+}
+
+pub refused_past : (r : Refusal) (whole next : Read (List ℕ × Bool)) (u : List ℕ) (p : Bool) → whole ≡ put u p next → Refuses r (outcome next) → Refuses r (outcome whole)
+refused_past r whole next u p e = refuses_as r next whole (λ c z g. e ∙ ap (put u p) g)
+
+pub bytes_past : (a b c u v : List ℕ) → b ≡ a ++ encode_utf8_all u → c ≡ b ++ encode_utf8_all v → c ≡ a ++ encode_utf8_all (u ++ v)
+bytes_past a b c u v e f = f ∙ ap (λ t. t ++ encode_utf8_all v) e ∙ append_assoc a (encode_utf8_all u) (encode_utf8_all v) ∙ ap (λ t. a ++ t) (sym (encodes-append u v))
+
+pub both_parts : (r u : List ℕ) → IsUtf8 r → r ++ encode_utf8_all u ≡ encode_utf8_all (chars r ++ u)
+both_parts r u k = ap (λ t. t ++ encode_utf8_all u) (sym (encodes-chars r k)) ∙ sym (encodes-append (chars r) u)
+
+-- ---- a text with an escape isn't plain
+
+abbrev flag : Read (List ℕ × Bool) → Bool
+flag (got a r) = a.1
+flag (bad e p) = false
+
+plain_put : (v u r : List ℕ) (p : Bool) (m : Read (List ℕ × Bool)) → put v p m ≡ got (u, true) r → (p ≡ true) × ((w : List ℕ) × (y : List ℕ) × (m ≡ got (w, true) y))
+plain_put v u r true (got (w, true) y) e = (refl, (w, y, refl))
+plain_put v u r true (got (w, false) y) e = let h : false ≡ true = ap flag e in absurd (cc)
+plain_put v u r false (got a y) e = let h : false ≡ true = ap flag e in absurd (cc)
+plain_put v u r p (bad c z) e = let h : false ≡ true = ap flag e in absurd (cc)
+
+pub escape_not_plain : (k : Kind) (x y u r : List ℕ) → x ≡ 92 ∷ y → text_at k x ≡ got (u, true) r → ⊥
+escape_not_plain k x y u r e f = by_item (item k x y) refl
+  where
+    by_item : (res : Read (List ℕ)) → item k x y ≡ res → ⊥
+    by_item (got v z) h = let p = (plain_put v u r false (text_at (rest_of k) z) (sym (item_read k x y v z e h).0 ∙ f)).0 in absurd (cc)
+    by_item (bad c p) h =
+        let g : text_at k x ≡ bad c p = subst (λ t. item k t y ≡ bad c p → text_at k t ≡ bad c p) (sym e) (fault_at k y c p) h in
+        absurd (cc)
+
+pub not_plain_past : (whole next : Read (List ℕ × Bool)) (u v r : List ℕ) (p : Bool) → whole ≡ put u p next → ((w y : List ℕ) → next ≡ got (w, true) y → ⊥) → whole ≡ got (v, true) r → ⊥
+not_plain_past whole next u v r p e n f = let k = (plain_put u v r p next (sym e ∙ f)).1 in n k.0 k.1.0 k.1.1
+
+-- ---- a name's escape
+
+pub escape_none : (b xs : List ℕ) → xs ≡ [] → name_escape b xs ≡ bad (Some EofParsingIdentifier) inner
+unfolding name_escape
+escape_none b xs e = rw e refl
+
+pub escape_other : (c : ℕ) (b xs ys : List ℕ) → xs ≡ c ∷ ys → (c ≡ 117 → ⊥) → name_escape b xs ≡ bad (Some InvalidEscapeSequence) (here xs)
+unfolding name_escape
+escape_other c b xs ys e n = let t : (c == 117) ≡ false = grind arith in rw e (rw t refl)
+
+pub escape_unicode : (c : ℕ) (b xs ys : List ℕ) → xs ≡ c ∷ ys → c ≡ 117 → name_escape b xs ≡ unicode_at b ys
+unfolding name_escape
+escape_unicode c b xs ys e h = rw (e, h) refl
+
+pub item_misfits : (first : Bool) (b xs ys : List ℕ) (n : ℕ) → name_escape b xs ≡ got n ys → fits first n ≡ false → item_of_name first b xs ≡ bad (Some ExpectedIdentifier) (here b)
+item_misfits first b xs ys n e h = ap (λ z. and_then (and_then z (fit (fits first) b)) one_char) e ∙ rw h refl
+
+pub item_fits : (first : Bool) (b xs ys : List ℕ) (n : ℕ) → name_escape b xs ≡ got n ys → fits first n ≡ true → item_of_name first b xs ≡ got (n ∷ []) ys
+item_fits first b xs ys n e h = ap (λ z. and_then (and_then z (fit (fits first) b)) one_char) e ∙ rw h refl
+
+-- ---- where a string is expected
+
+pub string_none : (x : List ℕ) → x ≡ [] → string_at x ≡ bad (Some EofParsingString) inner
+unfolding string_at
+string_none x e = rw e refl
+
+pub string_other : (c : ℕ) (x r : List ℕ) → x ≡ c ∷ r → is_quote c ≡ false → string_at x ≡ bad (Some ExpectedString) (here x)
+unfolding string_at
+string_other c x r e h = rw e (rw h refl)
+
+pub string_quote : (q : Quote) (c : ℕ) (x r : List ℕ) → x ≡ c ∷ r → c ≡ quote_of q → string_at x ≡ text_at (kind.String q) r
+unfolding string_at
+string_quote q c x r e h = rw (e, h) (rw (quote_is q) refl)
+
+-- ---- more characters that pass a test
+
+pub more_of : (p : ℕ → Bool) (x y z w : List ℕ) → (raw : List ℕ) × (x ≡ raw ++ y) × Each p raw → y ≡ w ++ z → Each p w → (raw : List ℕ) × (x ≡ raw ++ z) × Each p raw
+more_of p x y z w (raw, e, k) f h = (raw ++ w, e ∙ ap (λ t. raw ++ t) f ∙ sym (append_assoc raw w z), both_each raw k)
+  where
+    both_each : (raw : List ℕ) → Each p raw → Each p (raw ++ w)
+    both_each [] k = h
+    both_each (d ∷ raw) (char i k) = char i (both_each raw k)
