@@ -1,15 +1,16 @@
 -- Steps of reading strings and names.
-use Rattle.std.proofs.Common.{◌≡◌, ℕ, suc, ◌+◌, ◌<◌, ◌≤◌, Bool, true, false, List, [], ◌∷◌, ◌++◌, length, refl, ap, sym, ◌∙◌, append_assoc, subst, arith, Option, Some}
-use Rattle.std.specs.Prelude.{◌==◌, ◌||◌, ◌&&◌, not, Result, Ok, Err}
+use Rattle.std.proofs.Common.{◌≡◌, ℕ, ◌+◌, ◌<◌, ◌≤◌, Bool, true, false, List, [], ◌∷◌, ◌++◌, length, refl, ap, sym, ◌∙◌, append_assoc, subst, arith, Option, Some}
+use Rattle.std.specs.Prelude.{◌==◌, ◌||◌, ◌&&◌, not, Ok}
 use Rattle.std.specs.Str.{IsUtf8, chars, encode_utf8_all}
 use Rattle.std.proofs.lemmas.Bool.Decides.{nat_tests}
+use Rattle.std.proofs.lemmas.List.{length-append, append-nil}
 use Rattle.std.proofs.lemmas.Str.{encodes-append, encodes-chars}
-use Rattle.json5_grammar.specs.Characters.{NotBegun, Each, no_char, char, is_identifier_start, is_identifier_part}
+use Rattle.json5_grammar.specs.Characters.{NotBegun, Each, char, is_identifier_start, is_identifier_part}
 use Rattle.json5_grammar.specs.declared.code.ErrorCode.{ErrorCode}
 use Rattle.json5_grammar.specs.declared.code.ErrorCode.TheVariants.{EofParsingIdentifier, EofParsingString, ExpectedIdentifier, ExpectedString, InvalidEscapeSequence, LineTerminatorInString}
 use Rattle.json5_grammar.specs.Strings.{is_raw, is_quote}
 use Rattle.json5_grammar.specs.Reading.{Read, Place, got, bad, here, inner, and_then}
-use Rattle.json5_grammar.specs.ReadTexts.{escape_at, name_escape, unicode_at, fit, one_char, put, string, identifier}
+use Rattle.json5_grammar.specs.ReadTexts.{name_escape, unicode_at, fit, one_char, put, identifier}
 use Rattle.json5_grammar.proofs.EscapesSound.{EscapeSound, escape_sound}
 use Rattle.json5_grammar.proofs.NamesRead.{unicode_head}
 use Rattle.json5_grammar.proofs.NamesSound.{EscapedSound, escaped_sound}
@@ -26,7 +27,8 @@ use Rattle.json5_text.specs.declared.texts.Stop.TheVariants as stop
 use Rattle.json5_text.specs.Outcome.{outcome}
 use Rattle.json5_text.specs.Refused.{Refuses}
 use Rattle.json5_text.specs.Scan.{SkipsAll}
-use Rattle.json5_text.specs.ScanTexts.{quote_of, rest_of, past, ends_early, text_at, string_at, fits, is_raw_part, is_raw_in, Run, SkipsRaw, item_of_name, item, GoesOn}
+use Rattle.json5_text.specs.ScanTexts.{quote_of, rest_of, past, ends_early, text_at, string_at, fits, is_raw_in, Run, SkipsRaw, item_of_name, item, GoesOn, AnswersStop, IsRun}
+use Rattle.json5_text.proofs.ScanBytes.{no_chars}
 use Rattle.json5_text.proofs.ScanEscapes.{refuses_as}
 
 -- ---- characters that stand for themselves
@@ -69,7 +71,7 @@ each_read k [] x e = put_none (text_at (rest_of k) x)
 each_read k (c ∷ raw) x (char h e) =
     one_raw (rest_of k) c (raw ++ x) h ∙ ap (λ j. put (c ∷ []) true (text_at j (raw ++ x))) (rest_twice k) ∙ ap (put (c ∷ []) true) (each_read k raw x e) ∙ put_put (c ∷ []) raw true true (text_at (rest_of k) x)
 
-pub run_read : (k : Kind) (raw x : List ℕ) → Run k raw → text_at k (raw ++ x) ≡ put raw true (text_at (past k raw) x)
+run_read : (k : Kind) (raw x : List ℕ) → Run k raw → text_at k (raw ++ x) ≡ put raw true (text_at (past k raw) x)
 run_read k [] x e = put_none (text_at k x)
 run_read k (c ∷ raw) x e = one_raw k c (raw ++ x) e.0 ∙ ap (put (c ∷ []) true) (each_read k raw x e.1) ∙ put_put (c ∷ []) raw true true (text_at (rest_of k) x)
 
@@ -84,6 +86,24 @@ all_raw k whole rest s = record {
   each = run_each k s.passed s.each;
   stops = subst (λ j. NotBegun (is_raw_in j) (chars rest)) (sym (past_rest k s.passed)) s.stops;
 }
+
+pub past_none : (k : Kind) (run : List ℕ) → length run ≡ 0 → past k (chars run) ≡ k
+past_none k run e = rw (no_chars run e) refl
+
+pub past_some : (k : Kind) (run : List ℕ) → IsUtf8 run → (length run ≡ 0 → ⊥) → past k (chars run) ≡ rest_of k
+past_some k run u n = by_chars (chars run) (encodes-chars run u)
+  where
+    by_chars : (xs : List ℕ) → encode_utf8_all xs ≡ run → past k xs ≡ rest_of k
+    by_chars [] e = absurd (n (ap length (sym e)))
+    by_chars (c ∷ xs) e = refl
+
+-- what is passed over is the run, and the rest is read after it
+pub run_stops : (k j : Kind) (whole run rest : List ℕ) (s : SkipsRaw k whole rest) → chars run ≡ s.passed → j ≡ past k (chars run) → NotBegun (is_raw_in j) (chars rest)
+run_stops k j whole run rest s e f = subst (λ i. NotBegun (is_raw_in i) (chars rest)) (ap (past k) (sym e) ∙ sym f) s.stops
+
+pub run_past : (k j : Kind) (whole run rest : List ℕ) (s : SkipsRaw k whole rest) → chars run ≡ s.passed → j ≡ past k (chars run) → text_at k (chars whole) ≡ put (chars run) true (text_at j (chars rest))
+run_past k j whole run rest s e f =
+    ap (text_at k) s.split ∙ run_read k s.passed (chars rest) s.each ∙ ap (λ z. put z true (text_at (past k z) (chars rest))) (sym e) ∙ ap (λ i. put (chars run) true (text_at i (chars rest))) (sym f)
 
 -- ---- what ends a run
 
@@ -165,18 +185,23 @@ item_refused k r x y e = refuses_as r (item k x y) (text_at k x) (λ c p. subst 
 
 pub goes_past : (whole next : Read (List ℕ × Bool)) (u v : List ℕ) (p q : Bool) (s : Stop) → whole ≡ put u p next → GoesOn next v q s → GoesOn whole (u ++ v) (p && q) s
 goes_past whole next u v p q (stop.End rest) e g = record { read = e ∙ ap (put u p) g.read; text = g.text }
-goes_past whole next u v p q (stop.Escape k x y) e g = record {
-  read = e ∙ ap (put u p) g.read ∙ put_put u v p q (text_at k (chars x.now));
-  sign = g.sign;
-  text = g.text;
-  after_text = g.after_text;
+goes_past whole next u v p q (stop.Escape k x y) e g = (e ∙ ap (put u p) g.0 ∙ put_put u v p q (text_at k (chars x.now)), g.1)
+
+pub run_ends : (k j : Kind) (whole run rest : List ℕ) (end : Stop) (s : SkipsRaw k whole rest) → chars run ≡ s.passed → j ≡ past k (chars run) → IsUtf8 run → AnswersStop j rest (Ok end) → IsRun k whole run end
+run_ends k j whole run rest end s e f u g = record {
+  goes_on = subst (λ t. GoesOn (text_at k (chars whole)) t true end) (append-nil (chars run)) (goes_past _ _ (chars run) [] true true end (run_past k j whole run rest s e f) g.0);
+  left = let l : length (chars whole) ≡ length s.passed + length (chars rest) = ap length s.split ∙ length-append s.passed (chars rest) in let m = g.1 in omega arith;
+  text = u;
 }
 
 pub refused_past : (r : Refusal) (whole next : Read (List ℕ × Bool)) (u : List ℕ) (p : Bool) → whole ≡ put u p next → Refuses r (outcome next) → Refuses r (outcome whole)
 refused_past r whole next u p e = refuses_as r next whole (λ c z g. e ∙ ap (put u p) g)
 
-pub bytes_past : (a b c u v : List ℕ) → b ≡ a ++ encode_utf8_all u → c ≡ b ++ encode_utf8_all v → c ≡ a ++ encode_utf8_all (u ++ v)
-bytes_past a b c u v e f = f ∙ ap (λ t. t ++ encode_utf8_all v) e ∙ append_assoc a (encode_utf8_all u) (encode_utf8_all v) ∙ ap (λ t. a ++ t) (sym (encodes-append u v))
+pub bytes_past : (front a b c r u v : List ℕ) → a ≡ front ++ encode_utf8_all u → b ≡ a ++ encode_utf8_all v → c ≡ b ++ r → IsUtf8 r → c ≡ front ++ encode_utf8_all (u ++ (v ++ chars r))
+bytes_past front a b c r u v e f g k =
+    g ∙ ap (λ t. t ++ r) (f ∙ ap (λ t. t ++ encode_utf8_all v) e) ∙ append_assoc (front ++ encode_utf8_all u) (encode_utf8_all v) r ∙ append_assoc front (encode_utf8_all u) (encode_utf8_all v ++ r)
+    ∙ ap (λ t. front ++ (encode_utf8_all u ++ (encode_utf8_all v ++ t))) (sym (encodes-chars r k))
+    ∙ ap (λ t. front ++ (encode_utf8_all u ++ t)) (sym (encodes-append v (chars r))) ∙ ap (λ t. front ++ t) (sym (encodes-append u (v ++ chars r)))
 
 pub both_parts : (r u : List ℕ) → IsUtf8 r → r ++ encode_utf8_all u ≡ encode_utf8_all (chars r ++ u)
 both_parts r u k = ap (λ t. t ++ encode_utf8_all u) (sym (encodes-chars r k)) ∙ sym (encodes-append (chars r) u)
@@ -202,8 +227,14 @@ escape_not_plain k x y u r e f = by_item (item k x y) refl
         let g : text_at k x ≡ bad c p = subst (λ t. item k t y ≡ bad c p → text_at k t ≡ bad c p) (sym e) (fault_at k y c p) h in
         absurd (cc)
 
+pub never_plain : (k : Kind) (x y u r : List ℕ) (p : Bool) → x ≡ 92 ∷ y → text_at k x ≡ got (u, p) r → p ≡ false
+never_plain k x y u r true e f = absurd (escape_not_plain k x y u r e f)
+never_plain k x y u r false e f = refl
+
 pub not_plain_past : (whole next : Read (List ℕ × Bool)) (u v r : List ℕ) (p : Bool) → whole ≡ put u p next → ((w y : List ℕ) → next ≡ got (w, true) y → ⊥) → whole ≡ got (v, true) r → ⊥
-not_plain_past whole next u v r p e n f = let k = (plain_put u v r p next (sym e ∙ f)).1 in n k.0 k.1.0 k.1.1
+not_plain_past whole next u v r p e n f =
+    let k = plain_put u v r p next (sym e ∙ f) in
+    n k.1.0 k.1.1 k.1.2
 
 -- ---- a name's escape
 

@@ -103,17 +103,10 @@ item (kind.String q) x y = escape_at x y
 
 -- ---- where a run ends
 
--- reading gives u, and then what is read from an escape on
-pub record GoesTo (reading : Read (List ℕ × Bool)) (u : List ℕ) (plain : Bool) (k : Kind) (escape after : List ℕ) : Type 0 where
-  pub read : reading ≡ put u plain (text_at k (chars escape))
-  pub sign : AtEscape escape after
-  pub text : IsUtf8 escape
-  pub after_text : IsUtf8 after
-
 -- reading gives u up to there
 abbrev pub GoesOn : Read (List ℕ × Bool) → List ℕ → Bool → Stop → Type 0
 GoesOn reading u plain (stop.End rest) = Gives reading (u, plain) rest.now
-GoesOn reading u plain (stop.Escape k escape after) = GoesTo reading u plain k escape.now after.now
+GoesOn reading u plain (stop.Escape k escape after) = (reading ≡ put u plain (text_at k (chars escape.now))) × AtEscape escape.now after.now
 
 -- how many characters are left to be read there
 abbrev pub left_in : Stop → ℕ

@@ -13,7 +13,7 @@ use crate::cow_str::CowStr;
 use crate::escapes::unicode_escape;
 use crate::front::front;
 use crate::refusal::Refusal;
-use crate::texts::{read_text, skip_text, Kind};
+use crate::texts::{Kind, read_text, skip_text};
 use json5_grammar::code::ErrorCode;
 use std::alloc::Global;
 
@@ -32,7 +32,7 @@ pub(crate) fn skip_name(text: &str) -> Result<&str, Refusal>
 }
 
 /// The character that an escape spells, which may stand there in a name, and what follows the escape.
-pub(crate) fn read_item_of_name<'t>(
+pub(crate) fn read_item<'t>(
     is_first: bool,
     escape: &str,
     after: &'t str,

@@ -11,7 +11,7 @@ use crate::bytes::raw_end;
 use crate::cow_str::CowStr;
 use crate::front::front;
 use crate::refusal::Refusal;
-use crate::texts::{read_text, skip_text, Kind, Quote};
+use crate::texts::{Kind, Quote, read_text, skip_text};
 use json5_grammar::code::ErrorCode;
 use std::alloc::Global;
 

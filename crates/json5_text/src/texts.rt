@@ -5,12 +5,12 @@ ghost use Rattle.std.specs.Str.{chars, encode_utf8_all};
 ghost use Rattle.json5_grammar.specs.Characters.{NotBegun};
 ghost use Rattle.json5_text.specs.Answered.{AnswersAs, AnswersCow, AnswersMore, Passes};
 ghost use Rattle.json5_text.specs.Scan.{AtEscape, in_list};
-ghost use Rattle.json5_text.specs.ScanTexts.{quote_of, rest_of, ends_early, text_at, item, is_raw_in, SkipsRaw, AnswersStop, AnswersRun, AnswersStep};
+ghost use Rattle.json5_text.specs.ScanTexts.{quote_of, rest_of, past, ends_early, text_at, item, is_raw_in, SkipsRaw, AnswersStop, AnswersRun, AnswersStep};
 
 use crate::cow_str::CowStr;
 use crate::escapes::read_escape;
 use crate::front::front;
-use crate::names::{read_item_of_name, skip_parts, skip_start};
+use crate::names::{self, skip_parts, skip_start};
 use crate::refusal::Refusal;
 use crate::strings::skip_raw;
 use json5_grammar::code::ErrorCode;
@@ -54,6 +54,13 @@ impl Kind {
             Kind::Name | Kind::NameRest => Kind::NameRest,
             Kind::String(_) => self,
         }
+    }
+
+    /// What is read after these characters.
+    fn past(self, run: &str) -> Kind
+        ensures { result ≡ past self (chars run.now) }
+    {
+        if run.is_empty() { self } else { self.rest() }
     }
 
     /// The code of a text that ends in it.
@@ -136,20 +143,21 @@ fn read_escaped<'t>(
             Stop::End(rest) => return Ok((text, rest)),
             Stop::Escape(kind, escape, after) => {
                 let step = read_step(kind, escape, after)?;
-                push_step(&mut text, step.spelled, step.run)?;
+                push_spelled(&mut text, step.spelled)?;
+                text.push_str(step.run)?;
                 stop = step.stop;
             }
         }
     }
 }
 
-fn push_step(text: &mut String, spelled: Option<char>, run: &str) -> Result<(), AllocError>
-    ensures { OnOk result (string_bytes text.new ≡ string_bytes text.old ++ encode_utf8_all (in_list spelled ++ chars run.now)) }
+fn push_spelled(text: &mut String, spelled: Option<char>) -> Result<(), AllocError>
+    ensures { OnOk result (string_bytes text.new ≡ string_bytes text.old ++ encode_utf8_all (in_list spelled)) }
 {
-    if let Some(c) = spelled {
-        text.push(c)?;
+    match spelled {
+        Some(c) => text.push(c),
+        None => Ok(()),
     }
-    text.push_str(run)
 }
 
 /// The escape in front and the run after it.
@@ -171,8 +179,8 @@ fn read_item<'t>(
     ensures { AnswersAs in_list (item kind (chars escape.now) (chars after.now)) result }
 {
     match kind {
-        Kind::Name => read_item_of_name(true, escape, after),
-        Kind::NameRest => read_item_of_name(false, escape, after),
+        Kind::Name => names::read_item(true, escape, after),
+        Kind::NameRest => names::read_item(false, escape, after),
         Kind::String(_) => read_escape(escape, after),
     }
 }
@@ -183,8 +191,8 @@ fn read_run(kind: Kind, text: &str) -> Result<(&str, Stop<'_>), Refusal>
 {
     let rest = skip_run(kind, text);
     let run = &text[..text.len() - rest.len()];
-    let kind = if run.is_empty() { kind } else { kind.rest() };
-    Ok((run, read_stop(kind, rest)?))
+    let stop = read_stop(kind.past(run), rest)?;
+    Ok((run, stop))
 }
 
 /// What follows the characters in front that stand for themselves.
