@@ -4,7 +4,7 @@ use Rattle.json5_grammar.specs.Numbers.{signed, spelled}
 use Rattle.json5_grammar.proofs.NumberTests.{in_whole_yes, in_whole_true}
 use Rattle.json5_text.specs.NumberParts.{raised_of}
 use Rattle.json5_text.proofs.NumberJudged.{whole_at, value_found, value_past}
-use Rattle.json5_text.proofs.numbers.whole_number.Goals as goal
+use Rattle.json5_text.proofs.scanned.whole_number.Goals as goal
 
 pub returns-in_default-clause-whole : goal.returns-in_default-clause-whole
 returns-in_default-clause-whole c =

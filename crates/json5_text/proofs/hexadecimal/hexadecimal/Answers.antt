@@ -6,7 +6,7 @@ use Rattle.json5_grammar.specs.Numbers.{whole}
 use Rattle.json5_grammar.specs.Reading.{got}
 use Rattle.json5_grammar.specs.ReadNumbers.{hex_digits}
 use Rattle.json5_text.proofs.NumberSteps.{failed_here, hexadecimal_other, hexadecimal_past, hexadecimal_large, hexadecimal_whole}
-use Rattle.json5_text.proofs.numbers.hexadecimal.Goals as goal
+use Rattle.json5_text.proofs.hexadecimal.hexadecimal.Goals as goal
 
 pub returns-in_default-to_digit : goal.returns-in_default-to_digit
 returns-in_default-to_digit c = record {

@@ -1,7 +1,7 @@
 use Rattle.std.proofs.Common.{◌≤◌, sym, ◌∙◌, arith}
 use Rattle.std.specs.Char.{digit_value}
 use Rattle.json5_text.proofs.NumberSteps.{hex_other, hex_past}
-use Rattle.json5_text.proofs.numbers.hexadecimal_digits.Goals as goal
+use Rattle.json5_text.proofs.hexadecimal.hexadecimal_digits.Goals as goal
 
 pub returns-in_default-to_digit : goal.returns-in_default-to_digit
 returns-in_default-to_digit c =

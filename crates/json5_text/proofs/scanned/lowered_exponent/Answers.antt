@@ -1,5 +1,5 @@
 use Rattle.std.proofs.Common.{rules}
-use Rattle.json5_text.proofs.numbers.lowered_exponent.Goals as goal
+use Rattle.json5_text.proofs.scanned.lowered_exponent.Goals as goal
 
 pub returns-clause-value : goal.returns-clause-value
 returns-clause-value c = search rules

@@ -8,7 +8,7 @@ use Rattle.json5_grammar.specs.Reading.{got}
 use Rattle.json5_text.specs.NumberParts.{parts_of}
 use Rattle.json5_text.proofs.NumberSteps.{failed_here}
 use Rattle.json5_text.proofs.NumberJudged.{judged_whole, found_is, not_whole, literal_decimal, literal_past}
-use Rattle.json5_text.proofs.numbers.judge.Goals as goal
+use Rattle.json5_text.proofs.scanned.judge.Goals as goal
 
 pub returns-in-Some : goal.returns-in-Some
 returns-in-Some c = λ rest.

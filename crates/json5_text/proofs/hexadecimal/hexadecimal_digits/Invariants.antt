@@ -3,7 +3,7 @@ use denote.Text.{Utf8}
 use denote.Shadow.{shadow}
 use Rattle.std.specs.Str.{chars}
 use Rattle.json5_grammar.specs.ReadNumbers.{hex_digits}
-use Rattle.json5_text.proofs.numbers.hexadecimal_digits.Given as goal
+use Rattle.json5_text.proofs.hexadecimal.hexadecimal_digits.Given as goal
 
 abbrev pub invariant-loop-c : goal.invariant-loop-c
 invariant-loop-c l = record {
