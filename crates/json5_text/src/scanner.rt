@@ -23,6 +23,30 @@ use json5_grammar::code::ErrorCode;
 use std::alloc::Global;
 use std::marker::Model;
 
+/// Takes the token that is read, if it is: `$read` gives it and what follows it, or refuses.
+macro_rules! take {
+    ($scanner:ident, $read:expr) => {{
+        let (token, left) = match $read {
+            Ok((token, rest)) => (token, rest.len()),
+            Err(refusal) => return Err($scanner.fault(refusal)),
+        };
+        $scanner.leave_unread(left);
+        Ok(token)
+    }};
+}
+
+/// The same where nothing is kept of the token: `$skip` gives what follows it, or refuses.
+macro_rules! pass {
+    ($scanner:ident, $skip:expr) => {{
+        let left = match $skip {
+            Ok(rest) => rest.len(),
+            Err(refusal) => return Err($scanner.fault(refusal)),
+        };
+        $scanner.leave_unread(left);
+        Ok(())
+    }};
+}
+
 mod borrowed;
 mod faults;
 
@@ -109,12 +133,7 @@ impl<I: Input> Scanner<I> {
     pub fn skip_blank(&mut self) -> Result<()>
         ensures { PassesBlanks self.old self.new result }
     {
-        let left = match skip_blank(self.rest(self.input.as_text())) {
-            Ok(rest) => rest.len(),
-            Err(refusal) => return Err(self.fault(refusal)),
-        };
-        self.leave_unread(left);
-        Ok(())
+        pass!(self, skip_blank(self.rest(self.input.as_text())))
     }
 
     /// Takes the word. The fault is `differs` at the first character that differs from the word's, or `ends` without a place
@@ -122,12 +141,10 @@ impl<I: Input> Scanner<I> {
     pub fn word(&mut self, word: &str, ends: ErrorCode, differs: ErrorCode) -> Result<()>
         ensures { TakesWord (chars word.now) ends differs self.old self.new result }
     {
-        let left = match skip_word(word, self.rest(self.input.as_text()), ends, differs) {
-            Ok(rest) => rest.len(),
-            Err(refusal) => return Err(self.fault(refusal)),
-        };
-        self.leave_unread(left);
-        Ok(())
+        pass!(
+            self,
+            skip_word(word, self.rest(self.input.as_text()), ends, differs)
+        )
     }
 
     /// Takes a number, as far as it goes (JSON5 section 6, ECMAScript 5.1 section 7.8.3). A whole number, infinity and
@@ -145,12 +162,7 @@ impl<I: Input> Scanner<I> {
     pub fn number(&mut self) -> Result<Number>
         ensures { TakesNumber self.old self.new result }
     {
-        let (number, left) = match number(self.alloc, self.rest(self.input.as_text())) {
-            Ok((number, rest)) => (number, rest.len()),
-            Err(refusal) => return Err(self.fault(refusal)),
-        };
-        self.leave_unread(left);
-        Ok(number)
+        take!(self, number(self.alloc, self.rest(self.input.as_text())))
     }
 
     /// Takes a string and gives its text in memory of its own (JSON5 section 5, ECMAScript 5.1 section 7.8.4). The faults are
@@ -158,12 +170,10 @@ impl<I: Input> Scanner<I> {
     pub fn string_owned(&mut self) -> Result<String>
         ensures { TakesOwned self.old self.new result }
     {
-        let (text, left) = match read_string_owned(self.alloc, self.rest(self.input.as_text())) {
-            Ok((text, rest)) => (text, rest.len()),
-            Err(refusal) => return Err(self.fault(refusal)),
-        };
-        self.leave_unread(left);
-        Ok(text)
+        take!(
+            self,
+            read_string_owned(self.alloc, self.rest(self.input.as_text()))
+        )
     }
 
     /// Takes a key: a string or an identifier (JSON5 section 3). A text without a backslash takes no memory. A character must
@@ -173,12 +183,10 @@ impl<I: Input> Scanner<I> {
     pub fn key(&mut self) -> Result<KeyText>
         ensures { TakesKey self.old self.new result }
     {
-        let (key, left) = match read_key(self.alloc, self.end, self.rest(self.input.as_text())) {
-            Ok((key, rest)) => (key, rest.len()),
-            Err(refusal) => return Err(self.fault(refusal)),
-        };
-        self.leave_unread(left);
-        Ok(key)
+        take!(
+            self,
+            read_key(self.alloc, self.end, self.rest(self.input.as_text()))
+        )
     }
 
     /// Takes a string as `string` does, and makes no text of it: only a custom fault takes memory. The faults are those of
@@ -186,12 +194,7 @@ impl<I: Input> Scanner<I> {
     pub fn skip_string(&mut self) -> Result<()>
         ensures { PassesString self.old self.new result }
     {
-        let left = match skip_string(self.rest(self.input.as_text())) {
-            Ok(rest) => rest.len(),
-            Err(refusal) => return Err(self.fault(refusal)),
-        };
-        self.leave_unread(left);
-        Ok(())
+        pass!(self, skip_string(self.rest(self.input.as_text())))
     }
 
     /// Takes an identifier as `identifier` does, and makes no text of it: only a custom fault takes memory. The faults are
@@ -199,12 +202,7 @@ impl<I: Input> Scanner<I> {
     pub fn skip_identifier(&mut self) -> Result<()>
         ensures { PassesName self.old self.new result }
     {
-        let left = match skip_name(self.rest(self.input.as_text())) {
-            Ok(rest) => rest.len(),
-            Err(refusal) => return Err(self.fault(refusal)),
-        };
-        self.leave_unread(left);
-        Ok(())
+        pass!(self, skip_name(self.rest(self.input.as_text())))
     }
 
     /// Takes a number as `number` does, and gives it if it is whole, None for a decimal. No digits are kept: only a custom
@@ -212,12 +210,7 @@ impl<I: Input> Scanner<I> {
     pub fn skip_number(&mut self) -> Result<Option<Whole>>
         ensures { PassesNumber self.old self.new result }
     {
-        let (whole, left) = match skip_number(self.rest(self.input.as_text())) {
-            Ok((whole, rest)) => (whole, rest.len()),
-            Err(refusal) => return Err(self.fault(refusal)),
-        };
-        self.leave_unread(left);
-        Ok(whole)
+        take!(self, skip_number(self.rest(self.input.as_text())))
     }
 
     /// What is unread of the text.

@@ -27,12 +27,10 @@ impl<'de, I: Borrows<'de>> Scanner<I> {
     pub fn string(&mut self) -> Result<CowStr<'de>>
         ensures { TakesString self.old self.new result }
     {
-        let (text, left) = match read_string(self.alloc, self.rest(self.input.as_borrowed())) {
-            Ok((text, rest)) => (text, rest.len()),
-            Err(refusal) => return Err(self.fault(refusal)),
-        };
-        self.leave_unread(left);
-        Ok(text)
+        take!(
+            self,
+            read_string(self.alloc, self.rest(self.input.as_borrowed()))
+        )
     }
 
     /// Takes an identifier, as far as it goes, and gives its text, borrowed where it holds no backslash, which then takes no
@@ -47,12 +45,10 @@ impl<'de, I: Borrows<'de>> Scanner<I> {
     pub fn identifier(&mut self) -> Result<CowStr<'de>>
         ensures { TakesName self.old self.new result }
     {
-        let (text, left) = match read_name(self.alloc, self.rest(self.input.as_borrowed())) {
-            Ok((text, rest)) => (text, rest.len()),
-            Err(refusal) => return Err(self.fault(refusal)),
-        };
-        self.leave_unread(left);
-        Ok(text)
+        take!(
+            self,
+            read_name(self.alloc, self.rest(self.input.as_borrowed()))
+        )
     }
 
     /// The text of a key that this scanner took, borrowed where the key holds no backslash; of another scanner's key as in
