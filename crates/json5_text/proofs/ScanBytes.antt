@@ -1,13 +1,15 @@
 -- A text is cut where its characters are.
-use Rattle.std.proofs.Common.{◌≡◌, ℕ, ◌+◌, ◌-◌, ◌<◌, ◌≤◌, true, List, [], ◌∷◌, ◌++◌, length, take, drop, refl, ap, sym, ◌∙◌, subst, arith, append_assoc}
-use Rattle.std.specs.Char.{IsScalar}
-use Rattle.std.specs.Prelude.{slice_index}
+use Rattle.std.proofs.Common.{◌≡◌, ℕ, suc, ◌+◌, ◌-◌, ◌<◌, ◌≤◌, true, List, [], ◌∷◌, ◌++◌, length, take, drop, refl, ap, sym, ◌∙◌, subst, arith, append_assoc, Bool, false, nat_eq, Option, Some, drop-cons}
+use Rattle.std.specs.Char.{IsScalar, encode_utf8, len_utf8}
+use Rattle.std.specs.Prelude.{slice_index, slice_index_or, slice_get, not}
+use Rattle.std.specs.Option.{option_eq}
+use Rattle.std.proofs.lemmas.Bool.Decides.{nat_tests}
 use Rattle.std.specs.List.{slice_range}
 use Rattle.std.proofs.lemmas.Grind.{common_steps}
 use Rattle.std.specs.Str.{IsUtf8, IsCharBoundary, chars, encode_utf8_all, all_scalars}
 use Rattle.std.proofs.Math.Seq.{take-append_seam, drop-append_seam}
 use Rattle.std.proofs.lemmas.List.{length-append, length-drop, length-take, take-append-drop}
-use Rattle.std.proofs.lemmas.Str.{chars_past_char, encode_ascii, IsCharBoundary-after_ascii, encodes-chars, scalars-chars, chars-encodes, encodes-append, chars-append, IsUtf8-take, IsUtf8-drop, IsCharBoundary-at_seam}
+use Rattle.std.proofs.lemmas.Str.{chars_past_char, encode_ascii, length-encode, IsCharBoundary-after_ascii, encodes-chars, scalars-chars, chars-encodes, encodes-append, chars-append, IsUtf8-take, IsUtf8-drop, IsCharBoundary-at_seam}
 use Rattle.json5_text.specs.Outcome.{bytes_in}
 use Rattle.json5_text.specs.Cursor.{IsOffset}
 use Rattle.json5_text.specs.Scan.{InText}
@@ -151,6 +153,30 @@ first_cut s u l h = IsCharBoundary-after_ascii s 0 u l h
 pub first_char : (s t : List ℕ) → IsUtf8 s → 0 < length s → slice_index s 0 < 128 → t ≡ drop 1 s → chars s ≡ slice_index s 0 ∷ chars t
 first_char [] t u l h d = absurd (omega arith)
 first_char (b ∷ s) t u l h d = chars_past_char (b ∷ s) s b u (ap (λ z. z ++ s) (sym (encode_ascii b h))) ∙ ap (λ z. b ∷ chars z) (sym d)
+
+-- the first character of what is unread
+pub ascii_next : {text bytes : List ℕ} {offset end : ℕ} → bytes ≡ text → InText text offset end → offset < length bytes → slice_index_or bytes offset 0 < 128 → Some (slice_index_or bytes offset 0) ≡ slice_get (chars (drop offset text)) 0
+ascii_next {text = text} {bytes = bytes} {offset = offset} e k i l =
+    let first : drop offset text ≡ slice_index_or bytes offset 0 ∷ drop (suc offset) bytes = ap (drop offset) (sym e) ∙ drop-cons bytes offset 0 i in
+    let front = chars_past_char (drop offset text) (drop (suc offset) bytes) (slice_index_or bytes offset 0) (IsUtf8-drop text offset k.is_text k.cut) (first ∙ ap (λ z. z ++ drop (suc offset) bytes) (sym (encode_ascii (slice_index_or bytes offset 0) l))) in
+    sym (ap (λ z. slice_get z 0) front)
+
+-- the first character is this one
+pub next_is : (x : List ℕ) (c : ℕ) (o : Option ℕ) (b : Bool) → o ≡ slice_get x 0 → b ≡ not (option_eq nat_eq o (Some c)) → b ≡ false → x ≡ c ∷ drop 1 x
+next_is [] c o b e f h = absurd (let k = sym h ∙ f ∙ ap (λ z. not (option_eq nat_eq z (Some c))) e in cc)
+next_is (d ∷ x) c o b e f h = let k = sym h ∙ f ∙ ap (λ z. not (option_eq nat_eq z (Some c))) e in let s : d ≡ c = grind (arith, nat_tests, k) in ap (λ z. z ∷ x) s
+
+-- what is unread after its first character
+pub next_left : {text : List ℕ} {offset end : ℕ} (c : ℕ) (r : List ℕ) → InText text offset end → chars (drop offset text) ≡ c ∷ r → offset + len_utf8 c ≡ end - bytes_in r
+next_left {text = text} {offset = offset} {end = end} c r k e =
+    let o = offset_counted k in
+    let n = length-append (encode_utf8 c) (encode_utf8_all r) in
+    let m = length-encode c in
+    let u : bytes_in (chars (drop offset text)) ≡ bytes_in (c ∷ r) = ap bytes_in e in
+    let w = left_fits (halves_in k) in
+    let f = encodes-chars text k.is_text in
+    let t = k.counted in
+    omega (arith, o, n, m, u, w, ap length f, t)
 
 pub no_chars : (s : List ℕ) → length s ≡ 0 → chars s ≡ []
 unfolding chars
