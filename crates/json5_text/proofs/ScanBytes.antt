@@ -9,10 +9,10 @@ use Rattle.std.proofs.lemmas.Grind.{common_steps}
 use Rattle.std.specs.Str.{IsUtf8, IsCharBoundary, chars, encode_utf8_all, all_scalars}
 use Rattle.std.proofs.Math.Seq.{take-append_seam, drop-append_seam}
 use Rattle.std.proofs.lemmas.List.{length-append, length-drop, length-take, take-append-drop}
-use Rattle.std.proofs.lemmas.Str.{chars_past_char, encode_ascii, length-encode, IsCharBoundary-after_ascii, encodes-chars, scalars-chars, chars-encodes, encodes-append, chars-append, IsUtf8-take, IsUtf8-drop, IsCharBoundary-at_seam}
+use Rattle.std.proofs.lemmas.Str.{chars_past_char, IsUtf8-past_char, length-encode, len_utf8_bounds, encode_ascii, length-encode, IsCharBoundary-after_ascii, encodes-chars, scalars-chars, chars-encodes, encodes-append, chars-append, IsUtf8-take, IsUtf8-drop, IsCharBoundary-at_seam}
 use Rattle.json5_text.specs.Outcome.{bytes_in}
 use Rattle.json5_text.specs.Cursor.{IsOffset}
-use Rattle.json5_text.specs.Scan.{InText}
+use Rattle.json5_text.specs.Scan.{InText, Begins}
 use Rattle.std.proofs.lemmas.Bool.{and_parts}
 
 pub scalar_halves : (x y : List ℕ) → all_scalars (x ++ y) ≡ true → (all_scalars x ≡ true) × (all_scalars y ≡ true)
@@ -150,7 +150,7 @@ part_between {text = text} {x = x} u y h =
 pub first_cut : (s : List ℕ) → IsUtf8 s → 0 < length s → slice_index s 0 < 128 → IsCharBoundary s 1
 first_cut s u l h = IsCharBoundary-after_ascii s 0 u l h
 
-pub first_char : (s t : List ℕ) → IsUtf8 s → 0 < length s → slice_index s 0 < 128 → t ≡ drop 1 s → chars s ≡ slice_index s 0 ∷ chars t
+first_char : (s t : List ℕ) → IsUtf8 s → 0 < length s → slice_index s 0 < 128 → t ≡ drop 1 s → chars s ≡ slice_index s 0 ∷ chars t
 first_char [] t u l h d = absurd (omega arith)
 first_char (b ∷ s) t u l h d = chars_past_char (b ∷ s) s b u (ap (λ z. z ++ s) (sym (encode_ascii b h))) ∙ ap (λ z. b ∷ chars z) (sym d)
 
@@ -177,6 +177,20 @@ next_left {text = text} {offset = offset} {end = end} c r k e =
     let f = encodes-chars text k.is_text in
     let t = k.counted in
     omega (arith, o, n, m, u, w, ap length f, t)
+
+pub begins_ascii : (s t : List ℕ) → IsUtf8 s → 0 < length s → slice_index s 0 < 128 → t ≡ drop 1 s → Begins s (slice_index s 0) t
+begins_ascii s t u l h d = record {
+  chars = first_char s t u l h d;
+  text = subst IsUtf8 (sym d) (IsUtf8-drop s 1 u (first_cut s u l h));
+  shorter = let k = ap length d in let m = length-drop 1 s in omega arith;
+}
+
+pub begins_char : (s t : List ℕ) (c : ℕ) → IsUtf8 s → s ≡ encode_utf8 c ++ t → Begins s c t
+begins_char s t c u e = record {
+  chars = chars_past_char s t c u e;
+  text = IsUtf8-past_char s t c u e;
+  shorter = let k : length s ≡ length (encode_utf8 c) + length t = ap length e ∙ length-append (encode_utf8 c) t in let m = length-encode c in let n = (len_utf8_bounds c).0 in omega arith;
+}
 
 pub no_chars : (s : List ℕ) → length s ≡ 0 → chars s ≡ []
 unfolding chars

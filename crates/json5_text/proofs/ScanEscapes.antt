@@ -4,7 +4,7 @@ use Rattle.std.specs.Prelude.{◌==◌, ◌&&◌, slice_index}
 use Rattle.std.specs.List.{slice_get}
 use Rattle.std.specs.Char.{IsScalar, digit_value}
 use Rattle.std.specs.Str.{IsUtf8, IsCharBoundary, chars, encode_utf8_all}
-use Rattle.std.proofs.lemmas.Str.{encode_ascii, encodes-chars, chars-encodes, IsUtf8-drop}
+use Rattle.std.proofs.lemmas.Str.{encode_ascii, encodes-chars, chars-encodes}
 use Rattle.std.proofs.lemmas.Bool.Decides.{nat_tests}
 use Rattle.json5_grammar.specs.Characters.{is_terminator, is_digit}
 use Rattle.json5_grammar.specs.declared.code.ErrorCode.{ErrorCode}
@@ -19,7 +19,8 @@ use Rattle.json5_text.specs.declared.refusal.Refusal.{Refusal}
 use Rattle.json5_text.specs.declared.refusal.Refusal.TheVariants as refusal
 use Rattle.json5_text.specs.Outcome.{failed, outcome, left_at}
 use Rattle.json5_text.specs.Refused.{Refuses}
-use Rattle.json5_text.proofs.ScanBytes.{first_cut, first_char, no_chars}
+use Rattle.json5_text.specs.Scan.{Begins}
+use Rattle.json5_text.proofs.ScanBytes.{first_cut, begins_ascii, no_chars}
 use Rattle.json5_text.proofs.ScanFaults.{same_failed, gave_failed}
 
 -- ---- refusals
@@ -83,11 +84,8 @@ hex_no_byte w n b (x ∷ s) l e = absurd (cc)
 pub digit_cut : (s : List ℕ) (d : ℕ) → IsUtf8 s → Some d ≡ slice_get s 0 → digit_value d < 16 → IsCharBoundary s 1
 digit_cut s d u e h = let f = byte_first s d e in first_cut s u f.0 (rw f.1 (digit_ascii d h))
 
-pub digit_rest : (s t : List ℕ) (d : ℕ) → IsUtf8 s → Some d ≡ slice_get s 0 → digit_value d < 16 → t ≡ drop 1 s → IsUtf8 t
-digit_rest s t d u e h f = subst IsUtf8 (sym f) (IsUtf8-drop s 1 u (digit_cut s d u e h))
-
-pub digit_char : (s t : List ℕ) (d : ℕ) → IsUtf8 s → Some d ≡ slice_get s 0 → digit_value d < 16 → t ≡ drop 1 s → chars s ≡ d ∷ chars t
-digit_char s t d u e h f = let k = byte_first s d e in first_char s t u k.0 (rw k.1 (digit_ascii d h)) f ∙ ap (λ z. z ∷ chars t) k.1
+pub digit_begins : (s t : List ℕ) (d : ℕ) → IsUtf8 s → Some d ≡ slice_get s 0 → digit_value d < 16 → t ≡ drop 1 s → Begins s d t
+digit_begins s t d u e h f = let k = byte_first s d e in subst (λ x. Begins s x t) k.1 (begins_ascii s t u k.0 (rw k.1 (digit_ascii d h)) f)
 
 first_byte : (s r : List ℕ) (c : ℕ) → IsUtf8 s → chars s ≡ c ∷ r → c < 128 → slice_index s 0 ≡ c
 first_byte s r c u e h = ap (λ z. slice_index z 0) (sym (encodes-chars s u) ∙ ap encode_utf8_all e ∙ ap (λ z. z ++ encode_utf8_all r) (encode_ascii c h))

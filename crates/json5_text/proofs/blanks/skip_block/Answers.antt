@@ -19,7 +19,7 @@ split_at-requires c =
 pub returns-in_err-next : goal.returns-in_err-next
 returns-in_err-next c =
     let run = star_run c.loop-next.rest.now c.split_at.result.1.now _ c.loop-next.invariant.0 (c.star_place.ensures ∙ ap (prefix_len is_no_star) c.as_bytes.ensures.value) c.split_at.ensures.back in
-    rw c.from_residual.ensures (sym c.loop-next.invariant.1 ∙ run.passed ∙ block_none _ c.in_err-next.ensures.chars)
+    rw c.from_residual.ensures (sym c.loop-next.invariant.1 ∙ run.passed ∙ block_none _ c.in_err-next.ensures)
 
 pub returns-in-Some-eq47-default : goal.returns-in-Some-eq47-default
 returns-in-Some-eq47-default c =

@@ -16,7 +16,7 @@ split_at-requires c =
 pub returns-in_default : goal.returns-in_default
 returns-in_default c =
     let run = line_run c.loop-c.rest.now c.split_at.result.1.now _ c.loop-c.invariant.0 (c.line_len.ensures ∙ ap (prefix_len is_in_line) c.as_bytes.ensures.value) c.split_at.ensures.back in
-    record { passed = sym c.loop-c.invariant.1 ∙ run.passed ∙ line_none _ c.in_default.ensures.chars; shorter = omega (arith, run.shorter, c.loop-c.invariant.2) }
+    record { passed = sym c.loop-c.invariant.1 ∙ run.passed ∙ line_none _ c.in_default.ensures; shorter = omega (arith, run.shorter, c.loop-c.invariant.2) }
 
 pub returns-then-is_json5_line_terminator : goal.returns-then-is_json5_line_terminator
 returns-then-is_json5_line_terminator c =

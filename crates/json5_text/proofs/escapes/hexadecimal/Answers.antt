@@ -3,7 +3,7 @@ use Rattle.std.specs.Char.{digit_value}
 use Rattle.std.specs.List.{slice_get}
 use Rattle.json5_grammar.specs.declared.code.ErrorCode.TheVariants.{InvalidEscapeSequence}
 use Rattle.json5_text.specs.Outcome.{outcome}
-use Rattle.json5_text.proofs.ScanEscapes.{refused_here, hex_done, hex_no_byte, hex_no_digit, hex_more, digit_cut, digit_rest, digit_char, three_digits, one_more}
+use Rattle.json5_text.proofs.ScanEscapes.{refused_here, hex_done, hex_no_byte, hex_no_digit, hex_more, digit_cut, digit_begins, three_digits, one_more}
 use Rattle.json5_text.proofs.escapes.hexadecimal.Goals as goal
 
 pub returns-in_default-clause-read : goal.returns-in_default-clause-read
@@ -44,12 +44,12 @@ loop-wanted-preserved c =
     let d : c.in-Some-to_digit.digit ≡ digit_value c.in-Some.byte.now = grind (arith, c.from.ensures, c.in-Some-to_digit.ensures.value) in
     let i : digit_value c.in-Some.byte.now < 16 = grind (arith, c.from.ensures, c.in-Some-to_digit.ensures.value) in
     let e : c.args.count - (c.loop-wanted.wanted - 1) ≡ c.args.count - c.loop-wanted.wanted + 1 = omega arith in
-    let more = digit_char c.loop-wanted.rest.now c.split_at.result.1.now c.in-Some.byte.now c.loop-wanted.invariant.text first i c.split_at.ensures.back in
+    let more = digit_begins c.loop-wanted.rest.now c.split_at.result.1.now c.in-Some.byte.now c.loop-wanted.invariant.text first i c.split_at.ensures.back in
     record {
-      text = digit_rest _ _ c.in-Some.byte.now c.loop-wanted.invariant.text first i c.split_at.ensures.back;
+      text = more.text;
       fewer = omega arith;
       small = rw (e, d) (one_more (c.args.count - c.loop-wanted.wanted) c.loop-wanted.value (digit_value c.in-Some.byte.now) (omega arith) c.loop-wanted.invariant.small i);
-      read = rw d (sym (hex_more c.loop-wanted.wanted c.loop-wanted.value c.in-Some.byte.now _ _ _ c.loop-wanted-test.true more i) ∙ c.loop-wanted.invariant.read);
+      read = rw d (sym (hex_more c.loop-wanted.wanted c.loop-wanted.value c.in-Some.byte.now _ _ _ c.loop-wanted-test.true more.chars i) ∙ c.loop-wanted.invariant.read);
     }
 
 pub returns-clause-read : goal.returns-clause-read

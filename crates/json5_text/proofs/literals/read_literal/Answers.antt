@@ -7,7 +7,7 @@ use Rattle.json5_text.proofs.literals.read_literal.Goals as goal
 
 pub returns-in_default : goal.returns-in_default
 returns-in_default c =
-    whole_literal c.args.text.now c.split_digits.result.1.now _ _ _ (run_ends (chars c.args.text.now) _ _ c.split_digits.ensures.front c.split_digits.ensures.rest c.in_default.ensures.chars)
+    whole_literal c.args.text.now c.split_digits.result.1.now _ _ _ (run_ends (chars c.args.text.now) _ _ c.split_digits.ensures.front c.split_digits.ensures.rest c.in_default.ensures)
     (rw c.split_digits.ensures.rest (rest_past_digits (chars c.args.text.now))) c.read_without_point.ensures
 
 pub returns-then-point-ne46 : goal.returns-then-point-ne46

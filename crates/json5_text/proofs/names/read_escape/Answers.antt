@@ -7,7 +7,7 @@ use Rattle.json5_text.proofs.ScanTexts.{escape_none, escape_other, escape_unicod
 use Rattle.json5_text.proofs.names.read_escape.Goals as goal
 
 pub returns-in_default : goal.returns-in_default
-returns-in_default c = record { refused = ap outcome (escape_none _ _ c.in_default.ensures.chars); known = tt }
+returns-in_default c = record { refused = ap outcome (escape_none _ _ c.in_default.ensures); known = tt }
 
 pub returns-then-c-ne117 : goal.returns-then-c-ne117
 returns-then-c-ne117 c = record { refused = refused_here _ InvalidEscapeSequence c.args.after.now c.utf8.after (escape_other c.in-Some.c _ _ _ c.in-Some.ensures.chars c.if-c-ne117.true); known = tt }

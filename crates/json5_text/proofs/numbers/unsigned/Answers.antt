@@ -7,7 +7,7 @@ use Rattle.json5_text.proofs.NumberCases.{unsigned_ends, unsigned_infinity, unsi
 use Rattle.json5_text.proofs.numbers.unsigned.Goals as goal
 
 pub returns-in_default : goal.returns-in_default
-returns-in_default c = record { refused = ap outcome (unsigned_ends (chars c.args.start.now) c.args.negative (chars c.args.text.now) c.in_default.ensures.chars); known = tt }
+returns-in_default c = record { refused = ap outcome (unsigned_ends (chars c.args.start.now) c.args.negative (chars c.args.text.now) c.in_default.ensures); known = tt }
 
 pub returns-in-I : goal.returns-in-I
 returns-in-I c = rw (unsigned_infinity (chars c.args.start.now) c.args.negative (chars c.args.text.now) _ c.in-Some.first c.in-Some.ensures.chars c.in-I.is) c.word.ensures

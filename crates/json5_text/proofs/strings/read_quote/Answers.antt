@@ -9,7 +9,7 @@ use Rattle.json5_text.proofs.ScanTexts.{string_none, string_other, string_quote}
 use Rattle.json5_text.proofs.strings.read_quote.Goals as goal
 
 pub returns-in_default : goal.returns-in_default
-returns-in_default c = record { refused = ap outcome (string_none _ c.in_default.ensures.chars); known = tt }
+returns-in_default c = record { refused = ap outcome (string_none _ c.in_default.ensures); known = tt }
 
 pub returns-in-34 : goal.returns-in-34
 returns-in-34 c = record { read = string_quote quotes.Double c.in-Some.c _ _ c.in-Some.ensures.chars c.in-34.is; text = c.in-Some.ensures.text }

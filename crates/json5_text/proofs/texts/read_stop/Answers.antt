@@ -9,7 +9,7 @@ use Rattle.json5_text.proofs.ScanTexts.{stop_none, no_start, no_part, at_quote, 
 use Rattle.json5_text.proofs.texts.read_stop.Goals as goal
 
 pub returns-in_default : goal.returns-in_default
-returns-in_default c = record { refused = ap outcome (stop_none c.args.kind _ c.in_default.ensures.chars) ∙ ap (λ e. failed (Some e) None) (sym c.ends_early.ensures); known = tt }
+returns-in_default c = record { refused = ap outcome (stop_none c.args.kind _ c.in_default.ensures) ∙ ap (λ e. failed (Some e) None) (sym c.ends_early.ensures); known = tt }
 
 pub returns-in-Name : goal.returns-in-Name
 returns-in-Name c =
