@@ -10,6 +10,7 @@ pub mod EscapesSpelled
 pub mod FaultsCompared
 pub mod TextsCompared
 pub mod ScanEscapes
+pub mod ScanRuns
 pub mod ScanTexts
 pub mod Copied
 pub mod DeepestInside

@@ -24,6 +24,7 @@ pub(crate) enum Quote {
 }
 
 impl Quote {
+    #[inline(always)]
     pub(crate) fn char(self) -> char
         ensures { result ≡ quote_of self }
     {
@@ -47,6 +48,7 @@ pub(crate) enum Kind {
 
 impl Kind {
     /// What is read after a character.
+    #[inline(always)]
     fn rest(self) -> Kind
         ensures { result ≡ rest_of self }
     {
@@ -57,6 +59,7 @@ impl Kind {
     }
 
     /// What is read after these characters.
+    #[inline(always)]
     fn past(self, run: &str) -> Kind
         ensures { result ≡ past self (chars run.now) }
     {
@@ -208,6 +211,7 @@ fn skip_run(kind: Kind, text: &str) -> &str
 }
 
 /// What ends a run there.
+#[inline(always)]
 fn read_stop(kind: Kind, text: &str) -> Result<Stop<'_>, Refusal>
     requires { NotBegun (is_raw_in kind) (chars text.now) }
     ensures { AnswersStop kind text.now result }

@@ -1,7 +1,7 @@
 use Rattle.std.proofs.Common.{◌≡◌, [], ◌∷◌, true, arith}
 use Rattle.json5_grammar.specs.Characters.{no_char, char}
 use Rattle.json5_text.specs.ScanTexts.{is_raw_part}
-use Rattle.json5_text.proofs.ScanTexts.{more_of}
+use Rattle.json5_text.proofs.ScanRuns.{more_of}
 use Rattle.json5_text.proofs.names.skip_parts.Goals as goal
 
 pub loop-c-preserved : goal.loop-c-preserved

@@ -5,7 +5,7 @@ use Rattle.std.proofs.lemmas.Bool.Decides.{nat_tests}
 use Rattle.json5_text.specs.Outcome.{outcome}
 use Rattle.json5_text.specs.declared.texts.Quote.TheVariants as quotes
 use Rattle.json5_text.proofs.ScanEscapes.{refused_here}
-use Rattle.json5_text.proofs.ScanTexts.{string_none, string_other, string_quote}
+use Rattle.json5_text.proofs.ScanRuns.{string_none, string_other, string_quote}
 use Rattle.json5_text.proofs.strings.read_quote.Goals as goal
 
 pub returns-in_default : goal.returns-in_default

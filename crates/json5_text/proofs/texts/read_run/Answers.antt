@@ -3,7 +3,8 @@ use Rattle.std.specs.Str.{chars, IsCharBoundary}
 use Rattle.std.proofs.lemmas.Result.{err_from_is_err_and}
 use Rattle.json5_text.proofs.ScanBytes.{left_fits, cut_half, before_rest}
 use Rattle.json5_text.proofs.ScanTokens.{left_counted}
-use Rattle.json5_text.proofs.ScanTexts.{run_stops, run_past, run_ends, refused_past}
+use Rattle.json5_text.proofs.ScanRuns.{run_stops, run_past}
+use Rattle.json5_text.proofs.ScanTexts.{run_ends, refused_past}
 use Rattle.json5_text.proofs.texts.read_run.Goals as goal
 
 pub overflow_sub-text : goal.overflow_sub-text

@@ -5,7 +5,7 @@ use Rattle.json5_grammar.specs.declared.code.ErrorCode.TheVariants.{ExpectedIden
 use Rattle.json5_text.specs.Outcome.{outcome, failed}
 use Rattle.json5_text.specs.ScanTexts.{is_raw_in}
 use Rattle.json5_text.proofs.ScanEscapes.{refused_here}
-use Rattle.json5_text.proofs.ScanTexts.{stop_none, no_start, no_part, at_quote, at_line_end}
+use Rattle.json5_text.proofs.ScanRuns.{stop_none, no_start, no_part, at_quote, at_line_end}
 use Rattle.json5_text.proofs.texts.read_stop.Goals as goal
 
 pub returns-in_default : goal.returns-in_default

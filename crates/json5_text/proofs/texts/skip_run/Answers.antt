@@ -1,5 +1,5 @@
 use Rattle.json5_text.specs.declared.texts.Kind.TheVariants as kind
-use Rattle.json5_text.proofs.ScanTexts.{all_raw}
+use Rattle.json5_text.proofs.ScanRuns.{all_raw}
 use Rattle.json5_text.proofs.texts.skip_run.Goals as goal
 
 pub returns-in-NameRest : goal.returns-in-NameRest

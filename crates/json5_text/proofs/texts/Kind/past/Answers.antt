@@ -1,6 +1,6 @@
 use Rattle.std.proofs.Common.{◌≡◌, ◌∙◌, sym, length, arith}
 use Rattle.std.proofs.lemmas.Bool.Decides.{nat_tests}
-use Rattle.json5_text.proofs.ScanTexts.{past_none, past_some}
+use Rattle.json5_text.proofs.ScanRuns.{past_none, past_some}
 use Rattle.json5_text.proofs.texts.Kind.past.Goals as goal
 
 pub returns-then-is_empty : goal.returns-then-is_empty
