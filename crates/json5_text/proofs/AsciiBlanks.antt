@@ -1,5 +1,5 @@
 -- ASCII blanks in front of a text.
-use Rattle.std.proofs.Common.{◌≡◌, ℕ, ◌<◌, ◌≤◌, true, false, subst, List, [], ◌∷◌, ◌++◌, length, drop, refl, ap, sym, ◌∙◌, arith}
+use Rattle.std.proofs.Common.{◌≡◌, ℕ, ◌<◌, ◌≤◌, Bool, true, false, subst, List, [], ◌∷◌, ◌++◌, length, drop, refl, ap, sym, ◌∙◌, arith}
 use Rattle.std.specs.List.{prefix_len, take_while}
 use Rattle.std.specs.Prelude.{◌==◌, slice_index}
 use Rattle.std.specs.Str.{chars, IsUtf8}
@@ -10,14 +10,14 @@ use Rattle.json5_grammar.proofs.BlanksRead.{skip_rest, begins_solid, printable_s
 use Rattle.std.proofs.lemmas.List.{length-take, length-drop}
 use Rattle.std.proofs.lemmas.List.Sums.{prefix_len-le-length}
 use Rattle.std.proofs.lemmas.Bool.Decides.{nat_tests}
-use Rattle.json5_grammar.specs.Characters.{is_in, is_blank, is_terminator, Each, no_char, char}
+use Rattle.json5_grammar.specs.Characters.{is_in, is_blank, is_terminator, NotBegun, Each, no_char, char}
 use Rattle.json5_grammar.specs.ReadBlanks.{skip, between, Mode}
 use Rattle.json5_grammar.specs.ReadNumbers.{front_of, rest_of}
 use Rattle.json5_grammar.proofs.NumberTests.{front_each}
-use Rattle.json5_text.specs.ByteRuns.{is_ascii_blank, is_line_part, is_no_star, BeginsSolid}
-use Rattle.json5_text.specs.Scan.{SkipsAll}
+use Rattle.json5_text.specs.ByteRuns.{is_ascii_blank, is_in_line, is_line_part, is_no_star, BeginsSolid}
 use Rattle.json5_text.proofs.NumberRuns.{PassesAscii, chars_split, rest_cut, rest_shorter}
 use Rattle.json5_text.proofs.ScanSteps.{blank_more, line_more, block_more}
+use Rattle.json5_text.proofs.StopRuns.{stop_skips, line_chars, star_chars}
 
 pub blank_is_ascii : PassesAscii is_ascii_blank
 blank_is_ascii c h = grind (arith, nat_tests)
@@ -54,6 +54,15 @@ at_solid_text r u k =
     let other : (slice_index r 0 == 47) ≡ false = grind (arith, nat_tests, k.no_slash) in
     skip_rest (chars r) (subst Solid (sym front.1) (begins_solid (slice_index r 0) front.0 (printable_solid (slice_index r 0) printable other)))
 
+pub drop_shorter : (s r : List ℕ) (n : ℕ) → r ≡ drop n s → length r ≤ length s
+drop_shorter s r n d = let k = length-drop n s in let l = ap length d in omega (arith, k, l)
+
+-- the characters between text and rest are passed over in a comment, up to one that fails the test
+pub record PassesOn (mode : Mode) (p : ℕ → Bool) (text rest : List ℕ) : Type 0 where
+  pub passed : skip mode (chars text) ≡ skip mode (chars rest)
+  pub shorter : length rest ≤ length text
+  pub stops : NotBegun p (chars rest)
+
 -- ---- in a comment up to the line's end
 
 no_terminator : (c : ℕ) → is_line_part c ≡ true → is_terminator c ≡ false
@@ -63,8 +72,10 @@ pass_line : (w x : List ℕ) → Each is_line_part w → skip Mode.line (w ++ x)
 pass_line [] x no_char = refl
 pass_line (c ∷ w) x (char h e) = line_more c (c ∷ (w ++ x)) (w ++ x) refl (no_terminator c h) ∙ pass_line w x e
 
-pub line_passed : (s r : List ℕ) → SkipsAll is_line_part s r → skip Mode.line (chars s) ≡ skip Mode.line (chars r)
-line_passed s r k = ap (skip Mode.line) k.split ∙ pass_line k.passed (chars r) k.each
+pub line_run : (s r : List ℕ) (n : ℕ) → IsUtf8 s → n ≡ prefix_len is_in_line s → r ≡ drop n s → PassesOn Mode.line is_line_part s r
+line_run s r n u e d =
+    let k = stop_skips is_in_line is_line_part s r n line_chars u e d in
+    record { passed = ap (skip Mode.line) k.split ∙ pass_line k.passed (chars r) k.each; shorter = drop_shorter s r n d; stops = k.stops }
 
 -- ---- in a comment up to a star
 
@@ -75,8 +86,10 @@ pass_block : (w x : List ℕ) → Each is_no_star w → skip Mode.block (w ++ x)
 pass_block [] x no_char = refl
 pass_block (c ∷ w) x (char h e) = block_more c (c ∷ (w ++ x)) (w ++ x) refl (star_from c h) ∙ pass_block w x e
 
-pub block_passed : (s r : List ℕ) → SkipsAll is_no_star s r → skip Mode.block (chars s) ≡ skip Mode.block (chars r)
-block_passed s r k = ap (skip Mode.block) k.split ∙ pass_block k.passed (chars r) k.each
+pub star_run : (s r : List ℕ) (n : ℕ) → IsUtf8 s → n ≡ prefix_len is_no_star s → r ≡ drop n s → PassesOn Mode.block is_no_star s r
+star_run s r n u e d =
+    let k = stop_skips is_no_star is_no_star s r n star_chars u e d in
+    record { passed = ap (skip Mode.block) k.split ∙ pass_block k.passed (chars r) k.each; shorter = drop_shorter s r n d; stops = k.stops }
 
-pub drop_shorter : (s r : List ℕ) (n : ℕ) → r ≡ drop n s → length r ≤ length s
-drop_shorter s r n d = let k = length-drop n s in let l = ap length d in omega (arith, k, l)
+pub star_there : (s x : List ℕ) (c : ℕ) → NotBegun is_no_star s → s ≡ c ∷ x → c ≡ 42
+star_there s x c n e = let h : is_no_star c ≡ false = subst (NotBegun is_no_star) e n in grind (arith, nat_tests)

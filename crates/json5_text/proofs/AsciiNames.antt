@@ -15,7 +15,7 @@ use Rattle.json5_grammar.proofs.Basics.{eq_from, neq_from}
 use Rattle.json5_grammar.proofs.NumberTests.{front_each}
 use Rattle.json5_text.specs.ByteRuns.{is_ascii_start, is_ascii_part}
 use Rattle.json5_text.specs.Scan.{SkipsSome}
-use Rattle.json5_text.specs.ScanNames.{is_raw_part}
+use Rattle.json5_text.specs.ScanTexts.{is_raw_part}
 use Rattle.json5_text.proofs.NumberRuns.{PassesAscii, chars_split, rest_cut, rest_shorter}
 
 -- ---- the classes of the first 128 characters, computed

@@ -11,12 +11,12 @@ pub mod EscapesSpelled
 pub mod FaultsCompared
 pub mod TextsCompared
 pub mod ScanEscapes
-pub mod ScanStrings
+pub mod ScanRuns
+pub mod ScanTexts
 pub mod Copied
 pub mod DeepestInside
 pub mod LookedUp
 pub mod ValuesCompared
-pub mod ScanNames
 pub mod NumberSteps
 pub mod NumberLiterals
 pub mod NumberValues

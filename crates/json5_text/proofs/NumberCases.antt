@@ -1,10 +1,11 @@
 -- Reading a number by its first characters.
-use Rattle.std.proofs.Common.{◌≡◌, ℕ, Bool, true, false, cond, ◌||◌, List, [], ◌∷◌, refl, ap, sym, ◌∙◌, ◌≢◌, Some, None}
+use Rattle.std.proofs.Common.{◌≡◌, ℕ, Bool, true, false, cond, List, [], ◌∷◌, refl, ap, sym, ◌∙◌, ◌≢◌, arith, Some, None}
+use Rattle.std.proofs.lemmas.Bool.Decides.{nat_tests}
 use Rattle.std.specs.Prelude.{◌==◌}
 use lib.Chars.{codes}
 use Rattle.json5_grammar.specs.declared.code.ErrorCode.TheVariants.{EofParsingNumber, ExpectedNumber, LeadingZero}
 use Rattle.json5_grammar.specs.Characters.{is_digit}
-use Rattle.json5_grammar.specs.Numbers.{decimal, infinite, nan, hex_start}
+use Rattle.json5_grammar.specs.Numbers.{decimal, infinite, nan}
 use Rattle.json5_grammar.specs.Stops.{in_run, begins_run}
 use Rattle.json5_grammar.specs.Reading.{bad, here, inner}
 use Rattle.std.specs.Str.{chars}
@@ -20,11 +21,8 @@ run_refused q m x h = ap (if_literal q m (rest_of in_run x)) h
 
 -- ---- after a first `0`
 
-pub zero_leads : (q : List ℕ) (m : Bool) (x y : List ℕ) (c : ℕ) (b : Bool) → x ≡ c ∷ y → b ≡ is_digit c → b ≡ true → at_zero q m x ≡ bad (Some LeadingZero) (here q)
-zero_leads q m x y c b e f h = let k = sym f ∙ h in rw (e, k) refl
-
-pub zero_run : (q : List ℕ) (m : Bool) (t x y : List ℕ) (c : ℕ) (b d a : Bool) → t ≡ 48 ∷ x → x ≡ c ∷ y → b ≡ is_digit c → b ≡ false → d ≡ hex_start c → d ≡ false → a ≡ ((c == 46) || ((c == 101) || (c == 69))) → a ≡ true → at_zero q m x ≡ decimal_run q m t
-zero_run q m t x y c b d a z e f h g l i j = let k = sym f ∙ h in let n = sym g ∙ l in let o = sym i ∙ j in rw (z, e) (rw (k, n, o) refl)
+pub zero_leads : (q : List ℕ) (m : Bool) (x y : List ℕ) (c : ℕ) → x ≡ c ∷ y → is_digit c ≡ true → at_zero q m x ≡ bad (Some LeadingZero) (here q)
+zero_leads q m x y c e h = rw (e, h) refl
 
 -- ---- without a sign
 
@@ -50,13 +48,17 @@ pub unsigned_zero : (q : List ℕ) (m : Bool) (x y : List ℕ) (c : ℕ) → x �
 unfolding unsigned
 unsigned_zero q m x y c e h = rw (e, h) refl
 
-pub unsigned_run : (q : List ℕ) (m : Bool) (x y : List ℕ) (c : ℕ) (b : Bool) → x ≡ c ∷ y → c ≢ 73 → c ≢ 78 → c ≢ 48 → b ≡ begins_run c → b ≡ true → unsigned q m x ≡ decimal_run q m x
+pub unsigned_run : (q : List ℕ) (m : Bool) (x y : List ℕ) (c : ℕ) → x ≡ c ∷ y → c ≢ 48 → begins_run c ≡ true → unsigned q m x ≡ decimal_run q m x
 unfolding unsigned
-unsigned_run q m x y c b e i n z f h = let k = sym f ∙ h in let o = not_eq c 73 i in let p = not_eq c 78 n in let r = not_eq c 48 z in rw e (rw (o, p, r, k) refl)
+unsigned_run q m x y c e z h =
+    let o : (c == 73) ≡ false = grind (arith, nat_tests) in
+    let p : (c == 78) ≡ false = grind (arith, nat_tests) in
+    let r = not_eq c 48 z in
+    rw e (rw (o, p, r, h) refl)
 
-pub unsigned_other : (q : List ℕ) (m : Bool) (x y : List ℕ) (c : ℕ) (b : Bool) → x ≡ c ∷ y → c ≢ 73 → c ≢ 78 → c ≢ 48 → b ≡ begins_run c → b ≡ false → unsigned q m x ≡ bad (Some ExpectedNumber) (here x)
+pub unsigned_other : (q : List ℕ) (m : Bool) (x y : List ℕ) (c : ℕ) → x ≡ c ∷ y → c ≢ 73 → c ≢ 78 → c ≢ 48 → begins_run c ≡ false → unsigned q m x ≡ bad (Some ExpectedNumber) (here x)
 unfolding unsigned
-unsigned_other q m x y c b e i n z f h = let k = sym f ∙ h in let o = not_eq c 73 i in let p = not_eq c 78 n in let r = not_eq c 48 z in rw e (rw (o, p, r, k) refl)
+unsigned_other q m x y c e i n z h = let o = not_eq c 73 i in let p = not_eq c 78 n in let r = not_eq c 48 z in rw e (rw (o, p, r, h) refl)
 
 -- ---- with a sign
 

@@ -11,8 +11,8 @@ use Rattle.json5_grammar.specs.Reading.{got, bad, here}
 use Rattle.json5_grammar.specs.ReadNumbers.{is_whole, in_whole, in_exponents, judged, if_literal}
 use Rattle.json5_grammar.proofs.NumberTests.{in_exponents_yes, in_exponents_true}
 use Rattle.json5_grammar.proofs.NumberStepLaws.{IsChecked, checked_is, capped_range, capped_same}
-use Rattle.json5_text.specs.declared.numbers.Exponent.{Exponent}
-use Rattle.json5_text.specs.declared.numbers.Literal.{Literal}
+use Rattle.json5_text.specs.declared.literals.Exponent.{Exponent}
+use Rattle.json5_text.specs.declared.literals.Literal.{Literal}
 use Rattle.json5_text.specs.NumberParts.{raised_of, parts_of, limited_exponent, is_whole_literal}
 use Rattle.json5_grammar.proofs.DecimalsWritten.{length-front}
 

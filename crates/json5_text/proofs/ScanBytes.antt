@@ -1,16 +1,18 @@
 -- A text is cut where its characters are.
-use Rattle.std.proofs.Common.{◌≡◌, ℕ, ◌+◌, ◌-◌, ◌<◌, ◌≤◌, true, List, [], ◌∷◌, ◌++◌, length, take, drop, refl, ap, sym, ◌∙◌, subst, arith, append_assoc}
-use Rattle.std.specs.Char.{IsScalar}
-use Rattle.std.specs.Prelude.{slice_index}
+use Rattle.std.proofs.Common.{◌≡◌, ℕ, suc, ◌+◌, ◌-◌, ◌<◌, ◌≤◌, true, List, [], ◌∷◌, ◌++◌, length, take, drop, refl, ap, sym, ◌∙◌, subst, arith, append_assoc, Bool, false, nat_eq, Option, Some, drop-cons}
+use Rattle.std.specs.Char.{IsScalar, encode_utf8, len_utf8}
+use Rattle.std.specs.Prelude.{slice_index, slice_index_or, slice_get, not}
+use Rattle.std.specs.Option.{option_eq}
+use Rattle.std.proofs.lemmas.Bool.Decides.{nat_tests}
 use Rattle.std.specs.List.{slice_range}
 use Rattle.std.proofs.lemmas.Grind.{common_steps}
 use Rattle.std.specs.Str.{IsUtf8, IsCharBoundary, chars, encode_utf8_all, all_scalars}
 use Rattle.std.proofs.Math.Seq.{take-append_seam, drop-append_seam}
 use Rattle.std.proofs.lemmas.List.{length-append, length-drop, length-take, take-append-drop}
-use Rattle.std.proofs.lemmas.Str.{chars_past_char, encode_ascii, IsCharBoundary-after_ascii, encodes-chars, scalars-chars, chars-encodes, encodes-append, chars-append, IsUtf8-take, IsUtf8-drop, IsCharBoundary-at_seam}
+use Rattle.std.proofs.lemmas.Str.{chars_past_char, IsUtf8-past_char, length-encode, len_utf8_bounds, encode_ascii, length-encode, IsCharBoundary-after_ascii, encodes-chars, scalars-chars, chars-encodes, encodes-append, chars-append, IsUtf8-take, IsUtf8-drop, IsCharBoundary-at_seam}
 use Rattle.json5_text.specs.Outcome.{bytes_in}
 use Rattle.json5_text.specs.Cursor.{IsOffset}
-use Rattle.json5_text.specs.Scan.{InText}
+use Rattle.json5_text.specs.Scan.{InText, Begins}
 use Rattle.std.proofs.lemmas.Bool.{and_parts}
 
 pub scalar_halves : (x y : List ℕ) → all_scalars (x ++ y) ≡ true → (all_scalars x ≡ true) × (all_scalars y ≡ true)
@@ -148,9 +150,47 @@ part_between {text = text} {x = x} u y h =
 pub first_cut : (s : List ℕ) → IsUtf8 s → 0 < length s → slice_index s 0 < 128 → IsCharBoundary s 1
 first_cut s u l h = IsCharBoundary-after_ascii s 0 u l h
 
-pub first_char : (s t : List ℕ) → IsUtf8 s → 0 < length s → slice_index s 0 < 128 → t ≡ drop 1 s → chars s ≡ slice_index s 0 ∷ chars t
+first_char : (s t : List ℕ) → IsUtf8 s → 0 < length s → slice_index s 0 < 128 → t ≡ drop 1 s → chars s ≡ slice_index s 0 ∷ chars t
 first_char [] t u l h d = absurd (omega arith)
 first_char (b ∷ s) t u l h d = chars_past_char (b ∷ s) s b u (ap (λ z. z ++ s) (sym (encode_ascii b h))) ∙ ap (λ z. b ∷ chars z) (sym d)
+
+-- the first character of what is unread
+pub ascii_next : {text bytes : List ℕ} {offset end : ℕ} → bytes ≡ text → InText text offset end → offset < length bytes → slice_index_or bytes offset 0 < 128 → Some (slice_index_or bytes offset 0) ≡ slice_get (chars (drop offset text)) 0
+ascii_next {text = text} {bytes = bytes} {offset = offset} e k i l =
+    let first : drop offset text ≡ slice_index_or bytes offset 0 ∷ drop (suc offset) bytes = ap (drop offset) (sym e) ∙ drop-cons bytes offset 0 i in
+    let front = chars_past_char (drop offset text) (drop (suc offset) bytes) (slice_index_or bytes offset 0) (IsUtf8-drop text offset k.is_text k.cut) (first ∙ ap (λ z. z ++ drop (suc offset) bytes) (sym (encode_ascii (slice_index_or bytes offset 0) l))) in
+    sym (ap (λ z. slice_get z 0) front)
+
+-- the first character is this one
+pub next_is : (x : List ℕ) (c : ℕ) (o : Option ℕ) (b : Bool) → o ≡ slice_get x 0 → b ≡ not (option_eq nat_eq o (Some c)) → b ≡ false → x ≡ c ∷ drop 1 x
+next_is [] c o b e f h = absurd (let k = sym h ∙ f ∙ ap (λ z. not (option_eq nat_eq z (Some c))) e in cc)
+next_is (d ∷ x) c o b e f h = let k = sym h ∙ f ∙ ap (λ z. not (option_eq nat_eq z (Some c))) e in let s : d ≡ c = grind (arith, nat_tests, k) in ap (λ z. z ∷ x) s
+
+-- what is unread after its first character
+pub next_left : {text : List ℕ} {offset end : ℕ} (c : ℕ) (r : List ℕ) → InText text offset end → chars (drop offset text) ≡ c ∷ r → offset + len_utf8 c ≡ end - bytes_in r
+next_left {text = text} {offset = offset} {end = end} c r k e =
+    let o = offset_counted k in
+    let n = length-append (encode_utf8 c) (encode_utf8_all r) in
+    let m = length-encode c in
+    let u : bytes_in (chars (drop offset text)) ≡ bytes_in (c ∷ r) = ap bytes_in e in
+    let w = left_fits (halves_in k) in
+    let f = encodes-chars text k.is_text in
+    let t = k.counted in
+    omega (arith, o, n, m, u, w, ap length f, t)
+
+pub begins_ascii : (s t : List ℕ) → IsUtf8 s → 0 < length s → slice_index s 0 < 128 → t ≡ drop 1 s → Begins s (slice_index s 0) t
+begins_ascii s t u l h d = record {
+  chars = first_char s t u l h d;
+  text = subst IsUtf8 (sym d) (IsUtf8-drop s 1 u (first_cut s u l h));
+  shorter = let k = ap length d in let m = length-drop 1 s in omega arith;
+}
+
+pub begins_char : (s t : List ℕ) (c : ℕ) → IsUtf8 s → s ≡ encode_utf8 c ++ t → Begins s c t
+begins_char s t c u e = record {
+  chars = chars_past_char s t c u e;
+  text = IsUtf8-past_char s t c u e;
+  shorter = let k : length s ≡ length (encode_utf8 c) + length t = ap length e ∙ length-append (encode_utf8 c) t in let m = length-encode c in let n = (len_utf8_bounds c).0 in omega arith;
+}
 
 pub no_chars : (s : List ℕ) → length s ≡ 0 → chars s ≡ []
 unfolding chars

@@ -1,9 +1,10 @@
 -- Steps of reading escapes.
-use Rattle.std.proofs.Common.{◌≡◌, ℕ, zero, suc, ◌+◌, ◌-◌, ◌*◌, ◌^◌, ◌<◌, ◌≤◌, Bool, true, false, cond, List, [], ◌∷◌, length, refl, ap, sym, ◌∙◌, arith, Option, Some, None}
-use Rattle.std.specs.Prelude.{◌==◌, ◌&&◌}
+use Rattle.std.proofs.Common.{◌≡◌, ℕ, zero, suc, ◌+◌, ◌-◌, ◌*◌, ◌^◌, ◌<◌, ◌≤◌, Bool, true, false, ltb, cond, List, [], ◌∷◌, ◌++◌, length, drop, refl, ap, sym, ◌∙◌, subst, arith, Option, Some, None}
+use Rattle.std.specs.Prelude.{◌==◌, ◌&&◌, slice_index}
+use Rattle.std.specs.List.{slice_get}
 use Rattle.std.specs.Char.{IsScalar, digit_value}
-use Rattle.std.specs.Str.{IsUtf8, chars}
-use Rattle.std.proofs.lemmas.Str.{encodes-chars, chars-encodes}
+use Rattle.std.specs.Str.{IsUtf8, IsCharBoundary, chars, encode_utf8_all}
+use Rattle.std.proofs.lemmas.Str.{encode_ascii, encodes-chars, chars-encodes}
 use Rattle.std.proofs.lemmas.Bool.Decides.{nat_tests}
 use Rattle.json5_grammar.specs.Characters.{is_terminator, is_digit}
 use Rattle.json5_grammar.specs.declared.code.ErrorCode.{ErrorCode}
@@ -18,6 +19,8 @@ use Rattle.json5_text.specs.declared.refusal.Refusal.{Refusal}
 use Rattle.json5_text.specs.declared.refusal.Refusal.TheVariants as refusal
 use Rattle.json5_text.specs.Outcome.{failed, outcome, left_at}
 use Rattle.json5_text.specs.Refused.{Refuses}
+use Rattle.json5_text.specs.Scan.{Begins}
+use Rattle.json5_text.proofs.ScanBytes.{first_cut, begins_ascii, no_chars}
 use Rattle.json5_text.proofs.ScanFaults.{same_failed, gave_failed}
 
 -- ---- refusals
@@ -50,12 +53,12 @@ pub hex_done : (w n : ℕ) (b xs : List ℕ) → w ≡ 0 → hex w n b xs ≡ go
 unfolding hex
 hex_done w n b xs h = rw h refl
 
-pub hex_ends : (w n : ℕ) (b xs : List ℕ) → 0 < w → xs ≡ [] → hex w n b xs ≡ bad (Some EofParsingEscapeSequence) inner
+hex_ends : (w n : ℕ) (b xs : List ℕ) → 0 < w → xs ≡ [] → hex w n b xs ≡ bad (Some EofParsingEscapeSequence) inner
 unfolding hex
 hex_ends zero n b xs l e = absurd (omega arith)
 hex_ends (suc k) n b xs l e = rw e refl
 
-pub hex_wrong : (w n c : ℕ) (b xs ys : List ℕ) → 0 < w → xs ≡ c ∷ ys → 16 ≤ digit_value c → hex w n b xs ≡ bad (Some InvalidEscapeSequence) (here b)
+hex_wrong : (w n c : ℕ) (b xs ys : List ℕ) → 0 < w → xs ≡ c ∷ ys → 16 ≤ digit_value c → hex w n b xs ≡ bad (Some InvalidEscapeSequence) (here b)
 unfolding hex
 hex_wrong zero n c b xs ys l e h = absurd (omega arith)
 hex_wrong (suc k) n c b xs ys l e h = rw e (rw (no_hex c h) refl)
@@ -64,6 +67,48 @@ pub hex_more : (w n c : ℕ) (b xs ys : List ℕ) → 0 < w → xs ≡ c ∷ ys 
 unfolding hex
 hex_more zero n c b xs ys l e h = absurd (omega arith)
 hex_more (suc k) n c b xs ys l e h = let d : suc k - 1 ≡ k = omega arith in rw (e, d) (rw (hex_value c h) refl)
+
+digit_ascii : (d : ℕ) → digit_value d < 16 → d < 128
+digit_ascii d h = grind (arith, nat_tests)
+
+-- a byte in front
+byte_first : (s : List ℕ) (d : ℕ) → Some d ≡ slice_get s 0 → (0 < length s) × (slice_index s 0 ≡ d)
+byte_first [] d e = absurd (cc)
+byte_first (x ∷ s) d e = (omega arith, cc)
+
+pub hex_no_byte : (w n : ℕ) (b s : List ℕ) → 0 < w → None ≡ slice_get s 0 → hex w n b (chars s) ≡ bad (Some EofParsingEscapeSequence) inner
+hex_no_byte w n b [] l e = hex_ends w n b (chars []) l (no_chars [] refl)
+hex_no_byte w n b (x ∷ s) l e = absurd (cc)
+
+-- a digit's byte is its character
+pub digit_cut : (s : List ℕ) (d : ℕ) → IsUtf8 s → Some d ≡ slice_get s 0 → digit_value d < 16 → IsCharBoundary s 1
+digit_cut s d u e h = let f = byte_first s d e in first_cut s u f.0 (rw f.1 (digit_ascii d h))
+
+pub digit_begins : (s t : List ℕ) (d : ℕ) → IsUtf8 s → Some d ≡ slice_get s 0 → digit_value d < 16 → t ≡ drop 1 s → Begins s d t
+digit_begins s t d u e h f = let k = byte_first s d e in subst (λ x. Begins s x t) k.1 (begins_ascii s t u k.0 (rw k.1 (digit_ascii d h)) f)
+
+first_byte : (s r : List ℕ) (c : ℕ) → IsUtf8 s → chars s ≡ c ∷ r → c < 128 → slice_index s 0 ≡ c
+first_byte s r c u e h = ap (λ z. slice_index z 0) (sym (encodes-chars s u) ∙ ap encode_utf8_all e ∙ ap (λ z. z ++ encode_utf8_all r) (encode_ascii c h))
+
+no_digit : (s r : List ℕ) (c d : ℕ) → IsUtf8 s → chars s ≡ c ∷ r → slice_index s 0 ≡ d → 16 ≤ digit_value d → 16 ≤ digit_value c
+no_digit s r c d u e f h = by_cases (ltb (digit_value c) 16) refl
+  where
+    by_cases : (b : Bool) → ltb (digit_value c) 16 ≡ b → 16 ≤ digit_value c
+    by_cases true i =
+        let l : digit_value c < 16 = grind (arith, nat_tests) in
+        let k : d ≡ c = sym f ∙ first_byte s r c u e (digit_ascii c l) in
+        absurd (let m : 16 ≤ digit_value c = subst (λ x. 16 ≤ digit_value x) k h in omega arith)
+    by_cases false i = grind (arith, nat_tests)
+
+pub hex_no_digit : (w n d : ℕ) (b s : List ℕ) → 0 < w → IsUtf8 s → Some d ≡ slice_get s 0 → 16 ≤ digit_value d → hex w n b (chars s) ≡ bad (Some InvalidEscapeSequence) (here b)
+hex_no_digit w n d b s l u f h = by_chars (chars s) refl
+  where
+    by_chars : (xs : List ℕ) → chars s ≡ xs → hex w n b (chars s) ≡ bad (Some InvalidEscapeSequence) (here b)
+    by_chars [] e =
+        let none : length s ≡ 0 = ap length (sym (encodes-chars s u) ∙ ap encode_utf8_all e) in
+        let some : 0 < length s = (byte_first s d f).0 in
+        absurd (omega arith)
+    by_chars (c ∷ r) e = hex_wrong w n c b (chars s) r l e (no_digit s r c d u e (byte_first s d f).1 h)
 
 -- the value of up to three digits
 pub three_digits : (k v : ℕ) → k ≤ 3 → v < 16 ^ k → v < 4096

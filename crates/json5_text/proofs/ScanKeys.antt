@@ -27,7 +27,7 @@ use Rattle.json5_text.specs.Outcome.{bytes_in, outcome}
 use Rattle.json5_text.specs.Refused.{Refuses}
 use Rattle.json5_text.specs.Scan.{InText, MadeOf}
 use Rattle.json5_text.specs.ScanKeys.{key_at, IsKeyOf, IsKeyIn}
-use Rattle.json5_text.specs.ScanStrings.{string_at}
+use Rattle.json5_text.specs.ScanTexts.{string_at}
 use Rattle.json5_text.specs.Tokens.{FaultyKey, at_quote, at_name}
 use Rattle.json5_text.proofs.ScanBytes.{Halves, halves_in, fits_left, bytes_append, cut_at, part_between, halves_after}
 use Rattle.json5_text.proofs.ScanFaults.{FaultAt, FaultyIn}

@@ -1,7 +1,7 @@
 -- One step of passing over blanks and words.
 use Rattle.std.proofs.Common.{Some, ◌≡◌, ℕ, true, false, List, [], ◌∷◌, refl, arith}
 use Rattle.std.specs.Prelude.{◌==◌}
-use Rattle.json5_grammar.specs.Characters.{is_blank, is_terminator}
+use Rattle.json5_grammar.specs.Characters.{is_blank, is_terminator, NotBegun}
 use Rattle.json5_grammar.specs.declared.code.ErrorCode.TheVariants.{EofParsingComment, ExpectedComment}
 use Rattle.json5_grammar.specs.ReadValues.{word_at}
 use Rattle.json5_grammar.specs.declared.code.ErrorCode.{ErrorCode}
@@ -42,17 +42,14 @@ unfolding skip
 block_end c d xs ys zs e h k j = rw (e, h, k, j)
 
 -- a star that no slash follows
-star_block : (ys : List ℕ) (d : ℕ) (zs : List ℕ) → ys ≡ d ∷ zs → (d ≡ 47 → ⊥) → skip Mode.star ys ≡ skip Mode.block ys
+star_block : (ys : List ℕ) → NotBegun (λ d. d == 47) ys → skip Mode.star ys ≡ skip Mode.block ys
 unfolding skip
-star_block ys d zs e n = let t : (d == 47) ≡ false = grind arith in rw e (rw t refl)
+star_block [] n = refl
+star_block (d ∷ zs) n = rw n refl
 
-pub block_star : (c d : ℕ) (xs ys zs : List ℕ) → xs ≡ c ∷ ys → c ≡ 42 → ys ≡ d ∷ zs → (d ≡ 47 → ⊥) → skip Mode.block xs ≡ skip Mode.block ys
+pub block_star : (c : ℕ) (xs ys : List ℕ) → xs ≡ c ∷ ys → c ≡ 42 → NotBegun (λ d. d == 47) ys → skip Mode.block xs ≡ skip Mode.block ys
 unfolding skip
-block_star c d xs ys zs e h k n = rw (e, h) (star_block ys d zs k n)
-
-pub block_star_end : (c : ℕ) (xs ys : List ℕ) → xs ≡ c ∷ ys → c ≡ 42 → ys ≡ [] → skip Mode.block xs ≡ skip Mode.block ys
-unfolding skip
-block_star_end c xs ys e h k = rw (e, h, k)
+block_star c xs ys e h n = rw (e, h) (star_block ys n)
 
 pub block_more : (c : ℕ) (xs ys : List ℕ) → xs ≡ c ∷ ys → (c ≡ 42 → ⊥) → skip Mode.block xs ≡ skip Mode.block ys
 unfolding skip
@@ -80,8 +77,6 @@ unfolding skip
 slash_other c xs ys e n k = let t : (c == 47) ≡ false = grind arith in let u : (c == 42) ≡ false = grind arith in rw e (rw (t, u) refl)
 
 pub ruleset line_steps = (line_end, line_more, line_none, blank_more, at_slash, at_solid, at_none)
-
-pub ruleset block_steps = (block_end, block_star, block_star_end, block_more, block_none)
 
 -- ---- words
 

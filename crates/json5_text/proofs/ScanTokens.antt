@@ -27,7 +27,7 @@ use Rattle.json5_text.specs.Refused.{Refuses}
 use Rattle.json5_text.specs.Cursor.{Cursor}
 use Rattle.json5_text.specs.Tokens.{FaultyBlanks, FaultyWord, word_differs, word_ends, FaultyString, faulty, no_quote, string_missing, FaultyName, no_name, name_missing}
 use Rattle.json5_text.specs.Scan.{HasFault, Leaves}
-use Rattle.json5_text.specs.ScanStrings.{string_at}
+use Rattle.json5_text.specs.ScanTexts.{string_at}
 use Rattle.json5_text.proofs.ScanFaults.{FaultAt, FaultyIn, gave_failed, no_memory}
 
 pub left_counted : (r : List ℕ) → IsUtf8 r → length r ≡ bytes_in (chars r)

@@ -7,7 +7,6 @@ use Rattle.json5_grammar.specs.Characters.{is_in, is_digit, NotBegun}
 use Rattle.json5_grammar.specs.Numbers.{spelled, hex_start, Integer}
 use Rattle.json5_grammar.specs.ReadNumbers.{is_integer, front_of}
 use Rattle.json5_grammar.specs.Stops.{in_run}
-use Rattle.json5_grammar.specs.ReadBlanks.{Mode, skip}
 use Rattle.json5_text.specs.declared.bytes.FewDigits.{FewDigits}
 
 -- a byte at which a run of a string in the quotes q ends
@@ -36,11 +35,6 @@ is_ascii_start x = (x == 36) || ((x == 95) || (is_in 65 90 x || is_in 97 122 x))
 -- an ASCII character that may go on one
 abbrev pub is_ascii_part : ℕ → Bool
 is_ascii_part x = is_ascii_start x || is_digit x
-
--- the characters between text and rest are passed over in this mode
-pub record PassesOn (mode : Mode) (text rest : List ℕ) : Type 0 where
-  pub passed : skip mode (chars text) ≡ skip mode (chars rest)
-  pub shorter : length rest ≤ length text
 
 -- may go on with a number after its digits
 abbrev pub lengthens_digits : ℕ → Bool

@@ -10,7 +10,7 @@ pub mod NumberPieces
 pub mod NumberDecimals
 pub mod NumberSteps
 pub mod NumberEquality
-pub mod ScanStrings
+pub mod ScanTexts
 pub mod NumberWholes
 pub mod Scan
 pub mod Answered
@@ -23,7 +23,6 @@ pub mod Agreeing
 pub mod NumberParts
 pub mod ValueViews
 pub mod ValueLookups
-pub mod ScanNames
 pub mod ScanNumbers
 pub mod ScanKeys
 pub mod ScanBlanks

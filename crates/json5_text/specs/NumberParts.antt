@@ -7,11 +7,11 @@ use Rattle.json5_grammar.specs.Numbers as numbers
 use Rattle.json5_grammar.specs.Numbers.{signed, spelled}
 use Rattle.json5_grammar.specs.ReadNumbers.{Parts, is_whole, front_of, rest_of}
 use Rattle.json5_grammar.specs.Stops.{in_run}
-use Rattle.json5_text.specs.declared.numbers.Exponent.{Exponent}
-use Rattle.json5_text.specs.declared.numbers.Literal.{Literal}
-use Rattle.json5_text.specs.declared.numbers.Scanned.{Scanned}
-use Rattle.json5_text.specs.declared.numbers.Tail.{Tail}
-use Rattle.json5_text.specs.declared.numbers.Scanned.TheVariants as scanned
+use Rattle.json5_text.specs.declared.literals.Exponent.{Exponent}
+use Rattle.json5_text.specs.declared.literals.Literal.{Literal}
+use Rattle.json5_text.specs.declared.scanned.Scanned.{Scanned}
+use Rattle.json5_text.specs.declared.literals.Tail.{Tail}
+use Rattle.json5_text.specs.declared.scanned.Scanned.TheVariants as scanned
 
 abbrev pub scanned_of : Scanned → numbers.Number
 scanned_of (scanned.Whole z) = numbers.whole z

@@ -1,5 +1,6 @@
 -- What private clauses of the scanner say.
-use Rattle.std.specs.Prelude.{◌≡◌, ◌≤◌, ℕ, Bool, List, [], ◌∷◌, ◌++◌, length, Option, Some, None, ◌⊎◌, ⊤}
+use Rattle.std.specs.Prelude.{◌≡◌, ◌<◌, ◌≤◌, ℕ, Bool, List, [], ◌∷◌, ◌++◌, length, Option, Some, None, ◌⊎◌, ⊤}
+use denote.Ref.{Bor}
 use Rattle.std.specs.Str.{IsUtf8, IsCharBoundary, chars}
 use Rattle.json5_grammar.specs.Characters.{backslash, NotBegun, Each}
 use Rattle.json5_grammar.specs.declared.position.Position.{Position}
@@ -68,6 +69,17 @@ MadeOf s (refusal.InvalidNumber left) e = LacksMemory e ⊎ (Says None e × IsTh
 MadeOf s (refusal.TooLarge left) e = LacksMemory e ⊎ (Says None e × IsThere s left e)
 MadeOf s (refusal.UnpairedSurrogate escape left) e = LacksMemory e ⊎ (Says None e × IsThere s left e)
 MadeOf s refusal.OutOfMemory e = LacksMemory e
+
+-- c is in front, and the rest follows it
+pub record Begins (whole : List ℕ) (c : ℕ) (rest : List ℕ) : Type 0 where
+  pub chars : chars whole ≡ c ∷ chars rest
+  pub text : IsUtf8 rest
+  pub shorter : length rest < length whole
+
+-- the first character and what follows it, if there is one
+abbrev pub IsFront : List ℕ → Option (ℕ × Bor (List ℕ)) → Type 0
+IsFront whole None = chars whole ≡ []
+IsFront whole (Some p) = Begins whole p.0 p.1.now
 
 -- all in front that passes the test is passed over
 pub record SkipsAll (p : ℕ → Bool) (whole rest : List ℕ) : Type 0 where

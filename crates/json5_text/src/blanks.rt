@@ -1,67 +1,47 @@
 //! Blanks: white space, line terminators and comments.
 
-ghost use Rattle.std.specs.Prelude.{MatchOption, MatchResult, IfSome};
+ghost use Rattle.std.specs.Prelude.{MatchOption, MatchResult};
 ghost use Rattle.std.specs.Str.{chars};
 ghost use Rattle.json5_grammar.specs.ReadBlanks.{Mode, skip, between, slash};
-ghost use Rattle.json5_text.specs.Answered.{Gives, Skips, RefusesByCode};
+ghost use Rattle.json5_text.specs.Answered.{Skips, RefusesByCode};
 ghost use Rattle.json5_text.specs.ScanBlanks.{Continues, IsUnclosed};
-ghost use Rattle.json5_text.specs.ByteRuns.{PassesOn};
 
 use crate::bytes::{begins_solid, blanks_len, line_len, star_place};
 use crate::char::{is_json5_line_terminator, is_json5_whitespace};
 use crate::front::front;
 use crate::refusal::Refusal;
 use json5_grammar::code::ErrorCode;
-/// What follows the ASCII characters in front that end no line.
-#[inline(always)]
-fn skip_in_line(text: &str) -> &str
-    ensures { PassesOn Mode.line text.now result.now }
-{
-    let count = line_len(text.as_bytes());
-    text.split_at(count).1
-}
 
 /// After `//`: what follows the line's end.
-#[tactic(auto, using(crate::proofs::ScanSteps::line_steps))]
 fn skip_line(text: &str) -> &str
     ensures { Continues Mode.line text.now result.now }
 {
-    let mut rest = skip_in_line(text);
-    while let Some((c, next)) = front(rest) {
+    let mut rest = text;
+    loop {
+        rest = rest.split_at(line_len(rest.as_bytes())).1;
+        let Some((c, next)) = front(rest) else {
+            return rest;
+        };
         if is_json5_line_terminator(c) {
             return next;
         }
-        rest = skip_in_line(next);
+        rest = next;
     }
-    rest
-}
-
-/// The text from its first star on, or its end where there is none.
-#[inline(always)]
-fn skip_to_star(text: &str) -> &str
-    ensures { PassesOn Mode.block text.now result.now }
-{
-    let place = star_place(text.as_bytes());
-    text.split_at(place).1
 }
 
 /// After `/*`: what follows the first `*/`.
-#[tactic(auto, using(crate::proofs::ScanSteps::block_steps))]
 fn skip_block(text: &str) -> Option<&str>
     ensures { MatchOption result (IsUnclosed (chars text.now)) (λ rest. Continues Mode.block text.now rest.now) }
 {
-    let mut rest = skip_to_star(text);
-    while let Some((c, next)) = front(rest) {
-        if c == '*' {
-            if let Some((d, after)) = front(next) {
-                if d == '/' {
-                    return Some(after);
-                }
-            }
+    let mut rest = text;
+    loop {
+        rest = rest.split_at(star_place(rest.as_bytes())).1;
+        let (_, next) = front(rest)?;
+        if let Some(('/', after)) = front(next) {
+            return Some(after);
         }
-        rest = skip_to_star(next);
+        rest = next;
     }
-    None
 }
 
 /// After a comment's first slash: what follows the comment.
@@ -93,28 +73,16 @@ pub(crate) fn skip_ascii(text: &str) -> &str
     text.split_at(count).1
 }
 
-/// What follows ASCII blanks, where it begins with a character that is surely neither blank nor a slash.
-#[inline(always)]
-pub(crate) fn skip_to_solid(text: &str) -> Option<&str>
-    ensures { IfSome result (λ rest. Gives (skip between (chars text.now)) tt rest.now) }
-{
-    let rest = skip_ascii(text);
-    if begins_solid(rest.as_bytes()) {
-        Some(rest)
-    } else {
-        None
-    }
-}
-
 /// What follows blanks (JSON5 sections 7 and 8).
 #[inline(always)]
 pub(crate) fn skip_blank(text: &str) -> Result<&str, Refusal>
     ensures { Skips (skip between (chars text.now)) result }
 {
-    if let Some(rest) = skip_to_solid(text) {
+    let rest = skip_ascii(text);
+    if begins_solid(rest.as_bytes()) {
         return Ok(rest);
     }
-    skip_blank_slowly(text)
+    skip_blank_slowly(rest)
 }
 
 /// The same for any blanks.
@@ -123,7 +91,7 @@ pub(crate) fn skip_blank(text: &str) -> Result<&str, Refusal>
 fn skip_blank_slowly(text: &str) -> Result<&str, Refusal>
     ensures { Skips (skip between (chars text.now)) result }
 {
-    let mut rest = skip_ascii(text);
+    let mut rest = text;
     while let Some((c, next)) = front(rest) {
         if is_json5_whitespace(c) {
             rest = skip_ascii(next);

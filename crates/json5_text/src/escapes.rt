@@ -146,15 +146,15 @@ fn hexadecimal<'t>(count: u32, escape: &str, text: &'t str) -> Result<(u32, &'t 
     let mut wanted = count;
     let mut rest = text;
     while wanted > 0 {
-        let Some((c, next)) = front(rest) else {
+        let Some(byte) = rest.as_bytes().first() else {
             return Err(Refusal::Code(ErrorCode::EofParsingEscapeSequence, None));
         };
-        let Some(digit) = c.to_digit(16) else {
+        let Some(digit) = char::from(*byte).to_digit(16) else {
             return Err(invalid(escape));
         };
         value = value * 16 + digit;
         wanted -= 1;
-        rest = next;
+        rest = rest.split_at(1).1;
     }
     Ok((value, rest))
 }

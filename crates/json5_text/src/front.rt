@@ -1,13 +1,10 @@
 //! The first character of a text.
 
-ghost use Rattle.std.specs.Prelude.{◌≡◌, ◌<◌, [], ◌∷◌, MatchOption, IfSome, length};
-ghost use Rattle.std.specs.Str.{IsUtf8, chars};
+ghost use Rattle.json5_text.specs.Scan.{IsFront};
 
 /// The first character, and what follows it.
 pub(crate) fn front(text: &str) -> Option<(char, &str)>
-    ensures chars { MatchOption result (chars text.now ≡ []) (λ p. chars text.now ≡ p.0 ∷ chars p.1.now) }
-    ensures text { IfSome result (λ p. IsUtf8 p.1.now) }
-    ensures shorter { MatchOption result (length text.now ≡ 0) (λ p. length p.1.now < length text.now) }
+    ensures { IsFront text.now result }
 {
     let bytes = text.as_bytes();
     if bytes.is_empty() {
@@ -21,9 +18,7 @@ pub(crate) fn front(text: &str) -> Option<(char, &str)>
 
 /// The same of any text, by its characters.
 fn front_decoded(text: &str) -> Option<(char, &str)>
-    ensures chars { MatchOption result (chars text.now ≡ []) (λ p. chars text.now ≡ p.0 ∷ chars p.1.now) }
-    ensures text { IfSome result (λ p. IsUtf8 p.1.now) }
-    ensures shorter { MatchOption result (length text.now ≡ 0) (λ p. length p.1.now < length text.now) }
+    ensures { IsFront text.now result }
 {
     let mut rest = text.chars();
     let c = rest.next()?;

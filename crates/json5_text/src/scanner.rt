@@ -1,33 +1,54 @@
 //! The scanner: the tokens of a text, one after another.
 
-ghost use Rattle.std.specs.Prelude.{◌≡◌, ℕ, List, [], ◌∷◌, ◌++◌, true, false, ◌==◌, ◌⊎◌, length, drop, Some, slice_get, IsTrue};
-ghost use Rattle.std.specs.Str.{all_scalars, chars, encode_utf8_all};
+ghost use Rattle.std.specs.Prelude.{◌≡◌, ℕ, List, [], ◌∷◌, ◌++◌, true, false, ◌==◌, drop, slice_get, IsTrue};
+ghost use Rattle.std.specs.Str.{all_scalars, chars};
 ghost use Rattle.json5_grammar.specs.Characters.{NotBegun};
-ghost use Rattle.json5_text.specs.Cursor.{Cursor, offset_of, Took, Locates};
-ghost use Rattle.json5_text.specs.Errors.{IsCustomAt, LacksMemory};
-ghost use Rattle.json5_text.specs.Keys.{StandsAt, IsTextOf, IsCowOf};
-ghost use Rattle.json5_text.specs.Scan.{InText, Leaves, LeavesAt, InUnread, IsWhere, MadeOf};
-ghost use Rattle.json5_text.specs.Takes.{PassesBlanks, TakesWord, TakesNumber, TakesOwned, TakesString, TakesName, TakesKey, PassesString, PassesName, PassesNumber};
+ghost use Rattle.json5_text.specs.Cursor.{Cursor, offset_of, Took};
+ghost use Rattle.json5_text.specs.Scan.{InText, Leaves, LeavesAt};
+ghost use Rattle.json5_text.specs.Takes.{PassesBlanks, TakesWord, TakesNumber, TakesOwned, TakesKey, PassesString, PassesName, PassesNumber};
 
 use crate::blanks::skip_blank;
-use crate::cow_str::CowStr;
-use crate::error::{Error, Result};
+use crate::error::Result;
 use crate::front::front;
-use crate::input::{Borrows, Input};
+use crate::input::Input;
 use crate::key_text::KeyText;
 use crate::keys::read_key;
-use crate::names::{read_name, skip_name};
+use crate::names::skip_name;
 use crate::number::Number;
 use crate::numbers::{number, skip_number};
-use crate::refusal::Refusal;
-use crate::strings::{read_string, read_string_owned, skip_string};
+use crate::strings::{read_string_owned, skip_string};
 use crate::whole::Whole;
 use crate::words::skip_word;
 use json5_grammar::code::ErrorCode;
-use json5_grammar::position::Position;
 use std::alloc::Global;
-use std::fmt::Display;
 use std::marker::Model;
+
+/// Takes the token that is read, if it is: `$read` gives it and what follows it, or refuses.
+macro_rules! take {
+    ($scanner:ident, $read:expr) => {{
+        let (token, left) = match $read {
+            Ok((token, rest)) => (token, rest.len()),
+            Err(refusal) => return Err($scanner.fault(refusal)),
+        };
+        $scanner.leave_unread(left);
+        Ok(token)
+    }};
+}
+
+/// The same where nothing is kept of the token: `$skip` gives what follows it, or refuses.
+macro_rules! pass {
+    ($scanner:ident, $skip:expr) => {{
+        let left = match $skip {
+            Ok(rest) => rest.len(),
+            Err(refusal) => return Err($scanner.fault(refusal)),
+        };
+        $scanner.leave_unread(left);
+        Ok(())
+    }};
+}
+
+mod borrowed;
+mod faults;
 
 /// Reads tokens from the front of a text. A call that succeeds takes its token; a call that refuses takes nothing, and may be
 /// followed by any other. No call passes over blanks but `skip_blank`.
@@ -85,6 +106,10 @@ impl<I: Input> Scanner<I> {
     pub fn peek(&self) -> Option<char>
         ensures { result ≡ slice_get self.now.unread 0 }
     {
+        let bytes = self.input.as_text().as_bytes();
+        if self.offset < bytes.len() && bytes[self.offset] < 128 {
+            return Some(char::from(bytes[self.offset]));
+        }
         let (c, _) = front(self.rest(self.input.as_text()))?;
         Some(c)
     }
@@ -94,14 +119,10 @@ impl<I: Input> Scanner<I> {
         ensures taken { IsTrue result → Took self.old (c ∷ []) self.new }
         ensures kept { (result ≡ false) → (self.new ≡ self.old) × NotBegun (λ d. d == c) self.old.unread }
     {
-        let Some((next, rest)) = front(self.rest(self.input.as_text())) else {
-            return false;
-        };
-        if next != c {
+        if self.peek() != Some(c) {
             return false;
         }
-        let left = rest.len();
-        self.leave_unread(left);
+        self.offset += c.len_utf8();
         true
     }
 
@@ -112,12 +133,7 @@ impl<I: Input> Scanner<I> {
     pub fn skip_blank(&mut self) -> Result<()>
         ensures { PassesBlanks self.old self.new result }
     {
-        let left = match skip_blank(self.rest(self.input.as_text())) {
-            Ok(rest) => rest.len(),
-            Err(refusal) => return Err(self.fault(refusal)),
-        };
-        self.leave_unread(left);
-        Ok(())
+        pass!(self, skip_blank(self.rest(self.input.as_text())))
     }
 
     /// Takes the word. The fault is `differs` at the first character that differs from the word's, or `ends` without a place
@@ -125,12 +141,10 @@ impl<I: Input> Scanner<I> {
     pub fn word(&mut self, word: &str, ends: ErrorCode, differs: ErrorCode) -> Result<()>
         ensures { TakesWord (chars word.now) ends differs self.old self.new result }
     {
-        let left = match skip_word(word, self.rest(self.input.as_text()), ends, differs) {
-            Ok(rest) => rest.len(),
-            Err(refusal) => return Err(self.fault(refusal)),
-        };
-        self.leave_unread(left);
-        Ok(())
+        pass!(
+            self,
+            skip_word(word, self.rest(self.input.as_text()), ends, differs)
+        )
     }
 
     /// Takes a number, as far as it goes (JSON5 section 6, ECMAScript 5.1 section 7.8.3). A whole number, infinity and
@@ -148,12 +162,7 @@ impl<I: Input> Scanner<I> {
     pub fn number(&mut self) -> Result<Number>
         ensures { TakesNumber self.old self.new result }
     {
-        let (number, left) = match number(self.alloc, self.rest(self.input.as_text())) {
-            Ok((number, rest)) => (number, rest.len()),
-            Err(refusal) => return Err(self.fault(refusal)),
-        };
-        self.leave_unread(left);
-        Ok(number)
+        take!(self, number(self.alloc, self.rest(self.input.as_text())))
     }
 
     /// Takes a string and gives its text in memory of its own (JSON5 section 5, ECMAScript 5.1 section 7.8.4). The faults are
@@ -161,12 +170,10 @@ impl<I: Input> Scanner<I> {
     pub fn string_owned(&mut self) -> Result<String>
         ensures { TakesOwned self.old self.new result }
     {
-        let (text, left) = match read_string_owned(self.alloc, self.rest(self.input.as_text())) {
-            Ok((text, rest)) => (text, rest.len()),
-            Err(refusal) => return Err(self.fault(refusal)),
-        };
-        self.leave_unread(left);
-        Ok(text)
+        take!(
+            self,
+            read_string_owned(self.alloc, self.rest(self.input.as_text()))
+        )
     }
 
     /// Takes a key: a string or an identifier (JSON5 section 3). A text without a backslash takes no memory. A character must
@@ -176,23 +183,10 @@ impl<I: Input> Scanner<I> {
     pub fn key(&mut self) -> Result<KeyText>
         ensures { TakesKey self.old self.new result }
     {
-        let (key, left) = match read_key(self.alloc, self.end, self.rest(self.input.as_text())) {
-            Ok((key, rest)) => (key, rest.len()),
-            Err(refusal) => return Err(self.fault(refusal)),
-        };
-        self.leave_unread(left);
-        Ok(key)
-    }
-
-    /// The text of a key that this scanner took. Of another scanner's key it may be any part of the text that is read, or empty
-    /// where the key's offsets are no places between characters.
-    pub fn text_of<'t>(&'t self, key: &'t KeyText) -> &'t str
-        ensures { IsTextOf self.now.input key.now result.now }
-    {
-        match key {
-            KeyText::Plain { start, end } => between(self.input.as_text(), *start, *end),
-            KeyText::Escaped(text) => text.as_str(),
-        }
+        take!(
+            self,
+            read_key(self.alloc, self.end, self.rest(self.input.as_text()))
+        )
     }
 
     /// Takes a string as `string` does, and makes no text of it: only a custom fault takes memory. The faults are those of
@@ -200,12 +194,7 @@ impl<I: Input> Scanner<I> {
     pub fn skip_string(&mut self) -> Result<()>
         ensures { PassesString self.old self.new result }
     {
-        let left = match skip_string(self.rest(self.input.as_text())) {
-            Ok(rest) => rest.len(),
-            Err(refusal) => return Err(self.fault(refusal)),
-        };
-        self.leave_unread(left);
-        Ok(())
+        pass!(self, skip_string(self.rest(self.input.as_text())))
     }
 
     /// Takes an identifier as `identifier` does, and makes no text of it: only a custom fault takes memory. The faults are
@@ -213,12 +202,7 @@ impl<I: Input> Scanner<I> {
     pub fn skip_identifier(&mut self) -> Result<()>
         ensures { PassesName self.old self.new result }
     {
-        let left = match skip_name(self.rest(self.input.as_text())) {
-            Ok(rest) => rest.len(),
-            Err(refusal) => return Err(self.fault(refusal)),
-        };
-        self.leave_unread(left);
-        Ok(())
+        pass!(self, skip_name(self.rest(self.input.as_text())))
     }
 
     /// Takes a number as `number` does, and gives it if it is whole, None for a decimal. No digits are kept: only a custom
@@ -226,25 +210,7 @@ impl<I: Input> Scanner<I> {
     pub fn skip_number(&mut self) -> Result<Option<Whole>>
         ensures { PassesNumber self.old self.new result }
     {
-        let (whole, left) = match skip_number(self.rest(self.input.as_text())) {
-            Ok((whole, rest)) => (whole, rest.len()),
-            Err(refusal) => return Err(self.fault(refusal)),
-        };
-        self.leave_unread(left);
-        Ok(whole)
-    }
-
-    /// The position of an offset in bytes, or that of the text's end where no character begins at the offset. Line and column
-    /// count from 0, the column in characters.
-    pub fn position_of(&self, offset: usize) -> Position
-        ensures { Locates self.now.input offset result }
-    {
-        let _end = self.end;
-        let text = self.input.as_text();
-        match text.split_at_checked(offset) {
-            Some((before, _)) => Position::after(before),
-            None => Position::after(text),
-        }
+        take!(self, skip_number(self.rest(self.input.as_text())))
     }
 
     /// What is unread of the text.
@@ -261,117 +227,5 @@ impl<I: Input> Scanner<I> {
         ensures { LeavesAt self.old left self.new }
     {
         self.offset = self.end - left;
-    }
-
-    /// The position where so many bytes are left.
-    fn position_where_left(&self, left: usize) -> Position
-        requires { Leaves self.now left }
-        ensures { IsWhere self.now left result }
-    {
-        Position::from_offset(self.end - left, self.input.as_text())
-    }
-
-    /// The fault that a token was refused with.
-    fn fault(&self, refusal: Refusal) -> Error
-        requires { InUnread self.now refusal }
-        ensures { MadeOf self.now refusal result }
-    {
-        match refusal {
-            Refusal::Code(code, None) => Error::new(code),
-            Refusal::Code(code, Some(left)) => Error::new_at(self.position_where_left(left), code),
-            Refusal::InvalidNumber(left) => self.custom(
-                self.position_where_left(left),
-                "invalid number",
-            ),
-            Refusal::TooLarge(left) => {
-                self.custom(
-                    self.position_where_left(left),
-                    "number too large to fit in target type",
-                )
-            }
-            Refusal::UnpairedSurrogate(escape, left) => {
-                self.custom(
-                    self.position_where_left(left),
-                    format_args!("unpaired surrogate found: {escape:x}"),
-                )
-            }
-            Refusal::OutOfMemory => Error::new(ErrorCode::OutOfMemory),
-        }
-    }
-
-    /// The custom fault with this message at this place; `OutOfMemory` where there is no memory for the message.
-    fn custom<D: Display + Drop>(&self, position: Position, message: D) -> Error
-        ensures { LacksMemory result ⊎ IsCustomAt (Some position) result }
-    {
-        match Error::custom_at(self.alloc, position, message) {
-            Ok(error) => error,
-            Err(error) => error,
-        }
-    }
-}
-
-/// The part of a text between two offsets in bytes; the empty text where they are no places between characters, in order.
-fn between(text: &str, start: usize, end: usize) -> &str
-    ensures { (u : List ℕ) → StandsAt (chars text.now) u start end → result.now ≡ encode_utf8_all u }
-{
-    text.get(start..end).unwrap_or("")
-}
-
-// What is borrowed from the text.
-impl<'de, I: Borrows<'de>> Scanner<I> {
-    /// Takes a string and gives its text, borrowed where the string holds no backslash, which then takes no memory (JSON5
-    /// section 5, ECMAScript 5.1 section 7.8.4).
-    ///
-    /// The fault is
-    /// - `ExpectedString` at a character that is no quote;
-    /// - `LineTerminatorInString` at an LF or CR without a backslash;
-    /// - `InvalidEscapeSequence` at the backslash of a faulty escape, of two the first one's; or, where a second `\u` must follow
-    ///   that of a surrogate, at the character that stands in place of its `\` or `u`;
-    /// - a custom fault at the first backslash of two `\u` escapes that are no pair of surrogates;
-    /// - `EofParsingString` or, in an escape, `EofParsingEscapeSequence`, without a place, where the text ends.
-    pub fn string(&mut self) -> Result<CowStr<'de>>
-        ensures { TakesString self.old self.new result }
-    {
-        let (text, left) = match read_string(self.alloc, self.rest(self.input.as_borrowed())) {
-            Ok((text, rest)) => (text, rest.len()),
-            Err(refusal) => return Err(self.fault(refusal)),
-        };
-        self.leave_unread(left);
-        Ok(text)
-    }
-
-    /// Takes an identifier, as far as it goes, and gives its text, borrowed where it holds no backslash, which then takes no
-    /// memory (JSON5 section 3, ECMAScript 5.1 section 7.6). A character must follow it: an identifier ends no text.
-    ///
-    /// The fault is
-    /// - `ExpectedIdentifier` at a character that may not begin one, or at the backslash of an escape whose character may not
-    ///   stand there;
-    /// - `InvalidEscapeSequence` at the character after a backslash that is no `u`, and the faults of `\u` escapes as in
-    ///   `string`;
-    /// - `EofParsingIdentifier` or, in a `\u` escape, `EofParsingEscapeSequence`, without a place, where the text ends.
-    pub fn identifier(&mut self) -> Result<CowStr<'de>>
-        ensures { TakesName self.old self.new result }
-    {
-        let (text, left) = match read_name(self.alloc, self.rest(self.input.as_borrowed())) {
-            Ok((text, rest)) => (text, rest.len()),
-            Err(refusal) => return Err(self.fault(refusal)),
-        };
-        self.leave_unread(left);
-        Ok(text)
-    }
-
-    /// The text of a key that this scanner took, borrowed where the key holds no backslash; of another scanner's key as in
-    /// `text_of`.
-    pub fn borrowed_text_of(&self, key: KeyText) -> CowStr<'de>
-        ensures { IsCowOf self.now.input key result }
-    {
-        match key {
-            KeyText::Plain { start, end } => CowStr::Borrowed(between(
-                self.input.as_borrowed(),
-                start,
-                end,
-            )),
-            KeyText::Escaped(text) => CowStr::Owned(text),
-        }
     }
 }

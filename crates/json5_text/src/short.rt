@@ -2,12 +2,28 @@
 //! frame of the caller; where they answer nothing they take nothing, and the scanner's other calls say what is there.
 
 ghost use Rattle.std.specs.Prelude.{◌<◌, true, false, IfSome};
+ghost use Rattle.std.specs.Str.{chars};
+ghost use Rattle.json5_grammar.specs.ReadBlanks.{skip, between};
+ghost use Rattle.json5_text.specs.Answered.{Gives};
 ghost use Rattle.json5_text.specs.Short.{IsShortWhole, GivesSpaced, TakesShortWhole, IsInFront, FindsStep, TakesShortStep};
 
-use crate::blanks::{skip_ascii, skip_to_solid};
-use crate::bytes::{begins_minus, short_digits};
+use crate::blanks::skip_ascii;
+use crate::bytes::{begins_minus, begins_solid, short_digits};
 use crate::input::Input;
 use crate::scanner::Scanner;
+
+/// What follows ASCII blanks, where it begins with a character that is surely neither blank nor a slash.
+#[inline(always)]
+fn skip_to_solid(text: &str) -> Option<&str>
+    ensures { IfSome result (λ rest. Gives (skip between (chars text.now)) tt rest.now) }
+{
+    let rest = skip_ascii(text);
+    if begins_solid(rest.as_bytes()) {
+        Some(rest)
+    } else {
+        None
+    }
+}
 
 /// A whole number of few digits, and how many bytes follow it.
 #[derive(Clone, Copy)]

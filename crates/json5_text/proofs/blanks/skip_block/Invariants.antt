@@ -5,8 +5,8 @@ use Rattle.std.specs.Str.{chars}
 use Rattle.json5_grammar.specs.ReadBlanks.{skip, Mode}
 use Rattle.json5_text.proofs.blanks.skip_block.Given as goal
 
-abbrev pub invariant-loop-c : goal.invariant-loop-c
-invariant-loop-c l = shadow (Utf8 l.rest) × (skip Mode.block (chars l.rest) ≡ skip Mode.block (chars l.fn.text)) × (length l.rest ≤ length l.fn.text)
+abbrev pub invariant-loop-next : goal.invariant-loop-next
+invariant-loop-next l = shadow (Utf8 l.rest) × (skip Mode.block (chars l.rest) ≡ skip Mode.block (chars l.fn.text)) × (length l.rest ≤ length l.fn.text)
 
-abbrev pub decreases-loop-c : goal.decreases-loop-c
-decreases-loop-c l = length l.rest
+abbrev pub decreases-loop-next : goal.decreases-loop-next
+decreases-loop-next l = length l.rest

@@ -6,7 +6,7 @@ use Rattle.json5_text.proofs.ScanSteps.{slash_none, slash_slash, slash_star, sla
 use Rattle.json5_text.proofs.blanks.skip_comment.Goals as goal
 
 pub returns-in_default : goal.returns-in_default
-returns-in_default c = record { refused = ap outcome (slash_none (chars c.args.text.now) c.in_default.ensures.chars); known = tt }
+returns-in_default c = record { refused = ap outcome (slash_none (chars c.args.text.now) c.in_default.ensures); known = tt }
 
 pub returns-then-c-eq47 : goal.returns-then-c-eq47
 returns-then-c-eq47 c = record { passed = grind (arith, slash_slash); shorter = omega (arith, c.in-Some.ensures.shorter) }

@@ -5,7 +5,7 @@ use Rattle.json5_text.proofs.ScanEscapes.{escape_end, escape_step}
 use Rattle.json5_text.proofs.escapes.read_escape.Goals as goal
 
 pub returns-in_default : goal.returns-in_default
-returns-in_default c = record { refused = ap outcome (escape_end _ _ c.in_default.ensures.chars); known = tt }
+returns-in_default c = record { refused = ap outcome (escape_end _ _ c.in_default.ensures); known = tt }
 
 pub returns-in-Some-short_escape : goal.returns-in-Some-short_escape
 returns-in-Some-short_escape c = record {

@@ -7,7 +7,7 @@ use Rattle.json5_text.proofs.ScanTokens.{left_counted}
 use Rattle.json5_text.proofs.keys.read_key.Goals as goal
 
 pub returns-in_default : goal.returns-in_default
-returns-in_default c = record { refused = ap outcome (key_none _ c.in_default.ensures.chars); memory = λ e. absurd (cc) }
+returns-in_default c = record { refused = ap outcome (key_none _ c.in_default.ensures); memory = λ e. absurd (cc) }
 
 pub returns-in_err-string : goal.returns-in_err-string
 returns-in_err-string c =

@@ -3,7 +3,7 @@ use denote.Text.{Utf8}
 use denote.Shadow.{shadow}
 use Rattle.std.specs.Str.{chars}
 use Rattle.json5_grammar.specs.Characters.{Each}
-use Rattle.json5_text.specs.ScanNames.{is_raw_part}
+use Rattle.json5_text.specs.ScanTexts.{is_raw_part}
 use Rattle.json5_text.proofs.names.skip_parts.Given as goal
 
 abbrev pub invariant-loop-c : goal.invariant-loop-c

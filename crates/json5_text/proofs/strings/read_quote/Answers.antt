@@ -1,20 +1,23 @@
-use Rattle.std.proofs.Common.{ap, sym}
+use Rattle.std.proofs.Common.{◌≡◌, false, ap, arith}
+use Rattle.json5_grammar.specs.Strings.{is_quote}
 use Rattle.json5_grammar.specs.declared.code.ErrorCode.TheVariants.{ExpectedString}
+use Rattle.std.proofs.lemmas.Bool.Decides.{nat_tests}
 use Rattle.json5_text.specs.Outcome.{outcome}
+use Rattle.json5_text.specs.declared.texts.Quote.TheVariants as quotes
 use Rattle.json5_text.proofs.ScanEscapes.{refused_here}
-use Rattle.json5_text.proofs.ScanStrings.{at_none, at_other, at_quote}
+use Rattle.json5_text.proofs.ScanRuns.{string_none, string_other, string_quote}
 use Rattle.json5_text.proofs.strings.read_quote.Goals as goal
 
 pub returns-in_default : goal.returns-in_default
-returns-in_default c = record { refused = ap outcome (at_none _ c.in_default.ensures.chars); known = tt }
+returns-in_default c = record { refused = ap outcome (string_none _ c.in_default.ensures); known = tt }
 
-pub returns-then-not-is_quote : goal.returns-then-not-is_quote
-returns-then-not-is_quote c = record {
-  refused = refused_here _ ExpectedString c.args.text.now c.utf8.text (at_other c.in-Some.quote _ _ c.in-Some.ensures.chars (sym c.if-not-is_quote.ensures));
-  known = tt;
-}
+pub returns-in-34 : goal.returns-in-34
+returns-in-34 c = record { read = string_quote quotes.Double c.in-Some.c _ _ c.in-Some.ensures.chars c.in-34.is; text = c.in-Some.ensures.text }
 
-pub returns : goal.returns
-returns c =
-    let quote = sym c.if-not-is_quote.ensures in
-    record { quote = quote; read = at_quote c.in-Some.quote _ _ c.in-Some.ensures.chars quote; text = c.in-Some.ensures.text }
+pub returns-in-39 : goal.returns-in-39
+returns-in-39 c = record { read = string_quote quotes.Single c.in-Some.c _ _ c.in-Some.ensures.chars c.in-39.is; text = c.in-Some.ensures.text }
+
+pub returns-in_default-c : goal.returns-in_default-c
+returns-in_default-c c =
+    let other : is_quote c.in-Some.c ≡ false = grind (arith, nat_tests) in
+    record { refused = refused_here _ ExpectedString c.args.text.now c.utf8.text (string_other c.in-Some.c _ _ c.in-Some.ensures.chars other); known = tt }

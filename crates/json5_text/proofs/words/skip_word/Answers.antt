@@ -8,7 +8,7 @@ use Rattle.json5_text.proofs.words.skip_word.Goals as goal
 pub returns-in_default-front : goal.returns-in_default-front
 returns-in_default-front c = record {
   refused = ap outcome (sym c.loop-letter.invariant.2
-      ∙ word_ends c.args.ends c.args.differs c.in-Some.letter (chars c.loop-letter.wanted.now) (chars c.in-Some.letters.now) (chars c.loop-letter.rest.now) c.in-Some.ensures.chars c.in_default-front.ensures.chars);
+      ∙ word_ends c.args.ends c.args.differs c.in-Some.letter (chars c.loop-letter.wanted.now) (chars c.in-Some.letters.now) (chars c.loop-letter.rest.now) c.in-Some.ensures.chars c.in_default-front.ensures);
   known = tt;
 }
 

@@ -1,13 +1,34 @@
-use Rattle.std.proofs.Common.{[], ◌∷◌, sym, ◌∙◌, subst}
-use Rattle.std.specs.Str.{chars}
-use Rattle.json5_text.specs.Cursor.{Took}
-use Rattle.json5_text.proofs.ScanTokens.{left_counted, leaves_rest}
+use Rattle.std.proofs.Common.{◌≡◌, ◌+◌, ◌-◌, List, ℕ, [], ◌∷◌, drop, ap, sym, ◌∙◌, subst, refl, arith}
+use Rattle.std.specs.Str.{chars, IsCharBoundary}
+use Rattle.json5_text.specs.Outcome.{bytes_in}
+use Rattle.json5_text.specs.Cursor.{Cursor}
+use Rattle.json5_text.proofs.ScanBytes.{next_is, next_left, cut_left, drop_left, whole_split}
 use Rattle.json5_text.proofs.scanner.Scanner.eat.Goals as goal
 
-pub leave_unread-requires : goal.leave_unread-requires
-leave_unread-requires g c = leaves_rest (c.in-Some.next ∷ []) c.in-Some.rest.now (sym c.rest.ensures ∙ c.in-Some.ensures.chars) c.in-Some.ensures.text
+pub overflow_add-self : goal.overflow_add-self
+overflow_add-self g c =
+    let rest : List ℕ = drop 1 c.args.self.now.unread in
+    let e = ap (λ (s : Cursor). s.unread) c.self.view_is ∙ next_is c.args.self.now.unread c.args.c _ _ c.peek.ensures c.ne.ensures c.if-ne.false in
+    let left = next_left c.args.c rest c.self.invariant e in
+    omega (arith, left, c.len_utf8.ensures.value, c.self.ranges.1.0.1)
+
+pub invariant_of-self : goal.invariant_of-self
+invariant_of-self g c =
+    let rest : List ℕ = drop 1 c.args.self.now.unread in
+    let e = ap (λ (s : Cursor). s.unread) c.self.view_is ∙ next_is c.args.self.now.unread c.args.c _ _ c.peek.ensures c.ne.ensures c.if-ne.false in
+    let left : c.self.inside.offset + c.len_utf8.result ≡ c.self.inside.end - bytes_in rest = ap (λ n. c.self.inside.offset + n) c.len_utf8.ensures.value ∙ next_left c.args.c rest c.self.invariant e in
+    record {
+      is_text = c.self.invariant.is_text;
+      counted = c.self.invariant.counted;
+      cut = subst (λ n. IsCharBoundary (g.I.Input.text c.self.inside.input) n) (sym left) (cut_left _ rest c.self.invariant (whole_split (c.args.c ∷ []) rest c.self.invariant e) refl);
+    }
 
 pub returns-clause-taken : goal.returns-clause-taken
 returns-clause-taken g c = λ t.
-    subst (λ z. Took c.args.self.now (z ∷ []) c.leave_unread.new.self) c.if-next-c.false
-    (c.leave_unread.ensures (c.in-Some.next ∷ []) (chars c.in-Some.rest.now) (sym c.rest.ensures ∙ c.in-Some.ensures.chars) (left_counted c.in-Some.rest.now c.in-Some.ensures.text)).0
+    let rest : List ℕ = drop 1 c.args.self.now.unread in
+    let next = next_is c.args.self.now.unread c.args.c _ _ c.peek.ensures c.ne.ensures c.if-ne.false in
+    let e = ap (λ (s : Cursor). s.unread) c.self.view_is ∙ next in
+    let left : c.self.inside.offset + c.len_utf8.result ≡ c.self.inside.end - bytes_in rest = ap (λ n. c.self.inside.offset + n) c.len_utf8.ensures.value ∙ next_left c.args.c rest c.self.invariant e in
+    let unread : chars (drop (c.self.inside.offset + c.len_utf8.result) (g.I.Input.text c.self.inside.input)) ≡ rest =
+    ap (λ n. chars (drop n (g.I.Input.text c.self.inside.input))) left ∙ drop_left _ rest c.self.invariant (whole_split (c.args.c ∷ []) rest c.self.invariant e) refl in
+    record { split = next ∙ ap (λ z. c.args.c ∷ z) (sym unread); same = ap (λ (s : Cursor). s.input) c.self.view_is }

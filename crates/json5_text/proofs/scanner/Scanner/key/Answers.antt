@@ -40,7 +40,7 @@ returns g c =
         given.plain,
         l.0,
         subst (λ z. Key k.key z given.spelled given.plain) (sym l.1) k.is_key,
-        key_inside c.args.self.now (chars c.rest.result.now) given.spelled given.plain c.in-Ok.key c.self.invariant (ap (λ (s : Cursor). s.input) c.self.view_is) (ap (λ (s : Cursor). s.unread) c.self.view_is) c.rest.ensures given.is_text,
+        key_inside c.args.self.now (chars c.rest.result.now) given.spelled given.plain c.in-Ok.token c.self.invariant (ap (λ (s : Cursor). s.input) c.self.view_is) (ap (λ (s : Cursor). s.unread) c.self.view_is) c.rest.ensures given.is_text,
       );
       refused = tt;
       kept = tt;

@@ -1,0 +1,11 @@
+use Rattle.std.proofs.Common.{◌≡◌, ◌≤◌, ◌^◌, drop}
+use Rattle.json5_grammar.specs.Characters.{is_digit, Each}
+use Rattle.json5_grammar.specs.NumberSteps.{capped}
+use Rattle.json5_text.proofs.digits.limited_value.Given as goal
+
+abbrev pub invariant-loop-byte : goal.invariant-loop-byte
+invariant-loop-byte l = record {
+  digits : Each is_digit (drop l.byte-index l.byte-items);
+  bound : l.value ≤ 2 ^ 100;
+  same : capped (2 ^ 100) l.value (drop l.byte-index l.byte-items) ≡ capped (2 ^ 100) 0 l.fn.digits;
+}

@@ -1,0 +1,59 @@
+//! Hexadecimal integer literals: ECMAScript 5.1 section 7.8.3.
+
+ghost use Rattle.std.specs.Prelude.{MatchResult};
+ghost use Rattle.std.specs.Str.{chars};
+ghost use Rattle.json5_grammar.specs.ReadNumbers as model;
+ghost use Rattle.json5_text.specs.Answered.{AnswersAs};
+ghost use Rattle.json5_text.specs.NumberParts.{scanned_of};
+ghost use Rattle.json5_text.specs.ScanNumbers.{GivesHex, Overflows};
+
+use crate::digits::one_more;
+use crate::front::front;
+use crate::refusal::Refusal;
+use crate::scanned::Scanned;
+use crate::whole::Whole;
+use json5_grammar::code::ErrorCode;
+
+/// The value of a first hexadecimal digit and those in front, and what follows them; or what begins with the digit that takes it
+/// past `u128`.
+#[tactic(auto, using(crate::proofs::NumberSteps::hexadecimal_steps))]
+fn hexadecimal_digits(first: u32, text: &str) -> Result<(u128, &str), &str>
+    ensures { MatchResult result (λ p. GivesHex first (chars text.now) p.0 p.1.now) (λ rest. Overflows first (chars text.now) rest.now) }
+{
+    let mut value = u128::from(first);
+    let mut rest = text;
+    while let Some((c, next)) = front(rest) {
+        let Some(digit) = c.to_digit(16) else {
+            return Ok((value, rest));
+        };
+        let Some(more) = one_more(16, value, digit) else {
+            return Err(rest);
+        };
+        value = more;
+        rest = next;
+    }
+    Ok((value, rest))
+}
+
+/// What stands after `0x`; `start` is the text from the number's start.
+pub(crate) fn hexadecimal<'t>(
+    start: &str,
+    negative: bool,
+    text: &'t str,
+) -> Result<(Scanned<'t>, &'t str), Refusal>
+    ensures { AnswersAs scanned_of (model.hexadecimal (chars start.now) negative (chars text.now)) result }
+{
+    let Some((first, digits)) = front(text) else {
+        return Err(Refusal::Code(ErrorCode::EofParsingNumber, None));
+    };
+    let Some(digit) = first.to_digit(16) else {
+        return Err(Refusal::Code(ErrorCode::ExpectedNumber, Some(text.len())));
+    };
+    match hexadecimal_digits(digit, digits) {
+        Ok((magnitude, rest)) => match Whole::from_parts(negative, magnitude) {
+            Some(whole) => Ok((Scanned::Whole(whole), rest)),
+            None => Err(Refusal::TooLarge(start.len())),
+        },
+        Err(rest) => Err(Refusal::Code(ErrorCode::OverflowParsingNumber, Some(rest.len()))),
+    }
+}

@@ -1,0 +1,150 @@
+//! Decimal literals: ECMAScript 5.1 section 7.8.3.
+
+ghost use Rattle.std.specs.Prelude.{◌≡◌, ◌||◌, ◌&&◌, not};
+ghost use Rattle.std.specs.Str.{IsUtf8, chars};
+ghost use Rattle.json5_grammar.specs.Characters.{is_digit, Each};
+ghost use Rattle.json5_grammar.specs.Numbers as numbers;
+ghost use Rattle.json5_grammar.specs.Stops as stops;
+ghost use Rattle.json5_grammar.specs.ReadNumbers as model;
+ghost use Rattle.json5_text.specs.NumberParts.{begun, run_of, after_sign, ReadsTail, ReadsLiteral};
+
+use crate::front::front;
+use crate::runs::split_digits;
+
+/// The exponent of a literal: its sign and its digits.
+#[derive(Clone, Copy)]
+pub(crate) struct Exponent<'t> {
+    pub(crate) negative: bool,
+    pub(crate) digits: &'t str,
+}
+
+/// The end of a literal: its exponent, if any, and what follows the literal.
+#[derive(Clone, Copy)]
+struct Tail<'t> {
+    exponent: Option<Exponent<'t>>,
+    rest: &'t str,
+}
+
+/// A decimal literal without its sign: the digits before the point, those after it, and the exponent; and what follows the literal.
+#[derive(Clone, Copy)]
+pub(crate) struct Literal<'t> {
+    pub(crate) before: &'t str,
+    pub(crate) after: Option<&'t str>,
+    pub(crate) exponent: Option<Exponent<'t>>,
+    pub(crate) rest: &'t str,
+}
+
+/// Whether a minus is in front, and what follows the sign in front, if there is one.
+pub(crate) fn after_sign(text: &str) -> (bool, &str)
+    ensures sign { after_sign (chars text.now) ≡ (result.0, chars result.1.now) }
+    ensures text { IsUtf8 result.1.now }
+{
+    match front(text) {
+        Some(('+', rest)) => (false, rest),
+        Some(('-', rest)) => (true, rest),
+        _ => (false, text),
+    }
+}
+
+/// Whether a decimal run is in front, or goes on there.
+fn goes_on(text: &str) -> bool
+    ensures { result ≡ begun stops.in_run (chars text.now) }
+{
+    matches!(
+        front(text),
+        Some(('0'..='9' | '+' | '-' | '.' | 'e' | 'E', _))
+    )
+}
+
+/// The digits of an exponent, with which the decimal run in front ends.
+fn read_exponent_digits(negative: bool, text: &str) -> Option<Tail>
+    ensures { ReadsTail (model.exponent_digits negative (run_of (chars text.now))) text.now result }
+{
+    let (digits, rest) = split_digits(text);
+    if digits.is_empty() {
+        return None;
+    }
+    if goes_on(rest) {
+        return None;
+    }
+    Some(Tail {
+        exponent: Some(Exponent { negative, digits }),
+        rest,
+    })
+}
+
+/// The exponent that is all of the decimal run in front, none where there is no such run; None where the run is another.
+fn read_exponent(text: &str) -> Option<Tail>
+    ensures { ReadsTail (model.exponent_at (run_of (chars text.now))) text.now result }
+{
+    if !goes_on(text) {
+        return Some(Tail {
+            exponent: None,
+            rest: text,
+        });
+    }
+    let (mark, rest) = front(text)?;
+    match mark {
+        'e' | 'E' => {
+            let (negative, digits) = after_sign(rest);
+            read_exponent_digits(negative, digits)
+        }
+        _ => None,
+    }
+}
+
+/// `0`, or digits that begin with another one.
+fn is_integer(digits: &str) -> bool
+    ensures { result ≡ model.is_integer digits.now }
+{
+    let bytes = digits.as_bytes();
+    bytes.len() == 1 || bytes.len() > 1 && bytes[0] != b'0'
+}
+
+/// The literal of these digits and of an exponent, which ends the decimal run.
+fn read_without_point<'t>(before: &'t str, text: &'t str) -> Option<Literal<'t>>
+    requires { Each is_digit before.now }
+    ensures { ReadsLiteral (model.no_point before.now (run_of (chars text.now))) text.now result }
+{
+    if !is_integer(before) {
+        return None;
+    }
+    let tail = read_exponent(text)?;
+    Some(Literal {
+        before,
+        after: None,
+        exponent: tail.exponent,
+        rest: tail.rest,
+    })
+}
+
+/// An integer before the point, or digits after it alone.
+fn has_digits(before: &str, after: &str) -> bool
+    ensures { result ≡ (model.is_integer before.now || (numbers.is_empty before.now && not (numbers.is_empty after.now))) }
+{
+    is_integer(before) || before.is_empty() && !after.is_empty()
+}
+
+/// The literal that is all of the decimal run in front.
+pub(crate) fn read_literal(text: &str) -> Option<Literal>
+    ensures { ReadsLiteral (model.literal_at (run_of (chars text.now))) text.now result }
+{
+    let (before, rest) = split_digits(text);
+    let Some((point, digits)) = front(rest) else {
+        return read_without_point(before, rest);
+    };
+    if point != '.' {
+        return read_without_point(before, rest);
+    }
+    let (after, rest) = split_digits(digits);
+    if !has_digits(before, after) {
+        return None;
+    }
+    let tail = read_exponent(rest)?;
+    Some(Literal {
+        before,
+        after: Some(after),
+        exponent: tail.exponent,
+        rest: tail.rest,
+    })
+}

@@ -1,0 +1,127 @@
+//! Numbers whose digits stand in the text that is read.
+
+ghost use Rattle.std.specs.Prelude.{◌≡◌, MatchResult, IfSome, IsSome, Some, ℕ, List, true, pos, ◌-ℤ◌, ◌↔◌};
+ghost use Rattle.std.specs.Str.{chars};
+ghost use Rattle.json5_grammar.specs.Characters.{is_digit, Each};
+ghost use Rattle.json5_grammar.specs.Numbers as numbers;
+ghost use Rattle.json5_grammar.specs.ReadNumbers as model;
+ghost use Rattle.json5_text.specs.Answered.{Judges};
+ghost use Rattle.json5_text.specs.NumberViews.{number_of, keeps_digits, whole_in};
+ghost use Rattle.json5_text.specs.NumberParts.{scanned_of, parts_of, signed_limited, limited_exponent, is_whole_literal, HasExponentDigits, HasDigits};
+ghost use Rattle.json5_text.specs.NumberSteps.{IsSmallExponent};
+
+use crate::decimal::{Decimal, DecimalRef};
+use crate::digits::{EXPONENT_LIMIT, decimal_value, limited_value};
+use crate::literals::{Exponent, Literal};
+use crate::number::Number;
+use crate::refusal::Refusal;
+use crate::whole::Whole;
+use json5_grammar::code::ErrorCode;
+use std::alloc::{AllocError, Global};
+
+/// A number in front of a text, in which a finite decimal's digits stand.
+#[derive(Drop)]
+pub(crate) enum Scanned<'t> {
+    Whole(Whole),
+    /// Infinity, after a minus or not.
+    Infinite(bool),
+    /// Not-a-number, after a minus or not.
+    NotANumber(bool),
+    Finite(DecimalRef<'t>),
+}
+
+impl<'t> Scanned<'t> {
+    /// The same number in memory of its own.
+    pub(crate) fn to_number(&self, alloc: Global) -> Result<Number, AllocError>
+        ensures { MatchResult result (λ n. number_of n ≡ scanned_of self.now) (λ _. keeps_digits (scanned_of self.now) ≡ true) }
+    {
+        match self {
+            Scanned::Whole(whole) => Ok(Number::Whole(*whole)),
+            Scanned::Infinite(negative) => Ok(Number::Decimal(Decimal::infinity(*negative))),
+            Scanned::NotANumber(negative) => Ok(Number::Decimal(Decimal::nan(*negative))),
+            Scanned::Finite(decimal) => Ok(Number::Decimal(decimal.to_decimal(alloc)?)),
+        }
+    }
+
+    /// The number, if it is whole.
+    pub(crate) fn whole(&self) -> Option<Whole>
+        ensures { result ≡ whole_in (scanned_of self.now) }
+    {
+        match self {
+            Scanned::Whole(whole) => Some(*whole),
+            Scanned::Infinite(_) | Scanned::NotANumber(_) | Scanned::Finite(_) => None,
+        }
+    }
+}
+
+/// The digits after the point, if any.
+fn digits_after<'t>(literal: &Literal<'t>) -> &'t str
+    requires { IfSome literal.now.after (λ digits. Each is_digit digits.now) }
+    ensures value { result.now ≡ numbers.digits_after (parts_of literal.now).after }
+    ensures digits { Each is_digit result.now }
+{
+    match literal.after {
+        Some(digits) => digits,
+        None => "",
+    }
+}
+
+/// The exponent as it is written, or `EXPONENT_LIMIT` after its sign where that is less.
+fn written_exponent(exponent: &Exponent) -> i128
+    requires { HasExponentDigits exponent.now }
+    ensures { result ≡ signed_limited EXPONENT_LIMIT exponent.now }
+{
+    let value = limited_value(exponent.digits) as i128;
+    if exponent.negative { -value } else { value }
+}
+
+/// The written exponent, 0 where there is none, lowered by the count of digits after the point.
+fn lowered_exponent(literal: &Literal, places: usize) -> i128
+    requires { IfSome literal.now.exponent HasExponentDigits }
+    ensures value { result ≡ limited_exponent EXPONENT_LIMIT literal.now.exponent -ℤ pos places }
+    ensures small { IsSmallExponent result }
+{
+    let written = match &literal.exponent {
+        Some(exponent) => written_exponent(exponent),
+        None => 0,
+    };
+    written - places as i128
+}
+
+/// The whole number that a literal without point and exponent means, if it is in range.
+fn whole_number(negative: bool, literal: &Literal) -> Option<Whole>
+    requires { Each is_digit literal.now.before.now }
+    ensures whole { IsSome result ↔ (is_whole_literal negative literal.now ≡ true) }
+    ensures value { IfSome result (λ z. z ≡ numbers.signed negative (numbers.spelled 10 0 literal.now.before.now)) }
+{
+    if literal.after.is_some() {
+        return None;
+    }
+    if literal.exponent.is_some() {
+        return None;
+    }
+    let Some(magnitude) = decimal_value(literal.before) else {
+        return None;
+    };
+    Whole::from_parts(negative, magnitude)
+}
+
+/// The number that a literal means; `start` is the text from the number's start.
+pub(crate) fn judge<'t>(
+    start: &str,
+    negative: bool,
+    literal: &Literal<'t>,
+) -> Result<Scanned<'t>, Refusal>
+    requires { HasDigits literal.now }
+    ensures { (rest : List ℕ) → Judges (model.if_literal (chars start.now) negative rest (Some (parts_of literal.now))) rest result }
+{
+    if let Some(whole) = whole_number(negative, literal) {
+        return Ok(Scanned::Whole(whole));
+    }
+    let after = digits_after(literal);
+    let exponent = lowered_exponent(literal, after.len());
+    let Some(decimal) = DecimalRef::new(negative, literal.before, after, exponent) else {
+        return Err(Refusal::Code(ErrorCode::OverflowParsingNumber, Some(start.len())));
+    };
+    Ok(Scanned::Finite(decimal))
+}

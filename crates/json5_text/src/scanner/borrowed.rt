@@ -1,0 +1,88 @@
+//! Texts that stand in a scanner's text, or are borrowed from it.
+
+ghost use Rattle.std.specs.Prelude.{◌≡◌, ℕ, List};
+ghost use Rattle.std.specs.Str.{chars, encode_utf8_all};
+ghost use Rattle.json5_text.specs.Keys.{StandsAt, IsTextOf, IsCowOf};
+ghost use Rattle.json5_text.specs.Takes.{TakesString, TakesName};
+
+use crate::cow_str::CowStr;
+use crate::error::Result;
+use crate::input::{Borrows, Input};
+use crate::key_text::KeyText;
+use crate::names::read_name;
+use crate::scanner::Scanner;
+use crate::strings::read_string;
+
+impl<'de, I: Borrows<'de>> Scanner<I> {
+    /// Takes a string and gives its text, borrowed where the string holds no backslash, which then takes no memory (JSON5
+    /// section 5, ECMAScript 5.1 section 7.8.4).
+    ///
+    /// The fault is
+    /// - `ExpectedString` at a character that is no quote;
+    /// - `LineTerminatorInString` at an LF or CR without a backslash;
+    /// - `InvalidEscapeSequence` at the backslash of a faulty escape, of two the first one's; or, where a second `\u` must follow
+    ///   that of a surrogate, at the character that stands in place of its `\` or `u`;
+    /// - a custom fault at the first backslash of two `\u` escapes that are no pair of surrogates;
+    /// - `EofParsingString` or, in an escape, `EofParsingEscapeSequence`, without a place, where the text ends.
+    pub fn string(&mut self) -> Result<CowStr<'de>>
+        ensures { TakesString self.old self.new result }
+    {
+        take!(
+            self,
+            read_string(self.alloc, self.rest(self.input.as_borrowed()))
+        )
+    }
+
+    /// Takes an identifier, as far as it goes, and gives its text, borrowed where it holds no backslash, which then takes no
+    /// memory (JSON5 section 3, ECMAScript 5.1 section 7.6). A character must follow it: an identifier ends no text.
+    ///
+    /// The fault is
+    /// - `ExpectedIdentifier` at a character that may not begin one, or at the backslash of an escape whose character may not
+    ///   stand there;
+    /// - `InvalidEscapeSequence` at the character after a backslash that is no `u`, and the faults of `\u` escapes as in
+    ///   `string`;
+    /// - `EofParsingIdentifier` or, in a `\u` escape, `EofParsingEscapeSequence`, without a place, where the text ends.
+    pub fn identifier(&mut self) -> Result<CowStr<'de>>
+        ensures { TakesName self.old self.new result }
+    {
+        take!(
+            self,
+            read_name(self.alloc, self.rest(self.input.as_borrowed()))
+        )
+    }
+
+    /// The text of a key that this scanner took, borrowed where the key holds no backslash; of another scanner's key as in
+    /// `text_of`.
+    pub fn borrowed_text_of(&self, key: KeyText) -> CowStr<'de>
+        ensures { IsCowOf self.now.input key result }
+    {
+        match key {
+            KeyText::Plain { start, end } => CowStr::Borrowed(between(
+                self.input.as_borrowed(),
+                start,
+                end,
+            )),
+            KeyText::Escaped(text) => CowStr::Owned(text),
+        }
+    }
+}
+
+impl<I: Input> Scanner<I> {
+    /// The text of a key that this scanner took. Of another scanner's key it may be any part of the text that is read, or empty
+    /// where the key's offsets are no places between characters.
+    pub fn text_of<'t>(&'t self, key: &'t KeyText) -> &'t str
+        ensures { IsTextOf self.now.input key.now result.now }
+    {
+        match key {
+            KeyText::Plain { start, end } => between(self.input.as_text(), *start, *end),
+            KeyText::Escaped(text) => text.as_str(),
+        }
+    }
+}
+
+/// The part of a text between two offsets in bytes; the empty text where they are no places between characters, in order.
+fn between(text: &str, start: usize, end: usize) -> &str
+    ensures { (u : List ℕ) → StandsAt (chars text.now) u start end → result.now ≡ encode_utf8_all u }
+{
+    text.get(start..end).unwrap_or("")
+}

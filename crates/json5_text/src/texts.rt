@@ -1,0 +1,236 @@
+//! Strings and names: runs of characters that stand for themselves, and escapes (ECMAScript 5.1 sections 7.6 and 7.8.4).
+
+ghost use Rattle.std.specs.Prelude.{◌≡◌, ◌++◌, OnOk, string_bytes};
+ghost use Rattle.std.specs.Str.{chars, encode_utf8_all};
+ghost use Rattle.json5_grammar.specs.Characters.{NotBegun};
+ghost use Rattle.json5_text.specs.Answered.{AnswersAs, AnswersCow, AnswersMore, Passes};
+ghost use Rattle.json5_text.specs.Scan.{AtEscape, in_list};
+ghost use Rattle.json5_text.specs.ScanTexts.{quote_of, rest_of, past, ends_early, text_at, item, is_raw_in, SkipsRaw, AnswersStop, AnswersRun, AnswersStep};
+
+use crate::cow_str::CowStr;
+use crate::escapes::read_escape;
+use crate::front::front;
+use crate::names::{self, skip_parts, skip_start};
+use crate::refusal::Refusal;
+use crate::strings::skip_raw;
+use json5_grammar::code::ErrorCode;
+use std::alloc::{AllocError, Global};
+
+/// The quotes of a string (JSON5 section 5).
+#[derive(Clone, Copy)]
+pub(crate) enum Quote {
+    Double,
+    Single,
+}
+
+impl Quote {
+    #[inline(always)]
+    pub(crate) fn char(self) -> char
+        ensures { result ≡ quote_of self }
+    {
+        match self {
+            Quote::Double => '"',
+            Quote::Single => '\'',
+        }
+    }
+}
+
+/// What is read.
+#[derive(Clone, Copy)]
+pub(crate) enum Kind {
+    /// A name from its start on.
+    Name,
+    /// A name after its first character.
+    NameRest,
+    /// A string in these quotes, after the first of them.
+    String(Quote),
+}
+
+impl Kind {
+    /// What is read after a character.
+    #[inline(always)]
+    fn rest(self) -> Kind
+        ensures { result ≡ rest_of self }
+    {
+        match self {
+            Kind::Name | Kind::NameRest => Kind::NameRest,
+            Kind::String(_) => self,
+        }
+    }
+
+    /// What is read after these characters.
+    #[inline(always)]
+    fn past(self, run: &str) -> Kind
+        ensures { result ≡ past self (chars run.now) }
+    {
+        if run.is_empty() { self } else { self.rest() }
+    }
+
+    /// The code of a text that ends in it.
+    fn ends_early(self) -> ErrorCode
+        ensures { result ≡ ends_early self }
+    {
+        match self {
+            Kind::Name | Kind::NameRest => ErrorCode::EofParsingIdentifier,
+            Kind::String(_) => ErrorCode::EofParsingString,
+        }
+    }
+}
+
+/// Where a run of characters that stand for themselves ends.
+#[derive(Clone, Copy)]
+enum Stop<'t> {
+    /// At the end of the string or name, which this follows.
+    End(&'t str),
+    /// At the backslash of an escape: what is read there, the text from the backslash on, and the text after it.
+    Escape(Kind, &'t str, &'t str),
+}
+
+/// An escape and the run after it.
+#[derive(Clone, Copy)]
+struct Step<'t> {
+    /// What the escape spells.
+    spelled: Option<char>,
+    run: &'t str,
+    stop: Stop<'t>,
+}
+
+/// The text of the string or name in front, and what follows it. It is borrowed where no backslash is in it.
+#[inline(always)]
+pub(crate) fn read_text<'t>(
+    alloc: Global,
+    kind: Kind,
+    text: &'t str,
+) -> Result<(CowStr<'t>, &'t str), Refusal>
+    ensures { AnswersCow (text_at kind (chars text.now)) result }
+{
+    let (run, stop) = read_run(kind, text)?;
+    match stop {
+        Stop::End(rest) => Ok((CowStr::Borrowed(run), rest)),
+        Stop::Escape(kind, escape, after) => {
+            let (text, rest) = read_escaped(alloc, run, kind, escape, after)?;
+            Ok((CowStr::Owned(text), rest))
+        }
+    }
+}
+
+/// What follows the string or name in front.
+#[inline(always)]
+pub(crate) fn skip_text(kind: Kind, text: &str) -> Result<&str, Refusal>
+    ensures { Passes (text_at kind (chars text.now)) result }
+{
+    let (_, mut stop) = read_run(kind, text)?;
+    loop {
+        match stop {
+            Stop::End(rest) => return Ok(rest),
+            Stop::Escape(kind, escape, after) => stop = read_step(kind, escape, after)?.stop,
+        }
+    }
+}
+
+/// The text from its first escape on, after the run in front, and what follows it.
+fn read_escaped<'t>(
+    alloc: Global,
+    run: &str,
+    kind: Kind,
+    escape: &'t str,
+    after: &'t str,
+) -> Result<(String, &'t str), Refusal>
+    requires { AtEscape escape.now after.now }
+    ensures { AnswersMore run.now (text_at kind (chars escape.now)) result }
+{
+    let mut text = String::from_str(alloc, run)?;
+    let mut stop = Stop::Escape(kind, escape, after);
+    loop {
+        match stop {
+            Stop::End(rest) => return Ok((text, rest)),
+            Stop::Escape(kind, escape, after) => {
+                let step = read_step(kind, escape, after)?;
+                push_spelled(&mut text, step.spelled)?;
+                text.push_str(step.run)?;
+                stop = step.stop;
+            }
+        }
+    }
+}
+
+fn push_spelled(text: &mut String, spelled: Option<char>) -> Result<(), AllocError>
+    ensures { OnOk result (string_bytes text.new ≡ string_bytes text.old ++ encode_utf8_all (in_list spelled)) }
+{
+    match spelled {
+        Some(c) => text.push(c),
+        None => Ok(()),
+    }
+}
+
+/// The escape in front and the run after it.
+fn read_step<'t>(kind: Kind, escape: &str, after: &'t str) -> Result<Step<'t>, Refusal>
+    requires { AtEscape escape.now after.now }
+    ensures { AnswersStep kind escape.now after.now result }
+{
+    let (spelled, rest) = read_item(kind, escape, after)?;
+    let (run, stop) = read_run(kind.rest(), rest)?;
+    Ok(Step { spelled, run, stop })
+}
+
+/// What an escape spells, and what follows the escape.
+fn read_item<'t>(
+    kind: Kind,
+    escape: &str,
+    after: &'t str,
+) -> Result<(Option<char>, &'t str), Refusal>
+    ensures { AnswersAs in_list (item kind (chars escape.now) (chars after.now)) result }
+{
+    match kind {
+        Kind::Name => names::read_item(true, escape, after),
+        Kind::NameRest => names::read_item(false, escape, after),
+        Kind::String(_) => read_escape(escape, after),
+    }
+}
+
+/// The characters in front that stand for themselves, and where they end.
+fn read_run(kind: Kind, text: &str) -> Result<(&str, Stop<'_>), Refusal>
+    ensures { AnswersRun kind text.now result }
+{
+    let rest = skip_run(kind, text);
+    let run = &text[..text.len() - rest.len()];
+    let stop = read_stop(kind.past(run), rest)?;
+    Ok((run, stop))
+}
+
+/// What follows the characters in front that stand for themselves.
+#[inline(always)]
+fn skip_run(kind: Kind, text: &str) -> &str
+    ensures { SkipsRaw kind text.now result.now }
+{
+    match kind {
+        Kind::Name => skip_start(text),
+        Kind::NameRest => skip_parts(text),
+        Kind::String(quote) => skip_raw(quote, text),
+    }
+}
+
+/// What ends a run there.
+#[inline(always)]
+fn read_stop(kind: Kind, text: &str) -> Result<Stop<'_>, Refusal>
+    requires { NotBegun (is_raw_in kind) (chars text.now) }
+    ensures { AnswersStop kind text.now result }
+{
+    let Some((c, next)) = front(text) else {
+        return Err(Refusal::Code(kind.ends_early(), None));
+    };
+    if c == '\\' {
+        return Ok(Stop::Escape(kind, text, next));
+    }
+    match kind {
+        Kind::Name => Err(Refusal::Code(ErrorCode::ExpectedIdentifier, Some(text.len()))),
+        Kind::NameRest => Ok(Stop::End(text)),
+        Kind::String(quote) => {
+            if c == quote.char() {
+                Ok(Stop::End(next))
+            } else {
+                Err(Refusal::Code(ErrorCode::LineTerminatorInString, Some(text.len())))
+            }
+        }
+    }
+}
