@@ -25,9 +25,6 @@ blank_is_ascii c h = grind (arith, nat_tests)
 ascii_is_blank : (c : ℕ) → is_ascii_blank c ≡ true → is_blank c ≡ true
 ascii_is_blank c h = grind (arith, nat_tests)
 
-pub blanks_counted : (s : List ℕ) (n : ℕ) → n ≡ prefix_len is_ascii_blank s → n ≡ length (take_while is_ascii_blank s)
-blanks_counted s n e = let k = length-take (prefix_len is_ascii_blank s) s in let l = prefix_len-le-length is_ascii_blank s in omega (arith, e, k, l)
-
 pass : (w x : List ℕ) → Each is_ascii_blank w → skip between (w ++ x) ≡ skip between x
 pass [] x no_char = refl
 pass (c ∷ w) x (char h e) = blank_more c (c ∷ (w ++ x)) (w ++ x) refl (ascii_is_blank c h) ∙ pass w x e

@@ -124,7 +124,7 @@ pub(crate) struct FewDigits {
 
 /// A digit.
 #[inline(always)]
-fn is_digit(byte: u8) -> bool
+pub(crate) fn is_digit(byte: u8) -> bool
     ensures { result ≡ is_digit byte }
 {
     byte >= b'0' && byte <= b'9'

@@ -54,18 +54,6 @@ impl<'t> Scanned<'t> {
     }
 }
 
-/// The digits after the point, if any.
-fn digits_after<'t>(literal: &Literal<'t>) -> &'t str
-    requires { IfSome literal.now.after (λ digits. Each is_digit digits.now) }
-    ensures value { result.now ≡ numbers.digits_after (parts_of literal.now).after }
-    ensures digits { Each is_digit result.now }
-{
-    match literal.after {
-        Some(digits) => digits,
-        None => "",
-    }
-}
-
 /// The exponent as it is written, or `EXPONENT_LIMIT` after its sign where that is less.
 fn written_exponent(exponent: &Exponent) -> i128
     requires { HasExponentDigits exponent.now }
@@ -118,7 +106,7 @@ pub(crate) fn judge<'t>(
     if let Some(whole) = whole_number(negative, literal) {
         return Ok(Scanned::Whole(whole));
     }
-    let after = digits_after(literal);
+    let after = literal.after.unwrap_or("");
     let exponent = lowered_exponent(literal, after.len());
     let Some(decimal) = DecimalRef::new(negative, literal.before, after, exponent) else {
         return Err(Refusal::Code(ErrorCode::OverflowParsingNumber, Some(start.len())));
