@@ -7,8 +7,7 @@ use Rattle.std.proofs.lemmas.Str.{chars_past_char, encode_ascii}
 use Rattle.json5_grammar.specs.Blanks.{Solid}
 use Rattle.json5_grammar.specs.Reading.{got}
 use Rattle.json5_grammar.proofs.BlanksRead.{skip_rest, begins_solid, printable_solid}
-use Rattle.std.proofs.lemmas.List.{length-take, length-drop}
-use Rattle.std.proofs.lemmas.List.Sums.{prefix_len-le-length}
+use Rattle.std.proofs.lemmas.List.{length-drop}
 use Rattle.std.proofs.lemmas.Bool.Decides.{nat_tests}
 use Rattle.json5_grammar.specs.Characters.{is_in, is_blank, is_terminator, NotBegun, Each, no_char, char}
 use Rattle.json5_grammar.specs.ReadBlanks.{skip, between, Mode}
