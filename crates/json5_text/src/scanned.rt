@@ -82,15 +82,10 @@ fn whole_number(negative: bool, literal: &Literal) -> Option<Whole>
     ensures whole { IsSome result ↔ (is_whole_literal negative literal.now ≡ true) }
     ensures value { IfSome result (λ z. z ≡ numbers.signed negative (numbers.spelled 10 0 literal.now.before.now)) }
 {
-    if literal.after.is_some() {
+    if literal.after.is_some() || literal.exponent.is_some() {
         return None;
     }
-    if literal.exponent.is_some() {
-        return None;
-    }
-    let Some(magnitude) = decimal_value(literal.before) else {
-        return None;
-    };
+    let magnitude = decimal_value(literal.before)?;
     Whole::from_parts(negative, magnitude)
 }
 
