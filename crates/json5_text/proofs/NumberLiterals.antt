@@ -1,5 +1,5 @@
 -- Parts of a decimal literal, as code finds them.
-use Rattle.std.proofs.Common.{◌≡◌, ℕ, ◌<◌, Bool, true, false, ◌&&◌, ◌||◌, List, [], ◌∷◌, ◌++◌, length, refl, ap, sym, ◌∙◌, arith, Option, Some, None, ◌≢◌}
+use Rattle.std.proofs.Common.{◌≡◌, ℕ, ◌<◌, Bool, true, false, ◌&&◌, ◌||◌, List, [], ◌∷◌, ◌++◌, length, refl, ap, sym, ◌∙◌, arith, Option, Some, None}
 use Rattle.std.specs.Prelude.{◌==◌, not, ℤ}
 use Rattle.std.specs.Str.{IsUtf8, chars, encode_utf8_all}
 use Rattle.std.proofs.lemmas.Bool.Decides.{nat_tests}
@@ -80,11 +80,8 @@ literal_ends x i y e h k = at_literal x i y e h ∙ plain_end i y k
 plain_other : (i y t : List ℕ) (c : ℕ) → y ≡ c ∷ t → (c == 46) ≡ false → point_or i y ≡ no_point i y
 plain_other i y t c h k = rw h (rw k refl)
 
-not_point : (c : ℕ) → c ≢ 46 → (c == 46) ≡ false
-not_point c h = grind (arith, nat_tests)
-
-pub literal_plain : (x i y t : List ℕ) (c : ℕ) → i ≡ front_of is_digit x → y ≡ rest_of is_digit x → y ≡ c ∷ t → c ≢ 46 → literal_at x ≡ no_point i y
-literal_plain x i y t c e h k n = at_literal x i y e h ∙ plain_other i y t c k (not_point c n)
+pub literal_plain : (x i y t : List ℕ) (c : ℕ) → i ≡ front_of is_digit x → y ≡ rest_of is_digit x → y ≡ c ∷ t → (c == 46) ≡ false → literal_at x ≡ no_point i y
+literal_plain x i y t c e h k n = at_literal x i y e h ∙ plain_other i y t c k n
 
 -- the literal with a point: digits before, digits after, and what follows
 pub literal_pointed : (x i y t f z : List ℕ) (c : ℕ) → i ≡ front_of is_digit x → y ≡ rest_of is_digit x → y ≡ c ∷ t → c ≡ 46 → f ≡ front_of is_digit t → z ≡ rest_of is_digit t → literal_at x ≡ at_point i f z
