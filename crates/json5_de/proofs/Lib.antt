@@ -23,6 +23,7 @@ pub mod OtherCodes
 pub mod Rows
 pub mod OpenClose
 pub mod Next
+pub mod Calls
 pub mod Required
 pub mod ListFaults
 pub mod Loops
