@@ -1,5 +1,5 @@
 -- What a call of an access to an array means, from what its reader read.
-use Rattle.std.proofs.Common.{◌≡◌, ◌<◌, true, false, Bool, refl, sym, ap, ◌∙◌, subst, length, ℕ, List, Option, Some, None, Ok, Err}
+use Rattle.std.proofs.Common.{◌≡◌, ◌<◌, true, Bool, refl, sym, ap, ◌∙◌, subst, length, Option, Some, None, Ok, Err}
 use Rattle.std.specs.Prelude.{◌||◌, is_some, Result, IfSome}
 use Rattle.json5_grammar.specs.Trees.{Tree}
 use Rattle.json5_grammar.proofs.MembersPassed.{element_shorter}

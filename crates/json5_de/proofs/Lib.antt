@@ -42,6 +42,7 @@ pub mod TreeCodes
 pub mod BytesDecoded
 pub mod Pairs
 pub mod PairCodes
+pub mod MapCalls
 pub mod MapContents
 pub mod MapsHashed
 pub mod MapsRead

@@ -1,17 +1,16 @@
 //! Reading of arrays, one element after another.
 
-ghost use Rattle.std.specs.Prelude.{◌≡◌, ◌<◌, ◌||◌, false, ℕ, List, None, Some, length, is_some, IfOk, IfErr, IfSome};
+ghost use Rattle.std.specs.Prelude.{◌≡◌, ◌||◌, false, ℕ, List, None, Some, is_some, IfOk, IfErr};
 ghost use Rattle.std.specs.Borrow.{sem};
 ghost use Rattle.json5_grammar.specs.declared.code.ErrorCode.TheVariants as codes;
 ghost use Rattle.json5_grammar.specs.Trees.{Trees};
 ghost use Rattle.json5_text.specs.Cursor.{Locates};
-ghost use Rattle.json5_de.specs.State.{SameText};
 ghost use Rattle.json5_de.specs.Brackets.{square};
 ghost use Rattle.json5_de.specs.Law.{Steady, Unprompted};
-ghost use Rattle.json5_de.specs.Access.{bare, OpensArray, GivesElement, CompletesElement, ReadsElement, CompletesClose, PlacedAtBracket, ElementsLeft, ReadsMore, LeavesFewer};
+ghost use Rattle.json5_de.specs.Access.{bare, OpensArray, GivesElement, CompletesElement, CompletesClose, PlacedAtBracket, ElementsLeft, ReadsMore};
 ghost use Rattle.json5_de.specs.Enums.{EndsArray};
 ghost use Rattle.json5_de.specs.Lists.{IsTooShort, LeavesRequired, RefusesRequired};
-ghost use Rattle.json5_de.specs.Seq.{RefusesElement, RefusesNext};
+ghost use Rattle.json5_de.specs.Seq.{RefusesElement};
 
 use crate::brackets::BracketKind;
 use crate::de::{Deserialize, Deserializer};
