@@ -24,6 +24,7 @@ pub mod Rows
 pub mod ShortReads
 pub mod OpenClose
 pub mod Next
+pub mod Calls
 pub mod Required
 pub mod ListFaults
 pub mod Loops
@@ -34,6 +35,7 @@ pub mod TreeCodes
 pub mod BytesDecoded
 pub mod Pairs
 pub mod PairCodes
+pub mod MapCalls
 pub mod MapContents
 pub mod MapsHashed
 pub mod MapsRead

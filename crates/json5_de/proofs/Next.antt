@@ -9,10 +9,9 @@ use Rattle.json5_grammar.specs.Trees.{Tree}
 use Rattle.json5_grammar.proofs.MembersRead.{comma_solid}
 use Rattle.json5_text.specs.declared.error.Error.{Error}
 use Rattle.json5_text.specs.Errors.{code, kind_of, place_of, or_place}
-use Rattle.json5_de.specs.State.{State, OnlyRead, SameText}
+use Rattle.json5_de.specs.State.{State, OnlyRead}
 use Rattle.json5_de.specs.Faults.{AtEnd, AtOther, IsUnplaced, IsAfter}
 use Rattle.json5_de.specs.Access.{Seen, bare, Opened, TookElement, AtClose, GivesElement, PlacedAtBracket, IsAtBracket, is_comma_or_closing}
-use Rattle.json5_value.specs.Places.{StartsAfter}
 use Rattle.json5_value.specs.declared.brackets.Brackets.{Brackets}
 use Rattle.json5_value.specs.Brackets.{square}
 use Rattle.json5_de.specs.Seq.{Cause, RefusesCall, RefusesElement, not_reached, in_element, RefusesNext}
@@ -27,10 +26,6 @@ use Rattle.json5_grammar.proofs.Basics.{true_false}
 -- the reader as the access sees it, which only read
 pub lent_back : (old new : State) → OnlyRead old new → record new { failed = old.failed } ≡ new
 lent_back old new rest = ap (λ f. record new { failed = f }) (sym (ap (λ (s : State). s.failed) rest))
-
--- what stood as failed is seen as the access says
-pub lent_on : (last after : State) {failed : Bool} → last ≡ record after { failed = true } → record last { failed = failed } ≡ record after { failed = failed }
-lent_on last after {failed = failed} e = ap (λ (s : State). record s { failed = failed }) e
 
 -- what the reader gives the access gives
 pub gives_seen : {V C : Type 0} (content : V → C) (convert : Tree → Option C) (old new : Seen) (a b : State) (o : Option V) → a ≡ old.reader → new.reader ≡ record b { failed = old.reader.failed } → new.due ≡ (old.due || is_some o)
@@ -127,7 +122,3 @@ refuses_next refuses old new after own e cause other before p failed =
     at_other : RefusesElement refuses old.due old.reader own after → old.due ≡ true → (w : List ℕ) → AtOther (is_comma_or_closing square) old.reader w → IsAfter codes.ExpectedComma old.reader w own
     at_other (not_reached f) d w o = other_fault (expects_more square old.due) old.reader own w o f
     at_other (in_element start there k) d w o = absurd (other_goes_nowhere square square_signs old.due true old.reader start w d o there)
-
--- the bracket stands where it stood, since the text is the same
-pub at_same_text : (old after last : State) {start : ℕ} {before : List ℕ} → SameText old after → last ≡ record after { failed = true } → StartsAfter old.input start before → StartsAfter last.input start before
-at_same_text old after last {start = start} {before = before} same blocked b = subst (λ x. StartsAfter x start before) (sym (ap (λ (s : State). s.input) blocked ∙ same)) b

@@ -1,5 +1,5 @@
 -- An access and the reader that is lent to it.
-use Rattle.std.specs.Prelude.{◌≡◌, ℕ, true, false, Option, Result}
+use Rattle.std.specs.Prelude.{◌≡◌, ◌<◌, ℕ, Bool, true, false, List, length, Option, is_some, Result, Ok, IfOk, IfErr, IfSome, IsErrAnd, MatchResult}
 use Rattle.std.specs.Borrow.{Fml, GName, RattleType, MutBor, RestsIfErr}
 use Rattle.json5_text.specs.declared.error.Error.{Error}
 use Rattle.json5_text.specs.declared.byte_buf.ByteBuf.{ByteBuf}
@@ -8,11 +8,15 @@ use Rattle.json5_text.specs.declared.input.Input as input
 use Rattle.json5_text.specs.Bytes.{bytes_of}
 use Rattle.json5_text.specs.Cows.{cow_bytes, is_borrowed}
 use Rattle.json5_de.specs.State.{State, SameText, GivesUp}
-use Rattle.json5_de.specs.Access.{Seen}
+use Rattle.json5_grammar.specs.Trees.{Tree, Trees, Pairs}
+use Rattle.json5_de.specs.Brackets.{square, curly}
+use Rattle.json5_de.specs.Access.{Seen, PlacedAtBracket, GivesElement, ReadsElement, CompletesClose, ReadsMore, ElementsLeft, LeavesFewer}
+use Rattle.json5_de.specs.Seq.{RefusesNext}
 use Rattle.json5_de.specs.Keys.{KeyConversion, ReadsOneKey}
 use Rattle.json5_de.specs.Rows.{null_row}
 use Rattle.json5_de.specs.KeyRows.{KeyRow, RefusedAsKey, bytes_key, cow_key, document_key}
-use Rattle.json5_de.specs.Objects.{SeenMap}
+use Rattle.json5_de.specs.Objects.{SeenMap, SetsPending, GivesPairKey, GivesPairValue, ReadsPairKey, ReadsPairValue, ReadsAKey, ReadsAPair, PairsLeft, LeavesAValue, LeavesOthers}
+use Rattle.json5_de.specs.ObjectFaults.{RefusesNextKey, RefusesNextValue}
 use Rattle.json5_de.specs.Enums.{SeenEnum}
 use Rattle.json5_de.specs.declared.enums.EnumAccess.{EnumAccess}
 use Rattle.json5_de.specs.declared.enums.Named.{Named}
@@ -55,6 +59,16 @@ module _ {I : Type 0} where
   abbrev pub BlocksReader : SeqAccess I → Type 0
   BlocksReader s = s.de.now.failed ≡ true
 
+  -- the access that blocks its reader, and whether a call was refused
+  abbrev pub blocking : SeqAccess I → Bool → SeqAccess I
+  blocking s failed = record s { de = record s.de { now = record s.de.now { failed = true } }; failed = failed }
+
+  -- after its reader read it is blocked again, and a refusal is kept in mind, which is at the bracket where it had no place
+  pub record Settles {V : Type 0} (old : SeqAccess I) (read : Result V Error) (new : SeqAccess I) (result : Result V Error) : Type 0 where
+    pub given : IfOk read (λ v. result ≡ Ok v)
+    pub refused : IfErr read (λ own. IsErrAnd result (PlacedAtBracket (seen old) own))
+    pub blocks : MatchResult read (λ v. new ≡ blocking old old.failed) (λ own. new ≡ blocking old true)
+
   abbrev pub seen_map : MapAccess I → SeenMap
   seen_map m = record { at = record { reader = record m.de.now { failed = m.failed }; start = m.start; due = m.due }; pending = m.pending }
 
@@ -70,6 +84,14 @@ module _ {I : Type 0} where
 
   abbrev pub BlocksMapReader : MapAccess I → Type 0
   BlocksMapReader m = m.de.now.failed ≡ true
+
+  abbrev pub blocking_map : MapAccess I → Bool → MapAccess I
+  blocking_map m failed = record m { de = record m.de { now = record m.de.now { failed = true } }; failed = failed }
+
+  pub record SettlesMap {V : Type 0} (old : MapAccess I) (read : Result V Error) (new : MapAccess I) (result : Result V Error) : Type 0 where
+    pub given : IfOk read (λ v. result ≡ Ok v)
+    pub refused : IfErr read (λ own. IsErrAnd result (PlacedAtBracket (seen_map old).at own))
+    pub blocks : MatchResult read (λ v. new ≡ blocking_map old old.failed) (λ own. new ≡ blocking_map old true)
 
 -- a name that was read, and the reader after it
 abbrev pub seen_named : State → Named → SeenEnum
@@ -143,6 +165,40 @@ pub record KeepsMap {I : Type 0} (old new : MapAccess I) : Type 0 where
   pub blocks : BlocksMapReader new
   pub start : (seen_map new).at.start ≡ (seen_map old).at.start
   pub same_text : SameText (seen_map old).at.reader (seen_map new).at.reader
+
+-- the next element is read, or none where the bracket is next
+pub record ReadsNext {I V C : Type 0} (content : V → C) (convert : Tree → Option C) (refuses : State → Error → State → Type 0) (old new : SeqAccess I) (result : Result (Option V) Error) : Type 0 where
+  pub access : KeepsAccess old new
+  pub sound : IfOk result (GivesElement content convert (seen old) (seen new))
+  pub complete : ReadsElement content convert (seen old) result
+  pub closing : CompletesClose square (seen old) result
+  pub shorter : IfOk result (λ o. IfSome o (λ v. length (seen new).reader.unread < length (seen old).reader.unread))
+  pub refused : RefusesNext refuses (seen old) (seen new).reader result
+  pub read : IfOk result (ReadsMore content convert (seen old) (seen new))
+  pub left : (ts : Trees) (r : List ℕ) → ElementsLeft ts r (seen old) → LeavesFewer content convert ts r (seen new) result
+
+-- the next key is read, or none where the brace is next
+pub record ReadsNextKey {I K C : Type 0} (content : K → C) (convert : KeyConversion C) (refuses : State → Error → State → Type 0) (old new : MapAccess I) (result : Result (Option K) Error) : Type 0 where
+  pub access : KeepsMap old new
+  pub pending : SetsPending is_some (seen_map old) (seen_map new) result
+  pub sound : IfOk result (GivesPairKey content convert (seen_map old) (seen_map new))
+  pub complete : ReadsPairKey content convert (seen_map old) result
+  pub closing : CompletesClose curly (seen_map old).at result
+  pub shorter : IfOk result (λ o. IfSome o (λ k. length (seen_map new).at.reader.unread < length (seen_map old).at.reader.unread))
+  pub refused : RefusesNextKey refuses (seen_map old) (seen_map new).at.reader result
+  pub read : IfOk result (ReadsAKey content convert (seen_map old) (seen_map new))
+  pub left : (ps : Pairs) (r : List ℕ) → PairsLeft ps r (seen_map old) → LeavesAValue content convert ps r (seen_map new) result
+
+-- the value of the key that was read last
+pub record ReadsNextValue {I V C : Type 0} (content : V → C) (convert : Tree → Option C) (refuses : State → Error → State → Type 0) (old new : MapAccess I) (result : Result V Error) : Type 0 where
+  pub access : KeepsMap old new
+  pub pending : SetsPending (λ v. false) (seen_map old) (seen_map new) result
+  pub sound : IfOk result (GivesPairValue content convert (seen_map old) (seen_map new))
+  pub complete : ReadsPairValue content convert (seen_map old) result
+  pub shorter : IfOk result (λ v. length (seen_map new).at.reader.unread < length (seen_map old).at.reader.unread)
+  pub refused : RefusesNextValue refuses (seen_map old) (seen_map new).at.reader result
+  pub read : IfOk result (ReadsAPair content convert (seen_map old) (seen_map new))
+  pub left : LeavesOthers content convert (seen_map old) (seen_map new) result
 
 module _ (I : RattleType) (g : input.Ghosts I.Denot) where
   -- the reader ends as the access leaves it, and after a refusal it has given up

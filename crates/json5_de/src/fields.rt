@@ -1,10 +1,11 @@
 //! Fields of a struct, which are read as the pairs of an object come.
 
-ghost use Rattle.std.specs.Prelude.{◌≡◌, true, false, Some, IfOk, OnErr};
+ghost use Rattle.std.specs.Prelude.{◌≡◌, true, false, Some, IfOk};
 ghost use Rattle.json5_grammar.specs.declared.code.ErrorCode.TheVariants as codes;
 ghost use Rattle.json5_text.specs.Errors.{code, kind_of};
 ghost use Rattle.json5_de.specs.Access.{IsAtBracket};
 ghost use Rattle.json5_de.specs.Law.{IsUnprompted};
+ghost use Rattle.json5_de.specs.Objects.{SetsPending};
 ghost use Rattle.json5_de.specs.Fields.{FieldRead, FieldRequired, IsOwnAtBracket, RefusesHere};
 ghost use Rattle.json5_de.specs.Plans.{PassesPair, ReadsPairs};
 ghost use Rattle.json5_de.specs.StructFaults.{RefusesPairs};
@@ -81,8 +82,7 @@ impl<'a, I: Input> MapAccess<'a, I> {
     pub fn next_field<V: Deserialize<I>>(&mut self, name: &str, field: &mut Option<V>) -> Result<()>
         requires key { (seen_map self.old).pending ≡ true }
         ensures access { KeepsMap self.old self.new }
-        ensures pending { IfOk result (λ _. (seen_map self.new).pending ≡ false) }
-        ensures pending_kept { OnErr result ((seen_map self.new).pending ≡ (seen_map self.old).pending) }
+        ensures pending { SetsPending (λ _. false) (seen_map self.old) (seen_map self.new) result }
         ensures reads { FieldRead V.content V.convert V.refuses (seen_map self.old) (seen_map self.new) field.old field.new result }
     {
         if field.is_some() {
@@ -97,8 +97,7 @@ impl<'a, I: Input> MapAccess<'a, I> {
     pub fn skip_value(&mut self) -> Result<()>
         requires key { (seen_map self.old).pending ≡ true }
         ensures access { KeepsMap self.old self.new }
-        ensures pending { IfOk result (λ _. (seen_map self.new).pending ≡ false) }
-        ensures pending_kept { OnErr result ((seen_map self.new).pending ≡ (seen_map self.old).pending) }
+        ensures pending { SetsPending (λ _. false) (seen_map self.old) (seen_map self.new) result }
         ensures passes { PassesPair (seen_map self.old) (seen_map self.new) result }
         ensures cause { RefusesHere ⟦<IgnoredAny as Deserialize<I>>⟧.refuses (seen_map self.old) result }
     {

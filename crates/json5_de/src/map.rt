@@ -1,9 +1,9 @@
 //! Reading of objects, one pair after another.
 
-ghost use Rattle.std.specs.Prelude.{◌≡◌, ◌<◌, true, false, ℕ, List, None, length, is_some, IfOk, IfErr, OnOk, OnErr, IsOk, IfSome};
+ghost use Rattle.std.specs.Prelude.{◌≡◌, true, false, ℕ, List, None, is_some, IfOk, IfErr, OnOk, OnErr, IsOk};
 ghost use Rattle.std.specs.Borrow.{sem};
 ghost use Rattle.json5_grammar.specs.declared.code.ErrorCode.TheVariants as codes;
-ghost use Rattle.json5_grammar.specs.Trees.{Tree, Pairs};
+ghost use Rattle.json5_grammar.specs.Trees.{Tree};
 ghost use Rattle.json5_grammar.specs.Members.{NoPairGoes, IsKeyValue};
 ghost use Rattle.json5_text.specs.Cursor.{Locates};
 ghost use Rattle.json5_text.specs.Errors.{kind_of};
@@ -11,12 +11,12 @@ ghost use Rattle.json5_de.specs.State.{GivesUp};
 ghost use Rattle.json5_de.specs.Law.{Steady};
 ghost use Rattle.json5_de.specs.Faults.{RefusedBy};
 ghost use Rattle.json5_value.specs.Brackets.{curly};
-ghost use Rattle.json5_de.specs.Access.{bare, PlacedAtBracket, CompletesClose};
 ghost use Rattle.json5_value.specs.Places.{StartsAfter};
-ghost use Rattle.json5_de.specs.Objects.{AfterColon, bare_map, OpensMap, GivesPairKey, GivesPairValue, CompletesPairKey, CompletesPairValue, ReadsPairKey, ReadsPairValue, PairsLeft, ReadsAKey, ReadsAPair, LeavesAValue, LeavesOthers};
+ghost use Rattle.json5_de.specs.Access.{bare, PlacedAtBracket, CompletesClose};
+ghost use Rattle.json5_de.specs.Objects.{AfterColon, bare_map, OpensMap, GivesPairKey, GivesPairValue, CompletesPairKey, CompletesPairValue};
 ghost use Rattle.json5_de.specs.Enums.{EndsObject};
 ghost use Rattle.json5_de.specs.ObjectFaults as faults;
-ghost use Rattle.json5_de.specs.ObjectFaults.{BeginsKey, GoesToKey, NoColon, NoKey, PlacedAtKey, is_unplaced, RefusesPairKey, RefusesPairValue, RefusesNextKey, RefusesNextValue};
+ghost use Rattle.json5_de.specs.ObjectFaults.{BeginsKey, GoesToKey, NoColon, NoKey, PlacedAtKey, is_unplaced, RefusesPairKey, RefusesPairValue};
 
 use crate::de::{Deserialize, Deserializer};
 use crate::key::DeserializeKey;
@@ -209,7 +209,22 @@ impl<I: Input> Deserializer<I> {
 }
 
 impl<'a, I: Input> MapAccess<'a, I> {
-    ghost use Rattle.json5_de.specs.Lending.{seen_map, map_brace, KeepsMap};
+    ghost use Rattle.json5_de.specs.Lending.{seen_map, map_brace, SettlesMap, ReadsNextKey, ReadsNextValue};
+
+    /// Blocks the reader again after a call of its own, and keeps in mind that one was refused. A fault without a place gets the
+    /// opening brace's.
+    fn settle<T>(&mut self, read: Result<T>) -> Result<T>
+        ensures { SettlesMap self.old read self.new result }
+    {
+        self.de.set_failed(true);
+        match read {
+            Ok(value) => Ok(value),
+            Err(e) => {
+                self.failed = true;
+                Err(self.place(e))
+            }
+        }
+    }
 
     /// The next key; none where the closing brace is next, which stays unread. Its value has to be read next. After a pair
     /// `ExpectedComma` stands at what is neither a comma nor the brace, else `ExpectedIdentifier` at what begins no key, and
@@ -218,31 +233,13 @@ impl<'a, I: Input> MapAccess<'a, I> {
     /// answers `Failed`.
     pub fn next_key<K: DeserializeKey<I>>(&mut self) -> Result<Option<K>>
         requires no_key { (seen_map self.old).pending ≡ false }
-        ensures access { KeepsMap self.old self.new }
-        ensures pending { IfOk result (λ o. (seen_map self.new).pending ≡ is_some o) }
-        ensures pending_kept { OnErr result ((seen_map self.new).pending ≡ (seen_map self.old).pending) }
-        ensures sound { IfOk result (GivesPairKey K.content K.convert (seen_map self.old) (seen_map self.new)) }
-        ensures complete { ReadsPairKey K.content K.convert (seen_map self.old) result }
-        ensures closing { CompletesClose curly (seen_map self.old).at result }
-        ensures shorter { IfOk result (λ o. IfSome o (λ k. length (seen_map self.new).at.reader.unread < length (seen_map self.old).at.reader.unread)) }
-        ensures refused { RefusesNextKey K.refuses (seen_map self.old) (seen_map self.new).at.reader result }
-        ensures read { IfOk result (ReadsAKey K.content K.convert (seen_map self.old) (seen_map self.new)) }
-        ensures left { (ps : Pairs) (r : List ℕ) → PairsLeft ps r (seen_map self.old) → LeavesAValue K.content K.convert ps r (seen_map self.new) result }
+        ensures { ReadsNextKey K.content K.convert K.refuses self.old self.new result }
     {
         self.de.set_failed(self.failed);
-        let next = self.de.pair_key(self.due);
-        self.de.set_failed(true);
-        match next {
-            Ok(Some(key)) => {
-                self.pending = true;
-                Ok(Some(key))
-            }
-            Ok(None) => Ok(None),
-            Err(e) => {
-                self.failed = true;
-                Err(self.place(e))
-            }
-        }
+        let read = self.de.pair_key(self.due);
+        let key = self.settle(read)?;
+        self.pending = key.is_some();
+        Ok(key)
     }
 
     /// The value of the key that was read last. `ExpectedColon` stands at what is no colon, and `EofParsingObject` says that the
@@ -250,30 +247,14 @@ impl<'a, I: Input> MapAccess<'a, I> {
     /// every later call answers `Failed`.
     pub fn next_value<V: Deserialize<I>>(&mut self) -> Result<V>
         requires key { (seen_map self.old).pending ≡ true }
-        ensures access { KeepsMap self.old self.new }
-        ensures pending { IfOk result (λ _. (seen_map self.new).pending ≡ false) }
-        ensures pending_kept { OnErr result ((seen_map self.new).pending ≡ (seen_map self.old).pending) }
-        ensures sound { IfOk result (GivesPairValue V.content V.convert (seen_map self.old) (seen_map self.new)) }
-        ensures complete { ReadsPairValue V.content V.convert (seen_map self.old) result }
-        ensures shorter { IfOk result (λ _. length (seen_map self.new).at.reader.unread < length (seen_map self.old).at.reader.unread) }
-        ensures refused { RefusesNextValue V.refuses (seen_map self.old) (seen_map self.new).at.reader result }
-        ensures read { IfOk result (ReadsAPair V.content V.convert (seen_map self.old) (seen_map self.new)) }
-        ensures left { LeavesOthers V.content V.convert (seen_map self.old) (seen_map self.new) result }
+        ensures { ReadsNextValue V.content V.convert V.refuses self.old self.new result }
     {
         self.de.set_failed(self.failed);
-        let value = self.de.pair_value::<V>();
-        self.de.set_failed(true);
-        match value {
-            Ok(value) => {
-                self.due = true;
-                self.pending = false;
-                Ok(value)
-            }
-            Err(e) => {
-                self.failed = true;
-                Err(self.place(e))
-            }
-        }
+        let read = self.de.pair_value::<V>();
+        let value = self.settle(read)?;
+        self.due = true;
+        self.pending = false;
+        Ok(value)
     }
 
     /// Whether a key was read whose value wasn't. A call that is refused leaves it as it was.

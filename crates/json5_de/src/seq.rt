@@ -1,17 +1,16 @@
 //! Reading of arrays, one element after another.
 
-ghost use Rattle.std.specs.Prelude.{◌≡◌, ◌<◌, ◌||◌, false, ℕ, List, None, Some, length, is_some, IfOk, IfErr, IfSome};
+ghost use Rattle.std.specs.Prelude.{◌≡◌, ◌||◌, false, ℕ, List, None, Some, is_some, IfOk, IfErr};
 ghost use Rattle.std.specs.Borrow.{sem};
 ghost use Rattle.json5_grammar.specs.declared.code.ErrorCode.TheVariants as codes;
 ghost use Rattle.json5_grammar.specs.Trees.{Trees};
 ghost use Rattle.json5_text.specs.Cursor.{Locates};
-ghost use Rattle.json5_de.specs.State.{SameText};
 ghost use Rattle.json5_value.specs.Brackets.{square};
 ghost use Rattle.json5_de.specs.Law.{Steady, Unprompted};
-ghost use Rattle.json5_de.specs.Access.{bare, OpensArray, GivesElement, CompletesElement, ReadsElement, CompletesClose, PlacedAtBracket, ElementsLeft, ReadsMore, LeavesFewer};
+ghost use Rattle.json5_de.specs.Access.{bare, OpensArray, GivesElement, CompletesElement, CompletesClose, PlacedAtBracket, ElementsLeft, ReadsMore};
 ghost use Rattle.json5_de.specs.Enums.{EndsArray};
 ghost use Rattle.json5_de.specs.Lists.{IsTooShort, LeavesRequired, RefusesRequired};
-ghost use Rattle.json5_de.specs.Seq.{RefusesElement, RefusesNext};
+ghost use Rattle.json5_de.specs.Seq.{RefusesElement};
 
 use crate::de::{Deserialize, Deserializer};
 use json5_text::error::{Error, Result};
@@ -108,38 +107,34 @@ impl<I: Input> Deserializer<I> {
 }
 
 impl<'a, I: Input> SeqAccess<'a, I> {
-    ghost use Rattle.json5_de.specs.Lending.{seen, brace_of, HoldsTheSame, BlocksReader, KeepsAccess};
+    ghost use Rattle.json5_de.specs.Lending.{seen, brace_of, KeepsAccess, ReadsNext, Settles};
 
-    /// The next element; none where the closing bracket is next, which stays unread. After an element `ExpectedComma` stands at
-    /// what is neither a comma nor the bracket, and `EofParsingArray` says that the text ends; else the element's own faults come.
-    /// A fault without a place gets the opening bracket's. After a refusal every later call answers `Failed`.
-    pub fn next_element<T: Deserialize<I>>(&mut self) -> Result<Option<T>>
-        ensures same_reference { HoldsTheSame self.old self.new }
-        ensures blocks { BlocksReader self.new }
-        ensures sound { IfOk result (GivesElement T.content T.convert (seen self.old) (seen self.new)) }
-        ensures complete { ReadsElement T.content T.convert (seen self.old) result }
-        ensures closing { CompletesClose square (seen self.old) result }
-        ensures start { (seen self.new).start ≡ (seen self.old).start }
-        ensures same_text { SameText (seen self.old).reader (seen self.new).reader }
-        ensures shorter { IfOk result (λ o. IfSome o (λ v. length (seen self.new).reader.unread < length (seen self.old).reader.unread)) }
-        ensures refused { RefusesNext T.refuses (seen self.old) (seen self.new).reader result }
-        ensures read { IfOk result (ReadsMore T.content T.convert (seen self.old) (seen self.new)) }
-        ensures left { (ts : Trees) (r : List ℕ) → ElementsLeft ts r (seen self.old) → LeavesFewer T.content T.convert ts r (seen self.new) result }
+    /// Blocks the reader again after a call of its own, and keeps in mind that one was refused. A fault without a place gets the
+    /// opening bracket's.
+    fn settle<T>(&mut self, read: Result<T>) -> Result<T>
+        ensures { Settles self.old read self.new result }
     {
-        self.de.set_failed(self.failed);
-        let next = self.de.element(self.due);
         self.de.set_failed(true);
-        match next {
-            Ok(Some(item)) => {
-                self.due = true;
-                Ok(Some(item))
-            }
-            Ok(None) => Ok(None),
+        match read {
+            Ok(value) => Ok(value),
             Err(e) => {
                 self.failed = true;
                 Err(self.place(e))
             }
         }
+    }
+
+    /// The next element; none where the closing bracket is next, which stays unread. After an element `ExpectedComma` stands at
+    /// what is neither a comma nor the bracket, and `EofParsingArray` says that the text ends; else the element's own faults come.
+    /// A fault without a place gets the opening bracket's. After a refusal every later call answers `Failed`.
+    pub fn next_element<T: Deserialize<I>>(&mut self) -> Result<Option<T>>
+        ensures { ReadsNext T.content T.convert T.refuses self.old self.new result }
+    {
+        self.de.set_failed(self.failed);
+        let read = self.de.element(self.due);
+        let next = self.settle(read)?;
+        self.due |= next.is_some();
+        Ok(next)
     }
 
     /// The element at this place of a list of so many. Where the list ends before it, that is refused with a text of its own at

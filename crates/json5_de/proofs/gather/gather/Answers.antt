@@ -44,7 +44,7 @@ returns-in_err-value-clause-refused g c =
 
 pub returns-in_err-end-clause-complete : goal.returns-in_err-end-clause-complete
 returns-in_err-end-clause-complete g c =
-    end_completes _ _ c.from_residual-in_err-end.ensures.1 c.loop-map.invariant.reading (rw c.in_default.is at c.in_ok-key.ensures.left) (λ r left. (c.in_err-end.ensures.alone (search rules)).left r (rw c.in_default.is at c.in_ok-key.ensures.pending) left)
+    end_completes _ _ c.from_residual-in_err-end.ensures.1 c.loop-map.invariant.reading (rw c.in_default.is at c.in_ok-key.ensures.left) (λ r left. (c.in_err-end.ensures.alone (search rules)).left r (rw c.in_default.is at c.in_ok-key.ensures.pending.given) left)
 
 pub returns-in_err-end-clause-refused : goal.returns-in_err-end-clause-refused
 returns-in_err-end-clause-refused g c =

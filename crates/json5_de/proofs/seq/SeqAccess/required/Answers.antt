@@ -18,4 +18,4 @@ returns-in-None-clause-left g c ts r left = left_missing g.T.Deserialize.content
 pub returns-in-None-clause-refused : goal.returns-in-None-clause-refused
 returns-in-None-clause-refused g c = λ live.
     let (at, due) = rw c.in-None.is at c.in_ok-item.ensures.sound in
-    missing (seen c.next_element.new.self).reader at (short_before (seen c.args.self.now) (seen c.next_element.new.self) c.too_short.result c.in_ok-item.ensures.start c.in_ok-item.ensures.same_text c.too_short.ensures)
+    missing (seen c.next_element.new.self).reader at (short_before (seen c.args.self.now) (seen c.next_element.new.self) c.too_short.result c.in_ok-item.ensures.access.start c.in_ok-item.ensures.access.same_text c.too_short.ensures)

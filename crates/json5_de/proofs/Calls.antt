@@ -1,0 +1,75 @@
+-- What a call of an access to an array means, from what its reader read.
+use Rattle.std.proofs.Common.{◌≡◌, ◌<◌, true, Bool, refl, sym, ap, ◌∙◌, subst, length, Option, Some, None, Ok, Err}
+use Rattle.std.specs.Prelude.{◌||◌, is_some, Result, IfSome}
+use Rattle.json5_grammar.specs.Trees.{Tree}
+use Rattle.json5_grammar.proofs.MembersPassed.{element_shorter}
+use Rattle.json5_text.specs.declared.error.Error.{Error}
+use Rattle.json5_de.specs.State.{State, SameText}
+use Rattle.json5_de.specs.Brackets.{square}
+use Rattle.json5_de.specs.Law.{Steady}
+use Rattle.json5_de.specs.Access.{Seen, bare, GivesElement, CompletesElement, CompletesClose, PlacedAtBracket, StartsAfter}
+use Rattle.json5_de.specs.Options.{PlacedAt}
+use Rattle.json5_de.specs.Seq.{RefusesElement}
+use Rattle.json5_de.specs.Lending.{seen, blocking, Settles, KeepsAccess, ReadsNext}
+use Rattle.json5_de.specs.declared.seq.SeqAccess.{SeqAccess}
+use Rattle.json5_de.proofs.Elements.{reads_element, reads_more, leaves_fewer}
+use Rattle.json5_de.proofs.Next.{gives_seen, gives_next, refuses_next}
+
+-- the access whose reader stands there
+abbrev pub lent : {I : Type 0} → SeqAccess I → State → SeqAccess I
+lent s after = record s { de = record s.de { now = after } }
+
+-- what was read is given
+pub given_on : {I V : Type 0} {mid new : SeqAccess I} (read : Result V Error) (v : V) → Settles mid read new (Ok v) → (read ≡ Ok v) × (new ≡ blocking mid mid.failed)
+given_on (Ok w) v s = (sym s.given, s.blocks)
+given_on (Err own) v s = absurd s.refused
+
+-- what was refused is refused at the bracket
+pub refused_on : {I V : Type 0} {mid new : SeqAccess I} (read : Result V Error) (e : Error) → Settles mid read new (Err e) → (own : Error) × (read ≡ Err own) × PlacedAtBracket (seen mid) own e × (new ≡ blocking mid true)
+refused_on (Ok w) e s = let no : Err e ≡ Ok w = s.given in absurd (cc)
+refused_on (Err own) e s = (own, refl, s.refused, s.blocks)
+
+kept : {I : Type 0} (old : SeqAccess I) (after : State) (due failed : Bool) → SameText (seen old).reader after → KeepsAccess old (record (blocking (lent old after) failed) { due = due })
+kept old after due failed same = record { same_reference = refl; blocks = refl; start = refl; same_text = same }
+
+module _ {I V C : Type 0} (content : V → C) (convert : Tree → Option C) (refuses : State → Error → State → Type 0) (old : SeqAccess I) where
+  shorter : (new : Seen) (o : Option V) → GivesElement content convert (seen old) new o → IfSome o (λ v. length new.reader.unread < length (seen old).reader.unread)
+  shorter new (Some v) (t, took, due, is) = element_shorter (seen old).due (seen old).reader.unread new.reader.unread t took.element
+  shorter new None gives = tt
+
+  given : (new : SeqAccess I) (o : Option V) → KeepsAccess old new → GivesElement content convert (seen old) (seen new) o → ReadsNext content convert refuses old new (Ok o)
+  given new o access gives = record {
+    access = access;
+    sound = gives;
+    complete = reads_element content convert (seen old) (seen new) o gives;
+    closing = λ r live close. refl;
+    shorter = shorter (seen new) o gives;
+    refused = gives_next content convert refuses (seen old) (seen new) o gives;
+    read = reads_more content convert (seen old) (seen new) o gives;
+    left = leaves_fewer content convert (seen old) (seen new) (Ok o) gives (λ t r c live element shallow is. tt) (λ r live close. refl);
+  }
+
+  -- an element was read, or the bracket is next
+  pub next_given : (after : State) (new : SeqAccess I) (some : Bool) (o : Option V) → new ≡ blocking (lent old after) old.failed → some ≡ is_some o → SameText (seen old).reader after
+      → GivesElement content convert (bare (seen old).reader old.due) (bare after (old.due || is_some o)) o → ReadsNext content convert refuses old (record new { due = new.due || some }) (Ok o)
+  next_given after new some o same is text gives =
+      let last = record (blocking (lent old after) old.failed) { due = old.due || some } in
+      subst (λ s. ReadsNext content convert refuses old (record s { due = s.due || some }) (Ok o)) (sym same)
+      (given last o (kept old after (old.due || some) old.failed text) (gives_seen content convert (seen old) (seen last) (seen old).reader after o refl refl (ap (λ b. old.due || b) is) gives))
+
+  -- the call was refused
+  pub next_refused : (after : State) (new : SeqAccess I) (own e : Error) → new ≡ blocking (lent old after) true → PlacedAtBracket (seen (lent old after)) own e → RefusesElement refuses old.due (seen old).reader own after → Steady {V = Option V} (seen old).reader after (Err own)
+      → CompletesElement {V = Option V} convert (bare (seen old).reader old.due) (Err own) → CompletesClose {V = Option V} square (bare (seen old).reader old.due) (Err own) → ReadsNext content convert refuses old new (Err e)
+  next_refused after new own e same placed cause steady complete closing =
+      let last = blocking (lent old after) true in
+      let at = subst (λ x. PlacedAt (StartsAfter x old.start) own e) steady.same_text placed in
+      subst (λ s. ReadsNext content convert refuses old s (Err e)) (sym same) (record {
+        access = kept old after old.due true steady.same_text;
+        sound = tt;
+        complete = λ t r c live element shallow is. placed.kind ∙ complete t r c live element shallow is;
+        closing = closing;
+        shorter = tt;
+        refused = refuses_next refuses (seen old) (seen last).reader after own e cause steady.unprompted steady.before at refl;
+        read = tt;
+        left = leaves_fewer content convert (seen old) (seen last) (Err e) tt (λ t r c live element shallow is. placed.kind ∙ complete t r c live element shallow is) closing;
+      })

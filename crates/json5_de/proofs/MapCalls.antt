@@ -1,0 +1,113 @@
+-- What a call of an access to an object means, from what its reader read.
+use Rattle.std.proofs.Common.{◌≡◌, ◌<◌, true, false, Bool, refl, sym, ◌∙◌, subst, length, Option, Some, None, Ok, Err}
+use Rattle.std.specs.Prelude.{is_some, Result, IfSome}
+use Rattle.json5_grammar.specs.Trees.{Tree}
+use Rattle.json5_grammar.proofs.MembersPairs.{key_shorter, key_value_shorter}
+use Rattle.json5_text.specs.declared.error.Error.{Error}
+use Rattle.json5_de.specs.State.{State, SameText}
+use Rattle.json5_de.specs.Brackets.{curly}
+use Rattle.json5_de.specs.Keys.{KeyConversion}
+use Rattle.json5_de.specs.Law.{Steady}
+use Rattle.json5_de.specs.Access.{bare, CompletesClose, PlacedAtBracket, StartsAfter}
+use Rattle.json5_de.specs.Options.{PlacedAt}
+use Rattle.json5_de.specs.Objects.{SeenMap, bare_map, GivesPairKey, GivesPairValue, CompletesPairKey, CompletesPairValue}
+use Rattle.json5_de.specs.ObjectFaults.{RefusesPairKey, RefusesPairValue}
+use Rattle.json5_de.specs.Lending.{seen_map, blocking_map, SettlesMap, KeepsMap, ReadsNextKey, ReadsNextValue}
+use Rattle.json5_de.specs.declared.map.MapAccess.{MapAccess}
+use Rattle.json5_de.proofs.Pairs.{reads_a_key, reads_pair_key, leaves_a_value, reads_a_pair, reads_pair_value, leaves_pairs}
+use Rattle.json5_de.proofs.PairCodes.{gives_key_seen, gives_next_key, refuses_next_key, gives_value_seen, gives_next_value, refuses_next_value}
+
+-- the access whose reader stands there
+abbrev pub lent : {I : Type 0} → MapAccess I → State → MapAccess I
+lent m after = record m { de = record m.de { now = after } }
+
+-- what was read is given
+pub given_on : {I V : Type 0} {mid new : MapAccess I} (read : Result V Error) (v : V) → SettlesMap mid read new (Ok v) → (read ≡ Ok v) × (new ≡ blocking_map mid mid.failed)
+given_on (Ok w) v s = (sym s.given, s.blocks)
+given_on (Err own) v s = absurd s.refused
+
+-- what was refused is refused at the brace
+pub refused_on : {I V : Type 0} {mid new : MapAccess I} (read : Result V Error) (e : Error) → SettlesMap mid read new (Err e) → (own : Error) × (read ≡ Err own) × PlacedAtBracket (seen_map mid).at own e × (new ≡ blocking_map mid true)
+refused_on (Ok w) e s = let no : Err e ≡ Ok w = s.given in absurd (cc)
+refused_on (Err own) e s = (own, refl, s.refused, s.blocks)
+
+kept : {I : Type 0} (old : MapAccess I) (after : State) (due pending failed : Bool) → SameText (seen_map old).at.reader after → KeepsMap old (record (blocking_map (lent old after) failed) { due = due; pending = pending })
+kept old after due pending failed same = record { same_reference = refl; blocks = refl; start = refl; same_text = same }
+
+module _ {I K C : Type 0} (content : K → C) (convert : KeyConversion C) (refuses : State → Error → State → Type 0) (old : MapAccess I) (no_key : old.pending ≡ false) where
+  shorter : (new : SeenMap) (o : Option K) → GivesPairKey content convert (seen_map old) new o → IfSome o (λ k. length new.at.reader.unread < length (seen_map old).at.reader.unread)
+  shorter new (Some k) (u, plain, took, is, due, pending) = key_shorter old.due (seen_map old).at.reader.unread new.at.reader.unread u plain took.key
+  shorter new None gives = tt
+
+  -- a key was read, or the brace is next
+  pub key_given : (after : State) (new : MapAccess I) (some : Bool) (o : Option K) → new ≡ blocking_map (lent old after) old.failed → some ≡ is_some o → SameText (seen_map old).at.reader after
+      → GivesPairKey content convert (bare_map (seen_map old).at.reader old.due false) (bare_map after old.due (is_some o)) o → ReadsNextKey content convert refuses old (record new { pending = some }) (Ok o)
+  key_given after new some o same is text inner =
+      let last = record (blocking_map (lent old after) old.failed) { pending = some } in
+      let gives = gives_key_seen content convert (seen_map old) (seen_map last) (seen_map old).at.reader after o refl refl refl is inner in
+      subst (λ m. ReadsNextKey content convert refuses old (record m { pending = some }) (Ok o)) (sym same) (record {
+        access = kept old after old.due some old.failed text;
+        pending = record { given = is; kept = tt };
+        sound = gives;
+        complete = reads_pair_key content convert (seen_map old) (seen_map last) o gives;
+        closing = λ r live close. refl;
+        shorter = shorter (seen_map last) o gives;
+        refused = gives_next_key content convert refuses (seen_map old) (seen_map last) o gives;
+        read = reads_a_key content convert (seen_map old) (seen_map last) o gives;
+        left = leaves_a_value content convert (seen_map old) (seen_map last) (Ok o) no_key gives (λ u plain r k live key is. tt) (λ r live close. refl);
+      })
+
+  -- the call for one was refused
+  pub key_refused : (after : State) (new : MapAccess I) (own e : Error) → new ≡ blocking_map (lent old after) true → PlacedAtBracket (seen_map (lent old after)).at own e → RefusesPairKey refuses old.due (seen_map old).at.reader own after
+      → Steady {V = Option K} (seen_map old).at.reader after (Err own) → CompletesPairKey {V = Option K} convert (bare_map (seen_map old).at.reader old.due false) (Err own)
+      → CompletesClose {V = Option K} curly (bare (seen_map old).at.reader old.due) (Err own) → ReadsNextKey content convert refuses old new (Err e)
+  key_refused after new own e same placed cause steady complete closing =
+      let last = blocking_map (lent old after) true in
+      let at = subst (λ x. PlacedAt (StartsAfter x old.start) own e) steady.same_text placed in
+      subst (λ m. ReadsNextKey content convert refuses old m (Err e)) (sym same) (record {
+        access = kept old after old.due old.pending true steady.same_text;
+        pending = record { given = tt; kept = refl };
+        sound = tt;
+        complete = λ u plain r k live key is. placed.kind ∙ complete u plain r k live key is;
+        closing = closing;
+        shorter = tt;
+        refused = refuses_next_key refuses (seen_map old) (seen_map last).at.reader after own e cause steady.unprompted steady.before at refl;
+        read = tt;
+        left = leaves_a_value content convert (seen_map old) (seen_map last) (Err e) no_key tt (λ u plain r k live key is. placed.kind ∙ complete u plain r k live key is) closing;
+      })
+
+module _ {I V C : Type 0} (content : V → C) (convert : Tree → Option C) (refuses : State → Error → State → Type 0) (old : MapAccess I) (key : old.pending ≡ true) where
+  -- a value was read
+  pub value_given : (after : State) (new : MapAccess I) (v : V) → new ≡ blocking_map (lent old after) old.failed → SameText (seen_map old).at.reader after
+      → GivesPairValue content convert (bare_map (seen_map old).at.reader false true) (bare_map after true false) v → ReadsNextValue content convert refuses old (record new { due = true; pending = false }) (Ok v)
+  value_given after new v same text inner =
+      let last = record (blocking_map (lent old after) old.failed) { due = true; pending = false } in
+      let gives = gives_value_seen content convert (seen_map old) (seen_map last) (seen_map old).at.reader after v refl refl refl refl inner in
+      let (t, took, is, due, pending) = gives in
+      subst (λ m. ReadsNextValue content convert refuses old (record m { due = true; pending = false }) (Ok v)) (sym same) (record {
+        access = kept old after true false old.failed text;
+        pending = record { given = refl; kept = tt };
+        sound = gives;
+        complete = reads_pair_value content convert (seen_map old) (seen_map last) v gives;
+        shorter = key_value_shorter (seen_map old).at.reader.unread after.unread t took.value;
+        refused = gives_next_value content convert refuses (seen_map old) (seen_map last) v gives;
+        read = reads_a_pair content convert (seen_map old) (seen_map last) v gives;
+        left = leaves_pairs content convert (seen_map old) (seen_map last) (Ok v) key gives (λ u r k live value shallow is. tt);
+      })
+
+  -- the call for it was refused
+  pub value_refused : (after : State) (new : MapAccess I) (own e : Error) → new ≡ blocking_map (lent old after) true → PlacedAtBracket (seen_map (lent old after)).at own e → RefusesPairValue refuses (seen_map old).at.reader own after
+      → Steady {V = V} (seen_map old).at.reader after (Err own) → CompletesPairValue {V = V} convert (bare_map (seen_map old).at.reader false true) (Err own) → ReadsNextValue content convert refuses old new (Err e)
+  value_refused after new own e same placed cause steady complete =
+      let last = blocking_map (lent old after) true in
+      let at = subst (λ x. PlacedAt (StartsAfter x old.start) own e) steady.same_text placed in
+      subst (λ m. ReadsNextValue content convert refuses old m (Err e)) (sym same) (record {
+        access = kept old after old.due old.pending true steady.same_text;
+        pending = record { given = tt; kept = refl };
+        sound = tt;
+        complete = λ t r c live value shallow is. placed.kind ∙ complete t r c live value shallow is;
+        shorter = tt;
+        refused = refuses_next_value refuses (seen_map old) (seen_map last).at.reader after own e cause steady.unprompted steady.before at refl;
+        read = tt;
+        left = leaves_pairs content convert (seen_map old) (seen_map last) (Err e) key tt (λ t r c live value shallow is. placed.kind ∙ complete t r c live value shallow is);
+      })
