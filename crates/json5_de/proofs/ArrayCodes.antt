@@ -12,7 +12,7 @@ use Rattle.json5_grammar.proofs.MembersRead.{comma_solid}
 use Rattle.json5_grammar.proofs.MembersNowhere.{no_sign}
 use Rattle.json5_text.specs.declared.error.Error.{Error}
 use Rattle.json5_de.specs.State.{State}
-use Rattle.json5_de.specs.declared.brackets.Brackets.{Brackets}
+use Rattle.json5_value.specs.declared.brackets.Brackets.{Brackets}
 use Rattle.json5_de.specs.Brackets.{AreSigns}
 use Rattle.json5_de.specs.Access.{Closed, NotOpened, no_bracket, text_ends, too_deep, other_sign, bracket_missing, NotClosed, not_here, after_comma, AtFull, is_opening, is_comma_or_closing, begins_close}
 use Rattle.json5_de.specs.Seq.{GoesOn, NoNext, no_comma, comma_missing, in_blanks_after}

@@ -24,13 +24,16 @@ use Rattle.std.proofs.lemmas.List.{append-nil}
 use Rattle.json5_de.specs.State.{State, cursor_of, OnlyRead}
 use Rattle.json5_de.specs.Law.{TookValue}
 use Rattle.json5_de.specs.Steps.{PassedGap, TookText}
-use Rattle.json5_de.specs.declared.brackets.Brackets.{Brackets}
-use Rattle.json5_de.specs.Brackets.{AreSigns, square}
-use Rattle.json5_de.specs.Access.{TookElement, Unexpected, at_end, at_char, NotOpened, no_bracket, text_ends, too_deep, NoBracket, other_sign, bracket_missing, NotClosed, not_here, after_comma as comma_before}
+use Rattle.json5_value.specs.declared.brackets.Brackets.{Brackets}
+use Rattle.json5_de.specs.Brackets.{AreSigns}
+use Rattle.json5_value.specs.Brackets.{square}
+use Rattle.json5_de.specs.Access.{TookElement, NotOpened, no_bracket, text_ends, too_deep, NoBracket, other_sign, bracket_missing, NotClosed, not_here, after_comma as comma_before}
+use Rattle.json5_value.specs.Steps.{Unexpected, at_end, at_char}
 use Rattle.json5_de.specs.Seq.{IsAfterGap, Begun, AtMember, GoesOn, NothingNext, NoNext, no_comma, comma_missing}
 use Rattle.json5_de.specs.Faults.{AfterBlanks, in_blanks, after_gap, RefusedBy}
 use Rattle.json5_de.proofs.Taken.{refused_token}
-use Rattle.json5_de.proofs.Places.{some_next, refused_as, refused_after}
+use Rattle.json5_de.proofs.Places.{refused_as, refused_after}
+use Rattle.json5_value.proofs.Steps.{some_next}
 use Rattle.json5_grammar.proofs.Basics.{same_char, true_false}
 
 pub failed_of : {s t : State} → s ≡ t → s.failed ≡ t.failed

@@ -41,8 +41,8 @@ use Rattle.json5_de.specs.Steps.{PassedGap, IsMismatch, IsMismatchOf, IsUndecode
 use Rattle.json5_de.specs.Texts.{ReadsDocument, RefusesReading}
 use Rattle.json5_de.specs.Convert.{digits_bytes}
 use Rattle.json5_de.proofs.BytesDecoded.{undecoded}
-use Rattle.json5_de.proofs.OtherCodes.{key_lacks}
-use Rattle.json5_de.proofs.Rows.{refused_other, memory_other, given_up_after}
+use Rattle.json5_value.proofs.OtherCodes.{key_lacks, memory_other}
+use Rattle.json5_de.proofs.Rows.{refused_other, given_up_after}
 use Rattle.json5_de.proofs.Taken.{input_of, refused_token}
 use Rattle.json5_de.proofs.WholeTexts.{converts, is_document, IsRefusedText, refused_text}
 

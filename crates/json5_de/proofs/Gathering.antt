@@ -16,7 +16,7 @@ use Rattle.json5_grammar.proofs.MembersPairsConverted.{pair_contents_snoc, pair_
 use Rattle.json5_text.specs.declared.error.Error.{Error}
 use Rattle.json5_text.specs.Cursor.{IsOutOfMemory}
 use Rattle.json5_de.specs.State.{State}
-use Rattle.json5_de.specs.Brackets.{curly}
+use Rattle.json5_value.specs.Brackets.{curly}
 use Rattle.json5_de.specs.Law.{TookValue, Completes, Gives}
 use Rattle.json5_de.specs.Access.{Opened, AtClose}
 use Rattle.json5_de.specs.Keys.{KeyConversion}

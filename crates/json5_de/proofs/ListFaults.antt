@@ -7,7 +7,7 @@ use Rattle.json5_grammar.proofs.MembersConverted.{both_parts}
 use Rattle.json5_grammar.proofs.MembersPassed.{bracket_closes}
 use Rattle.json5_text.specs.declared.error.Error.{Error}
 use Rattle.json5_de.specs.State.{State}
-use Rattle.json5_de.specs.Brackets.{square}
+use Rattle.json5_value.specs.Brackets.{square}
 use Rattle.json5_de.specs.Access.{Seen, OpensArray, ClosesArray, AtClose, ElementsRead, ReadsMore}
 use Rattle.json5_de.specs.Lists.{Element, Elements, element, every, count, Accepted, Within, Shape, HasPlace, ListFault, at_element, too_few, RefusesRequired, at_fault, missing, RefusesList}
 use Rattle.json5_grammar.proofs.Basics.{true_false}

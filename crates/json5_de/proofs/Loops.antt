@@ -5,7 +5,7 @@ use Rattle.std.proofs.lemmas.Bool.{false≢true}
 use Rattle.std.specs.Prelude.{Result, IsOk, IfErr, IsErrAnd}
 use Rattle.std.specs.Str.{encode_utf8_all}
 use Rattle.json5_grammar.specs.Characters.{left_bracket}
-use Rattle.json5_de.specs.Brackets.{square}
+use Rattle.json5_value.specs.Brackets.{square}
 use Rattle.json5_grammar.specs.Documents.{max_depth}
 use Rattle.json5_grammar.specs.Trees.{Tree, Trees, array, no_more, more, depth}
 use Rattle.json5_grammar.specs.Values.{Reads}

@@ -11,9 +11,10 @@ use Rattle.json5_text.specs.declared.error.Error.{Error}
 use Rattle.json5_text.specs.Errors.{code, kind_of, place_of, or_place}
 use Rattle.json5_de.specs.State.{State, OnlyRead, SameText}
 use Rattle.json5_de.specs.Faults.{AtEnd, AtOther, IsUnplaced, IsAfter}
-use Rattle.json5_de.specs.Access.{Seen, bare, Opened, TookElement, AtClose, GivesElement, StartsAfter, PlacedAtBracket, IsAtBracket, is_comma_or_closing}
-use Rattle.json5_de.specs.declared.brackets.Brackets.{Brackets}
-use Rattle.json5_de.specs.Brackets.{square}
+use Rattle.json5_de.specs.Access.{Seen, bare, Opened, TookElement, AtClose, GivesElement, PlacedAtBracket, IsAtBracket, is_comma_or_closing}
+use Rattle.json5_value.specs.Places.{StartsAfter}
+use Rattle.json5_value.specs.declared.brackets.Brackets.{Brackets}
+use Rattle.json5_value.specs.Brackets.{square}
 use Rattle.json5_de.specs.Seq.{Cause, RefusesCall, RefusesElement, not_reached, in_element, RefusesNext}
 use Rattle.json5_de.proofs.Expected.{end_fault, other_fault}
 use Rattle.json5_de.proofs.Arrays.{square_signs}

@@ -7,7 +7,7 @@ use Rattle.json5_grammar.specs.Members.{IsEnd}
 use Rattle.json5_text.specs.declared.error.Error.{Error}
 use Rattle.json5_de.specs.State.{State}
 use Rattle.json5_de.specs.Faults.{RefusedBy, IsUnplaced}
-use Rattle.json5_de.specs.declared.brackets.Brackets.{Brackets}
+use Rattle.json5_value.specs.declared.brackets.Brackets.{Brackets}
 use Rattle.json5_de.specs.Brackets.{AreSigns}
 use Rattle.json5_de.specs.Access.{Seen, Opened, Closed, NotOpened, NotClosed, OpensAs, ClosesAs}
 use Rattle.json5_de.proofs.Expected.{end_fault, other_fault}

@@ -20,12 +20,13 @@ use Rattle.json5_text.specs.Cursor.{Refused}
 use Rattle.json5_text.specs.Tokens.{FaultyBlanks}
 use Rattle.json5_de.specs.State.{State, SameText, GivesUp, cursor_of}
 use Rattle.json5_de.specs.Law.{TookValue, Gives, Completes, CompletesFree, Unprompted, ReadsValue}
-use Rattle.json5_de.specs.Options.{PlacedAt, NoOption, option_missing, faulty_null, RefusesOption, option_free}
+use Rattle.json5_de.specs.Options.{NoOption, option_missing, faulty_null, RefusesOption, option_free}
+use Rattle.json5_value.specs.Places.{PlacedAt}
 use Rattle.json5_de.specs.Convert.{unit_of}
 use Rattle.json5_de.specs.ConvertLists.{option_of, if_some}
 use Rattle.json5_de.specs.Faults.{AtEnd, RefusedBy, IsUnplaced, FaultyNull}
 use Rattle.json5_de.specs.Steps.{PassedGap}
-use Rattle.json5_de.specs.Access.{Unexpected, at_end, at_char}
+use Rattle.json5_value.specs.Steps.{Unexpected, at_end, at_char}
 use Rattle.json5_de.proofs.Expected.{Expected}
 use Rattle.json5_de.proofs.Arrays.{only_read, level_of}
 use Rattle.json5_de.proofs.Taken.{input_of, refused_token}

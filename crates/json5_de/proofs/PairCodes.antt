@@ -26,9 +26,11 @@ use Rattle.json5_de.specs.State.{State, OnlyRead, SameText, cursor_of}
 use Rattle.json5_de.specs.Law.{TookValue}
 use Rattle.json5_de.specs.Steps.{PassedGap, TookText}
 use Rattle.json5_de.specs.Keys.{KeyConversion, TookKey, GivesKey, CompletesKey}
-use Rattle.json5_de.specs.Brackets.{curly}
+use Rattle.json5_value.specs.Brackets.{curly}
 use Rattle.json5_de.specs.Faults.{AfterBlanks, in_blanks, after_gap, RefusedBy, AtEnd, AtOther, IsUnplaced, IsAfter}
-use Rattle.json5_de.specs.Access.{Unexpected, at_end, at_char, AtClose, StartsAfter, PlacedAtBracket}
+use Rattle.json5_de.specs.Access.{AtClose, PlacedAtBracket}
+use Rattle.json5_value.specs.Steps.{Unexpected, at_end, at_char}
+use Rattle.json5_value.specs.Places.{StartsAfter}
 use Rattle.json5_de.specs.Seq.{IsAfterGap, Begun, AtMember, NothingNext, NoNext, no_comma, comma_missing, in_blanks_after}
 use Rattle.json5_de.specs.Objects.{SeenMap, bare_map, TookPairKey, AfterColon, TookPairValue, GivesPairKey, GivesPairValue, CompletesPairKey}
 use Rattle.json5_de.specs.ObjectFaults.{begins_key, AtKey, NoKeyHere, no_key, key_missing, NoKey, no_next, not_here, not_after_comma, PlacedAtKey, at_key, as_it_is, RefusesPairKey, not_reached, in_key, begins_next_key, no_key_code, RefusesNextKey, NoColon, no_colon, colon_missing, is_colon, RefusesPairValue, no_value, in_value, RefusesNextValue}

@@ -10,9 +10,10 @@ use Rattle.json5_text.specs.declared.error.Error.{Error}
 use Rattle.json5_de.specs.State.{State, GivesUp}
 use Rattle.json5_de.specs.Law.{TookValue}
 use Rattle.json5_de.specs.Keys.{KeyConversion}
-use Rattle.json5_de.specs.declared.brackets.BracketKind.{BracketKind}
-use Rattle.json5_de.specs.declared.brackets.BracketKind.TheVariants as kind
-use Rattle.json5_de.specs.Brackets.{AreSigns, curly, brackets_of}
+use Rattle.json5_value.specs.declared.brackets.BracketKind.{BracketKind}
+use Rattle.json5_value.specs.declared.brackets.BracketKind.TheVariants as kind
+use Rattle.json5_de.specs.Brackets.{AreSigns}
+use Rattle.json5_value.specs.Brackets.{curly, brackets_of}
 use Rattle.json5_de.proofs.Arrays.{square_signs}
 use Rattle.json5_de.specs.Access.{Seen, Opened, Closed, AtClose, OpensAs, ClosesAs, CompletesClose}
 use Rattle.json5_de.specs.Objects.{SeenMap, TookPairKey, TookPairValue, GivesPairKey, GivesPairValue, CompletesPairKey, CompletesPairValue, ReadsPairKey, ReadsPairValue, PairsRead, PairsLeft, LeftAfter, ReadsAKey, ReadsAPair, LeavesAValue, LeavesPairs, OpensMap, ClosesMap}

@@ -31,7 +31,8 @@ use Rattle.json5_grammar.specs.Characters.{NotBegun}
 use Rattle.json5_grammar.specs.Stops.{lengthens}
 use Rattle.json5_text.specs.NumberViews.{keeps_digits}
 use Rattle.std.proofs.lemmas.Bool.{false≢true}
-use Rattle.json5_de.proofs.OtherCodes.{Lacks, in_blanks_other, after_lacks, word_lacks, number_lacks, text_lacks}
+use Rattle.json5_de.proofs.OtherCodes.{after_lacks, number_lacks, text_lacks}
+use Rattle.json5_value.proofs.OtherCodes.{Lacks, in_blanks_other, word_lacks}
 use Rattle.json5_grammar.proofs.Basics.{true_false}
 
 -- a kind of value is told apart from all others, and none of its faults is that the reader had failed
@@ -39,15 +40,8 @@ pub record IsLawful {C : Type 0} (row : Row C) : Type 0 where
   pub expected : Expected row.IsFault row.convert row.begins row.ends row.differs
   pub lacks : Lacks row.IsFault
 
-pub other_says : (reason : Option ErrorCode) (e : Error) → reason ≢ Some codes.Failed → Says reason e → kind_of e ≢ code codes.Failed
-other_says (Some c) e h s k = h (let same : code c ≡ code codes.Failed = sym s ∙ k in cc)
-other_says None e h (own, s) k = let same : custom own ≡ code codes.Failed = sym s ∙ k in absurd (cc)
-
 pub refused_other : {F : List ℕ → Option ErrorCode → Option (List ℕ) → Type 0} → Lacks F → (old : State) (e : Error) → RefusedBy F old e → old.failed ≡ false → kind_of e ≢ code codes.Failed
 refused_other l old e k live = let f = k live in other_says f.reason e (after_lacks l _ f.reason f.place f.fault) f.says
-
-pub memory_other : (e : Error) → IsOutOfMemory e → kind_of e ≢ code codes.Failed
-memory_other e m k = let same : code codes.OutOfMemory ≡ code codes.Failed = sym m ∙ k in absurd (cc)
 
 pub unprompted_from : {V : Type 0} {F : List ℕ → Option ErrorCode → Option (List ℕ) → Type 0} → Lacks F → (m : Bool) (old : State) (result : Result V Error) → IfErr result (RefusedWith m F old) → Unprompted old result
 unprompted_from l m old (Ok v) k = tt

@@ -13,7 +13,7 @@ use Rattle.json5_de.specs.ConvertLists.{if_some}
 use Rattle.json5_de.specs.Faults.{RefusedBy}
 use Rattle.json5_de.specs.Access.{NotOpened, IsAtBracket}
 use Rattle.json5_de.specs.AnyTree.{RefusesTree}
-use Rattle.json5_de.specs.Brackets.{curly}
+use Rattle.json5_value.specs.Brackets.{curly}
 use Rattle.json5_de.specs.KeyRows.{RefusedAsKey, string_key}
 use Rattle.json5_de.specs.Keys.{KeyConversion}
 use Rattle.json5_de.specs.Objects.{SeenMap, GivesPairKey, OpensMap, ClosesMap}

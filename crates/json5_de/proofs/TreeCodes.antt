@@ -15,17 +15,17 @@ use Rattle.json5_grammar.proofs.ValueHeads.{val_head}
 use Rattle.json5_grammar.proofs.ValuesRead.{read_complete}
 use Rattle.json5_grammar.proofs.ValueSteps.{read_missing, read_nothing}
 use Rattle.json5_text.specs.declared.error.Error.{Error}
-use Rattle.json5_de.specs.declared.any.ValueKind.{ValueKind}
-use Rattle.json5_de.specs.declared.any.ValueKind.TheVariants as kind
+use Rattle.json5_value.specs.declared.kinds.ValueKind.{ValueKind}
+use Rattle.json5_value.specs.declared.kinds.ValueKind.TheVariants as kind
 use Rattle.json5_de.proofs.TreeFaults.{as_reading}
 use Rattle.json5_text.specs.Cursor.{IsOutOfMemory}
-use Rattle.json5_de.specs.AnyTree.{ReadingRefuses, RefusedInReading, ReadsTree, TellsTreesApart, begins_value}
+use Rattle.json5_de.specs.AnyTree.{ReadingRefuses, RefusedInReading, ReadsTree, TellsTreesApart}
+use Rattle.json5_value.specs.Kinds.{begins_value, is_scalar_kind, kind_at}
 use Rattle.json5_de.specs.Law.{Gives}
-use Rattle.json5_de.specs.Scalars.{is_scalar_kind, kind_at}
 use Rattle.json5_de.specs.State.{State}
 use Rattle.json5_de.proofs.Expected.{Expected, ends_or_memory, differs_or_memory}
-use Rattle.json5_de.proofs.PassingTrees.{forget_bad}
-use Rattle.json5_de.proofs.PassingValues.{tests_of}
+use Rattle.json5_de.proofs.TreesRead.{forget_bad}
+use Rattle.json5_value.proofs.Scalars.{tests_of}
 
 -- the trees that may stand within so many brackets
 abbrev shallow : {C : Type 0} → ℕ → (Tree → Option C) → Tree → Option C

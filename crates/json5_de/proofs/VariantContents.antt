@@ -11,9 +11,9 @@ use Rattle.json5_de.specs.State.{State, SameText, GivesUp}
 use Rattle.json5_de.specs.Law.{TookValue, Gives, Completes, CompletesFree, Unprompted}
 use Rattle.json5_de.specs.Steps.{IsMismatch}
 use Rattle.json5_de.specs.ConvertLists.{if_some}
-use Rattle.json5_de.specs.Options.{PlacedAt}
-use Rattle.json5_de.specs.Brackets.{curly}
-use Rattle.json5_de.specs.Access.{ClosesAs, StartsAfter}
+use Rattle.json5_value.specs.Places.{PlacedAt, StartsAfter}
+use Rattle.json5_value.specs.Brackets.{curly}
+use Rattle.json5_de.specs.Access.{ClosesAs}
 use Rattle.json5_de.specs.Enums.{SeenEnum, AfterName, ContentLeft, RefusesContent, no_content, in_content, not_closed, ReadsInBrace, ReadsVariant, content_of, unit_content, content_free}
 use Rattle.json5_de.proofs.Elements.{still_live}
 use Rattle.json5_de.proofs.FoundKeys.{mismatch_other}

@@ -10,8 +10,9 @@ use Rattle.json5_text.specs.Errors.{kind_of, place_of, or_place, SaysAt}
 use Rattle.json5_text.specs.Cursor.{IsPositionOf}
 use Rattle.json5_de.specs.State.{State, GivesUp}
 use Rattle.json5_de.specs.Steps.{IsMismatch}
-use Rattle.json5_de.specs.declared.brackets.Brackets.{Brackets}
-use Rattle.json5_de.specs.Brackets.{AreSigns, square, curly}
+use Rattle.json5_value.specs.declared.brackets.Brackets.{Brackets}
+use Rattle.json5_de.specs.Brackets.{AreSigns}
+use Rattle.json5_value.specs.Brackets.{square, curly}
 use Rattle.json5_de.specs.Access.{Seen, IsStart, Opened, OpensAs, ClosesArray}
 use Rattle.json5_de.specs.Objects.{SeenMap, ClosesMap, LeftAfter}
 use Rattle.json5_de.specs.Enums.{SeenEnum, no_content, in_content, ClosesLast, ClosesContent, not_ended, brace_open, ClosesTuple, ClosesStruct, OpensContent, OpensTuple, OpensStruct}

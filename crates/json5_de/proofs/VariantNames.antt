@@ -31,8 +31,9 @@ use Rattle.json5_de.specs.Steps.{PassedGap}
 use Rattle.json5_de.specs.Convert.{as_text, place_among}
 use Rattle.json5_de.specs.ConvertLists.{if_some}
 use Rattle.json5_de.specs.Faults.{RefusedBy, AtEnd, AtOther, IsUnplaced}
-use Rattle.json5_de.specs.Brackets.{curly}
-use Rattle.json5_de.specs.Access.{Seen, OpensAs, NotOpened, Closed, Unexpected, at_end, at_char}
+use Rattle.json5_value.specs.Brackets.{curly}
+use Rattle.json5_de.specs.Access.{Seen, OpensAs, NotOpened, Closed}
+use Rattle.json5_value.specs.Steps.{Unexpected, at_end, at_char}
 use Rattle.json5_de.specs.Rows.{ReadsAs, variant_row}
 use Rattle.json5_de.specs.Keys.{TookKey, GivesKey}
 use Rattle.json5_de.specs.KeyRows.{ReadsKeyAs, variant_key}
@@ -43,7 +44,7 @@ use Rattle.json5_de.proofs.Arrays.{only_read, level_of, failed_of, sign_next, af
 use Rattle.json5_de.proofs.Elements.{still_live, same_level}
 use Rattle.json5_de.proofs.Expected.{Expected, end_fault, other_fault}
 use Rattle.json5_de.proofs.Options.{end_next, value_next, value_no_end, took_after}
-use Rattle.json5_de.proofs.OtherCodes.{Lacks}
+use Rattle.json5_value.proofs.OtherCodes.{Lacks}
 use Rattle.json5_de.proofs.PairCodes.{value_read, key_there, no_key_begun, pair_key_found}
 use Rattle.json5_de.proofs.Pairs.{pair_read, all_read, key_read, opens_map, refuses_map}
 use Rattle.json5_de.proofs.Places.{refused_as}

@@ -16,11 +16,11 @@ use Rattle.json5_text.specs.Errors.{place_of}
 use Rattle.json5_de.specs.State.{State, OnlyRead, SameText}
 use Rattle.json5_text.specs.Cursor.{IsOutOfMemory}
 use Rattle.json5_de.specs.Law.{IsOkOrMemory, TookValue, Unprompted}
-use Rattle.json5_de.specs.Options.{PlacedAt}
+use Rattle.json5_value.specs.Places.{PlacedAt, StartsAfter}
 use Rattle.json5_de.specs.ConvertLists.{if_some}
 use Rattle.json5_de.specs.Faults.{AfterBlanks, IsAfter, IsUnplaced, RefusedBy, EndsWith, DiffersWith}
-use Rattle.json5_de.specs.declared.brackets.Brackets.{Brackets}
-use Rattle.json5_de.specs.Brackets.{square}
+use Rattle.json5_value.specs.declared.brackets.Brackets.{Brackets}
+use Rattle.json5_value.specs.Brackets.{square}
 
 -- what contracts see of an access: the reader that is lent to it, the count of bytes before the opening bracket,
 -- and whether a comma is due
@@ -119,12 +119,6 @@ LeavesFewer {C = C} content convert (more t ts) r new (Err e) = (c : C) → conv
 
 -- ---- places
 
--- the offset counts the bytes before this text's place in the input
-pub record StartsAfter (input : List ℕ) (offset : ℕ) (before : List ℕ) : Type 0 where
-  pub rest : List ℕ
-  pub split : input ≡ before ++ rest
-  pub counted : offset ≡ length (encode_utf8_all before)
-
 -- the same fault, at the opening bracket where it had no place
 abbrev pub PlacedAtBracket : Seen → Error → Error → Type 0
 PlacedAtBracket s own e = PlacedAt (StartsAfter s.reader.input s.start) own e
@@ -162,11 +156,6 @@ abbrev pub begins_close : Brackets → Bool → ℕ → Bool
 begins_close b due c = (c == b.closing) || (due && (c == comma_sign))
 
 -- ---- what is refused
-
--- at the end, without a place, or at any other character that stands there
-pub data Unexpected (ends differs : ErrorCode) : List ℕ → Option ErrorCode → Option (List ℕ) → Type 0 where
-  at_end : Unexpected ends differs [] (Some ends) None
-  at_char : (c : ℕ) (r : List ℕ) → Unexpected ends differs (c ∷ r) (Some differs) (Some [])
 
 -- where an opening bracket is expected, and so many are open: none, or one too many
 pub data NotOpened (b : Brackets) (level : ℕ) : List ℕ → Option ErrorCode → Option (List ℕ) → Type 0 where

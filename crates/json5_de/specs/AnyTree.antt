@@ -1,8 +1,7 @@
 -- What is read where a value of any kind stands, and what is refused there.
-use Rattle.std.specs.Prelude.{◌≡◌, ◌⊎◌, ◌-◌, ◌==◌, ◌||◌, ℕ, Bool, false, Option, Some, Result}
+use Rattle.std.specs.Prelude.{◌≡◌, ◌⊎◌, ◌-◌, ℕ, Bool, false, Option, Some, Result}
 use Rattle.json5_grammar.specs.declared.code.ErrorCode.TheVariants as codes
 use Rattle.json5_grammar.specs.Documents.{max_depth}
-use Rattle.json5_grammar.specs.Fronts.{of_array, of_object, opening}
 use Rattle.json5_grammar.specs.Reading.{Place, bad, IsAt}
 use Rattle.json5_grammar.specs.ReadValues.{read}
 use Rattle.json5_grammar.specs.Refusals.{BlamesValue}
@@ -12,7 +11,7 @@ use Rattle.json5_text.specs.Cursor.{Refused, IsOutOfMemory}
 use Rattle.json5_de.specs.State.{State, cursor_of}
 use Rattle.json5_de.specs.Law.{ReadsValue}
 use Rattle.json5_de.specs.Faults.{FaultRelation, RefusedByOr, EndsWithOr, DiffersWithOr}
-use Rattle.json5_de.specs.Scalars.{is_scalar_kind, kind_at}
+use Rattle.json5_value.specs.Kinds.{begins_value}
 
 -- the fault of the value in front, so many brackets being open before it: an end has the place of the innermost bracket that the
 -- value opens
@@ -36,9 +35,6 @@ abbrev pub ReadsTree : {V C : Type 0} → (V → C) → (Tree → Option C) → 
 ReadsTree content convert free old new result = ReadsValue content convert free (λ (s : State) e t. RefusesTree s e) old new result
 
 -- the code at the end, and that at a character that begins no value
-abbrev pub begins_value : ℕ → Bool
-begins_value c = (c == opening of_array) || ((c == opening of_object) || is_scalar_kind (kind_at c))
-
 abbrev pub TellsTreesApart : {V C : Type 0} → (V → C) → (Tree → Option C) → (Tree → Bool) → Type 0
 TellsTreesApart {V = V} content convert free =
     (old new : State) (result : Result V Error) → ReadsTree content convert free old new result

@@ -7,7 +7,7 @@ use Rattle.std.specs.Result.{result_ok}
 use Rattle.std.specs.Str.{bytes_eq, encode_utf8_all}
 use Rattle.hex.specs.Hex.{decode_of}
 use Rattle.json5_grammar.specs.Numbers.{Number, Decimal, whole, decimal, finite, without_zeros, normal_exponent}
-use Rattle.json5_grammar.specs.Trees.{Tree, null, boolean, number, text}
+use Rattle.json5_grammar.specs.Trees.{Tree, null, boolean, number, text, array, object}
 use Rattle.json5_text.specs.ValueViews.{Datum}
 pub use Rattle.json5_value.specs.Data.{datum_of, items_of, fields_of}
 
@@ -122,6 +122,5 @@ byte_buf_of = as_text digits_bytes
 
 -- ---- values of any kind
 
--- what a tree stands for, without the marks
 abbrev pub every_datum : Tree → Option Datum
 every_datum t = Some (datum_of t)

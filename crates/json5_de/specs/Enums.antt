@@ -16,12 +16,12 @@ use Rattle.json5_de.specs.Law.{IsOkOrMemory, TookValue, Unprompted}
 use Rattle.json5_de.specs.Convert.{unit_of, place_among}
 use Rattle.json5_de.specs.ConvertLists.{if_some}
 use Rattle.json5_de.specs.Own.{if_more}
-use Rattle.json5_de.specs.Options.{PlacedAt}
+use Rattle.json5_value.specs.Places.{PlacedAt, StartsAfter}
 use Rattle.json5_de.specs.Steps.{PassedGap, IsMismatch}
 use Rattle.json5_de.specs.Faults.{RefusedBy, RefusedByOrMemory, NotText, IsUnplaced, EndsWith, DiffersWith}
-use Rattle.json5_de.specs.declared.brackets.Brackets.{Brackets}
-use Rattle.json5_de.specs.Brackets.{square, curly}
-use Rattle.json5_de.specs.Access.{Seen, IsStart, Opened, NotOpened, Closed, NotClosed, ClosesAs, ClosesArray, ElementsRead, ElementsLeft, StartsAfter}
+use Rattle.json5_value.specs.declared.brackets.Brackets.{Brackets}
+use Rattle.json5_value.specs.Brackets.{square, curly}
+use Rattle.json5_de.specs.Access.{Seen, IsStart, Opened, NotOpened, Closed, NotClosed, ClosesAs, ClosesArray, ElementsRead, ElementsLeft}
 use Rattle.json5_de.specs.Keys.{TookKey}
 use Rattle.json5_de.specs.KeyRows.{NotKey, not_converted}
 use Rattle.json5_de.specs.Objects.{SeenMap, PairsRead, PairsLeft, AfterColon, ClosesMap, bare_map}

@@ -8,6 +8,7 @@ use Rattle.json5_text.specs.declared.error.Error.{Error}
 use Rattle.json5_text.specs.Errors.{code, kind_of, place_of}
 use Rattle.json5_text.specs.Cursor.{IsOutOfMemory}
 use Rattle.json5_de.specs.State.{State, OnlyRead, SameText}
+pub use Rattle.json5_value.specs.Steps.{IsUnprompted}
 
 -- one value of the tree t was read, blanks before it included, and nothing else happened
 pub record TookValue (old : State) (t : Tree) (new : State) : Type 0 where
@@ -41,10 +42,6 @@ StaysFailed old new result = old.failed ≡ true → IsErrAnd result (λ e. (kin
 -- two values that may be given for one text have the same content, and leave the same
 abbrev pub OneAnswer : {V C : Type 0} → (V → C) → (Tree → Option C) → Type 0
 OneAnswer {V = V} content convert = (old new last : State) (v w : V) → Gives content convert old new v → Gives content convert old last w → (content v ≡ content w) × (new ≡ last)
-
--- the fault isn't that of a reader that had failed
-abbrev pub IsUnprompted : Error → Type 0
-IsUnprompted e = kind_of e ≢ code codes.Failed
 
 -- a reader that hasn't failed doesn't say that it has
 abbrev pub Unprompted : {V : Type 0} → State → Result V Error → Type 0

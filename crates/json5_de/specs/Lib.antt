@@ -1,8 +1,6 @@
-pub mod Building
 pub mod State
 pub mod Law
 pub mod Faults
-pub mod Scalars
 pub mod Convert
 pub mod ConvertLists
 pub mod Steps
@@ -28,6 +26,5 @@ pub mod Texts
 pub mod Own
 pub mod Spans
 pub mod AnyTree
-pub mod Passing
 pub mod Enums
 pub mod Variants

@@ -8,7 +8,7 @@ use Rattle.json5_text.specs.declared.error.Error.{Error}
 use Rattle.json5_text.specs.Cursor.{Says, IsOutOfMemory}
 use Rattle.json5_text.specs.Errors.{LacksMemory}
 use Rattle.json5_de.specs.State.{State}
-use Rattle.json5_de.specs.Brackets.{square}
+use Rattle.json5_value.specs.Brackets.{square}
 use Rattle.json5_de.specs.Faults.{RefusedBy, IsUnplaced}
 use Rattle.json5_de.specs.Access.{Seen, Opened, AtClose, NotOpened, NotClosed, ElementsRead, LeavesFewer, IsAtBracket}
 use Rattle.json5_de.specs.Seq.{RefusedAtBracket}

@@ -8,7 +8,7 @@ use Rattle.json5_grammar.specs.Members.{pair_contents}
 use Rattle.json5_text.specs.declared.error.Error.{Error}
 use Rattle.json5_text.specs.Errors.{LacksMemory}
 use Rattle.json5_de.specs.State.{State}
-use Rattle.json5_de.specs.Brackets.{curly}
+use Rattle.json5_value.specs.Brackets.{curly}
 use Rattle.json5_de.specs.Faults.{RefusedBy, IsUnplaced}
 use Rattle.json5_de.specs.Access.{Opened, NotOpened}
 use Rattle.json5_de.specs.Keys.{KeyConversion}

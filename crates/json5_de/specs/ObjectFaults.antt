@@ -8,8 +8,8 @@ use Rattle.json5_grammar.specs.Strings.{is_quote}
 use Rattle.json5_text.specs.declared.error.Error.{Error}
 use Rattle.json5_text.specs.Errors.{FaultKind, code, custom, failed_write, kind_of, place_of}
 use Rattle.json5_de.specs.State.{State}
-use Rattle.json5_de.specs.Options.{PlacedAt}
-use Rattle.json5_de.specs.Brackets.{curly}
+use Rattle.json5_value.specs.Places.{PlacedAt}
+use Rattle.json5_value.specs.Brackets.{curly}
 use Rattle.json5_de.specs.Faults.{AfterBlanks, RefusedBy}
 use Rattle.json5_de.specs.Access.{AtClose, is_comma_or_closing}
 use Rattle.json5_de.specs.Seq.{AtMember, NoNext, PlacedFault, RefusesCall}

@@ -11,7 +11,7 @@ use Rattle.json5_de.specs.State.{State, OnlyRead, SameText}
 use Rattle.json5_de.specs.Law.{IsOkOrMemory, TookValue}
 use Rattle.json5_de.specs.Keys.{KeyConversion}
 use Rattle.json5_de.specs.ConvertLists.{if_some}
-use Rattle.json5_de.specs.Brackets.{curly}
+use Rattle.json5_value.specs.Brackets.{curly}
 use Rattle.json5_de.specs.Access.{Seen, bare, AtClose, OpensAs, ClosesAs}
 
 -- as of an array, and whether a key was read whose value wasn't

@@ -12,6 +12,7 @@ use Rattle.json5_text.specs.Cursor.{Refused}
 use Rattle.json5_de.specs.State.{State, cursor_of}
 use Rattle.json5_de.specs.Steps.{PassedGap}
 use Rattle.json5_de.specs.Faults.{AfterBlanks, FaultyNull}
+use Rattle.json5_value.specs.Places.{PlacedAt}
 
 -- null is read without memory, and what T reads so
 abbrev pub option_free : (Tree → Bool) → Tree → Bool
@@ -21,13 +22,6 @@ option_free free (number n) = free (number n)
 option_free free (text u plain) = free (text u plain)
 option_free free (array ts) = free (array ts)
 option_free free (object ps) = free (object ps)
-
--- the same fault, which gets this place where it had none: a place of the text before which one of these texts stands
-pub record PlacedAt (IsBefore : List ℕ → Type 0) (own e : Error) : Type 0 where
-  pub kind : kind_of e ≡ kind_of own
-  pub there : Position
-  pub place : place_of e ≡ or_place (place_of own) there
-  pub is_there : (before : List ℕ) → IsBefore before → there ≡ position_after before
 
 -- no T begins: EofParsingValue at the end, and the faults of null at an `n`
 pub data NoOption : List ℕ → Option ErrorCode → Option (List ℕ) → Type 0 where

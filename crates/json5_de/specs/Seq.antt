@@ -11,11 +11,12 @@ use Rattle.json5_text.specs.Tokens.{FaultyBlanks}
 use Rattle.json5_text.specs.declared.error.Error.{Error}
 use Rattle.json5_text.specs.Errors.{code, kind_of}
 use Rattle.json5_de.specs.State.{State, OnlyRead, SameText, cursor_of}
-use Rattle.json5_de.specs.declared.brackets.Brackets.{Brackets}
-use Rattle.json5_de.specs.Brackets.{square}
+use Rattle.json5_value.specs.declared.brackets.Brackets.{Brackets}
+use Rattle.json5_value.specs.Brackets.{square}
 use Rattle.json5_de.specs.Law.{Unprompted}
 use Rattle.json5_de.specs.Faults.{RefusedBy, AtEnd, DiffersWith}
-use Rattle.json5_de.specs.Access.{Seen, AtClose, Unexpected, HasPlace, PlacedAtBracket, IsAtBracket, is_comma_or_closing}
+use Rattle.json5_de.specs.Access.{Seen, AtClose, HasPlace, PlacedAtBracket, IsAtBracket, is_comma_or_closing}
+use Rattle.json5_value.specs.Steps.{Unexpected}
 
 -- y is what stands after the gap in front of x
 pub record IsAfterGap (x y : List ℕ) : Type 0 where

@@ -55,16 +55,6 @@ TookCow old new t = (s u : List ℕ) × (plain : Bool) × TookText old s new × 
 abbrev pub TookCharacters : {A : Type 0} → State → State → String A → Type 0
 TookCharacters old new t = (s : List ℕ) × (plain : Bool) × TookText old s new × Str s (chars (string_bytes t)) plain
 
--- a string, a name or a number was taken, and nothing is kept of it
-abbrev pub PassedString : State → State → Type 0
-PassedString old new = (s u : List ℕ) × (plain : Bool) × TookText old s new × Str s u plain
-
-abbrev pub PassedName : State → State → Type 0
-PassedName old new = (s u : List ℕ) × (plain : Bool) × TookText old s new × Ident s u plain × (c : ℕ) × (r : List ℕ) × (new.unread ≡ c ∷ r) × (goes_on_name c ≡ false)
-
-abbrev pub PassedNumber : State → State → Type 0
-PassedNumber old new = (s : List ℕ) × (n : Number) × TookText old s new × Num s n × NotBegun (lengthens s) new.unread
-
 -- the token in front is refused with one of its faults, or memory ran out
 abbrev pub RefusesToken : FaultRelation → State → Error → Type 0
 RefusesToken IsFault old e = LacksMemory e ⊎ Refused IsFault (cursor_of old) e

@@ -71,21 +71,3 @@ string = record { Took = TookCow; IsFault = FaultyString; Completes = λ x resul
 -- a key
 abbrev pub key : Token KeyText
 key = record { Took = TookKeyText; IsFault = FaultyKey; Completes = λ x result. (s u r : List ℕ) (plain : Bool) → x ≡ s ++ r → Key s r u plain → IfErr result LacksMemory }
-
--- a string, a name or a number of which nothing is kept; only a custom fault takes memory
-abbrev pub string_passed : Token (Unit {0})
-string_passed = record { Took = λ old new v. PassedString old new; IsFault = FaultyString; Completes = λ x result. (s u r : List ℕ) (plain : Bool) → x ≡ s ++ r → Str s u plain → IsOk result }
-
-abbrev pub name_passed : Token (Unit {0})
-name_passed = record {
-  Took = λ old new v. PassedName old new;
-  IsFault = FaultyName;
-  Completes = λ x result. (s u r : List ℕ) (c : ℕ) (plain : Bool) → x ≡ s ++ c ∷ r → Ident s u plain → goes_on_name c ≡ false → IsOk result;
-}
-
-abbrev pub number_passed : Token (Unit {0})
-number_passed = record {
-  Took = λ old new v. PassedNumber old new;
-  IsFault = FaultyNumber;
-  Completes = λ x result. (s r : List ℕ) (n : Number) → x ≡ s ++ r → Num s n → NotBegun (lengthens s) r → IsOk result;
-}

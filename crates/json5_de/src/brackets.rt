@@ -1,4 +1,4 @@
-//! The two kinds of brackets, and what arrays and objects share.
+//! What arrays and objects share: their brackets, and the commas between their elements or pairs.
 
 ghost use Rattle.std.specs.Prelude.{◌≡◌, ◌==◌, false, true, ℕ, List, Some, slice_get, IfOk, IfErr, OnErr, OnOk, IsOk, IsErrAnd};
 ghost use Rattle.json5_grammar.specs.declared.code.ErrorCode.TheVariants as codes;
@@ -7,74 +7,17 @@ ghost use Rattle.json5_grammar.specs.Members.{IsEnd};
 ghost use Rattle.json5_de.specs.State.{SameText, GivesUp};
 ghost use Rattle.json5_de.specs.Faults.{RefusedBy, IsUnplaced};
 ghost use Rattle.json5_de.specs.Law.{Steady};
-ghost use Rattle.json5_de.specs.Brackets.{brackets_of};
+ghost use Rattle.json5_value.specs.Brackets.{brackets_of};
 
 use crate::de::Deserializer;
 use json5_text::ErrorCode;
 use json5_text::error::{Error, Result};
 use json5_text::input::Input;
-
-/// A kind of brackets.
-#[derive(Clone, Copy, Drop)]
-pub(crate) enum BracketKind {
-    Array,
-    Object,
-}
-
-/// The brackets of a kind, and the codes of what is refused round them.
-#[derive(Clone, Copy, Drop)]
-pub struct Brackets {
-    /// What opens.
-    pub opening: char,
-    /// What closes.
-    pub closing: char,
-    /// Where the text ends.
-    pub ends: ErrorCode,
-    /// At another character than the opening one.
-    pub not_opened: ErrorCode,
-    /// At another character than the closing one.
-    pub not_closed: ErrorCode,
-}
-
-impl BracketKind {
-    /// Its brackets.
-    pub(crate) fn brackets(self) -> Brackets
-        ensures { result ≡ brackets_of self }
-    {
-        match self {
-            BracketKind::Array => Brackets {
-                opening: '[',
-                closing: ']',
-                ends: ErrorCode::EofParsingArray,
-                not_opened: ErrorCode::ExpectedOpeningBracket,
-                not_closed: ErrorCode::ExpectedClosingBracket,
-            },
-            BracketKind::Object => Brackets {
-                opening: '{',
-                closing: '}',
-                ends: ErrorCode::EofParsingObject,
-                not_opened: ErrorCode::ExpectedOpeningBrace,
-                not_closed: ErrorCode::ExpectedClosingBrace,
-            },
-        }
-    }
-}
+use json5_value::brackets::BracketKind;
 
 impl<I: Input> Deserializer<I> {
     ghost use Rattle.json5_de.specs.Access.{Closed, OpensAs, NotClosed};
-    ghost use Rattle.json5_de.specs.Seq.{IsUnexpected, TakesClosing, GoesOn, NothingNext, NoNext};
-
-    /// Refuses what is next: `differs` at the character, or `ends` at the end, without a place.
-    pub(crate) fn unexpected(&mut self, ends: ErrorCode, differs: ErrorCode) -> Error
-        ensures { IsUnexpected ends differs self.old self.new result }
-    {
-        let error = match self.peek() {
-            Some(_) => Error::new_at(self.position_of(self.offset()), differs),
-            None => Error::new(ends),
-        };
-        self.set_failed(true);
-        error
-    }
+    ghost use Rattle.json5_de.specs.Seq.{TakesClosing, GoesOn, NothingNext, NoNext};
 
     /// Takes an opening bracket, and gives the count of bytes before it.
     pub(crate) fn open(&mut self, kind: BracketKind) -> Result<usize>

@@ -7,10 +7,13 @@ ghost use Rattle.json5_text.specs.Cursor.{IsPlaced, IsOffset, Locates};
 ghost use Rattle.json5_grammar.specs.Documents.{max_depth};
 ghost use Rattle.json5_grammar.specs.declared.code.ErrorCode.TheVariants as codes;
 ghost use Rattle.json5_value.specs.Keeping.{OwnsKey, ReadsDatum};
+ghost use Rattle.json5_value.specs.Kinds.{word_of, ends_of, differs_of};
+ghost use Rattle.json5_value.specs.Places.{PlacedAt, StartsAfter};
 ghost use Rattle.json5_value.specs.Skipping.{Skips};
 ghost use Rattle.json5_de.specs.State.{State, SameText, Calls, GivesUpWith, cursor_of, next, at_start};
 ghost use Rattle.json5_de.specs.Faults.{IsUnplaced};
 ghost use Rattle.json5_de.specs.Law.{Gives, Completes, CompletesFree, Unprompted};
+ghost use Rattle.json5_de.specs.Seq.{IsUnexpected};
 ghost use Rattle.json5_de.specs.Steps.{Eats, IsCount, IsMismatch};
 ghost use Rattle.json5_de.specs.KeySteps.{SpellsKey, SpellsCow};
 ghost use Rattle.json5_de.specs.Takes as tokens;
@@ -27,6 +30,8 @@ use json5_text::number::Number;
 use json5_text::scanner::Scanner;
 use json5_text::value::Value;
 use json5_text::{ErrorCode, Position};
+use json5_value::faults::{fault_here, place_at, unexpected_here};
+use json5_value::kinds::{Literal, skip_literal};
 use json5_value::read::read_value;
 use json5_value::skip::skip_value;
 use json5_value::tokens::key_owned;
@@ -157,11 +162,11 @@ impl<I: Input> Deserializer<I> {
         }
     }
 
-    /// Takes the word in front.
-    pub(crate) fn word(&mut self, word: &str, ends: ErrorCode, differs: ErrorCode) -> Result<()>
-        ensures { PassesWord (chars word.now) ends differs self.old self.new result }
+    /// Takes the literal in front.
+    pub(crate) fn literal(&mut self, literal: Literal) -> Result<()>
+        ensures { PassesWord (word_of literal) (ends_of literal) (differs_of literal) self.old self.new result }
     {
-        match self.scanner.word(word, ends, differs) {
+        match skip_literal(&mut self.scanner, literal) {
             Ok(()) => Ok(()),
             Err(e) => self.refuse(e),
         }
@@ -188,32 +193,12 @@ impl<I: Input> Deserializer<I> {
         }
     }
 
-    /// Takes the string in front, without its text. Only a custom fault takes memory.
-    pub(crate) fn skip_string(&mut self) -> Result<()>
-        ensures { Takes tokens.string_passed self.old self.new result }
+    /// Passes over the value in front.
+    pub(crate) fn skip_value(&mut self) -> Result<()>
+        ensures { Calls (Skips (max_depth - self.old.level)) self.old self.new result }
     {
-        match self.scanner.skip_string() {
+        match skip_value(&mut self.scanner, 128 - self.level) {
             Ok(()) => Ok(()),
-            Err(e) => self.refuse(e),
-        }
-    }
-
-    /// Takes the name in front, without its text. Only a custom fault takes memory.
-    pub(crate) fn skip_identifier(&mut self) -> Result<()>
-        ensures { Takes tokens.name_passed self.old self.new result }
-    {
-        match self.scanner.skip_identifier() {
-            Ok(()) => Ok(()),
-            Err(e) => self.refuse(e),
-        }
-    }
-
-    /// Takes the number in front, without its digits. Only a custom fault takes memory.
-    pub(crate) fn skip_number(&mut self) -> Result<()>
-        ensures { Takes tokens.number_passed self.old self.new result }
-    {
-        match self.scanner.skip_number() {
-            Ok(_) => Ok(()),
             Err(e) => self.refuse(e),
         }
     }
@@ -224,16 +209,6 @@ impl<I: Input> Deserializer<I> {
     {
         match read_value(&mut self.scanner, 128 - self.level) {
             Ok(value) => Ok(value),
-            Err(e) => self.refuse(e),
-        }
-    }
-
-    /// Passes over the value in front.
-    pub(crate) fn skip_value(&mut self) -> Result<()>
-        ensures { Calls (Skips (max_depth - self.old.level)) self.old self.new result }
-    {
-        match skip_value(&mut self.scanner, 128 - self.level) {
-            Ok(()) => Ok(()),
             Err(e) => self.refuse(e),
         }
     }
@@ -267,8 +242,22 @@ impl<I: Input> Deserializer<I> {
         ensures kind { kind_of result ≡ FaultKind.code code }
         ensures placed { IsPlaced (cursor_of self.now) (Some []) result }
     {
-        let offset = self.offset();
-        Error::new_at(self.scanner.position_of(offset), code)
+        fault_here(&self.scanner, code)
+    }
+
+    /// Refuses what is next: `differs` at the character, or `ends` at the end, without a place.
+    pub(crate) fn unexpected(&mut self, ends: ErrorCode, differs: ErrorCode) -> Error
+        ensures { IsUnexpected ends differs self.old self.new result }
+    {
+        self.failed = true;
+        unexpected_here(&self.scanner, ends, differs)
+    }
+
+    /// The fault, at the offset where it has no place.
+    pub(crate) fn place_at(&self, start: usize, error: Error) -> Error
+        ensures { PlacedAt (StartsAfter self.now.input start) error result }
+    {
+        place_at(&self.scanner, start, error)
     }
 
     /// Takes the blanks at the end of the text, comments included; nothing else may be left. Else a comment's fault,

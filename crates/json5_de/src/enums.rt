@@ -8,13 +8,12 @@ ghost use Rattle.json5_grammar.specs.Members.{ReadsKey, IsBrace};
 ghost use Rattle.json5_de.specs.State.{GivesUp};
 ghost use Rattle.json5_de.specs.Convert.{spelled, place_among};
 ghost use Rattle.json5_de.specs.Faults.{IsUnplaced};
-ghost use Rattle.json5_de.specs.Brackets.{brackets_of};
+ghost use Rattle.json5_value.specs.Brackets.{brackets_of};
 ghost use Rattle.json5_de.specs.Access.{ClosesAs};
 ghost use Rattle.json5_de.specs.Rows.{RefusedAs, null_row, every_tree};
 ghost use Rattle.json5_de.specs.Enums.{NamesVariant, ReadsVariant, ReadsOnlyKey, ReadsKeyed, ReadsInBrace, ClosesLast, ClosesContent, OpensContent, OpensTuple, OpensStruct, content_of, unit_content, content_free, is_left_brace};
 ghost use Rattle.json5_grammar.specs.Strings.{is_quote};
 
-use crate::brackets::BracketKind;
 use crate::de::{Deserialize, Deserializer};
 use crate::ending::InVariant;
 use crate::map::MapAccess;
@@ -24,6 +23,7 @@ use json5_text::ErrorCode;
 use json5_text::error::Result;
 use json5_text::input::Input;
 use json5_text::strings::is_quote;
+use json5_value::brackets::BracketKind;
 
 /// A variant whose name was read, and whose content is to be read: by one of the four calls that take the access. The reader answers
 /// `Failed` until then, and for good where the access is dropped or leaked.

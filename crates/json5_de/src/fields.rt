@@ -12,7 +12,7 @@ ghost use Rattle.json5_de.specs.Lending.{seen_map, KeepsMap};
 
 use crate::de::Deserialize;
 use crate::ending::Ending;
-use crate::ignored::IgnoredAny;
+use crate::any::IgnoredAny;
 use crate::map::MapAccess;
 use json5_text::ErrorCode;
 use json5_text::error::{Error, Result};

@@ -7,7 +7,7 @@ ghost use Rattle.json5_de.specs.Options.{RefusesLive};
 ghost use Rattle.json5_de.specs.Keys.{ReadsOneKey};
 ghost use Rattle.json5_de.specs.KeyRows.{ReadsKeyAs, string_key, char_key, plain_key, cow_key, some_of};
 
-use crate::ignored::IgnoredAny;
+use crate::any::IgnoredAny;
 use crate::key::{DeserializeKey, MapKey};
 use json5_text::byte_buf::ByteBuf;
 use json5_text::cow_str::CowStr;

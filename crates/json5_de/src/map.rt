@@ -10,14 +10,14 @@ ghost use Rattle.json5_text.specs.Errors.{kind_of};
 ghost use Rattle.json5_de.specs.State.{GivesUp};
 ghost use Rattle.json5_de.specs.Law.{Steady};
 ghost use Rattle.json5_de.specs.Faults.{RefusedBy};
-ghost use Rattle.json5_de.specs.Brackets.{curly};
-ghost use Rattle.json5_de.specs.Access.{bare, StartsAfter, PlacedAtBracket, CompletesClose};
+ghost use Rattle.json5_value.specs.Brackets.{curly};
+ghost use Rattle.json5_de.specs.Access.{bare, PlacedAtBracket, CompletesClose};
+ghost use Rattle.json5_value.specs.Places.{StartsAfter};
 ghost use Rattle.json5_de.specs.Objects.{AfterColon, bare_map, OpensMap, GivesPairKey, GivesPairValue, CompletesPairKey, CompletesPairValue, ReadsPairKey, ReadsPairValue, PairsLeft, ReadsAKey, ReadsAPair, LeavesAValue, LeavesOthers};
 ghost use Rattle.json5_de.specs.Enums.{EndsObject};
 ghost use Rattle.json5_de.specs.ObjectFaults as faults;
 ghost use Rattle.json5_de.specs.ObjectFaults.{BeginsKey, GoesToKey, NoColon, NoKey, PlacedAtKey, is_unplaced, RefusesPairKey, RefusesPairValue, RefusesNextKey, RefusesNextValue};
 
-use crate::brackets::BracketKind;
 use crate::de::{Deserialize, Deserializer};
 use crate::ending::{Alone, Ending};
 use crate::key::DeserializeKey;
@@ -25,6 +25,7 @@ use json5_text::char::is_json5_identifier_start;
 use json5_text::error::{Error, Result};
 use json5_text::input::Input;
 use json5_text::{ErrorCode, Position};
+use json5_value::brackets::BracketKind;
 
 /// The pairs of an object, one after another: a key, then its value. The reader answers `Failed` until `end`, and for good where
 /// the access is dropped or leaked before.

@@ -6,19 +6,19 @@ ghost use Rattle.json5_grammar.specs.declared.code.ErrorCode.TheVariants as code
 ghost use Rattle.json5_grammar.specs.Trees.{Trees};
 ghost use Rattle.json5_text.specs.Cursor.{Locates};
 ghost use Rattle.json5_de.specs.State.{SameText};
-ghost use Rattle.json5_de.specs.Brackets.{square};
+ghost use Rattle.json5_value.specs.Brackets.{square};
 ghost use Rattle.json5_de.specs.Law.{Steady, Unprompted};
 ghost use Rattle.json5_de.specs.Access.{bare, OpensArray, GivesElement, CompletesElement, ReadsElement, CompletesClose, PlacedAtBracket, ElementsLeft, ReadsMore, LeavesFewer};
 ghost use Rattle.json5_de.specs.Enums.{EndsArray};
 ghost use Rattle.json5_de.specs.Lists.{IsTooShort, LeavesRequired, RefusesRequired};
 ghost use Rattle.json5_de.specs.Seq.{RefusesElement, RefusesNext};
 
-use crate::brackets::BracketKind;
 use crate::de::{Deserialize, Deserializer};
 use crate::ending::{Alone, Ending};
 use json5_text::error::{Error, Result};
 use json5_text::input::Input;
 use json5_text::{ErrorCode, Position};
+use json5_value::brackets::BracketKind;
 use std::alloc::Global;
 
 /// The elements of an array, one after another. The reader answers `Failed` until `end`, and for good where the access is

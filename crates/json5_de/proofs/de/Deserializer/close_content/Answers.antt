@@ -1,5 +1,5 @@
 use Rattle.json5_de.proofs.VariantEnds.{content_ended, content_not_ended}
-use Rattle.json5_de.specs.Brackets.{brackets_of}
+use Rattle.json5_value.specs.Brackets.{brackets_of}
 use Rattle.json5_de.proofs.Pairs.{signs_of}
 use Rattle.json5_de.proofs.de.Deserializer.close_content.Goals as goal
 

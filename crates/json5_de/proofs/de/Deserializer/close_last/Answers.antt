@@ -2,7 +2,7 @@ use Rattle.std.proofs.Common.{◌∙◌}
 use Rattle.json5_de.proofs.Arrays.{failed_of}
 use Rattle.json5_de.proofs.OpenClose.{closes, refuses_closing}
 use Rattle.json5_de.proofs.Taken.{input_of}
-use Rattle.json5_de.specs.Brackets.{brackets_of}
+use Rattle.json5_value.specs.Brackets.{brackets_of}
 use Rattle.json5_de.proofs.Pairs.{signs_of}
 use Rattle.json5_de.proofs.de.Deserializer.close_last.Goals as goal
 

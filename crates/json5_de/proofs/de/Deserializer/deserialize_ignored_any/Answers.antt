@@ -1,7 +1,7 @@
 use Rattle.std.proofs.lemmas.Result.{err_from_is_err_and}
 use Rattle.json5_de.specs.AnyTree.{nothing, every_value}
 use Rattle.json5_de.specs.Rows.{every_tree}
-use Rattle.json5_de.proofs.PassingTrees.{tree_not_begun, tree_result}
+use Rattle.json5_de.proofs.TreesRead.{tree_not_begun, tree_result}
 use Rattle.json5_de.proofs.de.Deserializer.deserialize_ignored_any.Goals as goal
 
 pub returns-in_err-begin : goal.returns-in_err-begin

@@ -10,7 +10,7 @@ use Rattle.json5_de.specs.Steps.{TookText}
 use Rattle.json5_de.proofs.Expected.{end_fault, wrongly_refused}
 use Rattle.json5_de.proofs.Expects.{expects_null}
 use Rattle.json5_de.proofs.Taken.{took_leaf, refused_blanks, refused_token, null_stops, chars_null}
-use Rattle.json5_de.proofs.Places.{none_next, some_next}
+use Rattle.json5_value.proofs.Steps.{none_next, some_next}
 use Rattle.json5_de.proofs.Rows.{given_up, gives_up}
 use Rattle.json5_de.proofs.Options.{expects_nothing, blanks_no_value, end_next, value_no_end, null_next, null_not_next, option_some, null_unit, took_after, reads_option, refuses_option, refuses_some, missing_there, null_there, other_sign}
 use Rattle.json5_de.proofs.de.Deserializer.deserialize_option.Goals as goal

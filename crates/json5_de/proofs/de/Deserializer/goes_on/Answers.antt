@@ -7,7 +7,7 @@ use Rattle.json5_de.proofs.Places.{refused_as, refused_after}
 use Rattle.json5_de.proofs.OtherCodes.{next_lacks}
 use Rattle.json5_de.proofs.Rows.{refused_other}
 use Rattle.json5_de.proofs.Arrays.{failed_of, after_gap_of, no_next, nowhere_next, nowhere_faulty, nowhere_after, goes_after}
-use Rattle.json5_de.specs.Brackets.{brackets_of}
+use Rattle.json5_value.specs.Brackets.{brackets_of}
 use Rattle.json5_de.proofs.Pairs.{signs_of}
 use Rattle.json5_de.proofs.de.Deserializer.goes_on.Goals as goal
 

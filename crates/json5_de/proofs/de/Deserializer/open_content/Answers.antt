@@ -1,6 +1,6 @@
 use Rattle.json5_de.specs.Lending.{seen_named}
 use Rattle.json5_de.proofs.VariantEnds.{content_not_opened}
-use Rattle.json5_de.specs.Brackets.{brackets_of}
+use Rattle.json5_value.specs.Brackets.{brackets_of}
 use Rattle.json5_de.proofs.de.Deserializer.open_content.Goals as goal
 
 pub returns-in-Err-clause-opens : goal.returns-in-Err-clause-opens

@@ -1,4 +1,4 @@
-use Rattle.json5_de.specs.Brackets.{curly}
+use Rattle.json5_value.specs.Brackets.{curly}
 use Rattle.json5_de.proofs.Arrays.{no_close_found}
 use Rattle.json5_de.proofs.Pairs.{curly_signs}
 use Rattle.json5_de.proofs.PairCodes.{key_given, key_completes, key_cause, key_kind}

@@ -1,8 +1,8 @@
 use Rattle.std.proofs.Common.{sym, subst, rules}
 use Rattle.json5_text.specs.Cursor.{Refused}
 use Rattle.json5_de.specs.State.{cursor_of}
-use Rattle.json5_de.specs.Access.{Unexpected}
-use Rattle.json5_de.proofs.Places.{refused_end, refused_char}
+use Rattle.json5_value.specs.Steps.{Unexpected}
+use Rattle.json5_value.proofs.Signs.{refused_end, refused_char}
 use Rattle.json5_de.proofs.de.Deserializer.unexpected.Goals as goal
 use Rattle.json5_de.proofs.de.Deserializer.unexpected.Goals.{in-Some, in-None}
 

@@ -1,6 +1,6 @@
 use Rattle.std.proofs.Common.{refl}
 use Rattle.std.proofs.lemmas.Result.{err_from_is_err_and}
-use Rattle.json5_de.specs.Brackets.{square}
+use Rattle.json5_value.specs.Brackets.{square}
 use Rattle.json5_de.specs.Lending.{seen, seen_enum, held_by_enum}
 use Rattle.json5_de.proofs.Arrays.{failed_of}
 use Rattle.json5_de.proofs.Next.{opened_seen}

@@ -23,12 +23,13 @@ use Rattle.json5_de.proofs.TreeFaults.{as_fault}
 use Rattle.json5_value.specs.Skipping.{Skips}
 use Rattle.json5_de.specs.AnyTree.{ReadingRefuses, RefusedInReading, ReadsTree, nothing, every_value}
 use Rattle.json5_de.specs.Law.{TookValue, StaysFailed, Unprompted}
-use Rattle.json5_de.specs.Passing.{IsReady, StandsAt, Blames, value_at}
+use Rattle.json5_de.specs.Passing.{IsReady, value_at}
+use Rattle.json5_value.specs.Steps.{StandsAt, Blames}
 use Rattle.json5_de.specs.Rows.{every_tree}
 use Rattle.json5_de.specs.State.{State, Calls, cursor_of, OnlyRead, GivesUp}
 use Rattle.json5_de.specs.Steps.{PassedGap}
 use Rattle.json5_de.proofs.Options.{blanks_no_value}
-use Rattle.json5_de.proofs.PassingSteps.{forget_got}
+use Rattle.json5_value.proofs.Steps.{forget_got}
 use Rattle.json5_de.proofs.Taken.{input_of, value_gap, refused_blanks, refused_token}
 
 -- after the blanks the reader is ready

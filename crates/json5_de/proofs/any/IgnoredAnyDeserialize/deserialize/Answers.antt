@@ -2,8 +2,8 @@ use Rattle.std.proofs.Common.{refl}
 use Rattle.std.proofs.lemmas.Result.{err_from_is_err_and}
 use Rattle.json5_de.specs.AnyTree.{nothing, every_value}
 use Rattle.json5_de.specs.Rows.{every_tree}
-use Rattle.json5_de.proofs.PassingTrees.{read_as, refused_as}
-use Rattle.json5_de.proofs.ignored.IgnoredAnyDeserialize.deserialize.Goals as goal
+use Rattle.json5_de.proofs.TreesRead.{read_as, refused_as}
+use Rattle.json5_de.proofs.any.IgnoredAnyDeserialize.deserialize.Goals as goal
 
 pub returns-in_err-deserialize_ignored_any : goal.returns-in_err-deserialize_ignored_any
 returns-in_err-deserialize_ignored_any g c =
