@@ -16,6 +16,7 @@ use Rattle.json5_de.specs.Access.{NotClosed, NoBracket, other_sign, bracket_miss
 use Rattle.json5_de.specs.Seq.{NoNext, no_comma, comma_missing, in_blanks_after}
 use Rattle.json5_de.specs.Options.{NoOption, option_missing, faulty_null}
 use Rattle.json5_grammar.specs.Values.{null_text}
+use Rattle.json5_value.proofs.OtherCodes.{Lacks, in_blanks_other, word_lacks, faulty_number_lacks, faulty_string_lacks}
 
 pub after_lacks : {F : List ℕ → Option ErrorCode → Option (List ℕ) → Type 0} → Lacks F → Lacks (AfterBlanks F)
 after_lacks l x reason place (in_blanks (before, part, shown, fault)) = in_blanks_other fault

@@ -7,24 +7,25 @@ use Rattle.json5_text.specs.declared.error.Error.{Error}
 use Rattle.json5_text.specs.Errors.{code, custom, kind_of}
 use Rattle.json5_text.specs.Cursor.{Cursor, Says, IsOutOfMemory}
 use Rattle.json5_text.specs.Errors.{LacksMemory}
-use Rattle.json5_grammar.specs.Values.{null_text, true_text, false_text, Stops, is_number}
+use Rattle.json5_grammar.specs.Values.{null_text, true_text, false_text, Stops, is_null, is_number}
 use Rattle.json5_de.specs.State.{State, GivesUp}
 use Rattle.json5_text.specs.Cursor.{Refused}
 use Rattle.json5_text.specs.Tokens.{FaultyBlanks, FaultyNumber, FaultyString}
 use Rattle.json5_grammar.specs.Strings.{Str}
 use Rattle.json5_de.specs.State.{cursor_of}
 use Rattle.json5_de.specs.Steps.{PassedGap, TookText, IsMismatch, IsMismatchOf, WholeAt}
+use Rattle.json5_de.specs.Takes.{PassesWord}
 use Rattle.json5_de.specs.Law.{Gives, CompletesFree, StaysFailed, Unprompted}
 use Rattle.json5_grammar.specs.Numbers.{Number, whole, decimal, Num}
 use Rattle.json5_grammar.specs.Trees.{Tree, null, boolean, number, text, array, object}
 use Rattle.json5_de.specs.Convert.{as_whole, as_number, every_decimal, as_text, if_plain, digits_bytes}
 use Rattle.json5_de.specs.Faults.{FaultRelation, AfterBlanks, in_blanks, after_gap, RefusedBy, RefusedByOrMemory, NotNumber, faulty_number, other_number, faulty_text, begins_with}
-use Rattle.json5_de.specs.Rows.{Row, RefusedWith, ReadsAs, EndsWhere, DiffersWhere, TellsApart, every_tree, no_tree, plain_text, null_row, bool_row, whole_row, decimal_row, coded_text_row, text_row, plain_row, bytes_row}
+use Rattle.json5_de.specs.Rows.{Row, RefusedWith, ReadsAs, ReadsNull, EndsWhere, DiffersWhere, TellsApart, every_tree, no_tree, plain_text, null_row, bool_row, whole_row, decimal_row, coded_text_row, text_row, plain_row, bytes_row}
 use Rattle.json5_de.proofs.Expected.{Expected, wrongly_refused, completes_or_memory, ends_from, ends_or_memory, differs_from, differs_or_memory}
 use Rattle.json5_de.proofs.Expects.{expects_null, expects_bool}
 use Rattle.json5_de.proofs.ExpectsNumbers.{expects_number}
 use Rattle.json5_de.proofs.ExpectsTexts.{expects_text}
-use Rattle.json5_de.proofs.Taken.{input_of, refused_blanks, refused_token, took_leaf, refused_or_memory}
+use Rattle.json5_de.proofs.Taken.{input_of, refused_blanks, refused_token, took_leaf, refused_or_memory, null_stops}
 use Rattle.json5_de.proofs.Mismatches.{StartsAt, refused_number, refused_text}
 use Rattle.json5_de.proofs.WithoutMemory.{whole_there, no_other_number, plain_there, no_other_text}
 use Rattle.json5_grammar.specs.Characters.{NotBegun}
@@ -32,7 +33,7 @@ use Rattle.json5_grammar.specs.Stops.{lengthens}
 use Rattle.json5_text.specs.NumberViews.{keeps_digits}
 use Rattle.std.proofs.lemmas.Bool.{false≢true}
 use Rattle.json5_de.proofs.OtherCodes.{after_lacks, number_lacks, text_lacks}
-use Rattle.json5_value.proofs.OtherCodes.{Lacks, in_blanks_other, word_lacks}
+use Rattle.json5_value.proofs.OtherCodes.{Lacks, in_blanks_other, word_lacks, other_says, memory_other}
 use Rattle.json5_grammar.proofs.Basics.{true_false}
 
 -- a kind of value is told apart from all others, and none of its faults is that the reader had failed
@@ -136,6 +137,11 @@ refuses_memory {V = V} {row = row} l m none content old mid new last e s p k is 
 
 pub lawful_null : IsLawful null_row
 lawful_null = record { expected = expects_null; lacks = word_lacks null_text codes.EofParsingNull codes.ExpectedNull (λ e. absurd (cc)) (λ e. absurd (cc)) }
+
+-- null is taken, or refused
+pub null_result : (old mid new : State) (result : Result (Unit {0}) Error) → PassedGap old mid → PassesWord null_text codes.EofParsingNull codes.ExpectedNull mid new result → ReadsNull old new result
+null_result old mid new (Ok u) p k = reads_ok null_row (λ _. tt) old new u (null, took_leaf old mid new null_text null refl p k.taken is_null (null_stops new.unread), refl)
+null_result old mid new (Err e) p k = refuses_after lawful_null (λ _. tt) old mid new e p k.refused k.failed
 
 pub lawful_bool : IsLawful bool_row
 lawful_bool = record { expected = expects_bool; lacks = λ x. word_lacks (if begins_with 0x66 x then false_text else true_text) codes.EofParsingBool codes.ExpectedBool (λ e. absurd (cc)) (λ e. absurd (cc)) x }

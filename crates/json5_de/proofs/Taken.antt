@@ -77,18 +77,6 @@ pub false_stops : (r : List ℕ) → Stops false_text r
 false_stops [] = tt
 false_stops (c ∷ r) = refl
 
-pub chars_null : chars null_text ≡ null_text
-unfolding chars
-chars_null = refl
-
-pub chars_true : chars true_text ≡ true_text
-unfolding chars
-chars_true = refl
-
-pub chars_false : chars false_text ≡ false_text
-unfolding chars
-chars_false = refl
-
 first_is : (c : ℕ) (x : List ℕ) → option_eq ◌==◌ (slice_get x 0) (Some c) ≡ begins_with c x
 first_is c [] = refl
 first_is c (d ∷ x) = refl

@@ -20,24 +20,26 @@ use Rattle.json5_text.specs.declared.error.Error.{Error}
 use Rattle.json5_text.specs.Cursor.{Refused, Says, IsOutOfMemory}
 use Rattle.json5_text.specs.Tokens.{FaultyBlanks}
 use Rattle.json5_de.proofs.TreeFaults.{as_fault}
+use Rattle.json5_text.specs.declared.value.Value.{Value}
+use Rattle.json5_text.specs.ValueViews.{value_of}
+use Rattle.json5_value.specs.Keeping.{ReadsDatum, BlamesOrMemory, as_datum, datum_at}
 use Rattle.json5_value.specs.Skipping.{Skips}
+use Rattle.json5_value.specs.Steps.{StandsAt, Blames, value_at}
+use Rattle.json5_value.proofs.BuildTurns.{datum_got}
+use Rattle.json5_value.proofs.OtherCodes.{memory_other}
+use Rattle.json5_value.proofs.Steps.{blames_as, forget_got}
+use Rattle.json5_de.specs.Convert.{every_datum}
 use Rattle.json5_de.specs.AnyTree.{ReadingRefuses, RefusedInReading, ReadsTree, nothing, every_value}
 use Rattle.json5_de.specs.Law.{TookValue, StaysFailed, Unprompted}
-use Rattle.json5_de.specs.Passing.{IsReady, value_at}
-use Rattle.json5_value.specs.Steps.{StandsAt, Blames}
-use Rattle.json5_de.specs.Rows.{every_tree}
+use Rattle.json5_de.specs.Rows.{every_tree, no_tree}
 use Rattle.json5_de.specs.State.{State, Calls, cursor_of, OnlyRead, GivesUp}
 use Rattle.json5_de.specs.Steps.{PassedGap}
 use Rattle.json5_de.proofs.Options.{blanks_no_value}
-use Rattle.json5_value.proofs.Steps.{forget_got}
 use Rattle.json5_de.proofs.Taken.{input_of, value_gap, refused_blanks, refused_token}
 
--- after the blanks the reader is ready
-pub ready_passed : (old mid : State) → PassedGap old mid → (before : List ℕ) × (mid.input ≡ before ++ mid.unread) → IsReady mid
-ready_passed old mid p (before, split) =
-    let same = ap (λ (s : State). s.level) p.rest in
-    let low = p.shallow in
-    record { live = ap (λ (s : State). s.failed) p.rest ∙ p.live; shallow = omega (arith, low, same); before = before; inside = split }
+-- what the value in front is read as, its tree forgotten
+abbrev whole_at : State → Read (Unit {0})
+whole_at s = value_at (max_depth - s.level) (cursor_of s)
 
 -- ---- read
 
@@ -77,11 +79,11 @@ forget_bad {A = A} (bad d q) c p e = let a : d ≡ c = cc in let b : q ≡ p = c
     renamed m is a b = subst (λ z. m ≡ bad z p) a (subst (λ z. m ≡ bad d z) b is)
 
 -- what can be read isn't refused
-readable : (old mid : State) (e : Error) (t : Tree) (r : List ℕ) → PassedGap old mid → Reads old.unread t r → old.level + depth t ≤ max_depth → Blames mid.input (value_at mid) e → ⊥
+readable : (old mid : State) (e : Error) (t : Tree) (r : List ℕ) → PassedGap old mid → Reads old.unread t r → old.level + depth t ≤ max_depth → Blames mid.input (whole_at mid) e → ⊥
 readable old mid e t r p reads low b =
     let same = ap (λ (s : State). s.level) p.rest in
     let found = phrase_found old.unread p.gap mid.unread r t p.split p.is_gap p.solid reads in
-    let whole : value_at mid ≡ got tt r = ap (λ x. forget (read (max_depth - mid.level) x)) found ∙ ap forget (read_complete reads.value r reads.stops (max_depth - mid.level) (omega (arith, low, same))) in
+    let whole : whole_at mid ≡ got tt r = ap (λ x. forget (read (max_depth - mid.level) x)) found ∙ ap forget (read_complete reads.value r reads.stops (max_depth - mid.level) (omega (arith, low, same))) in
     let clash : got tt r ≡ bad b.reason b.place = sym whole ∙ b.is_bad in
     absurd (cc)
 
@@ -96,7 +98,7 @@ placed_in mid reason (here q) e is says (front, whole, place) (b, split) = recor
 }
 placed_in mid reason inner e is says place k = record { reason = reason; place = None; fault = (inner, is, tt); says = says; placed = place }
 
-blamed : (old mid : State) (e : Error) → PassedGap old mid → Blames mid.input (value_at mid) e → RefusedInReading old e
+blamed : (old mid : State) (e : Error) → PassedGap old mid → Blames mid.input (whole_at mid) e → RefusedInReading old e
 blamed old mid e p b = by_cause b.says
   where
     is : read (max_depth - mid.level) mid.unread ≡ bad b.reason b.place
@@ -108,7 +110,7 @@ blamed old mid e p b = by_cause b.says
         inr (refused_token old mid e p (subst (λ n. Refused (ReadingRefuses n) (cursor_of mid) e) (ap (λ (s : State). s.level) p.rest) (placed_in mid b.reason b.place e is says there (read_place (max_depth - mid.level) mid.unread b.reason b.place is))))
 
 -- the value was refused
-pub tree_refused : {V C : Type 0} (content : V → C) (convert : Tree → Option C) (free : Tree → Bool) (old mid new : State) (e : Error) → PassedGap old mid → Blames mid.input (value_at mid) e → GivesUp mid new → ReadsTree content convert free old new (Err e)
+pub tree_refused : {V C : Type 0} (content : V → C) (convert : Tree → Option C) (free : Tree → Bool) (old mid new : State) (e : Error) → PassedGap old mid → Blames mid.input (whole_at mid) e → GivesUp mid new → ReadsTree content convert free old new (Err e)
 tree_refused content convert free old mid new e p b g = record {
   sound = tt;
   complete = λ t r c live reads shallow is. absurd (readable old mid e t r p reads shallow b);
@@ -160,9 +162,39 @@ refused_as content other convert free old new e k = record {
   before = k.before;
 }
 
--- a value of any kind was passed over, or refused
+-- ---- a value of any kind was passed over, or refused
+
 pub tree_result : (old mid new : State) (result : Result (Unit {0}) Error) → PassedGap old mid → Calls (Skips (max_depth - mid.level)) mid new result → ReadsTree nothing every_value every_tree old new result
 tree_result old mid new (Ok u) p k =
     let (t, e) = forget_got (read (max_depth - mid.level) mid.unread) u new.unread k.call.given.reads in
     tree_read nothing every_value every_tree old mid new t u p e k.read refl
 tree_result old mid new (Err e) p k = tree_refused nothing every_value every_tree old mid new e p k.call.refused k.failed
+
+-- ---- a value of any kind was read, or refused
+
+tree_bad : (m : Read Tree) (c : Option ErrorCode) (p : Place) → as_datum m ≡ bad c p → forget m ≡ bad c p
+tree_bad (got t r) c p e = absurd (cc)
+tree_bad (bad d q) c p e = let a : d ≡ c = cc in let b : q ≡ p = cc in ap (λ z. bad z q) a ∙ ap (λ z. bad c z) b
+
+lacks_memory : (old mid new : State) (e : Error) → PassedGap old mid → IsOutOfMemory e → GivesUp mid new → ReadsTree value_of every_datum no_tree old new (Err e)
+lacks_memory old mid new e p memory g = record {
+  sound = tt;
+  complete = λ t r c live reads shallow is. memory;
+  no_memory = λ t r c live reads shallow is free. absurd (false≢true free);
+  refused = inl memory;
+  unprompted = λ live. memory_other e memory;
+  same_text = g.same_text ∙ input_of p.rest;
+  failed = g.failed;
+  before = λ h. true_false h p.live;
+}
+
+pub datum_result : (old mid new : State) (result : Result Value Error) → PassedGap old mid → Calls (ReadsDatum (max_depth - mid.level)) mid new result → ReadsTree value_of every_datum no_tree old new result
+datum_result old mid new (Ok v) p k =
+    let (t, reads, same) = datum_got (read (max_depth - mid.level) mid.unread) (value_of v) new.unread k.call.given.reads in
+    tree_read value_of every_datum no_tree old mid new t v p reads k.read (ap Some same)
+datum_result old mid new (Err e) p k = by_cause k.call.refused
+  where
+    by_cause : BlamesOrMemory mid.input (datum_at (max_depth - mid.level) (cursor_of mid)) e → ReadsTree value_of every_datum no_tree old new (Err e)
+    by_cause (inl memory) = lacks_memory old mid new e p memory k.failed
+    by_cause (inr b) =
+        tree_refused value_of every_datum no_tree old mid new e p (blames_as mid.input mid.input (datum_at (max_depth - mid.level) (cursor_of mid)) (whole_at mid) e refl (tree_bad (read (max_depth - mid.level) mid.unread)) b) k.failed

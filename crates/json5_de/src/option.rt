@@ -11,6 +11,7 @@ use crate::de::{Deserialize, Deserializer};
 use json5_text::ErrorCode;
 use json5_text::error::{Error, Result};
 use json5_text::input::Input;
+use json5_value::kinds::Literal;
 
 impl<I: Input> Deserializer<I> {
     /// Reads `null` as None, wherever an `n` is next, and anything else as Some of a T. A fault of T without a place gets the
@@ -24,7 +25,7 @@ impl<I: Input> Deserializer<I> {
             return self.refuse(Error::new(ErrorCode::EofParsingValue));
         };
         if next == 'n' {
-            self.word("null", ErrorCode::EofParsingNull, ErrorCode::ExpectedNull)?;
+            self.literal(Literal::Null)?;
             return Ok(None);
         }
         let start = self.offset();

@@ -8,12 +8,12 @@ use crate::de::Deserializer;
 use crate::decimals::same_decimal;
 use crate::integers::{signed, unsigned};
 use crate::mismatch::Mismatch;
-use json5_text::ErrorCode;
 use json5_text::decimal::Decimal;
 use json5_text::error::Result;
 use json5_text::input::Input;
 use json5_text::number::Number;
 use json5_text::whole::Whole;
+use json5_value::kinds::Literal;
 
 impl<I: Input> Deserializer<I> {
     /// Reads `null`. Takes no memory.
@@ -21,8 +21,7 @@ impl<I: Input> Deserializer<I> {
         ensures { ReadsNull self.old self.new result }
     {
         self.begin()?;
-        self.word("null", ErrorCode::EofParsingNull, ErrorCode::ExpectedNull)?;
-        Ok(())
+        self.literal(Literal::Null)
     }
 
     /// Reads `true` or `false`. Takes no memory.
@@ -31,10 +30,10 @@ impl<I: Input> Deserializer<I> {
     {
         self.begin()?;
         if self.peek() == Some('f') {
-            self.word("false", ErrorCode::EofParsingBool, ErrorCode::ExpectedBool)?;
+            self.literal(Literal::False)?;
             return Ok(false);
         }
-        self.word("true", ErrorCode::EofParsingBool, ErrorCode::ExpectedBool)?;
+        self.literal(Literal::True)?;
         Ok(true)
     }
 

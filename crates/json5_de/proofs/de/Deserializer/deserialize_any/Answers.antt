@@ -2,8 +2,7 @@ use Rattle.std.proofs.lemmas.Result.{err_from_is_err_and}
 use Rattle.json5_text.specs.ValueViews.{value_of}
 use Rattle.json5_de.specs.Convert.{every_datum}
 use Rattle.json5_de.specs.Rows.{no_tree}
-use Rattle.json5_de.proofs.BuildingTurns.{any_result}
-use Rattle.json5_de.proofs.TreesRead.{ready_passed, tree_not_begun}
+use Rattle.json5_de.proofs.TreesRead.{tree_not_begun, datum_result}
 use Rattle.json5_de.proofs.de.Deserializer.deserialize_any.Goals as goal
 
 pub returns-in_err-begin : goal.returns-in_err-begin
@@ -11,8 +10,5 @@ returns-in_err-begin g c =
     let (y, is, from) = err_from_is_err_and c.from_residual.result c.from_residual.ensures.1 in
     rw (is, from) (tree_not_begun value_of every_datum no_tree c.args.self.now c.begin.new.self c.in_err-begin.field-0.0 c.in_err-begin.ensures.refused c.in_err-begin.ensures.failed c.in_err-begin.ensures.before c.in_err-begin.ensures.unprompted)
 
-pub take_value-requires : goal.take_value-requires
-take_value-requires g c = ready_passed c.args.self.now c.begin.new.self c.in_ok-begin.ensures.passed c.offset-offset.ensures.suffix
-
 pub returns : goal.returns
-returns g c = any_result c.args.self.now c.begin.new.self c.take_value.new.self c.take_value.result c.in_ok-begin.ensures.passed c.take_value.ensures
+returns g c = datum_result c.args.self.now c.begin.new.self c.read_value.new.self c.read_value.result c.in_ok-begin.ensures.passed c.read_value.ensures

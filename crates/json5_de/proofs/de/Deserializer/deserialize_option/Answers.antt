@@ -9,7 +9,7 @@ use Rattle.json5_de.specs.State.{cursor_of}
 use Rattle.json5_de.specs.Steps.{TookText}
 use Rattle.json5_de.proofs.Expected.{end_fault, wrongly_refused}
 use Rattle.json5_de.proofs.Expects.{expects_null}
-use Rattle.json5_de.proofs.Taken.{took_leaf, refused_blanks, refused_token, null_stops, chars_null}
+use Rattle.json5_de.proofs.Taken.{took_leaf, refused_blanks, refused_token, null_stops}
 use Rattle.json5_value.proofs.Steps.{none_next, some_next}
 use Rattle.json5_de.proofs.Rows.{given_up, gives_up}
 use Rattle.json5_de.proofs.Options.{expects_nothing, blanks_no_value, end_next, value_no_end, null_next, null_not_next, option_some, null_unit, took_after, reads_option, refuses_option, refuses_some, missing_there, null_there, other_sign}
@@ -38,28 +38,28 @@ returns-in_default-clause-reads g c =
     (missing_there c.args.self.now c.begin.new.self c.new.result passed none c.new.ensures.kind c.new.ensures.place) (given_up c.args.self.now c.begin.new.self c.refuse.new.self passed (gives_up c.begin.new.self c.refuse.new.self c.refuse.ensures.state)) (λ h. absurd (true_false h passed.live))
     (λ t r live reads. value_no_end c.args.self.now c.begin.new.self t r passed none reads))
 
-pub returns-in_err-word-clause-reads : goal.returns-in_err-word-clause-reads
-returns-in_err-word-clause-reads g c =
-    let (y, is, from) = err_from_is_err_and c.from_residual-in_err-word.result c.from_residual-in_err-word.ensures.1 in
-    let e = c.in_err-word.field-0.0 in
+pub returns-in_err-literal-clause-reads : goal.returns-in_err-literal-clause-reads
+returns-in_err-literal-clause-reads g c =
+    let (y, is, from) = err_from_is_err_and c.from_residual-in_err-literal.result c.from_residual-in_err-literal.ensures.1 in
+    let e = c.in_err-literal.field-0.0 in
     let passed = c.in_ok-begin.ensures.passed in
     let (m, next) = some_next c.begin.new.self.unread c.in-Some.next (sym c.peek.ensures ∙ c.in-Some.is) in
     let n = next ∙ ap (λ k. k ∷ m) c.if-next-eq110.true in
-    let faulty = subst (λ s. Refused (FaultyWord s codes.EofParsingNull codes.ExpectedNull) (cursor_of c.begin.new.self) e) chars_null c.in_err-word.ensures.refused in
-    rw (is, from) (refuses_option g.T.Deserialize.content g.T.Deserialize.convert g.T.Deserialize.free g.T.Deserialize.refuses c.args.self.now c.word.new.self e
-    (null_there c.args.self.now c.begin.new.self e m passed n faulty) (given_up c.args.self.now c.begin.new.self c.word.new.self passed c.in_err-word.ensures.failed) (λ h. absurd (true_false h passed.live))
+    let faulty = c.in_err-literal.ensures.refused in
+    rw (is, from) (refuses_option g.T.Deserialize.content g.T.Deserialize.convert g.T.Deserialize.free g.T.Deserialize.refuses c.args.self.now c.literal.new.self e
+    (null_there c.args.self.now c.begin.new.self e m passed n faulty) (given_up c.args.self.now c.begin.new.self c.literal.new.self passed c.in_err-literal.ensures.failed) (λ h. absurd (true_false h passed.live))
     (λ t r live reads. wrongly_refused expects_null c.args.self.now e t r tt live reads (null_unit t (null_next c.args.self.now c.begin.new.self t m r passed n reads)) (refused_token c.args.self.now c.begin.new.self e passed faulty)))
 
-pub returns-in_err-word-clause-ends : goal.returns-in_err-word-clause-ends
-returns-in_err-word-clause-ends g c = λ at.
+pub returns-in_err-literal-clause-ends : goal.returns-in_err-literal-clause-ends
+returns-in_err-literal-clause-ends g c = λ at.
     let (m, next) = some_next c.begin.new.self.unread c.in-Some.next (sym c.peek.ensures ∙ c.in-Some.is) in
     absurd (end_next c.args.self.now c.begin.new.self c.in-Some.next m at c.in_ok-begin.ensures.passed next)
 
 pub returns-then-next-eq110-clause-reads : goal.returns-then-next-eq110-clause-reads
 returns-then-next-eq110-clause-reads g c =
-    let taken = subst (λ s. TookText c.begin.new.self s c.word.new.self) chars_null c.in_ok-word.ensures.taken in
-    reads_option g.T.Deserialize.content g.T.Deserialize.convert g.T.Deserialize.free g.T.Deserialize.refuses c.args.self.now c.word.new.self _
-    (null, took_leaf c.args.self.now c.begin.new.self c.word.new.self null_text null refl c.in_ok-begin.ensures.passed taken is_null (null_stops c.word.new.self.unread), refl)
+    let taken = c.in_ok-literal.ensures.taken in
+    reads_option g.T.Deserialize.content g.T.Deserialize.convert g.T.Deserialize.free g.T.Deserialize.refuses c.args.self.now c.literal.new.self _
+    (null, took_leaf c.args.self.now c.begin.new.self c.literal.new.self null_text null refl c.in_ok-begin.ensures.passed taken is_null (null_stops c.literal.new.self.unread), refl)
 
 pub returns-then-next-eq110-clause-ends : goal.returns-then-next-eq110-clause-ends
 returns-then-next-eq110-clause-ends g c = λ at.
