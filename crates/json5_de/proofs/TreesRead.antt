@@ -25,7 +25,7 @@ use Rattle.json5_text.specs.ValueViews.{value_of}
 use Rattle.json5_value.specs.Keeping.{ReadsDatum, BlamesOrMemory, as_datum, datum_at}
 use Rattle.json5_value.specs.Skipping.{Skips}
 use Rattle.json5_value.specs.Steps.{StandsAt, Blames, value_at}
-use Rattle.json5_value.proofs.BuildTurns.{datum_got}
+use Rattle.json5_value.proofs.BuildScalars.{datum_got}
 use Rattle.json5_value.proofs.OtherCodes.{memory_other}
 use Rattle.json5_value.proofs.Steps.{blames_as, forget_got}
 use Rattle.json5_de.specs.Convert.{every_datum}
