@@ -36,10 +36,8 @@ fault reason p = bad reason p
 
 other_kind : (k : ValueKind) → is_scalar_kind k ≡ false → k ≡ kind.Other
 other_kind kind.Other e = refl
-other_kind kind.Null e = absurd (cc)
-other_kind kind.True e = absurd (cc)
-other_kind kind.False e = absurd (cc)
-other_kind kind.Text e = absurd (cc)
+other_kind (kind.Literal l) e = absurd (cc)
+other_kind kind.String e = absurd (cc)
 other_kind kind.Number e = absurd (cc)
 
 other_read : (d c : ℕ) (r : List ℕ) → begins_value c ≡ false → read d (c ∷ r) ≡ bad (Some codes.ExpectedValue) (here (c ∷ r))

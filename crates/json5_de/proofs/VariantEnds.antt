@@ -1,13 +1,11 @@
 -- The content of a variant that is read through an access: how it is opened and closed.
 use Rattle.std.proofs.Common.{◌≡◌, ℕ, Bool, true, false, refl, sym, ◌∙◌, subst, None, Result, Ok, Err}
-use Rattle.json5_grammar.specs.declared.position.Position.{Position}
 use Rattle.json5_grammar.specs.Trees.{array, object, no_pair}
 use Rattle.json5_grammar.specs.Members.{IsBrace}
 use Rattle.json5_grammar.proofs.Basics.{true_false}
 use Rattle.json5_grammar.proofs.MembersPassed.{one_end}
 use Rattle.json5_text.specs.declared.error.Error.{Error}
-use Rattle.json5_text.specs.Errors.{kind_of, place_of, or_place, SaysAt}
-use Rattle.json5_text.specs.Cursor.{IsPositionOf}
+use Rattle.json5_value.specs.Places.{StartsAfter, PlacedAt}
 use Rattle.json5_de.specs.State.{State, GivesUp}
 use Rattle.json5_de.specs.Steps.{IsMismatch}
 use Rattle.json5_value.specs.declared.brackets.Brackets.{Brackets}
@@ -55,12 +53,12 @@ struct_closed brace old new (Err e) k = record { bracket = k; read = tt; left = 
 
 module _ (b : Brackets) (signs : AreSigns b) (due : Bool) (brace : ℕ) (old : State) where
   -- the own bracket isn't there
-  pub content_not_ended : (new : State) (own e : Error) (there : Position) → ClosesLast b due old new (Err own) → SaysAt (kind_of own) (or_place (place_of own) there) e → IsPositionOf new.input brace there → ClosesContent b due brace old new (Err e)
-  content_not_ended new own e there k says at = record {
+  pub content_not_ended : (new : State) (own e : Error) → ClosesLast b due old new (Err own) → PlacedAt (StartsAfter new.input brace) own e → ClosesContent b due brace old new (Err e)
+  content_not_ended new own e k placed = record {
     closed = tt;
     complete = λ x r live end close. let ok = k.closes.complete x live end in absurd (cc);
-    refused = not_ended own k.closes.refused (record { kind = says.kind; there = there; place = says.place; is_there = λ before s. at before s.rest (k.same_text ∙ s.split) s.counted });
-    unprompted = λ live h. k.closes.unprompted live (sym says.kind ∙ h);
+    refused = not_ended own k.closes.refused (subst (λ z. PlacedAt (StartsAfter z brace) own e) k.same_text placed);
+    unprompted = λ live h. k.closes.unprompted live (sym placed.kind ∙ h);
     same_text = k.same_text;
     failed = k.failed;
   }
@@ -96,15 +94,14 @@ module _ (b : Brackets) (old : SeenEnum) where
   pub content_opened : (seen : ℕ → Seen) (start : ℕ) → old.has_content ≡ true → OpensAs b seen old.reader (Ok start) → OpensContent b seen old (Ok start)
   content_opened seen start has o = record { has_content = has; opened = o.opened; start = o.start; complete = λ r h live sign room. refl; refused = tt; unprompted = tt }
 
-  pub content_not_opened : {A : Type 0} (see : A → Seen) (seen : ℕ → Seen) (new : State) (own e : Error) (there : Position) → old.has_content ≡ true → OpensAs b see old.reader (Err own) → GivesUp old.reader new → SaysAt (kind_of own) (or_place (place_of own) there) e
-      → IsPositionOf new.input old.start there → OpensContent b seen old (Err e)
-  content_not_opened see seen new own e there has o failed says at = record {
+  pub content_not_opened : {A : Type 0} (see : A → Seen) (seen : ℕ → Seen) (new : State) (own e : Error) → old.has_content ≡ true → OpensAs b see old.reader (Err own) → GivesUp old.reader new → PlacedAt (StartsAfter new.input old.start) own e → OpensContent b seen old (Err e)
+  content_not_opened see seen new own e has o failed placed = record {
     has_content = tt;
     opened = tt;
     start = tt;
     complete = λ r h live sign room. let ok = o.complete r live sign room in absurd (cc);
-    refused = in_content own new has o.refused (record { kind = says.kind; there = there; place = says.place; is_there = λ before s. at before s.rest (failed.same_text ∙ s.split) s.counted });
-    unprompted = λ live h. o.unprompted live (sym says.kind ∙ h);
+    refused = in_content own new has o.refused (subst (λ z. PlacedAt (StartsAfter z old.start) own e) failed.same_text placed);
+    unprompted = λ live h. o.unprompted live (sym placed.kind ∙ h);
   }
 
   pub no_content_opened : (seen : ℕ → Seen) (e : Error) → old.has_content ≡ false → IsMismatch old.reader.input old.start e → OpensContent b seen old (Err e)

@@ -22,8 +22,9 @@ use Rattle.json5_grammar.proofs.MembersPairs.{opening_brace_solid, colon_solid, 
 use Rattle.json5_grammar.proofs.Unique.{one_phrase}
 use Rattle.json5_text.specs.declared.error.Error.{Error}
 use Rattle.json5_grammar.specs.declared.position.Position.{Position}
-use Rattle.json5_text.specs.Errors.{kind_of, place_of, or_place, SaysAt}
-use Rattle.json5_text.specs.Cursor.{Refused, IsOutOfMemory, IsPositionOf}
+use Rattle.json5_text.specs.Errors.{kind_of, place_of}
+use Rattle.json5_text.specs.Cursor.{Refused, IsOutOfMemory}
+use Rattle.json5_value.specs.Places.{StartsAfter, PlacedAt}
 use Rattle.json5_text.specs.Tokens.{FaultyBlanks}
 use Rattle.json5_de.specs.State.{State, SameText, GivesUp, cursor_of}
 use Rattle.json5_de.specs.Law.{TookValue, IsUnprompted, Unprompted}
@@ -387,9 +388,9 @@ not_opened_keyed names see old new e o failed = record {
   failed = failed;
 }
 
-pub only_key_refused : (names : List (List ℕ)) (old inside new : State) (start : ℕ) → OpensAs curly (λ (n : ℕ). record { reader = inside; start = n; due = false }) old (Ok start) → (own e : Error) (there : Position) → ReadsOnlyKey names inside new (Err own)
-    → SaysAt (kind_of own) (or_place (place_of own) there) e → IsPositionOf new.input start there → ReadsKeyed names old new (Err e)
-only_key_refused names old inside new start o own e there k says at =
+pub only_key_refused : (names : List (List ℕ)) (old inside new : State) (start : ℕ) → OpensAs curly (λ (n : ℕ). record { reader = inside; start = n; due = false }) old (Ok start) → (own e : Error) → ReadsOnlyKey names inside new (Err own)
+    → PlacedAt (StartsAfter new.input start) own e → ReadsKeyed names old new (Err e)
+only_key_refused names old inside new start o own e k placed =
     let (opened, due) = o.opened in
     let live = failed_of opened.rest ∙ opened.live in
     record {
@@ -398,20 +399,20 @@ only_key_refused names old inside new start o own e there k says at =
           let map = opens_map {Held = λ m. Unit {0}} (λ (n : ℕ). record { reader = inside; start = n; due = false }) (λ (m : SeenMap). m) old start (record { at = record { reader = inside; start = start; due = false }; pending = false }) tt refl refl o in
           let left = map.left (pair u plain t no_pair) r alive reads shallow in
           let (y, z, key, value, close) = left.tail in
-          says.kind ∙ k.complete u y z plain t i left.live key value is;
+          placed.kind ∙ k.complete u y z plain t i left.live key value is;
       refused = inr (record {
         inside = inside;
         opened = opened;
         own = own;
         cause = k.refused live;
         placed = record {
-          kind = says.kind;
-          there = there;
-          place = says.place;
-          is_there = λ before split. at before (123 ∷ inside.unread) (k.failed.same_text ∙ split) (o.start before (sym (input_of opened.rest) ∙ split));
+          kind = placed.kind;
+          there = placed.there;
+          place = placed.place;
+          is_there = λ before split. placed.is_there before (record { rest = 123 ∷ inside.unread; split = k.failed.same_text ∙ split; counted = o.start before (sym (input_of opened.rest) ∙ split) });
         };
       });
-      unprompted = λ alive h. k.unprompted live (sym says.kind ∙ h);
+      unprompted = λ alive h. k.unprompted live (sym placed.kind ∙ h);
       failed = record { failed = k.failed.failed; same_text = k.failed.same_text ∙ input_of opened.rest };
     }
 

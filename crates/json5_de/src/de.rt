@@ -249,8 +249,9 @@ impl<I: Input> Deserializer<I> {
     pub(crate) fn unexpected(&mut self, ends: ErrorCode, differs: ErrorCode) -> Error
         ensures { IsUnexpected ends differs self.old self.new result }
     {
+        let error = unexpected_here(&self.scanner, ends, differs);
         self.failed = true;
-        unexpected_here(&self.scanner, ends, differs)
+        error
     }
 
     /// The fault, at the offset where it has no place.

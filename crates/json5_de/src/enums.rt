@@ -86,7 +86,7 @@ impl<I: Input> Deserializer<I> {
         let start = self.open(BracketKind::Object)?;
         match self.only_key(variants) {
             Ok(variant) => Ok(variant),
-            Err(e) => Err(e.with_position(self.position_of(start))),
+            Err(e) => Err(self.place_at(start, e)),
         }
     }
 
@@ -196,7 +196,7 @@ impl<I: Input> Deserializer<I> {
     {
         match self.close_last(kind, due) {
             Ok(()) => self.close_last(BracketKind::Object, true),
-            Err(e) => Err(e.with_position(self.position_of(brace))),
+            Err(e) => Err(self.place_at(brace, e)),
         }
     }
 
@@ -211,7 +211,7 @@ impl<I: Input> Deserializer<I> {
         }
         match self.open(kind) {
             Ok(start) => Ok(start),
-            Err(e) => Err(e.with_position(self.position_of(name.start))),
+            Err(e) => Err(self.place_at(name.start, e)),
         }
     }
 
@@ -225,7 +225,7 @@ impl<I: Input> Deserializer<I> {
                 Ok(value)
             }
             Err(e) => {
-                let error = e.with_position(self.position_of(start));
+                let error = self.place_at(start, e);
                 self.refuse(error)
             }
         }

@@ -160,7 +160,7 @@ impl<I: Input> Deserializer<I> {
         if is_unplaced(&error) {
             error
         } else {
-            error.with_position(self.position_of(start))
+            self.place_at(start, error)
         }
     }
 
@@ -288,7 +288,7 @@ impl<'a, I: Input, E: Ending> MapAccess<'a, I, E> {
     pub fn place(&self, error: Error) -> Error
         ensures { PlacedAtBracket (seen_map self.now).at error result }
     {
-        error.with_position(self.de.position_of(self.start))
+        self.de.place_at(self.start, error)
     }
 
     /// The position of an offset in bytes, as that of a value which `Spanned` gives; the end's, where no character begins there.

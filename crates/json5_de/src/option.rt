@@ -32,7 +32,7 @@ impl<I: Input> Deserializer<I> {
         match T::deserialize(self) {
             Ok(value) => Ok(Some(value)),
             Err(e) => {
-                let error = e.with_position(self.position_of(start));
+                let error = self.place_at(start, e);
                 self.refuse(error)
             }
         }

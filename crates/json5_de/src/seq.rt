@@ -179,7 +179,7 @@ impl<'a, I: Input, E: Ending> SeqAccess<'a, I, E> {
     pub fn place(&self, error: Error) -> Error
         ensures { PlacedAtBracket (seen self.now) error result }
     {
-        error.with_position(self.de.position_of(self.start))
+        self.de.place_at(self.start, error)
     }
 
     /// The position of an offset in bytes, as that of an element which `Spanned` gives; the end's, where no character begins there.

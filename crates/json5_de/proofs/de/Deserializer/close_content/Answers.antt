@@ -7,4 +7,4 @@ pub returns-in-Ok : goal.returns-in-Ok
 returns-in-Ok g c = content_ended (brackets_of c.args.kind) (signs_of c.args.kind) c.args.due c.args.brace c.args.self.now c.close_last.new.self c.close_last-in-Ok.new.self c.close_last-in-Ok.result c.in-Ok.ensures c.close_last-in-Ok.ensures
 
 pub returns-in-Err : goal.returns-in-Err
-returns-in-Err g c = content_not_ended (brackets_of c.args.kind) (signs_of c.args.kind) c.args.due c.args.brace c.args.self.now c.close_last.new.self c.in-Err.e c.with_position.result c.position_of.result c.in-Err.ensures c.with_position.ensures c.position_of.ensures.inside
+returns-in-Err g c = content_not_ended (brackets_of c.args.kind) (signs_of c.args.kind) c.args.due c.args.brace c.args.self.now c.close_last.new.self c.in-Err.e c.place_at.result c.in-Err.ensures c.place_at.ensures

@@ -5,5 +5,4 @@ use Rattle.json5_de.proofs.de.Deserializer.open_content.Goals as goal
 
 pub returns-in-Err-clause-opens : goal.returns-in-Err-clause-opens
 returns-in-Err-clause-opens g c =
-    content_not_opened (brackets_of c.args.kind) (seen_named c.args.self.now c.args.name.now) _ _ c.open.new.self c.in-Err.e c.with_position.result c.position_of.result c.if-not-name.false c.in-Err.ensures.opens c.in-Err.ensures.failed c.with_position.ensures
-    c.position_of.ensures.inside
+    content_not_opened (brackets_of c.args.kind) (seen_named c.args.self.now c.args.name.now) _ _ c.open.new.self c.in-Err.e c.place_at.result c.if-not-name.false c.in-Err.ensures.opens c.in-Err.ensures.failed c.place_at.ensures
