@@ -2,13 +2,7 @@
 use Rattle.std.proofs.Common.{◌≢◌, ℕ, Bool, false, List, ◌∷◌, Option, Some}
 use Rattle.json5_grammar.specs.declared.code.ErrorCode.{ErrorCode}
 use Rattle.json5_grammar.specs.declared.code.ErrorCode.TheVariants as codes
-use Rattle.json5_grammar.specs.Blanks.{BlankFault, CommentFault, in_comment, no_comment, slash_ends, block_ends}
-use Rattle.json5_grammar.specs.Codes.{Shown}
-use Rattle.json5_grammar.specs.NumberFaults.{NumberFault, number_word_differs, number_word_ends, sign_without_number, sign_ends, no_hexadecimal_digit, hexadecimal_ends, hexadecimal_overflows, negative_too_large, not_a_literal, literal_overflows, leading_zero}
-use Rattle.json5_grammar.specs.NameFaults.{NameFault, no_unicode_escape, escaped_no_start, escaped_no_part, name_ends, backslash_ends}
 use Rattle.json5_grammar.specs.Numbers.{Number}
-use Rattle.json5_grammar.specs.StringFaults.{StringFault, EscapeFault, raw_terminator, string_ends, in_escape, digit_after_nul, escaped_digit, no_escape_digit, no_second_escape, unpaired, escape_ends}
-use Rattle.json5_text.specs.Tokens.{FaultyString, no_quote, string_missing, FaultyName, no_name, name_missing, FaultyKey, at_quote, at_name, FaultyWord, word_differs, word_ends, FaultyNumber, faulty, no_number, number_missing}
 use Rattle.json5_de.specs.Faults.{AfterBlanks, in_blanks, after_gap, NotNumber, faulty_number, other_number, NotText, faulty_text, other_text, Trailing, trailing}
 use Rattle.json5_value.specs.declared.brackets.Brackets.{Brackets}
 use Rattle.json5_de.specs.Brackets.{AreSigns}

@@ -4,8 +4,8 @@ use Rattle.std.specs.Prelude.{true, Result, Ok, Err, IsOk, IfOk, IfErr, OnErr, I
 use Rattle.json5_grammar.specs.declared.code.ErrorCode.{ErrorCode}
 use Rattle.json5_grammar.specs.declared.code.ErrorCode.TheVariants as codes
 use Rattle.json5_text.specs.declared.error.Error.{Error}
-use Rattle.json5_text.specs.Errors.{code, custom, kind_of}
-use Rattle.json5_text.specs.Cursor.{Cursor, Says, IsOutOfMemory}
+use Rattle.json5_text.specs.Errors.{code, kind_of}
+use Rattle.json5_text.specs.Cursor.{Cursor}
 use Rattle.json5_text.specs.Errors.{LacksMemory}
 use Rattle.json5_grammar.specs.Values.{null_text, true_text, false_text, Stops, is_null, is_number}
 use Rattle.json5_de.specs.State.{State, GivesUp}

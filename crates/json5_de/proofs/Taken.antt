@@ -6,7 +6,6 @@ use Rattle.json5_grammar.specs.Blanks.{Blanks, Gap}
 use Rattle.json5_grammar.specs.Positions.{position_after}
 use Rattle.json5_grammar.specs.Trees.{Tree, depth}
 use Rattle.json5_grammar.specs.Values.{Val, Stops, null_text, true_text, false_text}
-use Rattle.std.specs.Str.{chars}
 use Rattle.std.specs.Prelude.{◌==◌, slice_get, if◌then◌else◌}
 use Rattle.std.specs.Option.{option_eq}
 use Rattle.json5_grammar.specs.declared.code.ErrorCode.TheVariants as codes_of

@@ -21,8 +21,6 @@ use Rattle.json5_grammar.proofs.MembersPassed.{same_sign}
 use Rattle.json5_grammar.proofs.MembersPairs.{opening_brace_solid, colon_solid, one_opening_brace, one_key, one_reads_key, object_front}
 use Rattle.json5_grammar.proofs.Unique.{one_phrase}
 use Rattle.json5_text.specs.declared.error.Error.{Error}
-use Rattle.json5_grammar.specs.declared.position.Position.{Position}
-use Rattle.json5_text.specs.Errors.{kind_of, place_of}
 use Rattle.json5_text.specs.Cursor.{Refused, IsOutOfMemory}
 use Rattle.json5_value.specs.Places.{StartsAfter, PlacedAt}
 use Rattle.json5_text.specs.Tokens.{FaultyBlanks}

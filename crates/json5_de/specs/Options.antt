@@ -3,11 +3,8 @@ use Rattle.std.specs.Prelude.{◌≡◌, ◌⊎◌, ◌==◌, ℕ, Bool, true, f
 use Rattle.json5_grammar.specs.Characters.{letter_n}
 use Rattle.json5_grammar.specs.declared.code.ErrorCode.{ErrorCode}
 use Rattle.json5_grammar.specs.declared.code.ErrorCode.TheVariants as codes
-use Rattle.json5_grammar.specs.declared.position.Position.{Position}
-use Rattle.json5_grammar.specs.Positions.{position_after}
 use Rattle.json5_grammar.specs.Trees.{Tree, null, boolean, number, text, array, object}
 use Rattle.json5_text.specs.declared.error.Error.{Error}
-use Rattle.json5_text.specs.Errors.{kind_of, place_of, or_place}
 use Rattle.json5_text.specs.Cursor.{Refused}
 use Rattle.json5_de.specs.State.{State, cursor_of}
 use Rattle.json5_de.specs.Steps.{PassedGap}

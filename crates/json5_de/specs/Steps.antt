@@ -7,7 +7,6 @@ use Rattle.json5_grammar.specs.Characters.{NotBegun}
 use Rattle.json5_grammar.specs.declared.code.ErrorCode.{ErrorCode}
 use Rattle.json5_grammar.specs.declared.code.ErrorCode.TheVariants.{InvalidBytes}
 use Rattle.json5_grammar.specs.Stops.{lengthens}
-use Rattle.json5_grammar.specs.Names.{Ident, goes_on_name}
 use Rattle.json5_grammar.specs.Strings.{Str}
 use Rattle.json5_text.specs.declared.cow_str.CowStr.{CowStr}
 use Rattle.json5_text.specs.declared.number.Number as token
@@ -19,7 +18,7 @@ use Rattle.json5_text.specs.Errors.{LacksMemory, place_of}
 use Rattle.json5_text.specs.Cursor.{Says, Refused, IsOffset}
 use Rattle.json5_grammar.specs.Blanks.{Gap, Solid}
 use Rattle.json5_grammar.specs.Documents.{max_depth}
-use Rattle.json5_grammar.specs.Numbers.{Number, Num, whole}
+use Rattle.json5_grammar.specs.Numbers.{Num, whole}
 use Rattle.json5_grammar.specs.Values.{Stops}
 use Rattle.json5_de.specs.State.{State, OnlyRead, cursor_of}
 use Rattle.json5_de.specs.Faults.{FaultRelation}

@@ -8,7 +8,7 @@ use Rattle.json5_text.specs.declared.error.Error.{Error}
 use Rattle.json5_text.specs.Errors.{code, kind_of}
 use Rattle.json5_de.specs.State.{State, SameText}
 use Rattle.json5_value.specs.Brackets.{curly}
-use Rattle.json5_de.specs.Faults.{RefusedBy, RefusedByOrMemory}
+use Rattle.json5_de.specs.Faults.{RefusedBy}
 use Rattle.json5_de.specs.Access.{Opened, NotOpened, IsAtBracket}
 use Rattle.json5_de.specs.AnyTree.{RefusesTree}
 use Rattle.json5_de.specs.KeyRows.{RefusedAsKey, string_key}

@@ -1,5 +1,5 @@
 -- How a whole text is read, and why it is refused.
-use Rattle.std.specs.Prelude.{◌≡◌, ◌⊎◌, ℕ, ◌≤◌, false, List, [], Option, Some, Result, MatchResult, IfOk, IfErr, OnOk, OnErr, IsOk}
+use Rattle.std.specs.Prelude.{◌≡◌, ◌⊎◌, ℕ, ◌≤◌, List, [], Option, Some, Result, MatchResult, IfOk, IfErr, OnOk, OnErr, IsOk}
 use Rattle.json5_grammar.specs.Documents.{Doc}
 use Rattle.json5_grammar.specs.Trees.{Tree, depth}
 use Rattle.json5_grammar.specs.Values.{Reads}

@@ -10,9 +10,9 @@ ghost use Rattle.json5_de.specs.Plans.{PassesPair, ReadsPairs};
 ghost use Rattle.json5_de.specs.StructFaults.{RefusesPairs};
 ghost use Rattle.json5_de.specs.Lending.{seen_map, KeepsMap};
 
+use crate::any::IgnoredAny;
 use crate::de::Deserialize;
 use crate::ending::Ending;
-use crate::any::IgnoredAny;
 use crate::map::MapAccess;
 use json5_text::ErrorCode;
 use json5_text::error::{Error, Result};

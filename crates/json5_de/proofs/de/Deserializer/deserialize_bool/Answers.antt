@@ -1,4 +1,4 @@
-use Rattle.std.proofs.Common.{true, false, refl, subst}
+use Rattle.std.proofs.Common.{true, false, refl}
 use Rattle.std.proofs.lemmas.Result.{err_from_is_err_and}
 use Rattle.json5_grammar.specs.Trees.{boolean}
 use Rattle.json5_grammar.specs.Values.{true_text, false_text, is_true, is_false}
