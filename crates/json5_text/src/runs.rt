@@ -1,4 +1,4 @@
-//! Cutting a text after the ASCII characters in front that pass a test, and before those at its end.
+//! Cutting a text after the digits or zeros in front, and before the zeros at its end.
 
 ghost use Rattle.std.specs.Prelude.{◌≡◌, reverse};
 ghost use Rattle.std.specs.List.{prefix_len};
