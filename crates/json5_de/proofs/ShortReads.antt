@@ -13,7 +13,7 @@ use Rattle.json5_text.specs.Cursor.{Cursor}
 use Rattle.json5_text.specs.Short.{TookWhole, TookInRange, AfterGap, StepsTo, TakesShortStep}
 use Rattle.json5_text.specs.declared.short.ShortStep.{ShortStep}
 use Rattle.json5_text.specs.declared.short.ShortStep.TheVariants as short
-use Rattle.json5_de.specs.declared.brackets.Brackets.{Brackets}
+use Rattle.json5_value.specs.declared.brackets.Brackets.{Brackets}
 use Rattle.json5_de.specs.Convert.{natural_below, integer_below}
 use Rattle.json5_de.specs.Law.{TookValue}
 use Rattle.json5_de.specs.Rows.{ReadsAs, whole_row, natural_row, integer_row}

@@ -2,7 +2,7 @@
 use Rattle.std.specs.Prelude.{◌≡◌, Bool, true, false, Option, Some, MatchOption, Ok}
 use Rattle.json5_text.specs.declared.short.ShortStep.{ShortStep}
 use Rattle.json5_text.specs.declared.short.ShortStep.TheVariants as short
-use Rattle.json5_de.specs.declared.brackets.Brackets.{Brackets}
+use Rattle.json5_value.specs.declared.brackets.Brackets.{Brackets}
 use Rattle.json5_de.specs.Rows.{Row, ReadsAs}
 use Rattle.json5_de.specs.Seq.{GoesOn}
 use Rattle.json5_de.specs.State.{State}

@@ -2,14 +2,14 @@
 //! the frame of the caller. Where they answer nothing, nothing has changed, and the reader's other calls say what is there.
 
 ghost use Rattle.std.specs.Prelude.{◌≡◌, ◌≤◌, ◌+◌, ◌≤ℤ◌, ◌-ℤ◌, pos, neg_ℤ, nat_abs, MatchOption, IfSome};
-ghost use Rattle.json5_de.specs.Brackets.{brackets_of};
+ghost use Rattle.json5_value.specs.Brackets.{brackets_of};
 ghost use Rattle.json5_de.specs.Rows.{natural_row, integer_row};
 ghost use Rattle.json5_de.specs.Short.{ReadsShort, StepsShort};
 
-use crate::brackets::BracketKind;
 use crate::de::Deserializer;
 use json5_text::input::Input;
 use json5_text::short::ShortStep;
+use json5_value::brackets::BracketKind;
 
 impl<I: Input> Deserializer<I> {
     /// Reads a whole number of few digits from 0 to `max`, or nothing.
