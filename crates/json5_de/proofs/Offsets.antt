@@ -1,28 +1,18 @@
 -- Offsets in bytes, and the places that they name.
-use Rattle.std.proofs.Common.{◌≡◌, ℕ, ◌+◌, ◌-◌, true, List, ◌++◌, length, ap, sym, ◌∙◌, arith}
+use Rattle.std.proofs.Common.{◌≡◌, ℕ, true, List, ◌++◌, length, ap, sym, ◌∙◌}
 use Rattle.std.specs.Str.{all_scalars, encode_utf8_all}
-use Rattle.std.proofs.lemmas.List.{length-append}
-use Rattle.std.proofs.lemmas.Str.{encodes-append}
-use Rattle.json5_text.specs.Cursor.{Cursor, offset_of}
+use Rattle.json5_text.specs.Cursor.{Cursor, IsOffset, offset_of}
 use Rattle.json5_de.specs.State.{State}
 use Rattle.json5_value.specs.Places.{PlacedAt}
 use Rattle.json5_text.specs.declared.error.Error.{Error}
 use Rattle.json5_de.specs.Steps.{IsCount}
-use Rattle.json5_text.specs.Cursor.{IsOffset}
-
-pub bytes_apart : (x y : List ℕ) → length (encode_utf8_all (x ++ y)) ≡ length (encode_utf8_all x) + length (encode_utf8_all y)
-bytes_apart x y = ap length (encodes-append x y) ∙ length-append (encode_utf8_all x) (encode_utf8_all y)
-
-counted_before : (input unread before : List ℕ) (offset : ℕ) → offset ≡ length (encode_utf8_all input) - length (encode_utf8_all unread) → input ≡ before ++ unread → offset ≡ length (encode_utf8_all before)
-counted_before input unread before offset e split =
-    let apart = ap (λ x. length (encode_utf8_all x)) split ∙ bytes_apart before unread in
-    omega (arith, e, apart)
+use Rattle.json5_value.proofs.Steps.{counted_before}
 
 offset_before : (s : State) (cursor : Cursor) (offset : ℕ) → cursor.input ≡ s.input → cursor.unread ≡ s.unread → offset ≡ offset_of cursor → (before : List ℕ) × (cursor.input ≡ before ++ cursor.unread)
     → IsOffset s.input offset × ((before : List ℕ) → s.input ≡ before ++ s.unread → offset ≡ length (encode_utf8_all before))
 offset_before s cursor offset same_input same_unread counted (before, split) = (
-  (before, s.unread, sym same_input ∙ split ∙ ap (λ z. before ++ z) same_unread, counted_before cursor.input cursor.unread before offset counted split),
-  λ front whole. counted_before cursor.input cursor.unread front offset counted (same_input ∙ whole ∙ ap (λ z. front ++ z) (sym same_unread)),
+  (before, s.unread, sym same_input ∙ split ∙ ap (λ z. before ++ z) same_unread, counted_before cursor before offset counted split),
+  λ front whole. counted_before cursor front offset counted (same_input ∙ whole ∙ ap (λ z. front ++ z) (sym same_unread)),
 )
 
 pub is_count : (s : State) (cursor : Cursor) (offset : ℕ) → cursor.input ≡ s.input → cursor.unread ≡ s.unread → offset ≡ offset_of cursor → (before : List ℕ) × (cursor.input ≡ before ++ cursor.unread) → all_scalars cursor.unread ≡ true
