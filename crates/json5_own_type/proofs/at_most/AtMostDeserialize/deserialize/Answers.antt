@@ -23,8 +23,8 @@ loop-seq-init g c = let none = ap length c.new-values.ensures.items in
 
 pub loop-seq-preserved : goal.loop-seq-preserved
 loop-seq-preserved g c = record {
-  same_reference = c.in_ok-next.ensures.same_reference ∙ c.loop-seq.invariant.same_reference;
-  reading = steps g.T.Deserialize.content (λ (s : Spanned _). g.T.Deserialize.content s.value) c.in-Some.next.value c.in-Some.next refl c.loop-seq.invariant.reading c.in_ok-push.ensures.items c.in_ok-next.ensures.start
+  same_reference = c.in_ok-next.ensures.access.same_reference ∙ c.loop-seq.invariant.same_reference;
+  reading = steps g.T.Deserialize.content (λ (s : Spanned _). g.T.Deserialize.content s.value) c.in-Some.next.value c.in-Some.next refl c.loop-seq.invariant.reading c.in_ok-push.ensures.items c.in_ok-next.ensures.access.start
       (rw c.in-Some.is at c.in_ok-next.ensures.read) (rw c.in-Some.is at c.in_ok-next.ensures.left);
   few = grind (arith, c.if-len.false, c.len.ensures, c.loop-seq.values.ok.0, c.loop-seq.invariant.few, ap length c.in_ok-push.ensures.items, length-append c.loop-seq.values.items (c.in-Some.next.value ∷ []));
 }
@@ -36,7 +36,7 @@ returns-in_err-next-clause-complete g c =
 pub returns-then-len-clause-complete : goal.returns-then-len-clause-complete
 returns-then-len-clause-complete g c =
     past_completes (at_most g.row.N g.T.Deserialize.convert) c.in_ok-custom_at.field-0 g.row.N (has_at_most g.T.Deserialize.convert g.row.N) (grind (arith, c.if-len.true, c.len.ensures, c.loop-seq.values.ok.0, length-append c.loop-seq.values.items (c.in-Some.next.value ∷ [])))
-    (steps g.T.Deserialize.content (λ (s : Spanned _). g.T.Deserialize.content s.value) c.in-Some.next.value c.in-Some.next refl c.loop-seq.invariant.reading refl c.in_ok-next.ensures.start (rw c.in-Some.is at c.in_ok-next.ensures.read) (rw c.in-Some.is at c.in_ok-next.ensures.left))
+    (steps g.T.Deserialize.content (λ (s : Spanned _). g.T.Deserialize.content s.value) c.in-Some.next.value c.in-Some.next refl c.loop-seq.invariant.reading refl c.in_ok-next.ensures.access.start (rw c.in-Some.is at c.in_ok-next.ensures.read) (rw c.in-Some.is at c.in_ok-next.ensures.left))
 
 pub returns-in_err-end-clause-complete : goal.returns-in_err-end-clause-complete
 returns-in_err-end-clause-complete g c =
