@@ -7,8 +7,7 @@ use Rattle.std.proofs.lemmas.Str.{chars_past_char, encode_ascii}
 use Rattle.json5_grammar.specs.Blanks.{Solid}
 use Rattle.json5_grammar.specs.Reading.{got}
 use Rattle.json5_grammar.proofs.BlanksRead.{skip_rest, begins_solid, printable_solid}
-use Rattle.std.proofs.lemmas.List.{length-take, length-drop}
-use Rattle.std.proofs.lemmas.List.Sums.{prefix_len-le-length}
+use Rattle.std.proofs.lemmas.List.{length-drop}
 use Rattle.std.proofs.lemmas.Bool.Decides.{nat_tests}
 use Rattle.json5_grammar.specs.Characters.{is_in, is_blank, is_terminator, NotBegun, Each, no_char, char}
 use Rattle.json5_grammar.specs.ReadBlanks.{skip, between, Mode}
@@ -24,9 +23,6 @@ blank_is_ascii c h = grind (arith, nat_tests)
 
 ascii_is_blank : (c : ℕ) → is_ascii_blank c ≡ true → is_blank c ≡ true
 ascii_is_blank c h = grind (arith, nat_tests)
-
-pub blanks_counted : (s : List ℕ) (n : ℕ) → n ≡ prefix_len is_ascii_blank s → n ≡ length (take_while is_ascii_blank s)
-blanks_counted s n e = let k = length-take (prefix_len is_ascii_blank s) s in let l = prefix_len-le-length is_ascii_blank s in omega (arith, e, k, l)
 
 pass : (w x : List ℕ) → Each is_ascii_blank w → skip between (w ++ x) ≡ skip between x
 pass [] x no_char = refl

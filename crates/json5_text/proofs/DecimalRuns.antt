@@ -1,5 +1,5 @@
 -- A decimal run in front of a text, read from its front on.
-use Rattle.std.proofs.Common.{◌≡◌, ℕ, Bool, true, false, ◌||◌, List, [], ◌∷◌, refl, ap, sym, ◌∙◌, subst, arith, Option, Some, None, ◌≢◌}
+use Rattle.std.proofs.Common.{◌≡◌, ℕ, Bool, true, false, ◌||◌, List, [], ◌∷◌, refl, ap, sym, ◌∙◌, subst, arith, Option, Some, None}
 use Rattle.std.specs.Prelude.{◌==◌}
 use Rattle.std.specs.Str.{chars}
 use Rattle.std.proofs.lemmas.Bool.Decides.{nat_tests}
@@ -32,9 +32,6 @@ no_run x h = front_none in_run x (not_begun x h)
 
 pub rest_all : (x : List ℕ) → begun in_run x ≡ false → rest_of in_run x ≡ x
 rest_all x h = rest_none in_run x (not_begun x h)
-
-pub run_there : (x y : List ℕ) (c : ℕ) → x ≡ c ∷ y → begun in_run x ≡ true → in_run c ≡ true
-run_there x y c e h = sym (ap (begun in_run) e) ∙ h
 
 run_some : (x : List ℕ) → begun in_run x ≡ true → is_empty (run_of x) ≡ false
 unfolding front_of
@@ -124,8 +121,9 @@ ends_pointed x s t z c e k n l =
 pub no_exponent : (x : List ℕ) → begun in_run x ≡ false → exponent_at (run_of x) ≡ Some None
 no_exponent x h = ap exponent_at (no_run x h)
 
-pub no_mark : (x y : List ℕ) (c : ℕ) → x ≡ c ∷ y → in_run c ≡ true → ((c == 101) || (c == 69)) ≡ false → exponent_at (run_of x) ≡ None
-no_mark x y c e h k = ap exponent_at (run_more x y c e h) ∙ rw k refl
+pub no_mark : (x : List ℕ) → begun in_run x ≡ true → NotBegun (λ c. (c == 101) || (c == 69)) x → exponent_at (run_of x) ≡ None
+no_mark [] h k = absurd (cc)
+no_mark (c ∷ y) h k = ap exponent_at (run_more (c ∷ y) y c refl h) ∙ rw k refl
 
 pub at_mark : (x y : List ℕ) (c : ℕ) → x ≡ c ∷ y → ((c == 101) || (c == 69)) ≡ true → exponent_at (run_of x) ≡ exponent_sign (run_of y)
 at_mark x y c e k = ap exponent_at (run_more x y c e (e_in_run c k)) ∙ rw k refl
@@ -174,16 +172,14 @@ signed_tail x y z c m (Some t) e k s h = record {
 
 -- ---- a literal
 
-pub run_ends : (x i s : List ℕ) → i ≡ front_of is_digit x → s ≡ rest_of is_digit x → s ≡ [] → literal_at (run_of x) ≡ no_point i (run_of s)
+pub run_plain : (x i s : List ℕ) → i ≡ front_of is_digit x → s ≡ rest_of is_digit x → NotBegun (λ c. c == 46) s → literal_at (run_of x) ≡ no_point i (run_of s)
 unfolding front_of
-run_ends x i s e h k = literal_ends (run_of x) i (run_of s) (front_is x i e) (rest_is x s h) (ap run_of k)
-
-pub run_plain : (x i s t : List ℕ) (c : ℕ) → i ≡ front_of is_digit x → s ≡ rest_of is_digit x → s ≡ c ∷ t → c ≢ 46 → literal_at (run_of x) ≡ no_point i (run_of s)
-run_plain x i s t c e h k n = by (in_run c) refl
+run_plain x i [] e h n = literal_ends (run_of x) i (run_of []) (front_is x i e) (rest_is x [] h) refl
+run_plain x i (c ∷ t) e h n = by (in_run c) refl
   where
-    by : (b : Bool) → in_run c ≡ b → literal_at (run_of x) ≡ no_point i (run_of s)
-    by true l = literal_plain (run_of x) i (run_of s) (run_of t) c (front_is x i e) (rest_is x s h) (run_more s t c k l) n
-    by false l = literal_ends (run_of x) i (run_of s) (front_is x i e) (rest_is x s h) (no_run s (ap (begun in_run) k ∙ l))
+    by : (b : Bool) → in_run c ≡ b → literal_at (run_of x) ≡ no_point i (run_of (c ∷ t))
+    by true l = literal_plain (run_of x) i (run_of (c ∷ t)) (run_of t) c (front_is x i e) (rest_is x (c ∷ t) h) (run_more (c ∷ t) t c refl l) n
+    by false l = literal_ends (run_of x) i (run_of (c ∷ t)) (front_is x i e) (rest_is x (c ∷ t) h) (no_run (c ∷ t) l)
 
 pub run_pointed : (x i s t f z : List ℕ) (c : ℕ) → i ≡ front_of is_digit x → s ≡ rest_of is_digit x → s ≡ c ∷ t → c ≡ 46 → f ≡ front_of is_digit t → z ≡ rest_of is_digit t → literal_at (run_of x) ≡ at_point i f (run_of z)
 run_pointed x i s t f z c e h k n g l =

@@ -1,7 +1,9 @@
 -- The number that a literal means, as code finds it.
 use Rattle.std.proofs.Common.{◌≡◌, ℕ, zero, suc, ◌+◌, ◌-◌, ◌^◌, ◌<◌, ◌≤◌, min, Bool, true, false, cond, List, ◌++◌, length, refl, ap, sym, subst, ◌∙◌, arith, Option, Some, None}
-use Rattle.std.specs.Prelude.{ℤ, pos, ◌+ℤ◌, ◌-ℤ◌}
-use Rattle.std.specs.Option.{is_some, option_map}
+use Rattle.std.specs.Prelude.{[], IfSome, ℤ, pos, ◌+ℤ◌, ◌-ℤ◌}
+use denote.Ref.{Bor}
+use Rattle.json5_grammar.specs.Characters.{is_digit, Each, no_char}
+use Rattle.std.specs.Option.{is_some, option_map, unwrap_or}
 use Rattle.std.proofs.lemmas.Bool.Decides.{nat_tests}
 use Rattle.std.proofs.lemmas.List.{length-append}
 use Rattle.json5_grammar.specs.declared.code.ErrorCode.TheVariants.{OverflowParsingNumber}
@@ -91,6 +93,15 @@ not_in_range z n = by (in_exponents z) refl
 pub judged_past : (q : List ℕ) (m : Bool) (r i : List ℕ) (f : Option (List ℕ)) (w : Option ℤ) (e : ℤ) → is_whole m i f w ≡ false → Agree e (exponent_of i f w) → (InExponents e → ⊥) → judged q m r i f w ≡ bad (Some OverflowParsingNumber) (here q)
 unfolding judged
 judged_past q m r i f w e h a n = let t = not_in_range (exponent_of i f w) (λ k. n (a.1 k)) in rw (h, t) refl
+
+-- the digits after the point, or none
+pub after_or : (o : Option (Bor (List ℕ))) (d : Bor (List ℕ)) → d.now ≡ [] → (unwrap_or o d).now ≡ digits_after (option_map (λ digits. digits.now) o)
+after_or None d e = e
+after_or (Some x) d e = refl
+
+pub after_each : (o : Option (Bor (List ℕ))) (d : Bor (List ℕ)) → d.now ≡ [] → IfSome o (λ digits. Each is_digit digits.now) → Each is_digit (unwrap_or o d).now
+after_each None d e h = rw e no_char
+after_each (Some x) d e h = h
 
 -- a literal's number, with the digits after the point and the lowered exponent that code has
 pub record Found (l : Literal) (after : List ℕ) (e : ℤ) : Type 0 where

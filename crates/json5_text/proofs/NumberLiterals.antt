@@ -1,26 +1,11 @@
 -- Parts of a decimal literal, as code finds them.
-use Rattle.std.proofs.Common.{◌≡◌, ℕ, ◌<◌, Bool, true, false, ◌&&◌, ◌||◌, List, [], ◌∷◌, ◌++◌, length, refl, ap, sym, ◌∙◌, arith, Option, Some, None, ◌≢◌}
+use Rattle.std.proofs.Common.{◌≡◌, ℕ, ◌<◌, Bool, true, false, ◌&&◌, ◌||◌, List, [], ◌∷◌, ◌++◌, length, refl, ap, sym, ◌∙◌, arith, Option, Some, None}
 use Rattle.std.specs.Prelude.{◌==◌, not, ℤ}
-use Rattle.std.specs.Str.{IsUtf8, chars, encode_utf8_all}
-use Rattle.std.proofs.lemmas.Bool.Decides.{nat_tests}
-use Rattle.std.proofs.lemmas.List.{append-nil, nil_from_length}
-use Rattle.std.proofs.lemmas.Str.{encodes-chars, chars-nil}
+use Rattle.std.proofs.lemmas.List.{append-nil}
 use Rattle.json5_grammar.specs.Characters.{is_digit}
 use Rattle.json5_grammar.specs.Numbers.{is_empty, signed, spelled}
 use Rattle.json5_grammar.specs.ReadNumbers.{front_of, rest_of, exponent_digits, exponent_at, is_integer, no_point, at_point, point_or, literal_at}
 use Rattle.json5_grammar.proofs.NumberTests.{front_rest}
-
--- ---- whether a text has characters
-
-pub no_chars : (s : List ℕ) (b : Bool) → b ≡ (length s == 0) → b ≡ true → chars s ≡ []
-no_chars s b e h = let k : length s ≡ 0 = grind (arith, nat_tests) in ap chars (nil_from_length s k) ∙ chars-nil
-
-pub some_chars : (s : List ℕ) (b : Bool) → IsUtf8 s → b ≡ (length s == 0) → b ≡ false → is_empty (chars s) ≡ false
-some_chars s b u e h = let k : 0 < length s = grind (arith, nat_tests) in by (chars s) (encodes-chars s u) k
-  where
-    by : (x : List ℕ) → encode_utf8_all x ≡ s → 0 < length s → is_empty x ≡ false
-    by [] e k = absurd (omega (arith, ap length e))
-    by (c ∷ x) e k = refl
 
 -- ---- the digits of an exponent
 
@@ -80,11 +65,8 @@ literal_ends x i y e h k = at_literal x i y e h ∙ plain_end i y k
 plain_other : (i y t : List ℕ) (c : ℕ) → y ≡ c ∷ t → (c == 46) ≡ false → point_or i y ≡ no_point i y
 plain_other i y t c h k = rw h (rw k refl)
 
-not_point : (c : ℕ) → c ≢ 46 → (c == 46) ≡ false
-not_point c h = grind (arith, nat_tests)
-
-pub literal_plain : (x i y t : List ℕ) (c : ℕ) → i ≡ front_of is_digit x → y ≡ rest_of is_digit x → y ≡ c ∷ t → c ≢ 46 → literal_at x ≡ no_point i y
-literal_plain x i y t c e h k n = at_literal x i y e h ∙ plain_other i y t c k (not_point c n)
+pub literal_plain : (x i y t : List ℕ) (c : ℕ) → i ≡ front_of is_digit x → y ≡ rest_of is_digit x → y ≡ c ∷ t → (c == 46) ≡ false → literal_at x ≡ no_point i y
+literal_plain x i y t c e h k n = at_literal x i y e h ∙ plain_other i y t c k n
 
 -- the literal with a point: digits before, digits after, and what follows
 pub literal_pointed : (x i y t f z : List ℕ) (c : ℕ) → i ≡ front_of is_digit x → y ≡ rest_of is_digit x → y ≡ c ∷ t → c ≡ 46 → f ≡ front_of is_digit t → z ≡ rest_of is_digit t → literal_at x ≡ at_point i f z

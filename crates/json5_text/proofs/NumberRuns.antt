@@ -1,10 +1,12 @@
--- Where a text is cut, after ASCII characters that pass a test or before such ones at its end.
-use Rattle.std.proofs.Common.{◌≡◌, ℕ, zero, suc, ◌-◌, ◌<◌, ◌≤◌, Bool, true, false, List, [], ◌∷◌, ◌++◌, length, take, drop, refl, ap, sym, ◌∙◌, subst, arith}
-use Rattle.std.specs.Prelude.{◌==◌, reverse, slice_index}
-use Rattle.std.specs.List.{take_while}
+-- Where a text is cut, after ASCII characters that pass a test.
+use Rattle.std.proofs.Common.{◌≡◌, ℕ, zero, suc, ◌+◌, ◌<◌, ◌≤◌, Bool, true, false, List, [], ◌∷◌, ◌++◌, length, take, drop, refl, ap, sym, ◌∙◌, subst, arith, drop-cons, add-one}
+use Rattle.std.specs.Prelude.{◌==◌, slice_index, slice_index_or}
+use Rattle.std.specs.List.{prefix_len, take_while}
 use Rattle.std.specs.Str.{encode_utf8_all, chars, IsUtf8, IsCharBoundary}
 use Rattle.std.proofs.Math.Seq.{take-append_seam, drop-append_seam}
-use Rattle.std.proofs.lemmas.List.{append-nil, reverse-append, reverse-reverse, length-append, length-reverse}
+use Rattle.std.proofs.lemmas.List.{append-nil, length-append}
+use Rattle.std.proofs.lemmas.List.{length-take}
+use Rattle.std.proofs.lemmas.List.Sums.{prefix_len-le-length}
 use Rattle.std.proofs.lemmas.Bool.Decides.{nat_tests}
 use Rattle.std.proofs.lemmas.Str.{chars-IsAscii, chars-append, chars_from_encodes, encode_ascii, IsUtf8-drop, IsUtf8-from_ascii, IsCharBoundary-after_ascii, IsCharBoundary-at_seam}
 use Rattle.json5_grammar.specs.Characters.{is_digit, NotBegun, Each, no_char, char}
@@ -12,7 +14,6 @@ use Rattle.json5_grammar.specs.Numbers.{without_front_zeros}
 use Rattle.json5_grammar.specs.ReadNumbers.{front_of, rest_of}
 use Rattle.json5_grammar.proofs.NumberTests.{by_test, front_each, front_rest, front_all, rest_each, rest_all, rest_stops}
 use Rattle.json5_grammar.proofs.NumberStepLaws.{front_is}
-use Rattle.json5_grammar.proofs.DecimalsWritten.{Each-reverse}
 
 -- only ASCII characters pass the test
 abbrev pub PassesAscii : (ℕ → Bool) → Type 0
@@ -44,6 +45,10 @@ pub rest_utf8 : (p : ℕ → Bool) (s : List ℕ) → PassesAscii p → IsUtf8 s
 unfolding rest_of
 rest_utf8 p [] a u = u
 rest_utf8 p (c ∷ s) a u = by_test (λ z. IsUtf8 z) (p c) (rest_of p s) (c ∷ s) (λ h. rest_utf8 p s a (tail_utf8 c s (a c h) u)) (λ h. u)
+
+-- the same count of what passes
+pub counted : (p : ℕ → Bool) (s : List ℕ) (n : ℕ) → n ≡ prefix_len p s → n ≡ length (take_while p s)
+counted p s n e = let k = length-take (prefix_len p s) s in let l = prefix_len-le-length p s in omega (arith, e, k, l)
 
 front_count : (p : ℕ → Bool) (s : List ℕ) (k : ℕ) → k ≡ length (take_while p s) → k ≡ length (front_of p s)
 front_count p s k e = e ∙ ap length (sym (front_is p s))
@@ -87,31 +92,9 @@ rest_chars p s a u = sym (ap (rest_of p) (chars_split p s a) ∙ rest_all (chars
 pub rest_shorter : (p : ℕ → Bool) (s : List ℕ) → length (rest_of p s) ≤ length s
 rest_shorter p s = omega (arith, ap length (front_rest p s), length-append (front_of p s) (rest_of p s))
 
-pub zeros_are_rest : (s : List ℕ) → rest_of is_zero s ≡ without_front_zeros s
-unfolding rest_of
-zeros_are_rest [] = refl
-zeros_are_rest (c ∷ s) = by_test (λ z. z ≡ without_front_zeros (c ∷ s)) (c == 48) (rest_of is_zero s) (c ∷ s) (λ h. rw h (zeros_are_rest s)) (λ h. rw h refl)
-
--- ---- at the end
-
--- what stands before the characters at the end that pass the test, and these
-back : (p : ℕ → Bool) (s : List ℕ) → s ≡ reverse (rest_of p (reverse s)) ++ reverse (front_of p (reverse s))
-back p s = sym (reverse-reverse s) ∙ ap reverse (front_rest p (reverse s)) ∙ reverse-append (front_of p (reverse s)) (rest_of p (reverse s))
-
-back_count : (p : ℕ → Bool) (s : List ℕ) (k : ℕ) → k ≡ length (take_while p (reverse s)) → length s - k ≡ length (reverse (rest_of p (reverse s)))
-back_count p s k e =
-    let a = front_count p (reverse s) k e in
-    omega (arith, ap length (back p s), length-append (reverse (rest_of p (reverse s))) (reverse (front_of p (reverse s))), length-reverse (front_of p (reverse s)))
-
-pub back_boundary : (p : ℕ → Bool) (s : List ℕ) (k : ℕ) → PassesAscii p → k ≡ length (take_while p (reverse s)) → IsCharBoundary s (length s - k)
-back_boundary p s k a e = subst (λ n. IsCharBoundary s n) (sym (back_count p s k e)) (IsCharBoundary-at_seam s (reverse (rest_of p (reverse s))) (reverse (front_of p (reverse s))) (back p s) (each_utf8 a (Each-reverse (front_each p (reverse s)))))
-
-pub back_cut : (s : List ℕ) (k : ℕ) → k ≡ length (take_while is_zero (reverse s)) → take (length s - k) s ≡ reverse (without_front_zeros (reverse s))
-back_cut s k e =
-    ap (λ n. take n s) (back_count is_zero s k e)
-    ∙ ap (take (length (reverse (rest_of is_zero (reverse s))))) (back is_zero s)
-    ∙ take-append_seam (reverse (rest_of is_zero (reverse s))) (reverse (front_of is_zero (reverse s)))
-    ∙ ap reverse (zeros_are_rest (reverse s))
+-- a zero in front
+pub zero_past : (s : List ℕ) (i : ℕ) → i < length s → slice_index_or s i 0 ≡ 48 → without_front_zeros (drop i s) ≡ without_front_zeros (drop (i + 1) s)
+zero_past s i h e = ap without_front_zeros (drop-cons s i 0 h ∙ ap (λ k. slice_index_or s i 0 ∷ drop k s) (sym (add-one i))) ∙ rw e refl
 
 -- ---- whether anything follows
 

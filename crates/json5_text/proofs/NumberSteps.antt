@@ -9,14 +9,13 @@ use Rattle.std.proofs.lemmas.Str.{encodes-chars}
 use Rattle.json5_grammar.specs.declared.code.ErrorCode.{ErrorCode}
 use Rattle.json5_grammar.specs.declared.code.ErrorCode.TheVariants.{EofParsingNumber, ExpectedNumber, OverflowParsingNumber}
 use Rattle.json5_grammar.specs.Numbers.{Number, signed, whole, InWhole}
-use Rattle.json5_grammar.specs.Reading.{Read, Place, got, bad, here, inner}
+use Rattle.json5_grammar.specs.Reading.{Read, Place, got, bad, here}
 use Rattle.json5_grammar.specs.ReadNumbers.{word, hex_digits, hex_judged, hexadecimal}
 use Rattle.json5_grammar.specs.ReadValues.{word_at}
 use Rattle.json5_grammar.proofs.Basics.{hex_value, no_hex}
 use Rattle.json5_text.specs.declared.refusal.Refusal.{Refusal}
 use Rattle.json5_text.specs.declared.refusal.Refusal.TheVariants as refusal
-use Rattle.json5_text.specs.NumberViews.{keeps_digits}
-use Rattle.json5_text.specs.Refused.{Refuses, KeepsDigits, WantsForDigits}
+use Rattle.json5_text.specs.Refused.{Refuses, WantsForDigits}
 use Rattle.json5_text.specs.Scan.{HasFault}
 use lib.Chars.{codes}
 use Rattle.json5_text.specs.Outcome.{Outcome, bytes_in, outcome, gave, failed}
@@ -50,9 +49,6 @@ hex_past n c xs ys e h l = let a : nat_lt (n * 16 + digit_value c) (2 ^ 128) ≡
 pub ruleset hexadecimal_steps = (hex_end, hex_other, hex_more, hex_past)
 
 -- after `0x`
-
-pub hexadecimal_ends : (q xs : List ℕ) (m : Bool) → xs ≡ [] → hexadecimal q m xs ≡ bad (Some EofParsingNumber) inner
-hexadecimal_ends q xs m e = rw e refl
 
 pub hexadecimal_other : (q xs ys : List ℕ) (m : Bool) (c : ℕ) → xs ≡ c ∷ ys → 16 ≤ digit_value c → hexadecimal q m xs ≡ bad (Some ExpectedNumber) (here xs)
 hexadecimal_other q xs ys m c e h = rw e (rw (no_hex c h) refl)
@@ -137,7 +133,3 @@ fault_wants (refusal.InvalidNumber left) m h = tt
 fault_wants (refusal.TooLarge left) m h = tt
 fault_wants (refusal.UnpairedSurrogate u left) m h = tt
 fault_wants refusal.OutOfMemory m h = absurd h
-
--- memory ran out at a number whose digits are kept
-pub kept_wants : (m : Read Number) (n : Number) (r : List ℕ) → m ≡ got n r → keeps_digits n ≡ true → KeepsDigits m
-kept_wants m n r e h = subst KeepsDigits (sym e) h

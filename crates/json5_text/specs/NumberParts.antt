@@ -59,6 +59,15 @@ abbrev pub after_sign : List ℕ → Bool × List ℕ
 after_sign [] = (false, [])
 after_sign (c ∷ x) = cond (c == plus_sign) (false, x) (cond (c == minus_sign) (true, x) (false, c ∷ x))
 
+-- the digits in front and what follows them, of the characters and of the bytes
+pub record SplitsDigits (whole start after : List ℕ) : Type 0 where
+  pub front : start ≡ front_of is_digit (chars whole)
+  pub digits : Each is_digit start
+  pub rest : chars after ≡ rest_of is_digit (chars whole)
+  pub front_bytes : start ≡ front_of is_digit whole
+  pub rest_bytes : after ≡ rest_of is_digit whole
+  pub text : IsUtf8 after
+
 abbrev pub run_of : List ℕ → List ℕ
 run_of x = front_of in_run x
 

@@ -5,7 +5,7 @@ ghost use Rattle.json5_grammar.specs.Characters.{is_digit, NotBegun};
 ghost use Rattle.std.specs.List.{prefix_len};
 ghost use Rattle.std.specs.Simd.Lanes.{mask_l};
 ghost use Rattle.json5_grammar.specs.Strings.{is_raw};
-ghost use Rattle.json5_text.specs.ByteRuns.{ends_raw, is_ascii_blank, is_ascii_start, is_ascii_part, is_in_line, is_no_star, lengthens_digits, SpellsFront, IsUnpadded, IsFewDigits, IsShort, BeginsSolid};
+ghost use Rattle.json5_text.specs.ByteRuns.{ends_raw, is_ascii_blank, is_ascii_start, is_ascii_part, is_in_line, is_no_star, lengthens_digits, SpellsFront, IsUnpadded, IsShort, BeginsSolid};
 
 use memchr::{memchr, memchr3};
 use std::simd::prelude::*;
@@ -124,7 +124,7 @@ pub(crate) struct FewDigits {
 
 /// A digit.
 #[inline(always)]
-fn is_digit(byte: u8) -> bool
+pub(crate) fn is_digit(byte: u8) -> bool
     ensures { result ≡ is_digit byte }
 {
     byte >= b'0' && byte <= b'9'
@@ -172,12 +172,12 @@ fn is_padded(bytes: &[u8], len: usize) -> bool
     len > 1 && bytes[0] == b'0'
 }
 
-/// The digits in front, where they are few and are a whole number: none but the first of several is zero, and nothing goes on with
-/// them.
+/// The number that is few digits in front, and what follows it: none but the first of several is zero, and nothing goes on with them.
 #[inline(always)]
-pub(crate) fn few_digits(bytes: &[u8]) -> Option<FewDigits>
-    ensures { IfSome result (IsFewDigits bytes.now) }
+pub(crate) fn short_digits(text: &str) -> Option<(u64, &str)>
+    ensures { IfSome result (λ p. IsShort text.now p.0 p.1.now) }
 {
+    let bytes = text.as_bytes();
     let found = front_digits(bytes);
     if found.len == 0 {
         return None;
@@ -188,15 +188,6 @@ pub(crate) fn few_digits(bytes: &[u8]) -> Option<FewDigits>
     if is_padded(bytes, found.len) {
         return None;
     }
-    Some(found)
-}
-
-/// The number of few digits in front, and what follows it.
-#[inline(always)]
-pub(crate) fn short_digits(text: &str) -> Option<(u64, &str)>
-    ensures { IfSome result (λ p. IsShort text.now p.0 p.1.now) }
-{
-    let found = few_digits(text.as_bytes())?;
     Some((found.value, text.split_at(found.len).1))
 }
 

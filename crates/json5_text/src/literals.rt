@@ -83,14 +83,11 @@ fn read_exponent(text: &str) -> Option<Tail>
             rest: text,
         });
     }
-    let (mark, rest) = front(text)?;
-    match mark {
-        'e' | 'E' => {
-            let (negative, digits) = after_sign(rest);
-            read_exponent_digits(negative, digits)
-        }
-        _ => None,
-    }
+    let Some(('e' | 'E', rest)) = front(text) else {
+        return None;
+    };
+    let (negative, digits) = after_sign(rest);
+    read_exponent_digits(negative, digits)
 }
 
 /// `0`, or digits that begin with another one.
@@ -130,12 +127,9 @@ pub(crate) fn read_literal(text: &str) -> Option<Literal>
     ensures { ReadsLiteral (model.literal_at (run_of (chars text.now))) text.now result }
 {
     let (before, rest) = split_digits(text);
-    let Some((point, digits)) = front(rest) else {
+    let Some(('.', digits)) = front(rest) else {
         return read_without_point(before, rest);
     };
-    if point != '.' {
-        return read_without_point(before, rest);
-    }
     let (after, rest) = split_digits(digits);
     if !has_digits(before, after) {
         return None;

@@ -66,15 +66,13 @@ fn word<'t>(
 ) -> Result<(Scanned<'t>, &'t str), Refusal>
     ensures { AnswersAs scanned_of (model.word (scanned_of number.entry) (chars letters.now) (chars text.now)) result }
 {
-    match skip_word(
+    let rest = skip_word(
         letters,
         text,
         ErrorCode::EofParsingNumber,
         ErrorCode::ExpectedNumber,
-    ) {
-        Ok(rest) => Ok((number, rest)),
-        Err(refusal) => Err(refusal),
-    }
+    )?;
+    Ok((number, rest))
 }
 
 /// A number without its sign; `start` is the text from the sign on, if there is one.

@@ -54,18 +54,6 @@ impl<'t> Scanned<'t> {
     }
 }
 
-/// The digits after the point, if any.
-fn digits_after<'t>(literal: &Literal<'t>) -> &'t str
-    requires { IfSome literal.now.after (λ digits. Each is_digit digits.now) }
-    ensures value { result.now ≡ numbers.digits_after (parts_of literal.now).after }
-    ensures digits { Each is_digit result.now }
-{
-    match literal.after {
-        Some(digits) => digits,
-        None => "",
-    }
-}
-
 /// The exponent as it is written, or `EXPONENT_LIMIT` after its sign where that is less.
 fn written_exponent(exponent: &Exponent) -> i128
     requires { HasExponentDigits exponent.now }
@@ -94,15 +82,10 @@ fn whole_number(negative: bool, literal: &Literal) -> Option<Whole>
     ensures whole { IsSome result ↔ (is_whole_literal negative literal.now ≡ true) }
     ensures value { IfSome result (λ z. z ≡ numbers.signed negative (numbers.spelled 10 0 literal.now.before.now)) }
 {
-    if literal.after.is_some() {
+    if literal.after.is_some() || literal.exponent.is_some() {
         return None;
     }
-    if literal.exponent.is_some() {
-        return None;
-    }
-    let Some(magnitude) = decimal_value(literal.before) else {
-        return None;
-    };
+    let magnitude = decimal_value(literal.before)?;
     Whole::from_parts(negative, magnitude)
 }
 
@@ -118,7 +101,7 @@ pub(crate) fn judge<'t>(
     if let Some(whole) = whole_number(negative, literal) {
         return Ok(Scanned::Whole(whole));
     }
-    let after = digits_after(literal);
+    let after = literal.after.unwrap_or("");
     let exponent = lowered_exponent(literal, after.len());
     let Some(decimal) = DecimalRef::new(negative, literal.before, after, exponent) else {
         return Err(Refusal::Code(ErrorCode::OverflowParsingNumber, Some(start.len())));

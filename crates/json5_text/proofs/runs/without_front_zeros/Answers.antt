@@ -1,9 +1,14 @@
-use Rattle.std.proofs.Common.{◌∙◌}
-use Rattle.json5_text.proofs.NumberRuns.{is_zero, zero_is_ascii, front_boundary, rest_cut, zeros_are_rest}
+use Rattle.std.proofs.Common.{◌∙◌, sym, refl, arith}
+use Rattle.std.proofs.lemmas.Str.{IsCharBoundary-start, IsCharBoundary-after_ascii}
+use Rattle.json5_text.proofs.NumberRuns.{zero_past}
 use Rattle.json5_text.proofs.runs.without_front_zeros.Goals as goal
 
-pub split_at-requires : goal.split_at-requires
-split_at-requires c = front_boundary is_zero c.args.text.now _ zero_is_ascii c.utf8.text (rw c.as_bytes.ensures.value at c.front_zeros_len.ensures)
+pub loop-start-init : goal.loop-start-init
+loop-start-init c = record { inside = omega arith; cut = IsCharBoundary-start _ c.as_bytes-bytes.ensures.utf8; same = refl }
 
-pub returns : goal.returns
-returns c = c.split_at.ensures.back ∙ rest_cut is_zero c.args.text.now _ (rw c.as_bytes.ensures.value at c.front_zeros_len.ensures) ∙ zeros_are_rest c.args.text.now
+pub loop-start-preserved : goal.loop-start-preserved
+loop-start-preserved c = record {
+  inside = omega arith;
+  cut = IsCharBoundary-after_ascii _ c.loop-start.start c.as_bytes-bytes.ensures.utf8 c.loop-start-test.true (omega (arith, c.if-bytes-start-eq48.true));
+  same = sym (zero_past c.as_bytes-bytes.result.now c.loop-start.start c.loop-start-test.true c.if-bytes-start-eq48.true) ∙ c.loop-start.invariant.same;
+}
