@@ -130,6 +130,7 @@ at_line_end q c x r e s m n =
     let b : (c == 92) ≡ false = grind arith in
     let h : is_raw (quote_of q) c ≡ false = subst (NotBegun (is_raw_in (kind.String q))) e s in
     rw e (string_is (quote_of q) (c ∷ r) ∙ rest_line (quote_of q) c r a b (not_raw (quote_of q) c h a b))
+
 -- ---- where a string is expected
 
 pub string_none : (x : List ℕ) → x ≡ [] → string_at x ≡ bad (Some EofParsingString) inner

@@ -189,6 +189,7 @@ fn read_item<'t>(
 }
 
 /// The characters in front that stand for themselves, and where they end.
+#[inline(always)]
 fn read_run(kind: Kind, text: &str) -> Result<(&str, Stop<'_>), Refusal>
     ensures { AnswersRun kind text.now result }
 {
