@@ -1,14 +1,14 @@
 -- What a call of an access to an array means, from what its reader read.
 use Rattle.std.proofs.Common.{◌≡◌, ◌<◌, true, Bool, refl, sym, ap, ◌∙◌, subst, length, Option, Some, None, Ok, Err}
+use Rattle.json5_value.specs.Brackets.{square}
+use Rattle.json5_value.specs.Places.{StartsAfter, PlacedAt}
 use Rattle.std.specs.Prelude.{◌||◌, is_some, Result, IfSome}
 use Rattle.json5_grammar.specs.Trees.{Tree}
 use Rattle.json5_grammar.proofs.MembersPassed.{element_shorter}
 use Rattle.json5_text.specs.declared.error.Error.{Error}
 use Rattle.json5_de.specs.State.{State, SameText}
-use Rattle.json5_de.specs.Brackets.{square}
 use Rattle.json5_de.specs.Law.{Steady}
-use Rattle.json5_de.specs.Access.{Seen, bare, GivesElement, CompletesElement, CompletesClose, PlacedAtBracket, StartsAfter}
-use Rattle.json5_de.specs.Options.{PlacedAt}
+use Rattle.json5_de.specs.Access.{Seen, bare, GivesElement, CompletesElement, CompletesClose, PlacedAtBracket}
 use Rattle.json5_de.specs.Seq.{RefusesElement}
 use Rattle.json5_de.specs.Lending.{seen, blocking, Settles, KeepsAccess, ReadsNext}
 use Rattle.json5_de.specs.declared.seq.SeqAccess.{SeqAccess}

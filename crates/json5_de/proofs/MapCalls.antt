@@ -1,15 +1,15 @@
 -- What a call of an access to an object means, from what its reader read.
 use Rattle.std.proofs.Common.{◌≡◌, ◌<◌, true, false, Bool, refl, sym, ◌∙◌, subst, length, Option, Some, None, Ok, Err}
+use Rattle.json5_value.specs.Brackets.{curly}
+use Rattle.json5_value.specs.Places.{StartsAfter, PlacedAt}
 use Rattle.std.specs.Prelude.{is_some, Result, IfSome}
 use Rattle.json5_grammar.specs.Trees.{Tree}
 use Rattle.json5_grammar.proofs.MembersPairs.{key_shorter, key_value_shorter}
 use Rattle.json5_text.specs.declared.error.Error.{Error}
 use Rattle.json5_de.specs.State.{State, SameText}
-use Rattle.json5_de.specs.Brackets.{curly}
 use Rattle.json5_de.specs.Keys.{KeyConversion}
 use Rattle.json5_de.specs.Law.{Steady}
-use Rattle.json5_de.specs.Access.{bare, CompletesClose, PlacedAtBracket, StartsAfter}
-use Rattle.json5_de.specs.Options.{PlacedAt}
+use Rattle.json5_de.specs.Access.{bare, CompletesClose, PlacedAtBracket}
 use Rattle.json5_de.specs.Objects.{SeenMap, bare_map, GivesPairKey, GivesPairValue, CompletesPairKey, CompletesPairValue}
 use Rattle.json5_de.specs.ObjectFaults.{RefusesPairKey, RefusesPairValue}
 use Rattle.json5_de.specs.Lending.{seen_map, blocking_map, SettlesMap, KeepsMap, ReadsNextKey, ReadsNextValue}

@@ -1,5 +1,6 @@
 -- An access and the reader that is lent to it.
 use Rattle.std.specs.Prelude.{◌≡◌, ◌<◌, ℕ, Bool, true, false, List, length, Option, is_some, Result, Ok, IfOk, IfErr, IfSome, IsErrAnd, MatchResult}
+use Rattle.json5_value.specs.Brackets.{square, curly}
 use Rattle.std.specs.Borrow.{Fml, GName, RattleType, MutBor, RestsIfErr}
 use Rattle.json5_text.specs.declared.error.Error.{Error}
 use Rattle.json5_text.specs.declared.byte_buf.ByteBuf.{ByteBuf}
@@ -9,7 +10,6 @@ use Rattle.json5_text.specs.Bytes.{bytes_of}
 use Rattle.json5_text.specs.Cows.{cow_bytes, is_borrowed}
 use Rattle.json5_de.specs.State.{State, SameText, GivesUp}
 use Rattle.json5_grammar.specs.Trees.{Tree, Trees, Pairs}
-use Rattle.json5_de.specs.Brackets.{square, curly}
 use Rattle.json5_de.specs.Access.{Seen, PlacedAtBracket, GivesElement, ReadsElement, CompletesClose, ReadsMore, ElementsLeft, LeavesFewer}
 use Rattle.json5_de.specs.Seq.{RefusesNext}
 use Rattle.json5_de.specs.Keys.{KeyConversion, ReadsOneKey}

@@ -1,7 +1,5 @@
-use Rattle.std.proofs.Common.{subst}
+use Rattle.std.proofs.Common.{◌∙◌}
 use Rattle.std.proofs.lemmas.Result.{err_from_is_err_and}
-use Rattle.json5_de.specs.Access.{StartsAfter}
-use Rattle.json5_de.specs.Options.{PlacedAt}
 use Rattle.json5_de.proofs.VariantContents.{brace_missing, content_refused}
 use Rattle.json5_de.proofs.de.Deserializer.in_brace.Goals as goal
 
