@@ -1,5 +1,5 @@
 -- The steps of an access, and how its calls refuse.
-use Rattle.std.specs.Prelude.{◌≡◌, ℕ, ◌-◌, Bool, true, false, List, [], ◌∷◌, ◌++◌, Option, Some, None, ◌==◌, Result, IfErr, OnOk, OnErr, IsErrAnd}
+use Rattle.std.specs.Prelude.{◌≡◌, ℕ, ◌-◌, Bool, true, false, List, [], ◌∷◌, ◌++◌, Option, Some, None, ◌==◌, Result, IfOk, IfErr, OnOk, OnErr, IsErrAnd}
 use Rattle.json5_grammar.specs.declared.code.ErrorCode.{ErrorCode}
 use Rattle.json5_grammar.specs.declared.code.ErrorCode.TheVariants as codes
 use Rattle.json5_grammar.specs.Codes.{after_text}
@@ -13,7 +13,7 @@ use Rattle.json5_text.specs.Errors.{code, kind_of}
 use Rattle.json5_de.specs.State.{State, OnlyRead, SameText, cursor_of}
 use Rattle.json5_value.specs.declared.brackets.Brackets.{Brackets}
 use Rattle.json5_value.specs.Brackets.{square}
-use Rattle.json5_de.specs.Law.{Unprompted}
+use Rattle.json5_de.specs.Law.{Unprompted, Steady}
 use Rattle.json5_de.specs.Faults.{RefusedBy, AtEnd, DiffersWith}
 use Rattle.json5_de.specs.Access.{Seen, AtClose, HasPlace, PlacedAtBracket, IsAtBracket, is_comma_or_closing}
 use Rattle.json5_value.specs.Steps.{Unexpected}
@@ -70,6 +70,13 @@ pub data NoNext (b : Brackets) (due : Bool) : List ℕ → Option ErrorCode → 
   no_comma : (c : ℕ) (r : List ℕ) → due ≡ true → (c == comma_sign) ≡ false → (c == b.closing) ≡ false → NoNext b due (c ∷ r) (Some codes.ExpectedComma) (Some [])
   comma_missing : due ≡ true → NoNext b due [] (Some b.ends) None
   in_blanks_after : {x : List ℕ} {reason : Option ErrorCode} {place : Option (List ℕ)} → due ≡ true → FaultyBlanks x reason place → NoNext b due (comma_sign ∷ x) reason (after_text (comma_sign ∷ []) place)
+
+-- the reader goes to the next member, or to the closing bracket
+pub record Advances (b : Brackets) (due : Bool) (old new : State) (result : Result Bool Error) : Type 0 where
+  pub sound : IfOk result (λ more. GoesOn b due old new more)
+  pub refused : IfErr result (RefusedBy (NoNext b due) old)
+  pub nowhere : OnErr result (old.failed ≡ false → NothingNext b due old.unread)
+  pub steady : Steady old new result
 
 -- ---- how a call of an access refuses
 

@@ -1,6 +1,6 @@
 //! What arrays and objects share: their brackets, and the commas between their elements or pairs.
 
-ghost use Rattle.std.specs.Prelude.{◌≡◌, ◌==◌, false, true, ℕ, List, Some, slice_get, IfOk, IfErr, OnErr, OnOk, IsOk, IsErrAnd};
+ghost use Rattle.std.specs.Prelude.{◌≡◌, ◌==◌, false, true, ℕ, List, Some, slice_get, IfErr, OnErr, OnOk, IsOk, IsErrAnd};
 ghost use Rattle.json5_grammar.specs.declared.code.ErrorCode.TheVariants as codes;
 ghost use Rattle.json5_grammar.specs.Characters.{NotBegun};
 ghost use Rattle.json5_grammar.specs.Members.{IsEnd};
@@ -13,11 +13,12 @@ use crate::de::Deserializer;
 use json5_text::ErrorCode;
 use json5_text::error::{Error, Result};
 use json5_text::input::Input;
+use json5_text::short::ShortStep;
 use json5_value::brackets::BracketKind;
 
 impl<I: Input> Deserializer<I> {
     ghost use Rattle.json5_de.specs.Access.{Closed, OpensAs, NotClosed};
-    ghost use Rattle.json5_de.specs.Seq.{TakesClosing, GoesOn, NothingNext, NoNext};
+    ghost use Rattle.json5_de.specs.Seq.{TakesClosing, Advances};
 
     /// Takes an opening bracket, and gives the count of bytes before it.
     pub(crate) fn open(&mut self, kind: BracketKind) -> Result<usize>
@@ -46,11 +47,21 @@ impl<I: Input> Deserializer<I> {
     }
 
     /// Goes to the next member and says true, or to the closing bracket and says false.
+    #[inline(always)]
     pub(crate) fn goes_on(&mut self, kind: BracketKind, due: bool) -> Result<bool>
-        ensures sound { IfOk result (λ more. GoesOn (brackets_of kind) due self.old self.new more) }
-        ensures refused { IfErr result (RefusedBy (NoNext (brackets_of kind) due) self.old) }
-        ensures nowhere { OnErr result (self.old.failed ≡ false → NothingNext (brackets_of kind) due self.old.unread) }
-        ensures steady { Steady self.old self.new result }
+        ensures { Advances (brackets_of kind) due self.old self.new result }
+    {
+        match self.short_step(kind, due) {
+            ShortStep::Member => Ok(true),
+            ShortStep::Closing => Ok(false),
+            ShortStep::Other => self.goes_on_slowly(kind, due),
+        }
+    }
+
+    /// The same, whatever is in front.
+    #[inline(never)]
+    fn goes_on_slowly(&mut self, kind: BracketKind, due: bool) -> Result<bool>
+        ensures { Advances (brackets_of kind) due self.old self.new result }
     {
         self.begin()?;
         if self.at_closing(kind) {

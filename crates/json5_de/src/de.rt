@@ -125,6 +125,7 @@ impl<I: Input> Deserializer<I> {
     }
 
     /// Answers `Failed` where a call refused before, or an access holds the reader.
+    #[inline(always)]
     pub(crate) fn live(&self) -> Result<()>
         ensures live { OnOk result ((self.now.failed ≡ false) × (self.now.level ≤ max_depth)) }
         ensures failed { IfErr result (λ e. (self.now.failed ≡ true) × IsUnplaced codes.Failed e) }
@@ -136,6 +137,8 @@ impl<I: Input> Deserializer<I> {
     }
 
     /// Refuses, now and from now on.
+    #[cold]
+    #[inline(never)]
     pub(crate) fn refuse<T>(&mut self, error: Error) -> Result<T>
         ensures state { self.new ≡ record self.old { failed = true } }
         ensures result { result ≡ Err error }
@@ -145,6 +148,7 @@ impl<I: Input> Deserializer<I> {
     }
 
     /// The next character.
+    #[inline(always)]
     pub(crate) fn peek(&self) -> Option<char>
         ensures { result ≡ next self.now }
     {
@@ -152,6 +156,7 @@ impl<I: Input> Deserializer<I> {
     }
 
     /// Passes over blanks, where there was no refusal so far.
+    #[inline(always)]
     pub(crate) fn begin(&mut self) -> Result<()>
         ensures { PassesGap self.old self.new result }
     {
@@ -238,6 +243,8 @@ impl<I: Input> Deserializer<I> {
     }
 
     /// A fault at the next character.
+    #[cold]
+    #[inline(never)]
     pub(crate) fn fault_here(&self, code: ErrorCode) -> Error
         ensures kind { kind_of result ≡ FaultKind.code code }
         ensures placed { IsPlaced (cursor_of self.now) (Some []) result }
@@ -246,6 +253,8 @@ impl<I: Input> Deserializer<I> {
     }
 
     /// Refuses what is next: `differs` at the character, or `ends` at the end, without a place.
+    #[cold]
+    #[inline(never)]
     pub(crate) fn unexpected(&mut self, ends: ErrorCode, differs: ErrorCode) -> Error
         ensures { IsUnexpected ends differs self.old self.new result }
     {
@@ -255,6 +264,8 @@ impl<I: Input> Deserializer<I> {
     }
 
     /// The fault, at the offset where it has no place.
+    #[cold]
+    #[inline(never)]
     pub(crate) fn place_at(&self, start: usize, error: Error) -> Error
         ensures { PlacedAt (StartsAfter self.now.input start) error result }
     {
@@ -282,6 +293,8 @@ impl<I: Input> Deserializer<I> {
     }
 
     /// The fault of a value that isn't of the type that is expected: a text of its own, at the offset.
+    #[cold]
+    #[inline(never)]
     pub(crate) fn mismatch_at(&self, offset: usize, mismatch: &Mismatch<'_>) -> Error
         ensures { IsMismatch self.now.input offset result }
     {
@@ -293,6 +306,8 @@ impl<I: Input> Deserializer<I> {
     }
 
     /// Refuses a value that isn't of the type that is expected: a text of its own, at the offset.
+    #[cold]
+    #[inline(never)]
     pub(crate) fn mismatch<T>(&mut self, offset: usize, mismatch: &Mismatch<'_>) -> Result<T>
         ensures { GivesUpWith (IsMismatch self.old.input offset) self.old self.new result }
     {
@@ -301,6 +316,7 @@ impl<I: Input> Deserializer<I> {
     }
 
     /// Sets the flag that blocks the reader while an access holds it.
+    #[inline(always)]
     pub(crate) fn set_failed(&mut self, failed: bool)
         ensures { self.new ≡ record self.old { failed = failed } }
     {

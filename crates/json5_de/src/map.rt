@@ -265,6 +265,8 @@ impl<'a, I: Input> MapAccess<'a, I> {
     }
 
     /// The fault, at the opening brace where it has no place.
+    #[cold]
+    #[inline(never)]
     pub fn place(&self, error: Error) -> Error
         ensures { PlacedAtBracket (seen_map self.now).at error result }
     {

@@ -54,6 +54,7 @@ impl<I: Input> Deserializer<I> {
     ghost use Rattle.json5_de.specs.Lending.{seen, HoldsBlocked, lends_reader};
 
     /// The next element of an array, or none where the closing bracket is next.
+    #[inline(always)]
     fn element<T: Deserialize<I>>(&mut self, due: bool) -> Result<Option<T>>
         ensures sound { IfOk result (λ o. GivesElement T.content T.convert (bare self.old due) (bare self.new (due || is_some o)) o) }
         ensures complete { CompletesElement T.convert (bare self.old due) result }
@@ -111,6 +112,7 @@ impl<'a, I: Input> SeqAccess<'a, I> {
 
     /// Blocks the reader again after a call of its own, and keeps in mind that one was refused. A fault without a place gets the
     /// opening bracket's.
+    #[inline(always)]
     fn settle<T>(&mut self, read: Result<T>) -> Result<T>
         ensures { Settles self.old read self.new result }
     {
@@ -127,6 +129,7 @@ impl<'a, I: Input> SeqAccess<'a, I> {
     /// The next element; none where the closing bracket is next, which stays unread. After an element `ExpectedComma` stands at
     /// what is neither a comma nor the bracket, and `EofParsingArray` says that the text ends; else the element's own faults come.
     /// A fault without a place gets the opening bracket's. After a refusal every later call answers `Failed`.
+    #[inline(always)]
     pub fn next_element<T: Deserialize<I>>(&mut self) -> Result<Option<T>>
         ensures { ReadsNext T.content T.convert T.refuses self.old self.new result }
     {
@@ -170,6 +173,8 @@ impl<'a, I: Input> SeqAccess<'a, I> {
     }
 
     /// The fault, at the opening bracket where it has no place.
+    #[cold]
+    #[inline(never)]
     pub fn place(&self, error: Error) -> Error
         ensures { PlacedAtBracket (seen self.now) error result }
     {
