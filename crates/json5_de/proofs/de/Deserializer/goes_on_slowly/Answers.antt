@@ -26,7 +26,7 @@ returns-then-not-eat g c =
     let passed = c.in_ok-begin.ensures.passed in
     let kept = c.if-not-eat.ensures.kept refl in
     let refused = refused_token c.args.self.now c.begin.new.self c.unexpected.result passed
-        (refused_as c.eat.new.self c.begin.new.self c.unexpected.result kept.0 (λ reason place f. no_next (brackets_of c.args.kind) c.args.due c.begin.new.self.unread reason place c.if-not-due.false kept.1 (c.if-at_closing.ensures.other refl) f) (rw c.brackets.ensures at c.unexpected.ensures.fault)) in
+    (refused_as c.eat.new.self c.begin.new.self c.unexpected.result kept.0 (λ reason place f. no_next (brackets_of c.args.kind) c.args.due c.begin.new.self.unread reason place c.if-not-due.false kept.1 (c.if-at_closing.ensures.other refl) f) (rw c.brackets.ensures at c.unexpected.ensures.fault)) in
     record {
       sound = tt;
       refused = refused;
