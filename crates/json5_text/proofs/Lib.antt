@@ -25,6 +25,7 @@ pub mod NumberCases
 pub mod DecimalRuns
 pub mod ScanNumbers
 pub mod ScanKeys
+pub mod TextTokens
 pub mod StopRuns
 pub mod ByteSearch
 pub mod FirstBytes

@@ -1,9 +1,5 @@
 -- Keys, in the words of the scanner's contracts.
-use Rattle.std.proofs.Common.{◌≡◌, ℕ, ◌+◌, ◌-◌, ◌≤◌, Bool, true, false, List, [], ◌∷◌, ◌++◌, length, take, drop, refl, ap, sym, ◌∙◌, subst, arith, append_assoc, Option, Some, None}
-use Rattle.std.specs.Option.{unwrap_or}
-use Rattle.std.specs.Str.{IsUtf8, IsCharBoundary, chars, encode_utf8_all}
-use Rattle.std.specs.Str.Pattern.{GetsRange}
-use denote.Ref.{Bor}
+use Rattle.std.proofs.Common.{◌≡◌, ℕ, Bool, true, false, List, [], ◌∷◌, ◌++◌, refl, ap, sym, ◌∙◌, subst, Some}
 use Rattle.json5_grammar.specs.Characters.{NotBegun}
 use Rattle.json5_grammar.specs.declared.code.ErrorCode.TheVariants.{EofParsingIdentifier}
 use Rattle.json5_grammar.specs.Names.{Key, string_key, name_key}
@@ -11,27 +7,20 @@ use Rattle.json5_grammar.specs.Reading.{Read, inner, got, bad}
 use Rattle.json5_grammar.specs.ReadTexts.{identifier, key}
 use Rattle.json5_grammar.specs.Strings.{is_quote}
 use Rattle.json5_grammar.proofs.KeysRead.{key_complete}
-use Rattle.json5_grammar.proofs.TextsWritten.{string_slice, name_slice}
-use Rattle.json5_text.specs.declared.cow_str.CowStr.{CowStr}
-use Rattle.json5_text.specs.declared.cow_str.CowStr.TheVariants as cow
 use Rattle.json5_text.specs.declared.error.Error.{Error}
-use Rattle.json5_text.specs.declared.key_text.KeyText.{KeyText}
 use Rattle.json5_text.specs.declared.refusal.Refusal.{Refusal}
 use Rattle.json5_text.specs.declared.refusal.Refusal.TheVariants as refusal
-use Rattle.json5_text.specs.Answered.{IsCow, SparesPlain}
-use Rattle.json5_text.specs.Cows.{cow_bytes, is_borrowed}
+use Rattle.json5_text.specs.Answered.{SparesPlain}
 use Rattle.json5_text.specs.Cursor.{Cursor}
 use Rattle.json5_text.specs.Errors.{LacksMemory}
-use Rattle.json5_text.specs.Keys.{StandsAt, KeyIs}
-use Rattle.json5_text.specs.Outcome.{bytes_in, outcome}
+use Rattle.json5_text.specs.Outcome.{outcome}
 use Rattle.json5_text.specs.Refused.{Refuses}
-use Rattle.json5_text.specs.Scan.{InText, MadeOf}
-use Rattle.json5_text.specs.ScanKeys.{key_at, IsKeyOf, IsKeyIn}
+use Rattle.json5_text.specs.Scan.{MadeOf}
+use Rattle.json5_text.specs.ScanKeys.{key_at}
 use Rattle.json5_text.specs.ScanTexts.{string_at}
 use Rattle.json5_text.specs.Tokens.{FaultyKey, at_quote, at_name}
-use Rattle.json5_text.proofs.ScanBytes.{Halves, halves_in, fits_left, bytes_append, cut_at, part_between, halves_after}
 use Rattle.json5_text.proofs.ScanFaults.{FaultAt, FaultyIn}
-use Rattle.json5_text.proofs.ScanTokens.{AtSound, at_sound, NameAtSound, name_at_sound, string_taken, name_taken, of_memory, left_counted}
+use Rattle.json5_text.proofs.ScanTokens.{AtSound, at_sound, NameAtSound, name_at_sound, of_memory}
 
 -- ---- what reading gives
 
@@ -51,72 +40,6 @@ key_of : (x : List ℕ) (a : List ℕ × Bool) (r : List ℕ) → key x ≡ got 
 unfolding key_at key
 key_of [] a r e = absurd (cc)
 key_of (c ∷ x) a r e = e
-
--- a plain string's text begins its body
-pub string_body : (q : ℕ) (x body u r : List ℕ) (plain : Bool) → x ≡ q ∷ body → string_at x ≡ got (u, plain) r → plain ≡ true → (rest : List ℕ) × (body ≡ u ++ rest)
-string_body q x body u r plain e read h =
-    let k = string_taken x x u r plain refl read in
-    let s = string_slice k.is_string h in
-    (s.0 ∷ [] ++ r, tails (sym e ∙ k.split ∙ ap (λ z. z ++ r) s.2 ∙ ap (λ z. s.0 ∷ z) (append_assoc u (s.0 ∷ []) r)))
-  where
-    tails : {a b : ℕ} {y z : List ℕ} → a ∷ y ≡ b ∷ z → y ≡ z
-    tails f = cc
-
--- a plain name is its text
-pub name_body : (x u r : List ℕ) (plain : Bool) → identifier x ≡ got (u, plain) r → plain ≡ true → (rest : List ℕ) × (x ≡ u ++ rest)
-name_body x u r plain read h =
-    let k = name_taken x x u r plain refl read in
-    (r, k.split ∙ ap (λ z. z ++ r) (name_slice k.is_name h))
-
--- ---- where the text stands
-
--- a borrowed text is no longer than what begins with it
-pub borrowed_fits : {u : List ℕ} {plain : Bool} (text : CowStr) (y : List ℕ) → IsUtf8 y → IsCow text u plain → (plain ≡ true → (rest : List ℕ) × (chars y ≡ u ++ rest)) → is_borrowed text ≡ true → length (cow_bytes text) ≤ length y
-borrowed_fits {u = u} text y utf8 is begins h =
-    let k = begins (sym is.borrowed ∙ h) in
-    let whole = left_counted y utf8 ∙ ap bytes_in k.1 ∙ bytes_append u k.0 in
-    let part = ap length is.bytes in
-    omega arith
-
-pub key_in : {x u : List ℕ} {plain : Bool} (end left : ℕ) (k : KeyText) (text : CowStr) (front y : List ℕ) → x ≡ front ++ y → IsCow text u plain → (plain ≡ true → (rest : List ℕ) × (y ≡ u ++ rest)) → left ≡ bytes_in y → IsKeyOf (end - left) text k
-    → IsKeyIn end x k u plain
-key_in {x = x} {u = u} {plain = plain} end left k (cow.Borrowed text) front y split is begins counted made = λ before whole.
-    let more = begins (sym is.borrowed) in
-    let cut : before ++ x ≡ (before ++ front) ++ y = ap (λ z. before ++ z) split ∙ sym (append_assoc before front y) in
-    let bytes = whole ∙ ap bytes_in cut ∙ bytes_append (before ++ front) y in
-    subst (KeyIs (before ++ x) u plain) (sym made) (
-      sym is.borrowed,
-      record {
-        before = before ++ front;
-        rest = more.0;
-        split = cut ∙ ap (λ z. (before ++ front) ++ z) more.1;
-        starts = (omega arith);
-        ends = ap (λ z. (end - left) + length z) is.bytes;
-      },
-    )
-key_in {x = x} {u = u} {plain = plain} end left k (cow.Owned text) front y split is begins counted made = λ before whole.
-    subst (KeyIs (before ++ x) u plain) (sym made) (sym is.borrowed, is.bytes)
-
--- what is unread is no longer than the whole text
-pub unread_fits : {text : List ℕ} {offset end : ℕ} (s : Cursor) (part : List ℕ) → InText text offset end → IsUtf8 part → chars part ≡ s.unread → chars (drop offset text) ≡ s.unread → length part ≤ end
-unread_fits s part k utf8 e f = fits_left _ _ k (halves_in k).split (left_counted part utf8 ∙ ap bytes_in (e ∙ sym f))
-
--- the key in front of what is unread has its text in the whole one
-pub key_inside : {text : List ℕ} {offset end : ℕ} (s : Cursor) (x u : List ℕ) (plain : Bool) (k : KeyText) → InText text offset end → chars text ≡ s.input → chars (drop offset text) ≡ s.unread → x ≡ s.unread → IsKeyIn end x k u plain → KeyIs s.input u plain k
-key_inside {text = text} {offset = offset} s x u plain k inside e f g is =
-    let before = chars (take offset text) in
-    let whole : before ++ x ≡ chars text = ap (λ z. before ++ z) (g ∙ sym f) ∙ sym (halves_in inside).split in
-    subst (λ z. KeyIs z u plain k) (whole ∙ e) (is before (inside.counted ∙ left_counted text inside.is_text ∙ sym (ap bytes_in whole)))
-
--- the part of a text where u stands
-pub stands_between : (text u : List ℕ) (start end : ℕ) (part : Option (Bor (List ℕ))) (other : Bor (List ℕ)) → IsUtf8 text → GetsRange text start end part → StandsAt (chars text) u start end → (unwrap_or part other).now ≡ encode_utf8_all u
-stands_between text u start end (Some x) other utf8 gets at =
-    let h : Halves text at.before (u ++ at.rest) = record { is_text = utf8; split = at.split } in
-    gets.0 ∙ rw (at.ends, at.starts) (part_between u at.rest h)
-stands_between text u start end None other utf8 gets at =
-    let h : Halves text at.before (u ++ at.rest) = record { is_text = utf8; split = at.split } in
-    let ends = sym (at.ends ∙ ap (λ n. n + bytes_in u) at.starts ∙ sym (bytes_append at.before u)) in
-    absurd (gets (let e = at.ends in omega arith) (subst (IsCharBoundary text) (sym at.starts) (cut_at h)) (subst (IsCharBoundary text) ends (cut_at (halves_after u at.rest h refl))))
 
 -- ---- what the scanner promises
 

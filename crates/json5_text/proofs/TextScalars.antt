@@ -117,7 +117,10 @@ key_spelled (name_key i e) h = name_scalars i h
 pub key_scalars : {s u : List ℕ} {plain : Bool} (x r : List ℕ) → x ≡ s ++ r → all_scalars x ≡ true → Key s r u plain → all_scalars u ≡ true
 key_scalars {s = s} x r split h k = key_spelled k (scalar_halves s r (subst (λ z. all_scalars z ≡ true) split h)).0
 
+-- a string in front has a text of scalar values
+pub string_scalars : {s u : List ℕ} {plain : Bool} (x r : List ℕ) → x ≡ s ++ r → all_scalars x ≡ true → Str s u plain → all_scalars u ≡ true
+string_scalars {s = s} x r split h k = text_scalars k (scalar_halves s r (subst (λ z. all_scalars z ≡ true) split h)).0
+
 -- the characters of the bytes of a text in front
 pub text_characters : {s u : List ℕ} {plain : Bool} (x r bytes : List ℕ) → x ≡ s ++ r → all_scalars x ≡ true → Str s u plain → bytes ≡ encode_utf8_all u → chars bytes ≡ u
-text_characters {s = s} {u = u} x r bytes split k str same =
-    ap chars same ∙ chars-encodes u (text_scalars str (scalar_halves s r (subst (λ z. all_scalars z ≡ true) split k)).0)
+text_characters {u = u} x r bytes split k str same = ap chars same ∙ chars-encodes u (string_scalars x r split k str)

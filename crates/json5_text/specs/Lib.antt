@@ -3,7 +3,7 @@ pub mod Outcome
 pub mod Refused
 pub mod Cursor
 pub mod Tokens
-pub mod Keys
+pub mod TextTokens
 pub mod Takes
 pub mod NumberViews
 pub mod NumberPieces
@@ -25,5 +25,6 @@ pub mod ValueViews
 pub mod ValueLookups
 pub mod ScanNumbers
 pub mod ScanKeys
+pub mod ScanTextTokens
 pub mod ScanBlanks
 pub mod Short

@@ -53,6 +53,7 @@ string_at (c ∷ r) = cond (is_quote c) (string (c ∷ r)) (bad (Some ExpectedSt
 
 -- the quote q opens a string at the front of x, and the body follows it
 pub record IsOpened (x : List ℕ) (q : Quote) (body : List ℕ) : Type 0 where
+  pub split : x ≡ quote_of q ∷ chars body
   pub read : string_at x ≡ text_at (kind.String q) (chars body)
   pub text : IsUtf8 body
 

@@ -11,12 +11,12 @@ use Rattle.json5_grammar.specs.Stops.{lengthens}
 use Rattle.json5_grammar.specs.Strings.{Str}
 use Rattle.json5_text.specs.declared.cow_str.CowStr.{CowStr}
 use Rattle.json5_text.specs.declared.error.Error.{Error}
-use Rattle.json5_text.specs.declared.key_text.KeyText.{KeyText}
+use Rattle.json5_text.specs.declared.text_token.TextToken.{TextToken}
 use Rattle.json5_text.specs.declared.number.Number.{Number}
 use Rattle.json5_text.specs.Cows.{cow_bytes, is_borrowed}
 use Rattle.json5_text.specs.Cursor.{Cursor, Refused, Took}
 use Rattle.json5_text.specs.Errors.{LacksMemory}
-use Rattle.json5_text.specs.Keys.{KeyIs}
+use Rattle.json5_text.specs.TextTokens.{Spells}
 use Rattle.json5_text.specs.NumberViews.{number_of, keeps_digits, whole_in}
 use Rattle.json5_text.specs.Tokens.{FaultyBlanks, FaultyWord, FaultyNumber, FaultyString, FaultyName, FaultyKey}
 
@@ -45,12 +45,20 @@ pub record TakesOwned {A : Type 0} (old new : Cursor) (result : Result (String A
   pub refused : IfErr result (λ e. LacksMemory e ⊎ Refused FaultyString old e)
   pub kept : OnErr result (new ≡ old)
 
--- a string is taken, its text borrowed where it is plain; memory is taken where it isn't, and at a refusal
-pub record TakesString (old new : Cursor) (result : Result CowStr Error) : Type 0 where
-  pub taken : IfOk result (λ t. (s u : List ℕ) × (plain : Bool) × Took old s new × Str s u plain × (is_borrowed t ≡ plain) × (cow_bytes t ≡ encode_utf8_all u))
+-- a string is taken, whose text this is; memory is taken where it isn't plain, and at a refusal
+pub record TakesText {T : Type 0} (IsText : T → List ℕ → Bool → Type 0) (old new : Cursor) (result : Result T Error) : Type 0 where
+  pub taken : IfOk result (λ t. (s u : List ℕ) × (plain : Bool) × Took old s new × Str s u plain × IsText t u plain)
   pub refused : IfErr result (λ e. LacksMemory e ⊎ Refused FaultyString old e)
   pub kept : OnErr result (new ≡ old)
   pub plain : (s u r : List ℕ) → old.unread ≡ s ++ r → Str s u true → IsOk result
+
+-- a string is taken, its text borrowed where it is plain
+abbrev pub TakesString : Cursor → Cursor → Result CowStr Error → Type 0
+TakesString old new result = TakesText (λ t u plain. (is_borrowed t ≡ plain) × (cow_bytes t ≡ encode_utf8_all u)) old new result
+
+-- a string is taken to its token
+abbrev pub TakesStringToken : Cursor → Cursor → Result TextToken Error → Type 0
+TakesStringToken old new result = TakesText (λ t u plain. Spells old.input u plain t) old new result
 
 -- a name is taken as far as it goes, its text borrowed where it is plain; memory is taken where it isn't, and at a refusal
 pub record TakesName (old new : Cursor) (result : Result CowStr Error) : Type 0 where
@@ -61,8 +69,8 @@ pub record TakesName (old new : Cursor) (result : Result CowStr Error) : Type 0 
   pub plain : (s u r : List ℕ) (c : ℕ) → old.unread ≡ s ++ c ∷ r → Ident s u true → goes_on_name c ≡ false → IsOk result
 
 -- a key is taken; memory is taken where its text isn't plain, and at a refusal
-pub record TakesKey (old new : Cursor) (result : Result KeyText Error) : Type 0 where
-  pub taken : IfOk result (λ k. (s u : List ℕ) × (plain : Bool) × Took old s new × Key s new.unread u plain × KeyIs old.input u plain k)
+pub record TakesKey (old new : Cursor) (result : Result TextToken Error) : Type 0 where
+  pub taken : IfOk result (λ k. (s u : List ℕ) × (plain : Bool) × Took old s new × Key s new.unread u plain × Spells old.input u plain k)
   pub refused : IfErr result (λ e. LacksMemory e ⊎ Refused FaultyKey old e)
   pub kept : OnErr result (new ≡ old)
   pub complete : (s u r : List ℕ) (plain : Bool) → old.unread ≡ s ++ r → Key s r u plain → IfErr result LacksMemory

@@ -5,18 +5,18 @@ ghost use Rattle.std.specs.Str.{all_scalars, chars};
 ghost use Rattle.json5_grammar.specs.Characters.{NotBegun};
 ghost use Rattle.json5_text.specs.Cursor.{Cursor, offset_of, Took};
 ghost use Rattle.json5_text.specs.Scan.{InText, Leaves, LeavesAt};
-ghost use Rattle.json5_text.specs.Takes.{PassesBlanks, TakesWord, TakesNumber, TakesOwned, TakesKey, PassesString, PassesName, PassesNumber};
+ghost use Rattle.json5_text.specs.Takes.{PassesBlanks, TakesWord, TakesNumber, TakesOwned, TakesStringToken, TakesKey, PassesString, PassesName, PassesNumber};
 
 use crate::blanks::skip_blank;
 use crate::error::Result;
 use crate::front::front;
 use crate::input::Input;
-use crate::key_text::KeyText;
 use crate::keys::read_key;
 use crate::names::skip_name;
 use crate::number::Number;
 use crate::numbers::{number, skip_number};
-use crate::strings::{read_string_owned, skip_string};
+use crate::strings::{read_string_owned, read_string_token, skip_string};
+use crate::text_token::TextToken;
 use crate::whole::Whole;
 use crate::words::skip_word;
 use json5_grammar::code::ErrorCode;
@@ -176,11 +176,22 @@ impl<I: Input> Scanner<I> {
         )
     }
 
+    /// Takes a string as `string` does, and gives the token that `text_of` finds its text by. A text without a backslash takes
+    /// no memory. The faults are those of `string`.
+    pub fn string_token(&mut self) -> Result<TextToken>
+        ensures { TakesStringToken self.old self.new result }
+    {
+        take!(
+            self,
+            read_string_token(self.alloc, self.end, self.rest(self.input.as_text()))
+        )
+    }
+
     /// Takes a key: a string or an identifier (JSON5 section 3). A text without a backslash takes no memory. A character must
     /// follow an identifier.
     ///
     /// The faults are those of `string` where a quote begins the key, else those of `identifier`.
-    pub fn key(&mut self) -> Result<KeyText>
+    pub fn key(&mut self) -> Result<TextToken>
         ensures { TakesKey self.old self.new result }
     {
         take!(

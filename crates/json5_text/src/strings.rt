@@ -1,16 +1,18 @@
 //! Strings (JSON5 section 5, ECMAScript 5.1 section 7.8.4).
 
-ghost use Rattle.std.specs.Prelude.{◌≡◌};
+ghost use Rattle.std.specs.Prelude.{◌≡◌, ◌≤◌, length};
 ghost use Rattle.std.specs.Str.{chars};
 ghost use Rattle.json5_grammar.specs.Strings.{is_quote, is_raw};
 ghost use Rattle.json5_text.specs.Answered.{AnswersCow, AnswersOwned, Passes};
 ghost use Rattle.json5_text.specs.Scan.{SkipsAll};
+ghost use Rattle.json5_text.specs.ScanTextTokens.{AnswersToken};
 ghost use Rattle.json5_text.specs.ScanTexts.{quote_of, string_at, AnswersQuote};
 
 use crate::bytes::raw_end;
 use crate::cow_str::CowStr;
 use crate::front::front;
 use crate::refusal::Refusal;
+use crate::text_token::TextToken;
 use crate::texts::{Kind, Quote, read_text, skip_text};
 use json5_grammar::code::ErrorCode;
 use std::alloc::Global;
@@ -35,6 +37,21 @@ pub(crate) fn read_string_owned(alloc: Global, text: &str) -> Result<(String, &s
         CowStr::Borrowed(text) => Ok((String::from_str(alloc, text)?, rest)),
         CowStr::Owned(text) => Ok((text, rest)),
     }
+}
+
+/// The token of the string in front, and what follows the string. `end` is the length in bytes of all that is read, which the
+/// text is the rest of.
+pub(crate) fn read_string_token(
+    alloc: Global,
+    end: usize,
+    text: &str,
+) -> Result<(TextToken, &str), Refusal>
+    requires { length text.now ≤ end }
+    ensures { AnswersToken end (chars text.now) (string_at (chars text.now)) result }
+{
+    let (quote, body) = read_quote(text)?;
+    let (string, rest) = read_text(alloc, Kind::String(quote), body)?;
+    Ok((TextToken::new(end, body.len(), string), rest))
 }
 
 /// What follows the string in front.

@@ -16,10 +16,10 @@ use Rattle.json5_grammar.specs.Strings.{is_quote}
 use Rattle.json5_grammar.proofs.KeysRead.{key_complete}
 use Rattle.json5_grammar.proofs.Refusals.{Refuses}
 use Rattle.json5_text.specs.declared.error.Error.{Error}
-use Rattle.json5_text.specs.declared.key_text.KeyText.{KeyText}
+use Rattle.json5_text.specs.declared.text_token.TextToken.{TextToken}
 use Rattle.json5_text.specs.Cursor.{Cursor}
 use Rattle.json5_text.specs.Errors.{code, kind_of, place_of}
-use Rattle.json5_text.specs.Keys.{KeyIs}
+use Rattle.json5_text.specs.TextTokens.{Spells}
 use Rattle.json5_text.specs.Takes.{TakesKey}
 use Rattle.json5_text.specs.Tokens.{FaultyKey, at_quote, at_name}
 use Rattle.json5_text.proofs.TextScalars.{key_scalars}
@@ -57,7 +57,7 @@ key_refuses c r x reason place e (at_name h f) =
     subst (λ z. Refuses z x reason place) (ap identifier e ∙ sym (key_name c r (subst (NotBegun is_quote) e h)) ∙ ap key (sym e)) (name_refuses x reason place f)
 
 -- a key was found, or refused
-pub key_taken : (old new : Cursor) (next : Option ℕ) (none : Bool) (result : Result KeyText Error) → next ≡ slice_get old.unread 0 → is_some next ≡ not none → none ≡ false → IsInside old → all_scalars old.unread ≡ true → TakesKey old new result
+pub key_taken : (old new : Cursor) (next : Option ℕ) (none : Bool) (result : Result TextToken Error) → next ≡ slice_get old.unread 0 → is_some next ≡ not none → none ≡ false → IsInside old → all_scalars old.unread ≡ true → TakesKey old new result
     → Keeps (IsFoundKey old.input) (key old.unread) old new result
 key_taken old new next none (Ok k) peeked test is ready scalars t =
     let (s, u, plain, took, spelled, same_text) = t.taken in
@@ -72,12 +72,12 @@ key_taken old new next none (Err e) peeked test is ready scalars t = not_taken o
         inr (blames_refused old (key old.unread) e ready key_lacks (λ reason place g. key_refuses c r old.unread reason place x g) f)
 
 -- its text is in memory of its own, or memory ran out for it
-pub key_kept : (old mid : Cursor) (k : KeyText) (result : Result (String Global) Error) (given : (a : List ℕ × Bool) × IsFoundKey old.input k a × Gave (key old.unread) a old mid) → OwnsKey mid.input k result
+pub key_kept : (old mid : Cursor) (k : TextToken) (result : Result (String Global) Error) (given : (a : List ℕ × Bool) × IsFoundKey old.input k a × Gave (key old.unread) a old mid) → OwnsKey mid.input k result
     → Keeps IsKeyText (key old.unread) old mid result
 key_kept old mid k (Ok t) (a, (is, same), g) copied =
-    takes old mid (key old.unread) a t (ap chars (copied a.0 a.1 (subst (λ z. KeyIs z a.0 a.1 k) (sym g.took.same) is)) ∙ same) g
+    takes old mid (key old.unread) a t (ap chars (copied a.0 a.1 (subst (λ z. Spells z a.0 a.1 k) (sym g.took.same) is)) ∙ same) g
 key_kept old mid k (Err e) (a, (is, same), g) copied =
-    let lacks = copied a.0 a.1 (subst (λ z. KeyIs z a.0 a.1 k) (sym g.took.same) is) in
+    let lacks = copied a.0 a.1 (subst (λ z. Spells z a.0 a.1 k) (sym g.took.same) is) in
     not_taken old mid (key old.unread) e (inl lacks.kind) g.took.same
 
 -- ---- the next key

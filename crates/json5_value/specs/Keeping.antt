@@ -8,11 +8,11 @@ use Rattle.json5_grammar.specs.ReadSteps.{separator, key_at}
 use Rattle.json5_grammar.specs.ReadValues.{read}
 use Rattle.json5_grammar.specs.Trees.{Tree}
 use Rattle.json5_text.specs.declared.error.Error.{Error}
-use Rattle.json5_text.specs.declared.key_text.KeyText.{KeyText}
+use Rattle.json5_text.specs.declared.text_token.TextToken.{TextToken}
 use Rattle.json5_text.specs.declared.value.Value.{Value}
 use Rattle.json5_text.specs.Cursor.{Cursor, IsOutOfMemory}
 use Rattle.json5_text.specs.Errors.{LacksMemory}
-use Rattle.json5_text.specs.Keys.{KeyIs}
+use Rattle.json5_text.specs.TextTokens.{Spells}
 use Rattle.json5_text.specs.ValueViews.{Datum, value_of}
 use Rattle.json5_text.specs.ValueViews as datum
 use Rattle.json5_value.specs.declared.kinds.Literal.{Literal}
@@ -36,12 +36,12 @@ pub record Keeps {V A : Type 0} (Is : V → A → Type 0) (reading : Read A) (ol
 -- ---- keys
 
 -- the text of a key in memory of its own, or memory ran out
-abbrev pub OwnsKey : List ℕ → KeyText → Result (String Global) Error → Type 0
-OwnsKey input key result = (u : List ℕ) (plain : Bool) → KeyIs input u plain key → MatchResult result (λ t. string_bytes t ≡ encode_utf8_all u) LacksMemory
+abbrev pub OwnsKey : List ℕ → TextToken → Result (String Global) Error → Type 0
+OwnsKey input key result = (u : List ℕ) (plain : Bool) → Spells input u plain key → MatchResult result (λ t. string_bytes t ≡ encode_utf8_all u) LacksMemory
 
 -- a key that was found, or its text
-abbrev pub IsFoundKey : List ℕ → KeyText → List ℕ × Bool → Type 0
-IsFoundKey input key a = KeyIs input a.0 a.1 key × (chars (encode_utf8_all a.0) ≡ a.0)
+abbrev pub IsFoundKey : List ℕ → TextToken → List ℕ × Bool → Type 0
+IsFoundKey input key a = Spells input a.0 a.1 key × (chars (encode_utf8_all a.0) ≡ a.0)
 
 abbrev pub IsKeyText : String Global → List ℕ × Bool → Type 0
 IsKeyText text a = chars (string_bytes text) ≡ a.0

@@ -16,16 +16,16 @@ use crate::kinds::{Literal, ValueKind, kind_at, skip_literal};
 use json5_text::ErrorCode;
 use json5_text::error::{Error, Result};
 use json5_text::input::Input;
-use json5_text::key_text::KeyText;
 use json5_text::number::Number;
 use json5_text::scanner::Scanner;
+use json5_text::text_token::TextToken;
 use json5_text::value::Value;
 
 /// The text of a key that the scanner took, in memory of its own.
-pub fn key_owned<I: Input>(scanner: &Scanner<I>, key: KeyText) -> Result<String>
+pub fn key_owned<I: Input>(scanner: &Scanner<I>, key: TextToken) -> Result<String>
     ensures { OwnsKey scanner.now.input key result }
 {
-    if let KeyText::Escaped(text) = key {
+    if let TextToken::Escaped(text) = key {
         return Ok(text);
     }
     let text = String::from_str(scanner.allocator(), scanner.text_of(&key))?;

@@ -2,16 +2,16 @@
 
 ghost use Rattle.std.specs.Prelude.{◌≡◌, ℕ, List};
 ghost use Rattle.std.specs.Str.{chars, encode_utf8_all};
-ghost use Rattle.json5_text.specs.Keys.{StandsAt, IsTextOf, IsCowOf};
+ghost use Rattle.json5_text.specs.TextTokens.{StandsAt, IsTextOf, IsCowOf};
 ghost use Rattle.json5_text.specs.Takes.{TakesString, TakesName};
 
 use crate::cow_str::CowStr;
 use crate::error::Result;
 use crate::input::{Borrows, Input};
-use crate::key_text::KeyText;
 use crate::names::read_name;
 use crate::scanner::Scanner;
 use crate::strings::read_string;
+use crate::text_token::TextToken;
 
 impl<'de, I: Borrows<'de>> Scanner<I> {
     /// Takes a string and gives its text, borrowed where the string holds no backslash, which then takes no memory (JSON5
@@ -51,31 +51,31 @@ impl<'de, I: Borrows<'de>> Scanner<I> {
         )
     }
 
-    /// The text of a key that this scanner took, borrowed where the key holds no backslash; of another scanner's key as in
+    /// The text of a token that this scanner took, borrowed where the token holds no backslash; of another scanner's token as in
     /// `text_of`.
-    pub fn borrowed_text_of(&self, key: KeyText) -> CowStr<'de>
-        ensures { IsCowOf self.now.input key result }
+    pub fn borrowed_text_of(&self, token: TextToken) -> CowStr<'de>
+        ensures { IsCowOf self.now.input token result }
     {
-        match key {
-            KeyText::Plain { start, end } => CowStr::Borrowed(between(
+        match token {
+            TextToken::Plain { start, end } => CowStr::Borrowed(between(
                 self.input.as_borrowed(),
                 start,
                 end,
             )),
-            KeyText::Escaped(text) => CowStr::Owned(text),
+            TextToken::Escaped(text) => CowStr::Owned(text),
         }
     }
 }
 
 impl<I: Input> Scanner<I> {
-    /// The text of a key that this scanner took. Of another scanner's key it may be any part of the text that is read, or empty
-    /// where the key's offsets are no places between characters.
-    pub fn text_of<'t>(&'t self, key: &'t KeyText) -> &'t str
-        ensures { IsTextOf self.now.input key.now result.now }
+    /// The text of a token that this scanner took. Of another scanner's token it may be any part of the text that is read, or
+    /// empty where the token's offsets are no places between characters.
+    pub fn text_of<'t>(&'t self, token: &'t TextToken) -> &'t str
+        ensures { IsTextOf self.now.input token.now result.now }
     {
-        match key {
-            KeyText::Plain { start, end } => between(self.input.as_text(), *start, *end),
-            KeyText::Escaped(text) => text.as_str(),
+        match token {
+            TextToken::Plain { start, end } => between(self.input.as_text(), *start, *end),
+            TextToken::Escaped(text) => text.as_str(),
         }
     }
 }

@@ -1,4 +1,5 @@
-use Rattle.std.proofs.Common.{◌≡◌, false, ap, arith}
+use Rattle.std.proofs.Common.{◌≡◌, ◌∷◌, ◌∙◌, false, ap, arith}
+use Rattle.std.specs.Str.{chars}
 use Rattle.json5_grammar.specs.Strings.{is_quote}
 use Rattle.json5_grammar.specs.declared.code.ErrorCode.TheVariants.{ExpectedString}
 use Rattle.std.proofs.lemmas.Bool.Decides.{nat_tests}
@@ -12,10 +13,10 @@ pub returns-in_default : goal.returns-in_default
 returns-in_default c = record { refused = ap outcome (string_none _ c.in_default.ensures); known = tt }
 
 pub returns-in-34 : goal.returns-in-34
-returns-in-34 c = record { read = string_quote quotes.Double c.in-Some.c _ _ c.in-Some.ensures.chars c.in-34.is; text = c.in-Some.ensures.text }
+returns-in-34 c = record { split = c.in-Some.ensures.chars ∙ ap (λ q. q ∷ chars c.in-Some.body.now) c.in-34.is; read = string_quote quotes.Double c.in-Some.c _ _ c.in-Some.ensures.chars c.in-34.is; text = c.in-Some.ensures.text }
 
 pub returns-in-39 : goal.returns-in-39
-returns-in-39 c = record { read = string_quote quotes.Single c.in-Some.c _ _ c.in-Some.ensures.chars c.in-39.is; text = c.in-Some.ensures.text }
+returns-in-39 c = record { split = c.in-Some.ensures.chars ∙ ap (λ q. q ∷ chars c.in-Some.body.now) c.in-39.is; read = string_quote quotes.Single c.in-Some.c _ _ c.in-Some.ensures.chars c.in-39.is; text = c.in-Some.ensures.text }
 
 pub returns-in_default-c : goal.returns-in_default-c
 returns-in_default-c c =

@@ -5,7 +5,8 @@ use Rattle.json5_text.specs.Cursor.{Cursor}
 use Rattle.json5_text.specs.ScanKeys.{key_at}
 use Rattle.json5_text.specs.Tokens.{FaultyKey}
 use Rattle.json5_text.proofs.ScanFaults.{refusal_in, refused}
-use Rattle.json5_text.proofs.ScanKeys.{unread_fits, key_inside, key_taken, key_faulty, key_memory, plain_key_memory, made_of_memory}
+use Rattle.json5_text.proofs.TextTokens.{unread_fits, token_inside}
+use Rattle.json5_text.proofs.ScanKeys.{key_taken, key_faulty, key_memory, plain_key_memory, made_of_memory}
 use Rattle.json5_text.proofs.ScanTokens.{left_counted, leaves_rest}
 use Rattle.json5_text.proofs.scanner.Scanner.key.Goals as goal
 
@@ -40,7 +41,7 @@ returns g c =
         given.plain,
         l.0,
         subst (λ z. Key k.key z given.spelled given.plain) (sym l.1) k.is_key,
-        key_inside c.args.self.now (chars c.rest.result.now) given.spelled given.plain c.in-Ok.token c.self.invariant (ap (λ (s : Cursor). s.input) c.self.view_is) (ap (λ (s : Cursor). s.unread) c.self.view_is) c.rest.ensures given.is_text,
+        token_inside c.args.self.now (chars c.rest.result.now) given.spelled given.plain c.in-Ok.token c.self.invariant (ap (λ (s : Cursor). s.input) c.self.view_is) (ap (λ (s : Cursor). s.unread) c.self.view_is) c.rest.ensures given.is_text,
       );
       refused = tt;
       kept = tt;

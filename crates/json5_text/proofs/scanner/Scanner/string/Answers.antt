@@ -29,7 +29,7 @@ returns g c =
     let k = string_taken (chars c.rest.result.now) c.args.self.now.unread given.spelled (chars c.in-Ok.rest.now) given.plain c.rest.ensures given.read in
     let l = c.leave_unread.ensures k.string (chars c.in-Ok.rest.now) k.split (left_counted c.in-Ok.rest.now given.text) in
     record {
-      taken = (k.string, given.spelled, given.plain, l.0, k.is_string, given.is_text.borrowed, given.is_text.bytes);
+      taken = (k.string, given.spelled, given.plain, l.0, k.is_string, (given.is_text.borrowed, given.is_text.bytes));
       refused = tt;
       kept = tt;
       plain = λ s u r split is_string. refl;

@@ -1,5 +1,5 @@
 use Rattle.std.proofs.Common.{ap, ◌∙◌}
-use Rattle.json5_text.proofs.ScanKeys.{stands_between}
+use Rattle.json5_text.proofs.TextTokens.{stands_between}
 use Rattle.json5_text.proofs.scanner.borrowed.between.Goals as goal
 
 pub returns : goal.returns

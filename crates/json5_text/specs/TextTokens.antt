@@ -1,0 +1,28 @@
+-- What contracts see of the token of a string or a key.
+use Rattle.std.specs.Prelude.{◌≡◌, ℕ, ◌+◌, Bool, true, false, List, ◌++◌, length, string_bytes}
+use Rattle.std.specs.Str.{encode_utf8_all}
+use Rattle.json5_text.specs.declared.cow_str.CowStr.{CowStr}
+use Rattle.json5_text.specs.declared.text_token.TextToken.{TextToken}
+use Rattle.json5_text.specs.declared.text_token.TextToken.TheVariants as token
+use Rattle.json5_text.specs.Cows.{cow_bytes, is_borrowed}
+
+-- u stands in the input between these offsets
+pub record StandsAt (input u : List ℕ) (start end : ℕ) : Type 0 where
+  pub before : List ℕ
+  pub rest : List ℕ
+  pub split : input ≡ before ++ (u ++ rest)
+  pub starts : start ≡ length (encode_utf8_all before)
+  pub ends : end ≡ start + length (encode_utf8_all u)
+
+-- the token spells the text u, which stands so in the input where it is plain, else in memory of its own
+abbrev pub Spells : List ℕ → List ℕ → Bool → TextToken → Type 0
+Spells input u plain (token.Plain start end) = (plain ≡ true) × StandsAt input u start end
+Spells input u plain (token.Escaped text) = (plain ≡ false) × (string_bytes text ≡ encode_utf8_all u)
+
+-- these are the bytes of the text that the token spells
+abbrev pub IsTextOf : List ℕ → TextToken → List ℕ → Type 0
+IsTextOf input t bytes = (u : List ℕ) (plain : Bool) → Spells input u plain t → bytes ≡ encode_utf8_all u
+
+-- the same, borrowed where it is plain
+abbrev pub IsCowOf : List ℕ → TextToken → CowStr → Type 0
+IsCowOf input t text = (u : List ℕ) (plain : Bool) → Spells input u plain t → (is_borrowed text ≡ plain) × (cow_bytes text ≡ encode_utf8_all u)

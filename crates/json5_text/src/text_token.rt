@@ -1,0 +1,34 @@
+//! Texts of strings and keys, which a scanner gives back.
+
+ghost use Rattle.std.specs.Prelude.{◌≡◌, ◌≤◌, ◌-◌, true, length};
+ghost use Rattle.json5_text.specs.Cows.{cow_bytes, is_borrowed};
+ghost use Rattle.json5_text.specs.ScanTextTokens.{IsTokenOf};
+
+use crate::cow_str::CowStr;
+
+/// The text of a string or a key that a `Scanner` took. `Scanner::text_of` finds it, also after more was read.
+#[derive(Debug, Drop)]
+pub enum TextToken {
+    /// The text stands so in what is read, from `start` up to `end`, in bytes.
+    Plain { start: usize, end: usize },
+    /// A text in memory of its own: an escape spells a part of it.
+    Escaped(String),
+}
+
+impl TextToken {
+    /// The token of this text in an input of so many bytes. It begins where so many bytes are left, if it is borrowed.
+    pub(crate) fn new(end: usize, left: usize, text: CowStr<'_>) -> TextToken
+        requires inside { left ≤ end }
+        requires fits { is_borrowed text ≡ true → length (cow_bytes text) ≤ left }
+        ensures { IsTokenOf (end - left) text.entry result }
+    {
+        let start = end - left;
+        match text {
+            CowStr::Borrowed(text) => TextToken::Plain {
+                start,
+                end: start + text.len(),
+            },
+            CowStr::Owned(text) => TextToken::Escaped(text),
+        }
+    }
+}
