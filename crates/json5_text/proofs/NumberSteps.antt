@@ -46,8 +46,6 @@ pub hex_past : (n c : ℕ) (xs ys : List ℕ) → xs ≡ c ∷ ys → digit_valu
 unfolding hex_digits
 hex_past n c xs ys e h l = let a : nat_lt (n * 16 + digit_value c) (2 ^ 128) ≡ false = grind (arith, nat_tests) in rw e (rw (hex_value c h, a))
 
-pub ruleset hexadecimal_steps = (hex_end, hex_other, hex_more, hex_past)
-
 -- after `0x`
 
 pub hexadecimal_other : (q xs ys : List ℕ) (m : Bool) (c : ℕ) → xs ≡ c ∷ ys → 16 ≤ digit_value c → hexadecimal q m xs ≡ bad (Some ExpectedNumber) (here xs)

@@ -76,9 +76,12 @@ byte_first : (s : List ℕ) (d : ℕ) → Some d ≡ slice_get s 0 → (0 < leng
 byte_first [] d e = absurd (cc)
 byte_first (x ∷ s) d e = (omega arith, cc)
 
+pub no_byte : (s : List ℕ) → None ≡ slice_get s 0 → chars s ≡ []
+no_byte [] e = no_chars [] refl
+no_byte (x ∷ s) e = absurd (cc)
+
 pub hex_no_byte : (w n : ℕ) (b s : List ℕ) → 0 < w → None ≡ slice_get s 0 → hex w n b (chars s) ≡ bad (Some EofParsingEscapeSequence) inner
-hex_no_byte w n b [] l e = hex_ends w n b (chars []) l (no_chars [] refl)
-hex_no_byte w n b (x ∷ s) l e = absurd (cc)
+hex_no_byte w n b s l e = hex_ends w n b (chars s) l (no_byte s e)
 
 -- a digit's byte is its character
 pub digit_cut : (s : List ℕ) (d : ℕ) → IsUtf8 s → Some d ≡ slice_get s 0 → digit_value d < 16 → IsCharBoundary s 1
@@ -100,15 +103,19 @@ no_digit s r c d u e f h = by_cases (ltb (digit_value c) 16) refl
         absurd (let m : 16 ≤ digit_value c = subst (λ x. 16 ≤ digit_value x) k h in omega arith)
     by_cases false i = grind (arith, nat_tests)
 
-pub hex_no_digit : (w n d : ℕ) (b s : List ℕ) → 0 < w → IsUtf8 s → Some d ≡ slice_get s 0 → 16 ≤ digit_value d → hex w n b (chars s) ≡ bad (Some InvalidEscapeSequence) (here b)
-hex_no_digit w n d b s l u f h = by_chars (chars s) refl
+-- a byte that is no digit is that of a character that is none
+pub no_digit_front : (s : List ℕ) (d : ℕ) → IsUtf8 s → Some d ≡ slice_get s 0 → 16 ≤ digit_value d → (c : ℕ) × (r : List ℕ) × (chars s ≡ c ∷ r) × (16 ≤ digit_value c)
+no_digit_front s d u f h = by_chars (chars s) refl
   where
-    by_chars : (xs : List ℕ) → chars s ≡ xs → hex w n b (chars s) ≡ bad (Some InvalidEscapeSequence) (here b)
+    by_chars : (xs : List ℕ) → chars s ≡ xs → (c : ℕ) × (r : List ℕ) × (chars s ≡ c ∷ r) × (16 ≤ digit_value c)
     by_chars [] e =
         let none : length s ≡ 0 = ap length (sym (encodes-chars s u) ∙ ap encode_utf8_all e) in
         let some : 0 < length s = (byte_first s d f).0 in
         absurd (omega arith)
-    by_chars (c ∷ r) e = hex_wrong w n c b (chars s) r l e (no_digit s r c d u e (byte_first s d f).1 h)
+    by_chars (c ∷ r) e = (c, r, e, no_digit s r c d u e (byte_first s d f).1 h)
+
+pub hex_no_digit : (w n d : ℕ) (b s : List ℕ) → 0 < w → IsUtf8 s → Some d ≡ slice_get s 0 → 16 ≤ digit_value d → hex w n b (chars s) ≡ bad (Some InvalidEscapeSequence) (here b)
+hex_no_digit w n d b s l u f h = let k = no_digit_front s d u f h in hex_wrong w n k.0 b (chars s) k.1 l k.2 k.3
 
 -- the value of up to three digits
 pub three_digits : (k v : ℕ) → k ≤ 3 → v < 16 ^ k → v < 4096

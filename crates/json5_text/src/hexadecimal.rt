@@ -16,21 +16,20 @@ use json5_grammar::code::ErrorCode;
 
 /// The value of a first hexadecimal digit and those in front, and what follows them; or what begins with the digit that takes it
 /// past `u128`.
-#[tactic(auto, using(crate::proofs::NumberSteps::hexadecimal_steps))]
 fn hexadecimal_digits(first: u32, text: &str) -> Result<(u128, &str), &str>
     ensures { MatchResult result (λ p. GivesHex first (chars text.now) p.0 p.1.now) (λ rest. Overflows first (chars text.now) rest.now) }
 {
     let mut value = u128::from(first);
     let mut rest = text;
-    while let Some((c, next)) = front(rest) {
-        let Some(digit) = c.to_digit(16) else {
+    while let Some(byte) = rest.as_bytes().first() {
+        let Some(digit) = char::from(*byte).to_digit(16) else {
             return Ok((value, rest));
         };
         let Some(more) = one_more(16, value, digit) else {
             return Err(rest);
         };
         value = more;
-        rest = next;
+        rest = rest.split_at(1).1;
     }
     Ok((value, rest))
 }

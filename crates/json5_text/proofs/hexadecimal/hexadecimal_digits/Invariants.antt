@@ -5,12 +5,12 @@ use Rattle.std.specs.Str.{chars}
 use Rattle.json5_grammar.specs.ReadNumbers.{hex_digits}
 use Rattle.json5_text.proofs.hexadecimal.hexadecimal_digits.Given as goal
 
-abbrev pub invariant-loop-c : goal.invariant-loop-c
-invariant-loop-c l = record {
+abbrev pub invariant-loop-byte : goal.invariant-loop-byte
+invariant-loop-byte l = record {
   text : shadow (Utf8 l.rest);
   same : hex_digits l.value (chars l.rest) ≡ hex_digits l.fn.first (chars l.fn.text);
   bound : l.value < 2 ^ 128;
 }
 
-abbrev pub decreases-loop-c : goal.decreases-loop-c
-decreases-loop-c l = length l.rest
+abbrev pub decreases-loop-byte : goal.decreases-loop-byte
+decreases-loop-byte l = length l.rest
