@@ -28,7 +28,7 @@ use Rattle.json5_text.specs.declared.error.Error.{Error}
 use Rattle.json5_text.specs.Errors.{LacksMemory, code, custom, kind_of, place_of}
 use Rattle.json5_text.specs.Cursor.{Refused, Says, IsOutOfMemory}
 use Rattle.json5_text.specs.Tokens.{FaultyBlanks, FaultyKey}
-use Rattle.json5_de.specs.declared.key_reads.FoundKey.{FoundKey}
+use Rattle.json5_de.specs.declared.key.FoundKey.{FoundKey}
 use Rattle.json5_de.specs.State.{State, GivesUp, cursor_of}
 use Rattle.json5_de.specs.Law.{StaysFailed, IsUnprompted}
 use Rattle.json5_de.specs.ConvertLists.{if_some}

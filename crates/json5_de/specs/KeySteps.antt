@@ -11,7 +11,7 @@ use Rattle.json5_text.specs.Cursor.{IsOffset, IsPositionOf}
 use Rattle.json5_text.specs.Errors.{FaultKind, LacksMemory, SaysAt, code, kind_of}
 use Rattle.json5_text.specs.Keys.{KeyIs, IsTextOf, IsCowOf}
 use Rattle.json5_text.specs.Tokens.{FaultyKey}
-use Rattle.json5_de.specs.declared.key_reads.FoundKey.{FoundKey}
+use Rattle.json5_de.specs.declared.key.FoundKey.{FoundKey}
 use Rattle.json5_de.specs.State.{State, GivesUp}
 use Rattle.json5_de.specs.Faults.{RefusedByOrMemory}
 use Rattle.json5_de.specs.Law.{StaysFailed}

@@ -14,8 +14,6 @@ mod hash_map;
 mod index_map;
 mod integers;
 mod key;
-mod key_documents;
-mod key_reads;
 mod key_types;
 mod laws;
 mod lists;
