@@ -1,5 +1,5 @@
 -- What a call of an access to an array means, from what its reader read.
-use Rattle.std.proofs.Common.{◌≡◌, ◌<◌, true, Bool, refl, sym, ◌∙◌, subst, length, Option, Some, None, Ok, Err}
+use Rattle.std.proofs.Common.{◌≡◌, ◌<◌, true, Bool, refl, sym, ap, ◌∙◌, subst, length, Option, Some, None, Ok, Err}
 use Rattle.json5_value.specs.Brackets.{square}
 use Rattle.json5_value.specs.Places.{StartsAfter, PlacedAt}
 use Rattle.std.specs.Prelude.{◌||◌, is_some, Result, IfSome}
@@ -11,9 +11,10 @@ use Rattle.json5_de.specs.Law.{Steady}
 use Rattle.json5_de.specs.Access.{Seen, bare, GivesElement, CompletesElement, CompletesClose, PlacedAtBracket}
 use Rattle.json5_de.specs.Seq.{RefusesElement}
 use Rattle.json5_de.specs.Lending.{seen, blocking, Settles, KeepsAccess, ReadsNext}
-use Rattle.json5_de.specs.Stages.{is_comma_due}
+use Rattle.json5_de.specs.Stages.{is_comma_due, with_member}
 use Rattle.json5_de.specs.declared.seq.SeqAccess.{SeqAccess}
 use Rattle.json5_de.specs.declared.stage.Stage.{Stage}
+use Rattle.json5_de.proofs.StagesPassed.{comma_after_member}
 use Rattle.json5_de.proofs.Elements.{reads_element, reads_more, leaves_fewer}
 use Rattle.json5_de.proofs.Next.{gives_seen, gives_next, refuses_next}
 
@@ -52,12 +53,13 @@ module _ {I V C : Type 0} (content : V → C) (convert : Tree → Option C) (ref
   }
 
   -- an element was read, or the bracket is next
-  pub next_given : (after : State) (new : SeqAccess I) (stage : Stage) (o : Option V) → new ≡ blocking (lent old after) old.failed → is_comma_due stage ≡ (is_comma_due old.stage || is_some o) → SameText (seen old).reader after
-      → GivesElement content convert (bare (seen old).reader (is_comma_due old.stage)) (bare after (is_comma_due old.stage || is_some o)) o → ReadsNext content convert refuses old (record new { stage = stage }) (Ok o)
-  next_given after new stage o same due text gives =
-      let last = record (blocking (lent old after) old.failed) { stage = stage } in
-      subst (λ s. ReadsNext content convert refuses old (record s { stage = stage }) (Ok o)) (sym same)
-      (given last o (kept old after stage old.failed text) (gives_seen content convert (seen old) (seen last) (seen old).reader after o refl refl due gives))
+  pub next_given : (after : State) (new : SeqAccess I) (some : Bool) (o : Option V) → new ≡ blocking (lent old after) old.failed → some ≡ is_some o → SameText (seen old).reader after
+      → GivesElement content convert (bare (seen old).reader (is_comma_due old.stage)) (bare after (is_comma_due old.stage || is_some o)) o → ReadsNext content convert refuses old (record new { stage = with_member new.stage some }) (Ok o)
+  next_given after new some o same is text gives =
+      let last = record (blocking (lent old after) old.failed) { stage = with_member old.stage some } in
+      let due = comma_after_member old.stage some ∙ ap (λ b. is_comma_due old.stage || b) is in
+      subst (λ s. ReadsNext content convert refuses old (record s { stage = with_member s.stage some }) (Ok o)) (sym same)
+      (given last o (kept old after (with_member old.stage some) old.failed text) (gives_seen content convert (seen old) (seen last) (seen old).reader after o refl refl due gives))
 
   -- the call was refused
   pub next_refused : (after : State) (new : SeqAccess I) (own e : Error) → new ≡ blocking (lent old after) true → PlacedAtBracket (seen (lent old after)) own e → RefusesElement refuses (is_comma_due old.stage) (seen old).reader own after → Steady {V = Option V} (seen old).reader after (Err own)

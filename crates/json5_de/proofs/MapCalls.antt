@@ -13,10 +13,11 @@ use Rattle.json5_de.specs.Access.{bare, CompletesClose, PlacedAtBracket}
 use Rattle.json5_de.specs.Objects.{SeenMap, bare_map, GivesPairKey, GivesPairValue, CompletesPairKey, CompletesPairValue}
 use Rattle.json5_de.specs.ObjectFaults.{RefusesPairKey, RefusesPairValue}
 use Rattle.json5_de.specs.Lending.{seen_map, blocking_map, SettlesMap, KeepsMap, ReadsNextKey, ReadsNextValue}
-use Rattle.json5_de.specs.Stages.{is_comma_due, is_pending}
+use Rattle.json5_de.specs.Stages.{is_comma_due, is_pending, with_key}
 use Rattle.json5_de.specs.declared.map.MapAccess.{MapAccess}
 use Rattle.json5_de.specs.declared.stage.Stage.{Stage}
 use Rattle.json5_de.specs.declared.stage.Stage.TheVariants as stages
+use Rattle.json5_de.proofs.StagesPassed.{comma_after_key, key_after_key}
 use Rattle.json5_de.proofs.Pairs.{reads_a_key, reads_pair_key, leaves_a_value, reads_a_pair, reads_pair_value, leaves_pairs}
 use Rattle.json5_de.proofs.PairCodes.{gives_key_seen, gives_next_key, refuses_next_key, gives_value_seen, gives_next_value, refuses_next_value}
 
@@ -43,14 +44,15 @@ module _ {I K C : Type 0} (content : K → C) (convert : KeyConversion C) (refus
   shorter new None gives = tt
 
   -- a key was read, or the brace is next
-  pub key_given : (after : State) (new : MapAccess I) (stage : Stage) (o : Option K) → new ≡ blocking_map (lent old after) old.failed → is_comma_due stage ≡ is_comma_due old.stage → is_pending stage ≡ is_some o → SameText (seen_map old).at.reader after
-      → GivesPairKey content convert (bare_map (seen_map old).at.reader (is_comma_due old.stage) false) (bare_map after (is_comma_due old.stage) (is_some o)) o → ReadsNextKey content convert refuses old (record new { stage = stage }) (Ok o)
-  key_given after new stage o same due is text inner =
-      let last = record (blocking_map (lent old after) old.failed) { stage = stage } in
-      let gives = gives_key_seen content convert (seen_map old) (seen_map last) (seen_map old).at.reader after o refl refl due is inner in
-      subst (λ m. ReadsNextKey content convert refuses old (record m { stage = stage }) (Ok o)) (sym same) (record {
-        access = kept old after stage old.failed text;
-        pending = record { given = is; kept = tt };
+  pub key_given : (after : State) (new : MapAccess I) (some : Bool) (o : Option K) → new ≡ blocking_map (lent old after) old.failed → some ≡ is_some o → SameText (seen_map old).at.reader after
+      → GivesPairKey content convert (bare_map (seen_map old).at.reader (is_comma_due old.stage) false) (bare_map after (is_comma_due old.stage) (is_some o)) o → ReadsNextKey content convert refuses old (record new { stage = with_key new.stage some }) (Ok o)
+  key_given after new some o same is text inner =
+      let last = record (blocking_map (lent old after) old.failed) { stage = with_key old.stage some } in
+      let pending = key_after_key old.stage some no_key ∙ is in
+      let gives = gives_key_seen content convert (seen_map old) (seen_map last) (seen_map old).at.reader after o refl refl (comma_after_key old.stage some) pending inner in
+      subst (λ m. ReadsNextKey content convert refuses old (record m { stage = with_key m.stage some }) (Ok o)) (sym same) (record {
+        access = kept old after (with_key old.stage some) old.failed text;
+        pending = record { given = pending; kept = tt };
         sound = gives;
         complete = reads_pair_key content convert (seen_map old) (seen_map last) o gives;
         closing = λ r live close. refl;

@@ -17,9 +17,15 @@ is_pending stage.FirstKey = true
 is_pending stage.Started = false
 is_pending stage.LaterKey = true
 
--- the stage after a key
-abbrev pub with_key : Stage → Stage
-with_key stage.Empty = stage.FirstKey
-with_key stage.FirstKey = stage.FirstKey
-with_key stage.Started = stage.LaterKey
-with_key stage.LaterKey = stage.LaterKey
+-- the stage after a call for a member, which was given or not
+abbrev pub with_member : Stage → Bool → Stage
+with_member s true = stage.Started
+with_member s false = s
+
+-- the stage after a call for a key, which was given or not
+abbrev pub with_key : Stage → Bool → Stage
+with_key s false = s
+with_key stage.Empty true = stage.FirstKey
+with_key stage.FirstKey true = stage.FirstKey
+with_key stage.Started true = stage.LaterKey
+with_key stage.LaterKey true = stage.LaterKey

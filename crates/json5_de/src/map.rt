@@ -140,9 +140,7 @@ impl<'a, I: Input> MapAccess<'a, I> {
         self.de.set_failed(self.failed);
         let read = self.de.pair_key(self.stage.is_comma_due());
         let key = self.settle(read)?;
-        if key.is_some() {
-            self.stage = self.stage.with_key();
-        }
+        self.stage = self.stage.with_key(key.is_some());
         Ok(key)
     }
 
@@ -200,9 +198,10 @@ impl<'a, I: Input> MapAccess<'a, I> {
             brace,
         } = self;
         de.set_failed(failed);
+        let due = stage.is_comma_due();
         match brace {
-            None => de.close_last(BracketKind::Object, stage.is_comma_due()),
-            Some(brace) => de.close_content(BracketKind::Object, stage.is_comma_due(), brace),
+            None => de.close_last(BracketKind::Object, due),
+            Some(brace) => de.close_content(BracketKind::Object, due, brace),
         }
     }
 }

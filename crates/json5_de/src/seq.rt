@@ -136,9 +136,7 @@ impl<'a, I: Input> SeqAccess<'a, I> {
         self.de.set_failed(self.failed);
         let read = self.de.element(self.stage.is_comma_due());
         let next = self.settle(read)?;
-        if next.is_some() {
-            self.stage = Stage::Started;
-        }
+        self.stage = self.stage.with_member(next.is_some());
         Ok(next)
     }
 
@@ -207,9 +205,10 @@ impl<'a, I: Input> SeqAccess<'a, I> {
             brace,
         } = self;
         de.set_failed(failed);
+        let due = stage.is_comma_due();
         match brace {
-            None => de.close_last(BracketKind::Array, stage.is_comma_due()),
-            Some(brace) => de.close_content(BracketKind::Array, stage.is_comma_due(), brace),
+            None => de.close_last(BracketKind::Array, due),
+            Some(brace) => de.close_content(BracketKind::Array, due, brace),
         }
     }
 }

@@ -1,7 +1,7 @@
 //! How far an access has come.
 
 ghost use Rattle.std.specs.Prelude.{◌≡◌};
-ghost use Rattle.json5_de.specs.Stages.{is_comma_due, is_pending, with_key};
+ghost use Rattle.json5_de.specs.Stages.{is_comma_due, is_pending, with_member, with_key};
 
 /// How far the reading of an array or an object has come.
 #[derive(Clone, Copy)]
@@ -18,6 +18,7 @@ pub(crate) enum Stage {
 
 impl Stage {
     /// Whether a member was read, so that a comma stands before the next one.
+    #[inline(always)]
     pub(crate) fn is_comma_due(self) -> bool
         ensures { result ≡ is_comma_due self }
     {
@@ -31,10 +32,21 @@ impl Stage {
         matches!(self, Stage::FirstKey | Stage::LaterKey)
     }
 
-    /// The stage after a key.
-    pub(crate) fn with_key(self) -> Stage
-        ensures { result ≡ with_key self }
+    /// The stage after a call for a member, which was given or not.
+    #[inline(always)]
+    pub(crate) fn with_member(self, given: bool) -> Stage
+        ensures { result ≡ with_member self given }
     {
+        if given { Stage::Started } else { self }
+    }
+
+    /// The stage after a call for a key, which was given or not.
+    pub(crate) fn with_key(self, given: bool) -> Stage
+        ensures { result ≡ with_key self given }
+    {
+        if !given {
+            return self;
+        }
         if self.is_comma_due() {
             Stage::LaterKey
         } else {
