@@ -1,5 +1,5 @@
 -- An access and the reader that is lent to it.
-use Rattle.std.specs.Prelude.{◌≡◌, ◌<◌, ℕ, Bool, true, false, List, length, Option, is_some, Result, Ok, IfOk, IfErr, IfSome, IsErrAnd, MatchResult}
+use Rattle.std.specs.Prelude.{◌≡◌, ◌<◌, ℕ, Bool, true, false, List, length, Option, None, is_some, Result, Ok, IfOk, IfErr, IfSome, IsErrAnd, MatchResult}
 use Rattle.json5_value.specs.Brackets.{square, curly}
 use Rattle.std.specs.Borrow.{Fml, GName, RattleType, MutBor, RestsIfErr}
 use Rattle.json5_text.specs.declared.error.Error.{Error}
@@ -10,16 +10,17 @@ use Rattle.json5_text.specs.Bytes.{bytes_of}
 use Rattle.json5_text.specs.Cows.{cow_bytes, is_borrowed}
 use Rattle.json5_de.specs.State.{State, SameText, GivesUp}
 use Rattle.json5_grammar.specs.Trees.{Tree, Trees, Pairs}
-use Rattle.json5_de.specs.Access.{Seen, PlacedAtBracket, GivesElement, ReadsElement, CompletesClose, ReadsMore, ElementsLeft, LeavesFewer}
+use Rattle.json5_de.specs.Access.{Seen, OpensArray, PlacedAtBracket, GivesElement, ReadsElement, CompletesClose, ReadsMore, ElementsLeft, LeavesFewer}
 use Rattle.json5_de.specs.Seq.{RefusesNext}
 use Rattle.json5_de.specs.Keys.{KeyConversion, ReadsOneKey}
 use Rattle.json5_de.specs.Rows.{null_row}
 use Rattle.json5_de.specs.KeyRows.{KeyRow, RefusedAsKey, bytes_key, cow_key, document_key}
-use Rattle.json5_de.specs.Objects.{SeenMap, SetsPending, GivesPairKey, GivesPairValue, ReadsPairKey, ReadsPairValue, ReadsAKey, ReadsAPair, PairsLeft, LeavesAValue, LeavesOthers}
+use Rattle.json5_de.specs.Objects.{SeenMap, OpensMap, SetsPending, GivesPairKey, GivesPairValue, ReadsPairKey, ReadsPairValue, ReadsAKey, ReadsAPair, PairsLeft, LeavesAValue, LeavesOthers}
 use Rattle.json5_de.specs.ObjectFaults.{RefusesNextKey, RefusesNextValue}
+use Rattle.json5_de.specs.Stages.{is_comma_due, is_pending}
 use Rattle.json5_de.specs.Enums.{SeenEnum}
 use Rattle.json5_de.specs.declared.enums.EnumAccess.{EnumAccess}
-use Rattle.json5_de.specs.declared.enums.Named.{Named}
+use Rattle.json5_de.specs.declared.variant_names.Named.{Named}
 use Rattle.json5_de.specs.declared.key.MapKey.{MapKey}
 use Rattle.json5_de.specs.declared.map.MapAccess.{MapAccess}
 use Rattle.json5_de.specs.declared.seq.SeqAccess.{SeqAccess}
@@ -27,7 +28,7 @@ use Rattle.json5_de.specs.contracts.de.Deserializer.{the_row}
 
 module _ {I : Type 0} where
   abbrev pub seen : SeqAccess I → Seen
-  seen s = record { reader = record s.de.now { failed = s.failed }; start = s.start; due = s.due }
+  seen s = record { reader = record s.de.now { failed = s.failed }; start = s.start; due = is_comma_due s.stage }
 
   -- the count of bytes before the brace that its end closes too: that of the variant whose content it reads
   abbrev pub brace_of : SeqAccess I → Option ℕ
@@ -70,7 +71,18 @@ module _ {I : Type 0} where
     pub blocks : MatchResult read (λ v. new ≡ blocking old old.failed) (λ own. new ≡ blocking old true)
 
   abbrev pub seen_map : MapAccess I → SeenMap
-  seen_map m = record { at = record { reader = record m.de.now { failed = m.failed }; start = m.start; due = m.due }; pending = m.pending }
+  seen_map m = record { at = record { reader = record m.de.now { failed = m.failed }; start = m.start; due = is_comma_due m.stage }; pending = is_pending m.stage }
+
+  -- a key was read whose value wasn't, or none was
+  abbrev pub KeyPending : MapAccess I → Type 0
+  KeyPending m = (seen_map m).pending ≡ true
+
+  abbrev pub NoKeyPending : MapAccess I → Type 0
+  NoKeyPending m = (seen_map m).pending ≡ false
+
+  -- the value of the pending key is taken; a refusal leaves the key pending
+  abbrev pub TakesPendingKey : {V : Type 0} → MapAccess I → MapAccess I → Result V Error → Type 0
+  TakesPendingKey old new result = SetsPending (λ _. false) (seen_map old) (seen_map new) result
 
   -- the same of an access to an object
   abbrev pub HoldsMap : MutBor State → MapAccess I → Type 0
@@ -153,6 +165,13 @@ pub record HoldsMapBlocked {I : Type 0} (reader : MutBor State) (brace : Option 
   pub blocks : BlocksMapReader m
   pub closes : map_brace m ≡ brace
 
+-- an array is opened by an access that holds this reader, and whose end closes no brace; an object likewise
+abbrev pub OpensSeqAccess : {I : Type 0} → MutBor State → State → Result (SeqAccess I) Error → Type 0
+OpensSeqAccess reader old result = OpensArray (HoldsBlocked reader None) seen old result
+
+abbrev pub OpensMapAccess : {I : Type 0} → MutBor State → State → Result (MapAccess I) Error → Type 0
+OpensMapAccess reader old result = OpensMap (HoldsMapBlocked reader None) seen_map old result
+
 -- a call of the access keeps its reference, blocks the reader, and leaves the bracket and the text where they were
 pub record KeepsAccess {I : Type 0} (old new : SeqAccess I) : Type 0 where
   pub same_reference : HoldsTheSame old new
@@ -192,7 +211,7 @@ pub record ReadsNextKey {I K C : Type 0} (content : K → C) (convert : KeyConve
 -- the value of the key that was read last
 pub record ReadsNextValue {I V C : Type 0} (content : V → C) (convert : Tree → Option C) (refuses : State → Error → State → Type 0) (old new : MapAccess I) (result : Result V Error) : Type 0 where
   pub access : KeepsMap old new
-  pub pending : SetsPending (λ v. false) (seen_map old) (seen_map new) result
+  pub pending : TakesPendingKey old new result
   pub sound : IfOk result (GivesPairValue content convert (seen_map old) (seen_map new))
   pub complete : ReadsPairValue content convert (seen_map old) result
   pub shorter : IfOk result (λ v. length (seen_map new).at.reader.unread < length (seen_map old).at.reader.unread)

@@ -7,7 +7,7 @@ use Rattle.json5_grammar.specs.Values.{Reads}
 use Rattle.json5_grammar.specs.Members.{IsSign, OpensObject, IsKey, IsKeyValue, IsAtBrace, PairsPassed, PairsTail, snoc_pair}
 use Rattle.json5_text.specs.declared.error.Error.{Error}
 use Rattle.json5_text.specs.Cursor.{IsOutOfMemory}
-use Rattle.json5_de.specs.State.{State, OnlyRead, SameText}
+use Rattle.json5_de.specs.State.{State, OnlyRead, SameText, FailsIfErr}
 use Rattle.json5_de.specs.Law.{IsOkOrMemory, TookValue}
 use Rattle.json5_de.specs.Keys.{KeyConversion}
 use Rattle.json5_de.specs.ConvertLists.{if_some}
@@ -139,10 +139,14 @@ LeavesOthers content convert old new result = (u : List ℕ) (plain : Bool) (t :
 
 -- ---- what the calls mean
 
+-- a key is pending as it was
+abbrev pub KeepsPending : SeenMap → SeenMap → Type 0
+KeepsPending old new = new.pending ≡ old.pending
+
 -- whether a key waits for its value, which a call that is refused leaves as it was
 pub record SetsPending {V : Type 0} (waits : V → Bool) (old new : SeenMap) (result : Result V Error) : Type 0 where
   pub given : IfOk result (λ v. new.pending ≡ waits v)
-  pub kept : OnErr result (new.pending ≡ old.pending)
+  pub kept : OnErr result (KeepsPending old new)
 
 -- an object is opened by an access that holds the reader so: nothing was read of it, and where one can be read its pairs are left
 pub record OpensMap {A : Type 0} (Held : A → Type 0) (seen : A → SeenMap) (old : State) (result : Result A Error) : Type 0 where
@@ -157,6 +161,6 @@ pub record OpensMap {A : Type 0} (Held : A → Type 0) (seen : A → SeenMap) (o
 pub record ClosesMap (old : SeenMap) (new : State) (result : Result (Unit {0}) Error) : Type 0 where
   pub bracket : ClosesAs curly old.at.due old.at.reader new result
   pub same_text : SameText old.at.reader new
-  pub failed : OnErr result (new.failed ≡ true)
+  pub failed : FailsIfErr new result
   pub read : OnOk result ((from : State) (ps : Pairs) → PairsRead from ps None old → TookValue from (object ps) new)
   pub left : (r : List ℕ) → old.pending ≡ false → PairsLeft no_pair r old → IsOk result

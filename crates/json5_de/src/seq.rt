@@ -7,12 +7,13 @@ ghost use Rattle.json5_grammar.specs.Trees.{Trees};
 ghost use Rattle.json5_text.specs.Cursor.{Locates};
 ghost use Rattle.json5_value.specs.Brackets.{square};
 ghost use Rattle.json5_de.specs.Law.{Steady, Unprompted};
-ghost use Rattle.json5_de.specs.Access.{bare, OpensArray, GivesElement, CompletesElement, CompletesClose, PlacedAtBracket, ElementsLeft, ReadsMore};
+ghost use Rattle.json5_de.specs.Access.{bare, GivesElement, CompletesElement, CompletesClose, PlacedAtBracket, ElementsLeft, ReadsMore};
 ghost use Rattle.json5_de.specs.Enums.{EndsArray};
 ghost use Rattle.json5_de.specs.Lists.{IsTooShort, LeavesRequired, RefusesRequired};
 ghost use Rattle.json5_de.specs.Seq.{RefusesElement};
 
 use crate::de::{Deserialize, Deserializer};
+use crate::stage::Stage;
 use json5_text::error::{Error, Result};
 use json5_text::input::Input;
 use json5_text::{ErrorCode, Position};
@@ -25,8 +26,7 @@ pub struct SeqAccess<'a, I: Input> {
     pub(crate) de: &'a mut Deserializer<I>,
     /// The count of bytes before the opening bracket.
     pub(crate) start: usize,
-    /// Whether an element was read, so that a comma stands before the next one.
-    pub(crate) due: bool,
+    pub(crate) stage: Stage,
     /// Whether a call of the access was refused.
     pub(crate) failed: bool,
     /// The count of bytes before the brace of the variant whose content it reads, which its end closes too.
@@ -43,7 +43,7 @@ impl<I: Input> Drop for SeqAccess<'_, I> {
         let SeqAccess {
             de: _,
             start: _,
-            due: _,
+            stage: _,
             failed: _,
             brace: _,
         } = self;
@@ -51,7 +51,7 @@ impl<I: Input> Drop for SeqAccess<'_, I> {
 }
 
 impl<I: Input> Deserializer<I> {
-    ghost use Rattle.json5_de.specs.Lending.{seen, HoldsBlocked, lends_reader};
+    ghost use Rattle.json5_de.specs.Lending.{OpensSeqAccess, lends_reader};
 
     /// The next element of an array, or none where the closing bracket is next.
     #[inline(always)]
@@ -73,14 +73,14 @@ impl<I: Input> Deserializer<I> {
     /// character, `TooDeep` at the bracket past the limit; `EofParsingArray` at the end has no place.
     pub fn deserialize_seq(&mut self) -> Result<SeqAccess<'_, I>>
         ensures* lends { sem 𝓛 (lends_reader I.row I.Input self.entry result) }
-        ensures opens { OpensArray (HoldsBlocked self.entry None) seen self.old result }
+        ensures opens { OpensSeqAccess self.entry self.old result }
     {
         let start = self.open(BracketKind::Array)?;
         self.set_failed(true);
         Ok(SeqAccess {
             de: self,
             start,
-            due: false,
+            stage: Stage::Empty,
             failed: false,
             brace: None,
         })
@@ -89,7 +89,7 @@ impl<I: Input> Deserializer<I> {
     /// As `deserialize_seq`. The length changes nothing.
     pub fn deserialize_tuple(&mut self, _length: usize) -> Result<SeqAccess<'_, I>>
         ensures* lends { sem 𝓛 (lends_reader I.row I.Input self.entry result) }
-        ensures opens { OpensArray (HoldsBlocked self.entry None) seen self.old result }
+        ensures opens { OpensSeqAccess self.entry self.old result }
     {
         self.deserialize_seq()
     }
@@ -101,7 +101,7 @@ impl<I: Input> Deserializer<I> {
         length: usize,
     ) -> Result<SeqAccess<'_, I>>
         ensures* lends { sem 𝓛 (lends_reader I.row I.Input self.entry result) }
-        ensures opens { OpensArray (HoldsBlocked self.entry None) seen self.old result }
+        ensures opens { OpensSeqAccess self.entry self.old result }
     {
         self.deserialize_tuple(length)
     }
@@ -134,9 +134,9 @@ impl<'a, I: Input> SeqAccess<'a, I> {
         ensures { ReadsNext T.content T.convert T.refuses self.old self.new result }
     {
         self.de.set_failed(self.failed);
-        let read = self.de.element(self.due);
+        let read = self.de.element(self.stage.is_comma_due());
         let next = self.settle(read)?;
-        self.due |= next.is_some();
+        self.stage = self.stage.with_member(next.is_some());
         Ok(next)
     }
 
@@ -200,11 +200,12 @@ impl<'a, I: Input> SeqAccess<'a, I> {
         let SeqAccess {
             de,
             start: _,
-            due,
+            stage,
             failed,
             brace,
         } = self;
         de.set_failed(failed);
+        let due = stage.is_comma_due();
         match brace {
             None => de.close_last(BracketKind::Array, due),
             Some(brace) => de.close_content(BracketKind::Array, due, brace),
