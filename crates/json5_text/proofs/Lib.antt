@@ -34,3 +34,4 @@ pub mod FewDigits
 pub mod ShortWholes
 pub mod ShortWays
 pub mod ShortSteps
+pub mod ShortTexts

@@ -27,3 +27,4 @@ pub mod ScanNumbers
 pub mod ScanKeys
 pub mod ScanBlanks
 pub mod Short
+pub mod ShortTexts

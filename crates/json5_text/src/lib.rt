@@ -29,6 +29,7 @@ mod runs;
 mod scanned;
 pub mod scanner;
 pub mod short;
+pub mod short_texts;
 pub mod strings;
 mod texts;
 pub mod value;
