@@ -35,3 +35,4 @@ pub mod FewDigits
 pub mod ShortWholes
 pub mod ShortWays
 pub mod ShortSteps
+pub mod ShortTexts

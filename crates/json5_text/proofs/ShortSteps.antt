@@ -1,21 +1,21 @@
 -- A step to the next member of an array or an object, in the words of its contract.
-use Rattle.std.proofs.Common.{◌≡◌, ℕ, ◌<◌, Bool, true, false, List, [], ◌∷◌, ◌++◌, length, drop, refl, ap, sym, ◌∙◌, inl, inr, subst, arith, nat_eq, slice_index_or}
+use Rattle.std.proofs.Common.{◌≡◌, ℕ, ◌-◌, ◌<◌, Bool, true, false, List, [], ◌∷◌, ◌++◌, length, drop, refl, ap, sym, ◌∙◌, inl, inr, subst, arith, nat_eq, slice_index_or}
 use Rattle.std.specs.Prelude.{◌==◌, Option, Some, None, IfSome}
 use Rattle.std.specs.Char.{encode_utf8}
-use Rattle.std.specs.Str.{IsUtf8, IsCharBoundary, chars}
+use Rattle.std.specs.Str.{IsUtf8, chars}
 use Rattle.std.proofs.lemmas.Bool.Decides.{nat_tests}
-use Rattle.std.proofs.lemmas.List.{append_assoc}
-use Rattle.std.proofs.lemmas.Str.{chars_past_char, encode_ascii, IsCharBoundary-after_ascii}
+use Rattle.std.proofs.lemmas.List.{append_assoc, length-drop}
+use Rattle.std.proofs.lemmas.Str.{IsUtf8-drop, chars_past_char, encode_ascii, IsCharBoundary-after_ascii}
 use Rattle.json5_grammar.specs.Blanks.{Gap}
-use Rattle.json5_grammar.specs.Characters.{NotBegun, comma_sign}
+use Rattle.json5_grammar.specs.Characters.{comma_sign}
 use Rattle.json5_grammar.specs.Members.{IsSign}
 use Rattle.json5_grammar.specs.ReadBlanks.{skip, between}
 use Rattle.json5_grammar.proofs.Basics.{eq_from}
 use Rattle.json5_grammar.proofs.BlanksSound.{gap_blanks}
 use Rattle.json5_text.specs.Answered.{Gives}
 use Rattle.json5_text.specs.Cursor.{Cursor}
-use Rattle.json5_text.specs.Scan.{LeavesAt}
-use Rattle.json5_text.specs.Short.{AfterGap, IsStep, FindsStep, IsInFront, Stepped}
+use Rattle.json5_text.specs.Scan.{Leaves, LeavesAt}
+use Rattle.json5_text.specs.Short.{IsStep, FindsStep, IsInFront, Stepped, FindsSign, TakesShortSign}
 use Rattle.json5_text.specs.declared.short.Step.{Step}
 use Rattle.json5_text.proofs.NumberRuns.{PassesAscii}
 use Rattle.json5_text.proofs.ScanTokens.{left_counted, blanks_passed}
@@ -82,3 +82,23 @@ stepped {closing = closing} {due = due} old new b k e left is =
     let l = left k.passed (chars k.rest) (sym e ∙ k.split) (k.counted ∙ left_counted k.rest k.text_rest) in
     let step : IsStep closing due b old.unread new.unread = rw (e, is, sym l.1) at k.step in
     record { step = step; same = l.0.same }
+
+-- ---- a sign alone
+
+pub sign_found : (sign : ℕ) (text solid : List ℕ) → Gives (skip between (chars text)) tt solid → IsInFront sign solid true → FindsSign sign text (length solid - 1)
+sign_found sign text solid g f = record {
+  rest = chars (drop 1 solid);
+  found = sign_after sign (chars text) solid g f.1;
+  counted = sym (length-drop 1 solid) ∙ left_counted (drop 1 solid) (IsUtf8-drop solid 1 g.text f.0);
+}
+
+sign_split : {sign left : ℕ} {text x : List ℕ} (k : FindsSign sign text left) → chars text ≡ x → x ≡ (k.found.front ++ sign ∷ []) ++ k.rest
+sign_split {sign = sign} k e = sym e ∙ k.found.split ∙ sym (append_assoc k.found.front (sign ∷ []) k.rest)
+
+pub sign_leaves : {sign left : ℕ} {text : List ℕ} (s : Cursor) → FindsSign sign text left → chars text ≡ s.unread → Leaves s left
+sign_leaves {sign = sign} s k e = record { passed = k.found.front ++ sign ∷ []; rest = k.rest; split = sign_split k e; counted = k.counted }
+
+pub sign_taken : {sign left : ℕ} {text : List ℕ} (old new : Cursor) → FindsSign sign text left → chars text ≡ old.unread → LeavesAt old left new → TakesShortSign sign old new true
+sign_taken {sign = sign} old new k e left =
+    let l = left (k.found.front ++ sign ∷ []) k.rest (sign_split k e) k.counted in
+    (record { front = k.found.front; split = sym e ∙ k.found.split ∙ ap (λ z. k.found.front ++ sign ∷ z) (sym l.1); blank = k.found.blank }, l.0.same)

@@ -1,5 +1,5 @@
 -- Runs of bytes that a search passes over. Private clauses and proofs alone cite it.
-use Rattle.std.specs.Prelude.{◌≡◌, ◌<◌, ◌≤◌, ◌+◌, ◌^◌, ℕ, Bool, true, not, ◌&&◌, ◌||◌, ◌==◌, List, drop, length, slice_index}
+use Rattle.std.specs.Prelude.{◌≡◌, ◌<◌, ◌≤◌, ◌+◌, ◌^◌, ℕ, Bool, true, not, ◌&&◌, ◌||◌, ◌==◌, nat_lt, List, drop, length, slice_index}
 use Rattle.std.specs.List.{prefix_len}
 use Rattle.std.specs.Prelude.{◌++◌}
 use Rattle.std.specs.Str.{IsUtf8, chars}
@@ -35,6 +35,18 @@ is_ascii_start x = (x == 36) || ((x == 95) || (is_in 65 90 x || is_in 97 122 x))
 -- an ASCII character that may go on one
 abbrev pub is_ascii_part : ℕ → Bool
 is_ascii_part x = is_ascii_start x || is_digit x
+
+-- an ASCII character that begins no escape
+abbrev pub is_plain_ascii : ℕ → Bool
+is_plain_ascii x = nat_lt x 128 && not (x == 92)
+
+-- a name of so many ASCII characters is in front, and an ASCII character after it begins no escape
+pub record IsAsciiName (bytes : List ℕ) (len : ℕ) : Type 0 where
+  pub some : 0 < length bytes
+  pub first : is_ascii_start (slice_index bytes 0) ≡ true
+  pub counted : len ≡ prefix_len is_ascii_part bytes
+  pub inside : len < length bytes
+  pub stops : is_plain_ascii (slice_index bytes len) ≡ true
 
 -- may go on with a number after its digits
 abbrev pub lengthens_digits : ℕ → Bool

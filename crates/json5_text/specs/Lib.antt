@@ -28,3 +28,4 @@ pub mod ScanKeys
 pub mod ScanTextTokens
 pub mod ScanBlanks
 pub mod Short
+pub mod ShortTexts

@@ -14,6 +14,7 @@ use Rattle.json5_text.specs.declared.short.ShortWhole.{ShortWhole}
 use Rattle.json5_text.specs.declared.short.Step.{Step}
 use Rattle.json5_text.specs.Answered.{Gives}
 use Rattle.json5_text.specs.Cursor.{Cursor}
+use Rattle.json5_text.specs.Outcome.{bytes_in}
 
 -- blanks and then a whole number were taken
 pub record TookWhole (old new : Cursor) (number : ℤ) : Type 0 where
@@ -91,3 +92,16 @@ pub record FindsStep (closing : ℕ) (due : Bool) (text : List ℕ) (found : Ste
 abbrev pub IsInFront : ℕ → List ℕ → Bool → Type 0
 IsInFront sign text true = IsCharBoundary text 1 × (chars text ≡ sign ∷ chars (drop 1 text))
 IsInFront sign text false = NotBegun (λ c. c == sign) (chars text)
+
+-- ---- a sign
+
+-- blanks and the sign are in front, and so many bytes are left after it
+pub record FindsSign (sign : ℕ) (text : List ℕ) (left : ℕ) : Type 0 where
+  pub rest : List ℕ
+  pub found : IsSign sign (chars text) rest
+  pub counted : left ≡ bytes_in rest
+
+-- blanks and the sign are taken, or nothing
+abbrev pub TakesShortSign : ℕ → Cursor → Cursor → Bool → Type 0
+TakesShortSign sign old new true = IsSign sign old.unread new.unread × (new.input ≡ old.input)
+TakesShortSign sign old new false = new ≡ old

@@ -5,7 +5,7 @@ ghost use Rattle.json5_grammar.specs.Characters.{is_digit, NotBegun};
 ghost use Rattle.std.specs.List.{prefix_len};
 ghost use Rattle.std.specs.Simd.Lanes.{mask_l};
 ghost use Rattle.json5_grammar.specs.Strings.{is_raw};
-ghost use Rattle.json5_text.specs.ByteRuns.{ends_raw, is_ascii_blank, is_ascii_start, is_ascii_part, is_in_line, is_no_star, lengthens_digits, SpellsFront, IsUnpadded, IsShort, BeginsSolid};
+ghost use Rattle.json5_text.specs.ByteRuns.{ends_raw, is_ascii_blank, is_ascii_start, is_ascii_part, is_plain_ascii, IsAsciiName, is_in_line, is_no_star, lengthens_digits, SpellsFront, IsUnpadded, IsShort, BeginsSolid};
 
 use memchr::{memchr, memchr3};
 use std::simd::prelude::*;
@@ -31,6 +31,7 @@ pub(crate) fn blanks_len(bytes: &[u8]) -> usize
 }
 
 /// An ASCII character that may begin a name.
+#[inline(always)]
 pub(crate) fn is_ascii_start(byte: u8) -> bool
     ensures { result ≡ is_ascii_start byte }
 {
@@ -38,6 +39,7 @@ pub(crate) fn is_ascii_start(byte: u8) -> bool
 }
 
 /// An ASCII character that may go on a name.
+#[inline(always)]
 pub(crate) fn is_ascii_part(byte: u8) -> bool
     ensures { result ≡ is_ascii_part byte }
 {
@@ -45,6 +47,7 @@ pub(crate) fn is_ascii_part(byte: u8) -> bool
 }
 
 /// How many ASCII characters stand in front that may go on a name.
+#[inline(always)]
 pub(crate) fn name_len(bytes: &[u8]) -> usize
     ensures { result ≡ prefix_len is_ascii_part bytes.now }
 {
@@ -53,6 +56,30 @@ pub(crate) fn name_len(bytes: &[u8]) -> usize
         i += 1;
     }
     i
+}
+
+/// An ASCII character that begins no escape.
+#[inline(always)]
+fn is_plain_ascii(byte: u8) -> bool
+    ensures { result ≡ is_plain_ascii byte }
+{
+    byte < 128 && byte != b'\\'
+}
+
+/// How long the name in front is, where it is of ASCII characters alone, and an ASCII character after it begins no escape.
+#[inline(always)]
+pub(crate) fn ascii_name_len(bytes: &[u8]) -> Option<usize>
+    ensures { IfSome result (IsAsciiName bytes.now) }
+{
+    if bytes.is_empty() || !is_ascii_start(bytes[0]) {
+        return None;
+    }
+    let len = name_len(bytes);
+    if len < bytes.len() && is_plain_ascii(bytes[len]) {
+        Some(len)
+    } else {
+        None
+    }
 }
 
 /// How many bytes stand in front of the first that is LF or CR or begins a character from U+2000 to U+2FFF, as U+2028 and U+2029.

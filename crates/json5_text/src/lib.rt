@@ -28,6 +28,7 @@ mod runs;
 mod scanned;
 pub mod scanner;
 pub mod short;
+pub mod short_texts;
 pub mod strings;
 pub mod text_token;
 mod texts;

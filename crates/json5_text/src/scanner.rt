@@ -60,7 +60,7 @@ mod faults;
 pub struct Scanner<I: Input> {
     pub(crate) input: I,
     /// The text's length in bytes.
-    end: usize,
+    pub(crate) end: usize,
     /// The count of bytes that are read; a character begins there, or the text ends.
     offset: usize,
     alloc: Global,

@@ -5,7 +5,7 @@ ghost use Rattle.std.specs.Prelude.{◌<◌, true, false, IfSome};
 ghost use Rattle.std.specs.Str.{chars};
 ghost use Rattle.json5_grammar.specs.ReadBlanks.{skip, between};
 ghost use Rattle.json5_text.specs.Answered.{Gives};
-ghost use Rattle.json5_text.specs.Short.{IsShortWhole, GivesSpaced, TakesShortWhole, IsInFront, FindsStep, TakesShortStep};
+ghost use Rattle.json5_text.specs.Short.{IsShortWhole, GivesSpaced, TakesShortWhole, IsInFront, FindsStep, TakesShortStep, FindsSign, TakesShortSign};
 
 use crate::blanks::skip_ascii;
 use crate::bytes::{begins_minus, begins_solid, short_digits};
@@ -77,7 +77,7 @@ struct Step {
 
 /// Whether the ASCII character is in front.
 #[inline(always)]
-fn is_in_front(sign: u8, text: &str) -> bool
+pub(crate) fn is_in_front(sign: u8, text: &str) -> bool
     requires { sign < 128 }
     ensures { IsInFront sign text.now result }
 {
@@ -132,6 +132,21 @@ fn find_step(closing: u8, due: bool, text: &str) -> Option<Step>
     }
 }
 
+/// How many bytes follow ASCII blanks and the sign, where the sign is an ASCII character.
+#[inline(always)]
+fn after_sign(sign: u8, text: &str) -> Option<usize>
+    ensures { IfSome result (FindsSign sign text.now) }
+{
+    if sign >= 128 {
+        return None;
+    }
+    let solid = skip_to_solid(text)?;
+    if !is_in_front(sign, solid) {
+        return None;
+    }
+    Some(solid.len() - 1)
+}
+
 impl<I: Input> Scanner<I> {
     /// Takes ASCII blanks and a whole number of at most 19 digits from `min` to `max`, up to where a number can't go on. Returns
     /// None where anything else is in front, and takes nothing then.
@@ -162,5 +177,17 @@ impl<I: Input> Scanner<I> {
         } else {
             ShortStep::Member
         }
+    }
+
+    /// Takes ASCII blanks and the sign, an ASCII character, and says whether they were in front. Else takes nothing.
+    #[inline(always)]
+    pub fn short_sign(&mut self, sign: u8) -> bool
+        ensures { TakesShortSign sign self.old self.new result }
+    {
+        let Some(left) = after_sign(sign, self.rest(self.input.as_text())) else {
+            return false;
+        };
+        self.leave_unread(left);
+        true
     }
 }

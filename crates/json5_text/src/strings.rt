@@ -88,6 +88,6 @@ pub fn is_quote(c: char) -> bool
 pub(crate) fn skip_raw(quote: Quote, text: &str) -> &str
     ensures { SkipsAll (is_raw (quote_of quote)) text.now result.now }
 {
-    let end = raw_end(quote.char() as u8, text.as_bytes());
+    let end = raw_end(quote.byte(), text.as_bytes());
     text.split_at(end).1
 }

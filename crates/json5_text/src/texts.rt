@@ -33,6 +33,16 @@ impl Quote {
             Quote::Single => '\'',
         }
     }
+
+    #[inline(always)]
+    pub(crate) fn byte(self) -> u8
+        ensures { result ≡ quote_of self }
+    {
+        match self {
+            Quote::Double => b'"',
+            Quote::Single => b'\'',
+        }
+    }
 }
 
 /// What is read.

@@ -3,6 +3,7 @@
 ghost use Rattle.std.specs.Prelude.{◌≡◌, ℕ, List};
 ghost use Rattle.std.specs.Str.{chars, encode_utf8_all};
 ghost use Rattle.json5_text.specs.TextTokens.{StandsAt, IsTextOf, IsCowOf};
+ghost use Rattle.json5_text.specs.ShortTexts.{IsTextAt};
 ghost use Rattle.json5_text.specs.Takes.{TakesString, TakesName};
 
 use crate::cow_str::CowStr;
@@ -10,6 +11,7 @@ use crate::error::Result;
 use crate::input::{Borrows, Input};
 use crate::names::read_name;
 use crate::scanner::Scanner;
+use crate::short_texts::Span;
 use crate::strings::read_string;
 use crate::text_token::TextToken;
 
@@ -65,6 +67,14 @@ impl<'de, I: Borrows<'de>> Scanner<I> {
             TextToken::Escaped(text) => CowStr::Owned(text),
         }
     }
+
+    /// The same as `text_of_span`, for as long as the text is there.
+    #[inline(always)]
+    pub fn borrowed_text_of_span(&self, span: Span) -> &'de str
+        ensures { IsTextAt self.now.input span result.now }
+    {
+        between(self.input.as_borrowed(), span.start, span.end)
+    }
 }
 
 impl<I: Input> Scanner<I> {
@@ -77,6 +87,15 @@ impl<I: Input> Scanner<I> {
             TextToken::Plain { start, end } => between(self.input.as_text(), *start, *end),
             TextToken::Escaped(text) => text.as_str(),
         }
+    }
+
+    /// The text of a span that this scanner answered. Of another scanner's span it may be any part of the text that is read, or
+    /// empty where the span's offsets are no places between characters.
+    #[inline(always)]
+    pub fn text_of_span(&self, span: Span) -> &str
+        ensures { IsTextAt self.now.input span result.now }
+    {
+        between(self.input.as_text(), span.start, span.end)
     }
 }
 

@@ -1,5 +1,4 @@
-use Rattle.std.proofs.Common.{refl, rules, arith}
-use Rattle.std.proofs.lemmas.Bool.Decides.{nat_tests}
+use Rattle.std.proofs.Common.{refl, rules}
 use Rattle.json5_text.proofs.ShortSteps.{in_front, none_in_front}
 use Rattle.json5_text.proofs.short.is_in_front.Goals as goal
 

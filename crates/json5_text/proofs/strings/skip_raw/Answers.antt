@@ -1,4 +1,4 @@
-use Rattle.std.proofs.Common.{◌∙◌, ap, arith}
+use Rattle.std.proofs.Common.{◌∙◌, ap}
 use Rattle.std.specs.List.{prefix_len}
 use Rattle.json5_grammar.specs.Strings.{is_raw}
 use Rattle.json5_text.specs.ScanTexts.{quote_of}
@@ -6,17 +6,14 @@ use Rattle.json5_text.proofs.StopRuns.{stop_boundary, stop_skips, raw_chars, quo
 use Rattle.json5_text.proofs.ScanRuns.{quote_is}
 use Rattle.json5_text.proofs.strings.skip_raw.Goals as goal
 
-pub overflow_cast-char : goal.overflow_cast-char
-overflow_cast-char c = let k = quote_ascii (quote_of c.args.quote) (quote_is c.args.quote) in let e = c.char.ensures in omega arith
-
 pub split_at-requires : goal.split_at-requires
 split_at-requires c =
     let q = quote_of c.args.quote in
     stop_boundary (is_raw q) (is_raw q) c.args.text.now _ (raw_chars q (quote_ascii q (quote_is c.args.quote))) c.utf8.text
-    (c.raw_end-end.ensures.value ∙ ap (λ b. prefix_len (is_raw b) c.as_bytes.result.now) c.char.ensures ∙ ap (prefix_len (is_raw q)) c.as_bytes.ensures.value)
+    (c.raw_end-end.ensures.value ∙ ap (λ b. prefix_len (is_raw b) c.as_bytes.result.now) c.byte.ensures ∙ ap (prefix_len (is_raw q)) c.as_bytes.ensures.value)
 
 pub returns : goal.returns
 returns c =
     let q = quote_of c.args.quote in
     stop_skips (is_raw q) (is_raw q) c.args.text.now _ _ (raw_chars q (quote_ascii q (quote_is c.args.quote))) c.utf8.text
-    (c.raw_end-end.ensures.value ∙ ap (λ b. prefix_len (is_raw b) c.as_bytes.result.now) c.char.ensures ∙ ap (prefix_len (is_raw q)) c.as_bytes.ensures.value) c.split_at.ensures.back
+    (c.raw_end-end.ensures.value ∙ ap (λ b. prefix_len (is_raw b) c.as_bytes.result.now) c.byte.ensures ∙ ap (prefix_len (is_raw q)) c.as_bytes.ensures.value) c.split_at.ensures.back

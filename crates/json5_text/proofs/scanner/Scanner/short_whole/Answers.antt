@@ -1,10 +1,8 @@
 use Rattle.std.proofs.Common.{◌++◌, sym, subst, ◌∙◌}
 use Rattle.std.specs.Str.{chars}
 use Rattle.std.proofs.lemmas.List.{append_assoc}
-use Rattle.json5_grammar.specs.Characters.{NotBegun}
-use Rattle.json5_grammar.specs.Stops.{lengthens}
 use Rattle.json5_text.specs.Scan.{Leaves}
-use Rattle.json5_text.proofs.ScanTokens.{left_counted, leaves_rest}
+use Rattle.json5_text.proofs.ScanTokens.{left_counted}
 use Rattle.json5_text.proofs.ShortWays.{whole_found, in_range}
 use Rattle.json5_text.proofs.scanner.Scanner.short_whole.Goals as goal
 

@@ -1,0 +1,76 @@
+-- What the short ways of strings and keys promise: one without an escape is taken with the ASCII blanks before it, or nothing is.
+use Rattle.std.specs.Prelude.{◌≡◌, ℕ, true, List, ◌∷◌, ◌++◌, Option, MatchOption}
+use Rattle.std.specs.Str.{encode_utf8_all}
+use Rattle.json5_grammar.specs.Blanks.{is_solid}
+use Rattle.json5_grammar.specs.Members.{ReadsKey}
+use Rattle.json5_grammar.specs.Names.{Key}
+use Rattle.json5_grammar.specs.Strings.{Str}
+use Rattle.json5_grammar.specs.Trees.{text}
+use Rattle.json5_grammar.specs.Values.{Reads}
+use Rattle.json5_text.specs.declared.short_texts.Span.{Span}
+use Rattle.json5_text.specs.declared.short_texts.FoundText.{FoundText}
+use Rattle.json5_text.specs.Cursor.{Cursor}
+use Rattle.json5_text.specs.TextTokens.{StandsAt}
+use Rattle.json5_text.specs.Outcome.{bytes_in}
+
+-- x begins with blanks and a string with the text u, which holds no escape, and r is left
+abbrev pub ReadsPlainString : List ℕ → List ℕ → List ℕ → Type 0
+ReadsPlainString x u r = Reads x (text u true) r
+
+-- the same of a key
+abbrev pub ReadsPlainKey : List ℕ → List ℕ → List ℕ → Type 0
+ReadsPlainKey x u r = ReadsKey x u true r
+
+-- such a text was taken, and stands there
+pub record TookPlain (IsRead : List ℕ → List ℕ → List ℕ → Type 0) (old new : Cursor) (span : Span) : Type 0 where
+  pub spelled : List ℕ
+  pub read : IsRead old.unread spelled new.unread
+  pub stands : StandsAt old.input spelled span.start span.end
+  pub same : new.input ≡ old.input
+
+-- a string without an escape is taken, or nothing
+abbrev pub TakesShortString : Cursor → Cursor → Option Span → Type 0
+TakesShortString old new result = MatchOption result (new ≡ old) (λ span. TookPlain ReadsPlainString old new span)
+
+-- a key without an escape is taken, or nothing
+abbrev pub TakesShortKey : Cursor → Cursor → Option Span → Type 0
+TakesShortKey old new result = MatchOption result (new ≡ old) (λ span. TookPlain ReadsPlainKey old new span)
+
+-- these are the bytes of the text that stands there
+abbrev pub IsTextAt : List ℕ → Span → List ℕ → Type 0
+IsTextAt input span bytes = (u : List ℕ) → StandsAt input u span.start span.end → bytes ≡ encode_utf8_all u
+
+-- ---- what is found in front
+
+-- u stands in x, and so many bytes are left where it begins and where it ends
+pub record StandsBefore (x u : List ℕ) (from to : ℕ) : Type 0 where
+  pub before : List ℕ
+  pub rest : List ℕ
+  pub split : x ≡ before ++ (u ++ rest)
+  pub begins : from ≡ bytes_in (u ++ rest)
+  pub ends : to ≡ bytes_in rest
+
+-- the token s has the text u and holds no escape; r follows it
+abbrev pub IsPlainString : List ℕ → List ℕ → List ℕ → Type 0
+IsPlainString s u r = Str s u true
+
+abbrev pub IsPlainKey : List ℕ → List ℕ → List ℕ → Type 0
+IsPlainKey s u r = Key s r u true
+
+-- such a token is in front of x, and so many bytes follow it
+pub record FindsPlain (IsToken : List ℕ → List ℕ → List ℕ → Type 0) (x : List ℕ) (found : FoundText) : Type 0 where
+  pub token : List ℕ
+  pub spelled : List ℕ
+  pub rest : List ℕ
+  pub split : x ≡ token ++ rest
+  pub is_token : IsToken token spelled rest
+  pub place : StandsBefore x spelled found.from found.to
+  pub counted : found.left ≡ bytes_in rest
+
+-- x begins with a character that is neither blank nor begins a comment
+abbrev pub HasSolid : List ℕ → Type 0
+HasSolid x = (c : ℕ) × (r : List ℕ) × (x ≡ c ∷ r) × (is_solid c ≡ true)
+
+-- such a token is in front, which begins with no blank
+abbrev pub FindsFirst : (List ℕ → List ℕ → List ℕ → Type 0) → List ℕ → FoundText → Type 0
+FindsFirst IsToken x found = FindsPlain IsToken x found × HasSolid x

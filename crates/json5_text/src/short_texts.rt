@@ -1,0 +1,127 @@
+//! Short ways: strings and keys without an escape, which are taken at once and stay where they stand in the text. Each answers
+//! numbers alone; where it answers nothing it takes nothing, and the scanner's other calls say what is there.
+
+ghost use Rattle.std.specs.Prelude.{◌≡◌, ◌∷◌, true, IfSome};
+ghost use Rattle.std.specs.Str.{chars};
+ghost use Rattle.json5_text.specs.ScanTexts.{quote_of};
+ghost use Rattle.json5_text.specs.Short.{IsInFront};
+ghost use Rattle.json5_text.specs.ShortTexts.{IsPlainString, IsPlainKey, FindsPlain, FindsFirst, TakesShortString, TakesShortKey, IsTextAt};
+
+use crate::blanks::skip_ascii;
+use crate::bytes::ascii_name_len;
+use crate::input::{Borrows, Input};
+use crate::scanner::Scanner;
+use crate::short::is_in_front;
+use crate::strings::skip_raw;
+use crate::texts::Quote;
+
+/// Where a text stands in what is read, from `start` up to `end`, in bytes.
+#[derive(Clone, Copy, Debug, PartialEq, Eq)]
+pub struct Span {
+    pub start: usize,
+    pub end: usize,
+}
+
+/// A text in front: how many bytes are left where it begins, where it ends, and after the string or the key that it is.
+#[derive(Clone, Copy)]
+struct FoundText {
+    from: usize,
+    to: usize,
+    left: usize,
+}
+
+/// The quote in front.
+#[inline(always)]
+fn front_quote(text: &str) -> Option<Quote>
+    ensures { IfSome result (λ quote. IsInFront (quote_of quote) text.now true) }
+{
+    if is_in_front(b'"', text) {
+        return Some(Quote::Double);
+    }
+    if is_in_front(b'\'', text) {
+        return Some(Quote::Single);
+    }
+    None
+}
+
+/// The string without an escape whose first quote the body follows.
+#[inline(always)]
+fn quoted(quote: Quote, body: &str) -> Option<FoundText>
+    ensures { IfSome result (FindsPlain IsPlainString (quote_of quote ∷ chars body.now)) }
+{
+    let rest = skip_raw(quote, body);
+    if !is_in_front(quote.byte(), rest) {
+        return None;
+    }
+    Some(FoundText {
+        from: body.len(),
+        to: rest.len(),
+        left: rest.len() - 1,
+    })
+}
+
+/// The string without an escape in front.
+#[inline(always)]
+fn front_string(text: &str) -> Option<FoundText>
+    ensures { IfSome result (FindsFirst IsPlainString (chars text.now)) }
+{
+    let quote = front_quote(text)?;
+    quoted(quote, text.split_at(1).1)
+}
+
+/// The name of ASCII characters in front, after which an ASCII character follows.
+#[inline(always)]
+fn front_name(text: &str) -> Option<FoundText>
+    ensures { IfSome result (FindsFirst IsPlainKey (chars text.now)) }
+{
+    let len = ascii_name_len(text.as_bytes())?;
+    let left = text.len() - len;
+    Some(FoundText {
+        from: text.len(),
+        to: left,
+        left,
+    })
+}
+
+/// The key without an escape in front.
+#[inline(always)]
+fn front_key(text: &str) -> Option<FoundText>
+    ensures { IfSome result (FindsFirst IsPlainKey (chars text.now)) }
+{
+    match front_quote(text) {
+        Some(quote) => quoted(quote, text.split_at(1).1),
+        None => front_name(text),
+    }
+}
+
+impl<I: Input> Scanner<I> {
+    /// Takes ASCII blanks and a string without an escape, and says where its text stands. Returns None where anything else is in
+    /// front, and takes nothing then.
+    #[inline(always)]
+    pub fn short_string(&mut self) -> Option<Span>
+        ensures { TakesShortString self.old self.new result }
+    {
+        let found = front_string(skip_ascii(self.rest(self.input.as_text())))?;
+        let span = Span {
+            start: self.end - found.from,
+            end: self.end - found.to,
+        };
+        self.leave_unread(found.left);
+        Some(span)
+    }
+
+    /// Takes ASCII blanks and a key: a string without an escape, or a name of ASCII characters alone up to an ASCII character that
+    /// can't go on with it. Says where its text stands. Returns None where anything else is in front, and takes nothing then.
+    #[inline(always)]
+    pub fn short_key(&mut self) -> Option<Span>
+        ensures { TakesShortKey self.old self.new result }
+    {
+        let found = front_key(skip_ascii(self.rest(self.input.as_text())))?;
+        let span = Span {
+            start: self.end - found.from,
+            end: self.end - found.to,
+        };
+        self.leave_unread(found.left);
+        Some(span)
+    }
+}
