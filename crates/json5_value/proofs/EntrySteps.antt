@@ -36,11 +36,11 @@ colon_passed old mid at new u result g t k =
 
 -- ---- commas
 
-separator_is : (k : BracketKind) (x : List ℕ) → separator k x ≡ and_then (skip between x) (λ u y. comma_at k y)
+pub separator_is : (k : BracketKind) (x : List ℕ) → separator k x ≡ and_then (skip between x) (λ u y. comma_at k y)
 unfolding separator
 separator_is k x = refl
 
-closes_here : (k : BracketKind) (r : List ℕ) → comma_at k (closing k ∷ r) ≡ got false r
+pub closes_here : (k : BracketKind) (r : List ℕ) → comma_at k (closing k ∷ r) ≡ got false r
 closes_here of_array r = refl
 closes_here of_object r = refl
 
@@ -76,11 +76,11 @@ none_due k due old is = took_step old old (due_comma k due old.unread) true [] (
 
 -- ---- entries
 
-front_closes : (k : BracketKind) (r : List ℕ) → entry_front k (closing k ∷ r) ≡ got false r
+pub front_closes : (k : BracketKind) (r : List ℕ) → entry_front k (closing k ∷ r) ≡ got false r
 front_closes of_array r = refl
 front_closes of_object r = refl
 
-front_goes : (k : BracketKind) (y : List ℕ) → NotBegun (λ d. d == closing k) y → entry_front k y ≡ got true y
+pub front_goes : (k : BracketKind) (y : List ℕ) → NotBegun (λ d. d == closing k) y → entry_front k y ≡ got true y
 front_goes k [] n = refl
 front_goes k (c ∷ r) n = rw n refl
 

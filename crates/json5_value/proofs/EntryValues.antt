@@ -23,11 +23,11 @@ unfolding key
 key_missing = refl
 
 -- what stands before the value of a member that begins here
-abbrev head_of : BracketKind → List ℕ → Read Bool
+abbrev pub head_of : BracketKind → List ℕ → Read Bool
 head_of of_array y = got true y
 head_of of_object y = pair_head y
 
-abbrev head_or_end : BracketKind → Bool → List ℕ → Read Bool
+abbrev pub head_or_end : BracketKind → Bool → List ℕ → Read Bool
 head_or_end k goes y = cond goes (head_of k y) (got false y)
 
 head_is : (k : BracketKind) (y : List ℕ) → member_head k y ≡ and_then (entry_front k y) (head_or_end k)
@@ -52,7 +52,7 @@ entry_is : (k : BracketKind) (x : List ℕ) → member_at k x ≡ and_then (entr
 unfolding member_at
 entry_is k x = start_is k (skip between x)
 
-next_is : (k : BracketKind) (due : Bool) (x : List ℕ) → next_value k due x ≡ and_then (next_entry k due x) (head_or_end k)
+pub next_is : (k : BracketKind) (due : Bool) (x : List ℕ) → next_value k due x ≡ and_then (next_entry k due x) (head_or_end k)
 next_is k false x = entry_is k x
 next_is k true x = by_comma (separator k x)
   where

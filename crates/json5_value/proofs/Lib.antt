@@ -10,6 +10,8 @@ pub mod Nesting
 pub mod Scalars
 pub mod Shorter
 pub mod SkipTurns
+pub mod ShortEntries
+pub mod ShortTurns
 pub mod BuildRests
 pub mod BuildSteps
 pub mod BuildKeys

@@ -95,6 +95,15 @@ module _ {F D : Type 0} (start : F → ℕ) (after : F → ℕ → D → List �
           (nested_as old.input old.input room fs (placed q m) (placed q (and_then v (after f (room - length fs - 1)))) w refl (ap (placed q) reads) h.nested));
     }
 
+    -- something of it was passed over
+    pub moved : (new : Cursor) (n : Read D) (s : List ℕ) → Took old s new → m ≡ n → Inside start after room w fs at n q new
+    moved new n s took reads = record {
+      ready = ready_after old new s h.ready took;
+      fits = h.fits;
+      counted = subst (λ z. CountsTo z at q) (sym took.same) h.counted;
+      nested = nested_as old.input new.input room fs (placed q m) (placed q n) w (sym took.same) (ap (placed q) reads) h.nested;
+    }
+
     -- it is closed
     pub closed : (new : Cursor) (x : D) (s : List ℕ) → Took old s new → m ≡ got x new.unread → Within start after room w fs (got x new.unread) new
     closed new x s took reads = record {

@@ -38,7 +38,7 @@ module _ (room : ℕ) (bs : List OpenBracket) (f : OpenBracket) (due : Bool) (ol
   value_is : (goes : Bool) (new : Cursor) → goes ≡ true → Gave (next_value (bracket_of f.kind) due old.unread) goes old new → rest_at room bs f due old ≡ and_then (value_at left new) (rest_in f left)
   value_is goes new is g = rest_is goes new g ∙ ap (λ b. turn (bracket_of f.kind) left b new.unread) is
 
-room_within : (room : ℕ) (bs : List OpenBracket) (f : OpenBracket) → room - length (bs ++ f ∷ []) ≡ room - length bs - 1
+pub room_within : (room : ℕ) (bs : List OpenBracket) (f : OpenBracket) → room - length (bs ++ f ∷ []) ≡ room - length bs - 1
 room_within room bs f = omega (arith, length-append bs (f ∷ []))
 
 pub no_more_left : (old new : Cursor) (s : List ℕ) → Took old s new → length new.unread ≤ length old.unread
@@ -91,7 +91,7 @@ ready_opened room f old mid r o = record {
   inside = o.same_text ∙ r.inside ∙ ap (λ z. r.before ++ z) o.sign ∙ sym (append_assoc r.before (opening (bracket_of f.kind) ∷ []) mid.unread);
 }
 
-inside_of : (room : ℕ) (w : Read (Unit {0})) (bs : List OpenBracket) (f : OpenBracket) (old mid : Cursor) → Skipping room w bs true old → OpenedAt (room - length bs) f old mid → SkippingInside room w bs f false old.unread mid
+pub inside_of : (room : ℕ) (w : Read (Unit {0})) (bs : List OpenBracket) (f : OpenBracket) (old mid : Cursor) → Skipping room w bs true old → OpenedAt (room - length bs) f old mid → SkippingInside room w bs f false old.unread mid
 inside_of room w bs f old mid h o =
     let d = o.room_left in
     let more : room - length bs ≡ suc (room - length bs - 1) = omega (arith, d) in

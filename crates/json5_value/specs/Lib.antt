@@ -6,6 +6,7 @@ pub mod Entries
 pub mod Opening
 pub mod Nesting
 pub mod Skipping
+pub mod Short
 pub mod Data
 pub mod Keeping
 pub mod Building

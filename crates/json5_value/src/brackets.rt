@@ -35,6 +35,7 @@ pub struct Brackets {
 
 impl BracketKind {
     /// Its brackets.
+    #[inline(always)]
     pub fn brackets(self) -> Brackets
         ensures { result ≡ brackets_of self }
     {

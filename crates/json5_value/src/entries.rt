@@ -4,6 +4,7 @@ ghost use Rattle.json5_grammar.specs.ReadSteps.{forget, colon_after, next_value}
 ghost use Rattle.json5_grammar.specs.ReadTexts.{key};
 ghost use Rattle.json5_value.specs.Brackets.{bracket_of};
 ghost use Rattle.json5_value.specs.Entries.{due_comma, next_entry};
+ghost use Rattle.json5_value.specs.Short.{name_at};
 ghost use Rattle.json5_value.specs.Steps.{IsInside, Steps};
 
 use crate::brackets::BracketKind;
@@ -12,6 +13,7 @@ use json5_text::ErrorCode;
 use json5_text::error::{Error, Result};
 use json5_text::input::Input;
 use json5_text::scanner::Scanner;
+use json5_text::short::ShortStep;
 use json5_text::strings::is_quote;
 
 /// Passes over a key.
@@ -44,6 +46,15 @@ pub(crate) fn skip_colon<I: Input>(scanner: &mut Scanner<I>) -> Result<()>
     scanner.skip_blank()
 }
 
+/// Passes over the key of a member, and over blanks, a colon and blanks.
+pub(crate) fn skip_name<I: Input>(scanner: &mut Scanner<I>) -> Result<()>
+    requires { IsInside scanner.old }
+    ensures { Steps (name_at scanner.old.unread) scanner.old scanner.new result }
+{
+    skip_key(scanner)?;
+    skip_colon(scanner)
+}
+
 /// Where a comma is due, passes over it and says true, or over the closing bracket and says false. Says true where none is.
 fn skip_comma<I: Input>(scanner: &mut Scanner<I>, kind: BracketKind, due: bool) -> Result<bool>
     requires { IsInside scanner.old }
@@ -72,6 +83,27 @@ pub(crate) fn skip_to_entry<I: Input>(
     requires { IsInside scanner.old }
     ensures { Steps (next_entry (bracket_of kind) due scanner.old.unread) scanner.old scanner.new result }
 {
+    let closing = kind.brackets().closing;
+    match scanner.short_step(closing as u8, due) {
+        ShortStep::Member => Ok(true),
+        ShortStep::Closing => {
+            let _ = scanner.eat(closing);
+            Ok(false)
+        }
+        ShortStep::Other => skip_to_entry_slowly(scanner, kind, due),
+    }
+}
+
+/// The same, whatever stands before the entry.
+#[inline(never)]
+fn skip_to_entry_slowly<I: Input>(
+    scanner: &mut Scanner<I>,
+    kind: BracketKind,
+    due: bool,
+) -> Result<bool>
+    requires { IsInside scanner.old }
+    ensures { Steps (next_entry (bracket_of kind) due scanner.old.unread) scanner.old scanner.new result }
+{
     let more = skip_comma(scanner, kind, due)?;
     if !more {
         return Ok(false);
@@ -80,7 +112,7 @@ pub(crate) fn skip_to_entry<I: Input>(
     Ok(!scanner.eat(kind.brackets().closing))
 }
 
-/// The same, but goes to the entry's value: over the key and the colon of a member too.
+/// Goes to the next entry as `skip_to_entry` does, but on to its value: over the key and the colon of a member too.
 pub(crate) fn skip_to_value<I: Input>(
     scanner: &mut Scanner<I>,
     kind: BracketKind,

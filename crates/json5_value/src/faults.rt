@@ -12,6 +12,8 @@ use json5_text::input::Input;
 use json5_text::scanner::Scanner;
 
 /// The fault of what is next and isn't expected: `differs` at the character, or `ends` at the end, without a place.
+#[cold]
+#[inline(never)]
 pub fn unexpected_here<I: Input>(scanner: &Scanner<I>, ends: ErrorCode, differs: ErrorCode) -> Error
     ensures { Refused (Unexpected ends differs) scanner.now result }
 {
@@ -22,6 +24,8 @@ pub fn unexpected_here<I: Input>(scanner: &Scanner<I>, ends: ErrorCode, differs:
 }
 
 /// A fault at the next character.
+#[cold]
+#[inline(never)]
 pub fn fault_here<I: Input>(scanner: &Scanner<I>, code: ErrorCode) -> Error
     ensures kind { kind_of result ≡ FaultKind.code code }
     ensures placed { IsPlaced scanner.now (Some []) result }
@@ -31,6 +35,8 @@ pub fn fault_here<I: Input>(scanner: &Scanner<I>, code: ErrorCode) -> Error
 }
 
 /// The fault, at the bracket that begins after so many bytes where it has no place. Else the lines before it are not counted.
+#[cold]
+#[inline(never)]
 pub fn place_at<I: Input>(scanner: &Scanner<I>, start: usize, error: Error) -> Error
     ensures { PlacedAt (StartsAfter scanner.now.input start) error result }
 {

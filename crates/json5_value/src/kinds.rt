@@ -27,6 +27,7 @@ pub enum ValueKind {
 }
 
 /// What the character begins.
+#[inline(always)]
 pub fn kind_at(c: char) -> ValueKind
     ensures { result ≡ kind_at c }
 {

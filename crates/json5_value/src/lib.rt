@@ -6,5 +6,6 @@ pub mod entries;
 pub mod faults;
 pub mod kinds;
 pub mod read;
+mod short;
 pub mod skip;
 pub mod tokens;

@@ -39,6 +39,7 @@ enum Unfinished {
 
 impl Unfinished {
     /// The count of bytes before its bracket.
+    #[inline(always)]
     fn start(&self) -> usize
         ensures { result ≡ start_of self.now }
     {
@@ -70,6 +71,8 @@ fn read_or_open<I: Input>(scanner: &mut Scanner<I>, room: usize) -> Result<Value
 }
 
 /// The fault, at the innermost bracket where it has no place and one is open.
+#[cold]
+#[inline(never)]
 fn place_at_innermost<I: Input>(
     scanner: &Scanner<I>,
     stack: &mut Vec<Unfinished>,

@@ -1,15 +1,19 @@
 //! Passing over values of any kind.
 
-ghost use Rattle.std.specs.Prelude.{◌<◌, ◌≤◌, length};
+ghost use Rattle.std.specs.Prelude.{◌≡◌, ◌<◌, ◌≤◌, Some, length, slice_get, true};
 ghost use Rattle.json5_grammar.specs.Documents.{max_depth};
+ghost use Rattle.json5_grammar.specs.Fronts.{opening};
+ghost use Rattle.json5_value.specs.Brackets.{bracket_of};
 ghost use Rattle.json5_value.specs.Opening.{AtScalar};
 ghost use Rattle.json5_value.specs.Steps.{IsInside, Steps, value_at};
+ghost use Rattle.json5_value.specs.Short.{TurnsMember, ResumesShort, TurnsShort};
 ghost use Rattle.json5_value.specs.Skipping.{SkipsOrOpens, Turns, TurnsInside, PlacedWithin, Skips};
 
 use crate::brackets::{BracketKind, OpenBracket, open_bracket};
-use crate::entries::skip_to_value;
+use crate::entries::{skip_name, skip_to_value};
 use crate::faults::{fault_here, place_at};
 use crate::kinds::{ValueKind, kind_at, skip_literal};
+use crate::short::{ShortEntry, short_entry, short_number};
 use arrayvec::ArrayVec;
 use json5_text::ErrorCode;
 use json5_text::error::{Error, Result};
@@ -56,6 +60,8 @@ fn skip_or_open<I: Input>(scanner: &mut Scanner<I>, room: usize) -> Result<Optio
 }
 
 /// The fault, at the innermost bracket where it has no place and one is open.
+#[cold]
+#[inline(never)]
 fn place_at_innermost<I: Input>(
     scanner: &Scanner<I>,
     brackets: &mut OpenBrackets,
@@ -71,6 +77,7 @@ fn place_at_innermost<I: Input>(
 
 /// Goes on in a bracket that isn't among the open ones: to a value, which the answer true says, and then the bracket is
 /// among them; or past its closing sign.
+#[inline(never)]
 fn resume_bracket<I: Input>(
     scanner: &mut Scanner<I>,
     brackets: &mut OpenBrackets,
@@ -92,6 +99,7 @@ fn resume_bracket<I: Input>(
 }
 
 /// Begins the value in front within the open brackets, and says whether a value is next.
+#[inline(never)]
 fn begin_value<I: Input>(
     scanner: &mut Scanner<I>,
     room: usize,
@@ -113,6 +121,135 @@ fn begin_value<I: Input>(
     resume_bracket(scanner, brackets, bracket, false)
 }
 
+/// Goes on with a member that has been reached, its object not among the open ones: to its value, and then the object is among them.
+#[inline(never)]
+fn resume_member<I: Input>(
+    scanner: &mut Scanner<I>,
+    brackets: &mut OpenBrackets,
+    bracket: OpenBracket,
+) -> Result<bool>
+    requires ready { IsInside scanner.old }
+    requires place { length brackets.old.items < 128 }
+    ensures { TurnsMember bracket brackets.old.items brackets.new.items scanner.old scanner.new result }
+{
+    match skip_name(scanner) {
+        Ok(()) => {
+            brackets.push(bracket);
+            Ok(true)
+        }
+        Err(e) => Err(place_at(scanner, bracket.start, e)),
+    }
+}
+
+/// How far a short turn went, and with that what is left of the turn.
+#[derive(Clone, Copy)]
+enum ShortTurn {
+    /// A value is next.
+    Value,
+    /// A value has ended.
+    Ended,
+    /// A value is next that must be begun the longer way.
+    Begins,
+    /// The bracket isn't among the open ones, and must be gone on with the longer way, after a comma where one is due.
+    Within { bracket: OpenBracket, due: bool },
+    /// The object isn't among the open ones, and the key of its member is next.
+    AtKey(OpenBracket),
+    /// The value that was to be passed over has ended.
+    Whole,
+}
+
+/// Goes on in a bracket that isn't among the open ones.
+#[inline(always)]
+fn short_resume<I: Input>(
+    scanner: &mut Scanner<I>,
+    brackets: &mut OpenBrackets,
+    bracket: OpenBracket,
+    due: bool,
+) -> ShortTurn
+    requires { length brackets.old.items < 128 }
+    ensures { ResumesShort bracket due brackets.old.items brackets.new.items scanner.old scanner.new result }
+{
+    match short_entry(scanner, bracket.kind, due) {
+        ShortEntry::Value => {
+            brackets.push(bracket);
+            ShortTurn::Value
+        }
+        ShortEntry::Key => ShortTurn::AtKey(bracket),
+        ShortEntry::Closed => ShortTurn::Ended,
+        ShortEntry::Other => ShortTurn::Within { bracket, due },
+    }
+}
+
+/// Opens the bracket in front, where there is room for one more.
+#[inline(always)]
+fn short_open<I: Input>(
+    scanner: &mut Scanner<I>,
+    room: usize,
+    brackets: &mut OpenBrackets,
+    kind: BracketKind,
+) -> ShortTurn
+    requires ready { IsInside scanner.old }
+    requires sign { slice_get scanner.old.unread 0 ≡ Some (opening (bracket_of kind)) }
+    requires room { room ≤ max_depth }
+    ensures { TurnsShort room true brackets.old.items brackets.new.items scanner.old scanner.new result }
+{
+    if room <= brackets.len() {
+        return ShortTurn::Begins;
+    }
+    let start = scanner.offset();
+    let _ = scanner.eat(kind.brackets().opening);
+    short_resume(scanner, brackets, OpenBracket { kind, start }, false)
+}
+
+/// Begins the value in front within the open brackets.
+#[inline(always)]
+fn short_begin<I: Input>(
+    scanner: &mut Scanner<I>,
+    room: usize,
+    brackets: &mut OpenBrackets,
+) -> ShortTurn
+    requires ready { IsInside scanner.old }
+    requires room { room ≤ max_depth }
+    ensures { TurnsShort room true brackets.old.items brackets.new.items scanner.old scanner.new result }
+{
+    let Some(c) = scanner.peek() else {
+        return ShortTurn::Begins;
+    };
+    if c == '[' {
+        return short_open(scanner, room, brackets, BracketKind::Array);
+    }
+    if c == '{' {
+        return short_open(scanner, room, brackets, BracketKind::Object);
+    }
+    if short_number(scanner, c) {
+        ShortTurn::Ended
+    } else {
+        ShortTurn::Begins
+    }
+}
+
+/// Begins the value in front, or goes on in the innermost bracket after a value.
+#[inline(always)]
+fn short_turn<I: Input>(
+    scanner: &mut Scanner<I>,
+    room: usize,
+    brackets: &mut OpenBrackets,
+    at_value: bool,
+) -> ShortTurn
+    requires ready { IsInside scanner.old }
+    requires room { room ≤ max_depth }
+    requires fits { length brackets.old.items ≤ room }
+    ensures { TurnsShort room at_value brackets.old.items brackets.new.items scanner.old scanner.new result }
+{
+    if at_value {
+        return short_begin(scanner, room, brackets);
+    }
+    match brackets.pop() {
+        Some(bracket) => short_resume(scanner, brackets, bracket, true),
+        None => ShortTurn::Whole,
+    }
+}
+
 /// Passes over the value in front, in which so many brackets may be open at once. Takes no memory where it succeeds.
 ///
 /// Beside the faults of comments and tokens it refuses with `ExpectedValue`, `ExpectedIdentifier`, `ExpectedColon` or
@@ -126,13 +263,15 @@ pub fn skip_value<I: Input>(scanner: &mut Scanner<I>, room: usize) -> Result<()>
     let mut brackets = OpenBrackets::new();
     let mut at_value = true;
     loop {
-        if at_value {
-            at_value = begin_value(scanner, room, &mut brackets)?;
-        } else {
-            let Some(bracket) = brackets.pop() else {
-                return Ok(());
-            };
-            at_value = resume_bracket(scanner, &mut brackets, bracket, true)?;
-        }
+        at_value = match short_turn(scanner, room, &mut brackets, at_value) {
+            ShortTurn::Value => true,
+            ShortTurn::Ended => false,
+            ShortTurn::Begins => begin_value(scanner, room, &mut brackets)?,
+            ShortTurn::Within { bracket, due } => {
+                resume_bracket(scanner, &mut brackets, bracket, due)?
+            }
+            ShortTurn::AtKey(bracket) => resume_member(scanner, &mut brackets, bracket)?,
+            ShortTurn::Whole => return Ok(()),
+        };
     }
 }

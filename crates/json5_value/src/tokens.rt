@@ -62,6 +62,7 @@ pub(crate) fn next_member_key<I: Input>(
     Ok(Some(key))
 }
 
+#[inline(always)]
 fn value_of_literal(literal: Literal) -> Value
     ensures { value_of result ≡ datum_of_literal literal }
 {
@@ -72,6 +73,7 @@ fn value_of_literal(literal: Literal) -> Value
     }
 }
 
+#[inline(always)]
 fn value_of_number(number: Number) -> Value
     ensures { value_of result ≡ datum.number (number_of number) }
 {

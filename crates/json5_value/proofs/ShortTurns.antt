@@ -1,0 +1,159 @@
+-- Short turns leave what is next as the longer ways would find it.
+use Rattle.std.proofs.Common.{◌≡◌, ℕ, ◌-◌, ◌<◌, ◌≤◌, Bool, true, false, cond, List, [], ◌∷◌, ◌++◌, length, refl, ap, sym, ◌∙◌, subst, arith, length-append}
+use Rattle.std.specs.Prelude.{Ok, Err}
+use Rattle.json5_grammar.specs.Fronts.{BracketKind, of_array, of_object}
+use Rattle.json5_grammar.specs.Reading.{Read, got, bad, and_then}
+use Rattle.json5_grammar.specs.ReadSteps.{forget, colon_after, pair_head, next_value, value_and_rest}
+use Rattle.json5_grammar.specs.ReadTexts.{key}
+use Rattle.json5_grammar.proofs.ValueSteps.{turn, rest_step}
+use Rattle.json5_text.specs.declared.error.Error.{Error}
+use Rattle.json5_text.specs.Cursor.{Cursor}
+use Rattle.json5_value.specs.declared.brackets.OpenBracket.{OpenBracket}
+use Rattle.json5_value.specs.declared.brackets.BracketKind.TheVariants as kind
+use Rattle.json5_value.specs.declared.skip.ShortTurn.{ShortTurn}
+use Rattle.json5_value.specs.declared.skip.ShortTurn.TheVariants as short
+use Rattle.json5_value.specs.Brackets.{bracket_of}
+use Rattle.json5_value.specs.Entries.{next_entry}
+use Rattle.json5_value.specs.Nesting.{Within}
+use Rattle.json5_value.specs.Opening.{OpenedAt}
+use Rattle.json5_value.specs.Places.{StartsAfter, PlacedAt}
+use Rattle.json5_value.specs.Short.{EntersShort, PassesShort, name_at, member_at, SkippingMember, TurnsMember, Reached, Advanced, TurnsShort, ResumesShort}
+use Rattle.json5_value.specs.Skipping.{start_of, rest_in, rest_at, Skipping, SkippingInside}
+use Rattle.json5_value.specs.Steps.{IsInside, SameText, Blames, Gave, value_at}
+use Rattle.json5_value.proofs.EntryValues.{next_is, head_or_end, head_of}
+use Rattle.json5_value.proofs.Nesting.{value_reached, inside_blamed, moved}
+use Rattle.json5_value.proofs.Shorter.{entry_shorter}
+use Rattle.json5_value.proofs.SkipTurns.{room_within, no_more_left, inside_goes, inside_closed, inside_of, ended_inside, first_scalar}
+use Rattle.json5_value.proofs.Scalars.{scalar_passed}
+use Rattle.json5_value.proofs.Steps.{blames_as}
+
+-- ---- members
+
+-- a member is a key, a colon and its value
+head_named : (y : List ℕ) → pair_head y ≡ and_then (name_at y) (λ u z. got true z)
+head_named y = by_key (key y)
+  where
+    by_key : (m : Read (List ℕ × Bool)) → and_then m (λ a r. and_then (colon_after r) (λ u y. got true y)) ≡ and_then (and_then (forget m) (λ u r. colon_after r)) (λ u z. got true z)
+    by_key (got a r) = refl
+    by_key (bad e p) = refl
+
+then_turn : (k : BracketKind) (d : ℕ) (m : Read (Unit {0})) → and_then (and_then m (λ u z. got true z)) (turn k d) ≡ and_then m (λ u y. value_and_rest k d y)
+then_turn k d (got u y) = refl
+then_turn k d (bad e p) = refl
+
+object_head : (k : BracketKind) (d : ℕ) (y : List ℕ) → k ≡ of_object → and_then (head_of k y) (turn k d) ≡ and_then (name_at y) (λ u z. value_and_rest k d z)
+object_head of_array d y e = absurd (cc)
+object_head of_object d y e = ap (λ m. and_then m (turn of_object d)) (head_named y) ∙ then_turn of_object d (name_at y)
+
+module _ (room : ℕ) (w : Read (Unit {0})) (bs : List OpenBracket) (f : OpenBracket) (q : List ℕ) where
+  -- the key of a member was reached
+  pub key_reached : (due : Bool) (old new : Cursor) → f.kind ≡ kind.Object → Gave (next_entry (bracket_of f.kind) due old.unread) true old new → SkippingInside room w bs f due q old → SkippingMember room w bs f q new
+  key_reached due old new is g h =
+      let k : BracketKind = bracket_of f.kind in
+      let left : ℕ = room - length bs - 1 in
+      moved start_of rest_in room old w (rest_at room bs f due old) bs f.start q h new (member_at room bs f new) g.taken g.took
+      (rest_step k due left old.unread ∙ ap (λ m. and_then m (turn k left)) (next_is k due old.unread ∙ ap (λ m. and_then m (head_or_end k)) g.reads) ∙ object_head k left new.unread (ap bracket_of is))
+
+  -- its value was reached
+  pub named : (old new : Cursor) → Gave (name_at old.unread) tt old new → SkippingMember room w bs f q old → Skipping room w (bs ++ f ∷ []) true new
+  named old new g h =
+      subst (λ d. Within start_of rest_in room w (bs ++ f ∷ []) (value_at d new) new) (sym (room_within room bs f))
+      (value_reached start_of rest_in room old w (member_at room bs f old) bs f.start q h f new (value_at (room - length bs - 1) new) g.taken refl g.took
+      (ap (λ m. and_then m (λ u y. value_and_rest (bracket_of f.kind) (room - length bs - 1) y)) g.reads))
+
+  -- its key or its colon is refused
+  pub not_named : (old new : Cursor) (own e : Error) → Blames old.input (name_at old.unread) own → SameText old new → PlacedAt (StartsAfter new.input f.start) own e → SkippingMember room w bs f q old → Blames old.input w e
+  not_named old new own e b same k h =
+      inside_blamed start_of rest_in room old w (member_at room bs f old) bs f.start q h new.input own e
+      (blames_as old.input old.input (name_at old.unread) (member_at room bs f old) own refl (λ c p is. ap (λ m. and_then m (λ u y. value_and_rest (bracket_of f.kind) (room - length bs - 1) y)) is) b) k same
+
+pub member_goes : (f : OpenBracket) (bs after : List OpenBracket) (old new : Cursor) (u : Unit {0}) → Gave (name_at old.unread) u old new → after ≡ bs ++ f ∷ [] → TurnsMember f bs after old new (Ok true)
+member_goes f bs after old new u g grown = record {
+  goes = λ room w q h. subst (λ z. Skipping room w z true new) (sym grown) (named room w bs f q old new g h);
+  refused = tt;
+  same_text = g.took.same;
+  no_longer = no_more_left old new g.taken g.took;
+}
+
+pub member_refused : (f : OpenBracket) (bs after : List OpenBracket) (old new : Cursor) (own e : Error) → Blames old.input (name_at old.unread) own → SameText old new → PlacedAt (StartsAfter new.input f.start) own e → TurnsMember f bs after old new (Err e)
+member_refused f bs after old new own e b same k = record {
+  goes = tt;
+  refused = λ room w q h. not_named room w bs f q old new own e b same k h;
+  same_text = same;
+  no_longer = tt;
+}
+
+-- ---- going on in a bracket
+
+pub value_resumed : (f : OpenBracket) (due : Bool) (bs after : List OpenBracket) (old new : Cursor) → Gave (next_value (bracket_of f.kind) due old.unread) true old new → after ≡ bs ++ f ∷ [] → ResumesShort f due bs after old new short.Value
+value_resumed f due bs after old new g grown =
+    let t = inside_goes due true f bs after old new refl g grown in
+    record { goes = t.goes; same_text = t.same_text; advanced = t.shorter; no_longer = t.no_longer }
+
+pub bracket_closed : (f : OpenBracket) (due : Bool) (bs : List OpenBracket) (old new : Cursor) → Gave (next_value (bracket_of f.kind) due old.unread) false old new → ResumesShort f due bs bs old new short.Ended
+bracket_closed f due bs old new g =
+    let t = inside_closed due false f bs old new refl g in
+    record { goes = t.goes; same_text = t.same_text; advanced = t.shorter; no_longer = t.no_longer }
+
+pub key_resumed : (f : OpenBracket) (due : Bool) (bs : List OpenBracket) (old new : Cursor) → f.kind ≡ kind.Object → Gave (next_entry (bracket_of f.kind) due old.unread) true old new → ResumesShort f due bs bs old new (short.AtKey f)
+key_resumed f due bs old new is g = record {
+  goes = λ room w q h. (q, key_reached room w bs f q due old new is g h);
+  same_text = g.took.same;
+  advanced = λ d. entry_shorter (bracket_of f.kind) due true old.unread new.unread g.reads d;
+  no_longer = no_more_left old new g.taken g.took;
+}
+
+pub not_resumed : (f : OpenBracket) (due : Bool) (bs : List OpenBracket) (old new : Cursor) → new ≡ old → ResumesShort f due bs bs old new (short.Within f due)
+not_resumed f due bs old new same = subst (λ (s : Cursor). ResumesShort f due bs bs old s (short.Within f due)) (sym same) (record {
+  goes = λ room w q h. (q, h);
+  same_text = refl;
+  advanced = λ d. ((λ e. absurd (cc (sym d ∙ e))), omega arith);
+  no_longer = omega arith;
+})
+
+-- ---- a value's beginning
+
+strictly : (t : ShortTurn) (old new : Cursor) → length new.unread < length old.unread → Advanced t old new
+strictly short.Value old new l = l
+strictly short.Ended old new l = l
+strictly short.Begins old new l = omega (arith, l)
+strictly (short.Within f due) old new l = ((λ e. l), omega (arith, l))
+strictly (short.AtKey f) old new l = l
+strictly short.Whole old new l = tt
+
+pub opened_short : (room : ℕ) (bs after : List OpenBracket) (f : OpenBracket) (old mid new : Cursor) (t : ShortTurn) → OpenedAt (room - length bs) f old mid → ResumesShort f false bs after mid new t → TurnsShort room true bs after old new t
+opened_short room bs after f old mid new t o r = record {
+  goes = λ w h. r.goes room w old.unread (inside_of room w bs f old mid h o);
+  same_text = r.same_text ∙ o.same_text;
+  advanced = let there = o.sign in let l = r.no_longer in strictly t old new (omega (arith, ap length there, l));
+}
+
+pub not_begun : (room : ℕ) (bs after : List OpenBracket) (old new : Cursor) → after ≡ bs → new ≡ old → TurnsShort room true bs after old new short.Begins
+not_begun room bs after old new grown same = record {
+  goes = λ w h. subst (λ z. Skipping room w z true new) (sym grown) (subst (λ (s : Cursor). Skipping room w bs true s) (sym same) h);
+  same_text = ap (λ (s : Cursor). s.input) same;
+  advanced = let l = ap (λ (s : Cursor). length s.unread) same in omega (arith, l);
+}
+
+pub passed_short : (room : ℕ) (bs : List OpenBracket) (old new : Cursor) (b : Bool) → b ≡ true → PassesShort old new b → TurnsShort room true bs bs old new short.Ended
+passed_short room bs old new b is p =
+    let passes : PassesShort old new true = subst (PassesShort old new) is p in
+    let g = passes (room - length bs) in
+    let t = first_scalar room bs bs old new tt g refl (scalar_passed (room - length bs) old new tt g).shorter in
+    record { goes = t.goes; same_text = t.same_text; advanced = t.shorter }
+
+-- ---- the whole of a turn
+
+pub resumed_short : (room : ℕ) (bs fs after : List OpenBracket) (f : OpenBracket) (old new : Cursor) (t : ShortTurn) → bs ≡ fs ++ f ∷ [] → ResumesShort f true fs after old new t → TurnsShort room false bs after old new t
+resumed_short room bs fs after f old new t is r = record {
+  goes = λ w h. let (q, inside) = ended_inside room old w bs fs f is h in r.goes room w q inside;
+  same_text = r.same_text;
+  advanced = r.advanced refl;
+}
+
+pub whole_short : (room : ℕ) (bs after : List OpenBracket) (now : Cursor) → bs ≡ [] → after ≡ bs → TurnsShort room false bs after now now short.Whole
+whole_short room bs after now none same = record {
+  goes = λ w h. (same ∙ none, subst (λ z. Skipping room w z false now) (sym same) h);
+  same_text = refl;
+  advanced = tt;
+}
