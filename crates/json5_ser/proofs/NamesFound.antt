@@ -1,9 +1,16 @@
 -- Identifiers, found character by character.
-use Rattle.std.proofs.Common.{◌≡◌, ℕ, List, [], ◌∷◌, Bool, true, false, ◌&&◌, sym, ap, ◌∙◌}
-use Rattle.std.specs.List.{list_all}
+use Rattle.std.proofs.Common.{◌≡◌, ◌<◌, ℕ, List, [], ◌∷◌, ◌++◌, Bool, true, false, ◌&&◌, length, drop, refl, sym, ap, ◌∙◌, arith}
+use Rattle.std.specs.Prelude.{nat_lt}
+use Rattle.std.specs.List.{list_all, take_while}
+use Rattle.std.proofs.lemmas.Bool.{and_parts}
+use Rattle.std.proofs.lemmas.Bool.Decides.{nat_tests}
 use Rattle.std.specs.Str.{chars, IsUtf8}
 use Rattle.std.proofs.lemmas.Str.{chars-nil, chars_past_char}
-use Rattle.json5_grammar.specs.Characters.{is_identifier_start, is_identifier_part}
+use Rattle.json5_grammar.specs.Characters.{is_identifier_start, is_identifier_part, Each, no_char, char}
+use Rattle.json5_grammar.specs.ReadNumbers.{rest_of}
+use Rattle.json5_grammar.proofs.NumberTests.{front_each}
+use Rattle.json5_text.proofs.NumberRuns.{PassesAscii, chars_split, rest_cut}
+use Rattle.json5_ser.specs.NameBytes.{is_name_byte}
 use Rattle.json5_grammar.specs.Quoting.{is_name}
 use Rattle.json5_ser.specs.Escaping.{StartsWithScalar}
 
@@ -28,3 +35,20 @@ name_not_started t rest c b u f e h = h ∙ sym (ap is_name (chars_from t rest c
 
 pub no_name : (t : List ℕ) → t ≡ [] → false ≡ is_name (chars t)
 no_name t e = sym (ap (λ s. is_name (chars s)) e ∙ ap is_name chars-nil)
+
+-- ---- the ASCII characters in front
+
+pub name_ascii : PassesAscii is_name_byte
+name_ascii c h = grind (arith, nat_tests)
+
+part_of : (c : ℕ) → is_name_byte c ≡ true → is_identifier_part c ≡ true
+part_of c h = (and_parts (nat_lt c 128) (is_identifier_part c) h).1
+
+parts_all : {s : List ℕ} → Each is_name_byte s → (r : List ℕ) → list_all is_identifier_part (s ++ r) ≡ list_all is_identifier_part r
+parts_all no_char r = refl
+parts_all (char {c = c} {s = s} h e) r = ap (λ x. x && list_all is_identifier_part (s ++ r)) (part_of c h) ∙ parts_all e r
+
+pub name_bytes : (t r : List ℕ) (n : ℕ) → n ≡ length (take_while is_name_byte t) → r ≡ drop n t → list_all is_identifier_part (chars t) ≡ list_all is_identifier_part (chars r)
+name_bytes t r n e d =
+    let cut : r ≡ rest_of is_name_byte t = d ∙ rest_cut is_name_byte t n e in
+    ap (list_all is_identifier_part) (chars_split is_name_byte t name_ascii) ∙ parts_all (front_each is_name_byte t) (chars (rest_of is_name_byte t)) ∙ sym (ap (λ z. list_all is_identifier_part (chars z)) cut)

@@ -1,6 +1,6 @@
 -- What a writer that was empty holds when a text was written.
 use Rattle.std.proofs.Common.{◌≡◌, ℕ, List, [], Option, Some, sym, ap, ◌∙◌, subst}
-use Rattle.std.specs.Str.{chars, encode_utf8_all}
+use Rattle.std.specs.Str.{IsUtf8, chars, encode_utf8_all}
 use Rattle.std.proofs.lemmas.Str.{chars-encodes}
 use Rattle.std.specs.Io.KnownBytes.{Appends}
 use Rattle.json5_ser.specs.Out.{Out}
@@ -17,3 +17,6 @@ pub whole_text : (o : Out) (old new : Seen) (items bytes : List ℕ) → Wrote o
 whole_text o old new items bytes w e f h =
     let same : bytes ≡ encode_utf8_all o.text = h ∙ appended_to_none old.known new.known items _ e f w.bytes in
     record { stop = w.stop; characters = ap chars same ∙ chars-encodes o.text w.chars; encoded = same }
+
+pub whole_utf8 : (o : Out) (old new : Seen) (items : List ℕ) → Wrote o old new → old.known ≡ Some [] → Some items ≡ new.known → IsUtf8 items
+whole_utf8 o old new items w e f = (o.text, (w.chars, sym (appended_to_none old.known new.known items _ e f w.bytes)))

@@ -15,6 +15,7 @@ mod lists;
 mod maps;
 mod names;
 pub mod output;
+mod plain;
 mod quoting;
 mod serialize;
 mod serializer;

@@ -1,19 +1,48 @@
 //! Texts that are identifiers.
 
 ghost use Rattle.std.specs.Prelude.{◌≡◌};
-ghost use Rattle.std.specs.List.{list_all};
-ghost use Rattle.std.specs.Str.{chars};
+ghost use Rattle.std.specs.List.{list_all, prefix_len};
+ghost use Rattle.std.specs.Str.{IsUtf8, chars};
 ghost use Rattle.json5_grammar.specs.Characters.{is_identifier_part};
 ghost use Rattle.json5_grammar.specs.Quoting.{is_name};
+ghost use Rattle.json5_ser.specs.NameBytes.{is_name_byte};
 
 use crate::quoting::front;
 use json5_text::char::{is_json5_identifier, is_json5_identifier_start};
+
+/// Whether an identifier may go on with the byte, where it is an ASCII character.
+#[inline(always)]
+fn is_name_byte(byte: u8) -> bool
+    ensures { result ≡ is_name_byte byte }
+{
+    byte < 128 && is_json5_identifier(char::from(byte))
+}
+
+/// How many of them stand in front.
+fn name_len(bytes: &[u8]) -> usize
+    ensures { result ≡ prefix_len is_name_byte bytes.now }
+{
+    let mut i = 0;
+    while i < bytes.len() && is_name_byte(bytes[i]) {
+        i += 1;
+    }
+    i
+}
+
+/// What follows the ASCII characters in front that an identifier may go on with.
+fn skip_name_bytes(text: &str) -> &str
+    ensures same { list_all is_identifier_part (chars text.now) ≡ list_all is_identifier_part (chars result.now) }
+    ensures utf8 { IsUtf8 result.now }
+{
+    let len = name_len(text.as_bytes());
+    text.split_at(len).1
+}
 
 /// Whether an identifier may go on with all characters of the text.
 fn are_parts(text: &str) -> bool
     ensures { result ≡ list_all is_identifier_part (chars text.now) }
 {
-    let mut rest = text;
+    let mut rest = skip_name_bytes(text);
     while let Some((c, after)) = front(rest) {
         if !is_json5_identifier(c) {
             return false;

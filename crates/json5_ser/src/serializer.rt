@@ -1,15 +1,15 @@
 //! Writing values to a writer.
 
-ghost use Rattle.std.specs.Prelude.{◌≡◌, ◌≤◌, ◌+◌, ◌-◌, [], ◌∷◌, true, false, None, IsErr, IfErr, OnOk};
+ghost use Rattle.std.specs.Prelude.{◌≡◌, ◌≤◌, ◌+◌, ◌-◌, [], ◌∷◌, ◌++◌, true, false, None, IsErr, IfErr, OnOk};
 ghost use Rattle.std.specs.Str.{chars};
 ghost use Rattle.json5_ser.specs.Quotes.{delimiter};
-ghost use Rattle.json5_grammar.specs.Quoting.{escaped_all};
+ghost use Rattle.json5_grammar.specs.Quoting.{escaped_all, quoted_text};
 ghost use Rattle.json5_ser.specs.WrittenTrees.{null, boolean, text};
 ghost use Rattle.json5_grammar.specs.Documents.{max_depth};
 ghost use Rattle.json5_ser.specs.Out.{piece, ◌then◌, stopped, line, opening, closing, invalid_key, too_deep};
 ghost use Rattle.json5_grammar.specs.declared.code.ErrorCode.TheVariants as codes;
 ghost use Rattle.json5_text.specs.Errors.{code, kind_of, place_of};
-ghost use Rattle.json5_grammar.specs.Characters.{comma_sign, right_brace};
+ghost use Rattle.json5_grammar.specs.Characters.{comma_sign, right_brace, double_quote};
 ghost use Rattle.json5_ser.specs.Brackets.{opening_sign, closing_sign};
 ghost use Rattle.json5_ser.specs.Stages.{is_started};
 ghost use Rattle.json5_ser.specs.Writes.{Seen, Writes, WritesTree, fresh, fresh_within, at_depth};
@@ -18,6 +18,7 @@ use crate::Serialize;
 use crate::brackets::Brackets;
 use crate::lines::line;
 use crate::output::write_whole;
+use crate::plain::is_plain;
 use crate::quoting::{Quote, split_at_escape};
 use crate::stage::Stage;
 use itoa::{Buffer, Integer};
@@ -155,28 +156,28 @@ impl<W: Write + Drop> Serializer<W> {
     pub fn serialize_u8(&mut self, value: u8) -> Result<()>
         ensures { WritesTree (⟦<u8 as Serialize>⟧.tree value) self.old result self.new }
     {
-        self.serialize_u128(u128::from(value))
+        self.serialize_u64(u64::from(value))
     }
 
     /// Writes the decimal digits.
     pub fn serialize_u16(&mut self, value: u16) -> Result<()>
         ensures { WritesTree (⟦<u16 as Serialize>⟧.tree value) self.old result self.new }
     {
-        self.serialize_u128(u128::from(value))
+        self.serialize_u64(u64::from(value))
     }
 
     /// Writes the decimal digits.
     pub fn serialize_u32(&mut self, value: u32) -> Result<()>
         ensures { WritesTree (⟦<u32 as Serialize>⟧.tree value) self.old result self.new }
     {
-        self.serialize_u128(u128::from(value))
+        self.serialize_u64(u64::from(value))
     }
 
     /// Writes the decimal digits.
     pub fn serialize_u64(&mut self, value: u64) -> Result<()>
         ensures { WritesTree (⟦<u64 as Serialize>⟧.tree value) self.old result self.new }
     {
-        self.serialize_u128(u128::from(value))
+        self.put_integer(value)
     }
 
     /// Writes the decimal digits.
@@ -190,28 +191,28 @@ impl<W: Write + Drop> Serializer<W> {
     pub fn serialize_i8(&mut self, value: i8) -> Result<()>
         ensures { WritesTree (⟦<i8 as Serialize>⟧.tree value) self.old result self.new }
     {
-        self.serialize_i128(i128::from(value))
+        self.serialize_i64(i64::from(value))
     }
 
     /// Writes the decimal digits, after a minus where the number is negative.
     pub fn serialize_i16(&mut self, value: i16) -> Result<()>
         ensures { WritesTree (⟦<i16 as Serialize>⟧.tree value) self.old result self.new }
     {
-        self.serialize_i128(i128::from(value))
+        self.serialize_i64(i64::from(value))
     }
 
     /// Writes the decimal digits, after a minus where the number is negative.
     pub fn serialize_i32(&mut self, value: i32) -> Result<()>
         ensures { WritesTree (⟦<i32 as Serialize>⟧.tree value) self.old result self.new }
     {
-        self.serialize_i128(i128::from(value))
+        self.serialize_i64(i64::from(value))
     }
 
     /// Writes the decimal digits, after a minus where the number is negative.
     pub fn serialize_i64(&mut self, value: i64) -> Result<()>
         ensures { WritesTree (⟦<i64 as Serialize>⟧.tree value) self.old result self.new }
     {
-        self.serialize_i128(i128::from(value))
+        self.put_integer(value)
     }
 
     /// Writes the decimal digits, after a minus where the number is negative.
@@ -235,16 +236,36 @@ impl<W: Write + Drop> Serializer<W> {
         self.put(rest)
     }
 
+    /// Writes the text between `"`.
+    fn put_plain(&mut self, text: &str) -> Result<()>
+        ensures { Writes (piece (double_quote ∷ chars text.now ++ double_quote ∷ [])) self.old result self.new }
+    {
+        self.put("\"")?;
+        self.put(text)?;
+        self.put("\"")
+    }
+
+    /// Writes the text between the quotes that are for it.
+    #[inline(never)]
+    fn put_quoted(&mut self, text: &str) -> Result<()>
+        ensures { Writes (piece (quoted_text (chars text.now))) self.old result self.new }
+    {
+        let quote = Quote::around(text);
+        let mark = quote.text();
+        self.put(mark)?;
+        self.put_escaped(quote, text)?;
+        self.put(mark)
+    }
+
     /// Writes a text between quotes: between `'` where it holds `"` and no `'`, else between `"` (JSON5 section 5). That quote,
     /// backslashes, LF, CR, U+2028 and U+2029 are escaped, and all other characters stand as they are.
     pub fn serialize_str(&mut self, value: &str) -> Result<()>
         ensures { WritesTree (text (chars value.now)) self.old result self.new }
     {
-        let quote = Quote::around(value);
-        let mark = quote.text();
-        self.put(mark)?;
-        self.put_escaped(quote, value)?;
-        self.put(mark)
+        if is_plain(value) {
+            return self.put_plain(value);
+        }
+        self.put_quoted(value)
     }
 
     /// Writes the text of one character, as `serialize_str`.

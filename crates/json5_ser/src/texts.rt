@@ -96,10 +96,7 @@ pub fn to_string_within<T: Serialize>(alloc: Global, limit: Limit, value: &T) ->
     let written = value.serialize(&mut ser);
     let bytes = ser.into_inner();
     match written {
-        Ok(()) => {
-            let text = String::from_utf8(bytes);
-            Ok(text.unwrap())
-        }
+        Ok(()) => Ok(unsafe { String::from_utf8_unchecked(bytes) }),
         Err(e) if e.code().is_none() => Err(Error::new(ErrorCode::OutOfMemory)),
         Err(e) => Err(e),
     }

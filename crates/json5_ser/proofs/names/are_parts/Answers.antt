@@ -1,10 +1,10 @@
-use Rattle.std.proofs.Common.{refl, sym, ◌∙◌}
+use Rattle.std.proofs.Common.{sym, ◌∙◌}
 use Rattle.json5_ser.proofs.EscapesSplit.{shorter}
 use Rattle.json5_ser.proofs.NamesFound.{part_next, part_last, none_left}
 use Rattle.json5_ser.proofs.names.are_parts.Goals as goal
 
 pub loop-c-init : goal.loop-c-init
-loop-c-init c = record { same = refl; utf8 = c.utf8.text }
+loop-c-init c = record { same = c.skip_name_bytes-rest.ensures.same; utf8 = c.skip_name_bytes-rest.ensures.utf8 }
 
 pub loop-c-smaller : goal.loop-c-smaller
 loop-c-smaller c = shorter _ _ _ c.in-Some.ensures

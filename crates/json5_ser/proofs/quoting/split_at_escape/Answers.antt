@@ -1,5 +1,5 @@
-use Rattle.std.proofs.Common.{refl}
-use Rattle.json5_ser.proofs.EscapesSplit.{is_delimiter, seam, shorter, splits, stands_next, stands_all}
+use Rattle.std.proofs.Common.{refl, arith}
+use Rattle.json5_ser.proofs.EscapesSplit.{is_delimiter, seam, shorter, splits, stands_next, stands_all, stands_first, stands_run, run_shorter}
 use Rattle.json5_ser.proofs.quoting.split_at_escape.Goals as goal
 
 pub split_at-requires : goal.split_at-requires
@@ -10,11 +10,18 @@ returns-in-Some-escape c =
     splits _ _ _ _ _ _ _ (is_delimiter c.args.quote) c.loop-c.invariant c.in-Some.ensures c.split_at.ensures.front (rw c.delimiter.ensures at c.in-Some-escape.ensures.some)
 
 pub loop-c-smaller : goal.loop-c-smaller
-loop-c-smaller c = shorter _ _ _ c.in-Some.ensures
+loop-c-smaller c =
+    let less = shorter _ _ _ c.in-Some.ensures in
+    let same = run_shorter _ _ c.in-Some.ensures.utf8 c.skip_plain-rest-in-Some.ensures.utf8 c.skip_plain-rest-in-Some.ensures.skips in
+    omega arith
 
 pub loop-c-preserved : goal.loop-c-preserved
 loop-c-preserved c =
-    stands_next _ _ _ _ _ (is_delimiter c.args.quote) c.loop-c.invariant c.in-Some.ensures (rw c.delimiter.ensures at (c.in_default-escape.ensures.none.0 refl))
+    let next = stands_next _ _ _ _ _ (is_delimiter c.args.quote) c.loop-c.invariant c.in-Some.ensures (rw c.delimiter.ensures at (c.in_default-escape.ensures.none.0 refl)) in
+    stands_run c.args.quote _ _ _ next c.skip_plain-rest-in-Some.ensures.utf8 c.skip_plain-rest-in-Some.ensures.skips
+
+pub loop-c-init : goal.loop-c-init
+loop-c-init c = stands_run c.args.quote _ _ _ (stands_first _ _ c.utf8.text) c.skip_plain-rest.ensures.utf8 c.skip_plain-rest.ensures.skips
 
 pub returns : goal.returns
 returns c = stands_all _ _ _ c.loop-c.invariant c.in_default.ensures
