@@ -11,6 +11,7 @@ use Rattle.json5_grammar.specs.Numbers.{whole}
 use Rattle.json5_grammar.specs.Reading.{Read, got, and_then}
 use Rattle.json5_grammar.specs.ReadBlanks.{skip, between}
 use Rattle.json5_grammar.specs.ReadSteps.{next_value, separator, comma_at}
+use Rattle.json5_grammar.specs.Trees as trees
 use Rattle.json5_grammar.specs.Values.{is_number}
 use Rattle.json5_grammar.proofs.Basics.{same_char}
 use Rattle.json5_grammar.proofs.BlanksRead.{begins_solid}
@@ -19,6 +20,9 @@ use Rattle.json5_grammar.proofs.Classes.{number_begins}
 use Rattle.json5_grammar.proofs.MembersPairs.{brace_solid}
 use Rattle.json5_grammar.proofs.MembersRead.{comma_solid, bracket_solid}
 use Rattle.json5_grammar.proofs.ValueHeads.{val_head, value_solid, begins_value_solid}
+use Rattle.json5_text.specs.declared.value.Value.{Value}
+use Rattle.json5_text.specs.ValueViews.{value_of}
+use Rattle.json5_text.specs.ValueViews as datum
 use Rattle.json5_text.specs.Cursor.{Cursor, Took}
 use Rattle.json5_text.specs.declared.error.Error.{Error}
 use Rattle.json5_text.specs.Short.{AfterGap, StepsTo, Stepped, TookWhole, TakesShortWhole}
@@ -31,9 +35,11 @@ use Rattle.json5_value.specs.declared.short.ShortEntry.TheVariants as entry
 use Rattle.json5_value.specs.Brackets.{bracket_of, brackets_of}
 use Rattle.json5_value.specs.Entries.{entry_front, entry_start, next_entry}
 use Rattle.json5_value.specs.Kinds.{kind_at}
-use Rattle.json5_value.specs.Opening.{AtScalar}
+use Rattle.json5_value.specs.Keeping.{Keeps, IsOfTree, tree_at}
+use Rattle.json5_value.specs.Opening.{AtScalar, AtNumber}
 use Rattle.json5_value.specs.Short.{EntersShort, PassesShort}
 use Rattle.json5_value.specs.Steps.{IsInside, Gave, Steps, value_at}
+use Rattle.json5_value.proofs.BuildScalars.{scalar_taken}
 use Rattle.json5_value.proofs.EntrySteps.{separator_is, front_closes, front_goes, closes_here, start_or_end}
 use Rattle.json5_value.proofs.EntryValues.{next_closed, element_reached}
 use Rattle.json5_value.proofs.Scalars.{number_value, tests_of}
@@ -127,12 +133,17 @@ same_front reading old mid new result same k = subst (λ (s : Cursor). Steps (re
 
 -- ---- numbers
 
-pub number_passed : (old new : Cursor) (c : ℕ) (found : ValueKind) (z : ℤ) → AtScalar c old → found ≡ kind_at c → found ≡ kinds.Number → TookWhole old new z → PassesShort old new true
-number_passed old new c found z at is number k room =
+-- no blanks stand before a number
+number_took : (old new : Cursor) (c : ℕ) (found : ValueKind) (z : ℤ) → AtScalar c old → found ≡ kind_at c → found ≡ kinds.Number → (k : TookWhole old new z) → Took old k.literal new
+number_took old new c found z at is number k =
     let (r, x) = some_next old.unread c at.first in
     let (none, phrase) = gap_before [] k.gap (k.literal ++ new.unread) c r blanks.Blanks.empty (begins_value_solid c (number_begins c (tests_of c found kinds.Number is number))) k.is_gap (value_solid new.unread (val_head (is_number k.is_number))) (sym x ∙ k.split) in
+    record { split = x ∙ sym phrase; same = k.same }
+
+number_passed : (old new : Cursor) (c : ℕ) (found : ValueKind) (z : ℤ) → AtScalar c old → found ≡ kind_at c → found ≡ kinds.Number → TookWhole old new z → PassesShort old new true
+number_passed old new c found z at is number k room =
     (number_value room old new c at.first found is (Ok (Some z)) at.ready number (record {
-      taken = (k.literal, whole z, record { split = x ∙ sym phrase; same = k.same }, k.is_number, k.stops, refl);
+      taken = (k.literal, whole z, number_took old new c found z at is number k, k.is_number, k.stops, refl);
       refused = tt;
       kept = tt;
       memory = λ s r n split num stops. refl;
@@ -141,3 +152,14 @@ number_passed old new c found z at is number k room =
 pub number_short : (low high : ℤ) (old new : Cursor) (c : ℕ) (found : ValueKind) (o : Option ℤ) (b : Bool) → AtScalar c old → found ≡ kind_at c → found ≡ kinds.Number → TakesShortWhole low high old new o → b ≡ is_some o → PassesShort old new b
 number_short low high old new c found None b at is number same e = subst (PassesShort old new) (sym e) same
 number_short low high old new c found (Some z) b at is number k e = subst (PassesShort old new) (sym e) (number_passed old new c found z at is number k.took)
+
+-- ---- numbers, which are kept
+
+pub number_kept : (room : ℕ) (old new : Cursor) (c : ℕ) (z : ℤ) (v : Value) → AtNumber c old → TookWhole old new z → value_of v ≡ datum.number (whole z) → Keeps IsOfTree (tree_at room old) old new (Ok v)
+number_kept room old new c z v at k is = scalar_taken room old new k.literal (trees.number (whole z)) v refl (number_took old new c (kind_at c) z at.scalar refl at.number k) (is_number k.is_number) k.stops is
+
+pub number_front : (old mid : Cursor) (c : ℕ) → mid ≡ old → AtNumber c old → AtNumber c mid
+number_front old mid c same at = subst (AtNumber c) (sym same) at
+
+pub kept_front : (room : ℕ) (old mid new : Cursor) (result : Result Value Error) → mid ≡ old → Keeps IsOfTree (tree_at room mid) mid new result → Keeps IsOfTree (tree_at room old) old new result
+kept_front room old mid new result same k = subst (λ (s : Cursor). Keeps IsOfTree (tree_at room s) s new result) same k

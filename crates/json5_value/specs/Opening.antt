@@ -4,7 +4,9 @@ use Rattle.json5_grammar.specs.Fronts.{of_array, of_object, opening}
 use Rattle.json5_text.specs.declared.error.Error.{Error}
 use Rattle.json5_text.specs.Cursor.{Cursor}
 use Rattle.json5_value.specs.declared.brackets.OpenBracket.{OpenBracket}
+use Rattle.json5_value.specs.declared.kinds.ValueKind.TheVariants as kind
 use Rattle.json5_value.specs.Brackets.{bracket_of}
+use Rattle.json5_value.specs.Kinds.{kind_at}
 use Rattle.json5_value.specs.Places.{CountsTo}
 use Rattle.json5_value.specs.Steps.{IsInside, SameText, Blames, value_at}
 
@@ -13,6 +15,11 @@ pub record AtScalar (c : ℕ) (s : Cursor) : Type 0 where
   pub ready : IsInside s
   pub first : slice_get s.unread 0 ≡ Some c
   pub other : ((c == opening of_array) || (c == opening of_object)) ≡ false
+
+-- it is a number
+pub record AtNumber (c : ℕ) (s : Cursor) : Type 0 where
+  pub scalar : AtScalar c s
+  pub number : kind_at c ≡ kind.Number
 
 -- an opening bracket was taken
 pub record OpenedAt (room : ℕ) (bracket : OpenBracket) (old new : Cursor) : Type 0 where

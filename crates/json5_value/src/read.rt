@@ -158,6 +158,15 @@ fn begin_value<I: Input>(
     }
 }
 
+/// Makes room for the first member alone, so that an object of one member takes the memory of one; says whether there is room for
+/// a first. An object of more members grows as `push` lets it.
+#[inline(always)]
+fn reserve_first(members: &mut Vec<(String, Value)>) -> bool
+    ensures { members.new.items ≡ members.old.items }
+{
+    !members.is_empty() || members.reserve_exact(1).is_ok()
+}
+
 /// Puts the value into what it stands in, and goes on there.
 fn attach_value<I: Input>(
     scanner: &mut Scanner<I>,
@@ -181,6 +190,9 @@ fn attach_value<I: Input>(
             mut members,
             key,
         } => {
+            if !reserve_first(&mut members) {
+                return Err(Error::new(ErrorCode::OutOfMemory));
+            }
             members.push((key, value))?;
             resume_object(scanner, stack, start, members, true)
         }

@@ -6,7 +6,7 @@ ghost use Rattle.json5_text.specs.NumberViews.{number_of};
 ghost use Rattle.json5_text.specs.ValueViews as datum;
 ghost use Rattle.json5_text.specs.ValueViews.{value_of};
 ghost use Rattle.json5_value.specs.Keeping.{Keeps, OwnsKey, IsKeyText, IsNextKey, ReadsScalar, datum_of_literal, next_key};
-ghost use Rattle.json5_value.specs.Opening.{AtScalar};
+ghost use Rattle.json5_value.specs.Opening.{AtScalar, AtNumber};
 ghost use Rattle.json5_value.specs.Steps.{IsInside};
 
 use crate::brackets::BracketKind;
@@ -20,6 +20,7 @@ use json5_text::number::Number;
 use json5_text::scanner::Scanner;
 use json5_text::text_token::TextToken;
 use json5_text::value::Value;
+use json5_text::whole::Whole;
 
 /// The text of a key that the scanner took, in memory of its own.
 pub fn key_owned<I: Input>(scanner: &Scanner<I>, key: TextToken) -> Result<String>
@@ -83,6 +84,20 @@ fn value_of_number(number: Number) -> Value
     }
 }
 
+/// Takes a number, which begins with the character: a whole one of few digits the short way.
+fn read_number<I: Input>(scanner: &mut Scanner<I>, c: char) -> Result<Value>
+    requires { AtNumber c scanner.old }
+    ensures { ReadsScalar scanner.old scanner.new result }
+{
+    match scanner.short_whole(i128::MIN, i128::MAX) {
+        Some(number) => Ok(value_of_number(Number::Whole(Whole::from_i128(number)))),
+        None => {
+            let number = scanner.number()?;
+            Ok(value_of_number(number))
+        }
+    }
+}
+
 /// Takes a value that is no collection and begins with the character.
 pub(crate) fn read_scalar<I: Input>(scanner: &mut Scanner<I>, c: char) -> Result<Value>
     requires { AtScalar c scanner.old }
@@ -98,10 +113,7 @@ pub(crate) fn read_scalar<I: Input>(scanner: &mut Scanner<I>, c: char) -> Result
             let text = scanner.string_owned()?;
             Ok(Value::String(text))
         }
-        ValueKind::Number => {
-            let number = scanner.number()?;
-            Ok(value_of_number(number))
-        }
+        ValueKind::Number => read_number(scanner, c),
         ValueKind::Other => Err(fault_here(scanner, ErrorCode::ExpectedValue)),
     }
 }

@@ -1,3 +1,4 @@
+use Rattle.std.proofs.Common.{◌∷◌, ◌++◌, [], ◌∙◌, ap}
 use Rattle.json5_value.proofs.BuildTurns.{element_attached, member_attached}
 use Rattle.json5_value.proofs.read.attach_value.Goals as goal
 
@@ -9,4 +10,4 @@ returns-in_ok-push-in-Array g c =
 pub returns-in_ok-push-in-Object : goal.returns-in_ok-push-in-Object
 returns-in_ok-push-in-Object g c =
     member_attached c.args.unfinished c.in-Object.start c.in-Object.members c.push-in-Object.new.self c.in-Object.key c.args.value c.args.stack.now.items c.resume_object.new.stack.items c.args.scanner.now c.resume_object.new.scanner c.resume_object.result c.in-Object.is
-    c.in_ok-push-in-Object.ensures.items c.resume_object.ensures
+    (c.in_ok-push-in-Object.ensures.items ∙ ap (λ ms. ms ++ (c.in-Object.key, c.args.value) ∷ []) c.reserve_first.ensures) c.resume_object.ensures
