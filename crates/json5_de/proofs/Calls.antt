@@ -11,7 +11,10 @@ use Rattle.json5_de.specs.Law.{Steady}
 use Rattle.json5_de.specs.Access.{Seen, bare, GivesElement, CompletesElement, CompletesClose, PlacedAtBracket}
 use Rattle.json5_de.specs.Seq.{RefusesElement}
 use Rattle.json5_de.specs.Lending.{seen, blocking, Settles, KeepsAccess, ReadsNext}
+use Rattle.json5_de.specs.Stages.{is_comma_due, with_member}
 use Rattle.json5_de.specs.declared.seq.SeqAccess.{SeqAccess}
+use Rattle.json5_de.specs.declared.stage.Stage.{Stage}
+use Rattle.json5_de.proofs.StagesPassed.{comma_after_member}
 use Rattle.json5_de.proofs.Elements.{reads_element, reads_more, leaves_fewer}
 use Rattle.json5_de.proofs.Next.{gives_seen, gives_next, refuses_next}
 
@@ -29,8 +32,8 @@ pub refused_on : {I V : Type 0} {mid new : SeqAccess I} (read : Result V Error) 
 refused_on (Ok w) e s = let no : Err e ≡ Ok w = s.given in absurd (cc)
 refused_on (Err own) e s = (own, refl, s.refused, s.blocks)
 
-kept : {I : Type 0} (old : SeqAccess I) (after : State) (due failed : Bool) → SameText (seen old).reader after → KeepsAccess old (record (blocking (lent old after) failed) { due = due })
-kept old after due failed same = record { same_reference = refl; blocks = refl; start = refl; same_text = same }
+kept : {I : Type 0} (old : SeqAccess I) (after : State) (stage : Stage) (failed : Bool) → SameText (seen old).reader after → KeepsAccess old (record (blocking (lent old after) failed) { stage = stage })
+kept old after stage failed same = record { same_reference = refl; blocks = refl; start = refl; same_text = same }
 
 module _ {I V C : Type 0} (content : V → C) (convert : Tree → Option C) (refuses : State → Error → State → Type 0) (old : SeqAccess I) where
   shorter : (new : Seen) (o : Option V) → GivesElement content convert (seen old) new o → IfSome o (λ v. length new.reader.unread < length (seen old).reader.unread)
@@ -51,20 +54,21 @@ module _ {I V C : Type 0} (content : V → C) (convert : Tree → Option C) (ref
 
   -- an element was read, or the bracket is next
   pub next_given : (after : State) (new : SeqAccess I) (some : Bool) (o : Option V) → new ≡ blocking (lent old after) old.failed → some ≡ is_some o → SameText (seen old).reader after
-      → GivesElement content convert (bare (seen old).reader old.due) (bare after (old.due || is_some o)) o → ReadsNext content convert refuses old (record new { due = new.due || some }) (Ok o)
+      → GivesElement content convert (bare (seen old).reader (is_comma_due old.stage)) (bare after (is_comma_due old.stage || is_some o)) o → ReadsNext content convert refuses old (record new { stage = with_member new.stage some }) (Ok o)
   next_given after new some o same is text gives =
-      let last = record (blocking (lent old after) old.failed) { due = old.due || some } in
-      subst (λ s. ReadsNext content convert refuses old (record s { due = s.due || some }) (Ok o)) (sym same)
-      (given last o (kept old after (old.due || some) old.failed text) (gives_seen content convert (seen old) (seen last) (seen old).reader after o refl refl (ap (λ b. old.due || b) is) gives))
+      let last = record (blocking (lent old after) old.failed) { stage = with_member old.stage some } in
+      let due = comma_after_member old.stage some ∙ ap (λ b. is_comma_due old.stage || b) is in
+      subst (λ s. ReadsNext content convert refuses old (record s { stage = with_member s.stage some }) (Ok o)) (sym same)
+      (given last o (kept old after (with_member old.stage some) old.failed text) (gives_seen content convert (seen old) (seen last) (seen old).reader after o refl refl due gives))
 
   -- the call was refused
-  pub next_refused : (after : State) (new : SeqAccess I) (own e : Error) → new ≡ blocking (lent old after) true → PlacedAtBracket (seen (lent old after)) own e → RefusesElement refuses old.due (seen old).reader own after → Steady {V = Option V} (seen old).reader after (Err own)
-      → CompletesElement {V = Option V} convert (bare (seen old).reader old.due) (Err own) → CompletesClose {V = Option V} square (bare (seen old).reader old.due) (Err own) → ReadsNext content convert refuses old new (Err e)
+  pub next_refused : (after : State) (new : SeqAccess I) (own e : Error) → new ≡ blocking (lent old after) true → PlacedAtBracket (seen (lent old after)) own e → RefusesElement refuses (is_comma_due old.stage) (seen old).reader own after → Steady {V = Option V} (seen old).reader after (Err own)
+      → CompletesElement {V = Option V} convert (bare (seen old).reader (is_comma_due old.stage)) (Err own) → CompletesClose {V = Option V} square (bare (seen old).reader (is_comma_due old.stage)) (Err own) → ReadsNext content convert refuses old new (Err e)
   next_refused after new own e same placed cause steady complete closing =
       let last = blocking (lent old after) true in
       let at = subst (λ x. PlacedAt (StartsAfter x old.start) own e) steady.same_text placed in
       subst (λ s. ReadsNext content convert refuses old s (Err e)) (sym same) (record {
-        access = kept old after old.due true steady.same_text;
+        access = kept old after old.stage true steady.same_text;
         sound = tt;
         complete = λ t r c live element shallow is. placed.kind ∙ complete t r c live element shallow is;
         closing = closing;

@@ -24,6 +24,7 @@ pub mod Rows
 pub mod ShortReads
 pub mod OpenClose
 pub mod Next
+pub mod StagesPassed
 pub mod Calls
 pub mod Required
 pub mod ListFaults

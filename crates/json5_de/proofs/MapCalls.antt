@@ -13,7 +13,11 @@ use Rattle.json5_de.specs.Access.{bare, CompletesClose, PlacedAtBracket}
 use Rattle.json5_de.specs.Objects.{SeenMap, bare_map, GivesPairKey, GivesPairValue, CompletesPairKey, CompletesPairValue}
 use Rattle.json5_de.specs.ObjectFaults.{RefusesPairKey, RefusesPairValue}
 use Rattle.json5_de.specs.Lending.{seen_map, blocking_map, SettlesMap, KeepsMap, ReadsNextKey, ReadsNextValue}
+use Rattle.json5_de.specs.Stages.{is_comma_due, is_pending, with_key}
 use Rattle.json5_de.specs.declared.map.MapAccess.{MapAccess}
+use Rattle.json5_de.specs.declared.stage.Stage.{Stage}
+use Rattle.json5_de.specs.declared.stage.Stage.TheVariants as stages
+use Rattle.json5_de.proofs.StagesPassed.{comma_after_key, key_after_key}
 use Rattle.json5_de.proofs.Pairs.{reads_a_key, reads_pair_key, leaves_a_value, reads_a_pair, reads_pair_value, leaves_pairs}
 use Rattle.json5_de.proofs.PairCodes.{gives_key_seen, gives_next_key, refuses_next_key, gives_value_seen, gives_next_value, refuses_next_value}
 
@@ -31,23 +35,24 @@ pub refused_on : {I V : Type 0} {mid new : MapAccess I} (read : Result V Error) 
 refused_on (Ok w) e s = let no : Err e ≡ Ok w = s.given in absurd (cc)
 refused_on (Err own) e s = (own, refl, s.refused, s.blocks)
 
-kept : {I : Type 0} (old : MapAccess I) (after : State) (due pending failed : Bool) → SameText (seen_map old).at.reader after → KeepsMap old (record (blocking_map (lent old after) failed) { due = due; pending = pending })
-kept old after due pending failed same = record { same_reference = refl; blocks = refl; start = refl; same_text = same }
+kept : {I : Type 0} (old : MapAccess I) (after : State) (stage : Stage) (failed : Bool) → SameText (seen_map old).at.reader after → KeepsMap old (record (blocking_map (lent old after) failed) { stage = stage })
+kept old after stage failed same = record { same_reference = refl; blocks = refl; start = refl; same_text = same }
 
-module _ {I K C : Type 0} (content : K → C) (convert : KeyConversion C) (refuses : State → Error → State → Type 0) (old : MapAccess I) (no_key : old.pending ≡ false) where
+module _ {I K C : Type 0} (content : K → C) (convert : KeyConversion C) (refuses : State → Error → State → Type 0) (old : MapAccess I) (no_key : is_pending old.stage ≡ false) where
   shorter : (new : SeenMap) (o : Option K) → GivesPairKey content convert (seen_map old) new o → IfSome o (λ k. length new.at.reader.unread < length (seen_map old).at.reader.unread)
-  shorter new (Some k) (u, plain, took, is, due, pending) = key_shorter old.due (seen_map old).at.reader.unread new.at.reader.unread u plain took.key
+  shorter new (Some k) (u, plain, took, is, due, pending) = key_shorter (is_comma_due old.stage) (seen_map old).at.reader.unread new.at.reader.unread u plain took.key
   shorter new None gives = tt
 
   -- a key was read, or the brace is next
   pub key_given : (after : State) (new : MapAccess I) (some : Bool) (o : Option K) → new ≡ blocking_map (lent old after) old.failed → some ≡ is_some o → SameText (seen_map old).at.reader after
-      → GivesPairKey content convert (bare_map (seen_map old).at.reader old.due false) (bare_map after old.due (is_some o)) o → ReadsNextKey content convert refuses old (record new { pending = some }) (Ok o)
+      → GivesPairKey content convert (bare_map (seen_map old).at.reader (is_comma_due old.stage) false) (bare_map after (is_comma_due old.stage) (is_some o)) o → ReadsNextKey content convert refuses old (record new { stage = with_key new.stage some }) (Ok o)
   key_given after new some o same is text inner =
-      let last = record (blocking_map (lent old after) old.failed) { pending = some } in
-      let gives = gives_key_seen content convert (seen_map old) (seen_map last) (seen_map old).at.reader after o refl refl refl is inner in
-      subst (λ m. ReadsNextKey content convert refuses old (record m { pending = some }) (Ok o)) (sym same) (record {
-        access = kept old after old.due some old.failed text;
-        pending = record { given = is; kept = tt };
+      let last = record (blocking_map (lent old after) old.failed) { stage = with_key old.stage some } in
+      let pending = key_after_key old.stage some no_key ∙ is in
+      let gives = gives_key_seen content convert (seen_map old) (seen_map last) (seen_map old).at.reader after o refl refl (comma_after_key old.stage some) pending inner in
+      subst (λ m. ReadsNextKey content convert refuses old (record m { stage = with_key m.stage some }) (Ok o)) (sym same) (record {
+        access = kept old after (with_key old.stage some) old.failed text;
+        pending = record { given = pending; kept = tt };
         sound = gives;
         complete = reads_pair_key content convert (seen_map old) (seen_map last) o gives;
         closing = λ r live close. refl;
@@ -58,14 +63,14 @@ module _ {I K C : Type 0} (content : K → C) (convert : KeyConversion C) (refus
       })
 
   -- the call for one was refused
-  pub key_refused : (after : State) (new : MapAccess I) (own e : Error) → new ≡ blocking_map (lent old after) true → PlacedAtBracket (seen_map (lent old after)).at own e → RefusesPairKey refuses old.due (seen_map old).at.reader own after
-      → Steady {V = Option K} (seen_map old).at.reader after (Err own) → CompletesPairKey {V = Option K} convert (bare_map (seen_map old).at.reader old.due false) (Err own)
-      → CompletesClose {V = Option K} curly (bare (seen_map old).at.reader old.due) (Err own) → ReadsNextKey content convert refuses old new (Err e)
+  pub key_refused : (after : State) (new : MapAccess I) (own e : Error) → new ≡ blocking_map (lent old after) true → PlacedAtBracket (seen_map (lent old after)).at own e → RefusesPairKey refuses (is_comma_due old.stage) (seen_map old).at.reader own after
+      → Steady {V = Option K} (seen_map old).at.reader after (Err own) → CompletesPairKey {V = Option K} convert (bare_map (seen_map old).at.reader (is_comma_due old.stage) false) (Err own)
+      → CompletesClose {V = Option K} curly (bare (seen_map old).at.reader (is_comma_due old.stage)) (Err own) → ReadsNextKey content convert refuses old new (Err e)
   key_refused after new own e same placed cause steady complete closing =
       let last = blocking_map (lent old after) true in
       let at = subst (λ x. PlacedAt (StartsAfter x old.start) own e) steady.same_text placed in
       subst (λ m. ReadsNextKey content convert refuses old m (Err e)) (sym same) (record {
-        access = kept old after old.due old.pending true steady.same_text;
+        access = kept old after old.stage true steady.same_text;
         pending = record { given = tt; kept = refl };
         sound = tt;
         complete = λ u plain r k live key is. placed.kind ∙ complete u plain r k live key is;
@@ -76,16 +81,16 @@ module _ {I K C : Type 0} (content : K → C) (convert : KeyConversion C) (refus
         left = leaves_a_value content convert (seen_map old) (seen_map last) (Err e) no_key tt (λ u plain r k live key is. placed.kind ∙ complete u plain r k live key is) closing;
       })
 
-module _ {I V C : Type 0} (content : V → C) (convert : Tree → Option C) (refuses : State → Error → State → Type 0) (old : MapAccess I) (key : old.pending ≡ true) where
+module _ {I V C : Type 0} (content : V → C) (convert : Tree → Option C) (refuses : State → Error → State → Type 0) (old : MapAccess I) (key : is_pending old.stage ≡ true) where
   -- a value was read
   pub value_given : (after : State) (new : MapAccess I) (v : V) → new ≡ blocking_map (lent old after) old.failed → SameText (seen_map old).at.reader after
-      → GivesPairValue content convert (bare_map (seen_map old).at.reader false true) (bare_map after true false) v → ReadsNextValue content convert refuses old (record new { due = true; pending = false }) (Ok v)
+      → GivesPairValue content convert (bare_map (seen_map old).at.reader false true) (bare_map after true false) v → ReadsNextValue content convert refuses old (record new { stage = stages.Started }) (Ok v)
   value_given after new v same text inner =
-      let last = record (blocking_map (lent old after) old.failed) { due = true; pending = false } in
+      let last = record (blocking_map (lent old after) old.failed) { stage = stages.Started } in
       let gives = gives_value_seen content convert (seen_map old) (seen_map last) (seen_map old).at.reader after v refl refl refl refl inner in
       let (t, took, is, due, pending) = gives in
-      subst (λ m. ReadsNextValue content convert refuses old (record m { due = true; pending = false }) (Ok v)) (sym same) (record {
-        access = kept old after true false old.failed text;
+      subst (λ m. ReadsNextValue content convert refuses old (record m { stage = stages.Started }) (Ok v)) (sym same) (record {
+        access = kept old after stages.Started old.failed text;
         pending = record { given = refl; kept = tt };
         sound = gives;
         complete = reads_pair_value content convert (seen_map old) (seen_map last) v gives;
@@ -102,7 +107,7 @@ module _ {I V C : Type 0} (content : V → C) (convert : Tree → Option C) (ref
       let last = blocking_map (lent old after) true in
       let at = subst (λ x. PlacedAt (StartsAfter x old.start) own e) steady.same_text placed in
       subst (λ m. ReadsNextValue content convert refuses old m (Err e)) (sym same) (record {
-        access = kept old after old.due old.pending true steady.same_text;
+        access = kept old after old.stage true steady.same_text;
         pending = record { given = tt; kept = refl };
         sound = tt;
         complete = λ t r c live value shallow is. placed.kind ∙ complete t r c live value shallow is;

@@ -17,6 +17,7 @@ use Rattle.json5_de.specs.Rows.{null_row}
 use Rattle.json5_de.specs.KeyRows.{KeyRow, RefusedAsKey, bytes_key, cow_key, document_key}
 use Rattle.json5_de.specs.Objects.{SeenMap, SetsPending, GivesPairKey, GivesPairValue, ReadsPairKey, ReadsPairValue, ReadsAKey, ReadsAPair, PairsLeft, LeavesAValue, LeavesOthers}
 use Rattle.json5_de.specs.ObjectFaults.{RefusesNextKey, RefusesNextValue}
+use Rattle.json5_de.specs.Stages.{is_comma_due, is_pending}
 use Rattle.json5_de.specs.Enums.{SeenEnum}
 use Rattle.json5_de.specs.declared.enums.EnumAccess.{EnumAccess}
 use Rattle.json5_de.specs.declared.enums.Named.{Named}
@@ -27,7 +28,7 @@ use Rattle.json5_de.specs.contracts.de.Deserializer.{the_row}
 
 module _ {I : Type 0} where
   abbrev pub seen : SeqAccess I → Seen
-  seen s = record { reader = record s.de.now { failed = s.failed }; start = s.start; due = s.due }
+  seen s = record { reader = record s.de.now { failed = s.failed }; start = s.start; due = is_comma_due s.stage }
 
   -- the count of bytes before the brace that its end closes too: that of the variant whose content it reads
   abbrev pub brace_of : SeqAccess I → Option ℕ
@@ -70,7 +71,7 @@ module _ {I : Type 0} where
     pub blocks : MatchResult read (λ v. new ≡ blocking old old.failed) (λ own. new ≡ blocking old true)
 
   abbrev pub seen_map : MapAccess I → SeenMap
-  seen_map m = record { at = record { reader = record m.de.now { failed = m.failed }; start = m.start; due = m.due }; pending = m.pending }
+  seen_map m = record { at = record { reader = record m.de.now { failed = m.failed }; start = m.start; due = is_comma_due m.stage }; pending = is_pending m.stage }
 
   -- the same of an access to an object
   abbrev pub HoldsMap : MutBor State → MapAccess I → Type 0

@@ -22,6 +22,7 @@ pub mod Fields
 pub mod Plans
 pub mod StructFaults
 pub mod MapFaults
+pub mod Stages
 pub mod Lending
 pub mod Texts
 pub mod Own

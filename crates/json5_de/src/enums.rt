@@ -18,6 +18,7 @@ use crate::de::{Deserialize, Deserializer};
 use crate::map::MapAccess;
 use crate::mismatch::Mismatch;
 use crate::seq::SeqAccess;
+use crate::stage::Stage;
 use json5_text::ErrorCode;
 use json5_text::error::Result;
 use json5_text::input::Input;
@@ -268,7 +269,7 @@ impl<'a, I: Input> EnumAccess<'a, I> {
         Ok(SeqAccess {
             de,
             start,
-            due: false,
+            stage: Stage::Empty,
             failed: false,
             brace: Some(name.start),
         })
@@ -289,8 +290,7 @@ impl<'a, I: Input> EnumAccess<'a, I> {
         Ok(MapAccess {
             de,
             start,
-            due: false,
-            pending: false,
+            stage: Stage::Empty,
             failed: false,
             brace: Some(name.start),
         })

@@ -25,6 +25,7 @@ mod scalars;
 mod seq;
 mod short;
 mod spans;
+mod stage;
 mod text;
 mod texts;
 mod tuples;

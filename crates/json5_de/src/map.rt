@@ -20,6 +20,7 @@ ghost use Rattle.json5_de.specs.ObjectFaults.{BeginsKey, GoesToKey, NoColon, NoK
 
 use crate::de::{Deserialize, Deserializer};
 use crate::key::DeserializeKey;
+use crate::stage::Stage;
 use json5_text::char::is_json5_identifier_start;
 use json5_text::error::{Error, Result};
 use json5_text::input::Input;
@@ -32,10 +33,7 @@ pub struct MapAccess<'a, I: Input> {
     pub(crate) de: &'a mut Deserializer<I>,
     /// The count of bytes before the opening brace.
     pub(crate) start: usize,
-    /// Whether a pair was read, so that a comma stands before the next one.
-    pub(crate) due: bool,
-    /// Whether a key was read whose value wasn't.
-    pub(crate) pending: bool,
+    pub(crate) stage: Stage,
     /// Whether a call of the access was refused.
     pub(crate) failed: bool,
     /// The count of bytes before the brace of the variant whose content it reads, which its end closes too.
@@ -52,8 +50,7 @@ impl<I: Input> Drop for MapAccess<'_, I> {
         let MapAccess {
             de: _,
             start: _,
-            due: _,
-            pending: _,
+            stage: _,
             failed: _,
             brace: _,
         } = self;
@@ -106,8 +103,7 @@ impl<I: Input> Deserializer<I> {
         Ok(MapAccess {
             de: self,
             start,
-            due: false,
-            pending: false,
+            stage: Stage::Empty,
             failed: false,
             brace: None,
         })
@@ -236,9 +232,9 @@ impl<'a, I: Input> MapAccess<'a, I> {
         ensures { ReadsNextKey K.content K.convert K.refuses self.old self.new result }
     {
         self.de.set_failed(self.failed);
-        let read = self.de.pair_key(self.due);
+        let read = self.de.pair_key(self.stage.is_comma_due());
         let key = self.settle(read)?;
-        self.pending = key.is_some();
+        self.stage = self.stage.with_key(key.is_some());
         Ok(key)
     }
 
@@ -252,8 +248,7 @@ impl<'a, I: Input> MapAccess<'a, I> {
         self.de.set_failed(self.failed);
         let read = self.de.pair_value::<V>();
         let value = self.settle(read)?;
-        self.due = true;
-        self.pending = false;
+        self.stage = Stage::Started;
         Ok(value)
     }
 
@@ -261,7 +256,7 @@ impl<'a, I: Input> MapAccess<'a, I> {
     pub fn key_pending(&self) -> bool
         ensures { result ≡ (seen_map self.now).pending }
     {
-        self.pending
+        self.stage.is_pending()
     }
 
     /// The fault, at the opening brace where it has no place.
@@ -292,12 +287,12 @@ impl<'a, I: Input> MapAccess<'a, I> {
         let MapAccess {
             de,
             start: _,
-            due,
-            pending: _,
+            stage,
             failed,
             brace,
         } = self;
         de.set_failed(failed);
+        let due = stage.is_comma_due();
         match brace {
             None => de.close_last(BracketKind::Object, due),
             Some(brace) => de.close_content(BracketKind::Object, due, brace),

@@ -13,6 +13,7 @@ ghost use Rattle.json5_de.specs.Lists.{IsTooShort, LeavesRequired, RefusesRequir
 ghost use Rattle.json5_de.specs.Seq.{RefusesElement};
 
 use crate::de::{Deserialize, Deserializer};
+use crate::stage::Stage;
 use json5_text::error::{Error, Result};
 use json5_text::input::Input;
 use json5_text::{ErrorCode, Position};
@@ -25,8 +26,7 @@ pub struct SeqAccess<'a, I: Input> {
     pub(crate) de: &'a mut Deserializer<I>,
     /// The count of bytes before the opening bracket.
     pub(crate) start: usize,
-    /// Whether an element was read, so that a comma stands before the next one.
-    pub(crate) due: bool,
+    pub(crate) stage: Stage,
     /// Whether a call of the access was refused.
     pub(crate) failed: bool,
     /// The count of bytes before the brace of the variant whose content it reads, which its end closes too.
@@ -43,7 +43,7 @@ impl<I: Input> Drop for SeqAccess<'_, I> {
         let SeqAccess {
             de: _,
             start: _,
-            due: _,
+            stage: _,
             failed: _,
             brace: _,
         } = self;
@@ -80,7 +80,7 @@ impl<I: Input> Deserializer<I> {
         Ok(SeqAccess {
             de: self,
             start,
-            due: false,
+            stage: Stage::Empty,
             failed: false,
             brace: None,
         })
@@ -134,9 +134,9 @@ impl<'a, I: Input> SeqAccess<'a, I> {
         ensures { ReadsNext T.content T.convert T.refuses self.old self.new result }
     {
         self.de.set_failed(self.failed);
-        let read = self.de.element(self.due);
+        let read = self.de.element(self.stage.is_comma_due());
         let next = self.settle(read)?;
-        self.due |= next.is_some();
+        self.stage = self.stage.with_member(next.is_some());
         Ok(next)
     }
 
@@ -200,11 +200,12 @@ impl<'a, I: Input> SeqAccess<'a, I> {
         let SeqAccess {
             de,
             start: _,
-            due,
+            stage,
             failed,
             brace,
         } = self;
         de.set_failed(failed);
+        let due = stage.is_comma_due();
         match brace {
             None => de.close_last(BracketKind::Array, due),
             Some(brace) => de.close_content(BracketKind::Array, due, brace),

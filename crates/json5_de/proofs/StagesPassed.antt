@@ -1,0 +1,33 @@
+-- What a stage says after a call for a member or a key.
+use Rattle.std.proofs.Common.{◌≡◌, Bool, true, false, refl}
+use Rattle.std.specs.Prelude.{◌||◌}
+use Rattle.json5_de.specs.Stages.{is_comma_due, is_pending, with_member, with_key}
+use Rattle.json5_de.specs.declared.stage.Stage.{Stage}
+use Rattle.json5_de.specs.declared.stage.Stage.TheVariants as stage
+
+-- a comma is due where it was, and after a member
+pub comma_after_member : (s : Stage) (given : Bool) → is_comma_due (with_member s given) ≡ (is_comma_due s || given)
+comma_after_member stage.Empty true = refl
+comma_after_member stage.Empty false = refl
+comma_after_member stage.FirstKey true = refl
+comma_after_member stage.FirstKey false = refl
+comma_after_member stage.Started true = refl
+comma_after_member stage.Started false = refl
+comma_after_member stage.LaterKey true = refl
+comma_after_member stage.LaterKey false = refl
+
+-- a key changes nothing of the comma
+pub comma_after_key : (s : Stage) (given : Bool) → is_comma_due (with_key s given) ≡ is_comma_due s
+comma_after_key s false = refl
+comma_after_key stage.Empty true = refl
+comma_after_key stage.FirstKey true = refl
+comma_after_key stage.Started true = refl
+comma_after_key stage.LaterKey true = refl
+
+-- a key waits where one was given and none waited
+pub key_after_key : (s : Stage) (given : Bool) → is_pending s ≡ false → is_pending (with_key s given) ≡ given
+key_after_key s false none = none
+key_after_key stage.Empty true none = refl
+key_after_key stage.FirstKey true none = refl
+key_after_key stage.Started true none = refl
+key_after_key stage.LaterKey true none = refl

@@ -1,0 +1,31 @@
+-- How far an access has come.
+use Rattle.std.specs.Prelude.{Bool, true, false}
+use Rattle.json5_de.specs.declared.stage.Stage.{Stage}
+use Rattle.json5_de.specs.declared.stage.Stage.TheVariants as stage
+
+-- whether a comma is due before the next member
+abbrev pub is_comma_due : Stage → Bool
+is_comma_due stage.Empty = false
+is_comma_due stage.FirstKey = false
+is_comma_due stage.Started = true
+is_comma_due stage.LaterKey = true
+
+-- whether a key waits for its value
+abbrev pub is_pending : Stage → Bool
+is_pending stage.Empty = false
+is_pending stage.FirstKey = true
+is_pending stage.Started = false
+is_pending stage.LaterKey = true
+
+-- the stage after a call for a member, which was given or not
+abbrev pub with_member : Stage → Bool → Stage
+with_member s true = stage.Started
+with_member s false = s
+
+-- the stage after a call for a key, which was given or not
+abbrev pub with_key : Stage → Bool → Stage
+with_key s false = s
+with_key stage.Empty true = stage.FirstKey
+with_key stage.FirstKey true = stage.FirstKey
+with_key stage.Started true = stage.LaterKey
+with_key stage.LaterKey true = stage.LaterKey

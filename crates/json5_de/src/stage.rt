@@ -1,0 +1,56 @@
+//! How far an access has come.
+
+ghost use Rattle.std.specs.Prelude.{◌≡◌};
+ghost use Rattle.json5_de.specs.Stages.{is_comma_due, is_pending, with_member, with_key};
+
+/// How far the reading of an array or an object has come.
+#[derive(Clone, Copy)]
+pub(crate) enum Stage {
+    /// Nothing of it was read.
+    Empty,
+    /// Its first key was read, and the value comes next.
+    FirstKey,
+    /// A member was read, and a comma stands before the next one.
+    Started,
+    /// A later key was read, and the value comes next.
+    LaterKey,
+}
+
+impl Stage {
+    /// Whether a member was read, so that a comma stands before the next one.
+    #[inline(always)]
+    pub(crate) fn is_comma_due(self) -> bool
+        ensures { result ≡ is_comma_due self }
+    {
+        matches!(self, Stage::Started | Stage::LaterKey)
+    }
+
+    /// Whether a key was read whose value wasn't.
+    pub(crate) fn is_pending(self) -> bool
+        ensures { result ≡ is_pending self }
+    {
+        matches!(self, Stage::FirstKey | Stage::LaterKey)
+    }
+
+    /// The stage after a call for a member, which was given or not.
+    #[inline(always)]
+    pub(crate) fn with_member(self, given: bool) -> Stage
+        ensures { result ≡ with_member self given }
+    {
+        if given { Stage::Started } else { self }
+    }
+
+    /// The stage after a call for a key, which was given or not.
+    pub(crate) fn with_key(self, given: bool) -> Stage
+        ensures { result ≡ with_key self given }
+    {
+        if !given {
+            return self;
+        }
+        if self.is_comma_due() {
+            Stage::LaterKey
+        } else {
+            Stage::FirstKey
+        }
+    }
+}
