@@ -1,5 +1,5 @@
 -- What contracts see of an access to an array.
-use Rattle.std.specs.Prelude.{◌≡◌, ◌≢◌, ◌⊎◌, ℕ, ◌+◌, ◌-◌, ◌<◌, ◌≤◌, Bool, true, false, List, [], ◌∷◌, ◌++◌, length, Option, Some, None, Result, Ok, Err, IfOk, IfErr, OnOk, OnErr, IsOk, IsOkAnd, IsErrAnd, MatchResult, ◌==◌, ◌||◌, ◌&&◌}
+use Rattle.std.specs.Prelude.{◌≡◌, ◌≢◌, ◌⊎◌, ℕ, ◌+◌, ◌-◌, ◌<◌, ◌≤◌, Bool, true, false, List, [], ◌∷◌, ◌++◌, length, Option, Some, None, Result, Ok, Err, IfOk, IfErr, OnOk, IsOk, IsOkAnd, IsErrAnd, MatchResult, ◌==◌, ◌||◌, ◌&&◌}
 use Rattle.std.specs.Str.{encode_utf8_all}
 use Rattle.json5_grammar.specs.Characters.{comma_sign}
 use Rattle.json5_grammar.specs.declared.code.ErrorCode.{ErrorCode}
@@ -12,13 +12,13 @@ use Rattle.json5_grammar.specs.Documents.{max_depth}
 use Rattle.json5_grammar.specs.Values.{Reads}
 use Rattle.json5_grammar.specs.Members.{IsSign, IsEnd, Opens, IsElement, IsAtClose, Passed, Tail, snoc}
 use Rattle.json5_text.specs.declared.error.Error.{Error}
-use Rattle.json5_text.specs.Errors.{place_of}
-use Rattle.json5_de.specs.State.{State, OnlyRead, SameText}
+use Rattle.json5_text.specs.Errors.{code, kind_of, place_of}
+use Rattle.json5_de.specs.State.{State, OnlyRead, SameText, FailsIfErr}
 use Rattle.json5_text.specs.Cursor.{IsOutOfMemory}
-use Rattle.json5_de.specs.Law.{IsOkOrMemory, TookValue, Unprompted}
+use Rattle.json5_de.specs.Law.{IsOkOrMemory, TookValue, Unprompted, AnswersFailed}
 use Rattle.json5_value.specs.Places.{PlacedAt, StartsAfter}
 use Rattle.json5_de.specs.ConvertLists.{if_some}
-use Rattle.json5_de.specs.Faults.{AfterBlanks, IsAfter, IsUnplaced, RefusedBy, EndsWith, DiffersWith}
+use Rattle.json5_de.specs.Faults.{AfterBlanks, IsAfter, RefusedBy, EndsWith, DiffersWith}
 use Rattle.json5_value.specs.declared.brackets.Brackets.{Brackets}
 use Rattle.json5_value.specs.Brackets.{square}
 
@@ -127,6 +127,14 @@ PlacedAtBracket s own e = PlacedAt (StartsAfter s.reader.input s.start) own e
 abbrev pub IsAtBracket : Seen → Error → Type 0
 IsAtBracket s e = (before : List ℕ) → StartsAfter s.reader.input s.start before → place_of e ≡ Some (position_after before)
 
+-- `Failed`, at the opening bracket
+abbrev pub IsFailedAtBracket : Seen → Error → Type 0
+IsFailedAtBracket s e = (kind_of e ≡ code codes.Failed) × IsAtBracket s e
+
+-- a call after a refusal answers so
+abbrev pub AnswersFailedAtBracket : {V : Type 0} → Seen → Result V Error → Type 0
+AnswersFailedAtBracket s result = s.reader.failed ≡ true → IsErrAnd result (IsFailedAtBracket s)
+
 abbrev pub HasPlace : Error → Type 0
 HasPlace e = place_of e ≢ None
 
@@ -190,7 +198,7 @@ pub record OpensAs {A : Type 0} (b : Brackets) (seen : A → Seen) (old : State)
   pub differs : DiffersWith (is_opening b) b.not_opened old result
   pub too_deep : TooDeepAt b old result
   pub unprompted : Unprompted old result
-  pub before : old.failed ≡ true → IsErrAnd result (IsUnplaced codes.Failed)
+  pub before : AnswersFailed old result
 
 -- where the closing bracket is expected
 pub record ClosesAs (b : Brackets) (due : Bool) (old new : State) (result : Result (Unit {0}) Error) : Type 0 where
@@ -200,7 +208,7 @@ pub record ClosesAs (b : Brackets) (due : Bool) (old new : State) (result : Resu
   pub ends : EndsWith b.ends old result
   pub differs : DiffersWith (begins_close b due) b.not_closed old result
   pub unprompted : Unprompted old result
-  pub before : old.failed ≡ true → IsErrAnd result (IsUnplaced codes.Failed)
+  pub before : AnswersFailed old result
 
 -- an array is opened by an access that holds the reader so: nothing was read of it, and where one can be read its elements are left
 pub record OpensArray {A : Type 0} (Held : A → Type 0) (seen : A → Seen) (old : State) (result : Result A Error) : Type 0 where
@@ -214,6 +222,6 @@ pub record OpensArray {A : Type 0} (Held : A → Type 0) (seen : A → Seen) (ol
 pub record ClosesArray (old : Seen) (new : State) (result : Result (Unit {0}) Error) : Type 0 where
   pub bracket : ClosesAs square old.due old.reader new result
   pub same_text : SameText old.reader new
-  pub failed : OnErr result (new.failed ≡ true)
+  pub failed : FailsIfErr new result
   pub read : OnOk result ((from : State) (ts : Trees) → ElementsRead from ts old → TookValue from (array ts) new)
   pub left : (r : List ℕ) → ElementsLeft no_more r old → IsOk result

@@ -1,5 +1,5 @@
 -- Enums: a value names one of the variants, and may hold its content.
-use Rattle.std.specs.Prelude.{◌≡◌, ◌⊎◌, ◌==◌, ◌||◌, ℕ, ◌+◌, ◌<◌, ◌≤◌, Bool, true, false, List, [], ◌∷◌, ◌++◌, length, Option, Some, None, is_some, Result, IfOk, IfErr, OnOk, OnErr, IsOk, IsOkAnd, MatchResult, IsErrAnd}
+use Rattle.std.specs.Prelude.{◌≡◌, ◌⊎◌, ◌==◌, ◌||◌, ℕ, ◌+◌, ◌<◌, ◌≤◌, Bool, true, false, List, [], ◌∷◌, ◌++◌, length, Option, Some, None, is_some, Result, IfOk, IfErr, OnOk, OnErr, IsOk, IsOkAnd, MatchResult}
 use Rattle.std.specs.Str.{encode_utf8_all}
 use Rattle.json5_grammar.specs.Characters.{left_brace}
 use Rattle.json5_grammar.specs.declared.code.ErrorCode.{ErrorCode}
@@ -11,14 +11,14 @@ use Rattle.json5_grammar.specs.Trees.{Tree, Trees, Pairs, null, boolean, number,
 use Rattle.json5_grammar.specs.Values.{Reads}
 use Rattle.json5_text.specs.declared.error.Error.{Error}
 use Rattle.json5_text.specs.Cursor.{IsOutOfMemory}
-use Rattle.json5_de.specs.State.{State, SameText, GivesUp}
-use Rattle.json5_de.specs.Law.{IsOkOrMemory, TookValue, Unprompted}
+use Rattle.json5_de.specs.State.{State, SameText, GivesUp, FailsIfErr}
+use Rattle.json5_de.specs.Law.{IsOkOrMemory, TookValue, Unprompted, AnswersFailed}
 use Rattle.json5_de.specs.Convert.{unit_of, place_among}
 use Rattle.json5_de.specs.ConvertLists.{if_some}
 use Rattle.json5_de.specs.Own.{if_more}
 use Rattle.json5_value.specs.Places.{PlacedAt, StartsAfter}
 use Rattle.json5_de.specs.Steps.{PassedGap, IsMismatch}
-use Rattle.json5_de.specs.Faults.{RefusedBy, RefusedByOrMemory, NotText, IsUnplaced, EndsWith, DiffersWith}
+use Rattle.json5_de.specs.Faults.{RefusedBy, RefusedByOrMemory, NotText, EndsWith, DiffersWith}
 use Rattle.json5_value.specs.declared.brackets.Brackets.{Brackets}
 use Rattle.json5_value.specs.Brackets.{square, curly}
 use Rattle.json5_de.specs.Access.{Seen, IsStart, Opened, NotOpened, Closed, NotClosed, ClosesAs, ClosesArray, ElementsRead, ElementsLeft}
@@ -191,7 +191,7 @@ pub record ReadsInBrace {V C : Type 0} (content : V → C) (convert : Tree → O
   pub refused : IfErr result (λ e. (k : ℕ) → RefusesContent refuses (record { reader = old; start = start; variant = k; has_content = true }) e)
   pub unprompted : Unprompted old result
   pub same_text : SameText old new
-  pub failed : OnErr result (new.failed ≡ true)
+  pub failed : FailsIfErr new result
 
 -- ---- what the calls mean
 
@@ -205,7 +205,7 @@ pub record NamesVariant {A : Type 0} (names : List (List ℕ)) (seen : A → See
   pub differs : DiffersWith begins_variant codes.ExpectedStringOrObject old result
   pub unprompted : Unprompted old result
   pub same_text : IfOk result (λ a. SameText old (seen a).reader)
-  pub before : old.failed ≡ true → IsErrAnd result (IsUnplaced codes.Failed)
+  pub before : AnswersFailed old result
 
 -- v stands for the content of the variant that was named at `from`, and the value was read to its end
 abbrev pub GivesContent : {V C : Type 0} → (V → C) → (Option Tree → Option C) → List (List ℕ) → State → ℕ → State → V → Type 0
@@ -219,7 +219,7 @@ pub record ReadsVariant {V C : Type 0} (content : V → C) (convert : Option Tre
   pub refused : IfErr result (RefusesContent refuses old)
   pub unprompted : Unprompted old.reader result
   pub same_text : SameText old.reader new
-  pub failed : OnErr result (new.failed ≡ true)
+  pub failed : FailsIfErr new result
 
 -- ---- a content that is read through an access
 
@@ -227,7 +227,7 @@ pub record ReadsVariant {V C : Type 0} (content : V → C) (convert : Option Tre
 pub record ClosesLast (b : Brackets) (due : Bool) (old new : State) (result : Result (Unit {0}) Error) : Type 0 where
   pub closes : ClosesAs b due old new result
   pub same_text : SameText old new
-  pub failed : OnErr result (new.failed ≡ true)
+  pub failed : FailsIfErr new result
 
 -- why a content isn't closed, and then the variant's brace: a fault of the content's bracket without a place gets the brace's
 pub data RefusesEnding (b : Brackets) (due : Bool) (brace : ℕ) (old : State) (e : Error) : Type 0 where
@@ -241,7 +241,7 @@ pub record ClosesContent (b : Brackets) (due : Bool) (brace : ℕ) (old new : St
   pub refused : IfErr result (RefusesEnding b due brace old)
   pub unprompted : Unprompted old result
   pub same_text : SameText old new
-  pub failed : OnErr result (new.failed ≡ true)
+  pub failed : FailsIfErr new result
 
 -- an array that is a variant's content is closed, and the variant's brace: the value that began before the brace is read
 pub record ClosesTuple (brace : ℕ) (old : Seen) (new : State) (result : Result (Unit {0}) Error) : Type 0 where

@@ -1,5 +1,5 @@
 -- Structs: the fields of an object by their names, in any order; a field may stand once.
-use Rattle.std.specs.Prelude.{◌≡◌, ◌⊎◌, ◌<◌, length, false, ℕ, Bool, if◌then◌else◌, true, is_some, List, Option, Some, None, Result, Ok, Err, OnOk, OnErr, IfErr, IsErrAnd}
+use Rattle.std.specs.Prelude.{◌≡◌, ◌⊎◌, ◌<◌, length, false, ℕ, Bool, if◌then◌else◌, true, is_some, List, Option, Some, None, Result, Ok, Err, OnOk, OnErr, IfErr}
 use Rattle.std.specs.Str.{bytes_eq, encode_utf8_all}
 use Rattle.json5_grammar.specs.declared.code.ErrorCode.TheVariants as codes
 use Rattle.json5_grammar.specs.Trees.{Tree, Trees, Pairs, no_more, more, no_pair, pair}
@@ -7,11 +7,11 @@ use Rattle.json5_grammar.specs.Members.{joint}
 use Rattle.json5_text.specs.declared.error.Error.{Error}
 use Rattle.json5_text.specs.Errors.{code, custom, kind_of}
 use Rattle.json5_text.specs.Cursor.{IsOutOfMemory}
-use Rattle.json5_de.specs.State.{State}
+use Rattle.json5_de.specs.State.{State, FailsIfErr}
 use Rattle.json5_de.specs.ConvertLists.{if_some}
 use Rattle.json5_de.specs.Law.{Unprompted}
 use Rattle.json5_de.specs.Own.{if_more}
-use Rattle.json5_de.specs.Access.{Seen, IsAtBracket}
+use Rattle.json5_de.specs.Access.{Seen, IsAtBracket, AnswersFailedAtBracket}
 use Rattle.json5_de.specs.Objects.{SeenMap, PairsLeft, ReadsAPair, LeavesPairs}
 use Rattle.json5_de.specs.ObjectFaults.{ValueRefusedAtBrace}
 
@@ -81,8 +81,8 @@ pub record FieldRead {V C : Type 0} (content : V → C) (convert : Tree → Opti
   pub shorter : OnOk result (length new.at.reader.unread < length old.at.reader.unread)
   pub cause : IfErr result (λ e. old.at.reader.failed ≡ false → FieldFault refuses old field e)
   pub unprompted : Unprompted old.at.reader result
-  pub failed : OnErr result (new.at.reader.failed ≡ true)
-  pub before : old.at.reader.failed ≡ true → IsErrAnd result (λ e. (kind_of e ≡ code codes.Failed) × IsAtBracket old.at e)
+  pub failed : FailsIfErr new.at.reader result
+  pub before : AnswersFailedAtBracket old.at result
   pub kept : OnErr result (next ≡ field)
 
 -- what a call for a field that has to be there means
@@ -92,5 +92,5 @@ pub record FieldRequired {V : Type 0} (old new : SeenMap) (field : Option V) (re
   pub missing : IfErr result (λ e. old.at.reader.failed ≡ false → (field ≡ None) × IsOwnAtBracket old.at e)
   pub pending : new.pending ≡ old.pending
   pub unprompted : Unprompted old.at.reader result
-  pub failed : OnErr result (new.at.reader.failed ≡ true)
-  pub before : old.at.reader.failed ≡ true → IsErrAnd result (λ e. (kind_of e ≡ code codes.Failed) × IsAtBracket old.at e)
+  pub failed : FailsIfErr new.at.reader result
+  pub before : AnswersFailedAtBracket old.at result

@@ -1,9 +1,9 @@
 -- Keys, and the law of a type that is read from one.
 -- JSON5 section 3 (a key is a string or an identifier).
-use Rattle.std.specs.Prelude.{◌≡◌, ℕ, Bool, true, false, List, Option, Some, Result, IfOk, IfErr, OnErr}
+use Rattle.std.specs.Prelude.{◌≡◌, ℕ, Bool, false, List, Option, Some, Result, IfOk, IfErr}
 use Rattle.json5_grammar.specs.Members.{ReadsKey}
 use Rattle.json5_text.specs.declared.error.Error.{Error}
-use Rattle.json5_de.specs.State.{State, OnlyRead, SameText}
+use Rattle.json5_de.specs.State.{State, OnlyRead, SameText, FailsIfErr}
 use Rattle.json5_de.specs.Law.{IsOkOrMemory, StaysFailed, Unprompted}
 
 -- a key that stands for u was read, blanks before it included, and nothing else happened; plain says that no escape is used
@@ -48,5 +48,5 @@ pub record ReadsOneKey {V C : Type 0} (content : V → C) (convert : KeyConversi
   pub refused : IfErr result (λ e. refuses old e new)
   pub unprompted : Unprompted old result
   pub same_text : SameText old new
-  pub failed : OnErr result (new.failed ≡ true)
+  pub failed : FailsIfErr new result
   pub before : StaysFailed old new result

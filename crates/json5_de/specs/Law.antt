@@ -1,13 +1,14 @@
 -- The law of a type that is read.
-use Rattle.std.specs.Prelude.{◌≡◌, ℕ, ◌+◌, ◌≤◌, Bool, false, true, List, Option, Some, None, Result, Ok, Err, IsOk, IfOk, IfErr, OnErr, IsErrAnd}
+use Rattle.std.specs.Prelude.{◌≡◌, ℕ, ◌+◌, ◌≤◌, Bool, false, true, List, Option, Some, Result, Ok, Err, IsOk, IfOk, IfErr, IsErrAnd}
 use Rattle.json5_grammar.specs.declared.code.ErrorCode.TheVariants as codes
 use Rattle.json5_grammar.specs.Trees.{Tree, depth}
 use Rattle.json5_grammar.specs.Values.{Reads}
 use Rattle.json5_grammar.specs.Documents.{max_depth}
 use Rattle.json5_text.specs.declared.error.Error.{Error}
-use Rattle.json5_text.specs.Errors.{code, kind_of, place_of}
+use Rattle.json5_text.specs.Errors.{code}
 use Rattle.json5_text.specs.Cursor.{IsOutOfMemory}
-use Rattle.json5_de.specs.State.{State, OnlyRead, SameText}
+use Rattle.json5_de.specs.State.{State, OnlyRead, SameText, FailsIfErr}
+use Rattle.json5_de.specs.Faults.{IsUnplaced}
 pub use Rattle.json5_value.specs.Steps.{IsUnprompted}
 
 -- one value of the tree t was read, blanks before it included, and nothing else happened
@@ -35,9 +36,13 @@ abbrev pub CompletesFree : {V C : Type 0} → (Tree → Bool) → (Tree → Opti
 CompletesFree {C = C} free convert old result =
     (t : Tree) (r : List ℕ) (c : C) → old.failed ≡ false → Reads old.unread t r → old.level + depth t ≤ max_depth → convert t ≡ Some c → free t ≡ true → IsOk result
 
--- a reader that has failed answers `Failed` without a place, and stays as it is
+-- a reader that has failed answers `Failed` without a place
+abbrev pub AnswersFailed : {V : Type 0} → State → Result V Error → Type 0
+AnswersFailed old result = old.failed ≡ true → IsErrAnd result (IsUnplaced codes.Failed)
+
+-- and stays as it is
 abbrev pub StaysFailed : {V : Type 0} → State → State → Result V Error → Type 0
-StaysFailed old new result = old.failed ≡ true → IsErrAnd result (λ e. (kind_of e ≡ code codes.Failed) × (place_of e ≡ None)) × (new ≡ old)
+StaysFailed old new result = old.failed ≡ true → IsErrAnd result (IsUnplaced codes.Failed) × (new ≡ old)
 
 -- two values that may be given for one text have the same content, and leave the same
 abbrev pub OneAnswer : {V C : Type 0} → (V → C) → (Tree → Option C) → Type 0
@@ -55,11 +60,11 @@ pub record ReadsValue {V C : Type 0} (content : V → C) (convert : Tree → Opt
   pub refused : IfErr result (λ e. refuses old e new)
   pub unprompted : Unprompted old result
   pub same_text : SameText old new
-  pub failed : OnErr result (new.failed ≡ true)
+  pub failed : FailsIfErr new result
   pub before : StaysFailed old new result
 
 -- the text stays; a reader that had failed says `Failed` without a place, and no other does
 pub record Steady {V : Type 0} (old new : State) (result : Result V Error) : Type 0 where
   pub same_text : SameText old new
   pub unprompted : Unprompted old result
-  pub before : old.failed ≡ true → IsErrAnd result (λ e. (kind_of e ≡ code codes.Failed) × (place_of e ≡ None))
+  pub before : AnswersFailed old result

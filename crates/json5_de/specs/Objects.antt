@@ -7,7 +7,7 @@ use Rattle.json5_grammar.specs.Values.{Reads}
 use Rattle.json5_grammar.specs.Members.{IsSign, OpensObject, IsKey, IsKeyValue, IsAtBrace, PairsPassed, PairsTail, snoc_pair}
 use Rattle.json5_text.specs.declared.error.Error.{Error}
 use Rattle.json5_text.specs.Cursor.{IsOutOfMemory}
-use Rattle.json5_de.specs.State.{State, OnlyRead, SameText}
+use Rattle.json5_de.specs.State.{State, OnlyRead, SameText, FailsIfErr}
 use Rattle.json5_de.specs.Law.{IsOkOrMemory, TookValue}
 use Rattle.json5_de.specs.Keys.{KeyConversion}
 use Rattle.json5_de.specs.ConvertLists.{if_some}
@@ -157,6 +157,6 @@ pub record OpensMap {A : Type 0} (Held : A → Type 0) (seen : A → SeenMap) (o
 pub record ClosesMap (old : SeenMap) (new : State) (result : Result (Unit {0}) Error) : Type 0 where
   pub bracket : ClosesAs curly old.at.due old.at.reader new result
   pub same_text : SameText old.at.reader new
-  pub failed : OnErr result (new.failed ≡ true)
+  pub failed : FailsIfErr new result
   pub read : OnOk result ((from : State) (ps : Pairs) → PairsRead from ps None old → TookValue from (object ps) new)
   pub left : (r : List ℕ) → old.pending ≡ false → PairsLeft no_pair r old → IsOk result

@@ -1,13 +1,13 @@
 -- A struct by its fields, one plan: what it takes of an object, and what each pair changes of what was read of it.
 use Rattle.std.proofs.Common.{◌≡◌, ℕ, Bool, true, false, List, [], ◌∷◌, refl, sym, ap, ◌∙◌, Option, Some, None}
-use Rattle.std.specs.Prelude.{if◌then◌else◌, ◌<◌, length, Result, Ok, Err, OnOk, OnErr}
+use Rattle.std.specs.Prelude.{if◌then◌else◌, ◌<◌, length, Result, Ok, Err, OnOk}
 use Rattle.std.specs.Str.{bytes_eq, encode_utf8_all}
 use Rattle.json5_grammar.specs.Characters.{right_brace}
 use Rattle.json5_grammar.specs.Trees.{Tree, Trees, Pairs, no_more, more, no_pair, pair}
 use Rattle.json5_grammar.specs.Members.{joint, snoc_pair}
 use Rattle.json5_text.specs.declared.error.Error.{Error}
 use Rattle.json5_text.specs.Cursor.{IsOutOfMemory}
-use Rattle.json5_de.specs.State.{State}
+use Rattle.json5_de.specs.State.{State, FailsIfErr}
 use Rattle.json5_de.specs.ConvertLists.{if_some}
 use Rattle.json5_de.specs.Law.{Unprompted}
 use Rattle.json5_de.specs.Own.{if_more}
@@ -143,7 +143,7 @@ pub record TakesPair {S : Type 0} (step : Step S) (s n : S) (name : List ℕ) (o
   pub left : (u : List ℕ) (plain : Bool) (t : Tree) (ps : Pairs) (r : List ℕ) (m : S) → step s name t ≡ Some m → PairsLeft (pair u plain t ps) r old → LeavesTaken n m ps r new result
   pub live : OnOk result (new.at.reader.failed ≡ false)
   pub shorter : OnOk result (length new.at.reader.unread < length old.at.reader.unread)
-  pub failed : OnErr result (new.at.reader.failed ≡ true)
+  pub failed : FailsIfErr new.at.reader result
   pub unprompted : Unprompted old.at.reader result
 
 -- any value of a key that was read, of which nothing is kept
@@ -155,6 +155,6 @@ pub record ReadsPairs {S : Type 0} (step : Step S) (s n : S) (old new : SeenMap)
   pub read : OnOk result ((ps : Pairs) × (run step s ps ≡ Some n) × ((from : State) → PairsRead from no_pair None old → PairsRead from ps None new))
   pub left : (ps : Pairs) (r : List ℕ) (m : S) → run step s ps ≡ Some m → PairsLeft ps r old → LeavesTaken n m no_pair r new result
   pub live : OnOk result (new.at.reader.failed ≡ false)
-  pub failed : OnErr result (new.at.reader.failed ≡ true)
+  pub failed : FailsIfErr new.at.reader result
   pub unprompted : Unprompted old.at.reader result
   pub at_brace : OnOk result ((r : List ℕ) × (new.at.reader.unread ≡ right_brace ∷ r))

@@ -10,12 +10,12 @@ use Rattle.json5_text.specs.Cursor.{Refused}
 use Rattle.json5_text.specs.Tokens.{FaultyBlanks}
 use Rattle.json5_text.specs.declared.error.Error.{Error}
 use Rattle.json5_text.specs.Errors.{code, kind_of}
-use Rattle.json5_de.specs.State.{State, OnlyRead, SameText, cursor_of}
+use Rattle.json5_de.specs.State.{State, OnlyRead, SameText, cursor_of, FailsIfErr}
 use Rattle.json5_value.specs.declared.brackets.Brackets.{Brackets}
 use Rattle.json5_value.specs.Brackets.{square}
 use Rattle.json5_de.specs.Law.{Unprompted, Steady}
 use Rattle.json5_de.specs.Faults.{RefusedBy, AtEnd, DiffersWith}
-use Rattle.json5_de.specs.Access.{Seen, AtClose, HasPlace, PlacedAtBracket, IsAtBracket, is_comma_or_closing}
+use Rattle.json5_de.specs.Access.{Seen, AtClose, HasPlace, PlacedAtBracket, IsAtBracket, is_comma_or_closing, AnswersFailedAtBracket}
 use Rattle.json5_value.specs.Steps.{Unexpected}
 
 -- y is what stands after the gap in front of x
@@ -99,8 +99,8 @@ pub record RefusesCall {V : Type 0} (IsCause : Cause) (asked : Bool) (begins : �
   pub ends : asked ≡ true → AtEnd old.reader → IsErrAnd result (λ e. (kind_of e ≡ code end_code) × IsAtBracket old e)
   pub differs : asked ≡ true → DiffersWith begins other_code old.reader result
   pub unprompted : Unprompted old.reader result
-  pub failed : OnErr result (new.failed ≡ true)
-  pub before : old.reader.failed ≡ true → IsErrAnd result (λ e. (kind_of e ≡ code codes.Failed) × IsAtBracket old e)
+  pub failed : FailsIfErr new result
+  pub before : AnswersFailedAtBracket old result
 
 -- ---- elements
 

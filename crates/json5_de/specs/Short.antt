@@ -1,5 +1,5 @@
 -- What the short ways promise: what they answer is what the reader's other calls answer, and where they answer nothing, nothing has changed.
-use Rattle.std.specs.Prelude.{◌≡◌, Bool, true, false, Option, Some, MatchOption, Ok}
+use Rattle.std.specs.Prelude.{◌≡◌, Bool, true, false, Option, MatchOption, Ok}
 use Rattle.json5_text.specs.declared.short.ShortStep.{ShortStep}
 use Rattle.json5_text.specs.declared.short.ShortStep.TheVariants as short
 use Rattle.json5_value.specs.declared.brackets.Brackets.{Brackets}

@@ -35,11 +35,18 @@ pub record GivesUp (old new : State) : Type 0 where
   pub failed : new.failed ≡ true
   pub same_text : SameText old new
 
+-- a refusal leaves the reader failed
+abbrev pub FailsIfErr : {V : Type 0} → State → Result V Error → Type 0
+FailsIfErr new result = OnErr result (new.failed ≡ true)
+
+abbrev pub GivesUpIfErr : {V : Type 0} → State → State → Result V Error → Type 0
+GivesUpIfErr old new result = OnErr result (GivesUp old new)
+
 -- the reader's scanner is called: nothing else changes where the call succeeds, and the reader has failed where it refuses
 pub record Calls {A : Type 0} (IsCall : Cursor → Cursor → Result A Error → Type 0) (old new : State) (result : Result A Error) : Type 0 where
   pub call : IsCall (cursor_of old) (cursor_of new) result
   pub read : OnOk result (OnlyRead old new)
-  pub failed : OnErr result (GivesUp old new)
+  pub failed : GivesUpIfErr old new result
 
 -- it refuses with such a fault, and has failed
 pub record GivesUpWith {V : Type 0} (IsFault : Error → Type 0) (old new : State) (result : Result V Error) : Type 0 where

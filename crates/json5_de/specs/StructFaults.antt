@@ -1,15 +1,15 @@
 -- Why a struct is refused.
-use Rattle.std.specs.Prelude.{◌≡◌, ◌⊎◌, ℕ, Bool, true, false, List, ◌∷◌, ◌++◌, length, Option, Some, None, is_some, Result, IfErr, IsErrAnd}
+use Rattle.std.specs.Prelude.{◌≡◌, ◌⊎◌, ℕ, Bool, true, false, List, ◌∷◌, ◌++◌, length, Option, Some, None, is_some, Result, IfErr}
 use Rattle.std.specs.Str.{encode_utf8_all}
 use Rattle.json5_grammar.specs.declared.code.ErrorCode.TheVariants as codes
 use Rattle.json5_grammar.specs.Characters.{left_brace, right_brace}
 use Rattle.json5_grammar.specs.Trees.{Tree, Pairs, no_pair}
 use Rattle.json5_text.specs.declared.error.Error.{Error}
-use Rattle.json5_text.specs.Errors.{code, kind_of}
+use Rattle.json5_text.specs.Errors.{code}
 use Rattle.json5_de.specs.State.{State, SameText}
 use Rattle.json5_value.specs.Brackets.{curly}
 use Rattle.json5_de.specs.Faults.{RefusedBy}
-use Rattle.json5_de.specs.Access.{Opened, NotOpened, IsAtBracket}
+use Rattle.json5_de.specs.Access.{Opened, NotOpened, AnswersFailedAtBracket}
 use Rattle.json5_de.specs.AnyTree.{RefusesTree}
 use Rattle.json5_de.specs.KeyRows.{RefusedAsKey, string_key}
 use Rattle.json5_de.specs.Objects.{SeenMap, PairsRead}
@@ -64,7 +64,7 @@ pub data PairsFault {S : Type 0} (step : Step S) (faults : ValueFaults) (start :
 -- pairs that are refused have one of these faults; where a call was refused before, this one answers `Failed` at the opening brace
 pub record RefusesPairs {S : Type 0} (step : Step S) (faults : ValueFaults) (start : S) (old : SeenMap) (result : Result (Unit {0}) Error) : Type 0 where
   pub cause : IfErr result (λ e. old.at.reader.failed ≡ false → PairsFault step faults start old e)
-  pub before : old.at.reader.failed ≡ true → IsErrAnd result (λ e. (kind_of e ≡ code codes.Failed) × IsAtBracket old.at e)
+  pub before : AnswersFailedAtBracket old.at result
 
 -- ---- the struct
 

@@ -45,7 +45,6 @@ pub struct IgnoredAny;
 /// Every value, without memory.
 impl<I: Input> Deserialize<I> for IgnoredAny {
     ghost use Rattle.json5_de.specs.AnyTree.{RefusesTree, every_value, nothing};
-    ghost use Rattle.json5_de.specs.Faults.{RefusedByOrMemory};
     ghost use Rattle.json5_de.specs.Rows.{every_tree};
 
     ghost Content = { Unit {0} };

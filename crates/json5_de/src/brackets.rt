@@ -1,12 +1,12 @@
 //! What arrays and objects share: their brackets, and the commas between their elements or pairs.
 
-ghost use Rattle.std.specs.Prelude.{◌≡◌, ◌==◌, false, true, ℕ, List, Some, slice_get, IfErr, OnErr, OnOk, IsOk, IsErrAnd};
+ghost use Rattle.std.specs.Prelude.{◌≡◌, ◌==◌, false, true, ℕ, List, Some, slice_get, IfErr, OnOk, IsOk};
 ghost use Rattle.json5_grammar.specs.declared.code.ErrorCode.TheVariants as codes;
 ghost use Rattle.json5_grammar.specs.Characters.{NotBegun};
 ghost use Rattle.json5_grammar.specs.Members.{IsEnd};
-ghost use Rattle.json5_de.specs.State.{SameText, GivesUp};
-ghost use Rattle.json5_de.specs.Faults.{RefusedBy, IsUnplaced};
-ghost use Rattle.json5_de.specs.Law.{Steady};
+ghost use Rattle.json5_de.specs.State.{SameText, GivesUpIfErr};
+ghost use Rattle.json5_de.specs.Faults.{RefusedBy};
+ghost use Rattle.json5_de.specs.Law.{AnswersFailed};
 ghost use Rattle.json5_value.specs.Brackets.{brackets_of};
 
 use crate::de::Deserializer;
@@ -23,7 +23,7 @@ impl<I: Input> Deserializer<I> {
     /// Takes an opening bracket, and gives the count of bytes before it.
     pub(crate) fn open(&mut self, kind: BracketKind) -> Result<usize>
         ensures opens { OpensAs (brackets_of kind) (λ start. record { reader = self.new; start = start; due = false }) self.old result }
-        ensures failed { OnErr result (GivesUp self.old self.new) }
+        ensures failed { GivesUpIfErr self.old self.new result }
     {
         self.begin()?;
         let brackets = kind.brackets();
@@ -95,7 +95,7 @@ impl<I: Input> Deserializer<I> {
         ensures refused { IfErr result (RefusedBy (NotClosed (brackets_of kind) due) self.old) }
         ensures same_text { SameText self.old self.new }
         ensures complete { (r : List ℕ) → self.old.failed ≡ false → IsEnd (brackets_of kind).closing due self.old.unread r → IsOk result }
-        ensures before { self.old.failed ≡ true → IsErrAnd result (IsUnplaced codes.Failed) }
+        ensures before { AnswersFailed self.old result }
     {
         self.begin()?;
         if !due {

@@ -3,7 +3,7 @@
 ghost use Rattle.std.specs.Prelude.{◌≡◌, ◌≤◌, ◌<◌, ◌+◌, ◌-◌, Bool, [], Some, true, false, IfOk, IfErr, OnOk};
 ghost use Rattle.std.specs.Str.{chars};
 ghost use Rattle.json5_text.specs.Errors.{FaultKind, kind_of};
-ghost use Rattle.json5_text.specs.Cursor.{IsPlaced, IsOffset, Locates};
+ghost use Rattle.json5_text.specs.Cursor.{IsPlaced, Locates};
 ghost use Rattle.json5_grammar.specs.Documents.{max_depth};
 ghost use Rattle.json5_grammar.specs.declared.code.ErrorCode.TheVariants as codes;
 ghost use Rattle.json5_value.specs.Keeping.{OwnsKey, ReadsDatum};

@@ -1,15 +1,12 @@
 //! Reading of enums: the name of a variant, and then its content.
 
-ghost use Rattle.std.specs.Prelude.{◌≡◌, true, false, Some, IfOk, OnErr};
+ghost use Rattle.std.specs.Prelude.{◌≡◌, true, false, Some, IfOk};
 ghost use Rattle.std.specs.Borrow.{sem};
 ghost use Rattle.json5_grammar.specs.declared.code.ErrorCode.TheVariants as codes;
 ghost use Rattle.json5_grammar.specs.Values.{Reads};
-ghost use Rattle.json5_grammar.specs.Members.{ReadsKey, IsBrace};
-ghost use Rattle.json5_de.specs.State.{GivesUp};
-ghost use Rattle.json5_de.specs.Convert.{spelled, place_among};
-ghost use Rattle.json5_de.specs.Faults.{IsUnplaced};
+ghost use Rattle.json5_de.specs.State.{GivesUpIfErr};
+ghost use Rattle.json5_de.specs.Convert.{spelled};
 ghost use Rattle.json5_value.specs.Brackets.{brackets_of};
-ghost use Rattle.json5_de.specs.Access.{ClosesAs};
 ghost use Rattle.json5_de.specs.Rows.{RefusedAs, null_row, every_tree};
 ghost use Rattle.json5_de.specs.Enums.{NamesVariant, ReadsVariant, ReadsOnlyKey, ReadsKeyed, ReadsInBrace, ClosesLast, ClosesContent, OpensContent, OpensTuple, OpensStruct, content_of, unit_content, content_free, is_left_brace};
 ghost use Rattle.json5_grammar.specs.Strings.{is_quote};
@@ -108,7 +105,7 @@ impl<I: Input> Deserializer<I> {
     /// Reads the name of a variant, a text or the only key of an object.
     fn named(&mut self, variants: &[&str]) -> Result<Named>
         ensures names { NamesVariant (spelled variants.now) (seen_named self.new) self.old result }
-        ensures failed { OnErr result (GivesUp self.old self.new) }
+        ensures failed { GivesUpIfErr self.old self.new result }
     {
         self.begin()?;
         let start = self.offset();
@@ -188,7 +185,7 @@ impl<I: Input> Deserializer<I> {
     /// has no content.
     fn open_content(&mut self, kind: BracketKind, name: &Named, expected: &str) -> Result<usize>
         ensures opens { OpensContent (brackets_of kind) (λ start. record { reader = self.new; start = start; due = false }) (seen_named self.old name.now) result }
-        ensures failed { OnErr result (GivesUp self.old self.new) }
+        ensures failed { GivesUpIfErr self.old self.new result }
     {
         if !name.has_content {
             return self.mismatch(name.start, &Mismatch::WithoutContent(expected));

@@ -2,8 +2,8 @@
 
 ghost use Rattle.std.specs.Prelude.{◌≡◌, true, false, Some, IfOk};
 ghost use Rattle.json5_grammar.specs.declared.code.ErrorCode.TheVariants as codes;
-ghost use Rattle.json5_text.specs.Errors.{code, kind_of};
-ghost use Rattle.json5_de.specs.Access.{IsAtBracket};
+ghost use Rattle.json5_text.specs.Errors.{code};
+ghost use Rattle.json5_de.specs.Access.{IsFailedAtBracket};
 ghost use Rattle.json5_de.specs.Law.{IsUnprompted};
 ghost use Rattle.json5_de.specs.Objects.{SetsPending};
 ghost use Rattle.json5_de.specs.Fields.{FieldRead, FieldRequired, IsOwnAtBracket, RefusesHere};
@@ -66,7 +66,7 @@ impl<'a, I: Input> MapAccess<'a, I> {
         ensures failed { (seen_map self.new).at.reader.failed ≡ true }
         ensures own { (seen_map self.old).at.reader.failed ≡ false → IsOwnAtBracket (seen_map self.old).at result }
         ensures unprompted { (seen_map self.old).at.reader.failed ≡ false → IsUnprompted result }
-        ensures before { (seen_map self.old).at.reader.failed ≡ true → (kind_of result ≡ code codes.Failed) × IsAtBracket (seen_map self.old).at result }
+        ensures before { (seen_map self.old).at.reader.failed ≡ true → IsFailedAtBracket (seen_map self.old).at result }
     {
         self.de.set_failed(true);
         if self.failed {

@@ -4,8 +4,7 @@ ghost use Rattle.std.specs.Prelude.{string_bytes};
 ghost use Rattle.json5_text.specs.Cows.{cow_bytes, is_borrowed};
 ghost use Rattle.json5_de.specs.ConvertLists.{if_some};
 ghost use Rattle.json5_de.specs.Options.{RefusesLive};
-ghost use Rattle.json5_de.specs.Keys.{ReadsOneKey};
-ghost use Rattle.json5_de.specs.KeyRows.{ReadsKeyAs, string_key, char_key, plain_key, cow_key, some_of};
+ghost use Rattle.json5_de.specs.KeyRows.{string_key, char_key, plain_key, cow_key, some_of};
 
 use crate::any::IgnoredAny;
 use crate::key::{DeserializeKey, MapKey};

@@ -7,7 +7,7 @@ ghost use Rattle.json5_grammar.specs.Trees.{Tree};
 ghost use Rattle.json5_grammar.specs.Members.{NoPairGoes, IsKeyValue};
 ghost use Rattle.json5_text.specs.Cursor.{Locates};
 ghost use Rattle.json5_text.specs.Errors.{kind_of};
-ghost use Rattle.json5_de.specs.State.{GivesUp};
+ghost use Rattle.json5_de.specs.State.{GivesUpIfErr};
 ghost use Rattle.json5_de.specs.Law.{Steady};
 ghost use Rattle.json5_de.specs.Faults.{RefusedBy};
 ghost use Rattle.json5_value.specs.Brackets.{curly};
@@ -182,7 +182,7 @@ impl<I: Input> Deserializer<I> {
         ensures passed { OnOk result (AfterColon self.old self.new) }
         ensures refused { IfErr result (RefusedBy NoColon self.old) }
         ensures complete { (t : Tree) (r : List ℕ) → self.old.failed ≡ false → IsKeyValue self.old.unread t r → IsOk result }
-        ensures failed { OnErr result (GivesUp self.old self.new) }
+        ensures failed { GivesUpIfErr self.old self.new result }
         ensures steady { Steady self.old self.new result }
     {
         self.begin()?;

@@ -1,7 +1,7 @@
 //! Short ways: values and steps that are read at once where no fault can come. They answer numbers alone, so that no fault stands in
 //! the frame of the caller. Where they answer nothing, nothing has changed, and the reader's other calls say what is there.
 
-ghost use Rattle.std.specs.Prelude.{◌≡◌, ◌≤◌, ◌+◌, ◌≤ℤ◌, ◌-ℤ◌, pos, neg_ℤ, nat_abs, MatchOption, IfSome};
+ghost use Rattle.std.specs.Prelude.{◌≡◌, ◌≤◌, ◌+◌, ◌≤ℤ◌, ◌-ℤ◌, pos, neg_ℤ, nat_abs, IfSome};
 ghost use Rattle.json5_value.specs.Brackets.{brackets_of};
 ghost use Rattle.json5_de.specs.Rows.{natural_row, integer_row};
 ghost use Rattle.json5_de.specs.Short.{ReadsShort, StepsShort};

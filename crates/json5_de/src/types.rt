@@ -407,7 +407,6 @@ impl<I: Input> Deserialize<I> for Value {
     ghost use Rattle.json5_text.specs.ValueViews.{Datum, value_of};
     ghost use Rattle.json5_de.specs.AnyTree.{RefusesTree, ReadsTree};
     ghost use Rattle.json5_de.specs.Convert.{every_datum};
-    ghost use Rattle.json5_de.specs.Faults.{RefusedByOrMemory};
     ghost use Rattle.json5_de.specs.Rows.{no_tree};
 
     ghost Content = { Datum };
