@@ -1,5 +1,5 @@
 -- What each type takes of a tree: at most one content.
-use Rattle.std.specs.Prelude.{ℕ, Bool, true, false, if◌then◌else◌, nat_lt, List, [], ◌∷◌, map, ℤ, pos, negsuc, nat_abs, Option, Some, None}
+use Rattle.std.specs.Prelude.{◌≤◌, ◌≤ℤ◌, ◌-ℤ◌, neg_ℤ, ℕ, Bool, true, false, if◌then◌else◌, nat_lt, List, [], ◌∷◌, map, ℤ, pos, negsuc, nat_abs, Option, Some, None}
 use Rattle.std.specs.Fmt as numerals
 use Rattle.std.specs.Borrow.{Bor}
 use Rattle.std.specs.List.{position}
@@ -42,6 +42,13 @@ natural_below bound (negsuc n) = None
 abbrev pub integer_below : ℕ → ℤ → Option ℤ
 integer_below bound (pos n) = if nat_lt n bound then Some (pos n) else None
 integer_below bound (negsuc n) = if nat_lt n bound then Some (negsuc n) else None
+
+-- at most `max`; and from `-max - 1` to `max`
+abbrev pub IsUpTo : ℕ → ℕ → Type 0
+IsUpTo max n = n ≤ max
+
+abbrev pub IsWithin : ℤ → ℤ → Type 0
+IsWithin max n = ((neg_ℤ max -ℤ pos 1) ≤ℤ n) × (n ≤ℤ max)
 
 abbrev pub unsigned_below : ℕ → Tree → Option ℕ
 unsigned_below bound = as_number (as_whole (natural_below bound))

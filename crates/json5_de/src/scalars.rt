@@ -1,6 +1,7 @@
 //! Reading of null, booleans and numbers.
 
-ghost use Rattle.std.specs.Prelude.{◌≤◌, ◌+◌, ◌^◌, ◌≤ℤ◌, ◌-ℤ◌, pos, neg_ℤ, nat_abs, Some, IfOk};
+ghost use Rattle.std.specs.Prelude.{◌+◌, ◌^◌, ◌≤ℤ◌, pos, nat_abs, Some, IfOk};
+ghost use Rattle.json5_de.specs.Convert.{IsUpTo, IsWithin};
 ghost use Rattle.json5_de.specs.Rows.{ReadsAs, ReadsNull, bool_row, whole_row, natural_row, integer_row, decimal_row};
 ghost use Rattle.json5_de.specs.Steps.{WholeAt};
 
@@ -69,7 +70,7 @@ impl<I: Input> Deserializer<I> {
     #[inline(never)]
     fn natural(&mut self, max: u128, name: &str) -> Result<u128>
         ensures reads { ReadsAs (natural_row (max + 1)) (λ n. n) self.old self.new result }
-        ensures fits { IfOk result (λ n. n ≤ max) }
+        ensures fits { IfOk result (IsUpTo max) }
     {
         let (start, whole) = self.whole(name)?;
         let Some(natural) = unsigned(whole, max) else {
@@ -83,8 +84,7 @@ impl<I: Input> Deserializer<I> {
     fn signed_integer(&mut self, max: i128, name: &str) -> Result<i128>
         requires { pos 0 ≤ℤ max }
         ensures reads { ReadsAs (integer_row (nat_abs max + 1)) (λ n. n) self.old self.new result }
-        ensures low { IfOk result (λ n. (neg_ℤ max -ℤ pos 1) ≤ℤ n) }
-        ensures high { IfOk result (λ n. n ≤ℤ max) }
+        ensures fits { IfOk result (IsWithin max) }
     {
         let (start, whole) = self.whole(name)?;
         let Some(integer) = signed(whole, max) else {

@@ -1,8 +1,9 @@
 //! Short ways: values and steps that are read at once where no fault can come. They answer numbers alone, so that no fault stands in
 //! the frame of the caller. Where they answer nothing, nothing has changed, and the reader's other calls say what is there.
 
-ghost use Rattle.std.specs.Prelude.{◌≡◌, ◌≤◌, ◌+◌, ◌≤ℤ◌, ◌-ℤ◌, pos, neg_ℤ, nat_abs, IfSome};
+ghost use Rattle.std.specs.Prelude.{◌≡◌, ◌+◌, ◌≤ℤ◌, pos, nat_abs, IfSome};
 ghost use Rattle.json5_value.specs.Brackets.{brackets_of};
+ghost use Rattle.json5_de.specs.Convert.{IsUpTo, IsWithin};
 ghost use Rattle.json5_de.specs.Rows.{natural_row, integer_row};
 ghost use Rattle.json5_de.specs.Short.{ReadsShort, StepsShort};
 
@@ -16,7 +17,7 @@ impl<I: Input> Deserializer<I> {
     #[inline(always)]
     pub(crate) fn short_natural(&mut self, max: u64) -> Option<u64>
         ensures reads { ReadsShort (natural_row (max + 1)) (λ n. n) self.old self.new result }
-        ensures fits { IfSome result (λ n. n ≤ max) }
+        ensures fits { IfSome result (IsUpTo max) }
     {
         if self.failed {
             return None;
@@ -30,8 +31,7 @@ impl<I: Input> Deserializer<I> {
     pub(crate) fn short_integer(&mut self, max: i128) -> Option<i128>
         requires { pos 0 ≤ℤ max }
         ensures reads { ReadsShort (integer_row (nat_abs max + 1)) (λ n. n) self.old self.new result }
-        ensures low { IfSome result (λ n. (neg_ℤ max -ℤ pos 1) ≤ℤ n) }
-        ensures high { IfSome result (λ n. n ≤ℤ max) }
+        ensures fits { IfSome result (IsWithin max) }
     {
         if self.failed {
             return None;
