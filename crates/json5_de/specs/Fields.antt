@@ -12,7 +12,7 @@ use Rattle.json5_de.specs.ConvertLists.{if_some}
 use Rattle.json5_de.specs.Law.{Unprompted}
 use Rattle.json5_de.specs.Own.{if_more}
 use Rattle.json5_de.specs.Access.{Seen, IsAtBracket, AnswersFailedAtBracket}
-use Rattle.json5_de.specs.Objects.{SeenMap, PairsLeft, ReadsAPair, LeavesPairs}
+use Rattle.json5_de.specs.Objects.{SeenMap, KeepsPending, PairsLeft, ReadsAPair, LeavesPairs}
 use Rattle.json5_de.specs.ObjectFaults.{ValueRefusedAtBrace}
 
 -- ---- what a struct takes of an object
@@ -90,7 +90,7 @@ pub record FieldRequired {V : Type 0} (old new : SeenMap) (field : Option V) (re
   pub live : OnOk result (old.at.reader.failed ≡ false)
   pub same : OnOk result (new ≡ old)
   pub missing : IfErr result (λ e. old.at.reader.failed ≡ false → (field ≡ None) × IsOwnAtBracket old.at e)
-  pub pending : new.pending ≡ old.pending
+  pub pending : KeepsPending old new
   pub unprompted : Unprompted old.at.reader result
   pub failed : FailsIfErr new.at.reader result
   pub before : AnswersFailedAtBracket old.at result

@@ -73,6 +73,17 @@ module _ {I : Type 0} where
   abbrev pub seen_map : MapAccess I → SeenMap
   seen_map m = record { at = record { reader = record m.de.now { failed = m.failed }; start = m.start; due = is_comma_due m.stage }; pending = is_pending m.stage }
 
+  -- a key was read whose value wasn't, or none was
+  abbrev pub KeyPending : MapAccess I → Type 0
+  KeyPending m = (seen_map m).pending ≡ true
+
+  abbrev pub NoKeyPending : MapAccess I → Type 0
+  NoKeyPending m = (seen_map m).pending ≡ false
+
+  -- the value of the pending key is taken; a refusal leaves the key pending
+  abbrev pub TakesPendingKey : {V : Type 0} → MapAccess I → MapAccess I → Result V Error → Type 0
+  TakesPendingKey old new result = SetsPending (λ _. false) (seen_map old) (seen_map new) result
+
   -- the same of an access to an object
   abbrev pub HoldsMap : MutBor State → MapAccess I → Type 0
   HoldsMap reader m = m.de.ghost_name ≡ reader.ghost_name
@@ -193,7 +204,7 @@ pub record ReadsNextKey {I K C : Type 0} (content : K → C) (convert : KeyConve
 -- the value of the key that was read last
 pub record ReadsNextValue {I V C : Type 0} (content : V → C) (convert : Tree → Option C) (refuses : State → Error → State → Type 0) (old new : MapAccess I) (result : Result V Error) : Type 0 where
   pub access : KeepsMap old new
-  pub pending : SetsPending (λ v. false) (seen_map old) (seen_map new) result
+  pub pending : TakesPendingKey old new result
   pub sound : IfOk result (GivesPairValue content convert (seen_map old) (seen_map new))
   pub complete : ReadsPairValue content convert (seen_map old) result
   pub shorter : IfOk result (λ v. length (seen_map new).at.reader.unread < length (seen_map old).at.reader.unread)

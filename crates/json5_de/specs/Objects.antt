@@ -139,10 +139,14 @@ LeavesOthers content convert old new result = (u : List ℕ) (plain : Bool) (t :
 
 -- ---- what the calls mean
 
+-- a key is pending as it was
+abbrev pub KeepsPending : SeenMap → SeenMap → Type 0
+KeepsPending old new = new.pending ≡ old.pending
+
 -- whether a key waits for its value, which a call that is refused leaves as it was
 pub record SetsPending {V : Type 0} (waits : V → Bool) (old new : SeenMap) (result : Result V Error) : Type 0 where
   pub given : IfOk result (λ v. new.pending ≡ waits v)
-  pub kept : OnErr result (new.pending ≡ old.pending)
+  pub kept : OnErr result (KeepsPending old new)
 
 -- an object is opened by an access that holds the reader so: nothing was read of it, and where one can be read its pairs are left
 pub record OpensMap {A : Type 0} (Held : A → Type 0) (seen : A → SeenMap) (old : State) (result : Result A Error) : Type 0 where

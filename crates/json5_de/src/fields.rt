@@ -1,15 +1,15 @@
 //! Fields of a struct, which are read as the pairs of an object come.
 
-ghost use Rattle.std.specs.Prelude.{◌≡◌, true, false, Some, IfOk};
+ghost use Rattle.std.specs.Prelude.{◌≡◌, true, false, Some, IfOk, OnOk};
 ghost use Rattle.json5_grammar.specs.declared.code.ErrorCode.TheVariants as codes;
 ghost use Rattle.json5_text.specs.Errors.{code};
 ghost use Rattle.json5_de.specs.Access.{IsFailedAtBracket};
 ghost use Rattle.json5_de.specs.Law.{IsUnprompted};
-ghost use Rattle.json5_de.specs.Objects.{SetsPending};
+ghost use Rattle.json5_de.specs.Objects.{KeepsPending};
 ghost use Rattle.json5_de.specs.Fields.{FieldRead, FieldRequired, IsOwnAtBracket, RefusesHere};
 ghost use Rattle.json5_de.specs.Plans.{PassesPair, ReadsPairs};
 ghost use Rattle.json5_de.specs.StructFaults.{RefusesPairs};
-ghost use Rattle.json5_de.specs.Lending.{seen_map, KeepsMap};
+ghost use Rattle.json5_de.specs.Lending.{seen_map, KeepsMap, KeyPending, NoKeyPending, TakesPendingKey};
 
 use crate::any::IgnoredAny;
 use crate::de::Deserialize;
@@ -24,7 +24,7 @@ pub trait Fields<I: Input>: Sized + Drop {
     ghost use Rattle.std.specs.Prelude.{⊤};
     ghost use Rattle.json5_de.specs.Plans.{Step, TakesPair};
     ghost use Rattle.json5_de.specs.StructFaults.{ValueFaults, RefusesPair};
-    ghost use Rattle.json5_de.specs.Lending.{seen_map, KeepsMap};
+    ghost use Rattle.json5_de.specs.Lending.{seen_map, KeepsMap, KeyPending, NoKeyPending, TakesPendingKey};
 
     // What of them counts.
     ghost Content: { Type 0 };
@@ -40,9 +40,9 @@ pub trait Fields<I: Input>: Sized + Drop {
     /// Reads the value of the key that was read last, which has this name: into its field by `MapAccess::next_field`, or past
     /// it where there is none.
     fn read(&mut self, map: &mut MapAccess<'_, I>, name: &str) -> Result<()>
-        requires key { (seen_map map.old).pending ≡ true }
+        requires key { KeyPending map.old }
         ensures access { KeepsMap map.old map.new }
-        ensures pending { IfOk result (λ _. (seen_map map.new).pending ≡ false) }
+        ensures pending { OnOk result (NoKeyPending map.new) }
         ensures takes { TakesPair step (content self.old) (content self.new) name.now (seen_map map.old) (seen_map map.new) result }
         ensures refused { RefusesPair refuses step (content self.old) name.now (seen_map map.old) result };
 }
@@ -62,7 +62,7 @@ impl<'a, I: Input> MapAccess<'a, I> {
     /// Refuses a field that has a value.
     fn duplicate(&mut self, name: &str) -> Error
         ensures access { KeepsMap self.old self.new }
-        ensures pending { (seen_map self.new).pending ≡ (seen_map self.old).pending }
+        ensures pending { KeepsPending (seen_map self.old) (seen_map self.new) }
         ensures failed { (seen_map self.new).at.reader.failed ≡ true }
         ensures own { (seen_map self.old).at.reader.failed ≡ false → IsOwnAtBracket (seen_map self.old).at result }
         ensures unprompted { (seen_map self.old).at.reader.failed ≡ false → IsUnprompted result }
@@ -80,9 +80,9 @@ impl<'a, I: Input> MapAccess<'a, I> {
     /// value is a custom fault ``duplicate field `name` `` at the opening brace, before anything of the second value is read.
     /// A refusal leaves the field as it was, and every later call answers `Failed`.
     pub fn next_field<V: Deserialize<I>>(&mut self, name: &str, field: &mut Option<V>) -> Result<()>
-        requires key { (seen_map self.old).pending ≡ true }
+        requires key { KeyPending self.old }
         ensures access { KeepsMap self.old self.new }
-        ensures pending { SetsPending (λ _. false) (seen_map self.old) (seen_map self.new) result }
+        ensures pending { TakesPendingKey self.old self.new result }
         ensures reads { FieldRead V.content V.convert V.refuses (seen_map self.old) (seen_map self.new) field.old field.new result }
     {
         if field.is_some() {
@@ -95,9 +95,9 @@ impl<'a, I: Input> MapAccess<'a, I> {
 
     /// Passes over the value of the key that was read last, as `next_value::<IgnoredAny>` does.
     pub fn skip_value(&mut self) -> Result<()>
-        requires key { (seen_map self.old).pending ≡ true }
+        requires key { KeyPending self.old }
         ensures access { KeepsMap self.old self.new }
-        ensures pending { SetsPending (λ _. false) (seen_map self.old) (seen_map self.new) result }
+        ensures pending { TakesPendingKey self.old self.new result }
         ensures passes { PassesPair (seen_map self.old) (seen_map self.new) result }
         ensures cause { RefusesHere ⟦<IgnoredAny as Deserialize<I>>⟧.refuses (seen_map self.old) result }
     {
@@ -129,9 +129,9 @@ impl<'a, I: Input> MapAccess<'a, I> {
     /// refusal is that of `next_key::<String>`, or of the field's `read`, after the pairs that were read before. After a refusal
     /// every later call answers `Failed`.
     pub fn read_fields<F: Fields<I>>(&mut self, fields: &mut F) -> Result<()>
-        requires no_key { (seen_map self.old).pending ≡ false }
+        requires no_key { NoKeyPending self.old }
         ensures access { KeepsMap self.old self.new }
-        ensures pending { IfOk result (λ _. (seen_map self.new).pending ≡ false) }
+        ensures pending { OnOk result (NoKeyPending self.new) }
         ensures reads { ReadsPairs F.step (F.content fields.old) (F.content fields.new) (seen_map self.old) (seen_map self.new) result }
         ensures refused { RefusesPairs F.step F.refuses (F.content fields.old) (seen_map self.old) result }
     {

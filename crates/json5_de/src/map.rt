@@ -205,7 +205,7 @@ impl<I: Input> Deserializer<I> {
 }
 
 impl<'a, I: Input> MapAccess<'a, I> {
-    ghost use Rattle.json5_de.specs.Lending.{seen_map, map_brace, SettlesMap, ReadsNextKey, ReadsNextValue};
+    ghost use Rattle.json5_de.specs.Lending.{seen_map, KeyPending, NoKeyPending, map_brace, SettlesMap, ReadsNextKey, ReadsNextValue};
 
     /// Blocks the reader again after a call of its own, and keeps in mind that one was refused. A fault without a place gets the
     /// opening brace's.
@@ -228,7 +228,7 @@ impl<'a, I: Input> MapAccess<'a, I> {
     /// place, but for `EofParsing..`, `OutOfMemory` and `Failed`, which get the opening brace's. After a refusal every later call
     /// answers `Failed`.
     pub fn next_key<K: DeserializeKey<I>>(&mut self) -> Result<Option<K>>
-        requires no_key { (seen_map self.old).pending ≡ false }
+        requires no_key { NoKeyPending self.old }
         ensures { ReadsNextKey K.content K.convert K.refuses self.old self.new result }
     {
         self.de.set_failed(self.failed);
@@ -242,7 +242,7 @@ impl<'a, I: Input> MapAccess<'a, I> {
     /// text ends before it; else the value's own faults come. A fault without a place gets the opening brace's. After a refusal
     /// every later call answers `Failed`.
     pub fn next_value<V: Deserialize<I>>(&mut self) -> Result<V>
-        requires key { (seen_map self.old).pending ≡ true }
+        requires key { KeyPending self.old }
         ensures { ReadsNextValue V.content V.convert V.refuses self.old self.new result }
     {
         self.de.set_failed(self.failed);
@@ -281,7 +281,7 @@ impl<'a, I: Input> MapAccess<'a, I> {
     /// As the content of a variant the object is closed in the same way, and then the variant's brace: a fault of the object's own
     /// brace without a place gets the variant's.
     pub fn end(self) -> Result<()>
-        requires no_key { (seen_map self).pending ≡ false }
+        requires no_key { NoKeyPending self }
         ensures { EndsObject (map_brace self.entry) (seen_map self.entry) self.exit.0.now result }
     {
         let MapAccess {
