@@ -1,5 +1,5 @@
 -- An access and the reader that is lent to it.
-use Rattle.std.specs.Prelude.{◌≡◌, ◌<◌, ℕ, Bool, true, false, List, length, Option, is_some, Result, Ok, IfOk, IfErr, IfSome, IsErrAnd, MatchResult}
+use Rattle.std.specs.Prelude.{◌≡◌, ◌<◌, ℕ, Bool, true, false, List, length, Option, None, is_some, Result, Ok, IfOk, IfErr, IfSome, IsErrAnd, MatchResult}
 use Rattle.json5_value.specs.Brackets.{square, curly}
 use Rattle.std.specs.Borrow.{Fml, GName, RattleType, MutBor, RestsIfErr}
 use Rattle.json5_text.specs.declared.error.Error.{Error}
@@ -10,12 +10,12 @@ use Rattle.json5_text.specs.Bytes.{bytes_of}
 use Rattle.json5_text.specs.Cows.{cow_bytes, is_borrowed}
 use Rattle.json5_de.specs.State.{State, SameText, GivesUp}
 use Rattle.json5_grammar.specs.Trees.{Tree, Trees, Pairs}
-use Rattle.json5_de.specs.Access.{Seen, PlacedAtBracket, GivesElement, ReadsElement, CompletesClose, ReadsMore, ElementsLeft, LeavesFewer}
+use Rattle.json5_de.specs.Access.{Seen, OpensArray, PlacedAtBracket, GivesElement, ReadsElement, CompletesClose, ReadsMore, ElementsLeft, LeavesFewer}
 use Rattle.json5_de.specs.Seq.{RefusesNext}
 use Rattle.json5_de.specs.Keys.{KeyConversion, ReadsOneKey}
 use Rattle.json5_de.specs.Rows.{null_row}
 use Rattle.json5_de.specs.KeyRows.{KeyRow, RefusedAsKey, bytes_key, cow_key, document_key}
-use Rattle.json5_de.specs.Objects.{SeenMap, SetsPending, GivesPairKey, GivesPairValue, ReadsPairKey, ReadsPairValue, ReadsAKey, ReadsAPair, PairsLeft, LeavesAValue, LeavesOthers}
+use Rattle.json5_de.specs.Objects.{SeenMap, OpensMap, SetsPending, GivesPairKey, GivesPairValue, ReadsPairKey, ReadsPairValue, ReadsAKey, ReadsAPair, PairsLeft, LeavesAValue, LeavesOthers}
 use Rattle.json5_de.specs.ObjectFaults.{RefusesNextKey, RefusesNextValue}
 use Rattle.json5_de.specs.Stages.{is_comma_due, is_pending}
 use Rattle.json5_de.specs.Enums.{SeenEnum}
@@ -164,6 +164,13 @@ pub record HoldsMapBlocked {I : Type 0} (reader : MutBor State) (brace : Option 
   pub same_reference : HoldsMap reader m
   pub blocks : BlocksMapReader m
   pub closes : map_brace m ≡ brace
+
+-- an array is opened by an access that holds this reader, and whose end closes no brace; an object likewise
+abbrev pub OpensSeqAccess : {I : Type 0} → MutBor State → State → Result (SeqAccess I) Error → Type 0
+OpensSeqAccess reader old result = OpensArray (HoldsBlocked reader None) seen old result
+
+abbrev pub OpensMapAccess : {I : Type 0} → MutBor State → State → Result (MapAccess I) Error → Type 0
+OpensMapAccess reader old result = OpensMap (HoldsMapBlocked reader None) seen_map old result
 
 -- a call of the access keeps its reference, blocks the reader, and leaves the bracket and the text where they were
 pub record KeepsAccess {I : Type 0} (old new : SeqAccess I) : Type 0 where

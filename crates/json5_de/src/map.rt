@@ -13,7 +13,7 @@ ghost use Rattle.json5_de.specs.Faults.{RefusedBy};
 ghost use Rattle.json5_value.specs.Brackets.{curly};
 ghost use Rattle.json5_value.specs.Places.{StartsAfter};
 ghost use Rattle.json5_de.specs.Access.{bare, PlacedAtBracket, CompletesClose};
-ghost use Rattle.json5_de.specs.Objects.{AfterColon, bare_map, OpensMap, GivesPairKey, GivesPairValue, CompletesPairKey, CompletesPairValue};
+ghost use Rattle.json5_de.specs.Objects.{AfterColon, bare_map, GivesPairKey, GivesPairValue, CompletesPairKey, CompletesPairValue};
 ghost use Rattle.json5_de.specs.Enums.{EndsObject};
 ghost use Rattle.json5_de.specs.ObjectFaults as faults;
 ghost use Rattle.json5_de.specs.ObjectFaults.{BeginsKey, GoesToKey, NoColon, NoKey, PlacedAtKey, is_unplaced, RefusesPairKey, RefusesPairValue};
@@ -90,13 +90,13 @@ fn is_unplaced(error: &Error) -> bool
 
 impl<I: Input> Deserializer<I> {
     ghost use Rattle.json5_grammar.specs.Characters.{NotBegun};
-    ghost use Rattle.json5_de.specs.Lending.{seen_map, HoldsMapBlocked, lends_to_map};
+    ghost use Rattle.json5_de.specs.Lending.{OpensMapAccess, lends_to_map};
 
     /// Opens an object, and blocks the reader while the access reads its pairs. `ExpectedOpeningBrace` stands at another
     /// character, `TooDeep` at the bracket past the limit; `EofParsingObject` at the end has no place.
     pub fn deserialize_map(&mut self) -> Result<MapAccess<'_, I>>
         ensures* lends { sem 𝓛 (lends_to_map I.row I.Input self.entry result) }
-        ensures opens { OpensMap (HoldsMapBlocked self.entry None) seen_map self.old result }
+        ensures opens { OpensMapAccess self.entry self.old result }
     {
         let start = self.open(BracketKind::Object)?;
         self.set_failed(true);
@@ -116,7 +116,7 @@ impl<I: Input> Deserializer<I> {
         _fields: &'static [&'static str],
     ) -> Result<MapAccess<'_, I>>
         ensures* lends { sem 𝓛 (lends_to_map I.row I.Input self.entry result) }
-        ensures opens { OpensMap (HoldsMapBlocked self.entry None) seen_map self.old result }
+        ensures opens { OpensMapAccess self.entry self.old result }
     {
         self.deserialize_map()
     }

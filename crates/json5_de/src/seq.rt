@@ -7,7 +7,7 @@ ghost use Rattle.json5_grammar.specs.Trees.{Trees};
 ghost use Rattle.json5_text.specs.Cursor.{Locates};
 ghost use Rattle.json5_value.specs.Brackets.{square};
 ghost use Rattle.json5_de.specs.Law.{Steady, Unprompted};
-ghost use Rattle.json5_de.specs.Access.{bare, OpensArray, GivesElement, CompletesElement, CompletesClose, PlacedAtBracket, ElementsLeft, ReadsMore};
+ghost use Rattle.json5_de.specs.Access.{bare, GivesElement, CompletesElement, CompletesClose, PlacedAtBracket, ElementsLeft, ReadsMore};
 ghost use Rattle.json5_de.specs.Enums.{EndsArray};
 ghost use Rattle.json5_de.specs.Lists.{IsTooShort, LeavesRequired, RefusesRequired};
 ghost use Rattle.json5_de.specs.Seq.{RefusesElement};
@@ -51,7 +51,7 @@ impl<I: Input> Drop for SeqAccess<'_, I> {
 }
 
 impl<I: Input> Deserializer<I> {
-    ghost use Rattle.json5_de.specs.Lending.{seen, HoldsBlocked, lends_reader};
+    ghost use Rattle.json5_de.specs.Lending.{OpensSeqAccess, lends_reader};
 
     /// The next element of an array, or none where the closing bracket is next.
     #[inline(always)]
@@ -73,7 +73,7 @@ impl<I: Input> Deserializer<I> {
     /// character, `TooDeep` at the bracket past the limit; `EofParsingArray` at the end has no place.
     pub fn deserialize_seq(&mut self) -> Result<SeqAccess<'_, I>>
         ensures* lends { sem 𝓛 (lends_reader I.row I.Input self.entry result) }
-        ensures opens { OpensArray (HoldsBlocked self.entry None) seen self.old result }
+        ensures opens { OpensSeqAccess self.entry self.old result }
     {
         let start = self.open(BracketKind::Array)?;
         self.set_failed(true);
@@ -89,7 +89,7 @@ impl<I: Input> Deserializer<I> {
     /// As `deserialize_seq`. The length changes nothing.
     pub fn deserialize_tuple(&mut self, _length: usize) -> Result<SeqAccess<'_, I>>
         ensures* lends { sem 𝓛 (lends_reader I.row I.Input self.entry result) }
-        ensures opens { OpensArray (HoldsBlocked self.entry None) seen self.old result }
+        ensures opens { OpensSeqAccess self.entry self.old result }
     {
         self.deserialize_seq()
     }
@@ -101,7 +101,7 @@ impl<I: Input> Deserializer<I> {
         length: usize,
     ) -> Result<SeqAccess<'_, I>>
         ensures* lends { sem 𝓛 (lends_reader I.row I.Input self.entry result) }
-        ensures opens { OpensArray (HoldsBlocked self.entry None) seen self.old result }
+        ensures opens { OpensSeqAccess self.entry self.old result }
     {
         self.deserialize_tuple(length)
     }
