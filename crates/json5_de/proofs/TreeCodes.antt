@@ -1,12 +1,11 @@
 -- The codes where a value of any kind is expected: at the end, and at a character that begins none.
 use Rattle.std.proofs.Common.{◌≡◌, ℕ, ◌-◌, ◌≤◌, Bool, true, false, ◌||◌, List, [], ◌∷◌, ◌++◌, length, refl, ap, sym, ◌∙◌, arith, length-append, Option, Some, None}
 use Rattle.std.specs.Prelude.{◌==◌, nat_le, if◌then◌else◌, Result, Ok, Err, IfOk, IfErr}
-use Rattle.std.proofs.lemmas.Bool.{or_parts}
 use Rattle.std.proofs.lemmas.Bool.Decides.{nat_tests}
-use Rattle.std.proofs.lemmas.List.{append-nil}
 use Rattle.json5_grammar.specs.declared.code.ErrorCode.{ErrorCode}
 use Rattle.json5_grammar.specs.declared.code.ErrorCode.TheVariants as codes
 use Rattle.json5_grammar.specs.Documents.{max_depth}
+use Rattle.json5_grammar.specs.Faults.{begins_value}
 use Rattle.json5_grammar.specs.Reading.{Read, Place, here, inner, got, bad, IsAt}
 use Rattle.json5_grammar.specs.ReadValues.{read}
 use Rattle.json5_grammar.specs.Trees.{Tree, depth}
@@ -15,17 +14,13 @@ use Rattle.json5_grammar.proofs.ValueHeads.{val_head}
 use Rattle.json5_grammar.proofs.ValuesRead.{read_complete}
 use Rattle.json5_grammar.proofs.ValueSteps.{read_missing, read_nothing}
 use Rattle.json5_text.specs.declared.error.Error.{Error}
-use Rattle.json5_value.specs.declared.kinds.ValueKind.{ValueKind}
-use Rattle.json5_value.specs.declared.kinds.ValueKind.TheVariants as kind
 use Rattle.json5_de.proofs.TreeFaults.{as_reading}
 use Rattle.json5_text.specs.Cursor.{IsOutOfMemory}
 use Rattle.json5_de.specs.AnyTree.{ReadingRefuses, RefusedInReading, ReadsTree, TellsTreesApart}
-use Rattle.json5_value.specs.Kinds.{begins_value, is_scalar_kind, kind_at}
 use Rattle.json5_de.specs.Law.{Gives}
 use Rattle.json5_de.specs.State.{State}
 use Rattle.json5_de.proofs.Expected.{Expected, ends_or_memory, differs_or_memory}
 use Rattle.json5_de.proofs.TreesRead.{forget_bad}
-use Rattle.json5_value.proofs.Scalars.{tests_of}
 
 -- the trees that may stand within so many brackets
 abbrev shallow : {C : Type 0} → ℕ → (Tree → Option C) → Tree → Option C
@@ -34,18 +29,11 @@ shallow level convert t = if nat_le (depth t) (max_depth - level) then convert t
 abbrev fault : Option ErrorCode → Place → Read Tree
 fault reason p = bad reason p
 
-other_kind : (k : ValueKind) → is_scalar_kind k ≡ false → k ≡ kind.Other
-other_kind kind.Other e = refl
-other_kind (kind.Literal l) e = absurd (cc)
-other_kind kind.String e = absurd (cc)
-other_kind kind.Number e = absurd (cc)
-
 other_read : (d c : ℕ) (r : List ℕ) → begins_value c ≡ false → read d (c ∷ r) ≡ bad (Some codes.ExpectedValue) (here (c ∷ r))
 other_read d c r h =
-    let a = or_parts (c == 91) ((c == 123) || is_scalar_kind (kind_at c)) h in
-    let b = or_parts (c == 123) (is_scalar_kind (kind_at c)) a.1 in
-    let t = tests_of c (kind_at c) kind.Other refl (other_kind (kind_at c) b.1) in
-    forget_bad (read d (c ∷ r)) (Some codes.ExpectedValue) (here (c ∷ r)) (read_nothing d c r t.0 t.1 t.2 t.3 t.4 a.0 b.0)
+    forget_bad (read d (c ∷ r)) (Some codes.ExpectedValue) (here (c ∷ r))
+    (read_nothing d c r (grind (arith, nat_tests)) (grind (arith, nat_tests)) (grind (arith, nat_tests)) (grind (arith, nat_tests))
+    (grind (arith, nat_tests)) (grind (arith, nat_tests)) (grind (arith, nat_tests)))
 
 at_end : (level : ℕ) (reason : Option ErrorCode) (place : Option (List ℕ)) → ReadingRefuses level [] reason place → (reason ≡ Some codes.EofParsingValue) × (place ≡ None)
 at_end level reason place (p, is, at) = by_place p place (sym is ∙ forget_bad (read (max_depth - level) []) (Some codes.EofParsingValue) inner (read_missing (max_depth - level))) at
@@ -75,14 +63,7 @@ no_fault level convert s r t v reason place e val stops (p, is, at) = by_test (n
     by_test true h k = let low : depth t ≤ max_depth - level = grind (arith, nat_tests) in let clash : got t r ≡ bad reason p = sym (read_complete val r stops (max_depth - level) low) ∙ is in absurd (cc)
 
 first : (s : List ℕ) (t : Tree) → Val s t → (c : ℕ) × (y : List ℕ) × (s ≡ c ∷ y) × (begins_value c ≡ true)
-first s t val = let h = val_head val in (h.char, h.more, h.is, by_test (begins_value h.char) refl h.is)
-  where
-    by_test : {c : ℕ} {y : List ℕ} (b : Bool) → begins_value c ≡ b → s ≡ c ∷ y → begins_value c ≡ true
-    by_test true e is = e
-    by_test {c = c} {y = y} false e is =
-        let clash : got t [] ≡ bad (Some codes.ExpectedValue) (here (c ∷ y)) =
-        sym (read_complete val [] tt (depth t) (omega arith)) ∙ ap (read (depth t)) (append-nil s ∙ is) ∙ other_read (depth t) c y e in
-        absurd (cc)
+first s t val = let h = val_head val in (h.char, h.more, h.is, h.begins)
 
 expects_tree : {C : Type 0} (level : ℕ) (convert : Tree → Option C) → Expected (ReadingRefuses level) (shallow level convert) begins_value codes.EofParsingValue codes.ExpectedValue
 expects_tree level convert = record {

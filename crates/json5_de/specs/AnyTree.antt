@@ -2,6 +2,7 @@
 use Rattle.std.specs.Prelude.{◌≡◌, ◌⊎◌, ◌-◌, ℕ, Bool, false, Option, Some, Result}
 use Rattle.json5_grammar.specs.declared.code.ErrorCode.TheVariants as codes
 use Rattle.json5_grammar.specs.Documents.{max_depth}
+use Rattle.json5_grammar.specs.Faults.{begins_value}
 use Rattle.json5_grammar.specs.Reading.{Place, bad, IsAt}
 use Rattle.json5_grammar.specs.ReadValues.{read}
 use Rattle.json5_grammar.specs.Refusals.{BlamesValue}
@@ -11,7 +12,6 @@ use Rattle.json5_text.specs.Cursor.{Refused, IsOutOfMemory}
 use Rattle.json5_de.specs.State.{State, cursor_of}
 use Rattle.json5_de.specs.Law.{ReadsValue}
 use Rattle.json5_de.specs.Faults.{FaultRelation, RefusedByOr, EndsWithOr, DiffersWithOr}
-use Rattle.json5_value.specs.Kinds.{begins_value}
 
 -- the fault of the value in front, so many brackets being open before it: an end has the place of the innermost bracket that the
 -- value opens

@@ -1,9 +1,8 @@
 -- What a value begins with, and the literals.
-use Rattle.std.specs.Prelude.{ℕ, Bool, true, false, ◌==◌, ◌||◌, cond, List}
+use Rattle.std.specs.Prelude.{ℕ, ◌==◌, ◌||◌, cond, List}
 use Rattle.json5_grammar.specs.declared.code.ErrorCode.{ErrorCode}
 use Rattle.json5_grammar.specs.declared.code.ErrorCode.TheVariants as codes
 use Rattle.json5_grammar.specs.Characters.{letter_f, letter_n, letter_t}
-use Rattle.json5_grammar.specs.Fronts.{of_array, of_object, opening}
 use Rattle.json5_grammar.specs.NumberFaults.{is_sign, begins_number}
 use Rattle.json5_grammar.specs.Strings.{is_quote}
 use Rattle.json5_grammar.specs.Values.{null_text, true_text, false_text}
@@ -15,15 +14,6 @@ use Rattle.json5_value.specs.declared.kinds.ValueKind.TheVariants as kind
 -- what the character begins
 abbrev pub kind_at : ℕ → ValueKind
 kind_at c = cond (c == letter_n) (kind.Literal literal.Null) (cond (c == letter_t) (kind.Literal literal.True) (cond (c == letter_f) (kind.Literal literal.False) (cond (is_quote c) kind.String (cond (is_sign c || begins_number c) kind.Number kind.Other))))
-
--- it begins a value that is no collection
-abbrev pub is_scalar_kind : ValueKind → Bool
-is_scalar_kind kind.Other = false
-is_scalar_kind _ = true
-
--- the character begins a value
-abbrev pub begins_value : ℕ → Bool
-begins_value c = (c == opening of_array) || ((c == opening of_object) || is_scalar_kind (kind_at c))
 
 -- the word of a literal
 abbrev pub word_of : Literal → List ℕ
