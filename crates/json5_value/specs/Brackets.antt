@@ -1,6 +1,5 @@
 -- The two kinds of brackets.
 use Rattle.json5_grammar.specs.declared.code.ErrorCode.TheVariants as codes
-use Rattle.json5_grammar.specs.Characters.{left_bracket, right_bracket, left_brace, right_brace}
 use Rattle.json5_grammar.specs.Fronts.{of_array, of_object}
 use Rattle.json5_grammar.specs.Fronts as fronts
 use Rattle.json5_value.specs.declared.brackets.Brackets.{Brackets}
@@ -9,11 +8,11 @@ use Rattle.json5_value.specs.declared.brackets.BracketKind.TheVariants as kind
 
 -- an array's
 abbrev pub square : Brackets
-square = record { opening = left_bracket; closing = right_bracket; ends = codes.EofParsingArray; not_opened = codes.ExpectedOpeningBracket; not_closed = codes.ExpectedClosingBracket }
+square = record { opening = fronts.opening of_array; closing = fronts.closing of_array; ends = codes.EofParsingArray; not_opened = codes.ExpectedOpeningBracket; not_closed = codes.ExpectedClosingBracket }
 
 -- an object's
 abbrev pub curly : Brackets
-curly = record { opening = left_brace; closing = right_brace; ends = codes.EofParsingObject; not_opened = codes.ExpectedOpeningBrace; not_closed = codes.ExpectedClosingBrace }
+curly = record { opening = fronts.opening of_object; closing = fronts.closing of_object; ends = codes.EofParsingObject; not_opened = codes.ExpectedOpeningBrace; not_closed = codes.ExpectedClosingBrace }
 
 abbrev pub brackets_of : BracketKind → Brackets
 brackets_of kind.Array = square
