@@ -12,6 +12,7 @@ mod fields;
 mod gather;
 mod hash_map;
 mod index_map;
+mod integer_types;
 mod integers;
 mod key;
 mod key_types;
