@@ -21,6 +21,7 @@ mod lists;
 mod map;
 mod mismatch;
 mod option;
+mod pair_keys;
 mod reading;
 mod scalars;
 mod seq;

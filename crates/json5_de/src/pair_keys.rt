@@ -1,0 +1,111 @@
+//! Reading of the keys of an object's pairs.
+
+ghost use Rattle.std.specs.Prelude.{◌≡◌, true, false, is_some, IfOk, IfErr, OnErr};
+ghost use Rattle.json5_grammar.specs.Characters.{NotBegun};
+ghost use Rattle.json5_grammar.specs.Members.{NoPairGoes};
+ghost use Rattle.json5_text.specs.Errors.{kind_of};
+ghost use Rattle.json5_value.specs.Brackets.{curly};
+ghost use Rattle.json5_value.specs.Places.{StartsAfter};
+ghost use Rattle.json5_de.specs.Law.{Steady};
+ghost use Rattle.json5_de.specs.Faults.{RefusedBy};
+ghost use Rattle.json5_de.specs.Access.{bare, CompletesClose};
+ghost use Rattle.json5_de.specs.Objects.{bare_map, GivesPairKey, CompletesPairKey};
+ghost use Rattle.json5_de.specs.ObjectFaults as faults;
+ghost use Rattle.json5_de.specs.ObjectFaults.{BeginsKey, GoesToKey, NoKey, PlacedAtKey, is_unplaced, RefusesPairKey};
+
+use crate::de::Deserializer;
+use crate::key::DeserializeKey;
+use json5_text::ErrorCode;
+use json5_text::char::is_json5_identifier_start;
+use json5_text::error::{Error, Result};
+use json5_text::input::Input;
+use json5_value::brackets::BracketKind;
+
+/// Whether a key may begin with this character: a quote, a backslash or an identifier start.
+fn begins_key(c: char) -> bool
+    ensures { result ≡ faults.begins_key c }
+{
+    matches!(c, '"' | '\'' | '\\') || is_json5_identifier_start(c)
+}
+
+/// Whether the fault is one that gets no place of a key: the text ended, memory ran out or the reader had failed.
+fn is_unplaced(error: &Error) -> bool
+    ensures { result ≡ is_unplaced (kind_of error.now) }
+{
+    match error.code() {
+        Some(code) => matches!(
+            code,
+            ErrorCode::EofParsingArray
+                | ErrorCode::EofParsingBool
+                | ErrorCode::EofParsingComment
+                | ErrorCode::EofParsingEscapeSequence
+                | ErrorCode::EofParsingIdentifier
+                | ErrorCode::EofParsingNull
+                | ErrorCode::EofParsingNumber
+                | ErrorCode::EofParsingObject
+                | ErrorCode::EofParsingString
+                | ErrorCode::EofParsingValue
+                | ErrorCode::OutOfMemory
+                | ErrorCode::Failed
+        ),
+        None => false,
+    }
+}
+
+impl<I: Input> Deserializer<I> {
+    /// Whether a key may begin with what is next.
+    pub(crate) fn at_key(&self) -> bool
+        ensures found { result ≡ true → BeginsKey self.now.unread }
+        ensures other { result ≡ false → NotBegun faults.begins_key self.now.unread }
+    {
+        match self.peek() {
+            Some(c) => begins_key(c),
+            None => false,
+        }
+    }
+
+    /// Goes to the next key and says true, or to the closing brace and says false.
+    fn goes_to_key(&mut self, due: bool) -> Result<bool>
+        ensures sound { IfOk result (λ more. GoesToKey due self.old self.new more) }
+        ensures refused { IfErr result (RefusedBy (NoKey due) self.old) }
+        ensures nowhere { OnErr result (self.old.failed ≡ false → NoPairGoes due self.old.unread) }
+        ensures steady { Steady self.old self.new result }
+    {
+        if !self.goes_on(BracketKind::Object, due)? {
+            return Ok(false);
+        }
+        if !self.at_key() {
+            return Err(self.unexpected(ErrorCode::EofParsingObject, ErrorCode::ExpectedIdentifier));
+        }
+        Ok(true)
+    }
+
+    /// A key's fault, at the key where it has no place and may have one.
+    fn key_fault(&self, error: Error, start: usize) -> Error
+        ensures { PlacedAtKey (StartsAfter self.now.input start) error result }
+    {
+        if is_unplaced(&error) {
+            error
+        } else {
+            self.place_at(start, error)
+        }
+    }
+
+    /// The next key of an object, or none where the closing brace is next.
+    pub(crate) fn pair_key<K: DeserializeKey<I>>(&mut self, due: bool) -> Result<Option<K>>
+        ensures sound { IfOk result (λ o. GivesPairKey K.content K.convert (bare_map self.old due false) (bare_map self.new due (is_some o)) o) }
+        ensures complete { CompletesPairKey K.convert (bare_map self.old due false) result }
+        ensures closing { CompletesClose curly (bare self.old due) result }
+        ensures cause { IfErr result (λ e. RefusesPairKey K.refuses due self.old e self.new) }
+        ensures steady { Steady self.old self.new result }
+    {
+        if !self.goes_to_key(due)? {
+            return Ok(None);
+        }
+        let start = self.offset();
+        match self.read_key::<K>() {
+            Ok(key) => Ok(Some(key)),
+            Err(e) => Err(self.key_fault(e, start)),
+        }
+    }
+}
