@@ -1,25 +1,21 @@
-//! Reading of enums: the name of a variant, and then its content.
+//! Reading of enums: the content of a variant, after its name.
 
 ghost use Rattle.std.specs.Prelude.{◌≡◌, true, false, Some, IfOk};
 ghost use Rattle.std.specs.Borrow.{sem};
-ghost use Rattle.json5_grammar.specs.declared.code.ErrorCode.TheVariants as codes;
-ghost use Rattle.json5_grammar.specs.Values.{Reads};
 ghost use Rattle.json5_de.specs.State.{GivesUpIfErr};
 ghost use Rattle.json5_de.specs.Convert.{spelled};
 ghost use Rattle.json5_value.specs.Brackets.{brackets_of};
 ghost use Rattle.json5_de.specs.Rows.{RefusedAs, null_row, every_tree};
-ghost use Rattle.json5_de.specs.Enums.{NamesVariant, ReadsVariant, ReadsOnlyKey, ReadsKeyed, ReadsInBrace, ClosesLast, ClosesContent, OpensContent, OpensTuple, OpensStruct, content_of, unit_content, content_free, is_left_brace};
-ghost use Rattle.json5_grammar.specs.Strings.{is_quote};
+ghost use Rattle.json5_de.specs.Enums.{NamesVariant, ReadsVariant, ReadsInBrace, ClosesLast, ClosesContent, OpensContent, OpensTuple, OpensStruct, content_of, unit_content, content_free};
 
 use crate::de::{Deserialize, Deserializer};
 use crate::map::MapAccess;
 use crate::mismatch::Mismatch;
 use crate::seq::SeqAccess;
 use crate::stage::Stage;
-use json5_text::ErrorCode;
+use crate::variant_names::Named;
 use json5_text::error::Result;
 use json5_text::input::Input;
-use json5_text::strings::is_quote;
 use json5_value::brackets::BracketKind;
 
 /// A variant whose name was read, and whose content is to be read: by one of the four calls that take the access. The reader answers
@@ -40,96 +36,8 @@ impl<I: Input> Drop for EnumAccess<'_, I> {
     }
 }
 
-/// The name of a variant that was read.
-#[derive(Drop)]
-struct Named {
-    /// The count of bytes before the text or the opening brace.
-    start: usize,
-    /// The first place of the name among the variants.
-    variant: usize,
-    /// Whether the name is a key, whose value is the content.
-    has_content: bool,
-}
-
 impl<I: Input> Deserializer<I> {
-    ghost use Rattle.json5_grammar.specs.Characters.{NotBegun};
-    ghost use Rattle.json5_de.specs.Enums.{Begins};
     ghost use Rattle.json5_de.specs.Lending.{seen_named, seen_enum, HoldsEnum, BlocksEnumReader, lends_to_enum};
-
-    /// Takes the only key of an object, one of the variants, and its colon.
-    fn only_key(&mut self, variants: &[&str]) -> Result<usize>
-        ensures { ReadsOnlyKey (spelled variants.now) self.old self.new result }
-    {
-        self.begin()?;
-        if !self.at_key() {
-            return Err(self.unexpected(ErrorCode::EofParsingObject, ErrorCode::ExpectedIdentifier));
-        }
-        let variant = self.key_variant(variants)?;
-        self.colon()?;
-        Ok(variant)
-    }
-
-    /// Opens an object and takes its only key and the colon. After the brace a fault without a place gets the brace's.
-    fn keyed_variant(&mut self, variants: &[&str]) -> Result<usize>
-        ensures { ReadsKeyed (spelled variants.now) self.old self.new result }
-    {
-        let start = self.open(BracketKind::Object)?;
-        match self.only_key(variants) {
-            Ok(variant) => Ok(variant),
-            Err(e) => Err(self.place_at(start, e)),
-        }
-    }
-
-    /// Whether a text is next.
-    fn at_text(&self) -> bool
-        ensures found { result ≡ true → Begins is_quote self.now.unread }
-        ensures other { result ≡ false → NotBegun is_quote self.now.unread }
-    {
-        match self.peek() {
-            Some(c) => is_quote(c),
-            None => false,
-        }
-    }
-
-    /// Whether an object is next.
-    fn at_object(&self) -> bool
-        ensures found { result ≡ true → Begins is_left_brace self.now.unread }
-        ensures other { result ≡ false → NotBegun is_left_brace self.now.unread }
-    {
-        match self.peek() {
-            Some(c) => c == '{',
-            None => false,
-        }
-    }
-
-    /// Reads the name of a variant, a text or the only key of an object.
-    fn named(&mut self, variants: &[&str]) -> Result<Named>
-        ensures names { NamesVariant (spelled variants.now) (seen_named self.new) self.old result }
-        ensures failed { GivesUpIfErr self.old self.new result }
-    {
-        self.begin()?;
-        let start = self.offset();
-        if self.at_text() {
-            let variant = self.deserialize_variant(variants)?;
-            return Ok(Named {
-                start,
-                variant,
-                has_content: false,
-            });
-        }
-        if self.at_object() {
-            let variant = self.keyed_variant(variants)?;
-            return Ok(Named {
-                start,
-                variant,
-                has_content: true,
-            });
-        }
-        Err(self.unexpected(
-            ErrorCode::EofParsingValue,
-            ErrorCode::ExpectedStringOrObject,
-        ))
-    }
 
     /// Reads the name of a variant: a text, or the only key of an object and its colon. Its content is read by the access, which
     /// blocks the reader until then. The name of the enum changes nothing.

@@ -32,6 +32,7 @@ mod text;
 mod texts;
 mod tuples;
 mod types;
+mod variant_names;
 mod variants;
 
 pub use any::IgnoredAny;

@@ -1,0 +1,104 @@
+//! Reading of the name of a variant: a text, or the only key of an object.
+
+ghost use Rattle.std.specs.Prelude.{◌≡◌, true, false};
+ghost use Rattle.json5_grammar.specs.Characters.{NotBegun};
+ghost use Rattle.json5_grammar.specs.Strings.{is_quote};
+ghost use Rattle.json5_de.specs.Convert.{spelled};
+ghost use Rattle.json5_de.specs.Enums.{Begins, NamesVariant, ReadsOnlyKey, ReadsKeyed, is_left_brace};
+ghost use Rattle.json5_de.specs.Lending.{seen_named};
+ghost use Rattle.json5_de.specs.State.{GivesUpIfErr};
+
+use crate::de::Deserializer;
+use json5_text::ErrorCode;
+use json5_text::error::Result;
+use json5_text::input::Input;
+use json5_text::strings::is_quote;
+use json5_value::brackets::BracketKind;
+
+/// The name of a variant that was read.
+#[derive(Drop)]
+pub(crate) struct Named {
+    /// The count of bytes before the text or the opening brace.
+    pub(crate) start: usize,
+    /// The first place of the name among the variants.
+    pub(crate) variant: usize,
+    /// Whether the name is a key, whose value is the content.
+    pub(crate) has_content: bool,
+}
+
+impl<I: Input> Deserializer<I> {
+    /// Takes the only key of an object, one of the variants, and its colon.
+    fn only_key(&mut self, variants: &[&str]) -> Result<usize>
+        ensures { ReadsOnlyKey (spelled variants.now) self.old self.new result }
+    {
+        self.begin()?;
+        if !self.at_key() {
+            return Err(self.unexpected(ErrorCode::EofParsingObject, ErrorCode::ExpectedIdentifier));
+        }
+        let variant = self.key_variant(variants)?;
+        self.colon()?;
+        Ok(variant)
+    }
+
+    /// Opens an object and takes its only key and the colon. After the brace a fault without a place gets the brace's.
+    fn keyed_variant(&mut self, variants: &[&str]) -> Result<usize>
+        ensures { ReadsKeyed (spelled variants.now) self.old self.new result }
+    {
+        let start = self.open(BracketKind::Object)?;
+        match self.only_key(variants) {
+            Ok(variant) => Ok(variant),
+            Err(e) => Err(self.place_at(start, e)),
+        }
+    }
+
+    /// Whether a text is next.
+    fn at_text(&self) -> bool
+        ensures found { result ≡ true → Begins is_quote self.now.unread }
+        ensures other { result ≡ false → NotBegun is_quote self.now.unread }
+    {
+        match self.peek() {
+            Some(c) => is_quote(c),
+            None => false,
+        }
+    }
+
+    /// Whether an object is next.
+    fn at_object(&self) -> bool
+        ensures found { result ≡ true → Begins is_left_brace self.now.unread }
+        ensures other { result ≡ false → NotBegun is_left_brace self.now.unread }
+    {
+        match self.peek() {
+            Some(c) => c == '{',
+            None => false,
+        }
+    }
+
+    /// Reads the name of a variant, a text or the only key of an object.
+    pub(crate) fn named(&mut self, variants: &[&str]) -> Result<Named>
+        ensures names { NamesVariant (spelled variants.now) (seen_named self.new) self.old result }
+        ensures failed { GivesUpIfErr self.old self.new result }
+    {
+        self.begin()?;
+        let start = self.offset();
+        if self.at_text() {
+            let variant = self.deserialize_variant(variants)?;
+            return Ok(Named {
+                start,
+                variant,
+                has_content: false,
+            });
+        }
+        if self.at_object() {
+            let variant = self.keyed_variant(variants)?;
+            return Ok(Named {
+                start,
+                variant,
+                has_content: true,
+            });
+        }
+        Err(self.unexpected(
+            ErrorCode::EofParsingValue,
+            ErrorCode::ExpectedStringOrObject,
+        ))
+    }
+}
