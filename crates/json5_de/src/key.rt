@@ -33,7 +33,7 @@ use std::alloc::Global;
 ///
 /// A type calls one of them, once. Where it is dropped unread, the access that lent it refuses from then on.
 pub struct MapKey<'a, I: Input> {
-    de: &'a mut Deserializer<I>,
+    pub(crate) de: &'a mut Deserializer<I>,
 }
 
 /// Dropped unread, it leaves the reader before the key.
@@ -129,13 +129,6 @@ impl<I: Input> MapKey<'_, I> {
         ensures { ReadsBytesKey self.old self.new result }
     {
         self.deserialize_bytes()
-    }
-
-    /// Reads the key's text as a document.
-    pub(crate) fn document<T: FromText>(&mut self) -> Result<T>
-        ensures { KeyReads (document_key T.kind) T.content self.old self.new result }
-    {
-        self.de.key_document()
     }
 
     /// Reads the key's text as a document, which is `null`. Its faults have their codes and the key's place, as those of the other

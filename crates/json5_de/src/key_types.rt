@@ -178,7 +178,7 @@ impl<I: Input, T: FromText> DeserializeKey<I> for T {
     ghost refuses = { RefusedAsKey (document_key T.kind) };
 
     fn deserialize_key(key: &mut MapKey<'_, I>) -> Result<T> {
-        key.document()
+        key.de.key_document()
     }
 }
 
