@@ -2,12 +2,12 @@
 use Rattle.std.proofs.Common.{◌≡◌, ℕ, ◌<◌, Bool, true, false, List, [], ◌∷◌, ◌++◌, length, drop, refl, ap, sym, ◌∙◌, inl, inr, subst, arith, nat_eq, slice_index_or}
 use Rattle.std.specs.Prelude.{◌==◌, Option, Some, None, IfSome}
 use Rattle.std.specs.Char.{encode_utf8}
-use Rattle.std.specs.Str.{IsUtf8, IsCharBoundary, chars}
+use Rattle.std.specs.Str.{IsUtf8, chars}
 use Rattle.std.proofs.lemmas.Bool.Decides.{nat_tests}
 use Rattle.std.proofs.lemmas.List.{append_assoc}
 use Rattle.std.proofs.lemmas.Str.{chars_past_char, encode_ascii, IsCharBoundary-after_ascii}
 use Rattle.json5_grammar.specs.Blanks.{Gap}
-use Rattle.json5_grammar.specs.Characters.{NotBegun, comma_sign}
+use Rattle.json5_grammar.specs.Characters.{comma_sign}
 use Rattle.json5_grammar.specs.Members.{IsSign}
 use Rattle.json5_grammar.specs.ReadBlanks.{skip, between}
 use Rattle.json5_grammar.proofs.Basics.{eq_from}
@@ -15,7 +15,7 @@ use Rattle.json5_grammar.proofs.BlanksSound.{gap_blanks}
 use Rattle.json5_text.specs.Answered.{Gives}
 use Rattle.json5_text.specs.Cursor.{Cursor}
 use Rattle.json5_text.specs.Scan.{LeavesAt}
-use Rattle.json5_text.specs.Short.{AfterGap, IsStep, FindsStep, IsInFront, Stepped}
+use Rattle.json5_text.specs.Short.{IsStep, FindsStep, IsInFront, Stepped}
 use Rattle.json5_text.specs.declared.short.Step.{Step}
 use Rattle.json5_text.proofs.NumberRuns.{PassesAscii}
 use Rattle.json5_text.proofs.ScanTokens.{left_counted, blanks_passed}

@@ -13,6 +13,7 @@ pub mod error;
 mod escapes;
 mod front;
 mod hexadecimal;
+mod inline_digits;
 pub mod input;
 pub mod key_text;
 mod keys;
@@ -33,6 +34,7 @@ pub mod strings;
 mod texts;
 pub mod value;
 pub mod whole;
+mod wide;
 mod words;
 
 pub use json5_grammar::code::ErrorCode;
