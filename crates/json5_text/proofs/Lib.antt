@@ -15,6 +15,7 @@ pub mod ScanRuns
 pub mod ScanTexts
 pub mod Copied
 pub mod DeepestInside
+pub mod InlineDigits
 pub mod LookedUp
 pub mod ValuesCompared
 pub mod NumberSteps

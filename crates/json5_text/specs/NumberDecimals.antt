@@ -7,13 +7,16 @@ use Rattle.std.specs.Hash as fed
 use Rattle.json5_grammar.specs.Characters.{is_digit, Each}
 use Rattle.json5_grammar.specs.Numbers.{Decimal, infinite, nan, finite, without_zeros, normal_exponent, InExponents}
 use Rattle.json5_grammar.specs.NumberText.{Normal}
+use Rattle.json5_text.specs.declared.decimal.Kept.{Kept}
+use Rattle.json5_text.specs.declared.decimal.Kept.TheVariants as kept
 use Rattle.json5_text.specs.declared.decimal.Size.{Size}
 use Rattle.json5_text.specs.declared.decimal.Size.TheVariants as size
 
-abbrev pub decimal_of : Bool → Size → Decimal
-decimal_of negative size.Infinite = infinite negative
-decimal_of negative size.NotANumber = nan negative
-decimal_of negative (size.Finite digits exponent) = finite negative (string_bytes digits) exponent
+abbrev pub decimal_of : Kept → Decimal
+decimal_of (kept.Infinite negative) = infinite negative
+decimal_of (kept.NotANumber negative) = nan negative
+decimal_of (kept.Few negative exponent digits) = finite negative digits exponent
+decimal_of (kept.Many negative exponent digits) = finite negative (string_bytes digits.value) exponent
 
 abbrev pub is_minus : Decimal → Bool
 is_minus (infinite m) = m
@@ -41,6 +44,12 @@ abbrev pub exponent_in : Decimal → ℤ
 exponent_in (infinite m) = pos 0
 exponent_in (nan m) = pos 0
 exponent_in (finite m ds e) = e
+
+-- how large it is, after this sign
+abbrev pub sized : Bool → Size → Decimal
+sized negative size.Infinite = infinite negative
+sized negative size.NotANumber = nan negative
+sized negative (size.Finite digits exponent) = finite negative digits.now exponent
 
 -- this is what the decimal shows there; each decimal is normal
 pub record Shows {A : Type 0} (view : Decimal → A) (d : Decimal) (shown : A) : Type 0 where

@@ -4,13 +4,14 @@ ghost use Rattle.std.specs.Prelude.{◌≡◌, ◌≤◌, ◌-◌, string_bytes,
 ghost use Rattle.std.specs.Int.{w128};
 ghost use Rattle.json5_grammar.specs.Characters.{is_digit, Each};
 ghost use Rattle.json5_grammar.specs.Numbers as numbers;
-ghost use Rattle.json5_grammar.specs.NumberText.{decimal_text};
+ghost use Rattle.json5_grammar.specs.NumberText.{decimal_text, IsNormal};
 ghost use Rattle.json5_text.specs.Errors.{LacksMemory};
-ghost use Rattle.json5_text.specs.NumberDecimals.{is_minus, is_infinity, is_not_a_number, digits_in, exponent_in, Shows, IsFiniteIfInRange, IsFiniteOf};
+ghost use Rattle.json5_text.specs.NumberDecimals.{is_minus, is_infinity, is_not_a_number, digits_in, exponent_in, sized, Shows, IsFiniteIfInRange, IsFiniteOf};
 ghost use Rattle.json5_text.specs.NumberSteps.{raised, IsSmallExponent};
 ghost use Rattle.json5_text.specs.NumberViews.{keeps_digits};
 
 use crate::error::Result;
+use crate::inline_digits::InlineDigits;
 use crate::pieces::Pieces;
 use crate::runs;
 use std::alloc::{AllocError, Global};
@@ -18,13 +19,24 @@ use std::fmt;
 use std::hash::{Hash, Hasher};
 use std::marker::Model;
 
-/// How large a decimal is, whatever its sign.
+/// A decimal as it is kept: whether it is negative and, where it is finite, the power of ten that its digits are multiplied with,
+/// and these digits, in ASCII and without zeros at either end.
 #[derive(Debug, Drop)]
-enum Size {
+enum Kept {
+    Infinite(bool),
+    NotANumber(bool),
+    Few(bool, i16, InlineDigits),
+    /// Digits that don't fit otherwise. The box keeps a decimal small.
+    Many(bool, i16, Box<String>),
+}
+
+/// How large a decimal is, whatever its sign.
+#[derive(Clone, Copy)]
+enum Size<'a> {
     Infinite,
     NotANumber,
-    /// ASCII digits without zeros at either end, and the power of ten that they are multiplied with.
-    Finite(String, i16),
+    /// The digits, and the power of ten that they are multiplied with.
+    Finite(&'a str, i16),
 }
 
 /// Infinity, not-a-number or a finite number, each with a sign (JSON5 section 6). It keeps every digit that was read.
@@ -35,8 +47,7 @@ enum Size {
 /// itself, and -0 isn't 0.
 #[derive(Debug, Drop)]
 pub struct Decimal {
-    negative: bool,
-    size: Size,
+    kept: Kept,
 }
 
 impl Model for Decimal {
@@ -47,9 +58,9 @@ impl Model for Decimal {
 
     ghost use Rattle.json5_text.specs.NumberDecimals.{decimal_of};
 
-    ghost view = { λ d. decimal_of d.negative d.size };
+    ghost view = { λ d. decimal_of d.kept };
 
-    ghost invariant = { λ d. Normal (decimal_of d.negative d.size) };
+    ghost invariant = { λ d. Normal (decimal_of d.kept) };
 }
 
 /// Digits in two parts, without the zeros in front.
@@ -100,6 +111,28 @@ fn joined(alloc: Global, first: &str, last: &str) -> std::result::Result<String,
     Ok(text)
 }
 
+/// The finite decimal with the digits of both texts, one after the other. It takes memory where they are more than 19.
+fn keep(
+    alloc: Global,
+    negative: bool,
+    exponent: i16,
+    first: &str,
+    last: &str,
+) -> std::result::Result<Decimal, AllocError>
+    requires { IsNormal (first.now ++ last.now) exponent }
+    ensures { IfOk result (λ d. d ≡ numbers.finite negative (first.now ++ last.now) exponent) }
+{
+    if let Some(digits) = InlineDigits::new(first, last) {
+        return Ok(Decimal {
+            kept: Kept::Few(negative, exponent, digits),
+        });
+    }
+    let digits = Box::new(alloc, joined(alloc, first, last)?)?;
+    Ok(Decimal {
+        kept: Kept::Many(negative, exponent, digits),
+    })
+}
+
 /// A finite decimal in normal form whose digits stand in two texts, one after the other.
 #[derive(Drop)]
 pub(crate) struct DecimalRef<'a> {
@@ -147,15 +180,11 @@ impl<'a> DecimalRef<'a> {
         })
     }
 
-    /// The same number with its digits in memory of its own.
+    /// The same number with digits of its own.
     pub(crate) fn to_decimal(&self, alloc: Global) -> std::result::Result<Decimal, AllocError>
         ensures { MatchResult result (λ d. d ≡ self.now) (λ _. keeps_digits (numbers.decimal self.now) ≡ true) }
     {
-        let digits = joined(alloc, self.first, self.last)?;
-        Ok(Decimal {
-            negative: self.negative,
-            size: Size::Finite(digits, self.exponent),
-        })
+        keep(alloc, self.negative, self.exponent, self.first, self.last)
     }
 }
 
@@ -165,8 +194,7 @@ impl Decimal {
         ensures { result ≡ numbers.infinite negative }
     {
         Decimal {
-            negative,
-            size: Size::Infinite,
+            kept: Kept::Infinite(negative),
         }
     }
 
@@ -175,8 +203,7 @@ impl Decimal {
         ensures { result ≡ numbers.nan negative }
     {
         Decimal {
-            negative,
-            size: Size::NotANumber,
+            kept: Kept::NotANumber(negative),
         }
     }
 
@@ -209,29 +236,44 @@ impl Decimal {
     pub fn is_negative(&self) -> bool
         ensures { Shows is_minus self.now result }
     {
-        self.negative
+        match &self.kept {
+            Kept::Infinite(negative) | Kept::NotANumber(negative) => *negative,
+            Kept::Few(negative, _, _) | Kept::Many(negative, _, _) => *negative,
+        }
+    }
+
+    /// How large it is, whatever its sign.
+    fn size(&self) -> Size<'_>
+        ensures { Shows (λ d. d) self.now (sized (is_minus self.now) result) }
+    {
+        match &self.kept {
+            Kept::Infinite(_) => Size::Infinite,
+            Kept::NotANumber(_) => Size::NotANumber,
+            Kept::Few(_, exponent, digits) => Size::Finite(digits.as_str(), *exponent),
+            Kept::Many(_, exponent, digits) => Size::Finite(digits.as_str(), *exponent),
+        }
     }
 
     /// Whether it is infinity, of either sign.
     pub fn is_infinite(&self) -> bool
         ensures { result ≡ is_infinity self.now }
     {
-        matches!(&self.size, Size::Infinite)
+        matches!(self.size(), Size::Infinite)
     }
 
     /// Whether it is not-a-number, of either sign.
     pub fn is_nan(&self) -> bool
         ensures { result ≡ is_not_a_number self.now }
     {
-        matches!(&self.size, Size::NotANumber)
+        matches!(self.size(), Size::NotANumber)
     }
 
     /// The ASCII digits, without zeros in front and at the end; none for zero, infinity and not-a-number.
     pub fn digits(&self) -> &str
         ensures { Shows digits_in self.now result.now }
     {
-        match &self.size {
-            Size::Finite(digits, _) => digits.as_str(),
+        match self.size() {
+            Size::Finite(digits, _) => digits,
             Size::Infinite | Size::NotANumber => "",
         }
     }
@@ -240,8 +282,8 @@ impl Decimal {
     pub fn exponent(&self) -> i16
         ensures { Shows exponent_in self.now result }
     {
-        match &self.size {
-            Size::Finite(_, exponent) => *exponent,
+        match self.size() {
+            Size::Finite(_, exponent) => exponent,
             Size::Infinite | Size::NotANumber => 0,
         }
     }
@@ -253,10 +295,10 @@ impl Decimal {
         ensures { Shows decimal_text self.now result }
     {
         let sign = if self.is_negative() { "-" } else { "" };
-        match &self.size {
+        match self.size() {
             Size::Infinite => Pieces::of_word(sign, "Infinity"),
             Size::NotANumber => Pieces::of_word(sign, "NaN"),
-            Size::Finite(digits, exponent) => Pieces::of_digits(sign, digits.as_str(), *exponent),
+            Size::Finite(digits, exponent) => Pieces::of_digits(sign, digits, exponent),
         }
     }
 
@@ -264,17 +306,13 @@ impl Decimal {
     pub fn clone(&self, alloc: Global) -> Result<Decimal>
         ensures { MatchResult result (λ d. d ≡ self.now) LacksMemory }
     {
-        let size = match &self.size {
-            Size::Infinite => Size::Infinite,
-            Size::NotANumber => Size::NotANumber,
+        match self.size() {
+            Size::Infinite => Ok(Decimal::infinity(self.is_negative())),
+            Size::NotANumber => Ok(Decimal::nan(self.is_negative())),
             Size::Finite(digits, exponent) => {
-                Size::Finite(String::from_str(alloc, digits.as_str())?, *exponent)
+                Ok(keep(alloc, self.is_negative(), exponent, digits, "")?)
             }
-        };
-        Ok(Decimal {
-            negative: self.is_negative(),
-            size,
-        })
+        }
     }
 }
 
@@ -290,11 +328,11 @@ impl PartialEq for Decimal {
         if self.is_negative() != other.is_negative() {
             return false;
         }
-        match (&self.size, &other.size) {
+        match (self.size(), other.size()) {
             (Size::Infinite, Size::Infinite) => true,
             (Size::NotANumber, Size::NotANumber) => true,
             (Size::Finite(digits, exponent), Size::Finite(others, power)) => {
-                digits.as_str() == others.as_str() && exponent == power
+                digits == others && exponent == power
             }
             _ => false,
         }
@@ -317,12 +355,12 @@ impl Hash for Decimal {
 
     fn hash<H: Hasher>(&self, state: &mut H) {
         self.is_negative().hash(state);
-        match &self.size {
+        match self.size() {
             Size::Infinite => 0u8.hash(state),
             Size::NotANumber => 1u8.hash(state),
             Size::Finite(digits, exponent) => {
                 2u8.hash(state);
-                digits.as_str().hash(state);
+                digits.hash(state);
                 exponent.hash(state);
             }
         }

@@ -13,6 +13,7 @@ pub mod error;
 mod escapes;
 mod front;
 mod hexadecimal;
+mod inline_digits;
 pub mod input;
 mod keys;
 pub mod laws;
@@ -34,6 +35,7 @@ pub mod text_token;
 mod texts;
 pub mod value;
 pub mod whole;
+mod wide;
 mod words;
 
 pub use json5_grammar::code::ErrorCode;

@@ -5,6 +5,7 @@ ghost use Rattle.std.specs.Fmt.{signed_decimal};
 ghost use Rattle.json5_grammar.specs.Numbers.{signed, InWhole};
 ghost use Rattle.json5_text.specs.NumberWholes.{Converts};
 
+use crate::wide::Wide;
 use std::fmt;
 use std::marker::Model;
 
@@ -12,7 +13,7 @@ use std::marker::Model;
 #[derive(Clone, Copy, Debug, PartialEq, Eq, Hash)]
 pub struct Whole {
     negative: bool,
-    magnitude: u128,
+    magnitude: Wide,
 }
 
 impl Model for Whole {
@@ -36,7 +37,7 @@ impl Whole {
     {
         Whole {
             negative: false,
-            magnitude: number,
+            magnitude: Wide::new(number),
         }
     }
 
@@ -46,7 +47,7 @@ impl Whole {
     {
         Whole {
             negative: number < 0,
-            magnitude: number.unsigned_abs(),
+            magnitude: Wide::new(number.unsigned_abs()),
         }
     }
 
@@ -60,7 +61,7 @@ impl Whole {
         } else if magnitude <= 1 << 127 {
             Some(Whole {
                 negative,
-                magnitude,
+                magnitude: Wide::new(magnitude),
             })
         } else {
             None
@@ -74,7 +75,7 @@ impl Whole {
         if self.negative {
             None
         } else {
-            Some(self.magnitude)
+            Some(self.magnitude.get())
         }
     }
 
@@ -82,11 +83,12 @@ impl Whole {
     pub fn as_i128(self) -> Option<i128>
         ensures { Converts (λ number. number) (λ z. z <ℤ pos (2 ^ 127)) self result }
     {
+        let magnitude = self.magnitude.get();
         if self.negative {
-            let above = (self.magnitude - 1) as i128;
+            let above = (magnitude - 1) as i128;
             Some(-1 - above)
-        } else if self.magnitude < 1 << 127 {
-            Some(self.magnitude as i128)
+        } else if magnitude < 1 << 127 {
+            Some(magnitude as i128)
         } else {
             None
         }
@@ -100,7 +102,7 @@ impl fmt::Display for Whole {
     fn fmt<W: fmt::Write>(&self, f: &mut fmt::Formatter<W>) -> fmt::Result {
         match self.as_i128() {
             Some(number) => number.fmt(f),
-            None => self.magnitude.fmt(f),
+            None => self.magnitude.get().fmt(f),
         }
     }
 }

@@ -1,0 +1,21 @@
+-- Two texts that are copied one after the other.
+use Rattle.std.proofs.Common.{◌≡◌, ℕ, ◌+◌, ◌-◌, Bool, List, [], ◌∷◌, ◌++◌, length, take, refl, ap, ◌∙◌, arith}
+use Rattle.std.proofs.lemmas.List.{length-append}
+use Rattle.std.proofs.lemmas.Slice.{take-put_mid}
+use Rattle.std.proofs.Math.Seq.{take-append_seam}
+use borrow.Rule.Slice.PartMut.{put_mid}
+use Rattle.json5_grammar.specs.Characters.{Each, no_char, char}
+
+pub copied : (a b x y z : List ℕ) → x ≡ a → y ≡ b → take (length a + length b) (put_mid (length a) (length a + length b - length a) (x ++ z) y) ≡ a ++ b
+copied a b x y z e f =
+    rw (e, f) (take-put_mid (length a) (length a + length b - length a) (a ++ z) b (length a + length b) refl (omega (arith, length-append a z)) ∙ ap (λ t. t ++ b) (take-append_seam a z))
+
+-- ---- what passes in whole passes in part
+
+pub each_left : {p : ℕ → Bool} (a b : List ℕ) → Each p (a ++ b) → Each p a
+each_left [] b e = no_char
+each_left (c ∷ a) b (char h e) = char h (each_left a b e)
+
+pub each_right : {p : ℕ → Bool} (a b : List ℕ) → Each p (a ++ b) → Each p b
+each_right [] b e = e
+each_right (c ∷ a) b (char h e) = each_right a b e
