@@ -16,7 +16,7 @@ ghost use Rattle.json5_de.specs.Access.{bare, PlacedAtBracket, CompletesClose};
 ghost use Rattle.json5_de.specs.Objects.{AfterColon, bare_map, OpensMap, GivesPairKey, GivesPairValue, CompletesPairKey, CompletesPairValue};
 ghost use Rattle.json5_de.specs.Enums.{EndsObject};
 ghost use Rattle.json5_de.specs.ObjectFaults as faults;
-ghost use Rattle.json5_de.specs.ObjectFaults.{BeginsKey, GoesToKey, NoColon, NoKey, PlacedAtKey, is_unplaced, RefusesPairKey, RefusesPairValue};
+ghost use Rattle.json5_de.specs.ObjectFaults.{BeginsKey, GoesToKey, PassesColon, NoKey, PlacedAtKey, is_unplaced, RefusesPairKey, RefusesPairValue};
 
 use crate::de::{Deserialize, Deserializer};
 use crate::key::DeserializeKey;
@@ -182,12 +182,20 @@ impl<I: Input> Deserializer<I> {
     }
 
     /// Takes the colon after a key.
+    #[inline(always)]
     pub(crate) fn colon(&mut self) -> Result<()>
-        ensures passed { OnOk result (AfterColon self.old self.new) }
-        ensures refused { IfErr result (RefusedBy NoColon self.old) }
-        ensures complete { (t : Tree) (r : List ℕ) → self.old.failed ≡ false → IsKeyValue self.old.unread t r → IsOk result }
-        ensures failed { OnErr result (GivesUp self.old self.new) }
-        ensures steady { Steady self.old self.new result }
+        ensures { PassesColon self.old self.new result }
+    {
+        if self.short_colon() {
+            return Ok(());
+        }
+        self.colon_slowly()
+    }
+
+    /// The same after any blanks.
+    #[inline(never)]
+    fn colon_slowly(&mut self) -> Result<()>
+        ensures { PassesColon self.old self.new result }
     {
         self.begin()?;
         if !self.eat(':') {
