@@ -3,6 +3,7 @@ use Rattle.std.proofs.Common.{◌≢◌, ℕ, Bool, false, List, ◌∷◌, Opti
 use Rattle.json5_grammar.specs.declared.code.ErrorCode.{ErrorCode}
 use Rattle.json5_grammar.specs.declared.code.ErrorCode.TheVariants as codes
 use Rattle.json5_grammar.specs.Numbers.{Number}
+use Rattle.json5_de.specs.ObjectFaults.{NoColon, no_colon, colon_missing}
 use Rattle.json5_de.specs.Faults.{AfterBlanks, in_blanks, after_gap, NotNumber, faulty_number, other_number, NotText, faulty_text, other_text, Trailing, trailing}
 use Rattle.json5_value.specs.declared.brackets.Brackets.{Brackets}
 use Rattle.json5_de.specs.Brackets.{AreSigns}
@@ -59,3 +60,9 @@ option_lacks x reason place (faulty_null {r = r} f) = word_lacks null_text codes
 
 pub trailing_lacks : Lacks Trailing
 trailing_lacks x reason place (trailing c r) = λ e. absurd (cc)
+
+-- ---- where a colon is expected
+
+pub colon_lacks : Lacks NoColon
+colon_lacks x reason place (no_colon c r n) = λ e. absurd (cc)
+colon_lacks x reason place colon_missing = λ e. absurd (cc)

@@ -1,27 +1,37 @@
 -- What the short ways answer is what the reader's other calls answer.
-use Rattle.std.proofs.Common.{◌≡◌, ℕ, ◌+◌, ◌≤◌, ◌<◌, ◌^◌, Bool, true, false, nat_lt, ℤ, pos, negsuc, neg_ℤ, nat_abs, ◌-ℤ◌, ◌≤ℤ◌, List, ◌∷◌, ◌++◌, Option, Some, None, refl, ap, sym, ◌∙◌, subst, arith}
-use Rattle.std.specs.Prelude.{MatchOption, Ok}
+use Rattle.std.proofs.Common.{◌≡◌, ℕ, ◌+◌, ◌≤◌, ◌<◌, ◌^◌, Bool, true, false, nat_lt, ℤ, pos, negsuc, neg_ℤ, nat_abs, ◌-ℤ◌, ◌≤ℤ◌, List, ◌∷◌, ◌++◌, Option, Some, None, inl, refl, ap, sym, ◌∙◌, subst, arith}
+use Rattle.std.specs.Prelude.{MatchOption, Result, Ok, Err, String, string_bytes}
 use Rattle.std.proofs.lemmas.Bool.Decides.{nat_tests}
 use Rattle.std.proofs.lemmas.Int.{ints, to_z-of_z}
 use mir.Syntax.{w128}
 use mir.Val.{to_z, of_z, SFits}
 use Rattle.json5_grammar.specs.Documents.{max_depth}
 use Rattle.json5_grammar.specs.Numbers.{whole}
-use Rattle.json5_grammar.specs.Trees.{number}
+use Rattle.json5_grammar.specs.Trees.{number, text}
 use Rattle.json5_grammar.specs.Values.{is_number}
 use Rattle.json5_text.specs.Cursor.{Cursor}
-use Rattle.json5_text.specs.Short.{TookWhole, TookInRange, AfterGap, StepsTo, TakesShortStep}
+use Rattle.json5_text.specs.Short.{TookWhole, TookInRange, AfterGap, StepsTo, TakesShortStep, TakesShortSign}
+use Rattle.json5_text.specs.ShortTexts.{ReadsPlainString, TookPlain, TakesShortString, TakesShortKey}
+use Rattle.json5_text.specs.ShortTexts as texts
+use Rattle.json5_text.specs.TextTokens.{StandsAt}
+use Rattle.json5_text.specs.declared.short_texts.Span.{Span}
 use Rattle.json5_text.specs.declared.short.ShortStep.{ShortStep}
 use Rattle.json5_text.specs.declared.short.ShortStep.TheVariants as short
 use Rattle.json5_value.specs.declared.brackets.Brackets.{Brackets}
-use Rattle.json5_de.specs.Convert.{natural_below, integer_below}
+use Rattle.json5_de.specs.Convert.{natural_below, integer_below, every_text}
+use Rattle.json5_de.specs.KeyRows.{ReadsKeyAs, string_key}
+use Rattle.json5_de.specs.Keys.{TookKey}
 use Rattle.json5_de.specs.Law.{TookValue}
-use Rattle.json5_de.specs.Rows.{ReadsAs, whole_row, natural_row, integer_row}
+use Rattle.json5_de.specs.Rows.{ReadsAs, whole_row, natural_row, integer_row, string_row}
 use Rattle.json5_de.specs.Seq.{IsAfterGap, Begun}
-use Rattle.json5_de.specs.Short.{ReadsShort, StepsShort}
+use Rattle.json5_de.specs.Short.{ReadsShort, StepsShort, ReadsShortText, ReadsShortKey, PassesShortColon, OwnsTextAt}
 use Rattle.json5_de.specs.State.{State}
 use Rattle.json5_de.proofs.Rows.{reads_ok}
-use Rattle.json5_de.proofs.Taken.{value_gap}
+use Rattle.json5_de.proofs.Taken.{value_gap, input_of}
+use Rattle.json5_de.proofs.FoundKeys.{key_ok}
+use Rattle.json5_grammar.proofs.Basics.{true_false}
+use Rattle.json5_value.proofs.OtherCodes.{memory_other}
+use Rattle.json5_text.specs.declared.error.Error.{Error}
 
 -- a reader whose scanner is there
 abbrev pub reader_at : Cursor → ℕ → Bool → State
@@ -101,3 +111,67 @@ short_step b due before after level failed old short.Member e live k =
 short_step b due before after level failed old short.Closing e live k =
     subst (λ s. StepsShort b due s (reader_at after level failed) short.Closing) e
     (record { live = live; close = k.step; rest = ap (λ i. record { input = i; unread = after.unread; level = level; failed = failed }) k.same })
+
+-- ---- texts and keys without an escape
+
+took_text : (before after : Cursor) (level : ℕ) (failed : Bool) (span : Span) → level ≤ max_depth → failed ≡ false → TookPlain ReadsPlainString before after span
+    → (u : List ℕ) × TookValue (reader_at before level failed) (text u true) (reader_at after level failed) × StandsAt after.input u span.start span.end
+took_text before after level failed span room live k = (
+  k.spelled,
+  record { live = live; reads = k.read; shallow = omega (arith, room); rest = ap (λ i. record { input = i; unread = after.unread; level = level; failed = failed }) k.same },
+  subst (λ i. StandsAt i k.spelled span.start span.end) (sym k.same) k.stands,
+)
+
+pub short_text : (before after : Cursor) (level : ℕ) (failed : Bool) (old : State) (o : Option Span) → reader_at before level failed ≡ old → level ≤ max_depth → failed ≡ false → TakesShortString before after o
+    → ReadsShortText old (reader_at after level failed) o
+short_text before after level failed old None e room live k = same_reader before after level failed old e k
+short_text before after level failed old (Some span) e room live k = subst (λ s. ReadsShortText s (reader_at after level failed) (Some span)) e (took_text before after level failed span room live k)
+
+took_key : (before after : Cursor) (level : ℕ) (failed : Bool) (span : Span) → failed ≡ false → TookPlain texts.ReadsPlainKey before after span
+    → (u : List ℕ) × TookKey (reader_at before level failed) u true (reader_at after level failed) × StandsAt after.input u span.start span.end
+took_key before after level failed span live k = (
+  k.spelled,
+  record { live = live; reads = k.read; rest = ap (λ i. record { input = i; unread = after.unread; level = level; failed = failed }) k.same },
+  subst (λ i. StandsAt i k.spelled span.start span.end) (sym k.same) k.stands,
+)
+
+pub short_key : (before after : Cursor) (level : ℕ) (failed : Bool) (old : State) (o : Option Span) → reader_at before level failed ≡ old → failed ≡ false → TakesShortKey before after o → ReadsShortKey old (reader_at after level failed) o
+short_key before after level failed old None e live k = same_reader before after level failed old e k
+short_key before after level failed old (Some span) e live k = subst (λ s. ReadsShortKey s (reader_at after level failed) (Some span)) e (took_key before after level failed span live k)
+
+-- ---- a colon
+
+pub short_colon : (before after : Cursor) (level : ℕ) (failed : Bool) (old : State) (b : Bool) → reader_at before level failed ≡ old → failed ≡ false → TakesShortSign 58 before after b → PassesShortColon old (reader_at after level failed) b
+short_colon before after level failed old false e live k = same_reader before after level failed old e k
+short_colon before after level failed old true e live k =
+    subst (λ s. PassesShortColon s (reader_at after level failed) true) e
+    (record { live = live; colon = k.0; rest = ap (λ i. record { input = i; unread = after.unread; level = level; failed = failed }) k.1 })
+
+-- ---- a text in memory of its own
+
+pub own_value : {A : Type 0} {span : Span} (old mid new : State) (r : Result (String A) Error) → ((u : List ℕ) × TookValue old (text u true) mid × StandsAt mid.input u span.start span.end) → OwnsTextAt span mid new r → ReadsAs string_row string_bytes old new r
+own_value old mid new (Ok t) (u, took, stands) (same, bytes) =
+    subst (λ s. ReadsAs string_row string_bytes old s (Ok t)) (sym same) (reads_ok string_row string_bytes old mid t (text u true, took, ap Some (sym (bytes u stands))))
+own_value old mid new (Err e) (u, took, stands) (lacks, gives_up) = record {
+  sound = tt;
+  complete = λ t r c live reads shallow is. lacks.kind;
+  no_memory = λ t r c live reads shallow is free. absurd (cc);
+  refused = inl lacks;
+  unprompted = λ live. memory_other e lacks.kind;
+  same_text = gives_up.same_text ∙ input_of took.rest;
+  failed = gives_up.failed;
+  before = λ h. absurd (true_false h took.live);
+}
+
+pub own_key : {A : Type 0} {span : Span} (old mid new : State) (r : Result (String A) Error) → ((u : List ℕ) × TookKey old u true mid × StandsAt mid.input u span.start span.end) → OwnsTextAt span mid new r → ReadsKeyAs string_key string_bytes old new r
+own_key old mid new (Ok t) (u, took, stands) (same, bytes) =
+    subst (λ s. ReadsKeyAs string_key string_bytes old s (Ok t)) (sym same) (key_ok string_bytes every_text _ old mid t (u, true, took, ap Some (sym (bytes u stands))))
+own_key old mid new (Err e) (u, took, stands) (lacks, gives_up) = record {
+  sound = tt;
+  complete = λ u plain r c live reads is. lacks.kind;
+  refused = inl lacks;
+  unprompted = λ live. memory_other e lacks.kind;
+  same_text = gives_up.same_text ∙ input_of took.rest;
+  failed = gives_up.failed;
+  before = λ h. absurd (true_false h took.live);
+}

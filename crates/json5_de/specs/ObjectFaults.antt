@@ -1,5 +1,5 @@
 -- How the calls of an access to an object refuse.
-use Rattle.std.specs.Prelude.{◌≡◌, ℕ, Bool, true, false, ◌==◌, ◌||◌, List, [], ◌∷◌, ◌++◌, Option, Some, None, Result}
+use Rattle.std.specs.Prelude.{◌≡◌, ℕ, Bool, true, false, ◌==◌, ◌||◌, List, [], ◌∷◌, ◌++◌, Option, Some, None, Result, IfErr, OnOk, OnErr, IsOk}
 use Rattle.json5_grammar.specs.declared.code.ErrorCode.{ErrorCode}
 use Rattle.json5_grammar.specs.declared.code.ErrorCode.TheVariants as codes
 use Rattle.json5_grammar.specs.Codes.{after_text}
@@ -7,7 +7,10 @@ use Rattle.json5_grammar.specs.Characters.{comma_sign, colon_sign, right_brace, 
 use Rattle.json5_grammar.specs.Strings.{is_quote}
 use Rattle.json5_text.specs.declared.error.Error.{Error}
 use Rattle.json5_text.specs.Errors.{FaultKind, code, custom, failed_write, kind_of, place_of}
-use Rattle.json5_de.specs.State.{State}
+use Rattle.json5_grammar.specs.Members.{IsKeyValue}
+use Rattle.json5_grammar.specs.Trees.{Tree}
+use Rattle.json5_de.specs.State.{State, GivesUp}
+use Rattle.json5_de.specs.Law.{Steady}
 use Rattle.json5_value.specs.Places.{PlacedAt}
 use Rattle.json5_value.specs.Brackets.{curly}
 use Rattle.json5_de.specs.Faults.{AfterBlanks, RefusedBy}
@@ -103,6 +106,14 @@ RefusesNextKey refuses old new result = RefusesCall (RefusesPairKey refuses old.
 pub data NoColon : List ℕ → Option ErrorCode → Option (List ℕ) → Type 0 where
   no_colon : (c : ℕ) (r : List ℕ) → (c == colon_sign) ≡ false → NoColon (c ∷ r) (Some codes.ExpectedColon) (Some [])
   colon_missing : NoColon [] (Some codes.EofParsingObject) None
+
+-- the colon after a key is passed, or refused
+pub record PassesColon (old new : State) (result : Result (Unit {0}) Error) : Type 0 where
+  pub passed : OnOk result (AfterColon old new)
+  pub refused : IfErr result (RefusedBy NoColon old)
+  pub complete : (t : Tree) (r : List ℕ) → old.failed ≡ false → IsKeyValue old.unread t r → IsOk result
+  pub failed : OnErr result (GivesUp old new)
+  pub steady : Steady old new result
 
 abbrev pub is_colon : ℕ → Bool
 is_colon c = c == colon_sign

@@ -1,11 +1,22 @@
 -- What the short ways promise: what they answer is what the reader's other calls answer, and where they answer nothing, nothing has changed.
-use Rattle.std.specs.Prelude.{◌≡◌, Bool, true, false, Option, MatchOption, Ok}
+use Rattle.std.specs.Prelude.{◌≡◌, ℕ, Bool, true, false, List, Option, MatchOption, Result, Ok, Err, String, string_bytes}
+use Rattle.std.specs.Borrow.{Bor}
+use Rattle.std.specs.Str.{encode_utf8_all}
+use Rattle.json5_grammar.specs.Trees.{text}
+use Rattle.json5_text.specs.Errors.{LacksMemory}
+use Rattle.json5_text.specs.TextTokens.{StandsAt}
+use Rattle.json5_text.specs.ShortTexts.{IsTextAt}
+use Rattle.json5_text.specs.declared.error.Error.{Error}
+use Rattle.json5_text.specs.declared.short_texts.Span.{Span}
 use Rattle.json5_text.specs.declared.short.ShortStep.{ShortStep}
 use Rattle.json5_text.specs.declared.short.ShortStep.TheVariants as short
 use Rattle.json5_value.specs.declared.brackets.Brackets.{Brackets}
+use Rattle.json5_de.specs.Keys.{TookKey}
+use Rattle.json5_de.specs.Law.{TookValue}
+use Rattle.json5_de.specs.Objects.{AfterColon}
 use Rattle.json5_de.specs.Rows.{Row, ReadsAs}
 use Rattle.json5_de.specs.Seq.{GoesOn}
-use Rattle.json5_de.specs.State.{State}
+use Rattle.json5_de.specs.State.{State, GivesUp}
 
 -- a value of the kind is read, or nothing
 abbrev pub ReadsShort : {V C : Type 0} → Row C → (V → C) → State → State → Option V → Type 0
@@ -16,3 +27,29 @@ abbrev pub StepsShort : Brackets → Bool → State → State → ShortStep → 
 StepsShort b due old new short.Member = GoesOn b due old new true
 StepsShort b due old new short.Closing = GoesOn b due old new false
 StepsShort b due old new short.Other = new ≡ old
+
+-- a text without an escape is read, which stands there, or nothing
+abbrev pub ReadsShortText : State → State → Option Span → Type 0
+ReadsShortText old new result = MatchOption result (new ≡ old) (λ span. (u : List ℕ) × TookValue old (text u true) new × StandsAt new.input u span.start span.end)
+
+-- a key without an escape is taken, whose text stands there, or nothing
+abbrev pub ReadsShortKey : State → State → Option Span → Type 0
+ReadsShortKey old new result = MatchOption result (new ≡ old) (λ span. (u : List ℕ) × TookKey old u true new × StandsAt new.input u span.start span.end)
+
+-- a text without an escape is read, or nothing
+abbrev pub ReadsPlainText : State → State → Option (Bor (List ℕ)) → Type 0
+ReadsPlainText old new result = MatchOption result (new ≡ old) (λ t. (u : List ℕ) × TookValue old (text u true) new × (t.now ≡ encode_utf8_all u))
+
+-- a key without an escape is taken, or nothing
+abbrev pub ReadsPlainKey : State → State → Option (Bor (List ℕ)) → Type 0
+ReadsPlainKey old new result = MatchOption result (new ≡ old) (λ t. (u : List ℕ) × TookKey old u true new × (t.now ≡ encode_utf8_all u))
+
+-- the colon after a key is passed, or nothing
+abbrev pub PassesShortColon : State → State → Bool → Type 0
+PassesShortColon old new true = AfterColon old new
+PassesShortColon old new false = new ≡ old
+
+-- the text that stands there, in memory of its own; or memory ran out
+abbrev pub OwnsTextAt : {A : Type 0} → Span → State → State → Result (String A) Error → Type 0
+OwnsTextAt span old new (Ok t) = (new ≡ old) × IsTextAt old.input span (string_bytes t)
+OwnsTextAt span old new (Err e) = LacksMemory e × GivesUp old new

@@ -322,7 +322,8 @@ impl<I: Input> Deserializer<I> {
     }
 
     /// Reads a key as a text.
-    pub(crate) fn key_string(&mut self) -> Result<String>
+    #[inline(never)]
+    pub(crate) fn key_string_slowly(&mut self) -> Result<String>
         ensures { ReadsKeyAs string_key string_bytes self.old self.new result }
     {
         let key = self.found_key()?;
@@ -412,7 +413,8 @@ impl<I: Input> Deserializer<I> {
 // What is borrowed from the text.
 impl<'de, I: Borrows<'de>> Deserializer<I> {
     /// Reads a key as a text, borrowed where no escape is used.
-    pub(crate) fn key_cow(&mut self) -> Result<CowStr<'de>>
+    #[inline(never)]
+    pub(crate) fn key_cow_slowly(&mut self) -> Result<CowStr<'de>>
         ensures { ReadsKeyAs cow_key (λ t. (cow_bytes t, is_borrowed t)) self.old self.new result }
     {
         let key = self.found_key()?;
@@ -420,7 +422,8 @@ impl<'de, I: Borrows<'de>> Deserializer<I> {
     }
 
     /// Reads a key without an escape.
-    pub(crate) fn key_str(&mut self) -> Result<&'de str>
+    #[inline(never)]
+    pub(crate) fn key_str_slowly(&mut self) -> Result<&'de str>
         ensures { ReadsKeyAs plain_key (λ t. t.now) self.old self.new result }
     {
         let key = self.found_key()?;

@@ -1,17 +1,13 @@
 //! Reading of objects, one pair after another.
 
-ghost use Rattle.std.specs.Prelude.{◌≡◌, true, false, ℕ, List, IfOk, IfErr, OnOk, IsOk};
+ghost use Rattle.std.specs.Prelude.{◌≡◌, true, false, IfOk, IfErr};
 ghost use Rattle.std.specs.Borrow.{sem};
-ghost use Rattle.json5_grammar.specs.Trees.{Tree};
-ghost use Rattle.json5_grammar.specs.Members.{IsKeyValue};
 ghost use Rattle.json5_text.specs.Cursor.{Locates};
-ghost use Rattle.json5_de.specs.State.{GivesUpIfErr};
 ghost use Rattle.json5_de.specs.Law.{Steady};
-ghost use Rattle.json5_de.specs.Faults.{RefusedBy};
 ghost use Rattle.json5_de.specs.Access.{PlacedAtBracket};
-ghost use Rattle.json5_de.specs.Objects.{AfterColon, bare_map, GivesPairValue, CompletesPairValue};
+ghost use Rattle.json5_de.specs.Objects.{bare_map, GivesPairValue, CompletesPairValue};
 ghost use Rattle.json5_de.specs.Enums.{EndsObject};
-ghost use Rattle.json5_de.specs.ObjectFaults.{NoColon, RefusesPairValue};
+ghost use Rattle.json5_de.specs.ObjectFaults.{PassesColon, RefusesPairValue};
 
 use crate::de::{Deserialize, Deserializer};
 use crate::key::DeserializeKey;
@@ -84,12 +80,20 @@ impl<I: Input> Deserializer<I> {
     }
 
     /// Takes the colon after a key.
+    #[inline(always)]
     pub(crate) fn colon(&mut self) -> Result<()>
-        ensures passed { OnOk result (AfterColon self.old self.new) }
-        ensures refused { IfErr result (RefusedBy NoColon self.old) }
-        ensures complete { (t : Tree) (r : List ℕ) → self.old.failed ≡ false → IsKeyValue self.old.unread t r → IsOk result }
-        ensures failed { GivesUpIfErr self.old self.new result }
-        ensures steady { Steady self.old self.new result }
+        ensures { PassesColon self.old self.new result }
+    {
+        if self.short_colon() {
+            return Ok(());
+        }
+        self.colon_slowly()
+    }
+
+    /// The same after any blanks.
+    #[inline(never)]
+    fn colon_slowly(&mut self) -> Result<()>
+        ensures { PassesColon self.old self.new result }
     {
         self.begin()?;
         if !self.eat(':') {

@@ -26,7 +26,19 @@ pub(crate) fn only_character(text: &str) -> Option<char>
 
 impl<I: Input> Deserializer<I> {
     /// Reads a text.
+    #[inline(always)]
     pub fn deserialize_string(&mut self) -> Result<String>
+        ensures { ReadsAs string_row string_bytes self.old self.new result }
+    {
+        match self.short_string() {
+            Some(span) => self.own_text(span),
+            None => self.string_slowly(),
+        }
+    }
+
+    /// The same for any text.
+    #[inline(never)]
+    fn string_slowly(&mut self) -> Result<String>
         ensures { ReadsAs string_row string_bytes self.old self.new result }
     {
         self.begin()?;
@@ -50,7 +62,19 @@ impl<I: Input> Deserializer<I> {
 // What is borrowed from the text.
 impl<'de, I: Borrows<'de>> Deserializer<I> {
     /// Reads a text, borrowed where no escape is used, which then takes no memory.
+    #[inline(always)]
     pub fn deserialize_identifier(&mut self) -> Result<CowStr<'de>>
+        ensures { ReadsAs cow_row (λ t. (cow_bytes t, is_borrowed t)) self.old self.new result }
+    {
+        match self.short_str() {
+            Some(text) => Ok(CowStr::Borrowed(text)),
+            None => self.identifier_slowly(),
+        }
+    }
+
+    /// The same for any text.
+    #[inline(never)]
+    fn identifier_slowly(&mut self) -> Result<CowStr<'de>>
         ensures { ReadsAs cow_row (λ t. (cow_bytes t, is_borrowed t)) self.old self.new result }
     {
         self.begin()?;
@@ -58,7 +82,19 @@ impl<'de, I: Borrows<'de>> Deserializer<I> {
     }
 
     /// Reads a text without an escape, which takes no memory; another one is a custom fault at the quote.
+    #[inline(always)]
     pub fn deserialize_str(&mut self) -> Result<&'de str>
+        ensures { ReadsAs plain_row (λ t. t.now) self.old self.new result }
+    {
+        match self.short_str() {
+            Some(text) => Ok(text),
+            None => self.str_slowly(),
+        }
+    }
+
+    /// The same for any text.
+    #[inline(never)]
+    fn str_slowly(&mut self) -> Result<&'de str>
         ensures { ReadsAs plain_row (λ t. t.now) self.old self.new result }
     {
         self.begin()?;

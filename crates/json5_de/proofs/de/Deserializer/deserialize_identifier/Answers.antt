@@ -1,24 +1,11 @@
-use Rattle.std.proofs.Common.{refl}
-use Rattle.std.proofs.lemmas.Result.{err_from_is_err_and, IfOk-weaker}
-use Rattle.json5_grammar.specs.Trees as trees
-use Rattle.json5_grammar.specs.Values.{is_text}
+use Rattle.std.proofs.Common.{Some, ap, sym, true}
 use Rattle.json5_text.specs.Cows.{cow_bytes, is_borrowed}
-use Rattle.json5_de.specs.Convert.{every_cow, as_text}
-use Rattle.json5_de.specs.Rows.{plain_text}
-use Rattle.json5_de.proofs.Taken.{took_leaf}
-use Rattle.json5_de.proofs.ExpectsTexts.{text_stops}
-use Rattle.json5_de.proofs.Rows.{lawful_text, not_begun, reads_text, plain_completes}
+use Rattle.json5_grammar.specs.Trees.{text}
+use Rattle.json5_de.specs.Rows.{cow_row}
+use Rattle.json5_de.proofs.Rows.{reads_ok}
 use Rattle.json5_de.proofs.de.Deserializer.deserialize_identifier.Goals as goal
 
-pub returns-in_err-begin : goal.returns-in_err-begin
-returns-in_err-begin g c =
-    let (y, is, from) = err_from_is_err_and c.from_residual.result c.from_residual.ensures.1 in
-    rw (is, from) (not_begun (lawful_text every_cow plain_text) (λ t. (cow_bytes t, is_borrowed t)) c.args.self.now c.begin.new.self c.in_err-begin.field-0.0 c.in_err-begin.ensures.refused c.in_err-begin.ensures.failed c.in_err-begin.ensures.before)
-
-pub returns : goal.returns
-returns g c =
-    let passed = c.in_ok-begin.ensures.passed in
-    let new = c.text.new.self in
-    reads_text every_cow plain_text (λ t. (cow_bytes t, is_borrowed t)) c.args.self.now c.begin.new.self new c.text.result passed
-    (IfOk-weaker c.text.result _ _ (λ t (s, u, plain, took, str, borrowed, bytes). (trees.text u plain, took_leaf c.args.self.now c.begin.new.self new s (trees.text u plain) refl passed took (is_text str) (text_stops new.unread str), rw (bytes, borrowed) refl)) c.text.ensures.taken)
-    c.text.ensures.refused c.text.ensures.failed (plain_completes (as_text every_cow) c.args.self.now c.begin.new.self c.text.result passed c.text.ensures.complete)
+pub returns-in-Some : goal.returns-in-Some
+returns-in-Some g c =
+    let (u, took, bytes) = c.in-Some.ensures in
+    reads_ok cow_row (λ t. (cow_bytes t, is_borrowed t)) c.args.self.now c.short_str.new.self _ (text u true, took, ap (λ z. Some (z, true)) (sym bytes))

@@ -1,23 +1,5 @@
-use Rattle.std.proofs.Common.{refl, string_bytes}
-use Rattle.std.proofs.lemmas.Result.{err_from_is_err_and, IfOk-weaker}
-use Rattle.json5_grammar.specs.Trees as trees
-use Rattle.json5_grammar.specs.Values.{is_text}
-use Rattle.json5_de.specs.Convert.{every_text}
-use Rattle.json5_de.specs.Rows.{no_tree}
-use Rattle.json5_de.proofs.Taken.{took_leaf}
-use Rattle.json5_de.proofs.ExpectsTexts.{text_stops}
-use Rattle.json5_de.proofs.Rows.{lawful_text, not_begun, reads_text}
+use Rattle.json5_de.proofs.ShortReads.{own_value}
 use Rattle.json5_de.proofs.de.Deserializer.deserialize_string.Goals as goal
 
-pub returns-in_err-begin : goal.returns-in_err-begin
-returns-in_err-begin g c =
-    let (y, is, from) = err_from_is_err_and c.from_residual.result c.from_residual.ensures.1 in
-    rw (is, from) (not_begun (lawful_text every_text no_tree) string_bytes c.args.self.now c.begin.new.self c.in_err-begin.field-0.0 c.in_err-begin.ensures.refused c.in_err-begin.ensures.failed c.in_err-begin.ensures.before)
-
-pub returns : goal.returns
-returns g c =
-    let passed = c.in_ok-begin.ensures.passed in
-    let new = c.string_owned.new.self in
-    reads_text every_text no_tree string_bytes c.args.self.now c.begin.new.self new c.string_owned.result passed
-    (IfOk-weaker c.string_owned.result _ _ (λ t (s, u, plain, took, str, bytes). (trees.text u plain, took_leaf c.args.self.now c.begin.new.self new s (trees.text u plain) refl passed took (is_text str) (text_stops new.unread str), rw bytes refl)) c.string_owned.ensures.taken)
-    c.string_owned.ensures.refused c.string_owned.ensures.failed (λ t r v live reads shallow is free. absurd (cc))
+pub returns-in-Some : goal.returns-in-Some
+returns-in-Some g c = own_value c.args.self.now c.short_string.new.self c.own_text.new.self c.own_text.result c.in-Some.ensures c.own_text.ensures
