@@ -1,6 +1,5 @@
-use Rattle.std.proofs.Common.{◌∙◌, ap, sym, subst}
+use Rattle.std.proofs.Common.{◌∙◌, ap}
 use Rattle.std.specs.List.{prefix_len}
-use Rattle.std.specs.Str.{IsUtf8}
 use Rattle.json5_ser.specs.NameBytes.{is_name_byte}
 use Rattle.json5_text.proofs.NumberRuns.{counted, front_boundary}
 use Rattle.json5_ser.proofs.NamesFound.{name_ascii, name_bytes}
