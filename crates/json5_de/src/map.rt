@@ -1,6 +1,6 @@
 //! Reading of objects, one pair after another.
 
-ghost use Rattle.std.specs.Prelude.{◌≡◌, true, false, ℕ, List, None, is_some, IfOk, IfErr, OnOk, OnErr, IsOk};
+ghost use Rattle.std.specs.Prelude.{◌≡◌, true, false, ℕ, List, None, IfOk, IfErr, OnOk, OnErr, IsOk};
 ghost use Rattle.std.specs.Borrow.{sem};
 ghost use Rattle.json5_grammar.specs.declared.code.ErrorCode.TheVariants as codes;
 ghost use Rattle.json5_grammar.specs.Trees.{Tree};
@@ -10,13 +10,12 @@ ghost use Rattle.json5_text.specs.Errors.{kind_of};
 ghost use Rattle.json5_de.specs.State.{GivesUp};
 ghost use Rattle.json5_de.specs.Law.{Steady};
 ghost use Rattle.json5_de.specs.Faults.{RefusedBy};
-ghost use Rattle.json5_value.specs.Brackets.{curly};
 ghost use Rattle.json5_value.specs.Places.{StartsAfter};
-ghost use Rattle.json5_de.specs.Access.{bare, PlacedAtBracket, CompletesClose};
-ghost use Rattle.json5_de.specs.Objects.{AfterColon, bare_map, OpensMap, GivesPairKey, GivesPairValue, CompletesPairKey, CompletesPairValue};
+ghost use Rattle.json5_de.specs.Access.{PlacedAtBracket};
+ghost use Rattle.json5_de.specs.Objects.{AfterColon, bare_map, OpensMap, GivesPairValue, CompletesPairValue};
 ghost use Rattle.json5_de.specs.Enums.{EndsObject};
 ghost use Rattle.json5_de.specs.ObjectFaults as faults;
-ghost use Rattle.json5_de.specs.ObjectFaults.{BeginsKey, GoesToKey, NoColon, NoKey, PlacedAtKey, is_unplaced, RefusesPairKey, RefusesPairValue};
+ghost use Rattle.json5_de.specs.ObjectFaults.{BeginsKey, GoesToKey, NoColon, NoKey, PlacedAtKey, ReadsKeyOfPair, is_unplaced, RefusesPairValue};
 
 use crate::de::{Deserialize, Deserializer};
 use crate::key::DeserializeKey;
@@ -137,7 +136,7 @@ impl<I: Input> Deserializer<I> {
     }
 
     /// Goes to the next key and says true, or to the closing brace and says false.
-    fn goes_to_key(&mut self, due: bool) -> Result<bool>
+    pub(crate) fn goes_to_key(&mut self, due: bool) -> Result<bool>
         ensures sound { IfOk result (λ more. GoesToKey due self.old self.new more) }
         ensures refused { IfErr result (RefusedBy (NoKey due) self.old) }
         ensures nowhere { OnErr result (self.old.failed ≡ false → NoPairGoes due self.old.unread) }
@@ -153,7 +152,7 @@ impl<I: Input> Deserializer<I> {
     }
 
     /// A key's fault, at the key where it has no place and may have one.
-    fn key_fault(&self, error: Error, start: usize) -> Error
+    pub(crate) fn key_fault(&self, error: Error, start: usize) -> Error
         ensures { PlacedAtKey (StartsAfter self.now.input start) error result }
     {
         if is_unplaced(&error) {
@@ -165,11 +164,7 @@ impl<I: Input> Deserializer<I> {
 
     /// The next key of an object, or none where the closing brace is next.
     fn pair_key<K: DeserializeKey<I>>(&mut self, due: bool) -> Result<Option<K>>
-        ensures sound { IfOk result (λ o. GivesPairKey K.content K.convert (bare_map self.old due false) (bare_map self.new due (is_some o)) o) }
-        ensures complete { CompletesPairKey K.convert (bare_map self.old due false) result }
-        ensures closing { CompletesClose curly (bare self.old due) result }
-        ensures cause { IfErr result (λ e. RefusesPairKey K.refuses due self.old e self.new) }
-        ensures steady { Steady self.old self.new result }
+        ensures { ReadsKeyOfPair K.content K.convert K.refuses due self.old self.new result }
     {
         if !self.goes_to_key(due)? {
             return Ok(None);
@@ -213,7 +208,7 @@ impl<'a, I: Input> MapAccess<'a, I> {
 
     /// Blocks the reader again after a call of its own, and keeps in mind that one was refused. A fault without a place gets the
     /// opening brace's.
-    fn settle<T>(&mut self, read: Result<T>) -> Result<T>
+    pub(crate) fn settle<T>(&mut self, read: Result<T>) -> Result<T>
         ensures { SettlesMap self.old read self.new result }
     {
         self.de.set_failed(true);
