@@ -1,33 +1,33 @@
 -- A text that isn't of bytes.
-use Rattle.std.proofs.Common.{◌≡◌, ℕ, Bool, List, refl, ap, subst, ◌⊎◌, inl, inr, Some}
+use Rattle.std.proofs.Common.{◌≡◌, ◌∙◌, ℕ, Bool, true, List, refl, ap, sym, subst, ◌⊎◌, inl, inr, Some, None}
 use Rattle.std.specs.Prelude.{Result, Ok, Err, IsErrAnd}
 use Rattle.std.specs.Result.{result_ok}
-use Rattle.std.specs.Str.{encode_utf8_all}
 use Rattle.hex.specs.Hex.{decode_of}
 use Rattle.hex.specs.declared.error.FromHexError.{FromHexError}
 use Rattle.hex.specs.declared.error.FromHexError.TheVariants as hex
 use Rattle.json5_grammar.specs.declared.code.ErrorCode.TheVariants.{InvalidBytes}
-use Rattle.json5_grammar.specs.Strings.{Str}
 use Rattle.json5_text.specs.Bytes.{bytes_of}
 use Rattle.json5_text.specs.declared.byte_buf.ByteBuf.{ByteBuf}
 use Rattle.json5_text.specs.declared.error.Error.{Error}
+use Rattle.json5_text.specs.Errors.{LacksMemory}
+use Rattle.json5_de.specs.declared.found_text.FoundText.{FoundText}
 use Rattle.json5_de.specs.State.{State, GivesUp}
-use Rattle.json5_de.specs.Steps.{PassedGap, TookText, IsMismatchOf, IsUndecoded}
+use Rattle.json5_de.specs.Steps.{IsMismatchOf, IsUndecoded}
 use Rattle.json5_de.specs.Convert.{digits_bytes}
-use Rattle.json5_de.specs.Rows.{ReadsAs, bytes_row, no_tree}
-use Rattle.json5_de.proofs.Mismatches.{StartsAt}
-use Rattle.json5_de.proofs.Rows.{lawful_bytes, refuses_memory, not_coded}
+use Rattle.json5_de.specs.FoundTexts.{SpellsText, OfFound, Judges}
 
-pub undecoded : (h : FromHexError) (input : List ℕ) (offset : ℕ) (e : Error) → IsUndecoded h input offset e → IsMismatchOf (Some InvalidBytes) input offset e
+undecoded : (h : FromHexError) (input : List ℕ) (offset : ℕ) (e : Error) → IsUndecoded h input offset e → IsMismatchOf (Some InvalidBytes) input offset e
 undecoded hex.OutOfMemory input offset e k = inl k
 undecoded (hex.InvalidHexCharacter c i) input offset e k = inr k
 undecoded hex.OddLength input offset e k = inr k
 undecoded hex.InvalidStringLength input offset e k = inr k
 
-pub reads_undecoded : (old mid new last : State) (result : Result ByteBuf Error) (start : ℕ) (s u : List ℕ) (plain : Bool) (h : FromHexError) → PassedGap old mid → TookText mid s new → Str s u plain
-    → (h ≡ hex.OutOfMemory) ⊎ (decode_of (encode_utf8_all u) ≡ Err h) → StartsAt mid start → IsErrAnd result (IsUndecoded h new.input start) → GivesUp new last → ReadsAs bytes_row bytes_of old last result
-reads_undecoded old mid new last (Ok v) start s u plain h p k str why at is failed = absurd is
-reads_undecoded old mid new last (Err e) start s u plain h p k str (inl memory) at is failed =
-    refuses_memory lawful_bytes refl (λ t. refl) bytes_of old mid new last e s p k (subst (λ z. IsUndecoded z new.input start e) memory is) failed
-reads_undecoded old mid new last (Err e) start s u plain h p k str (inr none) at is failed =
-    not_coded (Some InvalidBytes) (λ e. absurd (cc)) digits_bytes no_tree bytes_of old mid new last (Err e) start s u plain p k str (ap result_ok none) at (undecoded h new.input start e is) failed
+-- the bytes of a text that was found can't be decoded
+pub judged_undecoded : (old new : State) (found : FoundText) (result : Result ByteBuf Error) (h : FromHexError) (bytes : List ℕ) → SpellsText old found.token bytes → (h ≡ hex.OutOfMemory) ⊎ (decode_of bytes ≡ Err h)
+    → IsErrAnd result (IsUndecoded h old.input found.start) → GivesUp old new → Judges true (Some InvalidBytes) digits_bytes bytes_of found old new result
+judged_undecoded old new found (Ok v) h bytes spells why is failed = absurd is
+judged_undecoded old new found (Err e) h bytes spells why is failed = record { converts = tt; kept = tt; other = by_cause why; refused = undecoded h old.input found.start e is; failed = failed }
+  where
+    by_cause : (h ≡ hex.OutOfMemory) ⊎ (decode_of bytes ≡ Err h) → ((true ≡ true) × LacksMemory e) ⊎ OfFound old found (λ u plain. digits_bytes u plain ≡ None)
+    by_cause (inl memory) = inl (refl, subst (λ z. IsUndecoded z old.input found.start e) memory is)
+    by_cause (inr none) = inr (λ u plain spelled scalars. ap (λ b. result_ok (decode_of b)) (sym (spells u plain spelled)) ∙ ap result_ok none)

@@ -1,6 +1,6 @@
 -- What a read of a key means, from its steps.
-use Rattle.std.proofs.Common.{◌≡◌, ℕ, Bool, false, List, [], ◌++◌, refl, ap, sym, ◌∙◌, subst, ◌⊎◌, inl, inr, Option, Some, None}
-use Rattle.std.specs.Prelude.{Result, Ok, Err, IsErrAnd, length}
+use Rattle.std.proofs.Common.{◌≡◌, ℕ, Bool, true, false, List, [], ◌++◌, refl, ap, sym, ◌∙◌, subst, ◌⊎◌, inl, inr, Option, Some, None}
+use Rattle.std.specs.Prelude.{Result, Ok, Err, length}
 use Rattle.std.specs.Str.{encode_utf8_all, chars}
 use Rattle.std.proofs.lemmas.Bool.{false≢true}
 use Rattle.std.proofs.lemmas.List.{append-nil}
@@ -18,29 +18,22 @@ use Rattle.json5_grammar.proofs.Basics.{none_some, true_false}
 use Rattle.json5_grammar.proofs.BlanksSound.{gap_blanks, no_blank_fault, one_gap}
 use Rattle.json5_grammar.proofs.MembersPairs.{one_reads_key}
 use Rattle.json5_grammar.proofs.ValueHeads.{key_head, key_solid}
-use Rattle.hex.specs.Hex.{decode_of}
-use Rattle.hex.specs.declared.error.FromHexError.{FromHexError}
-use Rattle.hex.specs.declared.error.FromHexError.TheVariants as hex
-use Rattle.std.specs.Result.{result_ok}
-use Rattle.json5_text.specs.Bytes.{bytes_of}
-use Rattle.json5_text.specs.declared.byte_buf.ByteBuf.{ByteBuf}
 use Rattle.json5_text.specs.declared.error.Error.{Error}
 use Rattle.json5_text.specs.Errors.{LacksMemory, code, custom, kind_of, place_of}
 use Rattle.json5_text.specs.Cursor.{Refused, Says, IsOutOfMemory}
 use Rattle.json5_text.specs.Tokens.{FaultyBlanks, FaultyKey}
-use Rattle.json5_de.specs.declared.key.FoundKey.{FoundKey}
+use Rattle.json5_de.specs.declared.found_text.FoundText.{FoundText}
 use Rattle.json5_de.specs.State.{State, GivesUp, cursor_of}
 use Rattle.json5_de.specs.Law.{StaysFailed, IsUnprompted}
 use Rattle.json5_de.specs.ConvertLists.{if_some}
 use Rattle.json5_de.specs.Faults.{AfterBlanks, in_blanks, after_gap, RefusedBy, RefusedByOrMemory}
 use Rattle.json5_de.specs.Keys.{TookKey, KeyConversion, GivesKey, CompletesKey, OneKeyAnswer, ReadsOneKey, every_key}
-use Rattle.json5_de.specs.KeyRows.{KeyFault, KeyRow, NotKey, no_key, other_key, ReadsKeyAs, not_converted, coded_text_key, text_key, bytes_key, document_key, document_of, NotDocument, some_of}
-use Rattle.json5_de.specs.KeySteps.{TookKeyAt, IsTextFault, no_memory, at_key, is_out_of_memory}
+use Rattle.json5_de.specs.KeyRows.{KeyFault, KeyRow, NotKey, no_key, other_key, ReadsKeyAs, not_converted, coded_text_key, text_key, document_key, document_of, NotDocument, some_of}
+use Rattle.json5_de.specs.FoundTexts.{TookKeyAt, Judges, OfFound}
+use Rattle.json5_de.specs.KeySteps.{IsTextFault, no_memory, at_key, is_out_of_memory}
 use Rattle.json5_de.specs.Rows.{Row, RefusedAs}
-use Rattle.json5_de.specs.Steps.{PassedGap, IsMismatch, IsMismatchOf, IsUndecoded}
+use Rattle.json5_de.specs.Steps.{PassedGap, IsMismatch, IsMismatchOf}
 use Rattle.json5_de.specs.Texts.{ReadsDocument, RefusesReading}
-use Rattle.json5_de.specs.Convert.{digits_bytes}
-use Rattle.json5_de.proofs.BytesDecoded.{undecoded}
 use Rattle.json5_value.proofs.OtherCodes.{key_lacks, memory_other}
 use Rattle.json5_de.proofs.Rows.{refused_other, given_up_after}
 use Rattle.json5_de.proofs.Taken.{input_of, refused_token}
@@ -52,15 +45,15 @@ key_gap : {s u : List ℕ} {plain : Bool} (w x r : List ℕ) → Key s r u plain
 key_gap w x r k g e = let head = key_head k in gap_blanks head.char (head.more ++ r) (subst (Gap w) (e ∙ ap (λ z. z ++ r) head.is) g)
 
 -- the key that was taken was read from the front
-pub took_key : (old new : State) (key : FoundKey) → (k : TookKeyAt old new key) → TookKey old k.text k.plain new
+pub took_key : (old new : State) (key : FoundText) → (k : TookKeyAt old new key) → TookKey old k.text k.plain new
 took_key old new key k = record {
   live = k.passed.live;
   reads = record {
     front = k.passed.gap;
     spelling = k.spelling;
     split = k.passed.split ∙ ap (λ y. k.passed.gap ++ y) k.took.split;
-    blank = key_gap k.passed.gap k.between.unread new.unread k.is_key k.passed.is_gap k.took.split;
-    key = k.is_key;
+    blank = key_gap k.passed.gap k.between.unread new.unread k.is_spelling k.passed.is_gap k.took.split;
+    key = k.is_spelling;
   };
   rest = k.took.rest ∙ ap (λ (m : State). record m { unread = new.unread }) k.passed.rest;
 }
@@ -76,7 +69,7 @@ no_fault_before old e u plain r h f =
     no_blank_fault (Gap.blanks h.blank) (key_solid r (key_head h.key)) (subst (λ x. BlankFault x f.reason f.place before part shown) h.split fault)
 
 -- it is the key that was taken
-the_key : (old new : State) (key : FoundKey) (u : List ℕ) (plain : Bool) (r : List ℕ) → (k : TookKeyAt old new key) → ReadsKey old.unread u plain r → (k.text ≡ u) × (k.plain ≡ plain)
+the_key : (old new : State) (key : FoundText) (u : List ℕ) (plain : Bool) (r : List ℕ) → (k : TookKeyAt old new key) → ReadsKey old.unread u plain r → (k.text ≡ u) × (k.plain ≡ plain)
 the_key old new key u plain r k h = let one = one_reads_key old.unread new.unread r k.text u k.plain plain (took_key old new key k).reads h in (one.0, one.1)
 
 -- ---- the law of a key, from its steps
@@ -106,7 +99,7 @@ key_other old e (inl m) live = memory_other e m.kind
 key_other old e (inr k) live = refused_other key_lacks old e k live
 
 -- no key was found
-pub not_found : {V C : Type 0} (row : KeyRow C) (content : V → C) (old new : State) (e : Error) → RefusedByOrMemory FaultyKey old e → CompletesKey {V = FoundKey} every_key old (Err e) → GivesUp old new → StaysFailed {V = FoundKey} old new (Err e)
+pub not_found : {V C : Type 0} (row : KeyRow C) (content : V → C) (old new : State) (e : Error) → RefusedByOrMemory FaultyKey old e → CompletesKey {V = FoundText} every_key old (Err e) → GivesUp old new → StaysFailed {V = FoundText} old new (Err e)
     → ReadsKeyAs row content old new (Err e)
 not_found row content old new e k complete failed before = record {
   sound = tt;
@@ -119,7 +112,7 @@ not_found row content old new e k complete failed before = record {
 }
 
 -- a key was found, and refused
-refuses_found : {V C : Type 0} (row : KeyRow C) (content : V → C) (old new last : State) (key : FoundKey) (e : Error) → (k : TookKeyAt old new key) → (row.convert k.text k.plain ≡ None) ⊎ IsOutOfMemory e → RefusedByOrMemory (NotKey row.IsFault) old e → IsUnprompted e → GivesUp new last
+refuses_found : {V C : Type 0} (row : KeyRow C) (content : V → C) (old new last : State) (key : FoundText) (e : Error) → (k : TookKeyAt old new key) → (row.convert k.text k.plain ≡ None) ⊎ IsOutOfMemory e → RefusedByOrMemory (NotKey row.IsFault) old e → IsUnprompted e → GivesUp new last
     → ReadsKeyAs row content old last (Err e)
 refuses_found {C = C} row content old new last key e k not refused other gives_up = let failed = given_up_after old k.between new last k.spelling k.passed k.took gives_up in record {
   sound = tt;
@@ -138,24 +131,24 @@ refuses_found {C = C} row content old new last key e k not refused other gives_u
     completes (inr m) u plain r c live reads is = m
 
 -- a fault of its text, at the key
-refused_key : {IsFault : KeyFault} (old new : State) (key : FoundKey) (e : Error) (reason : Option ErrorCode) → (k : TookKeyAt old new key) → IsFault k.text k.plain reason → Says reason e
+refused_key : {IsFault : KeyFault} (old new : State) (key : FoundText) (e : Error) (reason : Option ErrorCode) → (k : TookKeyAt old new key) → IsFault k.text k.plain reason → Says reason e
     → ((before rest : List ℕ) → new.input ≡ before ++ rest → key.start ≡ length (encode_utf8_all before) → place_of e ≡ Some (position_after before)) → RefusedBy (NotKey IsFault) old e
 refused_key {IsFault = IsFault} old new key e reason k fault says placed = refused_token old k.between e k.passed (record {
   reason = reason;
   place = Some [];
-  fault = subst (λ x. NotKey IsFault x reason (Some [])) (sym k.took.split) (other_key new.unread k.is_key fault);
+  fault = subst (λ x. NotKey IsFault x reason (Some [])) (sym k.took.split) (other_key new.unread k.is_spelling fault);
   says = says;
   placed = λ before whole. subst (λ z. place_of e ≡ Some (position_after z)) (sym (append-nil before)) (placed before k.between.unread (input_of k.took.rest ∙ whole) (k.counted before whole));
 })
 
 -- memory ran out
-pub key_lacks_memory : {V C : Type 0} (row : KeyRow C) (content : V → C) (old new last : State) (key : FoundKey) (e : Error) → TookKeyAt old new key → LacksMemory e → GivesUp new last → ReadsKeyAs row content old last (Err e)
+pub key_lacks_memory : {V C : Type 0} (row : KeyRow C) (content : V → C) (old new last : State) (key : FoundText) (e : Error) → TookKeyAt old new key → LacksMemory e → GivesUp new last → ReadsKeyAs row content old last (Err e)
 key_lacks_memory row content old new last key e k m failed = refuses_found row content old new last key e k (inr m.kind) (inl m) (memory_other e m.kind) failed
 
 -- ---- texts
 
 -- the text converts
-pub key_is_text : {V C : Type 0} {of_other : Option ErrorCode} (f : KeyConversion C) (content : V → C) (old new : State) (key : FoundKey) (v : V) → (k : TookKeyAt old new key) → f k.text k.plain ≡ Some (content v) → ReadsKeyAs (coded_text_key of_other f) content old new (Ok v)
+pub key_is_text : {V C : Type 0} {of_other : Option ErrorCode} (f : KeyConversion C) (content : V → C) (old new : State) (key : FoundText) (v : V) → (k : TookKeyAt old new key) → f k.text k.plain ≡ Some (content v) → ReadsKeyAs (coded_text_key of_other f) content old new (Ok v)
 key_is_text f content old new key v k is = key_ok content f _ old new v (k.text, k.plain, took_key old new key k, is)
 
 pub mismatch_other : (of_other : Option ErrorCode) (input : List ℕ) (start : ℕ) (e : Error) → (of_other ≡ Some codes.Failed → ⊥) → IsMismatchOf of_other input start e → IsUnprompted e
@@ -164,7 +157,7 @@ mismatch_other None input start e unlike (inr ((own, says), placed)) = λ k. let
 mismatch_other (Some c) input start e unlike (inr (says, placed)) = λ k. let same : code c ≡ code codes.Failed = sym says ∙ k in unlike (ap Some (cc))
 
 -- it doesn't
-pub key_not_coded : {V C : Type 0} (of_other : Option ErrorCode) (f : KeyConversion C) (content : V → C) (old new last : State) (key : FoundKey) (e : Error) → (of_other ≡ Some codes.Failed → ⊥) → (k : TookKeyAt old new key) → f k.text k.plain ≡ None
+pub key_not_coded : {V C : Type 0} (of_other : Option ErrorCode) (f : KeyConversion C) (content : V → C) (old new last : State) (key : FoundText) (e : Error) → (of_other ≡ Some codes.Failed → ⊥) → (k : TookKeyAt old new key) → f k.text k.plain ≡ None
     → IsMismatchOf of_other new.input key.start e → GivesUp new last → ReadsKeyAs (coded_text_key of_other f) content old last (Err e)
 key_not_coded of_other f content old new last key e unlike k none is failed =
     refuses_found (coded_text_key of_other f) content old new last key e k (inl none) (refused is) (mismatch_other of_other new.input key.start e unlike is) failed
@@ -173,32 +166,35 @@ key_not_coded of_other f content old new last key e unlike k none is failed =
     refused (inl m) = inl m
     refused (inr (says, placed)) = inr (refused_key old new key e of_other k (refl, none) says placed)
 
-pub key_not_text : {V C : Type 0} (f : KeyConversion C) (content : V → C) (old new last : State) (key : FoundKey) (e : Error) → (k : TookKeyAt old new key) → f k.text k.plain ≡ None → IsMismatch new.input key.start e → GivesUp new last
+pub key_not_text : {V C : Type 0} (f : KeyConversion C) (content : V → C) (old new last : State) (key : FoundText) (e : Error) → (k : TookKeyAt old new key) → f k.text k.plain ≡ None → IsMismatch new.input key.start e → GivesUp new last
     → ReadsKeyAs (text_key f) content old last (Err e)
 key_not_text f content old new last key e k none is failed = key_not_coded None f content old new last key e (λ e. absurd (cc)) k none is failed
 
--- the bytes of a text that isn't of bytes
-pub key_undecoded : (old new last : State) (key : FoundKey) (result : Result ByteBuf Error) (h : FromHexError) → (k : TookKeyAt old new key) → (h ≡ hex.OutOfMemory) ⊎ (decode_of (encode_utf8_all k.text) ≡ Err h)
-    → IsErrAnd result (IsUndecoded h new.input key.start) → GivesUp new last → ReadsKeyAs bytes_key bytes_of old last result
-key_undecoded old new last key (Ok v) h k why is failed = absurd is
-key_undecoded old new last key (Err e) h k (inl memory) is failed = key_lacks_memory bytes_key bytes_of old new last key e k (subst (λ z. IsUndecoded z new.input key.start e) memory is) failed
-key_undecoded old new last key (Err e) h k (inr none) is failed =
-    key_not_coded (Some codes.InvalidBytes) digits_bytes bytes_of old new last key e (λ e. absurd (cc)) k (ap result_ok none) (undecoded h new.input key.start e is) failed
+-- the text is looked at where it stands
+pub key_judged : {V C : Type 0} (lacks : Bool) (of_other : Option ErrorCode) → (of_other ≡ Some codes.Failed → ⊥) → (f : KeyConversion C) (content : V → C) (old new last : State) (key : FoundText) (result : Result V Error) → TookKeyAt old new key
+    → Judges lacks of_other f content key new last result → ReadsKeyAs (coded_text_key of_other f) content old last result
+key_judged lacks of_other unlike f content old new last key (Ok v) k j =
+    subst (λ s. ReadsKeyAs (coded_text_key of_other f) content old s (Ok v)) (sym j.kept) (key_is_text f content old new key v k (j.converts k.text k.plain k.is_text k.scalars))
+key_judged {V = V} {C = C} lacks of_other unlike f content old new last key (Err e) k j = by_cause j.other
+  where
+    by_cause : ((lacks ≡ true) × LacksMemory e) ⊎ OfFound new key (λ u plain. f u plain ≡ None) → ReadsKeyAs (coded_text_key of_other f) content old last (Err e)
+    by_cause (inl (may, memory)) = key_lacks_memory (coded_text_key of_other f) content old new last key e k memory j.failed
+    by_cause (inr none) = key_not_coded of_other f content old new last key e unlike k (none k.text k.plain k.is_text k.scalars) j.refused j.failed
 
 -- the characters of the bytes of its text
-pub key_characters : (old new : State) (key : FoundKey) (bytes : List ℕ) → (k : TookKeyAt old new key) → bytes ≡ encode_utf8_all k.text → chars bytes ≡ k.text
+pub key_characters : (old new : State) (key : FoundText) (bytes : List ℕ) → (k : TookKeyAt old new key) → bytes ≡ encode_utf8_all k.text → chars bytes ≡ k.text
 key_characters old new key bytes k same = ap chars same ∙ chars-encodes k.text k.scalars
 
 -- ---- documents
 
 -- the text is a document that converts
-pub key_is_document : {V C : Type 0} (row : Row C) (content : V → C) (old new : State) (key : FoundKey) (v : V) (x : List ℕ) → (k : TookKeyAt old new key) → x ≡ k.text → ((t : Tree) × Doc max_depth x t × (row.convert t ≡ Some (content v)))
+pub key_is_document : {V C : Type 0} (row : Row C) (content : V → C) (old new : State) (key : FoundText) (v : V) (x : List ℕ) → (k : TookKeyAt old new key) → x ≡ k.text → ((t : Tree) × Doc max_depth x t × (row.convert t ≡ Some (content v)))
     → ReadsKeyAs (document_key row) content old new (Ok v)
 key_is_document row content old new key v x k same (t, doc, is) =
     key_ok content (document_of row.convert) _ old new v (k.text, k.plain, took_key old new key k, converts row.convert k.text k.plain t (content v) (subst (λ z. Doc max_depth z t) same doc) is)
 
 -- it isn't
-pub key_no_document : {V C : Type 0} (row : Row C) (content : V → C) (old new last : State) (key : FoundKey) (x : List ℕ) (own e : Error) → (k : TookKeyAt old new key) → x ≡ k.text → ReadsDocument content row.convert max_depth x (Err own)
+pub key_no_document : {V C : Type 0} (row : Row C) (content : V → C) (old new last : State) (key : FoundText) (x : List ℕ) (own e : Error) → (k : TookKeyAt old new key) → x ≡ k.text → ReadsDocument content row.convert max_depth x (Err own)
     → RefusesReading row.convert (RefusedAs row) max_depth x own → IsUnprompted own → IsTextFault new.input key.start own e → GivesUp new last → ReadsKeyAs (document_key row) content old last (Err e)
 key_no_document {C = C} row content old new last key x own e k same complete refuses other fault failed = let gives_up = given_up_after old k.between new last k.spelling k.passed k.took failed in record {
   sound = tt;

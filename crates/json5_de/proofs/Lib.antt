@@ -34,6 +34,7 @@ pub mod TreeFaults
 pub mod TreesRead
 pub mod TreeCodes
 pub mod BytesDecoded
+pub mod FoundStrings
 pub mod Pairs
 pub mod PairCodes
 pub mod MapCalls

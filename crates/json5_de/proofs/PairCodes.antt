@@ -23,7 +23,7 @@ use Rattle.json5_text.specs.Errors.{code, kind_of}
 use Rattle.json5_text.specs.Cursor.{Refused}
 use Rattle.json5_text.specs.Tokens.{FaultyBlanks}
 use Rattle.json5_de.specs.State.{State, OnlyRead, SameText, cursor_of}
-use Rattle.json5_de.specs.Law.{TookValue}
+use Rattle.json5_de.specs.Law.{TookValue, Steady, IsUnprompted}
 use Rattle.json5_de.specs.Steps.{PassedGap, TookText}
 use Rattle.json5_de.specs.Keys.{KeyConversion, TookKey, GivesKey, CompletesKey}
 use Rattle.json5_value.specs.Brackets.{curly}
@@ -34,7 +34,7 @@ use Rattle.json5_value.specs.Places.{StartsAfter}
 use Rattle.json5_de.specs.Seq.{IsAfterGap, Begun, AtMember, NothingNext, NoNext, no_comma, comma_missing, in_blanks_after}
 use Rattle.json5_de.specs.Objects.{SeenMap, bare_map, TookPairKey, AfterColon, TookPairValue, GivesPairKey, GivesPairValue, CompletesPairKey}
 use Rattle.json5_de.proofs.Offsets.{placed_where}
-use Rattle.json5_de.specs.ObjectFaults.{begins_key, AtKey, NoKeyHere, no_key, key_missing, NoKey, no_next, not_here, not_after_comma, PlacedAtKey, at_key, as_it_is, RefusesPairKey, not_reached, in_key, begins_next_key, no_key_code, RefusesNextKey, NoColon, no_colon, colon_missing, is_colon, RefusesPairValue, no_value, in_value, RefusesNextValue}
+use Rattle.json5_de.specs.ObjectFaults.{begins_key, AtKey, NoKeyHere, no_key, key_missing, NoKey, no_next, not_here, not_after_comma, PlacedAtKey, at_key, as_it_is, RefusesPairKey, not_reached, in_key, ReadsKeyOfPair, begins_next_key, no_key_code, RefusesNextKey, NoColon, no_colon, colon_missing, is_colon, RefusesPairValue, no_value, in_value, RefusesNextValue}
 use Rattle.json5_de.proofs.Expected.{Expected, end_fault, other_fault}
 use Rattle.json5_de.proofs.Taken.{input_of, placed_after, refused_token}
 use Rattle.json5_de.proofs.Places.{refused_as, refused_after}
@@ -283,7 +283,7 @@ refuses_next_key refuses old new after own e cause other before p failed =
     differs (in_key start k there c placed) w o = absurd (other_at_key old.at.due old.at.reader start w o there)
 
 -- a key's fault keeps what it says, but for its place
-pub key_kind : (IsBefore : List ℕ → Type 0) (own e : Error) → PlacedAtKey IsBefore own e → kind_of e ≡ kind_of own
+key_kind : (IsBefore : List ℕ → Type 0) (own e : Error) → PlacedAtKey IsBefore own e → kind_of e ≡ kind_of own
 key_kind IsBefore own e (at_key h p) = p.kind
 key_kind IsBefore own e (as_it_is h kind place) = kind
 
@@ -295,17 +295,44 @@ placed_before mid end offset own e same counted (as_it_is h kind place) = as_it_
 
 -- what a key's type reads at a key
 module _ {K C : Type 0} (content : K → C) (convert : KeyConversion C) (refuses : State → Error → State → Type 0) (due : Bool) (s mid end : State) (at : AtKey due s mid) where
-  pub key_given : (k : K) → GivesKey content convert mid end k → GivesPairKey content convert (bare_map s due false) (bare_map end due true) (Some k)
+  key_given : (k : K) → GivesKey content convert mid end k → GivesPairKey content convert (bare_map s due false) (bare_map end due true) (Some k)
   key_given k (u, p, took, is) = (u, p, took_pair_key due s mid end u p at took, is, refl, refl)
 
-  pub key_completes : (own e : Error) → kind_of e ≡ kind_of own → CompletesKey {V = K} convert mid (Err own) → CompletesPairKey {V = Option K} convert (bare_map s due false) (Err e)
+  key_completes : (own e : Error) → kind_of e ≡ kind_of own → CompletesKey {V = K} convert mid (Err own) → CompletesPairKey {V = Option K} convert (bare_map s due false) (Err e)
   key_completes own e same complete u p r c live key is =
       same ∙ complete u p r c (failed_of at.member.rest ∙ live) (pair_key_found due s.unread mid.unread r u p at.member.begun key) is
 
-  pub key_cause : (own e : Error) (offset : ℕ) → SameText mid end → ((before : List ℕ) → mid.input ≡ before ++ mid.unread → offset ≡ length (encode_utf8_all before)) → PlacedAtKey (StartsAfter end.input offset) own e
+  key_cause : (own e : Error) (offset : ℕ) → SameText mid end → ((before : List ℕ) → mid.input ≡ before ++ mid.unread → offset ≡ length (encode_utf8_all before)) → PlacedAtKey (StartsAfter end.input offset) own e
       → refuses mid own end → RefusesPairKey refuses due s e end
   key_cause own e offset same counted placed r =
       in_key mid own at r (placed_before mid end offset own e same counted placed)
+
+  -- a key was read
+  pub read_key_given : (more : Bool) (k : K) → Steady {V = Bool} s mid (Ok more) → GivesKey content convert mid end k → SameText mid end → ReadsKeyOfPair content convert refuses due s end (Ok (Some k))
+  read_key_given more k before gives same = record {
+    sound = key_given k gives;
+    complete = λ u plain r c live key is. tt;
+    closing = λ r live close. refl;
+    cause = tt;
+    steady = record { same_text = same ∙ before.same_text; unprompted = tt; before = λ h. absurd (before.before h) };
+  }
+
+  -- or refused
+  pub read_key_refused : (more : Bool) (own e : Error) (offset : ℕ) → Steady {V = Bool} s mid (Ok more) → CompletesKey {V = K} convert mid (Err own) → refuses mid own end → (mid.failed ≡ false → IsUnprompted own) → SameText mid end
+      → ((before : List ℕ) → mid.input ≡ before ++ mid.unread → offset ≡ length (encode_utf8_all before)) → PlacedAtKey (StartsAfter end.input offset) own e → ReadsKeyOfPair content convert refuses due s end (Err e)
+  read_key_refused more own e offset before complete refused unprompted same counted placed =
+      let kind = key_kind _ own e placed in
+      record {
+        sound = tt;
+        complete = key_completes own e kind complete;
+        closing = λ r live close. absurd (no_close_found curly curly_signs due s.unread mid.unread r at.member.begun at.member.inside close);
+        cause = key_cause own e offset same counted placed refused;
+        steady = record {
+          same_text = same ∙ before.same_text;
+          unprompted = λ live failed. unprompted (failed_of at.member.rest ∙ live) (sym kind ∙ failed);
+          before = λ h. absurd (before.before h);
+        };
+      }
 
 -- ---- a colon and a value
 

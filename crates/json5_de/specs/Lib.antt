@@ -13,6 +13,7 @@ pub mod Short
 pub mod Lists
 pub mod Keys
 pub mod KeyRows
+pub mod FoundTexts
 pub mod KeySteps
 pub mod Takes
 pub mod Objects

@@ -1,5 +1,5 @@
 -- How the calls of an access to an object refuse.
-use Rattle.std.specs.Prelude.{◌≡◌, ℕ, Bool, true, false, ◌==◌, ◌||◌, List, [], ◌∷◌, ◌++◌, Option, Some, None, Result, IfErr, OnOk, OnErr, IsOk}
+use Rattle.std.specs.Prelude.{◌≡◌, ℕ, Bool, true, false, ◌==◌, ◌||◌, List, [], ◌∷◌, ◌++◌, Option, Some, None, is_some, Result, IfOk, IfErr, OnOk, OnErr, IsOk}
 use Rattle.json5_grammar.specs.declared.code.ErrorCode.{ErrorCode}
 use Rattle.json5_grammar.specs.declared.code.ErrorCode.TheVariants as codes
 use Rattle.json5_grammar.specs.Codes.{after_text}
@@ -14,9 +14,10 @@ use Rattle.json5_de.specs.Law.{Steady}
 use Rattle.json5_value.specs.Places.{PlacedAt}
 use Rattle.json5_value.specs.Brackets.{curly}
 use Rattle.json5_de.specs.Faults.{AfterBlanks, RefusedBy}
-use Rattle.json5_de.specs.Access.{AtClose, is_comma_or_closing}
+use Rattle.json5_de.specs.Access.{AtClose, CompletesClose, bare, is_comma_or_closing}
 use Rattle.json5_de.specs.Seq.{AtMember, NoNext, PlacedFault, RefusesCall}
-use Rattle.json5_de.specs.Objects.{SeenMap, AfterColon}
+use Rattle.json5_de.specs.Keys.{KeyConversion}
+use Rattle.json5_de.specs.Objects.{SeenMap, AfterColon, GivesPairKey, CompletesPairKey, bare_map}
 
 -- a quote, a backslash or an identifier start
 abbrev pub begins_key : ℕ → Bool
@@ -81,6 +82,14 @@ pub data PlacedAtKey (IsBefore : List ℕ → Type 0) (own e : Error) : Type 0 w
 pub data RefusesPairKey (refuses : State → Error → State → Type 0) (due : Bool) (old : State) (e : Error) (after : State) : Type 0 where
   not_reached : RefusedBy (NoKey due) old e → RefusesPairKey refuses due old e after
   in_key : (start : State) (own : Error) → AtKey due old start → refuses start own after → PlacedAtKey (λ before. start.input ≡ before ++ start.unread) own e → RefusesPairKey refuses due old e after
+
+-- the next key of an object is read, or none where the closing brace is next
+pub record ReadsKeyOfPair {K C : Type 0} (content : K → C) (convert : KeyConversion C) (refuses : State → Error → State → Type 0) (due : Bool) (old new : State) (result : Result (Option K) Error) : Type 0 where
+  pub sound : IfOk result (λ o. GivesPairKey content convert (bare_map old due false) (bare_map new due (is_some o)) o)
+  pub complete : CompletesPairKey convert (bare_map old due false) result
+  pub closing : CompletesClose curly (bare old due) result
+  pub cause : IfErr result (λ e. RefusesPairKey refuses due old e new)
+  pub steady : Steady old new result
 
 -- what is next at a key: after a pair the comma or the brace, else a key or the brace
 abbrev pub begins_next_key : Bool → ℕ → Bool

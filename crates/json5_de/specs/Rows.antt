@@ -104,9 +104,9 @@ text_row = coded_text_row None
 abbrev pub string_row : Row (List ℕ)
 string_row = text_row every_text no_tree
 
--- one character
+-- one character; a plain text takes no memory
 abbrev pub char_row : Row ℕ
-char_row = text_row one_character no_tree
+char_row = text_row one_character plain_text
 
 -- a text without a backslash
 abbrev pub plain_row : Row (List ℕ)
@@ -116,9 +116,9 @@ plain_row = text_row if_plain every_tree
 abbrev pub cow_row : Row (List ℕ × Bool)
 cow_row = text_row every_cow plain_text
 
--- one of these names, by its first place among them
+-- one of these names, by its first place among them; a plain text takes no memory
 abbrev pub variant_row : List (List ℕ) → Row ℕ
-variant_row names = text_row (place_among names) no_tree
+variant_row names = text_row (place_among names) plain_text
 
 -- bytes, as a text of hexadecimal digits
 abbrev pub bytes_row : Row (List ℕ)

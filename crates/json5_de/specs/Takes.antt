@@ -8,7 +8,7 @@ use Rattle.json5_grammar.specs.Stops.{lengthens}
 use Rattle.json5_grammar.specs.Strings.{Str}
 use Rattle.json5_text.specs.declared.cow_str.CowStr.{CowStr}
 use Rattle.json5_text.specs.declared.error.Error.{Error}
-use Rattle.json5_text.specs.declared.key_text.KeyText.{KeyText}
+use Rattle.json5_text.specs.declared.text_token.TextToken.{TextToken}
 use Rattle.json5_text.specs.declared.number.Number as token
 use Rattle.json5_text.specs.Cursor.{Refused}
 use Rattle.json5_text.specs.Errors.{LacksMemory}
@@ -18,7 +18,7 @@ use Rattle.json5_de.specs.State.{State, GivesUp, cursor_of}
 use Rattle.json5_de.specs.Faults.{FaultRelation}
 use Rattle.json5_de.specs.Law.{StaysFailed, Unprompted}
 use Rattle.json5_de.specs.Steps.{PassedGap, TookText, TookNumber, TookOwned, TookCharacters, TookCow, RefusesToken}
-use Rattle.json5_de.specs.KeySteps.{TookKeyText}
+use Rattle.json5_de.specs.FoundTexts.{TookToken, IsString}
 
 -- blanks are passed over, where there was no refusal before
 pub record PassesGap (old new : State) (result : Result (Unit {0}) Error) : Type 0 where
@@ -64,10 +64,18 @@ number = record {
   Completes = λ x result. (s r : List ℕ) (n : Number) → x ≡ s ++ r → Num s n → NotBegun (lengthens s) r → keeps_digits n ≡ false → IsOk result;
 }
 
--- a string, its text borrowed where it is plain, which takes no memory
+-- a plain string takes no memory
+abbrev pub CompletesPlain : {V : Type 0} → List ℕ → Result V Error → Type 0
+CompletesPlain x result = (s u r : List ℕ) → x ≡ s ++ r → Str s u true → IsOk result
+
+-- a string, its text borrowed where it is plain
 abbrev pub string : Token CowStr
-string = record { Took = TookCow; IsFault = FaultyString; Completes = λ x result. (s u r : List ℕ) → x ≡ s ++ r → Str s u true → IsOk result }
+string = record { Took = TookCow; IsFault = FaultyString; Completes = CompletesPlain }
+
+-- a string, to its token
+abbrev pub string_token : Token TextToken
+string_token = record { Took = TookToken IsString; IsFault = FaultyString; Completes = CompletesPlain }
 
 -- a key
-abbrev pub key : Token KeyText
-key = record { Took = TookKeyText; IsFault = FaultyKey; Completes = λ x result. (s u r : List ℕ) (plain : Bool) → x ≡ s ++ r → Key s r u plain → IfErr result LacksMemory }
+abbrev pub key : Token TextToken
+key = record { Took = TookToken Key; IsFault = FaultyKey; Completes = λ x result. (s u r : List ℕ) (plain : Bool) → x ≡ s ++ r → Key s r u plain → IfErr result LacksMemory }

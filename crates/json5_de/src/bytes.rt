@@ -1,11 +1,16 @@
 //! Reading of bytes.
 
-ghost use Rattle.std.specs.Prelude.{Some};
+ghost use Rattle.std.specs.Prelude.{true, Some};
+ghost use Rattle.json5_grammar.specs.declared.code.ErrorCode.TheVariants as codes;
+ghost use Rattle.json5_text.specs.Bytes.{bytes_of};
+ghost use Rattle.json5_de.specs.Convert.{digits_bytes};
+ghost use Rattle.json5_de.specs.FoundTexts.{Judges};
 ghost use Rattle.json5_de.specs.Rows.{ReadsBytes};
 ghost use Rattle.json5_de.specs.State.{GivesUpWith};
 ghost use Rattle.json5_de.specs.Steps.{IsFaultAt, IsUndecoded};
 
 use crate::de::Deserializer;
+use crate::found_text::FoundText;
 use hex::FromHexError;
 use json5_text::ErrorCode;
 use json5_text::byte_buf::ByteBuf;
@@ -18,13 +23,8 @@ impl<I: Input> Deserializer<I> {
     pub fn deserialize_bytes(&mut self) -> Result<ByteBuf>
         ensures { ReadsBytes self.old self.new result }
     {
-        self.begin()?;
-        let start = self.offset();
-        let text = self.string_owned()?;
-        match hex::decode(self.allocator(), text.as_str()) {
-            Ok(bytes) => Ok(ByteBuf::from_vec(bytes)),
-            Err(error) => self.undecoded(start, error),
-        }
+        let string = self.found_string()?;
+        self.bytes_of(&string)
     }
 
     /// As `deserialize_bytes`.
@@ -34,8 +34,18 @@ impl<I: Input> Deserializer<I> {
         self.deserialize_bytes()
     }
 
+    /// The bytes that the hexadecimal digits of a text that was found stand for; of another text `InvalidBytes` at its start.
+    pub(crate) fn bytes_of(&mut self, found: &FoundText) -> Result<ByteBuf>
+        ensures { Judges true (Some codes.InvalidBytes) digits_bytes bytes_of found.now self.old self.new result }
+    {
+        match hex::decode(self.allocator(), self.token_text(&found.token)) {
+            Ok(bytes) => Ok(ByteBuf::from_vec(bytes)),
+            Err(error) => self.undecoded(found.start, error),
+        }
+    }
+
     /// Refuses a text at the offset that was decoded with this fault.
-    pub(crate) fn undecoded<T>(&mut self, offset: usize, error: FromHexError) -> Result<T>
+    fn undecoded<T>(&mut self, offset: usize, error: FromHexError) -> Result<T>
         ensures { GivesUpWith (IsUndecoded error self.old.input offset) self.old self.new result }
     {
         match error {

@@ -15,7 +15,7 @@ ghost use Rattle.json5_de.specs.Faults.{IsUnplaced};
 ghost use Rattle.json5_de.specs.Law.{Gives, Completes, CompletesFree, Unprompted};
 ghost use Rattle.json5_de.specs.Seq.{IsUnexpected};
 ghost use Rattle.json5_de.specs.Steps.{Eats, IsCount, IsMismatch};
-ghost use Rattle.json5_de.specs.KeySteps.{SpellsKey, SpellsCow};
+ghost use Rattle.json5_de.specs.FoundTexts.{SpellsText, SpellsCow};
 ghost use Rattle.json5_de.specs.Takes as tokens;
 ghost use Rattle.json5_de.specs.Takes.{PassesGap, Takes, TakesOwnString, PassesWord};
 ghost use Rattle.json5_de.specs.Texts.{ReadsEnd};
@@ -24,10 +24,10 @@ use crate::mismatch::Mismatch;
 use json5_text::cow_str::CowStr;
 use json5_text::error::{Error, Result};
 use json5_text::input::{Borrows, Input};
-use json5_text::key_text::KeyText;
 use json5_text::nesting::Limit;
 use json5_text::number::Number;
 use json5_text::scanner::Scanner;
+use json5_text::text_token::TextToken;
 use json5_text::value::Value;
 use json5_text::{ErrorCode, Position};
 use json5_value::faults::{fault_here, place_at, unexpected_here};
@@ -198,6 +198,16 @@ impl<I: Input> Deserializer<I> {
         }
     }
 
+    /// Takes the string in front, to its token.
+    pub(crate) fn string_token(&mut self) -> Result<TextToken>
+        ensures { Takes tokens.string_token self.old self.new result }
+    {
+        match self.scanner.string_token() {
+            Ok(token) => Ok(token),
+            Err(e) => self.refuse(e),
+        }
+    }
+
     /// Passes over the value in front.
     pub(crate) fn skip_value(&mut self) -> Result<()>
         ensures { Calls (Skips (max_depth - self.old.level)) self.old self.new result }
@@ -219,7 +229,7 @@ impl<I: Input> Deserializer<I> {
     }
 
     /// Takes the key in front.
-    pub(crate) fn key(&mut self) -> Result<KeyText>
+    pub(crate) fn key(&mut self) -> Result<TextToken>
         ensures { Takes tokens.key self.old self.new result }
     {
         match self.scanner.key() {
@@ -228,15 +238,15 @@ impl<I: Input> Deserializer<I> {
         }
     }
 
-    /// The text of a key that was taken.
-    pub(crate) fn key_text<'t>(&'t self, key: &'t KeyText) -> &'t str
-        ensures { SpellsKey self.now key.now result.now }
+    /// The text of a string or a key that was taken.
+    pub(crate) fn token_text<'t>(&'t self, token: &'t TextToken) -> &'t str
+        ensures { SpellsText self.now token.now result.now }
     {
-        self.scanner.text_of(key)
+        self.scanner.text_of(token)
     }
 
     /// The text of a key that was taken, in memory of its own.
-    pub(crate) fn own_key_text(&self, key: KeyText) -> Result<String>
+    pub(crate) fn own_key_text(&self, key: TextToken) -> Result<String>
         ensures { OwnsKey self.now.input key result }
     {
         key_owned(&self.scanner, key)
@@ -371,7 +381,7 @@ impl<'de, I: Borrows<'de>> Deserializer<I> {
     }
 
     /// The text of a key that was taken, borrowed where no escape is used.
-    pub(crate) fn borrowed_key_text(&self, key: KeyText) -> CowStr<'de>
+    pub(crate) fn borrowed_key_text(&self, key: TextToken) -> CowStr<'de>
         ensures { SpellsCow self.now key result }
     {
         self.scanner.borrowed_text_of(key)

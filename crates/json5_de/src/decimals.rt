@@ -5,6 +5,7 @@ ghost use Rattle.json5_grammar.specs.Numbers as numbers;
 ghost use Rattle.json5_text.specs.Errors.{LacksMemory};
 ghost use Rattle.json5_de.specs.Convert.{same_decimal};
 
+use itoa::Buffer;
 use json5_text::decimal::Decimal;
 use json5_text::error::Result;
 use json5_text::whole::Whole;
@@ -28,8 +29,8 @@ pub(crate) fn same_decimal(alloc: Global, whole: Whole) -> Result<Decimal>
     ensures ok { IfOk result (λ d. d ≡ same_decimal (numbers.whole whole)) }
     ensures err { IfErr result LacksMemory }
 {
-    let number = magnitude(whole);
-    let digits = format!(in alloc; "{number}")?;
-    let found = Decimal::finite(alloc, whole.as_u128().is_none(), digits.as_str(), 0)?;
+    let mut buffer = Buffer::new();
+    let digits = buffer.format(magnitude(whole));
+    let found = Decimal::finite(alloc, whole.as_u128().is_none(), digits, 0)?;
     Ok(found.unwrap())
 }

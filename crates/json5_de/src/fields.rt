@@ -1,22 +1,27 @@
 //! Fields of a struct, which are read as the pairs of an object come.
 
-ghost use Rattle.std.specs.Prelude.{◌≡◌, true, false, Some, IfOk, OnOk};
+ghost use Rattle.std.specs.Prelude.{◌≡◌, true, false, Some, IfOk, OnOk, string_bytes};
 ghost use Rattle.json5_grammar.specs.declared.code.ErrorCode.TheVariants as codes;
 ghost use Rattle.json5_text.specs.Errors.{code};
+ghost use Rattle.json5_value.specs.Keeping.{OwnsKey};
 ghost use Rattle.json5_de.specs.Access.{IsFailedAtBracket};
+ghost use Rattle.json5_de.specs.Convert.{every_text};
+ghost use Rattle.json5_de.specs.KeyRows.{ReadsKeyAs, RefusedAsKey, string_key};
+ghost use Rattle.json5_de.specs.ObjectFaults.{ReadsKeyOfPair};
 ghost use Rattle.json5_de.specs.Law.{IsUnprompted};
 ghost use Rattle.json5_de.specs.Objects.{KeepsPending};
 ghost use Rattle.json5_de.specs.Fields.{FieldRead, FieldRequired, IsOwnAtBracket, RefusesHere};
 ghost use Rattle.json5_de.specs.Plans.{PassesPair, ReadsPairs};
 ghost use Rattle.json5_de.specs.StructFaults.{RefusesPairs};
-ghost use Rattle.json5_de.specs.Lending.{seen_map, KeepsMap, KeyPending, NoKeyPending, TakesPendingKey};
+ghost use Rattle.json5_de.specs.Lending.{seen_map, KeepsMap, KeyPending, NoKeyPending, TakesPendingKey, ReadsNextKey};
 
 use crate::any::IgnoredAny;
-use crate::de::Deserialize;
+use crate::de::{Deserialize, Deserializer};
 use crate::map::MapAccess;
 use json5_text::ErrorCode;
 use json5_text::error::{Error, Result};
 use json5_text::input::Input;
+use json5_text::text_token::TextToken;
 use std::fmt;
 
 /// The fields of a struct, as far as they were read: what `MapAccess::read_fields` fills.
@@ -45,6 +50,45 @@ pub trait Fields<I: Input>: Sized + Drop {
         ensures pending { OnOk result (NoKeyPending map.new) }
         ensures takes { TakesPair step (content self.old) (content self.new) name.now (seen_map map.old) (seen_map map.new) result }
         ensures refused { RefusesPair refuses step (content self.old) name.now (seen_map map.old) result };
+}
+
+impl<I: Input> Deserializer<I> {
+    /// Reads a key as a text, in the memory of a spare one.
+    fn key_in(&mut self, spare: String) -> Result<String>
+        ensures { ReadsKeyAs string_key string_bytes self.old self.new result }
+    {
+        let key = self.found_key()?;
+        match self.token_in(key.token, spare) {
+            Ok(text) => Ok(text),
+            Err(e) => self.refuse(e),
+        }
+    }
+
+    /// The text of a token that was taken, in the memory of a spare one where it has none of its own.
+    fn token_in(&self, token: TextToken, mut spare: String) -> Result<String>
+        ensures { OwnsKey self.now.input token result }
+    {
+        if let TextToken::Escaped(text) = token {
+            return Ok(text);
+        }
+        spare.clear();
+        spare.push_str(self.token_text(&token))?;
+        Ok(spare)
+    }
+
+    /// The next key of an object as a text, as `pair_key::<String>` gives it, in the memory of a spare one.
+    fn pair_name(&mut self, due: bool, spare: String) -> Result<Option<String>>
+        ensures { ReadsKeyOfPair string_bytes every_text (RefusedAsKey string_key) due self.old self.new result }
+    {
+        if !self.goes_to_key(due)? {
+            return Ok(None);
+        }
+        let start = self.offset();
+        match self.key_in(spare) {
+            Ok(name) => Ok(Some(name)),
+            Err(e) => Err(self.key_fault(e, start)),
+        }
+    }
 }
 
 impl<'a, I: Input> MapAccess<'a, I> {
@@ -125,6 +169,18 @@ impl<'a, I: Input> MapAccess<'a, I> {
         }
     }
 
+    /// The next key as a text, as `next_key::<String>` gives it, in the memory of a spare one.
+    fn next_name(&mut self, spare: String) -> Result<Option<String>>
+        requires no_key { NoKeyPending self.old }
+        ensures { ReadsNextKey string_bytes every_text (RefusedAsKey string_key) self.old self.new result }
+    {
+        self.de.set_failed(self.failed);
+        let read = self.de.pair_name(self.stage.is_comma_due(), spare);
+        let name = self.settle(read)?;
+        self.stage = self.stage.with_key(name.is_some());
+        Ok(name)
+    }
+
     /// Reads the pairs of an object into these fields, one after another, up to the closing brace, which stays unread. A
     /// refusal is that of `next_key::<String>`, or of the field's `read`, after the pairs that were read before. After a refusal
     /// every later call answers `Failed`.
@@ -135,8 +191,10 @@ impl<'a, I: Input> MapAccess<'a, I> {
         ensures reads { ReadsPairs F.step (F.content fields.old) (F.content fields.new) (seen_map self.old) (seen_map self.new) result }
         ensures refused { RefusesPairs F.step F.refuses (F.content fields.old) (seen_map self.old) result }
     {
-        while let Some(name) = self.next_key::<String>()? {
-            fields.read(self, name.as_str())?;
+        let mut name = String::new(self.de.allocator());
+        while let Some(next) = self.next_name(name)? {
+            fields.read(self, next.as_str())?;
+            name = next;
         }
         Ok(())
     }

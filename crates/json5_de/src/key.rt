@@ -12,21 +12,17 @@ ghost use Rattle.json5_de.specs.Rows.{bool_row, natural_row, integer_row, decima
 ghost use Rattle.json5_de.specs.Convert.{spelled};
 ghost use Rattle.json5_de.specs.Keys.{GivesKey, CompletesKey, ReadsKeyOf, ReadsOneKey};
 ghost use Rattle.json5_de.specs.KeyRows.{ReadsKeyAs, string_key, char_key, plain_key, cow_key, variant_key, ignored_key, bytes_key, document_key, some_of};
-ghost use Rattle.json5_de.specs.KeySteps.{FindsKey, IsTextFault, is_out_of_memory};
-ghost use Rattle.json5_de.specs.Steps.{IsMismatch};
+ghost use Rattle.json5_de.specs.KeySteps.{IsTextFault, is_out_of_memory};
 
 use crate::de::Deserializer;
 use crate::key_types::FromText;
 use crate::mismatch::Mismatch;
-use crate::texts::only_character;
-use crate::variants::place_among;
 use json5_text::ErrorCode;
 use json5_text::byte_buf::ByteBuf;
 use json5_text::cow_str::CowStr;
 use json5_text::decimal::Decimal;
 use json5_text::error::{Error, Result};
 use json5_text::input::{Borrows, Input};
-use json5_text::key_text::KeyText;
 use std::alloc::Global;
 
 /// A key that is to be read: each of its methods reads it whole, a string or an identifier (JSON5 section 3).
@@ -277,14 +273,6 @@ impl<'de, I: Borrows<'de>> MapKey<'_, I> {
     }
 }
 
-/// A key that was taken.
-#[derive(Drop)]
-struct FoundKey {
-    /// The count of bytes before it.
-    start: usize,
-    text: KeyText,
-}
-
 /// Whether the fault says that memory ran out.
 fn is_out_of_memory(error: &Error) -> bool
     ensures { result ≡ is_out_of_memory (kind_of error.now) }
@@ -311,23 +299,13 @@ impl<I: Input> Deserializer<I> {
         }
     }
 
-    /// Takes a key, blanks before it included.
-    fn found_key(&mut self) -> Result<FoundKey>
-        ensures { FindsKey self.old self.new result }
-    {
-        self.begin()?;
-        let start = self.offset();
-        let text = self.key()?;
-        Ok(FoundKey { start, text })
-    }
-
     /// Reads a key as a text.
     #[inline(never)]
     pub(crate) fn key_string_slowly(&mut self) -> Result<String>
         ensures { ReadsKeyAs string_key string_bytes self.old self.new result }
     {
         let key = self.found_key()?;
-        match self.own_key_text(key.text) {
+        match self.own_key_text(key.token) {
             Ok(text) => Ok(text),
             Err(e) => self.refuse(e),
         }
@@ -338,12 +316,7 @@ impl<I: Input> Deserializer<I> {
         ensures { ReadsKeyAs char_key (λ c. c) self.old self.new result }
     {
         let key = self.found_key()?;
-        let text = self.key_text(&key.text);
-        let Some(c) = only_character(text) else {
-            let error = self.mismatch_at(key.start, &Mismatch::NotCharacter(text));
-            return self.refuse(error);
-        };
-        Ok(c)
+        self.character_of(&key)
     }
 
     /// Reads a key that is one of the variants, as its first place among them.
@@ -351,19 +324,7 @@ impl<I: Input> Deserializer<I> {
         ensures { ReadsKeyAs (variant_key (spelled variants.now)) (λ n. n) self.old self.new result }
     {
         let key = self.found_key()?;
-        let name = self.key_text(&key.text);
-        let Some(place) = place_among(variants, name) else {
-            let error = self.unknown_variant(&key, name, variants);
-            return self.refuse(error);
-        };
-        Ok(place)
-    }
-
-    /// The fault of a key that is none of the variants.
-    fn unknown_variant(&self, key: &FoundKey, name: &str, variants: &[&str]) -> Error
-        ensures { IsMismatch self.now.input key.now.start result }
-    {
-        self.mismatch_at(key.start, &Mismatch::UnknownVariant(name, variants))
+        self.variant_of(&key, variants)
     }
 
     /// Reads any key, and keeps nothing of it.
@@ -379,10 +340,7 @@ impl<I: Input> Deserializer<I> {
         ensures { ReadsKeyAs bytes_key bytes_of self.old self.new result }
     {
         let key = self.found_key()?;
-        match hex::decode(self.allocator(), self.key_text(&key.text)) {
-            Ok(bytes) => Ok(ByteBuf::from_vec(bytes)),
-            Err(error) => self.undecoded(key.start, error),
-        }
+        self.bytes_of(&key)
     }
 
     /// Reads a key as a document of its own.
@@ -390,7 +348,7 @@ impl<I: Input> Deserializer<I> {
         ensures { ReadsKeyAs (document_key T.kind) T.content self.old self.new result }
     {
         let key = self.found_key()?;
-        match T::from_text(self.allocator(), self.key_text(&key.text)) {
+        match T::from_text(self.allocator(), self.token_text(&key.token)) {
             Ok(value) => Ok(value),
             Err(e) => {
                 let error = self.text_fault(e, key.start);
@@ -418,7 +376,7 @@ impl<'de, I: Borrows<'de>> Deserializer<I> {
         ensures { ReadsKeyAs cow_key (λ t. (cow_bytes t, is_borrowed t)) self.old self.new result }
     {
         let key = self.found_key()?;
-        Ok(self.borrowed_key_text(key.text))
+        Ok(self.borrowed_key_text(key.token))
     }
 
     /// Reads a key without an escape.
@@ -427,7 +385,7 @@ impl<'de, I: Borrows<'de>> Deserializer<I> {
         ensures { ReadsKeyAs plain_key (λ t. t.now) self.old self.new result }
     {
         let key = self.found_key()?;
-        match self.borrowed_key_text(key.text) {
+        match self.borrowed_key_text(key.token) {
             CowStr::Borrowed(text) => Ok(text),
             CowStr::Owned(text) => self.mismatch(key.start, &Mismatch::Escaped(text.as_str())),
         }

@@ -9,6 +9,7 @@ mod de;
 mod decimals;
 mod enums;
 mod fields;
+mod found_text;
 mod gather;
 mod hash_map;
 mod index_map;

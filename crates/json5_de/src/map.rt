@@ -119,7 +119,7 @@ impl<'a, I: Input> MapAccess<'a, I> {
 
     /// Blocks the reader again after a call of its own, and keeps in mind that one was refused. A fault without a place gets the
     /// opening brace's.
-    fn settle<T>(&mut self, read: Result<T>) -> Result<T>
+    pub(crate) fn settle<T>(&mut self, read: Result<T>) -> Result<T>
         ensures { SettlesMap self.old read self.new result }
     {
         self.de.set_failed(true);

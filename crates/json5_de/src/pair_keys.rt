@@ -1,17 +1,14 @@
 //! Reading of the keys of an object's pairs.
 
-ghost use Rattle.std.specs.Prelude.{◌≡◌, true, false, is_some, IfOk, IfErr, OnErr};
+ghost use Rattle.std.specs.Prelude.{◌≡◌, true, false, IfOk, IfErr, OnErr};
 ghost use Rattle.json5_grammar.specs.Characters.{NotBegun};
 ghost use Rattle.json5_grammar.specs.Members.{NoPairGoes};
 ghost use Rattle.json5_text.specs.Errors.{kind_of};
-ghost use Rattle.json5_value.specs.Brackets.{curly};
 ghost use Rattle.json5_value.specs.Places.{StartsAfter};
 ghost use Rattle.json5_de.specs.Law.{Steady};
 ghost use Rattle.json5_de.specs.Faults.{RefusedBy};
-ghost use Rattle.json5_de.specs.Access.{bare, CompletesClose};
-ghost use Rattle.json5_de.specs.Objects.{bare_map, GivesPairKey, CompletesPairKey};
 ghost use Rattle.json5_de.specs.ObjectFaults as faults;
-ghost use Rattle.json5_de.specs.ObjectFaults.{BeginsKey, GoesToKey, NoKey, PlacedAtKey, is_unplaced, RefusesPairKey};
+ghost use Rattle.json5_de.specs.ObjectFaults.{BeginsKey, GoesToKey, NoKey, PlacedAtKey, ReadsKeyOfPair, is_unplaced};
 
 use crate::de::Deserializer;
 use crate::key::DeserializeKey;
@@ -65,7 +62,7 @@ impl<I: Input> Deserializer<I> {
     }
 
     /// Goes to the next key and says true, or to the closing brace and says false.
-    fn goes_to_key(&mut self, due: bool) -> Result<bool>
+    pub(crate) fn goes_to_key(&mut self, due: bool) -> Result<bool>
         ensures sound { IfOk result (λ more. GoesToKey due self.old self.new more) }
         ensures refused { IfErr result (RefusedBy (NoKey due) self.old) }
         ensures nowhere { OnErr result (self.old.failed ≡ false → NoPairGoes due self.old.unread) }
@@ -81,7 +78,7 @@ impl<I: Input> Deserializer<I> {
     }
 
     /// A key's fault, at the key where it has no place and may have one.
-    fn key_fault(&self, error: Error, start: usize) -> Error
+    pub(crate) fn key_fault(&self, error: Error, start: usize) -> Error
         ensures { PlacedAtKey (StartsAfter self.now.input start) error result }
     {
         if is_unplaced(&error) {
@@ -93,11 +90,7 @@ impl<I: Input> Deserializer<I> {
 
     /// The next key of an object, or none where the closing brace is next.
     pub(crate) fn pair_key<K: DeserializeKey<I>>(&mut self, due: bool) -> Result<Option<K>>
-        ensures sound { IfOk result (λ o. GivesPairKey K.content K.convert (bare_map self.old due false) (bare_map self.new due (is_some o)) o) }
-        ensures complete { CompletesPairKey K.convert (bare_map self.old due false) result }
-        ensures closing { CompletesClose curly (bare self.old due) result }
-        ensures cause { IfErr result (λ e. RefusesPairKey K.refuses due self.old e self.new) }
-        ensures steady { Steady self.old self.new result }
+        ensures { ReadsKeyOfPair K.content K.convert K.refuses due self.old self.new result }
     {
         if !self.goes_to_key(due)? {
             return Ok(None);

@@ -4,9 +4,11 @@ ghost use Rattle.std.specs.Prelude.{◌≡◌, string_bytes, Some, None, MatchOp
 ghost use Rattle.std.specs.Str.{chars};
 ghost use Rattle.json5_text.specs.Cows.{cow_bytes, is_borrowed};
 ghost use Rattle.json5_de.specs.Convert.{one_character};
+ghost use Rattle.json5_de.specs.FoundTexts.{Judges};
 ghost use Rattle.json5_de.specs.Rows.{ReadsAs, string_row, char_row, plain_row, cow_row};
 
 use crate::de::Deserializer;
+use crate::found_text::FoundText;
 use crate::mismatch::Mismatch;
 use json5_text::cow_str::CowStr;
 use json5_text::error::Result;
@@ -45,15 +47,22 @@ impl<I: Input> Deserializer<I> {
         self.string_owned()
     }
 
-    /// Reads a text of one character; another one is a custom fault at the quote.
+    /// Reads a text of one character; another one is a custom fault at the quote. A text without an escape takes no memory.
     pub fn deserialize_char(&mut self) -> Result<char>
         ensures { ReadsAs char_row (λ c. c) self.old self.new result }
     {
-        self.begin()?;
-        let start = self.offset();
-        let text = self.string_owned()?;
-        let Some(c) = only_character(text.as_str()) else {
-            return self.mismatch(start, &Mismatch::NotCharacter(text.as_str()));
+        let string = self.found_string()?;
+        self.character_of(&string)
+    }
+
+    /// The character of a text that was found, which has no other; else a custom fault at its start.
+    pub(crate) fn character_of(&mut self, found: &FoundText) -> Result<char>
+        ensures { Judges false None one_character (λ c. c) found.now self.old self.new result }
+    {
+        let text = self.token_text(&found.token);
+        let Some(c) = only_character(text) else {
+            let error = self.mismatch_at(found.start, &Mismatch::NotCharacter(text));
+            return self.refuse(error);
         };
         Ok(c)
     }

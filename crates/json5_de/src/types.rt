@@ -80,13 +80,15 @@ impl<I: Input> Deserialize<I> for Decimal {
 impl<I: Input> Deserialize<I> for char {
     ghost use Rattle.std.specs.Prelude.{ℕ};
     ghost use Rattle.json5_de.specs.Convert.{char_of};
-    ghost use Rattle.json5_de.specs.Rows.{char_row, RefusedAs};
+    ghost use Rattle.json5_de.specs.Rows.{char_row, plain_text, RefusedAs};
 
     ghost Content = { ℕ };
 
     ghost content = { λ c. c };
 
     ghost convert = { char_of };
+
+    ghost free = { plain_text };
 
     ghost refuses = { RefusedAs char_row };
 

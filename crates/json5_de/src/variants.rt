@@ -1,14 +1,17 @@
 //! Reading of a name that is one of a list.
 
-ghost use Rattle.std.specs.Prelude.{◌≡◌};
+ghost use Rattle.std.specs.Prelude.{◌≡◌, false, None};
 ghost use Rattle.std.specs.List.{position};
 ghost use Rattle.std.specs.Str.{bytes_eq};
-ghost use Rattle.json5_de.specs.Convert.{spelled};
+ghost use Rattle.json5_de.specs.Convert.{spelled, place_among};
+ghost use Rattle.json5_de.specs.FoundTexts.{Judges};
 ghost use Rattle.json5_de.specs.Rows.{ReadsAs, variant_row};
+ghost use Rattle.json5_de.specs.Steps.{IsMismatch};
 
 use crate::de::Deserializer;
+use crate::found_text::FoundText;
 use crate::mismatch::Mismatch;
-use json5_text::error::Result;
+use json5_text::error::{Error, Result};
 use json5_text::input::Input;
 
 /// The first place of the name among these, counted from 0.
@@ -20,7 +23,8 @@ pub(crate) fn place_among(names: &[&str], name: &str) -> Option<usize>
 
 impl<I: Input> Deserializer<I> {
     /// Reads a text that is one of the variants, and returns its first place among them, counted from 0. Another text is a custom
-    /// fault at the quote, which names the variants; what is no text is refused as by `deserialize_string`.
+    /// fault at the quote, which names the variants; what is no text is refused as by `deserialize_string`. A text without an escape
+    /// takes no memory.
     ///
     /// ```text
     /// let levels = ["low", "middle", "high"];
@@ -29,12 +33,26 @@ impl<I: Input> Deserializer<I> {
     pub fn deserialize_variant(&mut self, variants: &[&str]) -> Result<usize>
         ensures { ReadsAs (variant_row (spelled variants.now)) (λ n. n) self.old self.new result }
     {
-        self.begin()?;
-        let start = self.offset();
-        let name = self.string_owned()?;
-        let Some(place) = place_among(variants, name.as_str()) else {
-            return self.mismatch(start, &Mismatch::UnknownVariant(name.as_str(), variants));
+        let string = self.found_string()?;
+        self.variant_of(&string, variants)
+    }
+
+    /// The first place among the variants of a text that was found; another text is a custom fault at its start.
+    pub(crate) fn variant_of(&mut self, found: &FoundText, variants: &[&str]) -> Result<usize>
+        ensures { Judges false None (place_among (spelled variants.now)) (λ n. n) found.now self.old self.new result }
+    {
+        let name = self.token_text(&found.token);
+        let Some(place) = place_among(variants, name) else {
+            let error = self.unknown_variant(found, name, variants);
+            return self.refuse(error);
         };
         Ok(place)
+    }
+
+    /// The fault of a text that is none of the variants.
+    fn unknown_variant(&self, found: &FoundText, name: &str, variants: &[&str]) -> Error
+        ensures { IsMismatch self.now.input found.now.start result }
+    {
+        self.mismatch_at(found.start, &Mismatch::UnknownVariant(name, variants))
     }
 }

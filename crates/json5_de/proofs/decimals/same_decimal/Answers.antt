@@ -7,5 +7,5 @@ use Rattle.json5_de.proofs.decimals.same_decimal.Goals as goal
 
 pub unwrap-requires : goal.unwrap-requires
 unwrap-requires c =
-    let text : c.as_str.result.now ≡ decimal (nat_abs c.args.whole) = c.as_str.ensures.value ∙ c.in_ok-digits.ensures.ok ∙ ap decimal c.magnitude-number.ensures in
+    let text : c.format-digits.result.now ≡ decimal (nat_abs c.args.whole) = c.format-digits.ensures.text ∙ ap decimal c.magnitude.ensures in
     c.in_ok-found.ensures.some.1 (subst (λ s. Each is_digit s × InExponents (normal_exponent s (pos 0))) (sym text) (whole_digits c.args.whole c.as_u128.ensures.whole))

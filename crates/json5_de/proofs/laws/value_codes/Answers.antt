@@ -26,13 +26,13 @@ pub returns-clause-string : goal.returns-clause-string
 returns-clause-string c = tells_apart (lawful_text every_text no_tree) text_bytes
 
 pub returns-clause-character : goal.returns-clause-character
-returns-clause-character c = tells_apart (lawful_text one_character no_tree) (λ c. c)
+returns-clause-character c = tells_apart (lawful_text one_character plain_text) (λ c. c)
 
 pub returns-clause-plain : goal.returns-clause-plain
 returns-clause-plain c = tells_apart (lawful_text if_plain every_tree) slice_bytes
 
 pub returns-clause-variant : goal.returns-clause-variant
-returns-clause-variant c names = tells_apart (lawful_text (place_among names) no_tree) (λ n. n)
+returns-clause-variant c names = tells_apart (lawful_text (place_among names) plain_text) (λ n. n)
 
 pub returns-clause-cow : goal.returns-clause-cow
 returns-clause-cow c = tells_apart (lawful_text every_cow plain_text) (λ t. (cow_bytes t, is_borrowed t))

@@ -2,7 +2,7 @@ use Rattle.std.proofs.Common.{inr, sym, subst}
 use Rattle.std.proofs.lemmas.Result.{err_from_is_err_and}
 use Rattle.json5_grammar.proofs.Basics.{true_false}
 use Rattle.json5_text.specs.Cursor.{IsOffset}
-use Rattle.json5_text.specs.Keys.{KeyIs}
+use Rattle.json5_text.specs.TextTokens.{Spells}
 use Rattle.json5_de.proofs.Taken.{input_of, refused_blanks, refused_or_memory}
 use Rattle.json5_text.proofs.TextScalars.{key_scalars}
 use Rattle.json5_de.proofs.FoundKeys.{key_after, no_fault_before}
@@ -21,21 +21,21 @@ returns-in_err-begin g c =
       before = c.in_err-begin.ensures.before;
     })
 
-pub returns-in_err-text : goal.returns-in_err-text
-returns-in_err-text g c =
-    let (y, is, from) = err_from_is_err_and c.from_residual-in_err-text.result c.from_residual-in_err-text.ensures.1 in
+pub returns-in_err-token : goal.returns-in_err-token
+returns-in_err-token g c =
+    let (y, is, from) = err_from_is_err_and c.from_residual-in_err-token.result c.from_residual-in_err-token.ensures.1 in
     let passed = c.in_ok-begin.ensures.passed in
     rw (is, from) (record {
       taken = tt;
-      refused = refused_or_memory c.args.self.now c.begin.new.self c.in_err-text.field-0.0 (λ x reason place f. f) passed c.in_err-text.ensures.refused;
-      complete = λ u plain r t live reads every. let lacks = c.in_err-text.ensures.complete reads.spelling u r plain (key_after c.args.self.now c.begin.new.self u plain r passed reads) reads.key in lacks.kind;
-      failed = given_up c.args.self.now c.begin.new.self c.key.new.self passed c.in_err-text.ensures.failed;
+      refused = refused_or_memory c.args.self.now c.begin.new.self c.in_err-token.field-0.0 (λ x reason place f. f) passed c.in_err-token.ensures.refused;
+      complete = λ u plain r t live reads every. let lacks = c.in_err-token.ensures.complete reads.spelling u r plain (key_after c.args.self.now c.begin.new.self u plain r passed reads) reads.key in lacks.kind;
+      failed = given_up c.args.self.now c.begin.new.self c.key.new.self passed c.in_err-token.ensures.failed;
       before = λ h. absurd (true_false h passed.live);
     })
 
 pub returns : goal.returns
 returns g c =
-    let (s, u, plain, took, is_key, is_text) = c.in_ok-text.ensures.taken in
+    let (s, u, plain, took, is_key, is_text) = c.in_ok-token.ensures.taken in
     record {
       taken = record {
         between = c.begin.new.self;
@@ -44,8 +44,8 @@ returns g c =
         plain = plain;
         passed = c.in_ok-begin.ensures.passed;
         took = took;
-        is_key = is_key;
-        is_text = subst (λ x. KeyIs x u plain c.in_ok-text.text) (sym (input_of took.rest)) is_text;
+        is_spelling = is_key;
+        is_text = subst (λ x. Spells x u plain c.in_ok-token.token) (sym (input_of took.rest)) is_text;
         counted = c.offset-start.ensures.counted;
         offset = subst (λ x. IsOffset x c.offset-start.result) (sym (input_of took.rest)) c.offset-start.ensures.offset;
         scalars = key_scalars c.begin.new.self.unread c.key.new.self.unread took.split c.offset-start.ensures.scalars is_key;

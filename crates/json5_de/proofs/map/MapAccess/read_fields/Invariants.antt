@@ -4,8 +4,8 @@ use Rattle.json5_de.specs.Lending.{seen_map, HoldsTheSameMap}
 use Rattle.json5_de.proofs.Structs.{ReadingStruct}
 use Rattle.json5_de.proofs.map.MapAccess.read_fields.Given as goal
 
-abbrev pub invariant-loop-name : goal.invariant-loop-name
-invariant-loop-name g l = record {
+abbrev pub invariant-loop-next : goal.invariant-loop-next
+invariant-loop-next g l = record {
   same_reference : HoldsTheSameMap l.fn.self l.self;
   start : (seen_map l.self).at.start ≡ (seen_map l.fn.self).at.start;
   same_text : SameText (seen_map l.fn.self).at.reader (seen_map l.self).at.reader;
@@ -14,5 +14,5 @@ invariant-loop-name g l = record {
   reading : ReadingStruct g.F.Fields.step (g.F.Fields.content l.fn.fields) (seen_map l.fn.self) (g.F.Fields.content l.fields) None (seen_map l.self);
 }
 
-abbrev pub decreases-loop-name : goal.decreases-loop-name
-decreases-loop-name g l = length (seen_map l.self).at.reader.unread
+abbrev pub decreases-loop-next : goal.decreases-loop-next
+decreases-loop-next g l = length (seen_map l.self).at.reader.unread

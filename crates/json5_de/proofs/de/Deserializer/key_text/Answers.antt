@@ -1,7 +1,0 @@
-use Rattle.std.proofs.Common.{ap, sym, subst}
-use Rattle.json5_text.specs.Keys.{KeyIs}
-use Rattle.json5_de.specs.State.{State}
-use Rattle.json5_de.proofs.de.Deserializer.key_text.Goals as goal
-
-pub returns : goal.returns
-returns g c u plain k = c.text_of.ensures u plain (subst (λ x. KeyIs x u plain c.args.key.now) (sym (ap (λ (s : State). s.input) c.self.view_is)) k)

@@ -1,0 +1,38 @@
+//! Strings and keys that were taken, whose text is looked at where it stands.
+
+ghost use Rattle.json5_de.specs.FoundTexts.{FindsKey, FindsString};
+
+use crate::de::Deserializer;
+use json5_text::error::Result;
+use json5_text::input::Input;
+use json5_text::text_token::TextToken;
+
+/// The text of a string or a key that was taken.
+#[derive(Drop)]
+pub(crate) struct FoundText {
+    /// The count of bytes before the string or key.
+    pub(crate) start: usize,
+    pub(crate) token: TextToken,
+}
+
+impl<I: Input> Deserializer<I> {
+    /// Takes a string, blanks before it included.
+    pub(crate) fn found_string(&mut self) -> Result<FoundText>
+        ensures { FindsString self.old self.new result }
+    {
+        self.begin()?;
+        let start = self.offset();
+        let token = self.string_token()?;
+        Ok(FoundText { start, token })
+    }
+
+    /// Takes a key, blanks before it included.
+    pub(crate) fn found_key(&mut self) -> Result<FoundText>
+        ensures { FindsKey self.old self.new result }
+    {
+        self.begin()?;
+        let start = self.offset();
+        let token = self.key()?;
+        Ok(FoundText { start, token })
+    }
+}
