@@ -26,7 +26,7 @@ use json5_text::input::Input;
 use json5_text::value::Value;
 use std::hash::Hash;
 
-/// Null, booleans, numbers in range and texts read back. As a slice a text reads back exactly where it is written without a
+/// Null, booleans, numbers in range and strings read back. As a slice a string reads back exactly where it is written without a
 /// backslash.
 pub fn scalars_read_back()
     ensures null { unit_of (marks null) ≡ Some tt }
@@ -39,15 +39,15 @@ pub fn scalars_read_back()
     ensures slice { (u : List ℕ) → plain_of (marks (text u)) ≡ (if is_plain u then Some (encode_utf8_all u) else None) }
 {}
 
-/// A list and an option, which is written as what it holds or null, read back where what they hold does. What is written as null
-/// reads back as None, also of `Some`.
+/// A list and an option, which is written as what it holds or null, read back where what they hold does. What is written as
+/// null reads back as None, also of `Some`.
 pub fn members_read_back<I: Input, T: Serialize + Deserialize<I>>()
     ensures list { (v : List T) → All (ReadsBack T.tree T.convert T.content) v → ReadsBack (list_tree T.tree) (list_of T.convert) (map T.content) v }
     ensures some { (v : T) → T.tree v ≢ null → ReadsBack T.tree T.convert T.content v → option_of T.convert (marks (T.tree v)) ≡ Some (Some (T.content v)) }
     ensures none { option_of T.convert (marks null) ≡ Some None }
 {}
 
-/// As keys null, booleans, numbers in range and texts read back: the text of a number is a document of its own.
+/// As keys null, booleans, numbers in range and strings read back: the text of a number is a document of its own.
 pub fn keys_read_back()
     ensures null { KeyReadsBack ⟦<() as SerializeKey>⟧.as_key (document_of unit_of) (λ v. tt) tt }
     ensures boolean { (b : Bool) → KeyReadsBack ⟦<bool as SerializeKey>⟧.as_key (document_of bool_of) (λ b. b) b }
@@ -58,7 +58,7 @@ pub fn keys_read_back()
     ensures character { (c : ℕ) → KeyReadsBack ⟦<char as SerializeKey>⟧.as_key one_character (λ c. c) c }
 {}
 
-/// The pairs of an object read back where its keys and its values do, in their order.
+/// The members of an object read back where its keys and its values do, in their order.
 pub fn pairs_read_back<
     I: Input,
     K: SerializeKey + DeserializeKey<I>,
@@ -67,7 +67,8 @@ pub fn pairs_read_back<
     ensures { PairsReadBack K.as_key K.convert K.content V.tree V.convert V.content }
 {}
 
-/// What counts of a map's entries stays as it is where they are put into an empty map: so a map reads back where its pairs do.
+/// What counts of a map's entries stays as it is where they are put into an empty map: so a map reads back where its members
+/// do.
 pub fn maps_read_back<I: Input, K: DeserializeKey<I> + Ord + Hash, V: Deserialize<I>>()
     ensures ordered { OrderStays K.content V.content K.cmp }
     ensures indexed { TurnStays K.content V.content K.eq }
@@ -78,14 +79,15 @@ pub fn values_read_back()
     ensures { (d : Datum) → ReadsBack datum_tree every_datum (λ d. d) d }
 {}
 
-/// What the clauses of `from_str_within` come to at `Value`, for every limit. Exactly the documents within it are read, each as the
-/// value of its tree, unless memory runs out. Any other text is refused with its one fault of the fault table, at its place; what
-/// stands before the faulty part begins a document, and no document goes on past the character that shows the fault.
+/// What the clauses of `from_str_within` come to at `Value`, for every limit. Exactly the documents within it are read, each as
+/// the value of its tree, unless memory runs out. Any other text is refused with its one fault of the fault table, at its
+/// position; what comes before the faulty part begins a document, and no document goes on past the character that shows the
+/// fault.
 pub fn values_read<I: Input>()
     ensures { ReadsEachText ⟦<Value as Deserialize<I>>⟧.convert ⟦<Value as Deserialize<I>>⟧.refuses }
 {}
 
-/// Within a limit a text has one fault at most, of one code and one place, and then it is no document.
+/// Within a limit a text has one fault at most, of one code and one position, and then it is no document.
 pub fn one_refusal()
     ensures same { IsOneFault FaultyDocument }
     ensures none { IsNoDocument FaultyDocument }

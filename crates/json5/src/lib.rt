@@ -3,6 +3,7 @@
 //! ```text
 //! let port: u16 = json5::from_str(alloc, "/* default */ 8080")?;
 //! let text = json5::to_string(alloc, &port)?;
+//! let tidy = json5::format(alloc, "[1, /* two */ 0x2]")?;
 //! ```
 //!
 //! A text from strangers on a small stack, or a schema that is at most so deep, is read within a `Limit`:
@@ -11,8 +12,9 @@
 //! let value: Value = json5::from_str_within(alloc, Limit::new(16).unwrap(), text)?;
 //! ```
 //!
-//! What is read has `Deserialize`, what is written `Serialize`; each refusal is an `Error`. What allocates is handed the
-//! allocator.
+//! What is read has `Deserialize`, what is written `Serialize`, and the key of a member `DeserializeKey` and `SerializeKey`. A
+//! document of unknown shape is read as a `Value`. Each call that may be refused answers an `Error`: a code or a custom
+//! message, and mostly a position. What allocates is handed the allocator.
 #![tactic(auto)]
 
 mod laws;
@@ -48,16 +50,20 @@ pub use json5_text::value::Value;
 pub use json5_text::whole::Whole;
 use std::alloc::Global;
 
-/// A document written again, without its comments, each number and each text in its one spelling, each member of an array or an
-/// object on a line of its own. No line feed stands at the end.
+/// Formats a document: writes its value again, without comments, each number and each string in its one spelling, each element
+/// and member on a line of its own. No line feed ends the text.
 ///
-/// It is Ok exactly when the text is a document (JSON5 section 2) nested at most 128 deep, unless memory runs out; formatting its
-/// answer gives the same. A fault is that of reading a `Value`, its place counted from 0 in the text. It is `format_within` at the
-/// full limit.
+/// It is Ok exactly when the text is a document (JSON5 section 2) nested at most 128 deep, unless memory runs out. Formatting
+/// the answer gives the answer. It is [`format_within`] at the full limit.
 ///
 /// ```text
 /// json5::format(alloc, " +0x1F90 // in hexadecimal")?    // 8080
+/// json5::format(alloc, "{'a': 1e3}")?                    // three lines: `{`, `  a: 1000.0,` and `}`
 /// ```
+///
+/// # Errors
+///
+/// As [`format_within`].
 pub fn format(alloc: Global, text: &str) -> Result<String>
     ensures formatted { IfOk result (λ s. IsFormatted (chars text.now) (string_bytes s)) }
     ensures complete { (t : Tree) → Doc max_depth (chars text.now) t → MatchResult result (λ s. WritesTree max_depth t (string_bytes s)) IsOutOfMemory }
@@ -66,12 +72,18 @@ pub fn format(alloc: Global, text: &str) -> Result<String>
     format_within(alloc, Limit::full(), text)
 }
 
-/// A document written again as `format` does, if it is nested no deeper than the limit. The bracket after those that the limit
-/// allows is refused with `TooDeep`, at its place.
+/// Formats a document as [`format`] does, if it is nested no deeper than the limit.
 ///
 /// ```text
 /// json5::format_within(alloc, Limit::new(1).unwrap(), "[1, 2]")?;
 /// ```
+///
+/// # Errors
+///
+/// Positions are those in `text`.
+/// - The codes of a [`Value`], `TooDeep` at the bracket past the limit among them.
+/// - `TrailingCharacters` at a character after the value that is neither blank nor begins a comment.
+/// - `OutOfMemory` where a request for memory was refused.
 pub fn format_within(alloc: Global, limit: Limit, text: &str) -> Result<String>
     ensures formatted { IfOk result (λ s. IsFormattedWithin limit (chars text.now) (string_bytes s)) }
     ensures complete { (t : Tree) → Doc limit (chars text.now) t → MatchResult result (λ s. WritesTree limit t (string_bytes s)) IsOutOfMemory }
@@ -81,8 +93,8 @@ pub fn format_within(alloc: Global, limit: Limit, text: &str) -> Result<String>
     to_string_within(alloc, limit, &value)
 }
 
-/// What `from_str_within` says of a `Value`: it reads exactly the documents within the limit, each as what its tree stands for, and
-/// refuses any other text with its fault.
+/// Reads the value of a document within the limit. It says of a `Value` what `from_str_within` says of every type: it reads
+/// exactly the documents, each as what its tree stands for, and refuses any other text with its fault.
 fn read_value(alloc: Global, limit: Limit, text: &str) -> Result<Value>
     ensures { ReadsText limit (chars text.now) result }
 {

@@ -1,4 +1,4 @@
-//! Writing.
+//! Writing: the traits and types that an impl of `Serialize` or `SerializeKey` names, and the calls that write a whole text.
 
 pub use json5_ser::output::write_whole;
 pub use json5_ser::{

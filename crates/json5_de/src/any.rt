@@ -11,13 +11,16 @@ use json5_text::input::Input;
 use json5_text::value::Value;
 
 impl<I: Input> Deserializer<I> {
-    /// Reads a value of any kind, nested or not (JSON5 sections 2 to 4): null, a boolean, a number, a text, an array or an
-    /// object, whose pairs keep their order and their equal keys.
+    /// Reads a value of any kind, nested or not (JSON5 sections 2 to 6): null, a boolean, a number, a string, an array or an
+    /// object. Members keep their order, and equal keys are kept.
     ///
-    /// Beside the faults of comments and tokens it refuses with `ExpectedValue`, `ExpectedIdentifier`, `ExpectedColon` or
-    /// `ExpectedComma` at the character that stands in their place, with `TooDeep` at the bracket past the limit, and with
-    /// `OutOfMemory`. Where the text ends, an `EofParsing` code has the place of the innermost bracket that the value opened,
-    /// or none outside of all.
+    /// ```text
+    /// de.deserialize_any()?    // of `[1, 'a']` an Array of a Whole and a String
+    /// ```
+    ///
+    /// # Errors
+    ///
+    /// The codes of a [`Value`], and those of every call: see [`Deserializer`].
     pub fn deserialize_any(&mut self) -> Result<Value>
         ensures { ReadsTree value_of every_datum no_tree self.old self.new result }
     {
@@ -25,11 +28,12 @@ impl<I: Input> Deserializer<I> {
         self.read_value()
     }
 
-    /// Passes over a value of any kind, nested or not (JSON5 sections 2 to 4). Takes no memory where it succeeds.
+    /// Passes over a value of any kind, nested or not (JSON5 sections 2 to 6), and keeps nothing of it. Takes no memory where
+    /// it succeeds.
     ///
-    /// Beside the faults of comments and tokens it refuses with `ExpectedValue`, `ExpectedIdentifier`, `ExpectedColon` or
-    /// `ExpectedComma` at the character that stands in their place, and with `TooDeep` at the bracket past the limit. Where the text
-    /// ends, an `EofParsing` code has the place of the innermost bracket that the value opened, or none outside of all.
+    /// # Errors
+    ///
+    /// As [`deserialize_any`](Deserializer::deserialize_any), with the same positions.
     pub fn deserialize_ignored_any(&mut self) -> Result<()>
         ensures { ReadsTree nothing every_value every_tree self.old self.new result }
     {
@@ -38,11 +42,19 @@ impl<I: Input> Deserializer<I> {
     }
 }
 
-/// Any value, which is passed over and not kept.
+/// A value of any kind, or a key, that is passed over and not kept.
+///
+/// ```text
+/// let mut map = de.deserialize_map()?;
+/// while map.next_key::<IgnoredAny>()?.is_some() {
+///     map.next_value::<IgnoredAny>()?;
+/// }
+/// map.end()?;
+/// ```
 #[derive(Clone, Copy, Debug, PartialEq, Eq, Drop)]
 pub struct IgnoredAny;
 
-/// Every value, without memory.
+/// Passes over every value, without memory.
 impl<I: Input> Deserialize<I> for IgnoredAny {
     ghost use Rattle.json5_de.specs.AnyTree.{RefusesTree, every_value, nothing};
     ghost use Rattle.json5_de.specs.Rows.{every_tree};

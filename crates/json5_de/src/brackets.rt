@@ -1,4 +1,4 @@
-//! What arrays and objects share: their brackets, and the commas between their elements or pairs.
+//! What arrays and objects share: their brackets, and the commas between their elements or members (JSON5 sections 3 and 4).
 
 ghost use Rattle.std.specs.Prelude.{◌≡◌, ◌==◌, false, true, ℕ, List, Some, slice_get, IfErr, OnOk, IsOk};
 ghost use Rattle.json5_grammar.specs.declared.code.ErrorCode.TheVariants as codes;
@@ -20,7 +20,7 @@ impl<I: Input> Deserializer<I> {
     ghost use Rattle.json5_de.specs.Access.{Closed, OpensAs, NotClosed};
     ghost use Rattle.json5_de.specs.Seq.{TakesClosing, Advances};
 
-    /// Takes an opening bracket, and gives the count of bytes before it.
+    /// Takes an opening bracket, and returns the count of bytes before it.
     pub(crate) fn open(&mut self, kind: BracketKind) -> Result<usize>
         ensures opens { OpensAs (brackets_of kind) (λ start. record { reader = self.new; start = start; due = false }) self.old result }
         ensures failed { GivesUpIfErr self.old self.new result }
@@ -89,7 +89,7 @@ impl<I: Input> Deserializer<I> {
         Ok(())
     }
 
-    /// Takes a closing bracket, and before it the comma that may stand there.
+    /// Takes a closing bracket, and before it the comma that may be there.
     pub(crate) fn close(&mut self, kind: BracketKind, due: bool) -> Result<()>
         ensures closed { OnOk result (Closed (brackets_of kind) due self.old self.new) }
         ensures refused { IfErr result (RefusedBy (NotClosed (brackets_of kind) due) self.old) }

@@ -19,7 +19,9 @@ impl<K: Ord + Drop, V: Drop> Gathers<K, V> for BTreeMap<K, V> {
     }
 }
 
-/// An object, in the order of its keys. Of pairs with equal keys the first gives the key and the last the value.
+/// Reads an object (JSON5 section 3), in the order of its keys. Of members with equal keys the first gives the key and the last
+/// the value. The faults are those of its braces, commas and colons, as a `MapAccess` lists them, those of the first key or
+/// value that is refused, and `OutOfMemory`.
 impl<I: Input, K: DeserializeKey<I> + Ord, V: Deserialize<I>> Deserialize<I> for BTreeMap<K, V> {
     ghost use Rattle.std.specs.Prelude.{List, map};
     ghost use Rattle.json5_de.specs.Maps.{Told, pair_content, map_of, in_order};

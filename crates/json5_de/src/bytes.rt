@@ -1,4 +1,4 @@
-//! Reading of bytes.
+//! Reading of bytes, which are strings of hexadecimal digits.
 
 ghost use Rattle.std.specs.Prelude.{true, Some};
 ghost use Rattle.json5_grammar.specs.declared.code.ErrorCode.TheVariants as codes;
@@ -18,8 +18,16 @@ use json5_text::error::{Error, Result};
 use json5_text::input::Input;
 
 impl<I: Input> Deserializer<I> {
-    /// Reads bytes: a text of an even number of ASCII hexadecimal digits, in either case, two a byte. `InvalidBytes` at the quote
-    /// of any other text; what is no text is refused as by `deserialize_string`.
+    /// Reads bytes: a string of an even number of ASCII hexadecimal digits, in either case, two a byte.
+    ///
+    /// ```text
+    /// de.deserialize_bytes()?    // the bytes 0xAB and 0x0C of `'aB0c'`
+    /// ```
+    ///
+    /// # Errors
+    ///
+    /// - `InvalidBytes` at the opening quote of any other string.
+    /// - The codes of every call that reads a string: see [`Deserializer`].
     pub fn deserialize_bytes(&mut self) -> Result<ByteBuf>
         ensures { ReadsBytes self.old self.new result }
     {
@@ -27,6 +35,10 @@ impl<I: Input> Deserializer<I> {
         self.bytes_of(&string)
     }
 
+    /// Reads bytes as [`deserialize_bytes`](Deserializer::deserialize_bytes) does.
+    ///
+    /// # Errors
+    ///
     /// As `deserialize_bytes`.
     pub fn deserialize_byte_buf(&mut self) -> Result<ByteBuf>
         ensures { ReadsBytes self.old self.new result }

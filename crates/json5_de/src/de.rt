@@ -40,8 +40,21 @@ use std::marker::Model;
 
 /// A type that is read from a text.
 ///
-/// Its law is the contract of `deserialize`: one value is read from the front, blanks and comments before it
-/// included, and exactly what follows it is left unread.
+/// Its law is the contract of `deserialize`: one value is read from the front, blanks and comments before it included, and
+/// exactly what follows it is left unread.
+///
+/// ```text
+/// impl<I: Input> Deserialize<I> for Port {
+///     ghost Content = { ℕ };
+///     ghost content = { λ p. p.number };
+///     ghost convert = { unsigned_below (2 ^ 16) };
+///
+///     fn deserialize(de: &mut Deserializer<I>) -> Result<Port> {
+///         let number = de.deserialize_u16()?;
+///         Ok(Port { number })
+///     }
+/// }
+/// ```
 pub trait Deserialize<I: Input>: Sized + Drop {
     ghost use Rattle.std.specs.Prelude.{Bool, false, Option, ⊤};
     ghost use Rattle.json5_grammar.specs.Trees.{Tree};
@@ -62,7 +75,11 @@ pub trait Deserialize<I: Input>: Sized + Drop {
     // What is known of a refusal, beside what the law says.
     ghost refuses: { State → Error → State → Type 0 } = { λ _ _ _. ⊤ };
 
-    /// Reads one value from the front.
+    /// Reads one value from the front, and leaves what follows it unread.
+    ///
+    /// # Errors
+    ///
+    /// The faults of the calls that the impl makes, and custom faults of its own.
     fn deserialize(de: &mut Deserializer<I>) -> Result<Self>
         ensures sound { IfOk result (λ v. Gives content convert de.old de.new v) }
         ensures complete { Completes convert de.old result }
@@ -72,7 +89,48 @@ pub trait Deserialize<I: Input>: Sized + Drop {
         ensures same_text { SameText de.old de.new };
 }
 
-/// Reads values from the front of a text.
+/// Reads values from the front of a text, one after another.
+///
+/// Each call passes over the blanks in front (white space, line terminators and comments: JSON5 sections 7 and 8), takes one
+/// value, and leaves what follows it unread. A call that is refused leaves the reader failed.
+///
+/// ```text
+/// let mut de = Deserializer::from_str(alloc, "1 'two' [3]");
+/// let one = de.deserialize_u8()?;
+/// let two = de.deserialize_str()?;
+/// let three: Vec<u8> = read(&mut de)?;
+/// de.end()?;
+/// ```
+///
+/// # Errors
+///
+/// Every call may answer
+/// - `Failed`, without a position, after a call that was refused, and where an access was dropped before its end.
+/// - `ExpectedComment` at the character after a `/` that is neither `/` nor `*`.
+/// - `EofParsingComment`, without a position, where the text ends after that `/` or inside `/* */`.
+/// - `OutOfMemory`, where it takes memory and a request was refused; a custom fault takes some for its message.
+///
+/// A call that reads a number (JSON5 section 6, ECMAScript 5.1 section 7.8.3) also
+/// - `ExpectedNumber` at a character that begins no number, can't follow a sign or `0x`, or differs from `Infinity` or `NaN`.
+/// - `EofParsingNumber`, without a position, where the text ends there.
+/// - `LeadingZero` at the number's start where a digit follows a first `0`.
+/// - `OverflowParsingNumber` at the hexadecimal digit that takes a number past 128 bits, or at the start of a decimal whose
+///   exponent is past 16 bits.
+/// - A custom fault at the number's start: `invalid number` for a run such as `1-2` or `1e`;
+///   `number too large to fit in target type` for a hexadecimal number below -2^127.
+///
+/// A call that reads a whole number, `deserialize_u8` to `deserialize_i128`, also
+/// - A custom fault at the number's start for a whole number that isn't in the type's range, and for any other number. `1.0`
+///   and `1e2` are no whole numbers.
+///
+/// A call that reads a string (JSON5 section 5, ECMAScript 5.1 section 7.8.4) also
+/// - `ExpectedString` at a character that is no quote.
+/// - `EofParsingString`, without a position, where the text ends before the closing quote.
+/// - `EofParsingEscapeSequence`, without a position, where the text ends in an escape.
+/// - `LineTerminatorInString` at an LF or CR that no backslash escapes.
+/// - `InvalidEscapeSequence` at the backslash of an escape that isn't allowed, of two the first one's; or, where a second `\u`
+///   must follow that of a surrogate, at the character in place of its `\` or `u`.
+/// - A custom fault at the first backslash of two `\u` escapes that are no pair of surrogates.
 #[derive(Drop)]
 pub struct Deserializer<I: Input> {
     pub(crate) scanner: Scanner<I>,
@@ -93,15 +151,22 @@ impl<I: Input> Model for Deserializer<I> {
 }
 
 impl<I: Input> Deserializer<I> {
-    /// A reader at the start of the text, at the full limit of 128 brackets.
+    /// Makes a reader at the start of the text, at the full limit of 128 open brackets. Nothing is read yet.
+    ///
+    /// ```text
+    /// let mut de = Deserializer::from_str(alloc, "[1, 2]");
+    /// let numbers = Vec::<u8>::deserialize(&mut de)?;
+    /// de.end()?;
+    /// ```
     pub fn from_str(alloc: Global, input: I) -> Deserializer<I>
         ensures { result ≡ at_start max_depth (chars (I.text input)) }
     {
         Deserializer::within(alloc, Limit::full(), input)
     }
 
-    /// A reader at the start of the text that opens no more brackets at once than the limit, and refuses the next with
-    /// `TooDeep`. Of 128 brackets those past its limit count as taken, so that its law is that of every reader.
+    /// Makes a reader at the start of the text that opens no more brackets at once than the limit, and refuses the next with
+    /// `TooDeep`. Nothing is read yet. Inside, the brackets that the limit leaves out of 128 count as open, so that the same
+    /// contracts hold for every limit.
     ///
     /// ```text
     /// let mut de = Deserializer::within(alloc, Limit::new(2).unwrap(), "[[[");    // `TooDeep` at the third bracket
@@ -117,7 +182,8 @@ impl<I: Input> Deserializer<I> {
         }
     }
 
-    /// The allocator of what is read. At any time no more brackets are open than the limit: with those past it they are at most 128.
+    /// Returns the allocator that was handed to `from_str` or `within`, for what an impl allocates itself. Its contract also
+    /// says that at most 128 brackets count as open.
     pub fn allocator(&self) -> Global
         ensures { self.now.level ≤ max_depth }
     {
@@ -262,7 +328,7 @@ impl<I: Input> Deserializer<I> {
         fault_here(&self.scanner, code)
     }
 
-    /// Refuses what is next: `differs` at the character, or `ends` at the end, without a place.
+    /// Refuses what is next: `differs` at the character, or `ends` at the end, without a position.
     #[cold]
     #[inline(never)]
     pub(crate) fn unexpected(&mut self, ends: ErrorCode, differs: ErrorCode) -> Error
@@ -273,7 +339,7 @@ impl<I: Input> Deserializer<I> {
         error
     }
 
-    /// The fault, at the offset where it has no place.
+    /// The fault, at the offset where it has no position.
     #[cold]
     #[inline(never)]
     pub(crate) fn place_at(&self, start: usize, error: Error) -> Error
@@ -282,8 +348,13 @@ impl<I: Input> Deserializer<I> {
         place_at(&self.scanner, start, error)
     }
 
-    /// Takes the blanks at the end of the text, comments included; nothing else may be left. Else a comment's fault,
-    /// whose place is none where the end of the text shows it, or `TrailingCharacters` at the first other character.
+    /// Passes over the blanks at the end of the text, comments included. Nothing else may be left; the last line comment needs
+    /// no line terminator.
+    ///
+    /// # Errors
+    ///
+    /// - `TrailingCharacters` at a character that is neither blank nor begins a comment.
+    /// - `ExpectedComment`, `EofParsingComment` and `Failed` as in every call: see [`Deserializer`].
     pub fn end(&mut self) -> Result<()>
         ensures { ReadsEnd self.old self.new result }
     {
@@ -302,7 +373,7 @@ impl<I: Input> Deserializer<I> {
         self.scanner.offset()
     }
 
-    /// The fault of a value that isn't of the type that is expected: a text of its own, at the offset.
+    /// The fault of a value that isn't of the type that is expected: a custom message, at the offset.
     #[cold]
     #[inline(never)]
     pub(crate) fn mismatch_at(&self, offset: usize, mismatch: &Mismatch<'_>) -> Error
@@ -315,7 +386,7 @@ impl<I: Input> Deserializer<I> {
         }
     }
 
-    /// Refuses a value that isn't of the type that is expected: a text of its own, at the offset.
+    /// Refuses a value that isn't of the type that is expected: a custom message, at the offset.
     #[cold]
     #[inline(never)]
     pub(crate) fn mismatch<T>(&mut self, offset: usize, mismatch: &Mismatch<'_>) -> Result<T>
@@ -360,7 +431,13 @@ impl<I: Input> Deserializer<I> {
         self.scanner.eat(c)
     }
 
-    /// The position of an offset in bytes, as that of a value which `Spanned` gives; the end's, where no character begins there.
+    /// Returns the position of an offset in bytes, such as the `start` of a [`Spanned`](crate::Spanned): line and column,
+    /// counted from 0. It is the position of the text's end where no character begins at the offset.
+    ///
+    /// ```text
+    /// let port = Spanned::<u16>::deserialize(de)?;
+    /// let position = de.position_of(port.start);    // for a fault of one's own at the value
+    /// ```
     pub fn position_of(&self, offset: usize) -> Position
         ensures { Locates self.now.input offset result }
     {

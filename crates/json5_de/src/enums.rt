@@ -18,8 +18,32 @@ use json5_text::error::Result;
 use json5_text::input::Input;
 use json5_value::brackets::BracketKind;
 
-/// A variant whose name was read, and whose content is to be read: by one of the four calls that take the access. The reader answers
-/// `Failed` until then, and for good where the access is dropped or leaked.
+/// The variant of an enum: its name was read, and one of four calls reads its content. The caller chooses the call by
+/// `variant`; each of them takes the access.
+///
+/// Until the content is read the reader's own calls answer `Failed`, and for good where the access is dropped or leaked.
+///
+/// ```text
+/// let access = de.deserialize_enum("Reminder", &["off", "daily", "weekly", "once"])?;
+/// match access.variant() {
+///     0 => access.unit_variant()?,                                   // 'off', {off: null}
+///     1 => hour = access.newtype_variant::<u8>()?,                   // {daily: 7}
+///     2 => hours = read_hours(access.tuple_variant(2)?)?,            // {weekly: [1, 7]}
+///     _ => day = read_day(access.struct_variant(&["day", "hour"])?)?,    // {once: {day: 'today', hour: 7}}
+/// }
+/// ```
+///
+/// # Errors
+///
+/// Every call that reads content may answer
+/// - `ExpectedComment` and `EofParsingComment` for a comment, as in every call of a [`Deserializer`].
+///
+/// Every call but `unit_variant` also
+/// - A custom fault at the opening quote of a variant that is a string: it has no content.
+///
+/// After the content `unit_variant` and `newtype_variant`, and the `end` of the other two, also
+/// - `ExpectedClosingBrace` at another character than the variant's `}`.
+/// - `EofParsingObject`, without a position, where the text ends before it.
 pub struct EnumAccess<'a, I: Input> {
     de: &'a mut Deserializer<I>,
     name: Named,
@@ -39,12 +63,8 @@ impl<I: Input> Drop for EnumAccess<'_, I> {
 impl<I: Input> Deserializer<I> {
     ghost use Rattle.json5_de.specs.Lending.{seen_named, seen_enum, HoldsEnum, BlocksEnumReader, lends_to_enum};
 
-    /// Reads the name of a variant: a text, or the only key of an object and its colon. Its content is read by the access, which
-    /// blocks the reader until then. The name of the enum changes nothing.
-    ///
-    /// `ExpectedStringOrObject` stands at another character, and `EofParsingValue` at the end has no place. Another name is a custom
-    /// fault at the name, which lists the variants. After the brace come the faults of a key and of its colon, at the brace where
-    /// they have no place; `ExpectedIdentifier` stands at what begins no key, the closing brace too.
+    /// Reads the name of a variant: a string, or the only key of an object and its colon. The access that it lends the reader
+    /// to reads the content. The name of the enum changes nothing.
     ///
     /// ```text
     /// let access = de.deserialize_enum("Shape", &["Circle", "Square"])?;
@@ -53,6 +73,20 @@ impl<I: Input> Deserializer<I> {
     ///     _ => Ok(Shape::Square(access.newtype_variant()?)),
     /// }
     /// ```
+    ///
+    /// # Errors
+    ///
+    /// - `ExpectedStringOrObject` at a character that begins neither.
+    /// - `EofParsingValue`, without a position, where the text ends before a value.
+    /// - A custom fault that lists the variants, at the opening quote or the key of another name.
+    /// - The codes of every call that reads a string: see [`Deserializer`].
+    /// - `TooDeep` at the brace past the limit.
+    ///
+    /// After the brace, where a fault without a position gets that of the brace, also
+    /// - `ExpectedIdentifier` at a character that begins no key, `}` among them.
+    /// - `ExpectedColon` at a character after the key that is no colon.
+    /// - `EofParsingObject` where the text ends before the key or the colon.
+    /// - The codes of a key: see [`MapKey`](crate::MapKey).
     pub fn deserialize_enum(
         &mut self,
         _name: &'static str,
@@ -68,7 +102,7 @@ impl<I: Input> Deserializer<I> {
         Ok(EnumAccess { de: self, name })
     }
 
-    /// Takes a closing bracket, and before it the comma that may stand there; a refusal is for good.
+    /// Takes a closing bracket, and before it the comma that may be there; a refusal is for good.
     pub(crate) fn close_last(&mut self, kind: BracketKind, due: bool) -> Result<()>
         ensures { ClosesLast (brackets_of kind) due self.old self.new result }
     {
@@ -78,8 +112,8 @@ impl<I: Input> Deserializer<I> {
         }
     }
 
-    /// Takes the closing bracket of a variant's content, and then the variant's brace, before which so many bytes stand. A fault of
-    /// the bracket without a place gets that brace's.
+    /// Takes the closing bracket of a variant's content, and then the variant's brace, which begins at this offset. A fault of
+    /// the bracket without a position gets that of the brace.
     pub(crate) fn close_content(&mut self, kind: BracketKind, due: bool, brace: usize) -> Result<()>
         ensures { ClosesContent (brackets_of kind) due brace self.old self.new result }
     {
@@ -89,8 +123,8 @@ impl<I: Input> Deserializer<I> {
         }
     }
 
-    /// Opens the content of a variant, which is an array or an object. A fault without a place gets the variant's brace's; a text
-    /// has no content.
+    /// Opens the content of a variant, which is an array or an object. A fault without a position gets that of the variant's brace;
+    /// a string has no content.
     fn open_content(&mut self, kind: BracketKind, name: &Named, expected: &str) -> Result<usize>
         ensures opens { OpensContent (brackets_of kind) (λ start. record { reader = self.new; start = start; due = false }) (seen_named self.old name.now) result }
         ensures failed { GivesUpIfErr self.old self.new result }
@@ -104,7 +138,8 @@ impl<I: Input> Deserializer<I> {
         }
     }
 
-    /// Reads the content of a variant and the closing brace. A fault of the content without a place gets the opening brace's.
+    /// Reads the content of a variant and the closing brace. A fault of the content without a position gets that of the opening
+    /// brace.
     fn in_brace<T: Deserialize<I>>(&mut self, start: usize) -> Result<T>
         ensures { ReadsInBrace T.content T.convert T.free T.refuses start self.old self.new result }
     {
@@ -124,16 +159,26 @@ impl<I: Input> Deserializer<I> {
 impl<'a, I: Input> EnumAccess<'a, I> {
     ghost use Rattle.json5_de.specs.Lending.{seen, seen_map, seen_enum, reader_of, HoldsBlocked, HoldsMapBlocked, lends_reader, lends_to_map};
 
-    /// The first place of the name among the variants, counted from 0.
+    /// Returns the index of the name among the variants, counted from 0; of equal names it is the first.
     pub fn variant(&self) -> usize
         ensures { result ≡ (seen_enum self.now).variant }
     {
         self.name.variant
     }
 
-    /// Reads a variant without content: nothing more of a text; of an object `null`, and the closing brace, before which a comma may
-    /// stand. A fault of `null` without a place gets the opening brace's. `ExpectedClosingBrace` stands at another character than
-    /// the brace; `EofParsingObject` at the end has no place. Takes no memory.
+    /// Reads a variant without content: nothing more of a string; of an object `null` and `}`, before which one comma may be.
+    /// Takes no memory.
+    ///
+    /// ```text
+    /// 'off'            // read so
+    /// {off: null}      // and so
+    /// ```
+    ///
+    /// # Errors
+    ///
+    /// - The faults of [`deserialize_unit`](Deserializer::deserialize_unit); one without a position gets that of the opening
+    ///   brace.
+    /// - The codes of every call: see [`EnumAccess`].
     pub fn unit_variant(self) -> Result<()>
         ensures { ReadsVariant (λ _. tt) unit_content (content_free every_tree) (RefusedAs null_row) (seen_enum self.entry) self.exit.0.now result }
     {
@@ -145,9 +190,16 @@ impl<'a, I: Input> EnumAccess<'a, I> {
         de.in_brace::<()>(name.start)
     }
 
-    /// Reads a variant that holds a T, and the closing brace, before which a comma may stand. A fault of the T without a place gets
-    /// the opening brace's. `ExpectedClosingBrace` stands at another character than the brace; `EofParsingObject` at the end has no
-    /// place. A text is a custom fault where it stands.
+    /// Reads a variant that holds a `T`: the value and `}`, before which one comma may be.
+    ///
+    /// ```text
+    /// {daily: 7}
+    /// ```
+    ///
+    /// # Errors
+    ///
+    /// - The faults of `T`; one without a position gets that of the opening brace.
+    /// - The codes of every call: see [`EnumAccess`].
     pub fn newtype_variant<T: Deserialize<I>>(self) -> Result<T>
         ensures { ReadsVariant T.content (content_of T.convert) (content_free T.free) T.refuses (seen_enum self.entry) self.exit.0.now result }
     {
@@ -159,9 +211,20 @@ impl<'a, I: Input> EnumAccess<'a, I> {
         de.in_brace(name.start)
     }
 
-    /// Reads a variant whose content is an array, element by element. Its `end` closes the array and the variant's brace, before
-    /// which a comma may stand. The length changes nothing. `ExpectedOpeningBracket` stands at another character, `TooDeep` at
-    /// the bracket past the limit; a fault without a place gets the opening brace's. A text is a custom fault where it stands.
+    /// Opens the array that is a variant's content. The `end` of the access closes the array and the variant's object. The
+    /// length changes nothing.
+    ///
+    /// ```text
+    /// let mut seq = access.tuple_variant(2)?;    // {weekly: [1, 7]}
+    /// ```
+    ///
+    /// # Errors
+    ///
+    /// A fault without a position gets that of the variant's opening brace.
+    /// - `ExpectedOpeningBracket` at another character than `[`.
+    /// - `TooDeep` at the bracket past the limit.
+    /// - `EofParsingArray` where the text ends.
+    /// - The codes of every call: see [`EnumAccess`].
     pub fn tuple_variant(self, _length: usize) -> Result<SeqAccess<'a, I>>
         ensures* lends { sem 𝓛 (lends_reader I.row I.Input (reader_of self.entry) result) }
         ensures held { IfOk result (HoldsBlocked (reader_of self.entry) (Some (seen_enum self.entry).start)) }
@@ -180,9 +243,20 @@ impl<'a, I: Input> EnumAccess<'a, I> {
         })
     }
 
-    /// Reads a variant whose content is an object, pair by pair. Its `end` closes the object and the variant's brace, before which a
-    /// comma may stand. The fields change nothing. `ExpectedOpeningBrace` stands at another character, `TooDeep` at the bracket
-    /// past the limit; a fault without a place gets the variant's opening brace's. A text is a custom fault where it stands.
+    /// Opens the object that is a variant's content. The `end` of the access closes the object and the variant's own. The
+    /// fields change nothing.
+    ///
+    /// ```text
+    /// let mut map = access.struct_variant(&["day", "hour"])?;    // {once: {day: 'today', hour: 7}}
+    /// ```
+    ///
+    /// # Errors
+    ///
+    /// A fault without a position gets that of the variant's opening brace.
+    /// - `ExpectedOpeningBrace` at another character than `{`.
+    /// - `TooDeep` at the brace past the limit.
+    /// - `EofParsingObject` where the text ends.
+    /// - The codes of every call: see [`EnumAccess`].
     pub fn struct_variant(self, _fields: &'static [&'static str]) -> Result<MapAccess<'a, I>>
         ensures* lends { sem 𝓛 (lends_to_map I.row I.Input (reader_of self.entry) result) }
         ensures held { IfOk result (HoldsMapBlocked (reader_of self.entry) (Some (seen_enum self.entry).start)) }

@@ -1,4 +1,4 @@
-//! Fields of a struct, which are read as the pairs of an object come.
+//! Fields of a struct, which are read as the members of an object come.
 
 ghost use Rattle.std.specs.Prelude.{◌≡◌, true, false, Some, IfOk, OnOk, string_bytes};
 ghost use Rattle.json5_grammar.specs.declared.code.ErrorCode.TheVariants as codes;
@@ -24,7 +24,19 @@ use json5_text::input::Input;
 use json5_text::text_token::TextToken;
 use std::fmt;
 
-/// The fields of a struct, as far as they were read: what `MapAccess::read_fields` fills.
+/// The fields of a struct, as far as they were read: what [`MapAccess::read_fields`] fills.
+///
+/// ```text
+/// struct Found { host: Option<String>, port: Option<u16> }
+///
+/// fn read(&mut self, map: &mut MapAccess<'_, I>, name: &str) -> Result<()> {
+///     match name {
+///         "host" => map.next_field(name, &mut self.host),
+///         "port" => map.next_field(name, &mut self.port),
+///         _ => map.skip_value(),
+///     }
+/// }
+/// ```
 pub trait Fields<I: Input>: Sized + Drop {
     ghost use Rattle.std.specs.Prelude.{⊤};
     ghost use Rattle.json5_de.specs.Plans.{Step, TakesPair};
@@ -43,7 +55,11 @@ pub trait Fields<I: Input>: Sized + Drop {
     ghost refuses: { ValueFaults } = { λ _ _ _ _. ⊤ };
 
     /// Reads the value of the key that was read last, which has this name: into its field by `MapAccess::next_field`, or past
-    /// it where there is none.
+    /// it by `MapAccess::skip_value` where there is no such field.
+    ///
+    /// # Errors
+    ///
+    /// Those of the call that it makes.
     fn read(&mut self, map: &mut MapAccess<'_, I>, name: &str) -> Result<()>
         requires key { KeyPending map.old }
         ensures access { KeepsMap map.old map.new }
@@ -120,9 +136,14 @@ impl<'a, I: Input> MapAccess<'a, I> {
         self.own_fault(format_args!("duplicate field `{name}`"))
     }
 
-    /// Reads the value of the key that was read last into this field of a struct, as `next_value` reads it. A field that has a
-    /// value is a custom fault ``duplicate field `name` `` at the opening brace, before anything of the second value is read.
-    /// A refusal leaves the field as it was, and every later call answers `Failed`.
+    /// Reads the value of the key that was read last into this field of a struct. A call that is refused leaves the field as it
+    /// was.
+    ///
+    /// # Errors
+    ///
+    /// - A custom fault ``duplicate field `name` `` at the opening brace where the field has a value; the second value stays
+    ///   unread.
+    /// - The codes of [`next_value`](MapAccess::next_value), with its positions.
     pub fn next_field<V: Deserialize<I>>(&mut self, name: &str, field: &mut Option<V>) -> Result<()>
         requires key { KeyPending self.old }
         ensures access { KeepsMap self.old self.new }
@@ -138,6 +159,10 @@ impl<'a, I: Input> MapAccess<'a, I> {
     }
 
     /// Passes over the value of the key that was read last, as `next_value::<IgnoredAny>` does.
+    ///
+    /// # Errors
+    ///
+    /// As [`next_value`](MapAccess::next_value), with the faults of a value of any kind.
     pub fn skip_value(&mut self) -> Result<()>
         requires key { KeyPending self.old }
         ensures access { KeepsMap self.old self.new }
@@ -149,8 +174,20 @@ impl<'a, I: Input> MapAccess<'a, I> {
         Ok(())
     }
 
-    /// The value of a field that has to be there, once all pairs are read: a custom fault ``missing field `name` `` at the opening
-    /// brace where it isn't. After a refusal every later call answers `Failed`.
+    /// Returns the value of a field that has to be there, once all members are read.
+    ///
+    /// ```text
+    /// let mut map = de.deserialize_struct("Settings", &["host", "port"])?;
+    /// map.read_fields(&mut found)?;
+    /// let host = map.required_field("host", found.host)?;
+    /// map.end()?;
+    /// ```
+    ///
+    /// # Errors
+    ///
+    /// - A custom fault ``missing field `name` `` at the opening brace where the field has no value.
+    /// - `OutOfMemory` there, where a request for memory was refused.
+    /// - `Failed` at the opening brace after a call of the access that was refused.
     pub fn required_field<V: Deserialize<I>>(&mut self, name: &str, field: Option<V>) -> Result<V>
         ensures access { KeepsMap self.old self.new }
         ensures found { IfOk result (λ v. field ≡ Some v) }
@@ -181,9 +218,13 @@ impl<'a, I: Input> MapAccess<'a, I> {
         Ok(name)
     }
 
-    /// Reads the pairs of an object into these fields, one after another, up to the closing brace, which stays unread. A
-    /// refusal is that of `next_key::<String>`, or of the field's `read`, after the pairs that were read before. After a refusal
-    /// every later call answers `Failed`.
+    /// Reads the members of an object into these fields, one after another, up to the closing brace, which `end` takes. A
+    /// refusal comes after the members that were read before it.
+    ///
+    /// # Errors
+    ///
+    /// - The codes of `next_key::<String>`, with its positions.
+    /// - The faults of the fields' `read`.
     pub fn read_fields<F: Fields<I>>(&mut self, fields: &mut F) -> Result<()>
         requires no_key { NoKeyPending self.old }
         ensures access { KeepsMap self.old self.new }

@@ -1,4 +1,4 @@
-//! Gathering the pairs of an object into a map.
+//! Gathering the members of an object into a map.
 
 ghost use Rattle.std.specs.Prelude.{◌≡◌, List, [], ◌∷◌, ◌++◌, OnOk, IfOk, IfErr};
 ghost use Rattle.json5_text.specs.Errors.{LacksMemory};
@@ -12,20 +12,20 @@ use crate::key::DeserializeKey;
 use json5_text::error::Result;
 use json5_text::input::Input;
 
-/// A map that pairs are put into, one after another.
+/// A map that members are put into, one after another.
 pub(crate) trait Gathers<K, V>: Sized + Drop {
     ghost use Rattle.std.specs.Prelude.{List};
 
     // It is what an empty map becomes by these pairs, put into it in turn.
     ghost gathered: { Self → List (K × V) → Type 0 };
 
-    /// Puts a pair. Where an equal key is there, it stays and takes the value.
+    /// Puts a member. Where an equal key is there, it stays and takes the value.
     fn put(&mut self, key: K, value: V) -> Result<()>
         ensures put { OnOk result ((ps : List (K × V)) → gathered self.old ps → gathered self.new (ps ++ (key, value) ∷ [])) }
         ensures refused { IfErr result LacksMemory };
 }
 
-/// Reads an object's pairs into an empty map.
+/// Reads an object's members into an empty map.
 pub(crate) fn gather<I: Input, K: DeserializeKey<I>, V: Deserialize<I>, M: Gathers<K, V>>(
     de: &mut Deserializer<I>,
     mut items: M,

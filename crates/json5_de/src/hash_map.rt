@@ -21,7 +21,8 @@ impl<K: Eq + Hash + Drop, V: Drop> Gathers<K, V> for HashMap<K, V> {
     }
 }
 
-/// An object, in no order. Of pairs with equal keys the first gives the key and the last the value.
+/// Reads an object (JSON5 section 3), in no order. Of members with equal keys the first gives the key and the last the value.
+/// The faults are those of a `BTreeMap`.
 ///
 /// The hasher has a fixed seed that everyone knows, so that keys chosen for it make reading slow. Read a text from strangers as
 /// `BTreeMap` or `Value`.

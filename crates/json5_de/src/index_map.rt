@@ -20,7 +20,8 @@ impl<K: Eq + Hash + Drop, V: Drop> Gathers<K, V> for IndexMap<K, V> {
     }
 }
 
-/// An object, in the order in which keys first came. Of pairs with equal keys the first gives the key and the last the value.
+/// Reads an object (JSON5 section 3), in the order in which keys first came. Of members with equal keys the first gives the key
+/// and the last the value. The faults are those of a `BTreeMap`.
 ///
 /// The hasher has a fixed seed that everyone knows, so that keys chosen for it make reading slow. Read a text from strangers as
 /// `BTreeMap` or `Value`.

@@ -25,9 +25,32 @@ use json5_text::error::{Error, Result};
 use json5_text::input::{Borrows, Input};
 use std::alloc::Global;
 
-/// A key that is to be read: each of its methods reads it whole, a string or an identifier (JSON5 section 3).
+/// A key that is to be read, a string or an identifier (JSON5 section 3). Each of its methods reads it whole, and a type calls
+/// one of them, once. Where it is dropped unread, the access that lent it refuses from then on.
 ///
-/// A type calls one of them, once. Where it is dropped unread, the access that lent it refuses from then on.
+/// ```text
+/// fn deserialize_key(key: &mut MapKey<'_, I>) -> Result<Id> {
+///     let number = key.deserialize_u32()?;    // 7 of `'7'`
+///     Ok(Id { number })
+/// }
+/// ```
+///
+/// # Errors
+///
+/// Every call may answer
+/// - `Failed`, without a position, after a call of the reader that was refused.
+/// - Where a quote begins the key, the codes of a string: see [`Deserializer`].
+/// - `ExpectedIdentifier` at a character that begins no key, or at the backslash of an escape whose character may not be in an
+///   identifier.
+/// - `InvalidEscapeSequence` at the character after a backslash that is no `u`. In a `\u` escape it and the custom fault of
+///   surrogates have the positions that they have in a string.
+/// - `EofParsingIdentifier`, without a position, where the text ends in an identifier or right after it;
+///   `EofParsingEscapeSequence`, without a position, where it ends in an escape.
+/// - `OutOfMemory` where a request for memory was refused.
+///
+/// A call that reads the key's text as a document of its own (`deserialize_unit`, `_unit_struct`, `_bool`, `_decimal`, `_u8` to
+/// `_i128`) also answers the faults of that document: their codes are those of `from_str`, and each has the position of the
+/// key.
 pub struct MapKey<'a, I: Input> {
     pub(crate) de: &'a mut Deserializer<I>,
 }
@@ -47,6 +70,19 @@ impl<I: Input> Drop for MapKey<'_, I> {
 ///
 /// Its law is the contract of `deserialize_key`: one key is read from the front, blanks and comments before it included, and
 /// exactly what follows it is left unread.
+///
+/// ```text
+/// impl<I: Input> DeserializeKey<I> for Id {
+///     ghost Content = { ℕ };
+///     ghost content = { λ i. i.number };
+///     ghost convert = { (document_key (natural_row (2 ^ 32))).convert };
+///
+///     fn deserialize_key(key: &mut MapKey<'_, I>) -> Result<Id> {
+///         let number = key.deserialize_u32()?;
+///         Ok(Id { number })
+///     }
+/// }
+/// ```
 pub trait DeserializeKey<I: Input>: Sized + Drop {
     ghost use Rattle.std.specs.Prelude.{⊤};
     ghost use Rattle.json5_text.specs.declared.error.Error.{Error};
@@ -65,7 +101,11 @@ pub trait DeserializeKey<I: Input>: Sized + Drop {
     // What is known of a refusal, beside what the law says.
     ghost refuses: { State → Error → State → Type 0 } = { λ _ _ _. ⊤ };
 
-    /// Reads one key from the front.
+    /// Reads one key from the front, and leaves what follows it unread.
+    ///
+    /// # Errors
+    ///
+    /// The faults of the call of the key that the impl makes, and custom faults of its own.
     fn deserialize_key(key: &mut MapKey<'_, I>) -> Result<Self>
         ensures sound { IfOk result (λ v. GivesKey content convert (waiting key.old) (waiting key.new) v) }
         ensures complete { CompletesKey convert (waiting key.old) result }
@@ -78,48 +118,78 @@ pub trait DeserializeKey<I: Input>: Sized + Drop {
 impl<I: Input> MapKey<'_, I> {
     ghost use Rattle.json5_de.specs.Lending.{KeyReads, KeyReadsBy, ReadsBytesKey, ReadsNullKey};
 
-    /// The allocator of what is read.
+    /// Returns the allocator of the reader, for what an impl allocates itself.
     pub fn allocator(&self) -> Global {
         self.de.allocator()
     }
 
-    /// Reads the key as a text.
+    /// Reads the key and returns its text, escapes replaced, in a `String` of its own.
+    ///
+    /// # Errors
+    ///
+    /// As every call: see [`MapKey`].
     pub fn deserialize_string(&mut self) -> Result<String>
         ensures { KeyReads string_key string_bytes self.old self.new result }
     {
         self.de.key_string()
     }
 
-    /// Reads a key of one character; another text is a custom fault at the key.
+    /// Reads a key of exactly one character.
+    ///
+    /// # Errors
+    ///
+    /// - A custom fault at the key where it has no character or several.
+    /// - The codes of every call: see [`MapKey`].
     pub fn deserialize_char(&mut self) -> Result<char>
         ensures { KeyReads char_key (λ c. c) self.old self.new result }
     {
         self.de.key_char()
     }
 
-    /// Reads a key that names one of the variants, and returns its first place among them, counted from 0. Another text is a custom
-    /// fault at the key, which lists the variants. The name of the enum changes nothing.
+    /// Reads a key that is one of the variants, and returns its index among them, counted from 0; of equal names it is the
+    /// first. The name of the enum changes nothing.
+    ///
+    /// ```text
+    /// let color = key.deserialize_enum("Color", &["red", "green", "blue"])?;    // 2 for the key `blue`
+    /// ```
+    ///
+    /// # Errors
+    ///
+    /// - A custom fault that lists the variants, at any other key.
+    /// - The codes of every call: see [`MapKey`].
     pub fn deserialize_enum(&mut self, _name: &'static str, variants: &[&str]) -> Result<usize>
         ensures { KeyReads (variant_key (spelled variants.now)) (λ n. n) self.old self.new result }
     {
         self.de.key_variant(variants)
     }
 
-    /// Reads any key, and keeps nothing of it.
+    /// Reads a key of any text, and keeps nothing of it.
+    ///
+    /// # Errors
+    ///
+    /// As every call: see [`MapKey`].
     pub fn deserialize_ignored_any(&mut self) -> Result<()>
         ensures { KeyReads ignored_key (λ _. tt) self.old self.new result }
     {
         self.de.key_ignored()
     }
 
-    /// Reads a key as bytes: a text of an even number of ASCII hexadecimal digits, in either case, two a byte. `InvalidBytes` at
-    /// the key for any other text.
+    /// Reads a key as bytes: its text is an even number of ASCII hexadecimal digits, in either case, two a byte.
+    ///
+    /// # Errors
+    ///
+    /// - `InvalidBytes` at a key of any other text.
+    /// - The codes of every call: see [`MapKey`].
     pub fn deserialize_bytes(&mut self) -> Result<ByteBuf>
         ensures { ReadsBytesKey self.old self.new result }
     {
         self.de.key_bytes()
     }
 
+    /// Reads a key as bytes, as [`deserialize_bytes`](MapKey::deserialize_bytes) does.
+    ///
+    /// # Errors
+    ///
     /// As `deserialize_bytes`.
     pub fn deserialize_byte_buf(&mut self) -> Result<ByteBuf>
         ensures { ReadsBytesKey self.old self.new result }
@@ -127,107 +197,169 @@ impl<I: Input> MapKey<'_, I> {
         self.deserialize_bytes()
     }
 
-    /// Reads the key's text as a document, which is `null`. Its faults have their codes and the key's place, as those of the other
-    /// calls that read a document have.
+    /// Reads a key whose text is `null`, blanks and comments round it included: `{null: 1}`, `{' null ': 1}`.
+    ///
+    /// # Errors
+    ///
+    /// As every call that reads a document: see [`MapKey`].
     pub fn deserialize_unit(&mut self) -> Result<()>
         ensures { ReadsNullKey self.old self.new result }
     {
         self.de.key_document()
     }
 
-    /// Reads the key's text as a document, which is `null`, as a struct without fields. The name changes nothing.
+    /// Reads a key whose text is `null`, as a struct without fields. The name changes nothing.
+    ///
+    /// # Errors
+    ///
+    /// As every call that reads a document: see [`MapKey`].
     pub fn deserialize_unit_struct(&mut self, _name: &'static str) -> Result<()>
         ensures { ReadsNullKey self.old self.new result }
     {
         self.deserialize_unit()
     }
 
-    /// Reads the key's text as a document, which is `true` or `false`.
+    /// Reads a key whose text is `true` or `false`, blanks and comments round it included.
+    ///
+    /// # Errors
+    ///
+    /// As every call that reads a document: see [`MapKey`].
     pub fn deserialize_bool(&mut self) -> Result<bool>
         ensures { KeyReads (document_key bool_row) (λ b. b) self.old self.new result }
     {
         self.de.key_document()
     }
 
-    /// Reads the key's text as a document, which is a whole number in the range of `u8`.
+    /// Reads a key whose text is a whole number from 0 to 255, blanks and comments round it included.
+    ///
+    /// ```text
+    /// key.deserialize_u8()?    // 16 of the keys `'16'`, `'0x10'` and `' 16 '`
+    /// ```
+    ///
+    /// # Errors
+    ///
+    /// As every call that reads a document: see [`MapKey`].
     pub fn deserialize_u8(&mut self) -> Result<u8>
         ensures { KeyReads (document_key (natural_row (2 ^ 8))) (λ n. n) self.old self.new result }
     {
         self.de.key_document()
     }
 
-    /// Reads the key's text as a document, which is a whole number in the range of `u16`.
+    /// Reads a key whose text is a whole number from 0 to 65535.
+    ///
+    /// # Errors
+    ///
+    /// As every call that reads a document: see [`MapKey`].
     pub fn deserialize_u16(&mut self) -> Result<u16>
         ensures { KeyReads (document_key (natural_row (2 ^ 16))) (λ n. n) self.old self.new result }
     {
         self.de.key_document()
     }
 
-    /// Reads the key's text as a document, which is a whole number in the range of `u32`.
+    /// Reads a key whose text is a whole number from 0 to 2^32 - 1.
+    ///
+    /// # Errors
+    ///
+    /// As every call that reads a document: see [`MapKey`].
     pub fn deserialize_u32(&mut self) -> Result<u32>
         ensures { KeyReads (document_key (natural_row (2 ^ 32))) (λ n. n) self.old self.new result }
     {
         self.de.key_document()
     }
 
-    /// Reads the key's text as a document, which is a whole number in the range of `u64`.
+    /// Reads a key whose text is a whole number from 0 to 2^64 - 1.
+    ///
+    /// # Errors
+    ///
+    /// As every call that reads a document: see [`MapKey`].
     pub fn deserialize_u64(&mut self) -> Result<u64>
         ensures { KeyReads (document_key (natural_row (2 ^ 64))) (λ n. n) self.old self.new result }
     {
         self.de.key_document()
     }
 
-    /// Reads the key's text as a document, which is a whole number in the range of `u128`.
+    /// Reads a key whose text is a whole number from 0 to 2^128 - 1.
+    ///
+    /// # Errors
+    ///
+    /// As every call that reads a document: see [`MapKey`].
     pub fn deserialize_u128(&mut self) -> Result<u128>
         ensures { KeyReads (document_key (natural_row (2 ^ 128))) (λ n. n) self.old self.new result }
     {
         self.de.key_document()
     }
 
-    /// Reads the key's text as a document, which is a whole number in the range of `i8`.
+    /// Reads a key whose text is a whole number from -128 to 127.
+    ///
+    /// # Errors
+    ///
+    /// As every call that reads a document: see [`MapKey`].
     pub fn deserialize_i8(&mut self) -> Result<i8>
         ensures { KeyReads (document_key (integer_row (2 ^ 7))) (λ n. n) self.old self.new result }
     {
         self.de.key_document()
     }
 
-    /// Reads the key's text as a document, which is a whole number in the range of `i16`.
+    /// Reads a key whose text is a whole number from -32768 to 32767.
+    ///
+    /// # Errors
+    ///
+    /// As every call that reads a document: see [`MapKey`].
     pub fn deserialize_i16(&mut self) -> Result<i16>
         ensures { KeyReads (document_key (integer_row (2 ^ 15))) (λ n. n) self.old self.new result }
     {
         self.de.key_document()
     }
 
-    /// Reads the key's text as a document, which is a whole number in the range of `i32`.
+    /// Reads a key whose text is a whole number from -2^31 to 2^31 - 1.
+    ///
+    /// # Errors
+    ///
+    /// As every call that reads a document: see [`MapKey`].
     pub fn deserialize_i32(&mut self) -> Result<i32>
         ensures { KeyReads (document_key (integer_row (2 ^ 31))) (λ n. n) self.old self.new result }
     {
         self.de.key_document()
     }
 
-    /// Reads the key's text as a document, which is a whole number in the range of `i64`.
+    /// Reads a key whose text is a whole number from -2^63 to 2^63 - 1.
+    ///
+    /// # Errors
+    ///
+    /// As every call that reads a document: see [`MapKey`].
     pub fn deserialize_i64(&mut self) -> Result<i64>
         ensures { KeyReads (document_key (integer_row (2 ^ 63))) (λ n. n) self.old self.new result }
     {
         self.de.key_document()
     }
 
-    /// Reads the key's text as a document, which is a whole number in the range of `i128`.
+    /// Reads a key whose text is a whole number from -2^127 to 2^127 - 1.
+    ///
+    /// # Errors
+    ///
+    /// As every call that reads a document: see [`MapKey`].
     pub fn deserialize_i128(&mut self) -> Result<i128>
         ensures { KeyReads (document_key (integer_row (2 ^ 127))) (λ n. n) self.old self.new result }
     {
         self.de.key_document()
     }
 
-    /// Reads the key's text as a document, which is a number.
+    /// Reads a key whose text is a number of any kind, as a decimal.
+    ///
+    /// # Errors
+    ///
+    /// As every call that reads a document: see [`MapKey`].
     pub fn deserialize_decimal(&mut self) -> Result<Decimal>
         ensures { KeyReads (document_key decimal_row) (λ d. d) self.old self.new result }
     {
         self.de.key_document()
     }
 
-    /// Reads the K that a struct of one field holds, with the faults of K. The name changes nothing. After a refusal every later
-    /// call on the reader answers `Failed`.
+    /// Reads the `K` that a struct of one field holds. The name changes nothing.
+    ///
+    /// # Errors
+    ///
+    /// The faults of `K`; `Failed`, without a position, after a call of the reader that was refused.
     pub fn deserialize_newtype_struct<K: DeserializeKey<I>>(
         &mut self,
         _name: &'static str,
@@ -237,8 +369,11 @@ impl<I: Input> MapKey<'_, I> {
         self.de.key_as()
     }
 
-    /// Reads a K, which is always Some, with the faults of K: a key is never None. After a refusal every later call on the reader
-    /// answers `Failed`.
+    /// Reads a `K`, which is always Some: a key is never None, not even `null`.
+    ///
+    /// # Errors
+    ///
+    /// The faults of `K`; `Failed`, without a position, after a call of the reader that was refused.
     pub fn deserialize_option<K: DeserializeKey<I>>(&mut self) -> Result<Option<K>>
         ensures { KeyReadsBy (if_some K.content) (some_of K.convert) (RefusesLive K.refuses) self.old self.new result }
     {
@@ -251,21 +386,34 @@ impl<I: Input> MapKey<'_, I> {
 impl<'de, I: Borrows<'de>> MapKey<'_, I> {
     ghost use Rattle.json5_de.specs.Lending.{KeyReads, ReadsCowKey};
 
-    /// Reads a key without an escape; another one is a custom fault at the key.
+    /// Reads a key without an escape, and returns its slice of the input, without quotes.
+    ///
+    /// # Errors
+    ///
+    /// - A custom fault at a key that has an escape.
+    /// - The codes of every call: see [`MapKey`].
     pub fn deserialize_str(&mut self) -> Result<&'de str>
         ensures { KeyReads plain_key (λ t. t.now) self.old self.new result }
     {
         self.de.key_str()
     }
 
-    /// Reads the key as a text, borrowed where no escape is used.
+    /// Reads the key and returns its text, borrowed from the input where the key has no escape.
+    ///
+    /// # Errors
+    ///
+    /// As every call: see [`MapKey`].
     pub fn deserialize_identifier(&mut self) -> Result<CowStr<'de>>
         ensures { ReadsCowKey self.old self.new result }
     {
         self.de.key_cow()
     }
 
-    /// Reads a key of any kind, which is its text, borrowed where no escape is used.
+    /// Reads a key of any text, as [`deserialize_identifier`](MapKey::deserialize_identifier) does.
+    ///
+    /// # Errors
+    ///
+    /// As every call: see [`MapKey`].
     pub fn deserialize_any(&mut self) -> Result<CowStr<'de>>
         ensures { ReadsCowKey self.old self.new result }
     {

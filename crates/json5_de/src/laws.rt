@@ -55,8 +55,8 @@ pub fn document_keys()
     ensures decimal { ConvertsDocuments decimal_of }
 {}
 
-/// What maps hold that were read, where keys are told apart by what counts of them: the pairs of the object, each key once, the
-/// first, with the last value.
+/// What maps hold that were read, where keys are told apart by what counts of them: the members of the object, each key once,
+/// the first, with the last value.
 pub fn map_contents<I: Input, K: DeserializeKey<I> + Ord + Hash, V: Deserialize<I>>()
     ensures ordered { HoldsInOrder K.content V.content K.cmp K.convert V.convert ⟦<BTreeMap<K, V> as Deserialize<I>>⟧.content ⟦<BTreeMap<K, V> as Deserialize<I>>⟧.convert }
     ensures indexed { HoldsInTurn K.content V.content K.eq K.convert V.convert ⟦<IndexMap<K, V> as Deserialize<I>>⟧.content ⟦<IndexMap<K, V> as Deserialize<I>>⟧.convert }

@@ -1,4 +1,4 @@
-//! Typed reading of JSON5.
+//! Typed reading of JSON5: a whole text by `from_str`, or value by value with a `Deserializer`.
 #![tactic(auto)]
 
 mod any;

@@ -4,7 +4,8 @@ use crate::de::{Deserialize, Deserializer};
 use json5_text::error::Result;
 use json5_text::input::Input;
 
-/// An array, each element of the type.
+/// Reads an array (JSON5 section 4), each element as a `T`. The faults are those of its brackets and commas, as a `SeqAccess`
+/// lists them, those of the first element that is refused, and `OutOfMemory`.
 impl<I: Input, T: Deserialize<I>> Deserialize<I> for Vec<T> {
     ghost use Rattle.std.specs.Prelude.{List, map};
     ghost use Rattle.json5_grammar.specs.Members.{array_of, contents};
@@ -29,8 +30,9 @@ impl<I: Input, T: Deserialize<I>> Deserialize<I> for Vec<T> {
     }
 }
 
-/// An array of exactly N elements, each of the type. Fewer are refused at the opening bracket with a text of its own, more with
-/// `ExpectedClosingBracket` at the first that is too many.
+/// Reads an array of exactly N elements (JSON5 section 4), each as a `T`. Fewer are a custom fault ``invalid length k, expected
+/// an array of length N`` at the opening bracket; more are `ExpectedClosingBracket` at the first that is too many. The other
+/// faults are those of a `Vec`.
 impl<I: Input, T: Deserialize<I>, const N: usize> Deserialize<I> for [T; N] {
     ghost use Rattle.std.specs.Prelude.{List, map};
     ghost use Rattle.json5_grammar.specs.Members.{array_of};

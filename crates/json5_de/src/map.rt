@@ -1,4 +1,4 @@
-//! Reading of objects, one pair after another.
+//! Reading of objects, one member after another (JSON5 section 3).
 
 ghost use Rattle.std.specs.Prelude.{◌≡◌, true, false, IfOk, IfErr};
 ghost use Rattle.std.specs.Borrow.{sem};
@@ -17,8 +17,26 @@ use json5_text::input::Input;
 use json5_text::{ErrorCode, Position};
 use json5_value::brackets::BracketKind;
 
-/// The pairs of an object, one after another: a key, then its value. The reader answers `Failed` until `end`, and for good where
-/// the access is dropped or leaked before.
+/// The members of an object, one after another: a key, then its value.
+///
+/// `end` closes the object and frees the reader. Until then the reader's own calls answer `Failed`, and for good where the
+/// access is dropped or leaked before. After a call of the access that was refused, every later one answers `Failed`. Equal
+/// keys are given as often as they come.
+///
+/// ```text
+/// let mut map = de.deserialize_map()?;
+/// while let Some(name) = map.next_key::<String>()? {
+///     let port = map.next_value::<u16>()?;
+///     ports.push((name, port))?;
+/// }
+/// map.end()?;
+/// ```
+///
+/// # Errors
+///
+/// Every call that reads may answer
+/// - `ExpectedComment` and `EofParsingComment` for a comment, as in every call of a [`Deserializer`].
+/// - `Failed`, after a call of the access that was refused.
 pub struct MapAccess<'a, I: Input> {
     pub(crate) de: &'a mut Deserializer<I>,
     /// The count of bytes before the opening brace.
@@ -50,8 +68,14 @@ impl<I: Input> Drop for MapAccess<'_, I> {
 impl<I: Input> Deserializer<I> {
     ghost use Rattle.json5_de.specs.Lending.{OpensMapAccess, lends_to_map};
 
-    /// Opens an object, and blocks the reader while the access reads its pairs. `ExpectedOpeningBrace` stands at another
-    /// character, `TooDeep` at the bracket past the limit; `EofParsingObject` at the end has no place.
+    /// Opens an object (JSON5 section 3), and lends the reader to the access that reads its members.
+    ///
+    /// # Errors
+    ///
+    /// - `ExpectedOpeningBrace` at another character than `{`.
+    /// - `TooDeep` at the brace past the limit.
+    /// - `EofParsingObject`, without a position, where the text ends.
+    /// - The codes of every call: see [`Deserializer`].
     pub fn deserialize_map(&mut self) -> Result<MapAccess<'_, I>>
         ensures* lends { sem 𝓛 (lends_to_map I.row I.Input self.entry result) }
         ensures opens { OpensMapAccess self.entry self.old result }
@@ -67,7 +91,12 @@ impl<I: Input> Deserializer<I> {
         })
     }
 
-    /// As `deserialize_map`. The name and the fields change nothing.
+    /// Opens an object as [`deserialize_map`](Deserializer::deserialize_map) does, for [`MapAccess::read_fields`]. The name and
+    /// the fields change nothing.
+    ///
+    /// # Errors
+    ///
+    /// As `deserialize_map`.
     pub fn deserialize_struct(
         &mut self,
         _name: &'static str,
@@ -117,8 +146,8 @@ impl<I: Input> Deserializer<I> {
 impl<'a, I: Input> MapAccess<'a, I> {
     ghost use Rattle.json5_de.specs.Lending.{seen_map, KeyPending, NoKeyPending, map_brace, SettlesMap, ReadsNextKey, ReadsNextValue};
 
-    /// Blocks the reader again after a call of its own, and keeps in mind that one was refused. A fault without a place gets the
-    /// opening brace's.
+    /// Blocks the reader again after a call of its own, and remembers a refusal. A fault without a position gets that of the
+    /// opening brace.
     pub(crate) fn settle<T>(&mut self, read: Result<T>) -> Result<T>
         ensures { SettlesMap self.old read self.new result }
     {
@@ -132,11 +161,18 @@ impl<'a, I: Input> MapAccess<'a, I> {
         }
     }
 
-    /// The next key; none where the closing brace is next, which stays unread. Its value has to be read next. After a pair
-    /// `ExpectedComma` stands at what is neither a comma nor the brace, else `ExpectedIdentifier` at what begins no key, and
-    /// `EofParsingObject` says that the text ends; else the key's own faults come. A key's fault without a place gets the key's
-    /// place, but for `EofParsing..`, `OutOfMemory` and `Failed`, which get the opening brace's. After a refusal every later call
-    /// answers `Failed`.
+    /// Reads the key of the next member, and the comma before it. Returns none where the closing brace is next, which `end`
+    /// takes. The value of a key has to be read before the next key.
+    ///
+    /// # Errors
+    ///
+    /// A fault without a position gets that of the opening brace, but for those of `K`.
+    /// - `ExpectedComma` at a character after a member that is neither a comma nor `}`.
+    /// - `ExpectedIdentifier` at a character that begins no key, where one may begin.
+    /// - `EofParsingObject` where the text ends after a member or before a key.
+    /// - The faults of `K`; one without a position gets that of the key, but where its code is `EofParsing..`, `OutOfMemory` or
+    ///   `Failed`, that of the opening brace.
+    /// - The codes of every call: see [`MapAccess`].
     pub fn next_key<K: DeserializeKey<I>>(&mut self) -> Result<Option<K>>
         requires no_key { NoKeyPending self.old }
         ensures { ReadsNextKey K.content K.convert K.refuses self.old self.new result }
@@ -148,9 +184,15 @@ impl<'a, I: Input> MapAccess<'a, I> {
         Ok(key)
     }
 
-    /// The value of the key that was read last. `ExpectedColon` stands at what is no colon, and `EofParsingObject` says that the
-    /// text ends before it; else the value's own faults come. A fault without a place gets the opening brace's. After a refusal
-    /// every later call answers `Failed`.
+    /// Reads the colon and the value of the key that was read last.
+    ///
+    /// # Errors
+    ///
+    /// A fault without a position gets that of the opening brace.
+    /// - `ExpectedColon` at a character after the key that is no colon.
+    /// - `EofParsingObject` where the text ends before the colon.
+    /// - The faults of `V`, also where the text ends after the colon.
+    /// - The codes of every call: see [`MapAccess`].
     pub fn next_value<V: Deserialize<I>>(&mut self) -> Result<V>
         requires key { KeyPending self.old }
         ensures { ReadsNextValue V.content V.convert V.refuses self.old self.new result }
@@ -162,14 +204,18 @@ impl<'a, I: Input> MapAccess<'a, I> {
         Ok(value)
     }
 
-    /// Whether a key was read whose value wasn't. A call that is refused leaves it as it was.
+    /// Says whether a key was read whose value wasn't. A call that is refused doesn't change it.
     pub fn key_pending(&self) -> bool
         ensures { result ≡ (seen_map self.now).pending }
     {
         self.stage.is_pending()
     }
 
-    /// The fault, at the opening brace where it has no place.
+    /// Gives a fault of one's own the position of the opening brace where it has none; a fault that has one stays as it is.
+    ///
+    /// ```text
+    /// return Err(map.place(Error::custom(alloc, "neither a name nor an id")?));
+    /// ```
     #[cold]
     #[inline(never)]
     pub fn place(&self, error: Error) -> Error
@@ -178,18 +224,27 @@ impl<'a, I: Input> MapAccess<'a, I> {
         self.de.place_at(self.start, error)
     }
 
-    /// The position of an offset in bytes, as that of a value which `Spanned` gives; the end's, where no character begins there.
+    /// Returns the position of an offset in bytes, such as the `start` of a `Spanned` value: line and column, counted from 0.
+    /// It is the position of the text's end where no character begins at the offset.
     pub fn position_of(&self, offset: usize) -> Position
         ensures { Locates (seen_map self.now).at.reader.input offset result }
     {
         self.de.position_of(offset)
     }
 
-    /// Takes the closing brace, and before it one comma where a pair was read and its comma wasn't taken. Then the reader goes on
-    /// after it. `ExpectedClosingBrace` stands at another character; `EofParsingObject` at the end has no place.
+    /// Closes the object: takes `}`, and before it one comma where a member was read and the comma after it wasn't. Then the
+    /// reader goes on after the brace.
     ///
-    /// As the content of a variant the object is closed in the same way, and then the variant's brace: a fault of the object's own
-    /// brace without a place gets the variant's.
+    /// Where the object is the content of a variant, the variant's `}` is taken too, before which one comma may be.
+    ///
+    /// # Errors
+    ///
+    /// - `ExpectedClosingBrace` at another character than `}`, such as that of a member that wasn't read.
+    /// - `EofParsingObject`, without a position, where the text ends.
+    /// - The codes of every call: see [`MapAccess`].
+    ///
+    /// `EofParsingComment` and `Failed` have no position either. In a variant a fault without one gets that of the variant's
+    /// opening brace, and after the object's own brace come the faults of the variant's: see [`EnumAccess`](crate::EnumAccess).
     pub fn end(self) -> Result<()>
         requires no_key { NoKeyPending self }
         ensures { EndsObject (map_brace self.entry) (seen_map self.entry) self.exit.0.now result }

@@ -1,9 +1,9 @@
-//! The texts of faults at a value that isn't of the type that is expected.
+//! The messages of custom faults at a value that isn't of the type that is expected.
 
 use json5_text::whole::Whole;
 use std::fmt;
 
-/// What stands in place of what is expected.
+/// What was found in place of what is expected.
 #[derive(Drop)]
 pub(crate) enum Mismatch<'a> {
     /// A whole number that isn't in the range of the type of this name.

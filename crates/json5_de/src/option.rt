@@ -14,8 +14,19 @@ use json5_text::input::Input;
 use json5_value::kinds::Literal;
 
 impl<I: Input> Deserializer<I> {
-    /// Reads `null` as None, wherever an `n` is next, and anything else as Some of a T. A fault of T without a place gets the
-    /// value's start; `EofParsingValue` at the end has no place.
+    /// Reads `null` as None and any other value as Some of a `T`. A value that begins with `n` is read as `null`, whatever `T`
+    /// is.
+    ///
+    /// ```text
+    /// let label: Option<String> = de.deserialize_option()?;
+    /// ```
+    ///
+    /// # Errors
+    ///
+    /// - `EofParsingValue`, without a position, where the text ends before a value.
+    /// - `ExpectedNull` and `EofParsingNull` after an `n`, as in [`deserialize_unit`](Deserializer::deserialize_unit).
+    /// - The faults of `T`; one without a position gets that of the value's first character.
+    /// - The codes of every call: see [`Deserializer`].
     pub fn deserialize_option<T: Deserialize<I>>(&mut self) -> Result<Option<T>>
         ensures reads { ReadsValue (if_some T.content) (option_of T.convert) (option_free T.free) (RefusesOption T.refuses) self.old self.new result }
         ensures ends { EndsWith codes.EofParsingValue self.old result }
@@ -38,8 +49,11 @@ impl<I: Input> Deserializer<I> {
         }
     }
 
-    /// Reads the T that a struct of one field holds, with the faults of T. The name changes nothing. After a refusal every later
-    /// call answers `Failed`.
+    /// Reads the `T` that a struct of one field holds. The name changes nothing.
+    ///
+    /// # Errors
+    ///
+    /// The faults of `T`; `Failed`, without a position, after a call that was refused.
     pub fn deserialize_newtype_struct<T: Deserialize<I>>(
         &mut self,
         _name: &'static str,
@@ -54,6 +68,10 @@ impl<I: Input> Deserializer<I> {
     }
 
     /// Reads `null` as a struct without fields. The name changes nothing. Takes no memory.
+    ///
+    /// # Errors
+    ///
+    /// As [`deserialize_unit`](Deserializer::deserialize_unit).
     pub fn deserialize_unit_struct(&mut self, _name: &'static str) -> Result<()>
         ensures { ReadsNull self.old self.new result }
     {
@@ -61,7 +79,7 @@ impl<I: Input> Deserializer<I> {
     }
 }
 
-/// Null is None.
+/// None of `null`, else Some of what `T` reads. So `null` as `Option<Option<T>>` is None.
 impl<I: Input, T: Deserialize<I>> Deserialize<I> for Option<T> {
     ghost use Rattle.std.specs.Prelude.{Option};
     ghost use Rattle.json5_de.specs.ConvertLists.{option_of, if_some};

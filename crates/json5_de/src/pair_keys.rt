@@ -25,7 +25,7 @@ fn begins_key(c: char) -> bool
     matches!(c, '"' | '\'' | '\\') || is_json5_identifier_start(c)
 }
 
-/// Whether the fault is one that gets no place of a key: the text ended, memory ran out or the reader had failed.
+/// Whether the fault is one that doesn't get a key's position: the text ended, memory ran out or the reader had failed.
 fn is_unplaced(error: &Error) -> bool
     ensures { result ≡ is_unplaced (kind_of error.now) }
 {
@@ -77,7 +77,7 @@ impl<I: Input> Deserializer<I> {
         Ok(true)
     }
 
-    /// A key's fault, at the key where it has no place and may have one.
+    /// A key's fault, at the key where it has no position and may have one.
     pub(crate) fn key_fault(&self, error: Error, start: usize) -> Error
         ensures { PlacedAtKey (StartsAfter self.now.input start) error result }
     {

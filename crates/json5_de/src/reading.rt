@@ -6,8 +6,16 @@ use crate::de::{Deserialize, Deserializer};
 use json5_text::error::Result;
 use json5_text::input::Input;
 
-/// Reads one T from the front, as `T::deserialize` does. Its contract also says which content is answered: where a tree that
-/// converts stands in front, it returns Ok of what that tree stands for, unless memory runs out.
+/// Reads one `T` from the front, as `T::deserialize` does. Its contract also fixes the answer: where the value in front
+/// converts, it is Ok of what that value stands for, unless memory runs out.
+///
+/// ```text
+/// let (first, last) = read::<I, (u16, Spanned<u16>)>(de)?;
+/// ```
+///
+/// # Errors
+///
+/// Those of `T::deserialize`.
 pub fn read<I: Input, T: Deserialize<I>>(de: &mut Deserializer<I>) -> Result<T>
     ensures { ReadsExactly T.content T.convert T.free T.refuses de.old de.new result }
 {

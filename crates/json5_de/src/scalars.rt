@@ -1,4 +1,4 @@
-//! Reading of null, booleans and numbers.
+//! Reading of null, booleans and numbers. The faults of numbers are listed once, in the comment of `Deserializer`.
 
 ghost use Rattle.std.specs.Prelude.{◌+◌, ◌^◌, ◌≤ℤ◌, pos, nat_abs, Some, IfOk};
 ghost use Rattle.json5_de.specs.Convert.{IsUpTo, IsWithin};
@@ -17,7 +17,13 @@ use json5_text::whole::Whole;
 use json5_value::kinds::Literal;
 
 impl<I: Input> Deserializer<I> {
-    /// Reads `null`. Takes no memory.
+    /// Reads `null` (JSON5 section 2). Takes no memory.
+    ///
+    /// # Errors
+    ///
+    /// - `ExpectedNull` at the first character that differs from `null`.
+    /// - `EofParsingNull`, without a position, where the text ends before the word does.
+    /// - The codes of every call: see [`Deserializer`].
     pub fn deserialize_unit(&mut self) -> Result<()>
         ensures { ReadsNull self.old self.new result }
     {
@@ -25,7 +31,13 @@ impl<I: Input> Deserializer<I> {
         self.literal(Literal::Null)
     }
 
-    /// Reads `true` or `false`. Takes no memory.
+    /// Reads `true` or `false` (JSON5 section 2). Takes no memory.
+    ///
+    /// # Errors
+    ///
+    /// - `ExpectedBool` at a character that begins neither, or that differs from the word that was begun.
+    /// - `EofParsingBool`, without a position, where the text ends before the word does.
+    /// - The codes of every call: see [`Deserializer`].
     pub fn deserialize_bool(&mut self) -> Result<bool>
         ensures { ReadsAs bool_row (λ b. b) self.old self.new result }
     {
@@ -38,7 +50,16 @@ impl<I: Input> Deserializer<I> {
         Ok(true)
     }
 
-    /// Reads a number as a decimal; a whole number gives that of the same number, zero without a sign.
+    /// Reads a number of any kind as a decimal (JSON5 section 6). A whole number gives the decimal of the same number, and zero
+    /// has no sign then.
+    ///
+    /// ```text
+    /// de.deserialize_decimal()?    // of `1.50` the digits 15 and the exponent -1, of `0x10` the digits 16 and the exponent 0
+    /// ```
+    ///
+    /// # Errors
+    ///
+    /// As every call that reads a number: see [`Deserializer`].
     pub fn deserialize_decimal(&mut self) -> Result<Decimal>
         ensures { ReadsAs decimal_row (λ d. d) self.old self.new result }
     {
@@ -53,7 +74,7 @@ impl<I: Input> Deserializer<I> {
         }
     }
 
-    /// Reads a whole number, and gives the count of bytes before it too.
+    /// Reads a whole number, and returns the count of bytes before it too.
     fn whole(&mut self, name: &str) -> Result<(usize, Whole)>
         ensures reads { ReadsAs (whole_row (λ z. Some z)) (λ read. read.1) self.old self.new result }
         ensures place { IfOk result (λ read. WholeAt self.old self.new read.0 read.1) }
@@ -93,7 +114,16 @@ impl<I: Input> Deserializer<I> {
         Ok(integer)
     }
 
-    /// Reads a whole number as `u8`, which takes no memory; another one is a custom fault at its start.
+    /// Reads a whole number from 0 to 255 as `u8`, in decimal or hexadecimal digits (JSON5 section 6). Takes no memory where it
+    /// succeeds.
+    ///
+    /// ```text
+    /// de.deserialize_u8()?    // 31 of `31`, of `+31` and of `0x1F`; `256`, `-1` and `31.0` are custom faults at their start
+    /// ```
+    ///
+    /// # Errors
+    ///
+    /// As every call that reads a whole number: see [`Deserializer`].
     #[inline(always)]
     pub fn deserialize_u8(&mut self) -> Result<u8>
         ensures { ReadsAs (natural_row (2 ^ 8)) (λ n. n) self.old self.new result }
@@ -107,7 +137,11 @@ impl<I: Input> Deserializer<I> {
         }
     }
 
-    /// Reads a whole number as `u16`, which takes no memory; another one is a custom fault at its start.
+    /// Reads a whole number from 0 to 65535 as `u16`. Takes no memory where it succeeds.
+    ///
+    /// # Errors
+    ///
+    /// As every call that reads a whole number: see [`Deserializer`].
     #[inline(always)]
     pub fn deserialize_u16(&mut self) -> Result<u16>
         ensures { ReadsAs (natural_row (2 ^ 16)) (λ n. n) self.old self.new result }
@@ -121,7 +155,11 @@ impl<I: Input> Deserializer<I> {
         }
     }
 
-    /// Reads a whole number as `u32`, which takes no memory; another one is a custom fault at its start.
+    /// Reads a whole number from 0 to 2^32 - 1 as `u32`. Takes no memory where it succeeds.
+    ///
+    /// # Errors
+    ///
+    /// As every call that reads a whole number: see [`Deserializer`].
     #[inline(always)]
     pub fn deserialize_u32(&mut self) -> Result<u32>
         ensures { ReadsAs (natural_row (2 ^ 32)) (λ n. n) self.old self.new result }
@@ -135,7 +173,11 @@ impl<I: Input> Deserializer<I> {
         }
     }
 
-    /// Reads a whole number as `u64`, which takes no memory; another one is a custom fault at its start.
+    /// Reads a whole number from 0 to 2^64 - 1 as `u64`. Takes no memory where it succeeds.
+    ///
+    /// # Errors
+    ///
+    /// As every call that reads a whole number: see [`Deserializer`].
     #[inline(always)]
     pub fn deserialize_u64(&mut self) -> Result<u64>
         ensures { ReadsAs (natural_row (2 ^ 64)) (λ n. n) self.old self.new result }
@@ -149,14 +191,22 @@ impl<I: Input> Deserializer<I> {
         }
     }
 
-    /// Reads a whole number as `u128`, which takes no memory; another one is a custom fault at its start.
+    /// Reads a whole number from 0 to 2^128 - 1 as `u128`. Takes no memory where it succeeds.
+    ///
+    /// # Errors
+    ///
+    /// As every call that reads a whole number: see [`Deserializer`].
     pub fn deserialize_u128(&mut self) -> Result<u128>
         ensures { ReadsAs (natural_row (2 ^ 128)) (λ n. n) self.old self.new result }
     {
         self.natural(u128::MAX, "u128")
     }
 
-    /// Reads a whole number as `i8`, which takes no memory; another one is a custom fault at its start.
+    /// Reads a whole number from -128 to 127 as `i8`. Takes no memory where it succeeds.
+    ///
+    /// # Errors
+    ///
+    /// As every call that reads a whole number: see [`Deserializer`].
     #[inline(always)]
     pub fn deserialize_i8(&mut self) -> Result<i8>
         ensures { ReadsAs (integer_row (2 ^ 7)) (λ n. n) self.old self.new result }
@@ -170,7 +220,11 @@ impl<I: Input> Deserializer<I> {
         }
     }
 
-    /// Reads a whole number as `i16`, which takes no memory; another one is a custom fault at its start.
+    /// Reads a whole number from -32768 to 32767 as `i16`. Takes no memory where it succeeds.
+    ///
+    /// # Errors
+    ///
+    /// As every call that reads a whole number: see [`Deserializer`].
     #[inline(always)]
     pub fn deserialize_i16(&mut self) -> Result<i16>
         ensures { ReadsAs (integer_row (2 ^ 15)) (λ n. n) self.old self.new result }
@@ -184,7 +238,11 @@ impl<I: Input> Deserializer<I> {
         }
     }
 
-    /// Reads a whole number as `i32`, which takes no memory; another one is a custom fault at its start.
+    /// Reads a whole number from -2^31 to 2^31 - 1 as `i32`. Takes no memory where it succeeds.
+    ///
+    /// # Errors
+    ///
+    /// As every call that reads a whole number: see [`Deserializer`].
     #[inline(always)]
     pub fn deserialize_i32(&mut self) -> Result<i32>
         ensures { ReadsAs (integer_row (2 ^ 31)) (λ n. n) self.old self.new result }
@@ -198,7 +256,11 @@ impl<I: Input> Deserializer<I> {
         }
     }
 
-    /// Reads a whole number as `i64`, which takes no memory; another one is a custom fault at its start.
+    /// Reads a whole number from -2^63 to 2^63 - 1 as `i64`. Takes no memory where it succeeds.
+    ///
+    /// # Errors
+    ///
+    /// As every call that reads a whole number: see [`Deserializer`].
     #[inline(always)]
     pub fn deserialize_i64(&mut self) -> Result<i64>
         ensures { ReadsAs (integer_row (2 ^ 63)) (λ n. n) self.old self.new result }
@@ -212,7 +274,11 @@ impl<I: Input> Deserializer<I> {
         }
     }
 
-    /// Reads a whole number as `i128`, which takes no memory; another one is a custom fault at its start.
+    /// Reads a whole number from -2^127 to 2^127 - 1 as `i128`. Takes no memory where it succeeds.
+    ///
+    /// # Errors
+    ///
+    /// As every call that reads a whole number: see [`Deserializer`].
     pub fn deserialize_i128(&mut self) -> Result<i128>
         ensures { ReadsAs (integer_row (2 ^ 127)) (λ n. n) self.old self.new result }
     {

@@ -1,4 +1,4 @@
-//! Reading of arrays, one element after another.
+//! Reading of arrays, one element after another (JSON5 section 4).
 
 ghost use Rattle.std.specs.Prelude.{◌≡◌, ◌||◌, false, ℕ, List, None, Some, is_some, IfOk, IfErr};
 ghost use Rattle.std.specs.Borrow.{sem};
@@ -20,8 +20,24 @@ use json5_text::{ErrorCode, Position};
 use json5_value::brackets::BracketKind;
 use std::alloc::Global;
 
-/// The elements of an array, one after another. The reader answers `Failed` until `end`, and for good where the access is
-/// dropped or leaked before.
+/// The elements of an array, one after another.
+///
+/// `end` closes the array and frees the reader. Until then the reader's own calls answer `Failed`, and for good where the
+/// access is dropped or leaked before. After a call of the access that was refused, every later one answers `Failed`.
+///
+/// ```text
+/// let mut seq = de.deserialize_seq()?;
+/// while let Some(port) = seq.next_element::<u16>()? {
+///     ports.push(port)?;
+/// }
+/// seq.end()?;
+/// ```
+///
+/// # Errors
+///
+/// Every call that reads may answer
+/// - `ExpectedComment` and `EofParsingComment` for a comment, as in every call of a [`Deserializer`].
+/// - `Failed`, after a call of the access that was refused.
 pub struct SeqAccess<'a, I: Input> {
     pub(crate) de: &'a mut Deserializer<I>,
     /// The count of bytes before the opening bracket.
@@ -53,7 +69,7 @@ impl<I: Input> Drop for SeqAccess<'_, I> {
 impl<I: Input> Deserializer<I> {
     ghost use Rattle.json5_de.specs.Lending.{OpensSeqAccess, lends_reader};
 
-    /// The next element of an array, or none where the closing bracket is next.
+    /// Reads the next element of an array, or returns none where the closing bracket is next.
     #[inline(always)]
     fn element<T: Deserialize<I>>(&mut self, due: bool) -> Result<Option<T>>
         ensures sound { IfOk result (λ o. GivesElement T.content T.convert (bare self.old due) (bare self.new (due || is_some o)) o) }
@@ -69,8 +85,14 @@ impl<I: Input> Deserializer<I> {
         }
     }
 
-    /// Opens an array, and blocks the reader while the access reads its elements. `ExpectedOpeningBracket` stands at another
-    /// character, `TooDeep` at the bracket past the limit; `EofParsingArray` at the end has no place.
+    /// Opens an array (JSON5 section 4), and lends the reader to the access that reads its elements.
+    ///
+    /// # Errors
+    ///
+    /// - `ExpectedOpeningBracket` at another character than `[`.
+    /// - `TooDeep` at the bracket past the limit.
+    /// - `EofParsingArray`, without a position, where the text ends.
+    /// - The codes of every call: see [`Deserializer`].
     pub fn deserialize_seq(&mut self) -> Result<SeqAccess<'_, I>>
         ensures* lends { sem 𝓛 (lends_reader I.row I.Input self.entry result) }
         ensures opens { OpensSeqAccess self.entry self.old result }
@@ -86,7 +108,19 @@ impl<I: Input> Deserializer<I> {
         })
     }
 
-    /// As `deserialize_seq`. The length changes nothing.
+    /// Opens an array as [`deserialize_seq`](Deserializer::deserialize_seq) does. The length changes nothing: the caller reads
+    /// as many elements as it expects, and `end` refuses one that is too many.
+    ///
+    /// ```text
+    /// let mut seq = de.deserialize_tuple(2)?;
+    /// let low = seq.next_element::<u16>()?;
+    /// let high = seq.next_element::<u16>()?;
+    /// seq.end()?;    // `ExpectedClosingBracket` at a third element
+    /// ```
+    ///
+    /// # Errors
+    ///
+    /// As `deserialize_seq`.
     pub fn deserialize_tuple(&mut self, _length: usize) -> Result<SeqAccess<'_, I>>
         ensures* lends { sem 𝓛 (lends_reader I.row I.Input self.entry result) }
         ensures opens { OpensSeqAccess self.entry self.old result }
@@ -94,7 +128,11 @@ impl<I: Input> Deserializer<I> {
         self.deserialize_seq()
     }
 
-    /// As `deserialize_seq`. The name and the length change nothing.
+    /// Opens an array as [`deserialize_seq`](Deserializer::deserialize_seq) does. The name and the length change nothing.
+    ///
+    /// # Errors
+    ///
+    /// As `deserialize_seq`.
     pub fn deserialize_tuple_struct(
         &mut self,
         _name: &'static str,
@@ -110,8 +148,8 @@ impl<I: Input> Deserializer<I> {
 impl<'a, I: Input> SeqAccess<'a, I> {
     ghost use Rattle.json5_de.specs.Lending.{seen, brace_of, KeepsAccess, ReadsNext, Settles};
 
-    /// Blocks the reader again after a call of its own, and keeps in mind that one was refused. A fault without a place gets the
-    /// opening bracket's.
+    /// Blocks the reader again after a call of its own, and remembers a refusal. A fault without a position gets that of the
+    /// opening bracket.
     #[inline(always)]
     fn settle<T>(&mut self, read: Result<T>) -> Result<T>
         ensures { Settles self.old read self.new result }
@@ -126,9 +164,15 @@ impl<'a, I: Input> SeqAccess<'a, I> {
         }
     }
 
-    /// The next element; none where the closing bracket is next, which stays unread. After an element `ExpectedComma` stands at
-    /// what is neither a comma nor the bracket, and `EofParsingArray` says that the text ends; else the element's own faults come.
-    /// A fault without a place gets the opening bracket's. After a refusal every later call answers `Failed`.
+    /// Reads the next element, and the comma before it. Returns none where the closing bracket is next, which `end` takes.
+    ///
+    /// # Errors
+    ///
+    /// A fault without a position gets that of the opening bracket.
+    /// - `ExpectedComma` at a character after an element that is neither a comma nor `]`.
+    /// - `EofParsingArray` where the text ends after an element.
+    /// - The faults of `T`, also where the text ends before an element.
+    /// - The codes of every call: see [`SeqAccess`].
     #[inline(always)]
     pub fn next_element<T: Deserialize<I>>(&mut self) -> Result<Option<T>>
         ensures { ReadsNext T.content T.convert T.refuses self.old self.new result }
@@ -140,8 +184,8 @@ impl<'a, I: Input> SeqAccess<'a, I> {
         Ok(next)
     }
 
-    /// The element at this place of a list of so many. Where the list ends before it, that is refused with a text of its own at
-    /// the opening bracket.
+    /// Reads the element at this index of a list of so many. Where the list ends before it, that is a custom fault at the
+    /// opening bracket.
     pub(crate) fn required<T: Deserialize<I>>(
         &mut self,
         alloc: Global,
@@ -161,7 +205,7 @@ impl<'a, I: Input> SeqAccess<'a, I> {
         }
     }
 
-    /// The fault of a list that ended too early, at its bracket.
+    /// Makes the fault of a list that ended too early, at its opening bracket.
     fn too_short(&self, alloc: Global, length: usize, expected: &str, size: usize) -> Error
         ensures { IsTooShort (seen self.now) result }
     {
@@ -172,7 +216,13 @@ impl<'a, I: Input> SeqAccess<'a, I> {
         }
     }
 
-    /// The fault, at the opening bracket where it has no place.
+    /// Gives a fault of one's own the position of the opening bracket where it has none; a fault that has one stays as it is.
+    ///
+    /// ```text
+    /// let Some(first) = seq.next_element::<u8>()? else {
+    ///     return Err(seq.place(Error::custom(alloc, "an empty list")?));
+    /// };
+    /// ```
     #[cold]
     #[inline(never)]
     pub fn place(&self, error: Error) -> Error
@@ -181,19 +231,27 @@ impl<'a, I: Input> SeqAccess<'a, I> {
         self.de.place_at(self.start, error)
     }
 
-    /// The position of an offset in bytes, as that of an element which `Spanned` gives; the end's, where no character begins there.
+    /// Returns the position of an offset in bytes, such as the `start` of a `Spanned` element: line and column, counted from 0.
+    /// It is the position of the text's end where no character begins at the offset.
     pub fn position_of(&self, offset: usize) -> Position
         ensures { Locates (seen self.now).reader.input offset result }
     {
         self.de.position_of(offset)
     }
 
-    /// Takes the closing bracket, and before it one comma where an element was read and its comma wasn't taken. Then the reader
-    /// goes on after it. `ExpectedClosingBracket` stands at another character; `EofParsingArray` at the end has no place.
+    /// Closes the array: takes `]`, and before it one comma where an element was read and the comma after it wasn't. Then the
+    /// reader goes on after the bracket.
     ///
-    /// As the content of a variant the array is closed in the same way, and then the variant's brace, before which a comma may
-    /// stand: a fault of the bracket without a place gets that brace's; `ExpectedClosingBrace` stands at another character than
-    /// the closing brace, and `EofParsingObject` at the end has no place.
+    /// Where the array is the content of a variant, the variant's `}` is taken too, before which one comma may be.
+    ///
+    /// # Errors
+    ///
+    /// - `ExpectedClosingBracket` at another character than `]`, such as that of an element that wasn't read.
+    /// - `EofParsingArray`, without a position, where the text ends.
+    /// - The codes of every call: see [`SeqAccess`].
+    ///
+    /// `EofParsingComment` and `Failed` have no position either. In a variant a fault without one gets that of the variant's
+    /// opening brace, and after the bracket come the faults of the variant's `}`: see [`EnumAccess`](crate::EnumAccess).
     pub fn end(self) -> Result<()>
         ensures { EndsArray (brace_of self.entry) (seen self.entry) self.exit.0.now result }
     {

@@ -1,4 +1,4 @@
-//! Values and where they stand.
+//! Values and where they are in the text.
 
 ghost use Rattle.std.specs.Prelude.{IfOk};
 ghost use Rattle.json5_de.specs.Own.{ReadsExactly};
@@ -8,9 +8,17 @@ use crate::de::{Deserialize, Deserializer};
 use json5_text::error::Result;
 use json5_text::input::Input;
 
-/// A value and where it stands, for a fault of one's own at its place.
+/// A value and where it is in the text, for a fault of one's own at its position.
 ///
-/// `position_of` of the reader, or of the access that gave the value, makes a position of `start`.
+/// The reader's `position_of`, or that of the access that gave the value, makes a position of `start`.
+///
+/// ```text
+/// let port = Spanned::<u16>::deserialize(de)?;
+/// if port.value == 0 {
+///     let position = de.position_of(port.start);
+///     return Err(Error::custom_at(de.allocator(), position, "port 0 can't be opened")?);
+/// }
+/// ```
 #[derive(Drop)]
 pub struct Spanned<T> {
     /// The count of bytes before the value's first character.
@@ -21,7 +29,7 @@ pub struct Spanned<T> {
     pub value: T,
 }
 
-/// What T reads, with the faults of T.
+/// Reads what `T` reads, with the faults of `T`.
 impl<I: Input, T: Deserialize<I>> Deserialize<I> for Spanned<T> {
     ghost use Rattle.json5_de.specs.Spans.{RefusesSpanned};
 

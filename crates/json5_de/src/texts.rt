@@ -1,4 +1,4 @@
-//! Reading of texts.
+//! Reading of strings. Their faults are listed once, in the comment of `Deserializer`.
 
 ghost use Rattle.std.specs.Prelude.{◌≡◌, string_bytes, Some, None, MatchOption, false};
 ghost use Rattle.std.specs.Str.{chars};
@@ -27,7 +27,11 @@ pub(crate) fn only_character(text: &str) -> Option<char>
 }
 
 impl<I: Input> Deserializer<I> {
-    /// Reads a text.
+    /// Reads a string and returns its text, escapes replaced, in a `String` of its own (JSON5 section 5).
+    ///
+    /// # Errors
+    ///
+    /// As every call that reads a string: see [`Deserializer`].
     #[inline(always)]
     pub fn deserialize_string(&mut self) -> Result<String>
         ensures { ReadsAs string_row string_bytes self.old self.new result }
@@ -70,7 +74,16 @@ impl<I: Input> Deserializer<I> {
 
 // What is borrowed from the text.
 impl<'de, I: Borrows<'de>> Deserializer<I> {
-    /// Reads a text, borrowed where no escape is used, which then takes no memory.
+    /// Reads a string (JSON5 section 5) and returns its text, borrowed from the input where the string has no escape, which
+    /// then takes no memory.
+    ///
+    /// ```text
+    /// de.deserialize_identifier()?    // Borrowed of `'ab'`, Owned of `'a\x62'`
+    /// ```
+    ///
+    /// # Errors
+    ///
+    /// As every call that reads a string: see [`Deserializer`].
     #[inline(always)]
     pub fn deserialize_identifier(&mut self) -> Result<CowStr<'de>>
         ensures { ReadsAs cow_row (λ t. (cow_bytes t, is_borrowed t)) self.old self.new result }
@@ -90,7 +103,17 @@ impl<'de, I: Borrows<'de>> Deserializer<I> {
         self.text()
     }
 
-    /// Reads a text without an escape, which takes no memory; another one is a custom fault at the quote.
+    /// Reads a string without an escape (JSON5 section 5) and returns the slice of the input between its quotes. Takes no
+    /// memory where it succeeds.
+    ///
+    /// ```text
+    /// let name: &str = de.deserialize_str()?;    // `'a\x62'` is a custom fault at the opening quote: read it as `CowStr` or `String`
+    /// ```
+    ///
+    /// # Errors
+    ///
+    /// - A custom fault at the opening quote where the string has an escape.
+    /// - The codes of every call that reads a string: see [`Deserializer`].
     #[inline(always)]
     pub fn deserialize_str(&mut self) -> Result<&'de str>
         ensures { ReadsAs plain_row (λ t. t.now) self.old self.new result }

@@ -1,10 +1,10 @@
-//! Lists of a fixed length.
+//! Tuples, which are arrays of a fixed length.
 
 use crate::de::{Deserialize, Deserializer};
 use json5_text::error::Result;
 use json5_text::input::Input;
 
-/// An array of one element.
+/// Reads an array of one element. The faults are those of a tuple of two.
 impl<I: Input, A: Deserialize<I>> Deserialize<I> for (A,) {
     ghost use Rattle.json5_grammar.specs.Members.{array_of};
     ghost use Rattle.json5_de.specs.Lists.{element, every, tuple_of_size, RefusesList};
@@ -27,7 +27,13 @@ impl<I: Input, A: Deserialize<I>> Deserialize<I> for (A,) {
     }
 }
 
-/// An array of two elements.
+/// Reads an array of two elements, each as its type (JSON5 section 4). Fewer are a custom fault ``invalid length k, expected a
+/// tuple of size 2`` at the opening bracket; more are `ExpectedClosingBracket` at the first that is too many. The other faults
+/// are those of the brackets and commas, as a `SeqAccess` lists them, and those of the first element that is refused.
+///
+/// ```text
+/// let (name, port): (String, u16) = read(de)?;    // ['http', 80]
+/// ```
 impl<I: Input, A: Deserialize<I>, B: Deserialize<I>> Deserialize<I> for (A, B) {
     ghost use Rattle.json5_grammar.specs.Members.{array_of};
     ghost use Rattle.json5_de.specs.Lists.{element, every, first_then, tuple_of_size, RefusesList};
@@ -51,7 +57,7 @@ impl<I: Input, A: Deserialize<I>, B: Deserialize<I>> Deserialize<I> for (A, B) {
     }
 }
 
-/// An array of three elements.
+/// Reads an array of three elements. The faults are those of a tuple of two.
 impl<I: Input, A: Deserialize<I>, B: Deserialize<I>, C: Deserialize<I>> Deserialize<I>
     for (A, B, C) {
     ghost use Rattle.json5_grammar.specs.Members.{array_of};

@@ -14,6 +14,7 @@ use json5_text::error::Result;
 use json5_text::input::{Borrows, Input};
 use json5_text::value::Value;
 
+/// Reads `null`, as `deserialize_unit`.
 impl<I: Input> Deserialize<I> for () {
     ghost use Rattle.json5_de.specs.Convert.{unit_of};
     ghost use Rattle.json5_de.specs.Rows.{null_row, every_tree, RefusedAs};
@@ -35,6 +36,7 @@ impl<I: Input> Deserialize<I> for () {
     }
 }
 
+/// Reads `true` or `false`, as `deserialize_bool`.
 impl<I: Input> Deserialize<I> for bool {
     ghost use Rattle.std.specs.Prelude.{Bool};
     ghost use Rattle.json5_de.specs.Convert.{bool_of};
@@ -57,6 +59,7 @@ impl<I: Input> Deserialize<I> for bool {
     }
 }
 
+/// Reads a number of any kind, as `deserialize_decimal`.
 impl<I: Input> Deserialize<I> for Decimal {
     ghost use Rattle.json5_grammar.specs.Numbers as numbers;
     ghost use Rattle.json5_de.specs.Convert.{decimal_of};
@@ -77,6 +80,7 @@ impl<I: Input> Deserialize<I> for Decimal {
     }
 }
 
+/// Reads a string of one character, as `deserialize_char`.
 impl<I: Input> Deserialize<I> for char {
     ghost use Rattle.std.specs.Prelude.{ℕ};
     ghost use Rattle.json5_de.specs.Convert.{char_of};
@@ -99,6 +103,7 @@ impl<I: Input> Deserialize<I> for char {
     }
 }
 
+/// Reads a string into memory of its own, as `deserialize_string`.
 impl<I: Input> Deserialize<I> for String {
     ghost use Rattle.std.specs.Prelude.{ℕ, List, string_bytes};
     ghost use Rattle.json5_de.specs.Convert.{text_of};
@@ -119,6 +124,7 @@ impl<I: Input> Deserialize<I> for String {
     }
 }
 
+/// Reads a string without an escape as a slice of the input, as `deserialize_str`.
 impl<'de, I: Borrows<'de>> Deserialize<I> for &'de str {
     ghost use Rattle.std.specs.Prelude.{ℕ, List};
     ghost use Rattle.json5_de.specs.Convert.{plain_of};
@@ -141,6 +147,7 @@ impl<'de, I: Borrows<'de>> Deserialize<I> for &'de str {
     }
 }
 
+/// Reads a string, borrowed from the input where it has no escape, as `deserialize_identifier`.
 impl<'de, I: Borrows<'de>> Deserialize<I> for CowStr<'de> {
     ghost use Rattle.std.specs.Prelude.{ℕ, List, Bool};
     ghost use Rattle.json5_text.specs.Cows.{cow_bytes, is_borrowed};
@@ -164,6 +171,7 @@ impl<'de, I: Borrows<'de>> Deserialize<I> for CowStr<'de> {
     }
 }
 
+/// Reads a string of hexadecimal digits, two a byte, as `deserialize_byte_buf`.
 impl<I: Input> Deserialize<I> for ByteBuf {
     ghost use Rattle.std.specs.Prelude.{ℕ, List};
     ghost use Rattle.json5_text.specs.Bytes.{bytes_of};
@@ -185,6 +193,7 @@ impl<I: Input> Deserialize<I> for ByteBuf {
     }
 }
 
+/// Reads a value of any kind, as `deserialize_any`.
 impl<I: Input> Deserialize<I> for Value {
     ghost use Rattle.json5_text.specs.ValueViews.{Datum, value_of};
     ghost use Rattle.json5_de.specs.AnyTree.{RefusesTree, ReadsTree};

@@ -40,7 +40,7 @@ impl<I: Input> Deserializer<I> {
         Ok(variant)
     }
 
-    /// Opens an object and takes its only key and the colon. After the brace a fault without a place gets the brace's.
+    /// Opens an object and takes its only key and the colon. After the brace a fault without a position gets that of the brace.
     fn keyed_variant(&mut self, variants: &[&str]) -> Result<usize>
         ensures { ReadsKeyed (spelled variants.now) self.old self.new result }
     {
@@ -51,7 +51,7 @@ impl<I: Input> Deserializer<I> {
         }
     }
 
-    /// Whether a text is next.
+    /// Whether a string is next.
     fn at_text(&self) -> bool
         ensures found { result ≡ true → Begins is_quote self.now.unread }
         ensures other { result ≡ false → NotBegun is_quote self.now.unread }
@@ -73,7 +73,7 @@ impl<I: Input> Deserializer<I> {
         }
     }
 
-    /// Reads the name of a variant, a text or the only key of an object.
+    /// Reads the name of a variant, a string or the only key of an object.
     pub(crate) fn named(&mut self, variants: &[&str]) -> Result<Named>
         ensures names { NamesVariant (spelled variants.now) (seen_named self.new) self.old result }
         ensures failed { GivesUpIfErr self.old self.new result }

@@ -1,4 +1,4 @@
-//! Reading of a name that is one of a list.
+//! Reading of a string that is one name of a list.
 
 ghost use Rattle.std.specs.Prelude.{◌≡◌, false, None};
 ghost use Rattle.std.specs.List.{position};
@@ -14,7 +14,7 @@ use crate::mismatch::Mismatch;
 use json5_text::error::{Error, Result};
 use json5_text::input::Input;
 
-/// The first place of the name among these, counted from 0.
+/// Returns the first index of the name among these, counted from 0.
 pub(crate) fn place_among(names: &[&str], name: &str) -> Option<usize>
     ensures { result ≡ position (λ n. bytes_eq n.now name.now) names.now }
 {

@@ -10,8 +10,8 @@ use std::alloc::Global;
 use std::io::{Read, Write};
 use std::rt::Files;
 
-/// Without words it formats `r` to `w`. With a work and files it does the work on each of them. What else stands there is
-/// answered with the usage line. It answers the status that the program ends with.
+/// Does what the words ask for: without words it formats `r` to `w`; with a work and files it does the work on each of them;
+/// any other words are answered with the usage line. Returns the status that the program ends with.
 pub fn answer<F: Files, R: Read, W: Write, E: Write>(
     disk: &F,
     alloc: Global,

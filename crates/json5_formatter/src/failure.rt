@@ -21,7 +21,7 @@ pub enum Failure {
 }
 
 impl Failure {
-    /// The cause that ends the work at this fault of the text; `NoMemory` where memory ran out.
+    /// Returns the cause that ends the work at this fault of the text; `NoMemory` where memory ran out.
     pub fn at(error: Error) -> Failure
         ensures { result ≡ failure_at error }
     {

@@ -11,8 +11,8 @@ use std::fs;
 use std::io::Write;
 use std::rt::Files;
 
-/// Does the work on each file in turn, and writes to `e` why it failed on one. A failed write to `w` ends it; nothing else does.
-/// It answers the greatest status that was met, else 0.
+/// Does the work on each file in turn, and writes to `e` why it failed on one. A failed write to `w` ends it; nothing else
+/// does. Returns the greatest status that was met, else 0.
 pub fn work_through<F: Files, W: Write, E: Write>(
     disk: &F,
     alloc: Global,

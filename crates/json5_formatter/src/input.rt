@@ -11,7 +11,12 @@ use std::io::{ErrorKind, Read};
 /// How many bytes are asked for at once.
 const PIECE: usize = 64 * 1024;
 
-/// All that is left of the reader. A read that is interrupted is a failed read.
+/// Reads all that is left of the reader.
+///
+/// # Errors
+///
+/// - `Read` where a read failed, an interrupted one too.
+/// - `NoMemory` where a request for memory was refused.
 pub fn read_whole<R: Read>(alloc: Global, r: &mut R) -> Result<Vec<u8>, Failure>
     ensures read { IfOk result (λ bytes. IfSome (R.remaining r.old) (λ known. bytes.items ≡ known)) }
     ensures stopped { IfErr result IsReadFault }
@@ -38,7 +43,7 @@ fn new_piece(alloc: Global) -> Result<Vec<u8>, Failure>
     }
 }
 
-/// One read into the piece, whose bytes are put behind the others; it answers how many there were.
+/// Reads once into the piece, puts its bytes after the others, and returns how many there were.
 fn read_piece<R: Read>(r: &mut R, piece: &mut [u8], bytes: &mut Vec<u8>) -> Result<usize, Failure>
     ensures read { IfOk result (λ count. ReadsPiece (take count piece.new) bytes.old.items bytes.new.items (R.remaining r.old) (R.remaining r.new)) }
     ensures end { IfOk result (λ count. count ≡ 0 → 0 < length piece.old → IsAtEnd (R.remaining r.new)) }

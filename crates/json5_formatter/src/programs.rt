@@ -13,7 +13,7 @@ use std::process::ExitCode;
 /// How many bytes are written to standard output at once.
 const PIECE: usize = 64 * 1024;
 
-/// The whole program: `words` of the words after its name, or the usage line where the system doesn't give them as text.
+/// Runs the whole program: `words` of the words after its name, or the usage line where the system doesn't give them as text.
 pub fn program(rt: &HostRuntime) -> ExitCode {
     let status = match given_words(rt) {
         Ok(list) => words(rt, rt.alloc(), list.as_slice()),
@@ -22,7 +22,7 @@ pub fn program(rt: &HostRuntime) -> ExitCode {
     ExitCode::from(status)
 }
 
-/// Does what the words ask for, on the files that they name or, where there are none, on standard input; it answers the status
+/// Does what the words ask for, on the files that they name or, where there are none, on standard input. Returns the status
 /// that the program ends with. Where there is no memory for a buffer it writes without one.
 pub fn words(rt: &HostRuntime, alloc: Global, list: &[String]) -> u8
     ensures status { result ≤ 2 }

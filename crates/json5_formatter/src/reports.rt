@@ -11,8 +11,12 @@ use itoa::Buffer;
 use json5::Error;
 use std::io::Write;
 
-/// Writes why the work on this input ended, as one line, and answers the status that the program ends with. A failed write
-/// changes nothing in the answer.
+/// Writes why the work on this input ended, as one line, and returns the status that the program ends with. A failed write
+/// changes nothing in that status.
+///
+/// ```text
+/// app.json5: expected comma at line 3 column 9
+/// ```
 pub fn report<E: Write>(name: &str, failure: &Failure, e: &mut E) -> u8
     ensures status { result ≡ status_of failure.now }
     ensures line { AppendsFront (E.contents e.old) (E.contents e.new) (report_line name.now failure.now) }
@@ -26,7 +30,7 @@ pub fn report<E: Write>(name: &str, failure: &Failure, e: &mut E) -> u8
     }
 }
 
-/// Writes how the program is called, as one line, and answers the status 2, after a failed write too.
+/// Writes how the program is called, as one line, and returns the status 2, after a failed write too.
 pub fn usage<E: Write>(e: &mut E) -> u8
     ensures status { result ≡ 2 }
     ensures line { AppendsFront (E.contents e.old) (E.contents e.new) usage_line }

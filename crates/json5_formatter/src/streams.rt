@@ -14,8 +14,17 @@ use std::io::{Read, Write};
 
 /// Reads all of `r`, writes the text of its value and one LF to `w` piece by piece, and flushes `w`.
 ///
-/// `NotUtf8` and `Text` say that what was read is no text or no document; a text that is refused since memory ran out is
-/// `NoMemory`. At these and at `Read` nothing was written. At `Write` the writer failed, and a prefix of the output was written.
+/// ```text
+/// run(alloc, &mut rt.stdin(), &mut rt.stdout())?;    // ` +0x1F90 // in hexadecimal` is written as `8080`
+/// ```
+///
+/// # Errors
+///
+/// - `NotUtf8` where what was read is no UTF-8: nothing was written.
+/// - `Text` where it is UTF-8 and no document, with the fault of `json5::format`: nothing was written.
+/// - `NoMemory` where a request for memory was refused: nothing was written.
+/// - `Read` where a read failed, an interrupted one too: nothing was written.
+/// - `Write` where a write or the flush failed: a prefix of the output was written.
 pub fn run<R: Read, W: Write>(alloc: Global, r: &mut R, w: &mut W) -> Result<(), Failure>
     ensures written { OnOk result (IfSome (R.remaining r.old) (WritesFormatted (W.contents w.old) (W.contents w.new))) }
     ensures stopped { IfErr result (RunFailure (R.remaining r.old) (W.contents w.old) (W.contents w.new)) }
@@ -30,7 +39,9 @@ pub fn run<R: Read, W: Write>(alloc: Global, r: &mut R, w: &mut W) -> Result<(),
 
 /// Reads all of `r`, and says why it is no document. It writes nothing.
 ///
-/// `NotUtf8` says that what was read is no text, `Text` that it is a text and no document.
+/// # Errors
+///
+/// `NotUtf8`, `Text`, `NoMemory` and `Read`, as [`run`].
 pub fn check<R: Read>(alloc: Global, r: &mut R) -> Result<(), Failure>
     ensures read { OnOk result (IfSome (R.remaining r.old) IsDocument) }
     ensures stopped { IfErr result (ReadFailure (R.remaining r.old)) }

@@ -13,7 +13,7 @@ pub enum Work {
 }
 
 impl Work {
-    /// The work with this name.
+    /// Returns the work with this name, if there is one.
     pub fn named(word: &str) -> Option<Work>
         ensures { MatchOption result ((work : Work) → word.now ≢ word_of work) (λ work. word.now ≡ word_of work) }
     {

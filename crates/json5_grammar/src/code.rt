@@ -3,18 +3,25 @@ ghost use Rattle.std.specs.Prelude.{◌≡◌, Some};
 
 use std::fmt;
 
-/// What a fault says, unless it is a custom fault or a failed write.
+/// Why a text or a value was refused. A custom fault and a failed write have no code.
+///
+/// A code has the position of the character that is named below, or of the token's start or escape where that is named. The
+/// codes `EofParsing..` have none of their own: in an array or an object they get that of the opening bracket.
+///
+/// ```text
+/// error.code() == Some(ErrorCode::ExpectedComma)    // for `[1 2]` as `Vec<u8>`, at line 0, column 3
+/// ```
 #[derive(Clone, Copy, Debug, PartialEq, Eq)]
 pub enum ErrorCode {
-    /// The text ends after a value in an array, where a comma or `]` is expected, or where an array is expected.
+    /// The text ends after an element of an array, where a comma or `]` is expected, or where an array is expected.
     EofParsingArray,
     /// The text ends in `true` or `false`, or where a boolean is expected.
     EofParsingBool,
     /// The text ends after a `/` that begins a comment, or inside `/* */` (JSON5 section 7).
     EofParsingComment,
-    /// The text ends in an escape of a string, or in a name's `\u` escape.
+    /// The text ends in an escape of a string, or in an identifier's `\u` escape.
     EofParsingEscapeSequence,
-    /// The text ends in a name, right after its backslash, or where a name is expected.
+    /// The text ends in an identifier, right after it or its backslash, or where one is expected.
     EofParsingIdentifier,
     /// The text ends in `null`, or where it is expected.
     EofParsingNull,
@@ -34,15 +41,17 @@ pub enum ErrorCode {
     ExpectedClosingBracket,
     /// A character that is no `:` after a key (JSON5 section 3).
     ExpectedColon,
-    /// A character after a member that is neither a comma nor the closing bracket (JSON5 sections 3 and 4).
+    /// A character after an element or a member that is neither a comma nor the closing bracket (JSON5 sections 3 and 4).
     ExpectedComma,
     /// A character after a `/` that is neither `/` nor `*` (JSON5 section 7).
     ExpectedComment,
-    /// A character that begins no key, or an escape whose character may not stand there in a name (ECMAScript 5.1 section 7.6).
+    /// A character that begins no key, or an escape whose character may not be there in an identifier (ECMAScript 5.1 section
+    /// 7.6).
     ExpectedIdentifier,
     /// A character that differs from `null`.
     ExpectedNull,
-    /// A character that differs from `Infinity` or `NaN`, or one after a sign or `0x`, or where a number is expected, that begins none.
+    /// A character that begins no number where one is expected, that can't follow a sign or `0x`, or that differs from
+    /// `Infinity` or `NaN`.
     ExpectedNumber,
     /// A character that is no `{` where an object is expected.
     ExpectedOpeningBrace,
@@ -50,36 +59,38 @@ pub enum ErrorCode {
     ExpectedOpeningBracket,
     /// A character that is no quote where a string is expected.
     ExpectedString,
-    /// A character that begins neither a string nor an object where a variant is expected.
+    /// A character that begins neither a string nor an object where a variant of an enum is expected.
     ExpectedStringOrObject,
     /// A character that begins no value where one is expected (JSON5 section 2).
     ExpectedValue,
-    /// A text that is no even number of hexadecimal digits where bytes are expected.
+    /// A string or a key that is no even number of hexadecimal digits where bytes are expected.
     InvalidBytes,
-    /// An escape that isn't allowed (JSON5 section 5, ECMAScript 5.1 sections 7.6 and 7.8.4).
+    /// An escape that isn't allowed, at its backslash or at the character that can't go on with it (JSON5 section 5, ECMAScript
+    /// 5.1 sections 7.6 and 7.8.4).
     InvalidEscapeSequence,
-    /// A value that can't be written as a key.
+    /// A value that can't be written as a key: None, a list or an object. It has no position.
     InvalidKey,
-    /// A digit after a number's first `0` (ECMAScript 5.1 section 7.8.3).
+    /// A digit after a number's first `0`, at the number's start (ECMAScript 5.1 section 7.8.3).
     LeadingZero,
     /// An LF or CR in a string without a backslash (JSON5 section 5).
     LineTerminatorInString,
-    /// A hexadecimal number past 128 bits, or a decimal whose exponent isn't in 16 bits.
+    /// A hexadecimal number past 128 bits, at the digit with which it is so; or a decimal whose exponent isn't in 16 bits, at
+    /// its start.
     OverflowParsingNumber,
     /// A character after the document's value that is neither blank nor begins a comment.
     TrailingCharacters,
-    /// A bracket past the nesting limit, which is 128.
+    /// A bracket past the nesting limit, which is 128 where none is named. In writing it has no position.
     TooDeep,
-    /// Memory ran out.
+    /// A request for memory was refused.
     OutOfMemory,
-    /// An earlier call was refused, or an access was dropped before its end.
+    /// An earlier call of the reader or the serializer was refused, or an access or a collection was dropped before its end.
     Failed,
 }
 
 impl ErrorCode {
     ghost use Rattle.json5_grammar.specs.CodeText.{code_text};
 
-    /// The code in words, such as `expected comma`.
+    /// Returns the code in words, such as `expected comma`.
     pub fn as_str(self) -> &'static str
         ensures { result.now ≡ code_text self }
     {
@@ -122,7 +133,7 @@ impl ErrorCode {
     }
 }
 
-/// The code in words, such as `expected comma`.
+/// Prints the code in words, such as `expected comma`.
 impl fmt::Display for ErrorCode {
     ghost output = { λ c. Some (code_text c) };
 

@@ -7,18 +7,23 @@ ghost use Rattle.json5_grammar.specs.PositionSteps.{position_step};
 
 use std::fmt;
 
-/// A line and a column, both counted from 0. The column counts characters, not bytes.
+/// A line and a column, both counted from 0. The column counts characters, not bytes. It prints with both counted from 1.
+///
+/// ```text
+/// let position = Position::from_offset(4, "[1,\n 2]");    // the space: line 1, column 0
+/// format!(in alloc; "{position}")?                       // line 2 column 1
+/// ```
 #[derive(Clone, Copy, Debug, PartialEq, Eq)]
 pub struct Position {
-    /// How many line terminators stand before, CR LF counting as one.
+    /// How many line terminators come before, CR LF counting as one.
     pub line: usize,
-    /// How many characters stand between the last line terminator and the place.
+    /// How many characters come between the last line terminator and the position.
     pub column: usize,
 }
 
 impl Position {
-    /// The position of an offset in a text. The offset counts bytes; a character begins there, or the text ends. Line
-    /// terminators are LF, CR, U+2028 and U+2029, and a CR LF that lies wholly before the offset is one (ECMAScript 5.1 section
+    /// Returns the position of an offset in a text. The offset counts bytes; a character begins there, or the text ends. Line
+    /// terminators are LF, CR, U+2028 and U+2029, and a CR LF that is wholly before the offset is one (ECMAScript 5.1 section
     /// 7.3).
     pub fn from_offset(offset: usize, input: &str) -> Position
         requires { IsCharBoundary input.now offset }
@@ -27,7 +32,11 @@ impl Position {
         Position::after(&input[..offset])
     }
 
-    /// The position right after a text, counted from the text's start.
+    /// Returns the position right after a text, counted from the text's start.
+    ///
+    /// ```text
+    /// Position::after("[1,\n 2")    // line 1, column 2
+    /// ```
     pub fn after(text: &str) -> Position
         ensures { result ≡ position_after (chars text.now) }
     {
@@ -40,7 +49,7 @@ impl Position {
         position
     }
 
-    /// The position after one more character; `is_after_cr` says that a CR stands right before it.
+    /// The position after one more character; `is_after_cr` says that a CR is right before it.
     fn step(self, is_after_cr: bool, c: char) -> Position
         requires { self.line + self.column < usize.MAX }
         ensures { result ≡ position_step self is_after_cr c }
@@ -61,7 +70,7 @@ impl Position {
     }
 }
 
-/// As `line L column C`, each one more than the field.
+/// Prints `line L column C`, each one more than the field.
 impl fmt::Display for Position {
     ghost output = { λ p. Some (codes "line " ++ decimal (p.line + 1) ++ codes " column " ++ decimal (p.column + 1)) };
 

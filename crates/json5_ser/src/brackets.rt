@@ -4,12 +4,12 @@ ghost use Rattle.std.specs.Prelude.{◌≡◌, [], ◌∷◌};
 ghost use Rattle.std.specs.Str.{chars};
 ghost use Rattle.json5_ser.specs.Brackets.{opening_sign, closing_sign};
 
-/// What stands round a collection.
+/// The brackets round a collection.
 #[derive(Clone, Copy)]
 pub(crate) enum Brackets {
-    /// Round the elements of a list.
+    /// Round the elements of an array.
     Square,
-    /// Round the fields of an object.
+    /// Round the members of an object.
     Curly,
 }
 

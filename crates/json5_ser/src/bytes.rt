@@ -1,4 +1,4 @@
-//! Bytes, written as texts of hexadecimal digits.
+//! Bytes, written as strings of hexadecimal digits.
 
 ghost use Rattle.std.specs.Prelude.{◌≡◌};
 ghost use Rattle.hex.specs.Hex.{encode_lower};
@@ -39,7 +39,15 @@ impl<W: Write + Drop> Serializer<W> {
         Ok(())
     }
 
-    /// Writes bytes as the text of their hexadecimal digits in lower case, two a byte.
+    /// Writes bytes as a string of their hexadecimal digits in lower case, two a byte.
+    ///
+    /// ```text
+    /// ser.serialize_bytes(&[0xab, 0x0c])?    // "ab0c"
+    /// ```
+    ///
+    /// # Errors
+    ///
+    /// As every call: see [`Serializer`].
     pub fn serialize_bytes(&mut self, value: &[u8]) -> Result<()>
         ensures { WritesTree (text (encode_lower value.now)) self.old result self.new }
     {

@@ -1,4 +1,4 @@
-//! Lists and objects, written one member after another.
+//! Arrays and objects, written one element or member after another (JSON5 sections 3 and 4).
 
 ghost use Rattle.std.specs.Prelude.{◌≡◌, true, false, IfOk};
 ghost use Rattle.std.specs.Borrow.{sem};
@@ -15,8 +15,22 @@ use crate::{Serialize, SerializeKey, Serializer};
 use json5_text::error::Result;
 use std::io::Write;
 
-/// A list or an object that is written one member after another. The serializer answers `Failed` until `end`, and for good
-/// where the collection is dropped or leaked before.
+/// An array or an object that is written one element or member after another, each on a line of its own with a comma after it.
+///
+/// `end` closes it and frees the serializer. Until then the serializer's own calls answer `Failed`, and for good where the
+/// collection is dropped or leaked before. After a call of the collection that was refused, every later one answers `Failed`.
+///
+/// ```text
+/// let mut map = ser.serialize_map(None)?;
+/// map.serialize_entry(&"http", &80u16)?;
+/// map.serialize_key(&"https")?;
+/// map.serialize_value(&443u16)?;
+/// map.end()?;
+/// ```
+///
+/// # Errors
+///
+/// As every call of a [`Serializer`], without a position.
 pub struct SerializeCollection<'a, W: Write + Drop> {
     ser: &'a mut Serializer<W>,
     brackets: Brackets,
@@ -47,7 +61,7 @@ impl<W: Write + Drop> Drop for SerializeCollection<'_, W> {
 impl<W: Write + Drop> Serializer<W> {
     ghost use Rattle.json5_ser.specs.Lending.{lends_list, lends_object, lends_variant, ListBegun, ObjectBegun, VariantListBegun, VariantObjectBegun};
 
-    /// A member of a list.
+    /// Writes an element of an array.
     fn element<T: Serialize>(&mut self, value: &T) -> Result<()>
         ensures { Writes (element_out self.old.depth (out self.old.limit (T.tree value.now) self.old.depth)) self.old result self.new }
     {
@@ -56,8 +70,11 @@ impl<W: Write + Drop> Serializer<W> {
         self.put(",")
     }
 
-    /// Begins a list, and blocks the serializer while the collection writes its elements. It refuses with `TooDeep` where as many
-    /// brackets are open as the limit allows. The length changes nothing.
+    /// Opens an array, and lends the serializer to the collection that writes its elements. The length changes nothing.
+    ///
+    /// # Errors
+    ///
+    /// As every call: see [`Serializer`]. At `TooDeep` nothing was written.
     pub fn serialize_seq(&mut self, _len: Option<usize>) -> Result<SerializeCollection<'_, W>>
         ensures* lends { sem 𝓛 (lends_list W.row W.Write self.entry result) }
         ensures begun { IfOk result (ListBegun self.entry) }
@@ -73,6 +90,10 @@ impl<W: Write + Drop> Serializer<W> {
         })
     }
 
+    /// Opens an array as [`serialize_seq`](Serializer::serialize_seq) does. The length changes nothing.
+    ///
+    /// # Errors
+    ///
     /// As `serialize_seq`.
     pub fn serialize_tuple(&mut self, _len: usize) -> Result<SerializeCollection<'_, W>>
         ensures* lends { sem 𝓛 (lends_list W.row W.Write self.entry result) }
@@ -81,7 +102,11 @@ impl<W: Write + Drop> Serializer<W> {
         self.serialize_seq(None)
     }
 
-    /// As `serialize_seq`. The name and the length change nothing.
+    /// Opens an array as [`serialize_seq`](Serializer::serialize_seq) does. The name and the length change nothing.
+    ///
+    /// # Errors
+    ///
+    /// As `serialize_seq`.
     pub fn serialize_tuple_struct(
         &mut self,
         _name: &'static str,
@@ -93,8 +118,11 @@ impl<W: Write + Drop> Serializer<W> {
         self.serialize_seq(None)
     }
 
-    /// Begins an object, and blocks the serializer while the collection writes its keys and values. It refuses with `TooDeep`
-    /// where as many brackets are open as the limit allows. The length changes nothing.
+    /// Opens an object, and lends the serializer to the collection that writes its keys and values. The length changes nothing.
+    ///
+    /// # Errors
+    ///
+    /// As every call: see [`Serializer`]. At `TooDeep` nothing was written.
     pub fn serialize_map(&mut self, _len: Option<usize>) -> Result<SerializeCollection<'_, W>>
         ensures* lends { sem 𝓛 (lends_object W.row W.Write self.entry result) }
         ensures begun { IfOk result (ObjectBegun self.entry) }
@@ -110,7 +138,18 @@ impl<W: Write + Drop> Serializer<W> {
         })
     }
 
-    /// As `serialize_map`. The name and the length change nothing.
+    /// Opens an object as [`serialize_map`](Serializer::serialize_map) does. The name and the length change nothing.
+    ///
+    /// ```text
+    /// let mut fields = ser.serialize_struct("Settings", 2)?;
+    /// fields.serialize_field("host", &self.host)?;
+    /// fields.serialize_field("port", &self.port)?;
+    /// fields.end()
+    /// ```
+    ///
+    /// # Errors
+    ///
+    /// As `serialize_map`.
     pub fn serialize_struct(
         &mut self,
         _name: &'static str,
@@ -122,8 +161,19 @@ impl<W: Write + Drop> Serializer<W> {
         self.serialize_map(None)
     }
 
-    /// Begins an object with one key, the variant's name, whose value is the list. `end` of the list closes the object too. It
-    /// refuses with `TooDeep` at the bracket past the limit, at the list's after the key. The type's name, the index and the length change nothing.
+    /// Opens an object of one member, the variant's name, and the array that is its value. The `end` of the array closes the
+    /// object too. The type's name, the index and the length change nothing.
+    ///
+    /// ```text
+    /// let mut content = ser.serialize_tuple_variant("Reminder", 2, "weekly", 2)?;    // { weekly: [1, 7] }, line by line
+    /// content.serialize_element(&1u8)?;
+    /// content.serialize_element(&7u8)?;
+    /// content.end()
+    /// ```
+    ///
+    /// # Errors
+    ///
+    /// As every call: see [`Serializer`]. `TooDeep` may come at the array's bracket, after the brace and the key were written.
     pub fn serialize_tuple_variant(
         &mut self,
         _name: &'static str,
@@ -145,7 +195,12 @@ impl<W: Write + Drop> Serializer<W> {
         })
     }
 
-    /// As `serialize_tuple_variant`, with an object in place of the list.
+    /// Opens an object of one member, the variant's name, and the object that is its value. The `end` of the inner object
+    /// closes both. The type's name, the index and the length change nothing.
+    ///
+    /// # Errors
+    ///
+    /// As [`serialize_tuple_variant`](Serializer::serialize_tuple_variant).
     pub fn serialize_struct_variant(
         &mut self,
         _name: &'static str,
@@ -171,14 +226,14 @@ impl<W: Write + Drop> Serializer<W> {
 impl<W: Write + Drop> SerializeCollection<'_, W> {
     ghost use Rattle.json5_ser.specs.Lending.{seen, is_list, key_pending, Steps, Settles, ending, outside};
 
-    /// Whether it is a list. It still answers after a refusal.
+    /// Says whether it is an array, for code that gets a collection of either kind. It still answers after a refusal.
     pub fn is_list(&self) -> bool
         ensures { result ≡ is_list self.now }
     {
         matches!(self.brackets, Brackets::Square)
     }
 
-    /// Whether a key waits for its value. After a refusal it answers as before the refused call.
+    /// Says whether a key was written whose value wasn't. A call that is refused doesn't change it.
     pub fn key_pending(&self) -> bool
         ensures { result ≡ key_pending self.now }
     {
@@ -202,8 +257,11 @@ impl<W: Write + Drop> SerializeCollection<'_, W> {
         }
     }
 
-    /// Writes the next element, on a line of its own and with a comma after it. The collection must be a list. After a refusal
-    /// every later call answers `Failed`.
+    /// Writes the next element, on a line of its own and with a comma after it. The collection must be an array.
+    ///
+    /// # Errors
+    ///
+    /// As every call: see [`SerializeCollection`].
     pub fn serialize_element<T: Serialize>(&mut self, value: &T) -> Result<()>
         requires list { is_list self.old ≡ true }
         ensures { Steps (element_out (seen self.old).depth (out (seen self.old).limit (T.tree value.now) (seen self.old).depth)) false self.old result self.new }
@@ -213,8 +271,12 @@ impl<W: Write + Drop> SerializeCollection<'_, W> {
         self.settle(written, Stage::Started)
     }
 
-    /// Writes the next key, on a line of its own. The collection must be an object, and no key may wait for its value. After a
-    /// refusal every later call answers `Failed`.
+    /// Writes the key of the next member, on a line of its own. The collection must be an object, and no key may wait for its
+    /// value.
+    ///
+    /// # Errors
+    ///
+    /// As every call: see [`SerializeCollection`]. `InvalidKey` comes after the start of the line was written.
     pub fn serialize_key<K: SerializeKey>(&mut self, key: &K) -> Result<()>
         requires object { is_list self.old ≡ false }
         requires no_key { key_pending self.old ≡ false }
@@ -225,7 +287,11 @@ impl<W: Write + Drop> SerializeCollection<'_, W> {
         self.settle(written, Stage::KeyPending)
     }
 
-    /// Writes the value of the key that waits for it, after `: ` and with a comma after it.
+    /// Writes the value of the key that was written last, after `: ` and with a comma after it. A key must wait for it.
+    ///
+    /// # Errors
+    ///
+    /// As every call: see [`SerializeCollection`].
     pub fn serialize_value<T: Serialize>(&mut self, value: &T) -> Result<()>
         requires { key_pending self.old ≡ true }
         ensures { Steps (value_part (out (seen self.old).limit (T.tree value.now) (seen self.old).depth)) false self.old result self.new }
@@ -235,7 +301,11 @@ impl<W: Write + Drop> SerializeCollection<'_, W> {
         self.settle(written, Stage::Started)
     }
 
-    /// Writes a key and its value.
+    /// Writes a member: its key and its value. The collection must be an object, and no key may wait for its value.
+    ///
+    /// # Errors
+    ///
+    /// As every call: see [`SerializeCollection`].
     pub fn serialize_entry<K: SerializeKey, T: Serialize>(
         &mut self,
         key: &K,
@@ -250,7 +320,11 @@ impl<W: Write + Drop> SerializeCollection<'_, W> {
         self.settle(written, Stage::Started)
     }
 
-    /// Writes a field, as `serialize_entry`.
+    /// Writes a field of a struct, as [`serialize_entry`](SerializeCollection::serialize_entry) writes a member.
+    ///
+    /// # Errors
+    ///
+    /// As every call: see [`SerializeCollection`].
     pub fn serialize_field<T: Serialize>(&mut self, key: &'static str, value: &T) -> Result<()>
         requires object { is_list self.old ≡ false }
         requires no_key { key_pending self.old ≡ false }
@@ -259,7 +333,12 @@ impl<W: Write + Drop> SerializeCollection<'_, W> {
         self.serialize_entry(&key, value)
     }
 
-    /// Closes the list or the object, and a variant's object round it. The serializer goes on after it. No key may wait for its value.
+    /// Closes the array or the object, and a variant's object round it. The serializer goes on after it. No key may wait for
+    /// its value.
+    ///
+    /// # Errors
+    ///
+    /// A failed write, or `Failed`, as every call of a [`Serializer`].
     pub fn end(self) -> Result<()>
         requires { key_pending self ≡ false }
         ensures { Writes (ending self.entry) (outside self.entry) result self.exit.0.now }

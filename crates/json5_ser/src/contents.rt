@@ -11,27 +11,47 @@ use std::io::Write;
 
 impl<W: Write + Drop> Serializer<W> {
     /// Writes `null`.
+    ///
+    /// # Errors
+    ///
+    /// As every call: see [`Serializer`].
     pub fn serialize_none(&mut self) -> Result<()>
         ensures { WritesTree null self.old result self.new }
     {
         self.serialize_unit()
     }
 
-    /// Writes the value.
+    /// Writes the value itself.
+    ///
+    /// # Errors
+    ///
+    /// As every call: see [`Serializer`].
     pub fn serialize_some<T: Serialize>(&mut self, value: &T) -> Result<()>
         ensures { WritesTree (option_tree T.tree (Some value.now)) self.old result self.new }
     {
         value.serialize(self)
     }
 
-    /// Writes `null`. The name changes nothing.
+    /// Writes `null`, for a struct without fields. The name changes nothing.
+    ///
+    /// # Errors
+    ///
+    /// As every call: see [`Serializer`].
     pub fn serialize_unit_struct(&mut self, _name: &'static str) -> Result<()>
         ensures { WritesTree null self.old result self.new }
     {
         self.serialize_unit()
     }
 
-    /// Writes the variant's name as a text. The type's name and the index change nothing.
+    /// Writes the variant's name as a string. The type's name and the index change nothing.
+    ///
+    /// ```text
+    /// ser.serialize_unit_variant("Reminder", 0, "off")?    // "off"
+    /// ```
+    ///
+    /// # Errors
+    ///
+    /// As every call: see [`Serializer`].
     pub fn serialize_unit_variant(
         &mut self,
         _name: &'static str,
@@ -43,7 +63,11 @@ impl<W: Write + Drop> Serializer<W> {
         self.serialize_str(variant)
     }
 
-    /// Writes the value inside. The name changes nothing.
+    /// Writes the value that a struct of one field holds. The name changes nothing.
+    ///
+    /// # Errors
+    ///
+    /// As every call: see [`Serializer`].
     pub fn serialize_newtype_struct<T: Serialize>(
         &mut self,
         _name: &'static str,
@@ -54,8 +78,15 @@ impl<W: Write + Drop> Serializer<W> {
         value.serialize(self)
     }
 
-    /// Writes an object with one key, the variant's name, and the value. It refuses with `TooDeep` at the bracket past the limit. The
-    /// type's name and the index change nothing.
+    /// Writes an object of one member: the variant's name, and the value. The type's name and the index change nothing.
+    ///
+    /// ```text
+    /// ser.serialize_newtype_variant("Reminder", 1, "daily", &7u8)?    // three lines: `{`, `  daily: 7,` and `}`
+    /// ```
+    ///
+    /// # Errors
+    ///
+    /// As every call: see [`Serializer`].
     pub fn serialize_newtype_variant<T: Serialize>(
         &mut self,
         _name: &'static str,

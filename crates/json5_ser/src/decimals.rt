@@ -38,8 +38,12 @@ impl<W: Write + Drop> Serializer<W> {
         Ok(())
     }
 
-    /// Writes the number in plain notation, always with a point; else `Infinity` or `NaN` (JSON5 section 6). A minus
-    /// stands before what is negative, zero too: `1.5`, `1000.0`, `-0.0`.
+    /// Writes a decimal in plain notation, always with a point; else `Infinity` or `NaN` (JSON5 section 6). A minus is before
+    /// what is negative, zero too: `1.5`, `1000.0`, `-0.0`. A few digits with a large exponent have a long text.
+    ///
+    /// # Errors
+    ///
+    /// As every call: see [`Serializer`].
     pub fn serialize_decimal(&mut self, value: &Decimal) -> Result<()>
         ensures { WritesTree (number (numbers.decimal value.now)) self.old result self.new }
     {

@@ -1,4 +1,4 @@
-//! The values that can be written.
+//! The types of one token that can be written, options and references.
 
 ghost use Rattle.std.specs.Prelude.{[], ◌∷◌, string_bytes};
 ghost use Rattle.std.specs.Str.{chars};
@@ -15,6 +15,7 @@ use json5_text::decimal::Decimal;
 use json5_text::error::Result;
 use std::io::Write;
 
+/// Writes `null`.
 impl Serialize for () {
     ghost tree = { λ _. null };
 
@@ -23,6 +24,7 @@ impl Serialize for () {
     }
 }
 
+/// Writes `true` or `false`.
 impl Serialize for bool {
     ghost tree = { boolean };
 
@@ -31,6 +33,7 @@ impl Serialize for bool {
     }
 }
 
+/// Writes the decimal digits. So do the integers below, after a minus where they are negative.
 impl Serialize for u8 {
     ghost tree = { natural };
 
@@ -111,6 +114,7 @@ impl Serialize for i128 {
     }
 }
 
+/// Writes a string of one character, as `serialize_str` does.
 impl Serialize for char {
     ghost tree = { λ c. text (c ∷ []) };
 
@@ -119,6 +123,7 @@ impl Serialize for char {
     }
 }
 
+/// Writes a string, as `serialize_str` does.
 impl Serialize for &str {
     ghost tree = { λ s. text (chars s.now) };
 
@@ -127,6 +132,7 @@ impl Serialize for &str {
     }
 }
 
+/// Writes a string, as `serialize_str` does.
 impl Serialize for String {
     ghost tree = { λ s. text (chars (string_bytes s)) };
 
@@ -135,6 +141,7 @@ impl Serialize for String {
     }
 }
 
+/// Writes a string, as `serialize_str` does.
 impl Serialize for CowStr<'_> {
     ghost tree = { λ s. text (chars (cow_bytes s)) };
 
@@ -143,7 +150,7 @@ impl Serialize for CowStr<'_> {
     }
 }
 
-/// The text of the hexadecimal digits in lower case, two a byte.
+/// Writes a string of the hexadecimal digits in lower case, two a byte.
 impl Serialize for ByteBuf {
     ghost tree = { λ b. text (encode_lower (bytes_of b)) };
 
@@ -152,6 +159,7 @@ impl Serialize for ByteBuf {
     }
 }
 
+/// Writes plain notation with a point, `Infinity` or `NaN`, as `serialize_decimal` does.
 impl Serialize for Decimal {
     ghost tree = { λ d. number (decimal d) };
 
@@ -160,6 +168,7 @@ impl Serialize for Decimal {
     }
 }
 
+/// Writes the value that it refers to.
 impl<T: Serialize> Serialize for &T {
     ghost tree = { λ r. T.tree r.now };
 
@@ -168,7 +177,7 @@ impl<T: Serialize> Serialize for &T {
     }
 }
 
-/// What stands inside, or `null`.
+/// Writes what is inside, or `null`.
 impl<T: Serialize> Serialize for Option<T> {
     ghost tree = { option_tree T.tree };
 

@@ -1,4 +1,4 @@
-//! Keys of objects, and what can be written as one.
+//! Keys of objects, and what can be written as one (JSON5 section 3).
 
 ghost use Rattle.std.specs.Prelude.{◌≡◌, ◌+◌, [], ◌∷◌, Some, OnOk};
 ghost use Rattle.std.specs.Str.{chars};
@@ -19,8 +19,22 @@ use json5_text::decimal::Decimal;
 use json5_text::error::Result;
 use std::io::Write;
 
-/// A key that is to be written. Each of its methods writes it whole: bare where its text is an identifier, else between quotes
-/// as `serialize_str` does (JSON5 section 3). No call takes memory, and no refusal has a place.
+/// A key that is to be written. Each of its methods takes it and writes it whole: bare where its text is an identifier
+/// (ECMAScript 5.1 section 7.6), else between quotes as `serialize_str` of a serializer writes a string. No call takes memory.
+///
+/// ```text
+/// key.serialize_str("port")?    // port
+/// key.serialize_u16(80)?        // "80"
+/// ```
+///
+/// # Errors
+///
+/// No fault has a position. Every call may answer
+/// - A failed write, which has no code, where the writer failed or took no bytes: it holds a prefix of the key's text.
+/// - `Failed` after a call of the serializer that was refused: nothing is written.
+///
+/// A call for what is no key answers
+/// - `InvalidKey`: nothing of the key is written.
 pub struct MapKey<'a, W: Write + Drop> {
     ser: &'a mut Serializer<W>,
 }
@@ -38,13 +52,28 @@ impl<W: Write + Drop> Drop for MapKey<'_, W> {
 
 /// A value that can be written as a key. Each type says by `as_key` what is written of its values. An impl hands on what the
 /// methods of the key answer, and makes no refusal of its own.
+///
+/// ```text
+/// impl SerializeKey for Id {
+///     ghost use Rattle.json5_ser.specs.WrittenTrees.{natural_key};
+///
+///     ghost as_key = { λ i. natural_key i.number };
+///
+///     fn serialize_key<W: Write + Drop>(&self, key: MapKey<'_, W>) -> Result<()> {
+///         key.serialize_u32(self.number)
+///     }
+/// }
+/// ```
 pub trait SerializeKey {
     ghost use Rattle.json5_ser.specs.Waiting.{waiting};
 
     ghost as_key: { Self → Key };
 
-    /// Writes the key. It refuses with `InvalidKey` where the value is no key, and then nothing was written of it; with a failed
-    /// write where the writer failed, which then holds a prefix of the key's text.
+    /// Writes the key.
+    ///
+    /// # Errors
+    ///
+    /// As every call of a [`MapKey`]; `InvalidKey` where the value is no key, and then nothing of it is written.
     fn serialize_key<W: Write + Drop>(&self, key: MapKey<'_, W>) -> Result<()>
         ensures { WritesKey (as_key self.now) (waiting key.entry) result key.exit.0.now };
 }
@@ -116,7 +145,11 @@ impl<W: Write + Drop> Serializer<W> {
 impl<W: Write + Drop> MapKey<'_, W> {
     ghost use Rattle.json5_ser.specs.Waiting.{waiting, WritesNull, RefusesKey};
 
-    /// `true` or `false`.
+    /// Writes the key `true` or `false`.
+    ///
+    /// # Errors
+    ///
+    /// As every call: see [`MapKey`].
     pub fn serialize_bool(self, value: bool) -> Result<()>
         ensures { WritesKey (named (bool_text value)) (waiting self.entry) result self.exit.0.now }
     {
@@ -124,7 +157,11 @@ impl<W: Write + Drop> MapKey<'_, W> {
         ser.put_name(bool_name(value))
     }
 
-    /// The decimal digits.
+    /// Writes the decimal digits as a key, between quotes: `"80"`.
+    ///
+    /// # Errors
+    ///
+    /// As every call: see [`MapKey`].
     pub fn serialize_u8(self, value: u8) -> Result<()>
         ensures { WritesKey (⟦<u8 as SerializeKey>⟧.as_key value) (waiting self.entry) result self.exit.0.now }
     {
@@ -132,7 +169,11 @@ impl<W: Write + Drop> MapKey<'_, W> {
         ser.put_digits(value)
     }
 
-    /// The decimal digits.
+    /// Writes the decimal digits as a key.
+    ///
+    /// # Errors
+    ///
+    /// As every call: see [`MapKey`].
     pub fn serialize_u16(self, value: u16) -> Result<()>
         ensures { WritesKey (⟦<u16 as SerializeKey>⟧.as_key value) (waiting self.entry) result self.exit.0.now }
     {
@@ -140,7 +181,11 @@ impl<W: Write + Drop> MapKey<'_, W> {
         ser.put_digits(value)
     }
 
-    /// The decimal digits.
+    /// Writes the decimal digits as a key.
+    ///
+    /// # Errors
+    ///
+    /// As every call: see [`MapKey`].
     pub fn serialize_u32(self, value: u32) -> Result<()>
         ensures { WritesKey (⟦<u32 as SerializeKey>⟧.as_key value) (waiting self.entry) result self.exit.0.now }
     {
@@ -148,7 +193,11 @@ impl<W: Write + Drop> MapKey<'_, W> {
         ser.put_digits(value)
     }
 
-    /// The decimal digits.
+    /// Writes the decimal digits as a key.
+    ///
+    /// # Errors
+    ///
+    /// As every call: see [`MapKey`].
     pub fn serialize_u64(self, value: u64) -> Result<()>
         ensures { WritesKey (⟦<u64 as SerializeKey>⟧.as_key value) (waiting self.entry) result self.exit.0.now }
     {
@@ -156,7 +205,11 @@ impl<W: Write + Drop> MapKey<'_, W> {
         ser.put_digits(value)
     }
 
-    /// The decimal digits.
+    /// Writes the decimal digits as a key.
+    ///
+    /// # Errors
+    ///
+    /// As every call: see [`MapKey`].
     pub fn serialize_u128(self, value: u128) -> Result<()>
         ensures { WritesKey (⟦<u128 as SerializeKey>⟧.as_key value) (waiting self.entry) result self.exit.0.now }
     {
@@ -164,7 +217,11 @@ impl<W: Write + Drop> MapKey<'_, W> {
         ser.put_digits(value)
     }
 
-    /// The decimal digits, after a minus where the number is negative.
+    /// Writes the decimal digits as a key, after a minus where the number is negative: `"-1"`.
+    ///
+    /// # Errors
+    ///
+    /// As every call: see [`MapKey`].
     pub fn serialize_i8(self, value: i8) -> Result<()>
         ensures { WritesKey (⟦<i8 as SerializeKey>⟧.as_key value) (waiting self.entry) result self.exit.0.now }
     {
@@ -172,7 +229,11 @@ impl<W: Write + Drop> MapKey<'_, W> {
         ser.put_digits(value)
     }
 
-    /// The decimal digits, after a minus where the number is negative.
+    /// Writes the decimal digits as a key, after a minus where the number is negative.
+    ///
+    /// # Errors
+    ///
+    /// As every call: see [`MapKey`].
     pub fn serialize_i16(self, value: i16) -> Result<()>
         ensures { WritesKey (⟦<i16 as SerializeKey>⟧.as_key value) (waiting self.entry) result self.exit.0.now }
     {
@@ -180,7 +241,11 @@ impl<W: Write + Drop> MapKey<'_, W> {
         ser.put_digits(value)
     }
 
-    /// The decimal digits, after a minus where the number is negative.
+    /// Writes the decimal digits as a key, after a minus where the number is negative.
+    ///
+    /// # Errors
+    ///
+    /// As every call: see [`MapKey`].
     pub fn serialize_i32(self, value: i32) -> Result<()>
         ensures { WritesKey (⟦<i32 as SerializeKey>⟧.as_key value) (waiting self.entry) result self.exit.0.now }
     {
@@ -188,7 +253,11 @@ impl<W: Write + Drop> MapKey<'_, W> {
         ser.put_digits(value)
     }
 
-    /// The decimal digits, after a minus where the number is negative.
+    /// Writes the decimal digits as a key, after a minus where the number is negative.
+    ///
+    /// # Errors
+    ///
+    /// As every call: see [`MapKey`].
     pub fn serialize_i64(self, value: i64) -> Result<()>
         ensures { WritesKey (⟦<i64 as SerializeKey>⟧.as_key value) (waiting self.entry) result self.exit.0.now }
     {
@@ -196,7 +265,11 @@ impl<W: Write + Drop> MapKey<'_, W> {
         ser.put_digits(value)
     }
 
-    /// The decimal digits, after a minus where the number is negative.
+    /// Writes the decimal digits as a key, after a minus where the number is negative.
+    ///
+    /// # Errors
+    ///
+    /// As every call: see [`MapKey`].
     pub fn serialize_i128(self, value: i128) -> Result<()>
         ensures { WritesKey (⟦<i128 as SerializeKey>⟧.as_key value) (waiting self.entry) result self.exit.0.now }
     {
@@ -204,7 +277,11 @@ impl<W: Write + Drop> MapKey<'_, W> {
         ser.put_digits(value)
     }
 
-    /// The text.
+    /// Writes the text as a key.
+    ///
+    /// # Errors
+    ///
+    /// As every call: see [`MapKey`].
     pub fn serialize_str(self, value: &str) -> Result<()>
         ensures { WritesKey (named (chars value.now)) (waiting self.entry) result self.exit.0.now }
     {
@@ -212,7 +289,11 @@ impl<W: Write + Drop> MapKey<'_, W> {
         ser.put_name(value)
     }
 
-    /// The text of one character.
+    /// Writes the text of one character as a key.
+    ///
+    /// # Errors
+    ///
+    /// As every call: see [`MapKey`].
     pub fn serialize_char(self, value: char) -> Result<()>
         ensures { WritesKey (named (value ∷ [])) (waiting self.entry) result self.exit.0.now }
     {
@@ -220,7 +301,12 @@ impl<W: Write + Drop> MapKey<'_, W> {
         self.serialize_str(value.encode_utf8(&mut buffer))
     }
 
-    /// The text that `serialize_decimal` of the serializer writes, `Infinity` and `NaN` bare.
+    /// Writes the text that `serialize_decimal` of a serializer writes, as a key: `Infinity` and `NaN` bare, any other between
+    /// quotes.
+    ///
+    /// # Errors
+    ///
+    /// As every call: see [`MapKey`].
     pub fn serialize_decimal(self, value: &Decimal) -> Result<()>
         ensures { WritesKey (named (decimal_text value.now)) (waiting self.entry) result self.exit.0.now }
     {
@@ -228,7 +314,11 @@ impl<W: Write + Drop> MapKey<'_, W> {
         ser.put_decimal_name(value)
     }
 
-    /// The hexadecimal digits in lower case, two a byte.
+    /// Writes the hexadecimal digits in lower case, two a byte, as a key: `ab0c`, `"0c"`.
+    ///
+    /// # Errors
+    ///
+    /// As every call: see [`MapKey`].
     pub fn serialize_bytes(self, value: &[u8]) -> Result<()>
         ensures { WritesKey (named (encode_lower value.now)) (waiting self.entry) result self.exit.0.now }
     {
@@ -236,7 +326,11 @@ impl<W: Write + Drop> MapKey<'_, W> {
         ser.put_bytes_name(value)
     }
 
-    /// `null`.
+    /// Writes the key `null`.
+    ///
+    /// # Errors
+    ///
+    /// As every call: see [`MapKey`].
     pub fn serialize_unit(self) -> Result<()>
         ensures { WritesNull self.entry result self.exit.0.now }
     {
@@ -244,14 +338,26 @@ impl<W: Write + Drop> MapKey<'_, W> {
         ser.put_name("null")
     }
 
-    /// `null`. The name changes nothing.
+    /// Writes the key `null`, for a struct without fields. The name changes nothing.
+    ///
+    /// # Errors
+    ///
+    /// As every call: see [`MapKey`].
     pub fn serialize_unit_struct(self, _name: &'static str) -> Result<()>
         ensures { WritesNull self.entry result self.exit.0.now }
     {
         self.serialize_unit()
     }
 
-    /// The name of the variant. The type's name and the index change nothing.
+    /// Writes the name of the variant as a key. The type's name and the index change nothing.
+    ///
+    /// ```text
+    /// key.serialize_unit_variant("Color", 2, "blue")?    // blue
+    /// ```
+    ///
+    /// # Errors
+    ///
+    /// As every call: see [`MapKey`].
     pub fn serialize_unit_variant(
         self,
         _name: &'static str,
@@ -263,14 +369,22 @@ impl<W: Write + Drop> MapKey<'_, W> {
         self.serialize_str(variant)
     }
 
-    /// The key itself.
+    /// Writes the key itself.
+    ///
+    /// # Errors
+    ///
+    /// As every call: see [`MapKey`].
     pub fn serialize_some<K: SerializeKey>(self, key: &K) -> Result<()>
         ensures { WritesKey (option_key K.as_key (Some key.now)) (waiting self.entry) result self.exit.0.now }
     {
         key.serialize_key(self)
     }
 
-    /// The key inside. The name changes nothing.
+    /// Writes the key that a struct of one field holds. The name changes nothing.
+    ///
+    /// # Errors
+    ///
+    /// As every call: see [`MapKey`].
     pub fn serialize_newtype_struct<K: SerializeKey>(
         self,
         _name: &'static str,
@@ -281,7 +395,11 @@ impl<W: Write + Drop> MapKey<'_, W> {
         key.serialize_key(self)
     }
 
-    /// It is no key.
+    /// Refuses None, which is no key.
+    ///
+    /// # Errors
+    ///
+    /// `InvalidKey`, or `Failed`: see [`MapKey`].
     pub fn serialize_none(self) -> Result<()>
         ensures { RefusesKey self.entry result self.exit.0.now }
     {
@@ -289,7 +407,11 @@ impl<W: Write + Drop> MapKey<'_, W> {
         ser.refuse(ErrorCode::InvalidKey)
     }
 
-    /// It is no key.
+    /// Refuses a list, which is no key. The length changes nothing.
+    ///
+    /// # Errors
+    ///
+    /// `InvalidKey`, or `Failed`: see [`MapKey`].
     pub fn serialize_seq(self, _len: Option<usize>) -> Result<()>
         ensures { RefusesKey self.entry result self.exit.0.now }
     {
@@ -297,7 +419,11 @@ impl<W: Write + Drop> MapKey<'_, W> {
         ser.refuse(ErrorCode::InvalidKey)
     }
 
-    /// It is no key.
+    /// Refuses a tuple, which is no key. The length changes nothing.
+    ///
+    /// # Errors
+    ///
+    /// `InvalidKey`, or `Failed`: see [`MapKey`].
     pub fn serialize_tuple(self, _len: usize) -> Result<()>
         ensures { RefusesKey self.entry result self.exit.0.now }
     {
@@ -305,7 +431,11 @@ impl<W: Write + Drop> MapKey<'_, W> {
         ser.refuse(ErrorCode::InvalidKey)
     }
 
-    /// It is no key.
+    /// Refuses a struct of several values, which is no key. The name and the length change nothing.
+    ///
+    /// # Errors
+    ///
+    /// `InvalidKey`, or `Failed`: see [`MapKey`].
     pub fn serialize_tuple_struct(self, _name: &'static str, _len: usize) -> Result<()>
         ensures { RefusesKey self.entry result self.exit.0.now }
     {
@@ -313,7 +443,11 @@ impl<W: Write + Drop> MapKey<'_, W> {
         ser.refuse(ErrorCode::InvalidKey)
     }
 
-    /// It is no key.
+    /// Refuses a variant that holds a value, which is no key. The names and the index change nothing.
+    ///
+    /// # Errors
+    ///
+    /// `InvalidKey`, or `Failed`: see [`MapKey`].
     pub fn serialize_newtype_variant(
         self,
         _name: &'static str,
@@ -326,7 +460,11 @@ impl<W: Write + Drop> MapKey<'_, W> {
         ser.refuse(ErrorCode::InvalidKey)
     }
 
-    /// It is no key.
+    /// Refuses a variant that holds a list, which is no key. The names, the index and the length change nothing.
+    ///
+    /// # Errors
+    ///
+    /// `InvalidKey`, or `Failed`: see [`MapKey`].
     pub fn serialize_tuple_variant(
         self,
         _name: &'static str,
@@ -340,7 +478,11 @@ impl<W: Write + Drop> MapKey<'_, W> {
         ser.refuse(ErrorCode::InvalidKey)
     }
 
-    /// It is no key.
+    /// Refuses a map, which is no key. The length changes nothing.
+    ///
+    /// # Errors
+    ///
+    /// `InvalidKey`, or `Failed`: see [`MapKey`].
     pub fn serialize_map(self, _len: Option<usize>) -> Result<()>
         ensures { RefusesKey self.entry result self.exit.0.now }
     {
@@ -348,7 +490,11 @@ impl<W: Write + Drop> MapKey<'_, W> {
         ser.refuse(ErrorCode::InvalidKey)
     }
 
-    /// It is no key.
+    /// Refuses a struct with fields, which is no key. The name and the length change nothing.
+    ///
+    /// # Errors
+    ///
+    /// `InvalidKey`, or `Failed`: see [`MapKey`].
     pub fn serialize_struct(self, _name: &'static str, _len: usize) -> Result<()>
         ensures { RefusesKey self.entry result self.exit.0.now }
     {
@@ -356,7 +502,11 @@ impl<W: Write + Drop> MapKey<'_, W> {
         ser.refuse(ErrorCode::InvalidKey)
     }
 
-    /// It is no key.
+    /// Refuses a variant with fields, which is no key. The names, the index and the length change nothing.
+    ///
+    /// # Errors
+    ///
+    /// `InvalidKey`, or `Failed`: see [`MapKey`].
     pub fn serialize_struct_variant(
         self,
         _name: &'static str,

@@ -1,4 +1,4 @@
-//! The values that can be written as keys.
+//! The values that can be written as keys: bare where the text is an identifier, else between quotes.
 
 ghost use Rattle.std.specs.Prelude.{[], ◌∷◌, string_bytes};
 ghost use Rattle.std.specs.Str.{chars};
@@ -17,6 +17,7 @@ use json5_text::decimal::Decimal;
 use json5_text::error::Result;
 use std::io::Write;
 
+/// Writes `null`.
 impl SerializeKey for () {
     ghost as_key = { λ _. named null_text };
 
@@ -25,6 +26,7 @@ impl SerializeKey for () {
     }
 }
 
+/// Writes `true` or `false`.
 impl SerializeKey for bool {
     ghost as_key = { λ b. named (bool_text b) };
 
@@ -33,6 +35,7 @@ impl SerializeKey for bool {
     }
 }
 
+/// Writes the decimal digits between quotes. So do the integers below, after a minus where they are negative.
 impl SerializeKey for u8 {
     ghost as_key = { natural_key };
 
@@ -113,6 +116,7 @@ impl SerializeKey for i128 {
     }
 }
 
+/// Writes the text of one character.
 impl SerializeKey for char {
     ghost as_key = { λ c. named (c ∷ []) };
 
@@ -121,6 +125,7 @@ impl SerializeKey for char {
     }
 }
 
+/// Writes the text.
 impl SerializeKey for &str {
     ghost as_key = { λ s. named (chars s.now) };
 
@@ -129,6 +134,7 @@ impl SerializeKey for &str {
     }
 }
 
+/// Writes the text.
 impl SerializeKey for String {
     ghost as_key = { λ s. named (chars (string_bytes s)) };
 
@@ -137,6 +143,7 @@ impl SerializeKey for String {
     }
 }
 
+/// Writes the text.
 impl SerializeKey for CowStr<'_> {
     ghost as_key = { λ s. named (chars (cow_bytes s)) };
 
@@ -145,7 +152,7 @@ impl SerializeKey for CowStr<'_> {
     }
 }
 
-/// The hexadecimal digits in lower case, two a byte.
+/// Writes the hexadecimal digits in lower case, two a byte.
 impl SerializeKey for ByteBuf {
     ghost as_key = { λ b. named (encode_lower (bytes_of b)) };
 
@@ -154,6 +161,7 @@ impl SerializeKey for ByteBuf {
     }
 }
 
+/// Writes plain notation with a point between quotes, or `Infinity` or `NaN`.
 impl SerializeKey for Decimal {
     ghost as_key = { λ d. named (decimal_text d) };
 
@@ -162,7 +170,7 @@ impl SerializeKey for Decimal {
     }
 }
 
-/// None is no key.
+/// Writes the key inside; None is no key.
 impl<K: SerializeKey> SerializeKey for Option<K> {
     ghost as_key = { option_key K.as_key };
 
@@ -174,6 +182,7 @@ impl<K: SerializeKey> SerializeKey for Option<K> {
     }
 }
 
+/// Writes the key that it refers to.
 impl<K: SerializeKey> SerializeKey for &K {
     ghost as_key = { λ r. K.as_key r.now };
 

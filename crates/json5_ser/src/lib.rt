@@ -1,4 +1,4 @@
-//! Typed writing of JSON5.
+//! Typed writing of JSON5: a whole text by `to_string` or `to_writer`, or value by value with a `Serializer`.
 #![tactic(auto)]
 
 mod brackets;

@@ -1,4 +1,4 @@
-//! Lists.
+//! Lists, written as arrays (JSON5 section 4).
 
 ghost use Rattle.json5_ser.specs.WrittenTrees.{array, elements_of};
 ghost use Rattle.json5_ser.specs.Writes.{WritesTree};
@@ -18,7 +18,7 @@ fn write_items<T: Serialize, W: Write + Drop>(items: &[T], ser: &mut Serializer<
     list.end()
 }
 
-/// A list of its items.
+/// Writes an array of the items.
 impl<T: Serialize> Serialize for Vec<T> {
     ghost tree = { λ v. array (elements_of T.tree v.items) };
 
@@ -27,7 +27,7 @@ impl<T: Serialize> Serialize for Vec<T> {
     }
 }
 
-/// A list of its items.
+/// Writes an array of the items.
 impl<T: Serialize, const N: usize> Serialize for [T; N] {
     ghost tree = { λ v. array (elements_of T.tree v) };
 

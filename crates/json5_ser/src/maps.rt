@@ -1,4 +1,4 @@
-//! Maps.
+//! Maps, written as objects (JSON5 section 3).
 
 use crate::{Serialize, SerializeKey, Serializer};
 use indexmap::IndexMap;
@@ -7,7 +7,7 @@ use std::collections::BTreeMap;
 use std::hash::Hash;
 use std::io::Write;
 
-/// An object of its entries, in the order of the keys.
+/// Writes an object of the entries, in the order of the keys.
 impl<K: SerializeKey + Ord, V: Serialize> Serialize for BTreeMap<K, V> {
     ghost use Rattle.json5_ser.specs.WrittenTrees.{object, fields_of};
 
@@ -22,7 +22,7 @@ impl<K: SerializeKey + Ord, V: Serialize> Serialize for BTreeMap<K, V> {
     }
 }
 
-/// An object of its entries, in their order.
+/// Writes an object of the entries, in their order.
 impl<K: SerializeKey + Eq + Hash, V: Serialize> Serialize for IndexMap<K, V> {
     ghost use Rattle.json5_ser.specs.WrittenTrees.{object, fields_of};
 

@@ -1,11 +1,19 @@
-//! Writing whole pieces.
+//! Writing whole pieces of text.
 
 ghost use Rattle.json5_ser.specs.Pieces.{Pushes};
 
 use std::io::{self, ErrorKind, Write};
 
-/// Calls `write` until all bytes are taken. It ends at the first call that answers an error, `Interrupted` too, or takes
-/// nothing (`WriteZero`), and makes no further call: then a prefix of the bytes was written.
+/// Calls `write` until all bytes are taken, for what is written round a document.
+///
+/// ```text
+/// ser::write_whole(&mut out, b"\n")?;
+/// ```
+///
+/// # Errors
+///
+/// It ends at the first call of `write` that answers an error, `Interrupted` too, or takes nothing (`WriteZero`), and makes no
+/// further call. Then a prefix of the bytes was written.
 pub fn write_whole<W: Write>(writer: &mut W, bytes: &[u8]) -> io::Result<()>
     ensures { Pushes (W.contents writer.old) (W.contents writer.new) bytes.now result }
 {

@@ -1,4 +1,4 @@
-//! How texts are put between quotes.
+//! How strings are put between quotes (JSON5 section 5).
 
 ghost use Rattle.std.specs.Prelude.{◌≡◌, [], ◌∷◌, MatchOption};
 ghost use Rattle.std.specs.Str.{chars};
@@ -60,7 +60,7 @@ pub(crate) fn front(text: &str) -> Option<(char, &str)>
 }
 
 /// Up to the first character that is escaped: the text before it, its escape, and the text after it. None where the whole text
-/// is written as it stands.
+/// is written as it is.
 pub(crate) fn split_at_escape(quote: Quote, text: &str) -> Option<(&str, &'static str, &str)>
     ensures { MatchOption result (NeedsNoEscape (delimiter quote) text.now) (λ p. SplitsAtEscape (delimiter quote) text.now p.0.now p.1.now p.2.now) }
 {

@@ -29,8 +29,26 @@ use std::io::Write;
 use std::marker::Model;
 
 /// Writes values to `W`, one after another with nothing between them. Each call writes its text whole, in one or more pieces,
-/// and takes no memory of its own; `flush` is never called. A call is refused where the writer fails (a failed write) and after
-/// an earlier refusal (`Failed`), without a place.
+/// and takes no memory of its own. `flush` is never called.
+///
+/// ```text
+/// let mut ser = Serializer::new(rt.stdout());
+/// let mut list = ser.serialize_seq(None)?;
+/// for port in &ports {
+///     list.serialize_element(port)?;
+/// }
+/// list.end()?;
+/// ```
+///
+/// # Errors
+///
+/// No fault has a position. Every call may answer
+/// - A failed write, which has no code, where the writer failed or took no bytes: it holds a prefix of the call's text.
+/// - `Failed` after a call that was refused, before a collection is ended, and after one that was dropped: nothing is written.
+///
+/// A call that writes an array, an object or another value also
+/// - `TooDeep` where as many brackets are open as the limit allows: the writer holds exactly the text before the next one.
+/// - `InvalidKey` at a key that can't be written: the writer holds exactly the text before it.
 #[derive(Drop)]
 pub struct Serializer<W: Write + Drop> {
     writer: W,
@@ -48,15 +66,21 @@ impl<W: Write + Drop> Model for Serializer<W> {
 }
 
 impl<W: Write + Drop> Serializer<W> {
-    /// A serializer that writes to this writer, at the full limit of 128 brackets. Nothing is written yet.
+    /// Makes a serializer that writes to this writer, at the full limit of 128 brackets. Nothing is written yet.
     pub fn new(writer: W) -> Self
         ensures { result ≡ fresh (W.contents writer) }
     {
         Serializer::within(writer, Limit::full())
     }
 
-    /// A serializer that opens no more brackets at once than the limit, and refuses the next with `TooDeep`. Nothing is
+    /// Makes a serializer that opens no more brackets at once than the limit, and refuses the next with `TooDeep`. Nothing is
     /// written yet.
+    ///
+    /// ```text
+    /// let mut ser = Serializer::within(Vec::new(alloc), Limit::new(16).unwrap());
+    /// value.serialize(&mut ser)?;
+    /// let bytes = ser.into_inner();
+    /// ```
     pub fn within(writer: W, limit: Limit) -> Self
         ensures { result ≡ fresh_within limit (W.contents writer) }
     {
@@ -68,7 +92,7 @@ impl<W: Write + Drop> Serializer<W> {
         }
     }
 
-    /// Gives the writer back, with what was written.
+    /// Returns the writer, with what was written.
     pub fn into_inner(self) -> W
         ensures { W.contents result ≡ self.known }
     {
@@ -81,7 +105,7 @@ impl<W: Write + Drop> Serializer<W> {
         writer
     }
 
-    /// Whether it stands as failed.
+    /// Sets whether it has failed.
     pub(crate) fn set_failed(&mut self, failed: bool)
         ensures { self.new ≡ record self.old { failed = failed } }
     {
@@ -135,6 +159,10 @@ impl<W: Write + Drop> Serializer<W> {
     }
 
     /// Writes `null`.
+    ///
+    /// # Errors
+    ///
+    /// As every call: see [`Serializer`].
     pub fn serialize_unit(&mut self) -> Result<()>
         ensures { WritesTree null self.old result self.new }
     {
@@ -142,6 +170,10 @@ impl<W: Write + Drop> Serializer<W> {
     }
 
     /// Writes `true` or `false`.
+    ///
+    /// # Errors
+    ///
+    /// As every call: see [`Serializer`].
     pub fn serialize_bool(&mut self, value: bool) -> Result<()>
         ensures { WritesTree (boolean value) self.old result self.new }
     {
@@ -152,78 +184,118 @@ impl<W: Write + Drop> Serializer<W> {
         }
     }
 
-    /// Writes the decimal digits.
+    /// Writes the decimal digits of a `u8` (JSON5 section 6).
+    ///
+    /// # Errors
+    ///
+    /// As every call: see [`Serializer`].
     pub fn serialize_u8(&mut self, value: u8) -> Result<()>
         ensures { WritesTree (⟦<u8 as Serialize>⟧.tree value) self.old result self.new }
     {
         self.serialize_u64(u64::from(value))
     }
 
-    /// Writes the decimal digits.
+    /// Writes the decimal digits of a `u16`.
+    ///
+    /// # Errors
+    ///
+    /// As every call: see [`Serializer`].
     pub fn serialize_u16(&mut self, value: u16) -> Result<()>
         ensures { WritesTree (⟦<u16 as Serialize>⟧.tree value) self.old result self.new }
     {
         self.serialize_u64(u64::from(value))
     }
 
-    /// Writes the decimal digits.
+    /// Writes the decimal digits of a `u32`.
+    ///
+    /// # Errors
+    ///
+    /// As every call: see [`Serializer`].
     pub fn serialize_u32(&mut self, value: u32) -> Result<()>
         ensures { WritesTree (⟦<u32 as Serialize>⟧.tree value) self.old result self.new }
     {
         self.serialize_u64(u64::from(value))
     }
 
-    /// Writes the decimal digits.
+    /// Writes the decimal digits of a `u64`.
+    ///
+    /// # Errors
+    ///
+    /// As every call: see [`Serializer`].
     pub fn serialize_u64(&mut self, value: u64) -> Result<()>
         ensures { WritesTree (⟦<u64 as Serialize>⟧.tree value) self.old result self.new }
     {
         self.put_integer(value)
     }
 
-    /// Writes the decimal digits.
+    /// Writes the decimal digits of a `u128`.
+    ///
+    /// # Errors
+    ///
+    /// As every call: see [`Serializer`].
     pub fn serialize_u128(&mut self, value: u128) -> Result<()>
         ensures { WritesTree (⟦<u128 as Serialize>⟧.tree value) self.old result self.new }
     {
         self.put_integer(value)
     }
 
-    /// Writes the decimal digits, after a minus where the number is negative.
+    /// Writes the decimal digits of a `i8`, after a minus where it is negative (JSON5 section 6).
+    ///
+    /// # Errors
+    ///
+    /// As every call: see [`Serializer`].
     pub fn serialize_i8(&mut self, value: i8) -> Result<()>
         ensures { WritesTree (⟦<i8 as Serialize>⟧.tree value) self.old result self.new }
     {
         self.serialize_i64(i64::from(value))
     }
 
-    /// Writes the decimal digits, after a minus where the number is negative.
+    /// Writes the decimal digits of a `i16`, after a minus where it is negative.
+    ///
+    /// # Errors
+    ///
+    /// As every call: see [`Serializer`].
     pub fn serialize_i16(&mut self, value: i16) -> Result<()>
         ensures { WritesTree (⟦<i16 as Serialize>⟧.tree value) self.old result self.new }
     {
         self.serialize_i64(i64::from(value))
     }
 
-    /// Writes the decimal digits, after a minus where the number is negative.
+    /// Writes the decimal digits of a `i32`, after a minus where it is negative.
+    ///
+    /// # Errors
+    ///
+    /// As every call: see [`Serializer`].
     pub fn serialize_i32(&mut self, value: i32) -> Result<()>
         ensures { WritesTree (⟦<i32 as Serialize>⟧.tree value) self.old result self.new }
     {
         self.serialize_i64(i64::from(value))
     }
 
-    /// Writes the decimal digits, after a minus where the number is negative.
+    /// Writes the decimal digits of a `i64`, after a minus where it is negative.
+    ///
+    /// # Errors
+    ///
+    /// As every call: see [`Serializer`].
     pub fn serialize_i64(&mut self, value: i64) -> Result<()>
         ensures { WritesTree (⟦<i64 as Serialize>⟧.tree value) self.old result self.new }
     {
         self.put_integer(value)
     }
 
-    /// Writes the decimal digits, after a minus where the number is negative.
+    /// Writes the decimal digits of a `i128`, after a minus where it is negative.
+    ///
+    /// # Errors
+    ///
+    /// As every call: see [`Serializer`].
     pub fn serialize_i128(&mut self, value: i128) -> Result<()>
         ensures { WritesTree (⟦<i128 as Serialize>⟧.tree value) self.old result self.new }
     {
         self.put_integer(value)
     }
 
-    /// Writes the text, the characters escaped that don't stand for themselves between these quotes.
-    /// What stands between two escapes is written in one piece.
+    /// Writes the text, and escapes the characters that don't stand for themselves between these quotes. What is between two
+    /// escapes is written in one piece.
     fn put_escaped(&mut self, quote: Quote, text: &str) -> Result<()>
         ensures { Writes (piece (escaped_all (delimiter quote) (chars text.now))) self.old result self.new }
     {
@@ -257,8 +329,17 @@ impl<W: Write + Drop> Serializer<W> {
         self.put(mark)
     }
 
-    /// Writes a text between quotes: between `'` where it holds `"` and no `'`, else between `"` (JSON5 section 5). That quote,
-    /// backslashes, LF, CR, U+2028 and U+2029 are escaped, and all other characters stand as they are.
+    /// Writes a string (JSON5 section 5): between `'` where the text holds `"` and no `'`, else between `"`. That quote,
+    /// backslashes, LF, CR, U+2028 and U+2029 are escaped, and all other characters are written as they are.
+    ///
+    /// ```text
+    /// ser.serialize_str("it's")?          // "it's"
+    /// ser.serialize_str("say \"no\"")?    // 'say "no"'
+    /// ```
+    ///
+    /// # Errors
+    ///
+    /// As every call: see [`Serializer`].
     pub fn serialize_str(&mut self, value: &str) -> Result<()>
         ensures { WritesTree (text (chars value.now)) self.old result self.new }
     {
@@ -268,7 +349,11 @@ impl<W: Write + Drop> Serializer<W> {
         self.put_quoted(value)
     }
 
-    /// Writes the text of one character, as `serialize_str`.
+    /// Writes a string of one character, as [`serialize_str`](Serializer::serialize_str) does.
+    ///
+    /// # Errors
+    ///
+    /// As every call: see [`Serializer`].
     pub fn serialize_char(&mut self, value: char) -> Result<()>
         ensures { WritesTree (text (value ∷ [])) self.old result self.new }
     {
@@ -303,7 +388,7 @@ impl<W: Write + Drop> Serializer<W> {
         self.depth = self.depth.saturating_sub(1);
     }
 
-    /// Closes a collection; its bracket stands on a line of its own where something stands in it.
+    /// Closes a collection; its bracket is on a line of its own where something was written in it.
     pub(crate) fn close(&mut self, brackets: Brackets, stage: Stage) -> Result<()>
         ensures { Writes (closing (self.old.depth - 1) (is_started stage) (closing_sign brackets)) (at_depth (self.old.depth - 1) self.old) result self.new }
     {

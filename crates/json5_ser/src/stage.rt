@@ -6,16 +6,16 @@ ghost use Rattle.json5_ser.specs.Stages.{is_started, is_pending};
 /// How far a collection has come.
 #[derive(Clone, Copy)]
 pub(crate) enum Stage {
-    /// Nothing stands in it.
+    /// Nothing was written in it.
     Empty,
-    /// A member stands in it.
+    /// An element or a member was written in it.
     Started,
-    /// A key stands in it whose value comes next.
+    /// A key was written in it whose value comes next.
     KeyPending,
 }
 
 impl Stage {
-    /// Whether something stands in it.
+    /// Whether something was written in it.
     pub(crate) fn is_started(self) -> bool
         ensures { result ≡ is_started self }
     {

@@ -1,10 +1,10 @@
-//! Lists of a fixed length.
+//! Tuples, written as arrays of a fixed length.
 
 use crate::{Serialize, Serializer};
 use json5_text::error::Result;
 use std::io::Write;
 
-/// A list of one.
+/// Writes an array of one element.
 impl<A: Serialize> Serialize for (A,) {
     ghost use Rattle.json5_ser.specs.WrittenTrees.{array, element, no_element};
 
@@ -17,7 +17,7 @@ impl<A: Serialize> Serialize for (A,) {
     }
 }
 
-/// A list of two.
+/// Writes an array of two elements.
 impl<A: Serialize, B: Serialize> Serialize for (A, B) {
     ghost use Rattle.json5_ser.specs.WrittenTrees.{array, element, no_element};
 
@@ -31,7 +31,7 @@ impl<A: Serialize, B: Serialize> Serialize for (A, B) {
     }
 }
 
-/// A list of three.
+/// Writes an array of three elements.
 impl<A: Serialize, B: Serialize, C: Serialize> Serialize for (A, B, C) {
     ghost use Rattle.json5_ser.specs.WrittenTrees.{array, element, no_element};
 
@@ -46,7 +46,7 @@ impl<A: Serialize, B: Serialize, C: Serialize> Serialize for (A, B, C) {
     }
 }
 
-/// A list of four.
+/// Writes an array of four elements.
 impl<A: Serialize, B: Serialize, C: Serialize, D: Serialize> Serialize for (A, B, C, D) {
     ghost use Rattle.json5_ser.specs.WrittenTrees.{array, element, no_element};
 

@@ -10,6 +10,7 @@ use json5_text::value::Value;
 use json5_text::whole::Whole;
 use std::io::Write;
 
+/// Writes a value of any kind; equal keys are kept.
 impl Serialize for Value {
     ghost tree = { value_tree };
 
@@ -27,7 +28,7 @@ impl Serialize for Value {
     }
 }
 
-/// An object of the pairs, in their order.
+/// An object of the members, in their order.
 #[cycle(tree)]
 fn write_fields<W: Write + Drop>(fields: &[(String, Value)], ser: &mut Serializer<W>) -> Result<()>
     ensures { WritesTree (object (fields_of text_key value_tree fields.now)) ser.old result ser.new }

@@ -1,4 +1,4 @@
-//! Blanks: white space, line terminators and comments.
+//! Blanks: white space, line terminators and comments (JSON5 sections 7 and 8, ECMAScript 5.1 sections 7.2 to 7.4).
 
 ghost use Rattle.std.specs.Prelude.{MatchOption, MatchResult};
 ghost use Rattle.std.specs.Str.{chars};

@@ -1,4 +1,4 @@
-//! Bytes that are written as a text.
+//! Bytes that are read and written as a string.
 
 ghost use Rattle.std.specs.Prelude.{◌≡◌, ◌↔◌, Some, IsTrue, refl};
 ghost use Rattle.std.specs.Ordering.{nat_cmp};
@@ -11,7 +11,8 @@ ghost use Rattle.std.proofs.Common.{rules};
 use std::cmp::Ordering;
 use std::hash::{Hash, Hasher};
 
-/// Bytes that are read and written as a text of hexadecimal digits, two a byte. Equality, order and hash are those of the bytes.
+/// Bytes that are read and written as a string of hexadecimal digits, two a byte. Equality, order and hash are those of the
+/// bytes.
 ///
 /// ```text
 /// let name: ByteBuf = json5::from_str(alloc, "'4A534F4E35'")?;    // the bytes of JSON5
@@ -24,21 +25,21 @@ pub struct ByteBuf {
 impl ByteBuf {
     ghost use Rattle.json5_text.specs.Bytes.{bytes_of};
 
-    /// These bytes. Takes no memory.
+    /// Makes a `ByteBuf` of these bytes. Takes no memory.
     pub fn from_vec(bytes: Vec<u8>) -> ByteBuf
         ensures { bytes_of result ≡ bytes.items }
     {
         ByteBuf { bytes }
     }
 
-    /// The bytes.
+    /// Returns the bytes.
     pub fn as_slice(&self) -> &[u8]
         ensures { result.now ≡ bytes_of self.now }
     {
         self.bytes.as_slice()
     }
 
-    /// The bytes, in the memory that they have.
+    /// Returns the bytes, in the memory that they have.
     pub fn into_vec(self) -> Vec<u8>
         ensures { result.items ≡ bytes_of self }
     {

@@ -18,7 +18,7 @@ fn is_ascii_blank(byte: u8) -> bool
     byte == b' ' || byte >= 9 && byte <= 13
 }
 
-/// How many ASCII blanks stand in front.
+/// How many ASCII blanks are in front.
 #[inline(always)]
 pub(crate) fn blanks_len(bytes: &[u8]) -> usize
     ensures { result ≡ prefix_len is_ascii_blank bytes.now }
@@ -46,7 +46,7 @@ pub(crate) fn is_ascii_part(byte: u8) -> bool
     is_ascii_start(byte) || is_digit(byte)
 }
 
-/// How many ASCII characters stand in front that may go on a name.
+/// How many ASCII characters are in front that may go on a name.
 #[inline(always)]
 pub(crate) fn name_len(bytes: &[u8]) -> usize
     ensures { result ≡ prefix_len is_ascii_part bytes.now }
@@ -82,14 +82,14 @@ pub(crate) fn ascii_name_len(bytes: &[u8]) -> Option<usize>
     }
 }
 
-/// How many bytes stand in front of the first that is LF or CR or begins a character from U+2000 to U+2FFF, as U+2028 and U+2029.
+/// How many bytes come before the first that is LF or CR or begins a character from U+2000 to U+2FFF, as U+2028 and U+2029.
 pub(crate) fn line_len(bytes: &[u8]) -> usize
     ensures { result ≡ prefix_len is_in_line bytes.now }
 {
     memchr3(b'\n', b'\r', 0xE2, bytes).unwrap_or(bytes.len())
 }
 
-/// How many bytes stand in front of the first star.
+/// How many bytes come before the first star.
 pub(crate) fn star_place(bytes: &[u8]) -> usize
     ensures { result ≡ prefix_len is_no_star bytes.now }
 {

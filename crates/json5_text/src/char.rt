@@ -8,8 +8,8 @@ ghost use Rattle.json5_text.specs.Escapes.{escape_of};
 use crate::bytes::{is_ascii_part, is_ascii_start};
 use unicode::properties::GeneralCategory;
 
-/// Whether the character is white space or a line terminator, as it may stand between tokens: U+0009 to U+000D, a space,
-/// U+00A0, U+2028, U+2029, U+FEFF and the category Zs (JSON5 section 8).
+/// Says whether the character may be between tokens, as white space or a line terminator: U+0009 to U+000D, a space, U+00A0,
+/// U+2028, U+2029, U+FEFF and the category Zs (JSON5 section 8, ECMAScript 5.1 sections 7.2 and 7.3).
 #[tactic(auto, unfolding(json5_grammar::specs::Characters::is_space_separator))]
 pub fn is_json5_whitespace(c: char) -> bool
     ensures { result ≡ is_blank c }
@@ -23,15 +23,15 @@ pub fn is_json5_whitespace(c: char) -> bool
     ) || GeneralCategory::for_char(c) == GeneralCategory::SpaceSeparator
 }
 
-/// Whether the character ends a line: LF, CR, U+2028 or U+2029 (ECMAScript 5.1 section 7.3).
+/// Says whether the character ends a line: LF, CR, U+2028 or U+2029 (ECMAScript 5.1 section 7.3).
 pub fn is_json5_line_terminator(c: char) -> bool
     ensures { result ≡ is_terminator c }
 {
     matches!(c, '\n' | '\r' | '\u{2028}' | '\u{2029}')
 }
 
-/// Whether an identifier may begin with the character: `$`, `_` and the categories Lu, Ll, Lt, Lm, Lo and Nl
-/// (ECMAScript 5.1 section 7.6).
+/// Says whether an identifier may begin with the character: `$`, `_` and the categories Lu, Ll, Lt, Lm, Lo and Nl (ECMAScript
+/// 5.1 section 7.6). A backslash, which begins an escape, is none.
 pub fn is_json5_identifier_start(c: char) -> bool
     ensures { result ≡ is_identifier_start c }
 {
@@ -41,7 +41,7 @@ pub fn is_json5_identifier_start(c: char) -> bool
     is_start_category(GeneralCategory::for_char(c))
 }
 
-/// Whether an identifier may go on with the character: what may begin one, U+200C, U+200D and the categories Mn, Mc, Nd
+/// Says whether an identifier may go on with the character: what may begin one, U+200C, U+200D and the categories Mn, Mc, Nd
 /// and Pc (ECMAScript 5.1 section 7.6).
 pub fn is_json5_identifier(c: char) -> bool
     ensures { result ≡ is_identifier_part c }
@@ -54,9 +54,9 @@ pub fn is_json5_identifier(c: char) -> bool
         || is_part_category(GeneralCategory::for_char(c))
 }
 
-/// The escape that is written for the character in a string between these quotes, or None where the character stands for
-/// itself (JSON5 section 5.1). A backslash, LF, CR, U+2028 and U+2029 are escaped, and the delimiter itself where it is `"` or
-/// `'`. At a delimiter that is no quote, no quote is escaped.
+/// Returns the escape that is written for the character in a string between these quotes, or None where the character is
+/// written as it is (JSON5 section 5.1). A backslash, LF, CR, U+2028 and U+2029 are escaped, and the delimiter itself where it
+/// is `"` or `'`. At a delimiter that is no quote, no quote is escaped.
 ///
 /// ```text
 /// escape('"', '\n') == Some("\\n")

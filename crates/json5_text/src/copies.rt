@@ -11,8 +11,13 @@ use json5_grammar::code::ErrorCode;
 use std::alloc::Global;
 
 impl Value {
-    /// An equal value, in memory of its own. `TooDeep` is answered where more than 128 brackets are open in it, which `fits`
-    /// tells, and `OutOfMemory` where memory ran out; both without a place.
+    /// Returns an equal value, in memory of its own.
+    ///
+    /// # Errors
+    ///
+    /// None has a position.
+    /// - `TooDeep` where more than 128 brackets are open at once in it: see [`fits`](Value::fits).
+    /// - `OutOfMemory` where a request for memory was refused.
     pub fn clone(&self, alloc: Global) -> Result<Value>
         ensures { CopiesValue (value_of self.now) result }
     {

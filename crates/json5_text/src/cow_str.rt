@@ -1,4 +1,4 @@
-//! Texts that are borrowed from what is read, where they can be.
+//! Texts that are borrowed from the input, where they can be.
 
 ghost use Rattle.std.specs.Prelude.{◌≡◌, ◌↔◌, Some, IsTrue, refl};
 ghost use Rattle.std.specs.Ordering.{nat_cmp};
@@ -11,20 +11,24 @@ ghost use Rattle.std.proofs.Common.{rules};
 use std::cmp::Ordering;
 use std::hash::{Hash, Hasher};
 
-/// A text that was read: borrowed from the input where no escape was used, else in memory of its own. Equality, order and hash
-/// are those of the text's bytes, borrowed or not.
+/// The text of a string or a key: borrowed from the input where it has no escape, else in memory of its own. Equality, order
+/// and hash are those of the text's bytes, borrowed or not.
+///
+/// ```text
+/// let names: Vec<CowStr> = json5::from_str(alloc, "['ab', 'a\\x62']")?;    // Borrowed, and an equal one that is Owned
+/// ```
 #[derive(Debug, Drop)]
 pub enum CowStr<'de> {
-    /// A text that stands so in what was read.
+    /// A slice of the input.
     Borrowed(&'de str),
-    /// A text in memory of its own: an escape spells a part of it, so that it doesn't stand so in what was read.
+    /// A text in memory of its own: the input spells a part of it by an escape.
     Owned(String),
 }
 
 impl<'de> CowStr<'de> {
     ghost use Rattle.json5_text.specs.Cows.{cow_bytes};
 
-    /// The text, borrowed or not.
+    /// Returns the text, borrowed or not.
     pub fn as_str(&self) -> &str
         ensures { result.now ≡ cow_bytes self.now }
     {

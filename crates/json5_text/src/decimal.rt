@@ -41,10 +41,16 @@ enum Size<'a> {
 
 /// Infinity, not-a-number or a finite number, each with a sign (JSON5 section 6). It keeps every digit that was read.
 ///
-/// A finite number is its digits times ten to its exponent. The digits are ASCII, without zeros in front
-/// and at the end; the exponent is from -32768 to 32767; zero has no digits and the exponent 0. So `1.50` is the
-/// digits `15` and the exponent -1. Two decimals are equal when sign, digits and exponent are; not-a-number equals
-/// itself, and -0 isn't 0.
+/// A finite number is its digits times ten to its exponent. The digits are ASCII, without zeros in front and at the end; the
+/// exponent is from -32768 to 32767; zero has no digits and the exponent 0. So `1.50` is the digits `15` and the exponent -1.
+/// Two decimals are equal when sign, digits and exponent are; not-a-number equals itself, and -0 isn't 0.
+///
+/// ```text
+/// let price: Decimal = json5::from_str(alloc, "-1.50")?;
+/// price.digits()         // 15
+/// price.exponent()       // -1
+/// price.is_negative()    // true
+/// ```
 #[derive(Debug, Drop)]
 pub struct Decimal {
     kept: Kept,
@@ -133,7 +139,7 @@ fn keep(
     })
 }
 
-/// A finite decimal in normal form whose digits stand in two texts, one after the other.
+/// A finite decimal in normal form whose digits are those of two texts, one after the other.
 #[derive(Drop)]
 pub(crate) struct DecimalRef<'a> {
     negative: bool,
@@ -189,7 +195,7 @@ impl<'a> DecimalRef<'a> {
 }
 
 impl Decimal {
-    /// Infinity, after a minus where `negative`. Takes no memory.
+    /// Makes infinity, after a minus where `negative`. Takes no memory.
     pub fn infinity(negative: bool) -> Decimal
         ensures { result ≡ numbers.infinite negative }
     {
@@ -198,7 +204,7 @@ impl Decimal {
         }
     }
 
-    /// Not-a-number, after a minus where `negative`, which counts in equality. Takes no memory.
+    /// Makes not-a-number, after a minus where `negative`, which counts in equality. Takes no memory.
     pub fn nan(negative: bool) -> Decimal
         ensures { result ≡ numbers.nan negative }
     {
@@ -207,13 +213,18 @@ impl Decimal {
         }
     }
 
-    /// The finite number with these digits times ten to the exponent. None where `digits` holds anything but
-    /// ASCII digits, or where the exponent is outside -32768 to 32767 once the outer zeros are gone: each zero
-    /// that goes at the end raises it by one, and zero has the exponent 0. The only fault is `OutOfMemory`.
+    /// Makes the finite number with these digits times ten to the exponent.
+    ///
+    /// It is None where `digits` holds anything but ASCII digits, or where the exponent is outside -32768 to 32767 once the
+    /// outer zeros are gone: each zero that goes at the end raises it by one, and zero has the exponent 0.
     ///
     /// ```text
     /// Decimal::finite(alloc, false, "0150", -2)    // 1.5: the digits 15, the exponent -1
     /// ```
+    ///
+    /// # Errors
+    ///
+    /// - `OutOfMemory`, without a position, where a request for memory was refused.
     pub fn finite(
         alloc: Global,
         negative: bool,
@@ -232,7 +243,7 @@ impl Decimal {
         Ok(Some(found.to_decimal(alloc)?))
     }
 
-    /// Whether it has a minus, which zero and not-a-number may have too.
+    /// Says whether it has a minus, which zero and not-a-number may have too.
     pub fn is_negative(&self) -> bool
         ensures { Shows is_minus self.now result }
     {
@@ -254,21 +265,21 @@ impl Decimal {
         }
     }
 
-    /// Whether it is infinity, of either sign.
+    /// Says whether it is infinity, of either sign.
     pub fn is_infinite(&self) -> bool
         ensures { result ≡ is_infinity self.now }
     {
         matches!(self.size(), Size::Infinite)
     }
 
-    /// Whether it is not-a-number, of either sign.
+    /// Says whether it is not-a-number, of either sign.
     pub fn is_nan(&self) -> bool
         ensures { result ≡ is_not_a_number self.now }
     {
         matches!(self.size(), Size::NotANumber)
     }
 
-    /// The ASCII digits, without zeros in front and at the end; none for zero, infinity and not-a-number.
+    /// Returns the ASCII digits, without zeros in front and at the end; none for zero, infinity and not-a-number.
     pub fn digits(&self) -> &str
         ensures { Shows digits_in self.now result.now }
     {
@@ -278,7 +289,7 @@ impl Decimal {
         }
     }
 
-    /// The power of ten that the digits are multiplied with; 0 for zero, infinity and not-a-number.
+    /// Returns the power of ten that the digits are multiplied with; 0 for zero, infinity and not-a-number.
     pub fn exponent(&self) -> i16
         ensures { Shows exponent_in self.now result }
     {
@@ -288,9 +299,7 @@ impl Decimal {
         }
     }
 
-    /// Its text in plain notation with a point: the digits, as many zeros as the exponent says and `.0`, or
-    /// the point within the digits or before them. Zero is `0.0`; the others are `Infinity` and `NaN`. A minus
-    /// stands before where it is negative. Takes no memory.
+    /// Returns the text that `Display` prints, in pieces, so that it takes no memory however long it is.
     pub fn pieces(&self) -> Pieces<'_>
         ensures { Shows decimal_text self.now result }
     {
@@ -302,7 +311,11 @@ impl Decimal {
         }
     }
 
-    /// The same number. The only fault is `OutOfMemory`.
+    /// Returns an equal number.
+    ///
+    /// # Errors
+    ///
+    /// - `OutOfMemory`, without a position, where a request for memory was refused.
     pub fn clone(&self, alloc: Global) -> Result<Decimal>
         ensures { MatchResult result (λ d. d ≡ self.now) LacksMemory }
     {
@@ -370,9 +383,9 @@ impl Hash for Decimal {
 impl fmt::Display for Decimal {
     ghost output = { λ d. Some (decimal_text d) };
 
-    /// Plain notation with a point: the digits, as many zeros as the exponent says and `.0`, or the point
-    /// within the digits or before them. Zero is `0.0`; the others are `Infinity` and `NaN`. A minus stands
-    /// before where it is negative: `1.5`, `1500.0`, `-0.015`. It reads back as the same decimal.
+    /// Prints plain notation with a point: the digits, as many zeros as the exponent says and `.0`, or the point within the
+    /// digits or before them. Zero is `0.0`; the others are `Infinity` and `NaN`. A minus is before what is negative: `1.5`,
+    /// `1500.0`, `-0.015`. It reads back as the same decimal.
     fn fmt<W: fmt::Write>(&self, f: &mut fmt::Formatter<W>) -> fmt::Result {
         let mut pieces = self.pieces();
         while let Some(piece) = pieces.next_piece() {

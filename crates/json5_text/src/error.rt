@@ -1,4 +1,4 @@
-//! Faults.
+//! Faults of reading and writing.
 
 ghost use Rattle.std.specs.Prelude.{◌≡◌, ◌↔◌, Some, None, IsTrue, MatchResult, string_bytes};
 ghost use Rattle.json5_text.specs.Errors.{FaultKind, custom, failed_write, kind_of, place_of, known_code, or_place, kind_text, error_text, SaysAt, IsCustomAt, LacksMemory};
@@ -22,12 +22,21 @@ enum Content {
     FailedWrite,
 }
 
-/// A fault of reading or writing: a code, a custom text, or a failed write; and perhaps its place in the text that was read,
-/// counted from 0. It prints with the place counted from 1: `expected comma at line 1 column 4`.
+/// A fault of reading or writing: a code, a custom message, or a failed write; and perhaps its position in the text that was
+/// read.
 ///
-/// A fault has no place where the text ends too early (`EofParsing..`), where memory ran out, after an earlier refusal
-/// (`Failed`), in writing, and where it was made without one. In an array a fault of an element that has none gets the place of
-/// the opening bracket, and `Option<T>` gives one of T the value's start.
+/// It prints as its message and, where it has one, its position, which counts from 1 there:
+/// `expected comma at line 1 column 4`. A fault has no position where the text ends too early (`EofParsing..`), where memory
+/// ran out, after an earlier refusal (`Failed`), in writing, and where it was made without one. In an array or an object one
+/// without a position gets that of the opening bracket, and `Option<T>` gives a fault of `T` that of the value's first
+/// character.
+///
+/// ```text
+/// match json5::from_str::<u16>(alloc, "[80") {
+///     Err(error) => println!(rt; "{error}")?,    // expected number at line 1 column 1
+///     Ok(port) => ..
+/// }
+/// ```
 #[derive(Debug, Drop)]
 pub struct Error {
     content: Content,
@@ -35,7 +44,7 @@ pub struct Error {
 }
 
 impl Error {
-    /// A fault with this code, without a place. Takes no memory.
+    /// Makes a fault with this code, without a position. Takes no memory.
     pub fn new(code: ErrorCode) -> Error
         ensures { SaysAt (FaultKind.code code) None result }
     {
@@ -45,14 +54,14 @@ impl Error {
         }
     }
 
-    /// A fault with this code at this place. Takes no memory.
+    /// Makes a fault with this code at this position. Takes no memory.
     pub fn new_at(position: Position, code: ErrorCode) -> Error
         ensures { SaysAt (FaultKind.code code) (Some position) result }
     {
         Error::new(code).at(position)
     }
 
-    /// A custom fault with this text, without a place. Takes no memory.
+    /// Makes a custom fault with this message, without a position. Takes no memory.
     pub fn from_text(text: String) -> Error
         ensures { SaysAt (custom (string_bytes text)) None result }
     {
@@ -62,12 +71,16 @@ impl Error {
         }
     }
 
-    /// A custom fault with what the message prints, without a place. A message whose Display refuses is kept up to there.
-    /// Err is `OutOfMemory` without a place.
+    /// Makes a custom fault with what the message prints, without a position. A message whose `Display` refuses is kept up to
+    /// there.
     ///
     /// ```text
-    /// Error::custom(alloc, format_args!("missing field `{name}`"))?
+    /// return Err(Error::custom(alloc, format_args!("missing field `{name}`"))?);
     /// ```
+    ///
+    /// # Errors
+    ///
+    /// - `OutOfMemory`, without a position, where a request for memory was refused.
     pub fn custom<D: fmt::Display + Drop>(alloc: Global, message: D) -> Result<Error>
         ensures { MatchResult result (IsCustomAt None) LacksMemory }
     {
@@ -84,8 +97,17 @@ impl Error {
         }
     }
 
-    /// A custom fault with what the message prints, at this place. A message whose Display refuses is kept up to there.
-    /// Err is `OutOfMemory` without a place.
+    /// Makes a custom fault with what the message prints, at this position. A message whose `Display` refuses is kept up to
+    /// there.
+    ///
+    /// ```text
+    /// let position = de.position_of(port.start);
+    /// return Err(Error::custom_at(alloc, position, "port 0 can't be opened")?);
+    /// ```
+    ///
+    /// # Errors
+    ///
+    /// As [`custom`](Error::custom).
     pub fn custom_at<D: fmt::Display + Drop>(
         alloc: Global,
         position: Position,
@@ -97,7 +119,11 @@ impl Error {
         Ok(error.at(position))
     }
 
-    /// An equal fault. Err is `OutOfMemory` without a place. The text of a custom fault alone takes memory.
+    /// Returns an equal fault. Only the message of a custom fault takes memory.
+    ///
+    /// # Errors
+    ///
+    /// - `OutOfMemory`, without a position, where a request for memory was refused.
     pub fn clone(&self, alloc: Global) -> Result<Error>
         ensures { MatchResult result (SaysAt (kind_of self.now) (place_of self.now)) LacksMemory }
     {
@@ -112,7 +138,11 @@ impl Error {
         })
     }
 
-    /// The code; none for a custom fault and for a failed write.
+    /// Returns the code; none for a custom fault and for a failed write.
+    ///
+    /// ```text
+    /// if error.code() == Some(ErrorCode::OutOfMemory) { .. }
+    /// ```
     pub fn code(&self) -> Option<ErrorCode>
         ensures { result ≡ known_code (kind_of self.now) }
     {
@@ -123,7 +153,7 @@ impl Error {
         }
     }
 
-    /// What the fault says, without its place: the code in words, the custom text, or `failed write`.
+    /// Returns what the fault says, without its position: the code in words, the custom message, or `failed write`.
     pub fn message(&self) -> &str
         ensures { result.now ≡ kind_text (kind_of self.now) }
     {
@@ -134,14 +164,22 @@ impl Error {
         }
     }
 
-    /// The place, where there is one: line and column, counted from 0.
+    /// Returns the position, where there is one: line and column, counted from 0, the column in characters.
+    ///
+    /// ```text
+    /// let line = error.position()?.line;    // 0 for the first line
+    /// ```
     pub fn position(&self) -> Option<Position>
         ensures { result ≡ place_of self.now }
     {
         self.position
     }
 
-    /// The fault at this place where it has none; else unchanged.
+    /// Gives the fault this position where it has none; else it stays as it is.
+    ///
+    /// ```text
+    /// Error::new(ErrorCode::InvalidBytes).with_position(position)
+    /// ```
     #[must_use]
     pub fn with_position(self, position: Position) -> Error
         ensures { SaysAt (kind_of self) (or_place (place_of self) position) result }
@@ -152,7 +190,7 @@ impl Error {
         }
     }
 
-    /// The fault at this place, in the place of any other.
+    /// Gives the fault this position, in place of any other.
     #[must_use]
     pub fn at(self, position: Position) -> Error
         ensures { SaysAt (kind_of self) (Some position) result }
@@ -168,7 +206,7 @@ impl Error {
     }
 }
 
-/// Faults are equal when they say the same and have the same place, or both none.
+/// Faults are equal when they say the same and have the same position, or both none.
 impl PartialEq for Error {
     ghost eq = { same_fault };
 
@@ -187,7 +225,7 @@ impl Eq for Error {
     ghost laws = { same_fault_equiv };
 }
 
-/// What the fault says, and ` at ` and the position where it has one: `expected comma at line 1 column 4`.
+/// Prints the message, and ` at ` and the position where it has one: `expected comma at line 1 column 4`.
 impl fmt::Display for Error {
     ghost output = { λ e. Some (error_text e) };
 
@@ -208,7 +246,7 @@ fn out_of_memory() -> Error
     Error::new(ErrorCode::OutOfMemory)
 }
 
-/// A failed write, without a place. Takes no memory.
+/// Makes a failed write, without a position. Takes no memory.
 impl From<io::Error> for Error {
     ghost from_gives = { λ _ e. (kind_of e ≡ failed_write) × (place_of e ≡ None) };
 
@@ -220,7 +258,7 @@ impl From<io::Error> for Error {
     }
 }
 
-/// `OutOfMemory` without a place.
+/// Makes `OutOfMemory`, without a position.
 impl From<AllocError> for Error {
     ghost from_gives = { λ _ e. LacksMemory e };
 
@@ -229,7 +267,7 @@ impl From<AllocError> for Error {
     }
 }
 
-/// `OutOfMemory` without a place.
+/// Makes `OutOfMemory`, without a position.
 impl<T: Drop> From<AllocFailed<T>> for Error {
     ghost from_gives = { λ _ e. LacksMemory e };
 

@@ -14,7 +14,7 @@ use crate::refusal::Refusal;
 use crate::words::skip_word;
 use json5_grammar::code::ErrorCode;
 
-/// The fault that stands at an escape's backslash, with which `escape` begins.
+/// The fault at an escape's backslash, with which `escape` begins.
 fn invalid(escape: &str) -> Refusal
     ensures { result ≡ Refusal.Code ErrorCode.InvalidEscapeSequence (Some (length escape.now)) }
 {
@@ -22,7 +22,7 @@ fn invalid(escape: &str) -> Refusal
 }
 
 /// The character that a string's escape spells, None where it spells none, and what follows it: `escape` begins with the
-/// backslash, and `text` stands after it.
+/// backslash, and `text` comes after it.
 pub(crate) fn read_escape<'t>(
     escape: &str,
     text: &'t str,

@@ -3,19 +3,23 @@
 ghost use Rattle.std.specs.Prelude.{◌≡◌};
 
 /// A text to be read, as `&str`. It names no lifetime, so that a reader over it can be lent whole.
+///
+/// ```text
+/// fn read_ports<I: Input>(de: &mut Deserializer<I>) -> Result<Vec<u16>>    // over every input
+/// ```
 pub trait Input: Drop {
     ghost use Rattle.std.specs.Prelude.{ℕ, List};
 
     ghost text: { Self → List ℕ };
 
-    /// The text, for as long as this is borrowed.
+    /// Returns the text, for as long as this is borrowed.
     fn as_text(&self) -> &str
         ensures { result.now ≡ Self.text self.now };
 }
 
 /// A text that outlives its reader, as `&'de str`: what is read from it may be borrowed for as long as the text is.
 pub trait Borrows<'de>: Input {
-    /// The text, for as long as it is there.
+    /// Returns the text, for as long as it is there.
     fn as_borrowed(&self) -> &'de str
         ensures { Self.text self.now ≡ result.now };
 }

@@ -17,8 +17,8 @@ pub fn equal_numbers()
     ensures decimals { IsEquality ⟦<Decimal as PartialEq>⟧.eq }
 {}
 
-/// Texts with the same bytes hash alike, also where one is borrowed and one isn't, and those alone stand at the same place of the
-/// order. So it is of bytes.
+/// Texts with the same bytes hash alike, also where one is borrowed and one isn't, and those alone come at the same point of
+/// the order. So it is of bytes.
 #[tactic(auto, using(crate::proofs::TextsCompared::same_place))]
 pub fn equal_texts()
     ensures texts_hash { HashesBy cow_bytes ⟦<CowStr<'static> as Hash>⟧.hash_input }

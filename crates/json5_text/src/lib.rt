@@ -1,4 +1,7 @@
 //! The tokens of JSON5, faults, and the values that a text holds.
+//!
+//! A `Scanner` takes tokens from the front of a text. `Value`, `Whole`, `Decimal`, `CowStr` and `ByteBuf` are what is read, and
+//! an `Error` says why it isn't.
 #![tactic(auto)]
 
 mod blanks;

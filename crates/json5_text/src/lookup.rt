@@ -9,15 +9,15 @@ use crate::decimal::Decimal;
 use crate::value::Value;
 use crate::whole::Whole;
 
-/// What is looked for in a value: an element of an array by its place, counted from 0, or the value of a pair of an object by
-/// its key, the last where a key stands more than once.
+/// What is looked for in a value: an element of an array by its index, counted from 0, or the value of a member of an object by
+/// its key. Of equal keys it is the last.
 pub trait Index {
     ghost use Rattle.std.specs.Prelude.{Option};
     ghost use Rattle.json5_text.specs.ValueViews.{Datum};
 
     ghost finds: { Self → Datum → Option Datum };
 
-    /// What is found, if anything.
+    /// Returns what is found; None where there is no such thing.
     fn find_in<'v>(&self, value: &'v Value) -> Option<&'v Value>
         ensures { option_map (λ v. value_of v.now) result ≡ finds self.now (value_of value.now) };
 }
@@ -38,7 +38,7 @@ impl Index for &str {
     }
 }
 
-/// The value of the last pair with this key.
+/// The value of the last member with this key.
 fn last_named<'v>(fields: &'v [(String, Value)], key: &str) -> Option<&'v Value>
     ensures { option_map (λ v. value_of v.now) result ≡ last_named (chars key.now) (fields_view fields.now) }
 {
@@ -52,7 +52,8 @@ fn last_named<'v>(fields: &'v [(String, Value)], key: &str) -> Option<&'v Value>
 }
 
 impl Value {
-    /// What stands at this place of an array, or what an object has under this key; none where there is no such thing.
+    /// Returns the element of an array at this index, counted from 0, or what an object has under this key; None where there is
+    /// no such thing. Of equal keys the last counts.
     ///
     /// ```text
     /// let port = settings.get("server")?.get("ports")?.get(0usize)?;
@@ -63,14 +64,14 @@ impl Value {
         index.find_in(self)
     }
 
-    /// Whether it is `null`.
+    /// Says whether it is `null`.
     pub fn is_null(&self) -> bool
         ensures { result ≡ is_null (value_of self.now) }
     {
         matches!(self, Value::Null)
     }
 
-    /// The boolean, if it is one.
+    /// Returns the boolean, if it is one.
     pub fn as_bool(&self) -> Option<bool>
         ensures { result ≡ boolean_of (value_of self.now) }
     {
@@ -80,7 +81,7 @@ impl Value {
         }
     }
 
-    /// The whole number, if it is one.
+    /// Returns the whole number, if it is one.
     pub fn as_whole(&self) -> Option<Whole>
         ensures { result ≡ whole_of (value_of self.now) }
     {
@@ -90,8 +91,8 @@ impl Value {
         }
     }
 
-    /// The decimal, if it is one: a number with a point or an exponent, or past the range of `Whole`, infinity and not-a-number
-    /// included.
+    /// Returns the decimal, if it is one: a number with a point or an exponent, or past the range of `Whole`, infinity and
+    /// not-a-number included.
     pub fn as_decimal(&self) -> Option<&Decimal>
         ensures { option_map (λ number. number.now) result ≡ decimal_of (value_of self.now) }
     {
@@ -101,7 +102,7 @@ impl Value {
         }
     }
 
-    /// The text, if it is one.
+    /// Returns the text, if it is a string.
     pub fn as_str(&self) -> Option<&str>
         ensures { option_map (λ s. chars s.now) result ≡ text_of (value_of self.now) }
     {
@@ -111,7 +112,7 @@ impl Value {
         }
     }
 
-    /// The elements, if it is an array.
+    /// Returns the elements in their order, if it is an array.
     pub fn as_array(&self) -> Option<&[Value]>
         ensures { option_map (λ items. items_view items.now) result ≡ items_in (value_of self.now) }
     {
@@ -121,7 +122,7 @@ impl Value {
         }
     }
 
-    /// The pairs in their order, if it is an object.
+    /// Returns the members in their order, if it is an object.
     pub fn as_object(&self) -> Option<&[(String, Value)]>
         ensures { option_map (λ fields. fields_view fields.now) result ≡ fields_in (value_of self.now) }
     {

@@ -31,7 +31,7 @@ pub(crate) fn skip_name(text: &str) -> Result<&str, Refusal>
     skip_text(Kind::Name, text)
 }
 
-/// The character that an escape spells, which may stand there in a name, and what follows the escape.
+/// The character that an escape spells, which may be there in a name, and what follows the escape.
 pub(crate) fn read_item<'t>(
     is_first: bool,
     escape: &str,

@@ -33,7 +33,7 @@ impl Model for Limit {
 }
 
 impl Limit {
-    /// So many brackets, where they are at most 128. With none, only values without a bracket pass.
+    /// Makes a limit of so many brackets; None above 128. Within a limit of 0 only values without a bracket pass.
     pub fn new(n: u8) -> Option<Limit>
         ensures { MatchOption result (max_depth < n) (λ limit. (limit ≡ n) × (n ≤ max_depth)) }
     {
@@ -43,14 +43,14 @@ impl Limit {
         Some(Limit { brackets: n })
     }
 
-    /// 128 brackets, the limit of every call that names none.
+    /// Makes the limit of 128 brackets, that of every call that names none.
     pub fn full() -> Limit
         ensures { result ≡ max_depth }
     {
         Limit { brackets: 128 }
     }
 
-    /// How many brackets.
+    /// Returns how many brackets may be open.
     pub fn get(self) -> u8
         ensures number { result ≡ self }
         ensures bound { result ≤ max_depth }
@@ -60,14 +60,18 @@ impl Limit {
 }
 
 impl Value {
-    /// Whether no more than 128 brackets are open anywhere in it: the deepest that can be read and written.
+    /// Says whether at most 128 brackets are open at once anywhere in it: only then can it be read, written or cloned.
     pub fn fits(&self) -> bool
         ensures { result ≡ fits (value_of self.now) }
     {
         self.fits_within(Limit::full())
     }
 
-    /// Whether no more brackets are open anywhere in it than the limit allows.
+    /// Says whether no more brackets are open at once anywhere in it than the limit allows.
+    ///
+    /// ```text
+    /// value.fits_within(Limit::new(1).unwrap())    // true for `[1, 2]`, false for `[[]]`
+    /// ```
     pub fn fits_within(&self, limit: Limit) -> bool
         ensures { result ≡ fits_within limit (value_of self.now) }
     {

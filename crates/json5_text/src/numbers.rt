@@ -95,7 +95,7 @@ fn unsigned<'t>(
     }
 }
 
-/// The number in front with its digits where they stand, and what follows it.
+/// The number in front, its digits a slice of the text, and what follows it.
 fn scan(text: &str) -> Result<(Scanned<'_>, &str), Refusal>
     ensures { AnswersAs scanned_of (model.number (chars text.now)) result }
 {

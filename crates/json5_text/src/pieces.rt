@@ -9,6 +9,13 @@ use std::marker::Model;
 use std::mem;
 
 /// What is left of the text of a decimal: the four texts one after the other, and `count` zeros before the third.
+///
+/// ```text
+/// let mut pieces = decimal.pieces();
+/// while let Some(piece) = pieces.next_piece() {
+///     f.write_str(piece)?;
+/// }
+/// ```
 #[derive(Debug, Drop)]
 pub struct Pieces<'a> {
     sign: &'static str,
@@ -88,7 +95,7 @@ impl<'a> Pieces<'a> {
         Pieces::new(sign, "0.", places - digits.len(), "", digits)
     }
 
-    /// Takes the next piece away; none at the end of the text.
+    /// Returns the next piece of the text, and takes it away; none at the end.
     pub fn next_piece(&mut self) -> Option<&'a str>
         ensures { MatchOption result (self.old ≡ []) (λ piece. IsFront self.old piece.now self.new) }
     {

@@ -5,10 +5,10 @@ ghost use Rattle.std.specs.Prelude.{◌≡◌};
 use json5_grammar::code::ErrorCode;
 use std::alloc::AllocError;
 
-/// A fault with the number of bytes that are left at its place, or that memory ran out.
+/// A fault with the number of bytes that are left at its position, or that memory ran out.
 #[derive(Clone, Copy)]
 pub(crate) enum Refusal {
-    /// A fault with a code; without a place where the end of the text shows it.
+    /// A fault with a code; without a position where the end of the text shows it.
     Code(ErrorCode, Option<usize>),
     /// A decimal run that is no literal.
     InvalidNumber(usize),

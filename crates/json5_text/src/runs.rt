@@ -8,7 +8,7 @@ ghost use Rattle.json5_text.specs.NumberParts.{SplitsDigits};
 
 use crate::bytes::is_digit;
 
-/// How many digits stand in front.
+/// How many digits are in front.
 fn digits_len(bytes: &[u8]) -> usize
     ensures { result ≡ prefix_len is_digit bytes.now }
 {

@@ -1,4 +1,4 @@
-//! Numbers whose digits stand in the text that is read.
+//! Numbers whose digits are slices of the text that is read.
 
 ghost use Rattle.std.specs.Prelude.{◌≡◌, MatchResult, IfSome, IsSome, Some, ℕ, List, true, pos, ◌-ℤ◌, ◌↔◌};
 ghost use Rattle.std.specs.Str.{chars};
@@ -19,7 +19,7 @@ use crate::whole::Whole;
 use json5_grammar::code::ErrorCode;
 use std::alloc::{AllocError, Global};
 
-/// A number in front of a text, in which a finite decimal's digits stand.
+/// A number in front of a text; a finite decimal's digits are slices of it.
 #[derive(Drop)]
 pub(crate) enum Scanned<'t> {
     Whole(Whole),

@@ -50,12 +50,21 @@ macro_rules! pass {
 mod borrowed;
 mod faults;
 
-/// Reads tokens from the front of a text. A call that succeeds takes its token; a call that refuses takes nothing, and may be
-/// followed by any other. No call passes over blanks but `skip_blank`.
+/// Takes tokens from the front of a text. A call that succeeds takes its token; a call that is refused takes nothing, and may
+/// be followed by any other. No call passes over blanks but `skip_blank`.
 ///
-/// Memory is taken for a finite decimal, for a text or a name with an escape, for the text of `string_owned`, and for a custom
-/// fault; `skip_string`, `skip_identifier` and `skip_number` take it for a custom fault alone. Where it runs out, the fault is
-/// `OutOfMemory` without a place.
+/// Memory is taken for a finite decimal, for a string or a name with an escape, for the text of `string_owned`, and for a
+/// custom fault. `skip_string`, `skip_identifier` and `skip_number` take it for a custom fault alone.
+///
+/// ```text
+/// let mut scanner = Scanner::new(alloc, "/* port */ 8080 // end");
+/// scanner.skip_blank()?;
+/// let port = scanner.number()?;    // a Whole, and ` // end` is left
+/// ```
+///
+/// # Errors
+///
+/// Every call that may take memory may answer `OutOfMemory`, without a position.
 #[derive(Drop)]
 pub struct Scanner<I: Input> {
     pub(crate) input: I,
@@ -75,7 +84,7 @@ impl<I: Input> Model for Scanner<I> {
 }
 
 impl<I: Input> Scanner<I> {
-    /// A scanner at the start of a text. What it allocates comes from `alloc`.
+    /// Makes a scanner at the start of a text. What it allocates comes from `alloc`.
     pub fn new(alloc: Global, input: I) -> Scanner<I>
         ensures { result ≡ record { input = chars (I.text input); unread = chars (I.text input) } }
     {
@@ -88,12 +97,12 @@ impl<I: Input> Scanner<I> {
         }
     }
 
-    /// The allocator that was given to `new`.
+    /// Returns the allocator that was given to `new`.
     pub fn allocator(&self) -> Global {
         self.alloc
     }
 
-    /// How many bytes of the text were read. A character begins there, or the text ends.
+    /// Returns how many bytes of the text were read. A character begins there, or the text ends.
     pub fn offset(&self) -> usize
         ensures counted { result ≡ offset_of self.now }
         ensures suffix { (before : List ℕ) × (self.now.input ≡ before ++ self.now.unread) }
@@ -102,7 +111,7 @@ impl<I: Input> Scanner<I> {
         self.offset
     }
 
-    /// The next character, which stays unread; None at the end.
+    /// Returns the next character, which stays unread; None at the end.
     pub fn peek(&self) -> Option<char>
         ensures { result ≡ slice_get self.now.unread 0 }
     {
@@ -126,18 +135,29 @@ impl<I: Input> Scanner<I> {
         true
     }
 
-    /// Takes blanks, if any: white space, line terminators and comments (JSON5 sections 7 and 8).
+    /// Takes blanks, if any: white space, line terminators and comments (JSON5 sections 7 and 8, ECMAScript 5.1 sections 7.2 to
+    /// 7.4). At the end of the text a `//` comment is whole.
     ///
-    /// The fault is `ExpectedComment` at a character after a slash that is neither a slash nor a star, or `EofParsingComment`
-    /// without a place where the text ends in a comment; at the end of the text a `//` comment is whole.
+    /// # Errors
+    ///
+    /// - `ExpectedComment` at the character after a `/` that is neither `/` nor `*`.
+    /// - `EofParsingComment`, without a position, where the text ends after that `/` or inside `/* */`.
     pub fn skip_blank(&mut self) -> Result<()>
         ensures { PassesBlanks self.old self.new result }
     {
         pass!(self, skip_blank(self.rest(self.input.as_text())))
     }
 
-    /// Takes the word. The fault is `differs` at the first character that differs from the word's, or `ends` without a place
-    /// where the text ends before the word does. What follows the word isn't looked at.
+    /// Takes the word, such as `null`. What follows the word isn't looked at.
+    ///
+    /// ```text
+    /// scanner.word("null", ErrorCode::EofParsingNull, ErrorCode::ExpectedNull)?;
+    /// ```
+    ///
+    /// # Errors
+    ///
+    /// - `differs` at the first character that differs from the word's.
+    /// - `ends`, without a position, where the text ends before the word does.
     pub fn word(&mut self, word: &str, ends: ErrorCode, differs: ErrorCode) -> Result<()>
         ensures { TakesWord (chars word.now) ends differs self.old self.new result }
     {
@@ -150,23 +170,28 @@ impl<I: Input> Scanner<I> {
     /// Takes a number, as far as it goes (JSON5 section 6, ECMAScript 5.1 section 7.8.3). A whole number, infinity and
     /// not-a-number take no memory.
     ///
-    /// The fault is
-    /// - `ExpectedNumber` at a character that begins no number, after a sign too, or that differs from `Infinity` or `NaN`, or is
-    ///   no hexadecimal digit after `0x`;
-    /// - `EofParsingNumber` without a place where the text ends there;
-    /// - `LeadingZero` at the start where a digit follows a first `0`;
-    /// - `OverflowParsingNumber` at the hexadecimal digit that takes the number past 128 bits, or at the start where a decimal's
-    ///   exponent is past 16 bits;
-    /// - a custom fault at the start where a run of digits, signs, points and `e` is no number, as `1-2`, or where a hexadecimal
-    ///   number is below -2^127.
+    /// # Errors
+    ///
+    /// - `ExpectedNumber` at a character that begins no number, also after a sign; that differs from `Infinity` or `NaN`; or
+    ///   that is no hexadecimal digit right after `0x`.
+    /// - `EofParsingNumber`, without a position, where the text ends there.
+    /// - `LeadingZero` at the start where a digit follows a first `0`.
+    /// - `OverflowParsingNumber` at the hexadecimal digit that takes the number past 128 bits, or at the start where a
+    ///   decimal's exponent is past 16 bits.
+    /// - A custom fault at the start where a run of digits, signs, points and `e` is no number, as `1-2`, or where a
+    ///   hexadecimal number is below -2^127.
     pub fn number(&mut self) -> Result<Number>
         ensures { TakesNumber self.old self.new result }
     {
         take!(self, number(self.alloc, self.rest(self.input.as_text())))
     }
 
-    /// Takes a string and gives its text in memory of its own (JSON5 section 5, ECMAScript 5.1 section 7.8.4). The faults are
-    /// those of `string`.
+    /// Takes a string and returns its text, escapes replaced, in memory of its own (JSON5 section 5, ECMAScript 5.1 section
+    /// 7.8.4).
+    ///
+    /// # Errors
+    ///
+    /// As [`string`](Scanner::string).
     pub fn string_owned(&mut self) -> Result<String>
         ensures { TakesOwned self.old self.new result }
     {
@@ -190,7 +215,14 @@ impl<I: Input> Scanner<I> {
     /// Takes a key: a string or an identifier (JSON5 section 3). A text without a backslash takes no memory. A character must
     /// follow an identifier.
     ///
-    /// The faults are those of `string` where a quote begins the key, else those of `identifier`.
+    /// ```text
+    /// let key = scanner.key()?;             // `port` of `port: 80`
+    /// let text = scanner.text_of(&key);
+    /// ```
+    ///
+    /// # Errors
+    ///
+    /// As [`string`](Scanner::string) where a quote begins the key, else as [`identifier`](Scanner::identifier).
     pub fn key(&mut self) -> Result<TextToken>
         ensures { TakesKey self.old self.new result }
     {
@@ -200,31 +232,42 @@ impl<I: Input> Scanner<I> {
         )
     }
 
-    /// Takes a string as `string` does, and makes no text of it: only a custom fault takes memory. The faults are those of
-    /// `string`.
+    /// Takes a string as [`string`](Scanner::string) does, and makes no text of it: only a custom fault takes memory.
+    ///
+    /// # Errors
+    ///
+    /// As [`string`](Scanner::string).
     pub fn skip_string(&mut self) -> Result<()>
         ensures { PassesString self.old self.new result }
     {
         pass!(self, skip_string(self.rest(self.input.as_text())))
     }
 
-    /// Takes an identifier as `identifier` does, and makes no text of it: only a custom fault takes memory. The faults are
-    /// those of `identifier`.
+    /// Takes an identifier as [`identifier`](Scanner::identifier) does, and makes no text of it: only a custom fault takes
+    /// memory.
+    ///
+    /// # Errors
+    ///
+    /// As [`identifier`](Scanner::identifier).
     pub fn skip_identifier(&mut self) -> Result<()>
         ensures { PassesName self.old self.new result }
     {
         pass!(self, skip_name(self.rest(self.input.as_text())))
     }
 
-    /// Takes a number as `number` does, and gives it if it is whole, None for a decimal. No digits are kept: only a custom
-    /// fault takes memory. The faults are those of `number`.
+    /// Takes a number as [`number`](Scanner::number) does, and returns it if it is whole, None for a decimal. No digits are
+    /// kept: only a custom fault takes memory.
+    ///
+    /// # Errors
+    ///
+    /// As [`number`](Scanner::number).
     pub fn skip_number(&mut self) -> Result<Option<Whole>>
         ensures { PassesNumber self.old self.new result }
     {
         take!(self, skip_number(self.rest(self.input.as_text())))
     }
 
-    /// What is unread of the text.
+    /// Returns what is unread of the text.
     pub(crate) fn rest<'t>(&self, text: &'t str) -> &'t str
         requires { chars text.now ≡ self.now.input }
         ensures { chars result.now ≡ self.now.unread }

@@ -76,7 +76,7 @@ fn read_quote(text: &str) -> Result<(Quote, &str), Refusal>
     }
 }
 
-/// Whether the character begins a string: a double or a single quote (JSON5 section 5).
+/// Says whether the character begins a string: a double or a single quote (JSON5 section 5).
 pub fn is_quote(c: char) -> bool
     ensures { result ≡ is_quote c }
 {

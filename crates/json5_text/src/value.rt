@@ -7,9 +7,29 @@ ghost use Rattle.json5_text.specs.ValueViews.{value_of, items_view, fields_view,
 use crate::decimal::Decimal;
 use crate::whole::Whole;
 
-/// What a text of JSON5 holds (JSON5 section 2); equal keys of an object are kept. Two values are equal when they stand for
-/// the same: whole numbers and decimals are never equal, not-a-number equals itself, and two texts are equal when their
-/// characters are, however they were spelled.
+/// What a JSON5 text holds (JSON5 section 2): null, a boolean, a number, a string, an array or an object, with equal keys kept.
+///
+/// Two values are equal when they stand for the same: whole numbers and decimals are never equal, not-a-number equals itself,
+/// and two strings are equal when their characters are, however they were spelled.
+///
+/// ```text
+/// let value: Value = json5::from_str(alloc, "{a: [1, 2.5, null]}")?;    // an Object of one member, whose value is an Array
+/// ```
+///
+/// # Errors
+///
+/// A call that reads or passes over a value of any kind refuses with
+/// - `ExpectedValue` at a character that begins no value, where one is expected.
+/// - `ExpectedComma` at a character after an element or a member that is neither a comma nor the closing bracket.
+/// - `ExpectedIdentifier` at a character that begins no key, where one may begin.
+/// - `ExpectedColon` at a character after a key that is no colon.
+/// - `TooDeep` at the bracket past the limit.
+/// - `EofParsingValue` where the text ends before a value; `EofParsingArray` where it ends after an element; `EofParsingObject`
+///   where it ends before a key or a colon, or after a member.
+/// - The codes of a comment, a literal, a number, a string or an identifier that is at fault, at their positions.
+/// - `OutOfMemory` where a request for memory was refused.
+///
+/// Where the text ends, the position is that of the innermost bracket that the value opened; there is none outside of all.
 #[derive(Debug, Drop)]
 pub enum Value {
     /// `null`.
@@ -20,11 +40,11 @@ pub enum Value {
     Whole(Whole),
     /// Any other number.
     Decimal(Decimal),
-    /// A text, without the quotes and with its escapes replaced.
+    /// The text of a string, without the quotes and with its escapes replaced.
     String(String),
     /// The elements of an array, in their order.
     Array(Vec<Value>),
-    /// The pairs of an object, in their order; equal keys are kept.
+    /// The members of an object, in their order, each a key's text and its value; equal keys are kept.
     Object(Vec<(String, Value)>),
 }
 

@@ -10,6 +10,11 @@ use std::fmt;
 use std::marker::Model;
 
 /// A whole number from `i128::MIN` to `u128::MAX`. There is one value for each of them, so that zero has no sign.
+///
+/// ```text
+/// Whole::from_u128(u128::MAX).as_i128()    // None
+/// Whole::from_i128(-7).as_u128()           // None
+/// ```
 #[derive(Clone, Copy, Debug, PartialEq, Eq, Hash)]
 pub struct Whole {
     negative: bool,
@@ -31,7 +36,7 @@ impl Model for Whole {
 }
 
 impl Whole {
-    /// This number.
+    /// Returns the whole number that this is.
     pub fn from_u128(number: u128) -> Whole
         ensures { result ≡ pos number }
     {
@@ -41,7 +46,7 @@ impl Whole {
         }
     }
 
-    /// This number.
+    /// Returns the whole number that this is.
     pub fn from_i128(number: i128) -> Whole
         ensures { result ≡ number }
     {
@@ -51,7 +56,7 @@ impl Whole {
         }
     }
 
-    /// The number with this distance from zero, after a minus or not; none where it is below `i128::MIN`.
+    /// Returns the number with this distance from zero, after a minus or not; none where it is below `i128::MIN`.
     pub(crate) fn from_parts(negative: bool, magnitude: u128) -> Option<Whole>
         ensures in_range { IsSome result ↔ InWhole (signed negative magnitude) }
         ensures value { IfSome result (λ w. w ≡ signed negative magnitude) }
@@ -68,7 +73,7 @@ impl Whole {
         }
     }
 
-    /// The number, or None where it is below zero.
+    /// Returns the number, or None where it is below zero.
     pub fn as_u128(self) -> Option<u128>
         ensures { Converts pos (λ z. pos 0 ≤ℤ z) self result }
     {
@@ -79,7 +84,7 @@ impl Whole {
         }
     }
 
-    /// The number, or None where it is above `i128::MAX`.
+    /// Returns the number, or None where it is above `i128::MAX`.
     pub fn as_i128(self) -> Option<i128>
         ensures { Converts (λ number. number) (λ z. z <ℤ pos (2 ^ 127)) self result }
     {
@@ -98,7 +103,7 @@ impl Whole {
 impl fmt::Display for Whole {
     ghost output = { λ z. Some (signed_decimal z) };
 
-    /// The number's decimal digits, after a minus where it is below zero.
+    /// Prints the number's decimal digits, after a minus where it is below zero.
     fn fmt<W: fmt::Write>(&self, f: &mut fmt::Formatter<W>) -> fmt::Result {
         match self.as_i128() {
             Some(number) => number.fmt(f),

@@ -1,4 +1,4 @@
-//! Words.
+//! Words, such as the literals `null`, `true` and `false` (JSON5 section 2, ECMAScript 5.1 sections 7.8.1 and 7.8.2).
 
 ghost use Rattle.std.specs.Str.{chars};
 ghost use Rattle.json5_grammar.specs.ReadValues.{word_at};

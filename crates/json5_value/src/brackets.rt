@@ -11,30 +11,30 @@ use json5_text::error::{Error, Result};
 use json5_text::input::Input;
 use json5_text::scanner::Scanner;
 
-/// A kind of brackets.
+/// A kind of brackets: of arrays or of objects.
 #[derive(Clone, Copy, Drop)]
 pub enum BracketKind {
     Array,
     Object,
 }
 
-/// The brackets of a kind, and the codes of what is refused round them.
+/// The brackets of a kind, and the codes of what is refused at them.
 #[derive(Clone, Copy, Drop)]
 pub struct Brackets {
-    /// What opens.
+    /// The opening bracket.
     pub opening: char,
-    /// What closes.
+    /// The closing bracket.
     pub closing: char,
-    /// Where the text ends.
+    /// The code where the text ends.
     pub ends: ErrorCode,
-    /// At another character than the opening one.
+    /// The code at another character than the opening bracket.
     pub not_opened: ErrorCode,
-    /// At another character than the closing one.
+    /// The code at another character than the closing bracket.
     pub not_closed: ErrorCode,
 }
 
 impl BracketKind {
-    /// Its brackets.
+    /// Returns the brackets of this kind and their codes.
     #[inline(always)]
     pub fn brackets(self) -> Brackets
         ensures { result ≡ brackets_of self }
@@ -66,7 +66,7 @@ pub struct OpenBracket {
     pub start: usize,
 }
 
-/// What fills the unused places of a table.
+/// What fills the unused entries of a table.
 impl Default for OpenBracket {
     fn default() -> OpenBracket {
         OpenBracket {

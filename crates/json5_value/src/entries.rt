@@ -1,4 +1,4 @@
-//! What stands round the entries of brackets: the elements of an array and the members of an object.
+//! What is round the entries of brackets, the elements of an array and the members of an object (JSON5 sections 3 and 4).
 
 ghost use Rattle.json5_grammar.specs.ReadSteps.{forget, colon_after, next_value};
 ghost use Rattle.json5_grammar.specs.ReadTexts.{key};

@@ -11,7 +11,8 @@ use json5_text::error::Error;
 use json5_text::input::Input;
 use json5_text::scanner::Scanner;
 
-/// The fault of what is next and isn't expected: `differs` at the character, or `ends` at the end, without a place.
+/// Makes the fault of what is next and isn't expected: `differs` at the character, or `ends` at the end of the text, without a
+/// position.
 #[cold]
 #[inline(never)]
 pub fn unexpected_here<I: Input>(scanner: &Scanner<I>, ends: ErrorCode, differs: ErrorCode) -> Error
@@ -23,7 +24,7 @@ pub fn unexpected_here<I: Input>(scanner: &Scanner<I>, ends: ErrorCode, differs:
     }
 }
 
-/// A fault at the next character.
+/// Makes a fault with this code at the next character.
 #[cold]
 #[inline(never)]
 pub fn fault_here<I: Input>(scanner: &Scanner<I>, code: ErrorCode) -> Error
@@ -34,7 +35,7 @@ pub fn fault_here<I: Input>(scanner: &Scanner<I>, code: ErrorCode) -> Error
     Error::new_at(scanner.position_of(offset), code)
 }
 
-/// The fault, at the bracket that begins after so many bytes where it has no place. Else the lines before it are not counted.
+/// Gives a fault that has no position that of the bracket, which begins after so many bytes. Lines are counted only then.
 #[cold]
 #[inline(never)]
 pub fn place_at<I: Input>(scanner: &Scanner<I>, start: usize, error: Error) -> Error

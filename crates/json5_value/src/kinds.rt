@@ -1,4 +1,4 @@
-//! What a value begins with, and the literals.
+//! What a value begins with, and the literals (JSON5 section 2).
 
 ghost use Rattle.std.specs.Prelude.{◌≡◌};
 ghost use Rattle.json5_text.specs.Takes.{TakesWord};
@@ -17,7 +17,7 @@ pub enum Literal {
     False,
 }
 
-/// What a character begins.
+/// What kind of value, if any, a character begins.
 #[derive(Clone, Copy, Drop)]
 pub enum ValueKind {
     Literal(Literal),
@@ -26,7 +26,7 @@ pub enum ValueKind {
     Other,
 }
 
-/// What the character begins.
+/// Returns what kind of value the character begins.
 #[inline(always)]
 pub fn kind_at(c: char) -> ValueKind
     ensures { result ≡ kind_at c }
@@ -42,6 +42,11 @@ pub fn kind_at(c: char) -> ValueKind
 }
 
 /// Passes over the literal in front.
+///
+/// # Errors
+///
+/// - `ExpectedNull` or, for the other two, `ExpectedBool`, at the first character that differs from the word's.
+/// - `EofParsingNull` or `EofParsingBool`, without a position, where the text ends before the word does.
 pub fn skip_literal<I: Input>(scanner: &mut Scanner<I>, literal: Literal) -> Result<()>
     ensures { TakesWord (word_of literal) (ends_of literal) (differs_of literal) scanner.old scanner.new result }
 {

@@ -1,4 +1,4 @@
-//! Reading of values of any kind.
+//! Reading of values of any kind (JSON5 sections 2 to 6).
 
 ghost use Rattle.std.specs.Prelude.{◌≡◌, true};
 ghost use Rattle.json5_value.specs.Building.{PlacedIn, Turns, TurnsInside, array_at, object_at, start_of, value_in_at};
@@ -70,7 +70,7 @@ fn read_or_open<I: Input>(scanner: &mut Scanner<I>, room: usize) -> Result<Value
     Ok(ValueStart::Scalar(value))
 }
 
-/// The fault, at the innermost bracket where it has no place and one is open.
+/// The fault, at the innermost bracket where it has no position and one is open.
 #[cold]
 #[inline(never)]
 fn place_at_innermost<I: Input>(
@@ -132,7 +132,7 @@ fn resume_object<I: Input>(
     }
 }
 
-/// Begins the value in front, and gives it where it ends at once.
+/// Begins the value in front, and returns it where it ends at once.
 fn begin_value<I: Input>(
     scanner: &mut Scanner<I>,
     room: usize,
@@ -167,7 +167,7 @@ fn reserve_first(members: &mut Vec<(String, Value)>) -> bool
     !members.is_empty() || members.reserve_exact(1).is_ok()
 }
 
-/// Puts the value into what it stands in, and goes on there.
+/// Puts the value into the array or the object round it, and goes on there.
 fn attach_value<I: Input>(
     scanner: &mut Scanner<I>,
     stack: &mut Vec<Unfinished>,
@@ -199,14 +199,17 @@ fn attach_value<I: Input>(
     }
 }
 
-/// Reads the value in front, in which so many brackets may be open at once: null, a boolean, a number, a text, an array or an
-/// object, whose members keep their order and their equal keys. The arrays and objects that it opens are on a stack, the outermost
-/// first.
+/// Reads the value in front, in which so many brackets may be open at once: null, a boolean, a number, a string, an array or an
+/// object, whose members keep their order and their equal keys. The arrays and objects that it opens are on a stack, the
+/// outermost first.
 ///
-/// Beside the faults of comments and tokens it refuses with `ExpectedValue`, `ExpectedIdentifier`, `ExpectedColon` or
-/// `ExpectedComma` at the character that stands in their place, with `TooDeep` at the bracket that there is no room for, and with
-/// `OutOfMemory`. Where the text ends, an `EofParsing` code has the place of the innermost bracket that the value opened, or none
-/// outside of all.
+/// ```text
+/// let value = read_value(&mut scanner, 128)?;    // of `[1, 'a'] true` an Array; ` true` is left
+/// ```
+///
+/// # Errors
+///
+/// Those of a [`Value`]; `TooDeep` at the bracket that there is no room for.
 pub fn read_value<I: Input>(scanner: &mut Scanner<I>, room: usize) -> Result<Value>
     ensures { ReadsDatum room scanner.old scanner.new result }
 {

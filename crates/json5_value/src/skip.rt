@@ -1,4 +1,4 @@
-//! Passing over values of any kind.
+//! Passing over values of any kind (JSON5 sections 2 to 6).
 
 ghost use Rattle.std.specs.Prelude.{◌≡◌, ◌<◌, ◌≤◌, Some, length, slice_get, true};
 ghost use Rattle.json5_grammar.specs.Documents.{max_depth};
@@ -59,7 +59,7 @@ fn skip_or_open<I: Input>(scanner: &mut Scanner<I>, room: usize) -> Result<Optio
     Ok(None)
 }
 
-/// The fault, at the innermost bracket where it has no place and one is open.
+/// The fault, at the innermost bracket where it has no position and one is open.
 #[cold]
 #[inline(never)]
 fn place_at_innermost<I: Input>(
@@ -252,9 +252,9 @@ fn short_turn<I: Input>(
 
 /// Passes over the value in front, in which so many brackets may be open at once. Takes no memory where it succeeds.
 ///
-/// Beside the faults of comments and tokens it refuses with `ExpectedValue`, `ExpectedIdentifier`, `ExpectedColon` or
-/// `ExpectedComma` at the character that stands in their place, and with `TooDeep` at the bracket that there is no room for. Where
-/// the text ends, an `EofParsing` code has the place of the innermost bracket that the value opened, or none outside of all.
+/// # Errors
+///
+/// As [`read_value`](crate::read::read_value), with the same positions.
 pub fn skip_value<I: Input>(scanner: &mut Scanner<I>, room: usize) -> Result<()>
     requires { room ≤ max_depth }
     ensures { Skips room scanner.old scanner.new result }

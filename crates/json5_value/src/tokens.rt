@@ -22,7 +22,11 @@ use json5_text::text_token::TextToken;
 use json5_text::value::Value;
 use json5_text::whole::Whole;
 
-/// The text of a key that the scanner took, in memory of its own.
+/// Returns the text of a key that the scanner took, in memory of its own.
+///
+/// # Errors
+///
+/// - `OutOfMemory`, without a position, where a request for memory was refused.
 pub fn key_owned<I: Input>(scanner: &Scanner<I>, key: TextToken) -> Result<String>
     ensures { OwnsKey scanner.now.input key result }
 {
@@ -46,7 +50,7 @@ fn read_key<I: Input>(scanner: &mut Scanner<I>) -> Result<String>
     key_owned(scanner, key)
 }
 
-/// Goes to the value of the next member, after a comma where one is due, and gives its key; or passes over the closing brace.
+/// Goes to the value of the next member, after a comma where one is due, and returns its key; or passes over the closing brace.
 pub(crate) fn next_member_key<I: Input>(
     scanner: &mut Scanner<I>,
     due: bool,

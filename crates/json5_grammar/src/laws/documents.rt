@@ -41,14 +41,14 @@ pub fn one_gap()
     ensures last { (x v r : List ℕ) → LastBlanks x → Gap v r → Solid r → x ≡ v ++ r → (v ≡ x) × (r ≡ []) }
 {}
 
-/// Each text begins with blanks up to such a rest, or has a faulty comment, of one code and place.
+/// Each text begins with blanks up to such a rest, or has a faulty comment, of one code and one position.
 pub fn blanks()
     ensures judged { (x : List ℕ) → HasGap x ⊎ IsBlamed BlankBlame x }
     ensures same { BlamesOnce BlankBlame }
     ensures refused { (w r : List ℕ) (b : Blame) → Gap w r → Solid r → BlankBlame (w ++ r) b → ⊥ }
 {}
 
-/// A text that begins with a word's first letter begins with the word, or has a fault of it, of one code and place.
+/// A text that begins with a word's first letter begins with the word, or has a fault of it, of one code and one position.
 pub fn words()
     ensures judged { (k : ℕ) (ks r : List ℕ) (wrong eof : ErrorCode) → Word (k ∷ ks) wrong eof → IsPrefix (k ∷ ks) (k ∷ r) ⊎ IsBlamed WordBlame (k ∷ r) }
     ensures same { BlamesOnce WordBlame }

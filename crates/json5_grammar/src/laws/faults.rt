@@ -5,7 +5,7 @@ ghost use Rattle.json5_grammar.specs.Commits.{FrontsCommit, FrontsContinue, Stri
 ghost use Rattle.json5_grammar.specs.Documents.{Begins};
 ghost use Rattle.json5_grammar.specs.Parts.{Part};
 
-/// A text is a document, or it has a fault, of one code and one place, and then it is none.
+/// A text is a document, or it has a fault, of one code and one position, and then it is none.
 pub fn document_or_fault()
     ensures judged { (limit : ℕ) (x : List ℕ) → IsDocument limit x ⊎ IsBlamed (TextBlame limit) x }
     ensures same { (limit : ℕ) → BlamesOnce (TextBlame limit) }
@@ -19,8 +19,8 @@ pub fn value_or_fault()
     ensures whole { (limit : ℕ) (x : List ℕ) (b : Blame) → ValueBlame limit x b → TextBlame limit x b }
 {}
 
-/// The part that a fault blames stands in the text and has the form of one; a fault that a character shows has its place at
-/// that character or before it in the part, and stands whatever follows.
+/// The part that a fault blames is in the text and has the form of one. A fault that a character shows has its position at that
+/// character or before it in the part, and holds whatever follows.
 pub fn faulty_parts()
     ensures inside { (limit : ℕ) (x : List ℕ) (b : Blame) → TextBlame limit x b → StandsIn x b.before b.part b.shown }
     ensures part { (limit : ℕ) (x : List ℕ) (b : Blame) → TextBlame limit x b → Part b.part }
@@ -28,7 +28,7 @@ pub fn faulty_parts()
     ensures follows { (limit : ℕ) → StandsByChar (TextBlame limit) }
 {}
 
-/// What stands before the faulty part begins a document; through the character that shows the fault nothing does.
+/// What comes before the faulty part begins a document; through the character that shows the fault nothing does.
 pub fn beginnings()
     ensures before { (limit : ℕ) (x : List ℕ) (b : Blame) → TextBlame limit x b → Begins limit b.before }
     ensures through { (limit : ℕ) (x : List ℕ) (b : Blame) → ShownByChar (TextBlame limit) x b → Begins limit (b.before ++ b.part) → ⊥ }

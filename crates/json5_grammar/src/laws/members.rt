@@ -1,4 +1,4 @@
-//! The laws of arrays and objects that are read member by member.
+//! The laws of arrays and objects that are read one element or member at a time.
 ghost use Rattle.std.specs.Prelude.{◌≡◌, ℕ, ◌<◌, max, Bool, true, false, List, ◌++◌, length};
 ghost use Rattle.json5_grammar.specs.Characters.{comma_sign, right_bracket};
 ghost use Rattle.json5_grammar.specs.Blanks.{Gap, Solid};
@@ -8,13 +8,13 @@ ghost use Rattle.json5_grammar.specs.Values.{Reads};
 ghost use Rattle.json5_grammar.specs.Members.{Opens, IsElement, IsClose, IsAtClose, Tail, Passed, GoesNowhere, snoc, joined_trees, OpensObject, IsKey, IsKeyValue, IsBrace, PairsTail, PairsPassed, NoPairGoes, snoc_pair, joined_pairs};
 ghost use Rattle.json5_grammar.specs.MembersLeft.{NotAt, NoValue, RestOf, ClosesOrGoesOn, OneMorePair, RestOfPairs, ValueAndRest};
 
-/// An array is what is opened and has its members and the closing bracket after it.
+/// An array is what is opened and has its elements and the closing bracket after it.
 pub fn array_from_front()
     ensures apart { (x r : List ℕ) (ts : Trees) → Reads x (array ts) r → (y : List ℕ) × Opens x y × Tail ts false y r }
     ensures together { (x y r : List ℕ) (ts : Trees) → Opens x y → Tail ts false y r → Reads x (array ts) r }
 {}
 
-/// A text goes on in one way: with one member or the closing bracket, and one rest is left.
+/// A text goes on in one way: with one element or the closing bracket, and one rest is left.
 pub fn one_way_on()
     ensures opening { (x r q : List ℕ) → Opens x r → Opens x q → r ≡ q }
     ensures element { (due : Bool) (x r q : List ℕ) (t u : Tree) → IsElement due x t r → IsElement due x u q → (t ≡ u) × (r ≡ q) }
@@ -23,7 +23,7 @@ pub fn one_way_on()
     ensures tail { (ts us : Trees) (due : Bool) (x r q : List ℕ) → Tail ts due x r → Tail us due x q → (ts ≡ us) × (r ≡ q) }
 {}
 
-/// A member, a key and a key's value take something.
+/// An element, a key and a key's value take something.
 pub fn members_shorten()
     ensures element { (due : Bool) (x r : List ℕ) (t : Tree) → IsElement due x t r → length r < length x }
     ensures key { (due : Bool) (x r u : List ℕ) (p : Bool) → IsKey due x u p r → length r < length x }
@@ -36,21 +36,21 @@ pub fn close_after_found()
     ensures same { (due now : Bool) (x y r : List ℕ) → IsAtClose due x y → IsClose now y r → IsClose due x r }
 {}
 
-/// Members that were passed go on with one more, or with the rest of the array.
+/// Elements that were passed go on with one more, or with the rest of the array.
 pub fn passed_members()
     ensures next { (ts : Trees) (due now : Bool) (x y z : List ℕ) (t : Tree) → Passed ts due x now y → IsElement now y t z → Passed (snoc ts t) due x true z }
     ensures tail { (ts us : Trees) (due now : Bool) (x y r : List ℕ) → Passed ts due x now y → Tail us now y r → Tail (joined_trees ts us) due x r }
     ensures close { (ts : Trees) (due now : Bool) (x y r : List ℕ) → Passed ts due x now y → IsClose now y r → Tail ts due x r }
 {}
 
-/// What a whole array has after members that were passed.
+/// What a whole array has after elements that were passed.
 pub fn rest_of_array()
     ensures rest { (us ts : Trees) (due now : Bool) (x y r : List ℕ) → Passed us due x now y → Tail ts due x r → RestOf us ts now y r }
     ensures goes { (ts : Trees) (due : Bool) (x r : List ℕ) → Tail ts due x r → ClosesOrGoesOn ts due x r }
     ensures nowhere { (x y z r : List ℕ) (us ts : Trees) (due : Bool) → Opens x y → Passed us false y due z → GoesNowhere due z → Reads x (array ts) r → ⊥ }
 {}
 
-/// The depth of members that are put together is the greatest of theirs.
+/// The depth of elements, or of members, that are put together is the greatest of theirs.
 pub fn depths_of_members()
     ensures joined { (ts us : Trees) → depths (joined_trees ts us) ≡ max (depths ts) (depths us) }
     ensures snoc { (ts : Trees) (t : Tree) → depths (snoc ts t) ≡ max (depths ts) (depth t) }
@@ -66,7 +66,7 @@ pub fn nothing_goes_on()
     ensures first { (x w y : List ℕ) → x ≡ w ++ y → Gap w y → Solid y → NoValue y → NotAt right_bracket y → GoesNowhere false x }
 {}
 
-/// An object is what is opened and has its pairs and the closing brace after it.
+/// An object is what is opened and has its members and the closing brace after it.
 pub fn object_from_front()
     ensures apart { (x r : List ℕ) (ps : Pairs) → Reads x (object ps) r → (y : List ℕ) × OpensObject x y × PairsTail ps false y r }
     ensures together { (x y r : List ℕ) (ps : Pairs) → OpensObject x y → PairsTail ps false y r → Reads x (object ps) r }
@@ -82,7 +82,7 @@ pub fn one_way_on_in_object()
     ensures tail { (ps qs : Pairs) (due : Bool) (x r q : List ℕ) → PairsTail ps due x r → PairsTail qs due x q → (ps ≡ qs) × (r ≡ q) }
 {}
 
-/// Pairs that were passed go on with one more, or with the rest of the object.
+/// Members that were passed go on with one more, or with the rest of the object.
 pub fn passed_pairs()
     ensures next { (due now : Bool) (x y : List ℕ) (ps : Pairs) → PairsPassed ps due x now y → OneMorePair ps due x now y }
     ensures tail { (ps qs : Pairs) (due now : Bool) (x y r : List ℕ) → PairsPassed ps due x now y → PairsTail qs now y r → PairsTail (joined_pairs ps qs) due x r }

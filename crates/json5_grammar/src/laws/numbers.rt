@@ -19,8 +19,8 @@ pub fn number_or_fault()
     ensures { (x : List ℕ) → Begun (λ c. is_sign c || begins_number c) x → HasNumber x ⊎ IsBlamed NumberBlame x }
 {}
 
-/// A text has one number fault's code and place at most, and then no number in front; the blamed part is a begun number
-/// at the text's front, and what a character shows stands whatever follows.
+/// A text has one number fault's code and position at most, and then no number in front; the blamed part is a begun number at
+/// the text's front, and what a character shows holds whatever follows.
 pub fn one_number_fault()
     ensures same { BlamesOnce NumberBlame }
     ensures refused { (x s r : List ℕ) (n : Number) (b : Blame) → NumberBlame x b → x ≡ s ++ r → Num s n → EndsAt s r → ⊥ }

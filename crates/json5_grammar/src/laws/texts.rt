@@ -7,7 +7,7 @@ ghost use Rattle.json5_grammar.specs.Names.{Ident, Key, EndedName, IsName};
 ghost use Rattle.json5_grammar.specs.Parts.{Part};
 ghost use Rattle.json5_grammar.specs.Quoting.{quoted_text, is_name, key_text};
 
-/// A text is plain where its string or name holds no backslash, and then it is what stands there itself.
+/// A string or a name is plain where it holds no backslash, and then its text is what is written there itself.
 pub fn plain_texts()
     ensures strings { (s u : List ℕ) (p : Bool) → Str s u p → p ≡ not (holds_backslash s) }
     ensures names { (s u : List ℕ) (p : Bool) → Ident s u p → p ≡ not (holds_backslash s) }
@@ -15,13 +15,13 @@ pub fn plain_texts()
     ensures whole { (s u : List ℕ) → Ident s u true → s ≡ u }
 {}
 
-/// One string or one name stands at the front of a text.
+/// A text has at most one front that is a string, and at most one that is a name.
 pub fn one_text()
     ensures strings { (s u t v r y : List ℕ) (p q : Bool) → Str s u p → Str t v q → s ++ r ≡ t ++ y → (s ≡ t) × (u ≡ v) × (p ≡ q) × (r ≡ y) }
     ensures names { (s u t v r y : List ℕ) (p q : Bool) → EndedName s u p r → EndedName t v q y → s ++ r ≡ t ++ y → (s ≡ t) × (u ≡ v) × (p ≡ q) × (r ≡ y) }
 {}
 
-/// One key stands at the front of a text.
+/// A text has at most one front that is a key.
 pub fn one_key()
     ensures { (s u t v r y : List ℕ) (p q : Bool) → Key s r u p → Key t y v q → s ++ r ≡ t ++ y → (s ≡ t) × (u ≡ v) × (p ≡ q) × (r ≡ y) }
 {}
@@ -32,7 +32,7 @@ pub fn text_or_fault()
     ensures names { (c : ℕ) (y : List ℕ) → ((c == backslash) || is_identifier_start c) ≡ true → HasName (c ∷ y) ⊎ IsBlamed NameBlame (c ∷ y) }
 {}
 
-/// A string's or a name's fault has one code and one place, and then no whole token stands at the front.
+/// A string's or a name's fault has one code and one position, and then no whole token is at the front.
 pub fn one_text_fault()
     ensures strings { BlamesOnce StringBlame }
     ensures names { BlamesOnce NameBlame }
@@ -46,7 +46,7 @@ pub fn blamed_parts()
     ensures names { (x : List ℕ) (b : Blame) → NameBlame x b → Part b.part }
 {}
 
-/// A fault that a character shows stands, whatever follows that character.
+/// A fault that a character shows holds, whatever follows that character.
 pub fn fault_stands()
     ensures strings { StandsByChar StringBlame }
     ensures names { StandsByChar NameBlame }
@@ -59,8 +59,8 @@ pub fn text_written()
     ensures keys { (u r : List ℕ) → (plain : Bool) × Key (key_text u) (colon_sign ∷ r) u plain }
 {}
 
-/// What stands before a fault is nothing, or is made a whole string by a quote, or is a name; through the character that
-/// shows the fault no string and no name goes on.
+/// What comes before a fault is nothing, or is made a whole string by a quote, or is a name; through the character that shows
+/// the fault no string and no name goes on.
 pub fn text_beginnings()
     ensures strings { (x : List ℕ) (b : Blame) → StringBlame x b → (b.before ≡ []) ⊎ IsOpenString b.before }
     ensures names { (x : List ℕ) (b : Blame) → NameBlame x b → (b.before ≡ []) ⊎ IsName b.before }

@@ -1,4 +1,4 @@
-//! Texts that stand in a scanner's text, or are borrowed from it.
+//! Texts of strings, identifiers and keys: slices of the scanner's text, where they can be.
 
 ghost use Rattle.std.specs.Prelude.{◌≡◌, ℕ, List};
 ghost use Rattle.std.specs.Str.{chars, encode_utf8_all};
@@ -16,16 +16,18 @@ use crate::strings::read_string;
 use crate::text_token::TextToken;
 
 impl<'de, I: Borrows<'de>> Scanner<I> {
-    /// Takes a string and gives its text, borrowed where the string holds no backslash, which then takes no memory (JSON5
-    /// section 5, ECMAScript 5.1 section 7.8.4).
+    /// Takes a string and returns its text, borrowed where the string has no escape, which then takes no memory (JSON5 section
+    /// 5, ECMAScript 5.1 section 7.8.4).
     ///
-    /// The fault is
-    /// - `ExpectedString` at a character that is no quote;
-    /// - `LineTerminatorInString` at an LF or CR without a backslash;
-    /// - `InvalidEscapeSequence` at the backslash of a faulty escape, of two the first one's; or, where a second `\u` must follow
-    ///   that of a surrogate, at the character that stands in place of its `\` or `u`;
-    /// - a custom fault at the first backslash of two `\u` escapes that are no pair of surrogates;
-    /// - `EofParsingString` or, in an escape, `EofParsingEscapeSequence`, without a place, where the text ends.
+    /// # Errors
+    ///
+    /// - `ExpectedString` at a character that is no quote.
+    /// - `LineTerminatorInString` at an LF or CR that no backslash escapes.
+    /// - `InvalidEscapeSequence` at the backslash of an escape that isn't allowed, of two the first one's; or, where a second
+    ///   `\u` must follow that of a surrogate, at the character in place of its `\` or `u`.
+    /// - A custom fault at the first backslash of two `\u` escapes that are no pair of surrogates.
+    /// - `EofParsingString`, without a position, where the text ends before the closing quote.
+    /// - `EofParsingEscapeSequence`, without a position, where it ends in an escape.
     pub fn string(&mut self) -> Result<CowStr<'de>>
         ensures { TakesString self.old self.new result }
     {
@@ -35,15 +37,17 @@ impl<'de, I: Borrows<'de>> Scanner<I> {
         )
     }
 
-    /// Takes an identifier, as far as it goes, and gives its text, borrowed where it holds no backslash, which then takes no
+    /// Takes an identifier, as far as it goes, and returns its text, borrowed where it has no escape, which then takes no
     /// memory (JSON5 section 3, ECMAScript 5.1 section 7.6). A character must follow it: an identifier ends no text.
     ///
-    /// The fault is
+    /// # Errors
+    ///
     /// - `ExpectedIdentifier` at a character that may not begin one, or at the backslash of an escape whose character may not
-    ///   stand there;
-    /// - `InvalidEscapeSequence` at the character after a backslash that is no `u`, and the faults of `\u` escapes as in
-    ///   `string`;
-    /// - `EofParsingIdentifier` or, in a `\u` escape, `EofParsingEscapeSequence`, without a place, where the text ends.
+    ///   be there.
+    /// - `InvalidEscapeSequence` at the character after a backslash that is no `u`. The faults of `\u` escapes are those of
+    ///   [`string`](Scanner::string).
+    /// - `EofParsingIdentifier`, without a position, where the text ends in it or right after it.
+    /// - `EofParsingEscapeSequence`, without a position, where it ends in a `\u` escape.
     pub fn identifier(&mut self) -> Result<CowStr<'de>>
         ensures { TakesName self.old self.new result }
     {
@@ -99,7 +103,7 @@ impl<I: Input> Scanner<I> {
     }
 }
 
-/// The part of a text between two offsets in bytes; the empty text where they are no places between characters, in order.
+/// The part of a text between two offsets in bytes; the empty text where they are out of order or within a character.
 fn between(text: &str, start: usize, end: usize) -> &str
     ensures { (u : List ℕ) → StandsAt (chars text.now) u start end → result.now ≡ encode_utf8_all u }
 {

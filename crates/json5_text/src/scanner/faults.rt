@@ -14,8 +14,8 @@ use json5_grammar::position::Position;
 use std::fmt::Display;
 
 impl<I: Input> Scanner<I> {
-    /// The position of an offset in bytes, or that of the text's end where no character begins at the offset. Line and column
-    /// count from 0, the column in characters.
+    /// Returns the position of an offset in bytes, or that of the text's end where no character begins at the offset. Line and
+    /// column count from 0, the column in characters.
     pub fn position_of(&self, offset: usize) -> Position
         ensures { Locates self.now.input offset result }
     {
@@ -63,7 +63,7 @@ impl<I: Input> Scanner<I> {
         }
     }
 
-    /// The custom fault with this message at this place; `OutOfMemory` where there is no memory for the message.
+    /// The custom fault with this message at this position; `OutOfMemory` where there is no memory for the message.
     fn custom<D: Display + Drop>(&self, position: Position, message: D) -> Error
         ensures { LacksMemory result ⊎ IsCustomAt (Some position) result }
     {
