@@ -7,6 +7,7 @@ use crate::de::{Deserialize, Deserializer};
 use json5_text::error::Result;
 use json5_text::input::Input;
 
+/// Reads a whole number in the type's range, as `deserialize_u8`. So do the integers below, each by its call.
 impl<I: Input> Deserialize<I> for u8 {
     ghost use Rattle.std.specs.Prelude.{ℕ, ◌^◌};
     ghost use Rattle.json5_de.specs.Convert.{unsigned_below};

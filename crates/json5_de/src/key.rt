@@ -1,4 +1,4 @@
-//! Keys of objects: the law of a type that is read from one, and the reading.
+//! Keys of objects: the law of a type that is read from one, and the reading (JSON5 section 3).
 
 ghost use Rattle.std.specs.Prelude.{◌≡◌, ◌^◌, string_bytes, IfOk, IfErr};
 ghost use Rattle.json5_text.specs.Bytes.{bytes_of};

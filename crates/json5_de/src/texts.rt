@@ -51,7 +51,16 @@ impl<I: Input> Deserializer<I> {
         self.string_owned()
     }
 
-    /// Reads a text of one character; another one is a custom fault at the quote. A text without an escape takes no memory.
+    /// Reads a string of exactly one character (JSON5 section 5). A string without an escape takes no memory.
+    ///
+    /// ```text
+    /// de.deserialize_char()?    // é of `'é'` and of `'\xE9'`; `''` and `'ab'` are custom faults at the opening quote
+    /// ```
+    ///
+    /// # Errors
+    ///
+    /// - A custom fault at the opening quote where the string has no character or several.
+    /// - The codes of every call that reads a string: see [`Deserializer`].
     pub fn deserialize_char(&mut self) -> Result<char>
         ensures { ReadsAs char_row (λ c. c) self.old self.new result }
     {

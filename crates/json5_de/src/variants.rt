@@ -22,14 +22,18 @@ pub(crate) fn place_among(names: &[&str], name: &str) -> Option<usize>
 }
 
 impl<I: Input> Deserializer<I> {
-    /// Reads a text that is one of the variants, and returns its first place among them, counted from 0. Another text is a custom
-    /// fault at the quote, which names the variants; what is no text is refused as by `deserialize_string`. A text without an escape
-    /// takes no memory.
+    /// Reads a string that is one of the variants, and returns its index among them, counted from 0; of equal names it is the
+    /// first. A string without an escape takes no memory.
     ///
     /// ```text
     /// let levels = ["low", "middle", "high"];
     /// let level = de.deserialize_variant(&levels)?;    // 2 for 'high'
     /// ```
+    ///
+    /// # Errors
+    ///
+    /// - A custom fault that lists the variants, at the opening quote of any other string.
+    /// - The codes of every call that reads a string: see [`Deserializer`].
     pub fn deserialize_variant(&mut self, variants: &[&str]) -> Result<usize>
         ensures { ReadsAs (variant_row (spelled variants.now)) (λ n. n) self.old self.new result }
     {

@@ -53,8 +53,8 @@ mod faults;
 /// Takes tokens from the front of a text. A call that succeeds takes its token; a call that is refused takes nothing, and may
 /// be followed by any other. No call passes over blanks but `skip_blank`.
 ///
-/// Memory is taken for a finite decimal, for a string or a name with an escape, for the text of `string_owned`, and for a
-/// custom fault. `skip_string`, `skip_identifier` and `skip_number` take it for a custom fault alone.
+/// Memory is taken for a decimal of more than 19 digits, for a string or a name with an escape, for the text of `string_owned`, and
+/// for a custom fault. `skip_string`, `skip_identifier` and `skip_number` take it for a custom fault alone.
 ///
 /// ```text
 /// let mut scanner = Scanner::new(alloc, "/* port */ 8080 // end");

@@ -57,8 +57,8 @@ impl<'de, I: Borrows<'de>> Scanner<I> {
         )
     }
 
-    /// The text of a token that this scanner took, borrowed where the token holds no backslash; of another scanner's token as in
-    /// `text_of`.
+    /// Returns the text of a token that this scanner took, borrowed where the token has no escape; of another scanner's token as in
+    /// [`text_of`](Scanner::text_of).
     pub fn borrowed_text_of(&self, token: TextToken) -> CowStr<'de>
         ensures { IsCowOf self.now.input token result }
     {
@@ -82,8 +82,8 @@ impl<'de, I: Borrows<'de>> Scanner<I> {
 }
 
 impl<I: Input> Scanner<I> {
-    /// The text of a token that this scanner took. Of another scanner's token it may be any part of the text that is read, or
-    /// empty where the token's offsets are no places between characters.
+    /// Returns the text of a token that this scanner took. Of another scanner's token it may be any part of the text that is read,
+    /// or empty where no character begins at the token's offsets.
     pub fn text_of<'t>(&'t self, token: &'t TextToken) -> &'t str
         ensures { IsTextOf self.now.input token.now result.now }
     {
