@@ -5,11 +5,18 @@ ghost use Rattle.std.specs.Prelude.{◌+◌, ◌≤ℤ◌, pos, nat_abs, string_
 ghost use Rattle.json5_value.specs.Brackets.{brackets_of};
 ghost use Rattle.json5_de.specs.Convert.{IsUpTo, IsWithin};
 ghost use Rattle.json5_de.specs.Rows.{natural_row, integer_row};
-ghost use Rattle.json5_de.specs.Short.{ReadsShort, StepsShort};
+ghost use Rattle.json5_text.specs.Cows.{cow_bytes, is_borrowed};
+ghost use Rattle.json5_text.specs.ShortTexts.{IsTextAt};
+ghost use Rattle.json5_de.specs.KeyRows.{ReadsKeyAs, plain_key, cow_key, string_key};
+ghost use Rattle.json5_de.specs.Short.{ReadsShort, StepsShort, ReadsShortText, ReadsShortKey, ReadsPlainText, ReadsPlainKey, PassesShortColon, OwnsTextAt};
 
 use crate::de::Deserializer;
-use json5_text::input::Input;
+use json5_text::ErrorCode;
+use json5_text::cow_str::CowStr;
+use json5_text::error::{Error, Result};
+use json5_text::input::{Borrows, Input};
 use json5_text::short::ShortStep;
+use json5_text::short_texts::Span;
 use json5_value::brackets::BracketKind;
 
 impl<I: Input> Deserializer<I> {
@@ -48,5 +55,118 @@ impl<I: Input> Deserializer<I> {
             return ShortStep::Other;
         }
         self.scanner.short_step(kind.brackets().closing as u8, due)
+    }
+
+    /// Reads a text without an escape, and answers where it stands, or nothing.
+    #[inline(always)]
+    pub(crate) fn short_string(&mut self) -> Option<Span>
+        ensures { ReadsShortText self.old self.new result }
+    {
+        if self.failed {
+            return None;
+        }
+        self.scanner.short_string()
+    }
+
+    /// Takes a key without an escape, and answers where its text stands, or nothing.
+    #[inline(always)]
+    pub(crate) fn short_key(&mut self) -> Option<Span>
+        ensures { ReadsShortKey self.old self.new result }
+    {
+        if self.failed {
+            return None;
+        }
+        self.scanner.short_key()
+    }
+
+    /// Takes the colon after a key, and says whether it was there, after ASCII blanks.
+    #[inline(always)]
+    pub(crate) fn short_colon(&mut self) -> bool
+        ensures { PassesShortColon self.old self.new result }
+    {
+        if self.failed {
+            return false;
+        }
+        self.scanner.short_sign(b':')
+    }
+
+    /// The text that stands there.
+    #[inline(always)]
+    fn text_at(&self, span: Span) -> &str
+        ensures { IsTextAt self.now.input span result.now }
+    {
+        self.scanner.text_of_span(span)
+    }
+
+    /// The text that stands there, in memory of its own. Where there is none, it refuses for good.
+    pub(crate) fn own_text(&mut self, span: Span) -> Result<String>
+        ensures { OwnsTextAt span self.old self.new result }
+    {
+        match String::from_str(self.allocator(), self.text_at(span)) {
+            Ok(text) => Ok(text),
+            Err(_) => self.refuse(Error::new(ErrorCode::OutOfMemory)),
+        }
+    }
+
+    /// Reads a key as a text.
+    #[inline(always)]
+    pub(crate) fn key_string(&mut self) -> Result<String>
+        ensures { ReadsKeyAs string_key string_bytes self.old self.new result }
+    {
+        match self.short_key() {
+            Some(span) => self.own_text(span),
+            None => self.key_string_slowly(),
+        }
+    }
+}
+
+// What is borrowed from the text.
+impl<'de, I: Borrows<'de>> Deserializer<I> {
+    /// The text that stands there.
+    #[inline(always)]
+    fn borrowed_text_at(&self, span: Span) -> &'de str
+        ensures { IsTextAt self.now.input span result.now }
+    {
+        self.scanner.borrowed_text_of_span(span)
+    }
+
+    /// Reads a text without an escape, or nothing.
+    #[inline(always)]
+    pub(crate) fn short_str(&mut self) -> Option<&'de str>
+        ensures { ReadsPlainText self.old self.new result }
+    {
+        let span = self.short_string()?;
+        Some(self.borrowed_text_at(span))
+    }
+
+    /// Takes a key without an escape, or nothing.
+    #[inline(always)]
+    fn short_key_str(&mut self) -> Option<&'de str>
+        ensures { ReadsPlainKey self.old self.new result }
+    {
+        let span = self.short_key()?;
+        Some(self.borrowed_text_at(span))
+    }
+
+    /// Reads a key as a text, borrowed where no escape is used.
+    #[inline(always)]
+    pub(crate) fn key_cow(&mut self) -> Result<CowStr<'de>>
+        ensures { ReadsKeyAs cow_key (λ t. (cow_bytes t, is_borrowed t)) self.old self.new result }
+    {
+        match self.short_key_str() {
+            Some(text) => Ok(CowStr::Borrowed(text)),
+            None => self.key_cow_slowly(),
+        }
+    }
+
+    /// Reads a key without an escape.
+    #[inline(always)]
+    pub(crate) fn key_str(&mut self) -> Result<&'de str>
+        ensures { ReadsKeyAs plain_key (λ t. t.now) self.old self.new result }
+    {
+        match self.short_key_str() {
+            Some(text) => Ok(text),
+            None => self.key_str_slowly(),
+        }
     }
 }
