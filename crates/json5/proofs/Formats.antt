@@ -16,7 +16,7 @@ use Rattle.json5_ser.specs.Out.{Out, whole, invalid_key, too_deep, text_of, text
 use Rattle.json5_ser.specs.Pieces.{AppendsFront, Pushes}
 use Rattle.json5_ser.specs.Texts.{IsText, RefusesText, StopsAs}
 use Rattle.json5_ser.specs.ValueTrees.{datum_tree, items_tree, fields_tree}
-use Rattle.json5_ser.specs.Writes.{Seen, Writes, Refusal, by_key, by_depth, by_writer, by_refusal, by_none, refusal_of, RefusesBy, fresh, ended}
+use Rattle.json5_ser.specs.Writes.{SerializerState, Writes, Refusal, by_key, by_depth, by_writer, by_refusal, by_none, refusal_of, RefusesBy, fresh, ended}
 use Rattle.json5_ser.proofs.Depths.{text_document}
 use Rattle.json5_ser.proofs.ReadTrees.{read_written}
 use Rattle.json5_ser.proofs.Unmarked.{tree_again}
@@ -96,7 +96,7 @@ completed limit bytes x t u d (Ok s) a b is w k = subst (λ z. IsText (text_with
 completed limit bytes x t u d (Err e) a b is w k = only_memory limit x t d e a is k
 
 -- a failed write alone refuses it to a writer, which holds a prefix
-front_of_whole : (o : Out) (r : Refusal) (old new : Seen) → o.stop ≡ whole → old.failed ≡ false → RefusesBy o old r new → AppendsFront old.known new.known (encode_utf8_all o.text)
+front_of_whole : (o : Out) (r : Refusal) (old new : SerializerState) → o.stop ≡ whole → old.failed ≡ false → RefusesBy o old r new → AppendsFront old.known new.known (encode_utf8_all o.text)
 front_of_whole o by_key old new w live h = let e : invalid_key ≡ whole = sym h.stop ∙ w in absurd (cc)
 front_of_whole o by_depth old new w live h = let e : too_deep ≡ whole = sym h.stop ∙ w in absurd (cc)
 front_of_whole o by_writer old new w live h = (h.front, h.rest, h.cut, h.bytes)

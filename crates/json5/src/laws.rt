@@ -9,7 +9,7 @@ ghost use Rattle.json5_grammar.specs.Numbers as numbers;
 ghost use Rattle.json5_text.specs.ValueViews.{Datum};
 ghost use Rattle.json5_grammar.specs.Numbers.{InWhole};
 ghost use Rattle.json5_grammar.specs.NumberText.{Normal};
-ghost use Rattle.json5_de.specs.KeyRows.{document_of};
+ghost use Rattle.json5_de.specs.KeyKinds.{document_of};
 ghost use Rattle.json5_de.specs.Convert.{every_datum, unit_of, bool_of, unsigned_below, signed_below, decimal_of, text_of, plain_of, char_of, every_text, one_character};
 ghost use Rattle.json5_de.specs.ConvertLists.{option_of};
 ghost use Rattle.json5_ser.specs.WrittenTrees.{null, boolean, number, text, natural, integer, natural_key, integer_key};

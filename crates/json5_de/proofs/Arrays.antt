@@ -23,7 +23,7 @@ use Rattle.json5_grammar.specs.Positions.{position_after}
 use Rattle.std.proofs.lemmas.List.{append-nil}
 use Rattle.json5_de.specs.State.{State, cursor_of, OnlyRead}
 use Rattle.json5_de.specs.Law.{TookValue}
-use Rattle.json5_de.specs.Steps.{PassedGap, TookText}
+use Rattle.json5_de.specs.ReaderSteps.{PassedGap, TookText}
 use Rattle.json5_value.specs.declared.brackets.Brackets.{Brackets}
 use Rattle.json5_de.specs.Brackets.{AreSigns}
 use Rattle.json5_value.specs.Brackets.{square}

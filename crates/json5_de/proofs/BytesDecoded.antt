@@ -12,7 +12,7 @@ use Rattle.json5_text.specs.declared.error.Error.{Error}
 use Rattle.json5_text.specs.Errors.{LacksMemory}
 use Rattle.json5_de.specs.declared.found_text.FoundText.{FoundText}
 use Rattle.json5_de.specs.State.{State, GivesUp}
-use Rattle.json5_de.specs.Steps.{IsMismatchOf, IsUndecoded}
+use Rattle.json5_de.specs.ReaderSteps.{IsMismatchOf, IsUndecoded}
 use Rattle.json5_de.specs.Convert.{digits_bytes}
 use Rattle.json5_de.specs.FoundTexts.{SpellsText, OfFound, Judges}
 

@@ -11,7 +11,7 @@ use Rattle.json5_text.specs.Cursor.{IsPlaced, Refused}
 use Rattle.json5_text.specs.Tokens.{FaultyBlanks}
 use Rattle.json5_de.specs.State.{State, cursor_of}
 use Rattle.json5_de.specs.Faults.{AtEnd, Trailing, trailing, RefusedBy}
-use Rattle.json5_de.specs.Steps.{PassedGap}
+use Rattle.json5_de.specs.ReaderSteps.{PassedGap}
 use Rattle.json5_de.proofs.Expected.{no_end_fault}
 use Rattle.json5_de.proofs.Taken.{refused_token}
 

@@ -28,14 +28,14 @@ use Rattle.json5_de.specs.Law.{StaysFailed, IsUnprompted}
 use Rattle.json5_de.specs.ConvertLists.{if_some}
 use Rattle.json5_de.specs.Faults.{AfterBlanks, in_blanks, after_gap, RefusedBy, RefusedByOrMemory}
 use Rattle.json5_de.specs.Keys.{TookKey, KeyConversion, GivesKey, CompletesKey, OneKeyAnswer, ReadsOneKey, every_key}
-use Rattle.json5_de.specs.KeyRows.{KeyFault, KeyRow, NotKey, no_key, other_key, ReadsKeyAs, not_converted, coded_text_key, text_key, document_key, document_of, NotDocument, some_of}
+use Rattle.json5_de.specs.KeyKinds.{KeyFault, KeyKind, NotKey, no_key, other_key, ReadsKeyAs, not_converted, coded_text_key, text_key, document_key, document_of, NotDocument, some_of}
 use Rattle.json5_de.specs.FoundTexts.{TookKeyAt, Judges, OfFound}
 use Rattle.json5_de.specs.KeySteps.{IsTextFault, no_memory, at_key, is_out_of_memory}
-use Rattle.json5_de.specs.Rows.{Row, RefusedAs}
-use Rattle.json5_de.specs.Steps.{PassedGap, IsMismatch, IsMismatchOf}
+use Rattle.json5_de.specs.TokenKinds.{Kind, RefusedAs}
+use Rattle.json5_de.specs.ReaderSteps.{PassedGap, IsMismatch, IsMismatchOf}
 use Rattle.json5_de.specs.Texts.{ReadsDocument, RefusesReading}
 use Rattle.json5_value.proofs.OtherCodes.{key_lacks, memory_other}
-use Rattle.json5_de.proofs.Rows.{refused_other, given_up_after}
+use Rattle.json5_de.proofs.TokenKinds.{refused_other, given_up_after}
 use Rattle.json5_de.proofs.Taken.{input_of, refused_token}
 use Rattle.json5_de.proofs.WholeTexts.{converts, is_document, IsRefusedText, refused_text}
 
@@ -99,9 +99,9 @@ key_other old e (inl m) live = memory_other e m.kind
 key_other old e (inr k) live = refused_other key_lacks old e k live
 
 -- no key was found
-pub not_found : {V C : Type 0} (row : KeyRow C) (content : V → C) (old new : State) (e : Error) → RefusedByOrMemory FaultyKey old e → CompletesKey {V = FoundText} every_key old (Err e) → GivesUp old new → StaysFailed {V = FoundText} old new (Err e)
-    → ReadsKeyAs row content old new (Err e)
-not_found row content old new e k complete failed before = record {
+pub not_found : {V C : Type 0} (kind : KeyKind C) (content : V → C) (old new : State) (e : Error) → RefusedByOrMemory FaultyKey old e → CompletesKey {V = FoundText} every_key old (Err e) → GivesUp old new → StaysFailed {V = FoundText} old new (Err e)
+    → ReadsKeyAs kind content old new (Err e)
+not_found kind content old new e k complete failed before = record {
   sound = tt;
   complete = λ u plain r c live reads is. complete u plain r tt live reads refl;
   refused = no_key_there old e k;
@@ -112,9 +112,9 @@ not_found row content old new e k complete failed before = record {
 }
 
 -- a key was found, and refused
-refuses_found : {V C : Type 0} (row : KeyRow C) (content : V → C) (old new last : State) (key : FoundText) (e : Error) → (k : TookKeyAt old new key) → (row.convert k.text k.plain ≡ None) ⊎ IsOutOfMemory e → RefusedByOrMemory (NotKey row.IsFault) old e → IsUnprompted e → GivesUp new last
-    → ReadsKeyAs row content old last (Err e)
-refuses_found {C = C} row content old new last key e k not refused other gives_up = let failed = given_up_after old k.between new last k.spelling k.passed k.took gives_up in record {
+refuses_found : {V C : Type 0} (kind : KeyKind C) (content : V → C) (old new last : State) (key : FoundText) (e : Error) → (k : TookKeyAt old new key) → (kind.convert k.text k.plain ≡ None) ⊎ IsOutOfMemory e → RefusedByOrMemory (NotKey kind.IsFault) old e → IsUnprompted e → GivesUp new last
+    → ReadsKeyAs kind content old last (Err e)
+refuses_found {C = C} kind content old new last key e k not refused other gives_up = let failed = given_up_after old k.between new last k.spelling k.passed k.took gives_up in record {
   sound = tt;
   complete = completes not;
   refused = refused;
@@ -124,10 +124,10 @@ refuses_found {C = C} row content old new last key e k not refused other gives_u
   before = λ h. true_false h k.passed.live;
 }
   where
-    completes : (row.convert k.text k.plain ≡ None) ⊎ IsOutOfMemory e → (u : List ℕ) (plain : Bool) (r : List ℕ) (c : C) → old.failed ≡ false → ReadsKey old.unread u plain r → row.convert u plain ≡ Some c → IsOutOfMemory e
+    completes : (kind.convert k.text k.plain ≡ None) ⊎ IsOutOfMemory e → (u : List ℕ) (plain : Bool) (r : List ℕ) (c : C) → old.failed ≡ false → ReadsKey old.unread u plain r → kind.convert u plain ≡ Some c → IsOutOfMemory e
     completes (inl none) u plain r c live reads is =
         let (text, mark) = the_key old new key u plain r k reads in
-        absurd (none_some (row.convert u plain) c (subst (λ z. row.convert u z ≡ None) mark (subst (λ z. row.convert z k.plain ≡ None) text none)) is)
+        absurd (none_some (kind.convert u plain) c (subst (λ z. kind.convert u z ≡ None) mark (subst (λ z. kind.convert z k.plain ≡ None) text none)) is)
     completes (inr m) u plain r c live reads is = m
 
 -- a fault of its text, at the key
@@ -142,8 +142,8 @@ refused_key {IsFault = IsFault} old new key e reason k fault says placed = refus
 })
 
 -- memory ran out
-pub key_lacks_memory : {V C : Type 0} (row : KeyRow C) (content : V → C) (old new last : State) (key : FoundText) (e : Error) → TookKeyAt old new key → LacksMemory e → GivesUp new last → ReadsKeyAs row content old last (Err e)
-key_lacks_memory row content old new last key e k m failed = refuses_found row content old new last key e k (inr m.kind) (inl m) (memory_other e m.kind) failed
+pub key_lacks_memory : {V C : Type 0} (kind : KeyKind C) (content : V → C) (old new last : State) (key : FoundText) (e : Error) → TookKeyAt old new key → LacksMemory e → GivesUp new last → ReadsKeyAs kind content old last (Err e)
+key_lacks_memory kind content old new last key e k m failed = refuses_found kind content old new last key e k (inr m.kind) (inl m) (memory_other e m.kind) failed
 
 -- ---- texts
 
@@ -188,28 +188,28 @@ key_characters old new key bytes k same = ap chars same ∙ chars-encodes k.text
 -- ---- documents
 
 -- the text is a document that converts
-pub key_is_document : {V C : Type 0} (row : Row C) (content : V → C) (old new : State) (key : FoundText) (v : V) (x : List ℕ) → (k : TookKeyAt old new key) → x ≡ k.text → ((t : Tree) × Doc max_depth x t × (row.convert t ≡ Some (content v)))
-    → ReadsKeyAs (document_key row) content old new (Ok v)
-key_is_document row content old new key v x k same (t, doc, is) =
-    key_ok content (document_of row.convert) _ old new v (k.text, k.plain, took_key old new key k, converts row.convert k.text k.plain t (content v) (subst (λ z. Doc max_depth z t) same doc) is)
+pub key_is_document : {V C : Type 0} (kind : Kind C) (content : V → C) (old new : State) (key : FoundText) (v : V) (x : List ℕ) → (k : TookKeyAt old new key) → x ≡ k.text → ((t : Tree) × Doc max_depth x t × (kind.convert t ≡ Some (content v)))
+    → ReadsKeyAs (document_key kind) content old new (Ok v)
+key_is_document kind content old new key v x k same (t, doc, is) =
+    key_ok content (document_of kind.convert) _ old new v (k.text, k.plain, took_key old new key k, converts kind.convert k.text k.plain t (content v) (subst (λ z. Doc max_depth z t) same doc) is)
 
 -- it isn't
-pub key_no_document : {V C : Type 0} (row : Row C) (content : V → C) (old new last : State) (key : FoundText) (x : List ℕ) (own e : Error) → (k : TookKeyAt old new key) → x ≡ k.text → ReadsDocument content row.convert max_depth x (Err own)
-    → RefusesReading row.convert (RefusedAs row) max_depth x own → IsUnprompted own → IsTextFault new.input key.start own e → GivesUp new last → ReadsKeyAs (document_key row) content old last (Err e)
-key_no_document {C = C} row content old new last key x own e k same complete refuses other fault failed = let gives_up = given_up_after old k.between new last k.spelling k.passed k.took failed in record {
+pub key_no_document : {V C : Type 0} (kind : Kind C) (content : V → C) (old new last : State) (key : FoundText) (x : List ℕ) (own e : Error) → (k : TookKeyAt old new key) → x ≡ k.text → ReadsDocument content kind.convert max_depth x (Err own)
+    → RefusesReading kind.convert (RefusedAs kind) max_depth x own → IsUnprompted own → IsTextFault new.input key.start own e → GivesUp new last → ReadsKeyAs (document_key kind) content old last (Err e)
+key_no_document {C = C} kind content old new last key x own e k same complete refuses other fault failed = let gives_up = given_up_after old k.between new last k.spelling k.passed k.took failed in record {
   sound = tt;
   complete = λ u plain r c live reads is. lacks fault (completes u plain r c reads is);
-  refused = refused fault (refused_text row k.text k.plain own (subst (λ z. RefusesReading row.convert (RefusedAs row) max_depth z own) same refuses));
+  refused = refused fault (refused_text kind k.text k.plain own (subst (λ z. RefusesReading kind.convert (RefusedAs kind) max_depth z own) same refuses));
   unprompted = λ live. not_failed fault;
   same_text = gives_up.same_text;
   failed = gives_up.failed;
   before = λ h. true_false h k.passed.live;
 }
   where
-    completes : (u : List ℕ) (plain : Bool) (r : List ℕ) (c : C) → ReadsKey old.unread u plain r → document_of row.convert u plain ≡ Some c → IsOutOfMemory own
+    completes : (u : List ℕ) (plain : Bool) (r : List ℕ) (c : C) → ReadsKey old.unread u plain r → document_of kind.convert u plain ≡ Some c → IsOutOfMemory own
     completes u plain r c reads is =
         let (text, mark) = the_key old new key u plain r k reads in
-        let (t, doc, found) = is_document row.convert u plain c is in
+        let (t, doc, found) = is_document kind.convert u plain c is in
         complete t c (subst (λ z. Doc max_depth z t) (sym (same ∙ text)) doc) found
 
     lacks : IsTextFault new.input key.start own e → IsOutOfMemory own → IsOutOfMemory e
@@ -224,7 +224,7 @@ key_no_document {C = C} row content old new last key x own e k same complete ref
     same_words None kind (words, is) = (words, kind ∙ is)
     same_words (Some c) kind is = kind ∙ is
 
-    refused : IsTextFault new.input key.start own e → IsRefusedText row k.text k.plain own → RefusedByOrMemory (NotKey (NotDocument row)) old e
+    refused : IsTextFault new.input key.start own e → IsRefusedText kind k.text k.plain own → RefusedByOrMemory (NotKey (NotDocument kind)) old e
     refused (no_memory is memory) why = inl memory
     refused (at_key none there is says) (inl m) = absurd (false≢true (sym none ∙ ap is_out_of_memory m.kind))
     refused (at_key none there is says) (inr (reason, why, words)) =

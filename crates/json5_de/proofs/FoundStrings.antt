@@ -16,11 +16,11 @@ use Rattle.json5_de.specs.Convert.{as_text, every_text, one_character}
 use Rattle.json5_de.specs.Faults.{AfterBlanks, in_blanks, after_gap, RefusedByOrMemory, NotText, faulty_text}
 use Rattle.json5_de.specs.FoundTexts.{TookStringAt, SpellsText, OfFound, Judges}
 use Rattle.json5_de.specs.Law.{CompletesFree, StaysFailed}
-use Rattle.json5_de.specs.Rows.{ReadsAs, coded_text_row, plain_text}
-use Rattle.json5_de.specs.Steps.{PassedGap}
-use Rattle.json5_de.specs.Takes.{CompletesPlain}
+use Rattle.json5_de.specs.TokenKinds.{ReadsAs, coded_text_kind, plain_text}
+use Rattle.json5_de.specs.ReaderSteps.{PassedGap}
+use Rattle.json5_de.specs.TokenCalls.{CompletesPlain}
 use Rattle.json5_de.proofs.ExpectsTexts.{text_stops}
-use Rattle.json5_de.proofs.Rows.{plain_completes, lawful_coded, reads_ok, reads_err, refuses_memory, not_coded}
+use Rattle.json5_de.proofs.TokenKinds.{plain_completes, lawful_coded, reads_ok, reads_err, refuses_memory, not_coded}
 use Rattle.json5_de.proofs.Taken.{took_leaf}
 use Rattle.json5_de.proofs.TextScalars.{same_character}
 
@@ -46,29 +46,29 @@ pub plain_found : (old mid : State) (e : Error) → PassedGap old mid → Comple
 plain_found old mid e p ok = plain_completes {V = FoundText} (as_text every_text) old mid (Err e) p ok
 
 -- no string was found
-pub no_string : {V C : Type 0} (other : Option ErrorCode) → other ≢ Some codes.Failed → (f : List ℕ → Bool → Option C) (free : Tree → Bool) (content : V → C) (old new : State) (e : Error) → ((t : Tree) → free t ≡ true → plain_text t ≡ true)
-    → RefusedByOrMemory FaultyString old e → CompletesFree {V = FoundText} plain_text (as_text every_text) old (Err e) → GivesUp old new → StaysFailed {V = FoundText} old new (Err e) → ReadsAs (coded_text_row other f free) content old new (Err e)
-no_string other unlike f free content old new e only k complete failed before =
-    reads_err (lawful_coded other unlike f free) content old new e
+pub no_string : {V C : Type 0} (other : Option ErrorCode) → other ≢ Some codes.Failed → (f : List ℕ → Bool → Option C) (allocation_free : Tree → Bool) (content : V → C) (old new : State) (e : Error) → ((t : Tree) → allocation_free t ≡ true → plain_text t ≡ true)
+    → RefusedByOrMemory FaultyString old e → CompletesFree {V = FoundText} plain_text (as_text every_text) old (Err e) → GivesUp old new → StaysFailed {V = FoundText} old new (Err e) → ReadsAs (coded_text_kind other f allocation_free) content old new (Err e)
+no_string other unlike f allocation_free content old new e only k complete failed before =
+    reads_err (lawful_coded other unlike f allocation_free) content old new e
     (λ t r c live reads shallow is spare. let plain = only t spare in let (v, there) = plain_is_text t plain in complete t r v live reads shallow there plain)
     (no_text other f old e k)
     failed
     before
 
 -- the text is looked at where it stands
-pub string_judged : {V C : Type 0} (lacks : Bool) (other : Option ErrorCode) → other ≢ Some codes.Failed → (f : List ℕ → Bool → Option C) (free : Tree → Bool) (content : V → C) (old new last : State) (found : FoundText) (result : Result V Error)
-    → (lacks ≡ true → (t : Tree) → free t ≡ false) → TookStringAt old new found → Judges lacks other f content found new last result → ReadsAs (coded_text_row other f free) content old last result
-string_judged lacks other unlike f free content old new last found (Ok v) spare k j =
-    subst (λ s. ReadsAs (coded_text_row other f free) content old s (Ok v)) (sym j.kept) (reads_ok (coded_text_row other f free) content old new v (
+pub string_judged : {V C : Type 0} (lacks : Bool) (other : Option ErrorCode) → other ≢ Some codes.Failed → (f : List ℕ → Bool → Option C) (allocation_free : Tree → Bool) (content : V → C) (old new last : State) (found : FoundText) (result : Result V Error)
+    → (lacks ≡ true → (t : Tree) → allocation_free t ≡ false) → TookStringAt old new found → Judges lacks other f content found new last result → ReadsAs (coded_text_kind other f allocation_free) content old last result
+string_judged lacks other unlike f allocation_free content old new last found (Ok v) spare k j =
+    subst (λ s. ReadsAs (coded_text_kind other f allocation_free) content old s (Ok v)) (sym j.kept) (reads_ok (coded_text_kind other f allocation_free) content old new v (
       text k.text k.plain,
       took_leaf old k.between new k.spelling (text k.text k.plain) refl k.passed k.took (is_text k.is_spelling) (text_stops new.unread k.is_spelling),
       j.converts k.text k.plain k.is_text k.scalars,
     ))
-string_judged {V = V} {C = C} lacks other unlike f free content old new last found (Err e) spare k j = by_cause j.other
+string_judged {V = V} {C = C} lacks other unlike f allocation_free content old new last found (Err e) spare k j = by_cause j.other
   where
-    by_cause : ((lacks ≡ true) × LacksMemory e) ⊎ OfFound new found (λ u plain. f u plain ≡ None) → ReadsAs (coded_text_row other f free) content old last (Err e)
-    by_cause (inl (may, memory)) = refuses_memory (lawful_coded other unlike f free) refl (spare may) content old k.between new last e k.spelling k.passed k.took memory j.failed
-    by_cause (inr none) = not_coded other unlike f free content old k.between new last (Err e) found.start k.spelling k.text k.plain k.passed k.took k.is_spelling (none k.text k.plain k.is_text k.scalars) k.counted j.refused j.failed
+    by_cause : ((lacks ≡ true) × LacksMemory e) ⊎ OfFound new found (λ u plain. f u plain ≡ None) → ReadsAs (coded_text_kind other f allocation_free) content old last (Err e)
+    by_cause (inl (may, memory)) = refuses_memory (lawful_coded other unlike f allocation_free) refl (spare may) content old k.between new last e k.spelling k.passed k.took memory j.failed
+    by_cause (inr none) = not_coded other unlike f allocation_free content old k.between new last (Err e) found.start k.spelling k.text k.plain k.passed k.took k.is_spelling (none k.text k.plain k.is_text k.scalars) k.counted j.refused j.failed
 
 -- ---- texts of one character
 

@@ -20,21 +20,21 @@ use Rattle.json5_value.specs.Brackets.{curly}
 use Rattle.json5_de.specs.Law.{TookValue, Completes, Gives}
 use Rattle.json5_de.specs.Access.{Opened, AtClose}
 use Rattle.json5_de.specs.Keys.{KeyConversion}
-use Rattle.json5_de.specs.Objects.{SeenMap, PairsRead, PairsLeft, ReadsAKey, ReadsAPair, LeavesAValue, LeavesPairs, LeftAfter, OpensMap, ClosesMap}
+use Rattle.json5_de.specs.Objects.{MapAccessState, PairsRead, PairsLeft, ReadsAKey, ReadsAPair, LeavesAValue, LeavesPairs, LeftAfter, OpensMap, ClosesMap}
 use Rattle.json5_de.specs.ObjectFaults.{KeyRefusedAtBrace, ValueRefusedAtBrace}
 use Rattle.json5_de.specs.Maps.{pair_content, pairs_of}
 use Rattle.json5_de.specs.MapFaults.{Sides, WithinMap, MapFault, RefusesMap, at_key, at_value}
 use Rattle.json5_de.proofs.Loops.{handed_on}
 
 -- pairs that convert are left
-pub record LeftPairs {C D : Type 0} (keys : KeyConversion C) (values : Tree → Option D) (r : List ℕ) (now : SeenMap) : Type 0 where
+pub record LeftPairs {C D : Type 0} (keys : KeyConversion C) (values : Tree → Option D) (r : List ℕ) (now : MapAccessState) : Type 0 where
   pub pairs : Pairs
   pub contents : List (C × D)
   pub are : pair_contents keys values pairs ≡ Some contents
   pub left : PairsLeft pairs r now
 
 -- an object in the midst of its pairs, perhaps after a key: the list stands for the pairs that were read, and where all of it converts the others are left
-pub record ReadingPairs {K V C D : Type 0} (key : K → C) (value : V → D) (keys : KeyConversion C) (values : Tree → Option D) (old : State) (ps : List (K × V)) (waits : Option (List ℕ × Bool)) (now : SeenMap) : Type 0 where
+pub record ReadingPairs {K V C D : Type 0} (key : K → C) (value : V → D) (keys : KeyConversion C) (values : Tree → Option D) (old : State) (ps : List (K × V)) (waits : Option (List ℕ × Bool)) (now : MapAccessState) : Type 0 where
   pub first : State
   pub opened : Opened curly old first
   pub start : (before : List ℕ) → old.input ≡ before ++ left_brace ∷ first.unread → now.at.start ≡ length (encode_utf8_all before)
@@ -44,15 +44,15 @@ pub record ReadingPairs {K V C D : Type 0} (key : K → C) (value : V → D) (ke
   pub left : (all : Pairs) (r : List ℕ) (cs : List (C × D)) → pair_contents keys values all ≡ Some cs → old.failed ≡ false → Reads old.unread (object all) r → old.level + depth (object all) ≤ max_depth → LeftPairs keys values r now
 
 -- the same after a key was read, which stands for k
-abbrev pub AfterKey : {K V C D : Type 0} → (K → C) → (V → D) → KeyConversion C → (Tree → Option D) → State → List (K × V) → K → SeenMap → Type 0
+abbrev pub AfterKey : {K V C D : Type 0} → (K → C) → (V → D) → KeyConversion C → (Tree → Option D) → State → List (K × V) → K → MapAccessState → Type 0
 AfterKey key value keys values old ps k now = (u : List ℕ) × (plain : Bool) × (keys u plain ≡ Some (key k)) × ReadingPairs key value keys values old ps (Some (u, plain)) now
 
 module _ {K V C D : Type 0} (key : K → C) (value : V → D) (keys : KeyConversion C) (values : Tree → Option D) where
-  key_left : (k : K) (all : Pairs) (cs : List (C × D)) (r : List ℕ) (new : SeenMap) → pair_contents keys values all ≡ Some cs → LeavesAValue key keys all r new (Ok (Some k)) → LeftPairs keys values r new
+  key_left : (k : K) (all : Pairs) (cs : List (C × D)) (r : List ℕ) (new : MapAccessState) → pair_contents keys values all ≡ Some cs → LeavesAValue key keys all r new (Ok (Some k)) → LeftPairs keys values r new
   key_left k no_pair cs r new are left = absurd left
   key_left k (pair u plain t all) cs r new are (is, left) = record { pairs = pair u plain t all; contents = cs; are = are; left = left }
 
-  value_left : (v : V) (all : Pairs) (cs : List (C × D)) (r : List ℕ) (s new : SeenMap) → pair_contents keys values all ≡ Some cs → s.pending ≡ true → PairsLeft all r s
+  value_left : (v : V) (all : Pairs) (cs : List (C × D)) (r : List ℕ) (s new : MapAccessState) → pair_contents keys values all ≡ Some cs → s.pending ≡ true → PairsLeft all r s
       → ((u : List ℕ) (plain : Bool) (t : Tree) (others : Pairs) → PairsLeft (pair u plain t others) r s → LeavesPairs value values t others r new (Ok v)) → LeftPairs keys values r new
   value_left v no_pair cs r s new are waits left fewer = absurd (subst (λ b. LeftAfter b no_pair s.at.due s.at.reader.unread r) waits left.tail)
   value_left v (pair u plain t all) cs r s new are waits left fewer =
@@ -61,9 +61,9 @@ module _ {K V C D : Type 0} (key : K → C) (value : V → D) (keys : KeyConvers
 
 module _ {K V C D : Type 0} (key : K → C) (value : V → D) (keys : KeyConversion C) (values : Tree → Option D) {old : State} where
   -- it begins, with no pair
-  pub begins : {A : Type 0} {Held : A → Type 0} (seen : A → SeenMap) (a : A) → OpensMap Held seen old (Ok a) → ReadingPairs key value keys values old [] None (seen a)
-  begins seen a opens = record {
-    first = (seen a).at.reader;
+  pub begins : {A : Type 0} {Held : A → Type 0} (state_of : A → MapAccessState) (a : A) → OpensMap Held state_of old (Ok a) → ReadingPairs key value keys values old [] None (state_of a)
+  begins state_of a opens = record {
+    first = (state_of a).at.reader;
     opened = opens.bracket.opened.0;
     start = opens.bracket.start;
     pairs = no_pair;
@@ -73,7 +73,7 @@ module _ {K V C D : Type 0} (key : K → C) (value : V → D) (keys : KeyConvers
   }
 
   -- a key was read
-  pub reads_key : {ps : List (K × V)} {s new : SeenMap} (k : K) → ReadingPairs key value keys values old ps None s → new.at.start ≡ s.at.start → ReadsAKey key keys s new (Some k)
+  pub reads_key : {ps : List (K × V)} {s new : MapAccessState} (k : K) → ReadingPairs key value keys values old ps None s → new.at.start ≡ s.at.start → ReadsAKey key keys s new (Some k)
       → ((all : Pairs) (r : List ℕ) → PairsLeft all r s → LeavesAValue key keys all r new (Ok (Some k))) → AfterKey key value keys values old ps k new
   reads_key {new = new} k m start (u, plain, is, on) fewer = (
     u,
@@ -91,8 +91,8 @@ module _ {K V C D : Type 0} (key : K → C) (value : V → D) (keys : KeyConvers
   )
 
   -- and its value
-  pub reads_value : {ps qs : List (K × V)} {s new : SeenMap} (k : K) (v : V) → AfterKey key value keys values old ps k s → qs ≡ ps ++ (k, v) ∷ [] → new.at.start ≡ s.at.start
-      → ReadsAPair value values s new v → ((w : List ℕ) (free : Bool) (t : Tree) (others : Pairs) (r : List ℕ) → PairsLeft (pair w free t others) r s → LeavesPairs value values t others r new (Ok v)) → ReadingPairs key value keys values old qs None new
+  pub reads_value : {ps qs : List (K × V)} {s new : MapAccessState} (k : K) (v : V) → AfterKey key value keys values old ps k s → qs ≡ ps ++ (k, v) ∷ [] → new.at.start ≡ s.at.start
+      → ReadsAPair value values s new v → ((w : List ℕ) (allocation_free : Bool) (t : Tree) (others : Pairs) (r : List ℕ) → PairsLeft (pair w allocation_free t others) r s → LeavesPairs value values t others r new (Ok v)) → ReadingPairs key value keys values old qs None new
   reads_value {ps = ps} {s = s} {new = new} k v (u, plain, is, m) e start (t, stands, on) fewer = record {
     first = m.first;
     opened = m.opened;
@@ -101,11 +101,11 @@ module _ {K V C D : Type 0} (key : K → C) (value : V → D) (keys : KeyConvers
     are = let all = ap (λ xs. map (pair_content key value) xs) e ∙ map-append (pair_content key value) ps ((k, v) ∷ []) in
         rw all (pair_contents_snoc keys values m.pairs u plain t (map (pair_content key value) ps) (key k) (value v) m.are is stands);
     read = on old m.pairs u plain m.read;
-    left = λ all r cs are live reads shallow. let w = m.left all r cs are live reads shallow in value_left key value keys values v w.pairs w.contents r s new w.are m.read.pending w.left (λ w free t others. fewer w free t others r);
+    left = λ all r cs are live reads shallow. let w = m.left all r cs are live reads shallow in value_left key value keys values v w.pairs w.contents r s new w.are m.read.pending w.left (λ w allocation_free t others. fewer w allocation_free t others r);
   }
 
   -- it stops, and the brace was taken: what was read is the whole object
-  pub stops : {ps : List (K × V)} {s now : SeenMap} {last end : State} → ReadingPairs key value keys values old ps None s → end ≡ last → ReadsAKey key keys s now None
+  pub stops : {ps : List (K × V)} {s now : MapAccessState} {last end : State} → ReadingPairs key value keys values old ps None s → end ≡ last → ReadsAKey key keys s now None
       → ((from : State) (all : Pairs) → PairsRead from all None now → TookValue from (object all) last) → Gives (map (pair_content key value)) (pairs_of keys values) old end ps
   stops m same on ends = (object m.pairs, subst (λ n. TookValue old (object m.pairs) n) (sym same) (ends old m.pairs (on old m.pairs m.read)), m.are)
 
@@ -119,7 +119,7 @@ module _ {U C D : Type 0} (keys : KeyConversion C) (values : Tree → Option D) 
       let (all, same, are) = object_only (pair_contents keys values) t c is in
       k all r c are live (subst (λ u. Reads old.unread u r) same reads) (subst (λ u. old.level + depth u ≤ max_depth) same shallow))
 
-module _ {K V C D : Type 0} (key : K → C) (value : V → D) (keys : KeyConversion C) (values : Tree → Option D) (r : List ℕ) (new : SeenMap) where
+module _ {K V C D : Type 0} (key : K → C) (value : V → D) (keys : KeyConversion C) (values : Tree → Option D) (r : List ℕ) (new : MapAccessState) where
   key_refused : (e : Error) (all : Pairs) (cs : List (C × D)) → pair_contents keys values all ≡ Some cs → LeavesAValue key keys all r new (Err e) → IsOutOfMemory e
   key_refused e no_pair cs are left = absurd left
   key_refused e (pair u plain t all) cs are left = let (k, v, is_key, is_value) = pair_contents_at keys values no_pair all u plain t cs are in left k is_key
@@ -129,12 +129,12 @@ module _ {K V C D : Type 0} (key : K → C) (value : V → D) (keys : KeyConvers
   no_pair_left (pair u plain t all) left = absurd left
 
 module _ {C D : Type 0} (keys : KeyConversion C) (values : Tree → Option D) (r : List ℕ) where
-  value_refused : (e : Error) (all : Pairs) (cs : List (C × D)) (s : SeenMap) → pair_contents keys values all ≡ Some cs → s.pending ≡ true → PairsLeft all r s
+  value_refused : (e : Error) (all : Pairs) (cs : List (C × D)) (s : MapAccessState) → pair_contents keys values all ≡ Some cs → s.pending ≡ true → PairsLeft all r s
       → ((u : List ℕ) (plain : Bool) (t : Tree) (others : Pairs) → PairsLeft (pair u plain t others) r s → (d : D) → values t ≡ Some d → IsOutOfMemory e) → IsOutOfMemory e
   value_refused e no_pair cs s are waits left fewer = absurd (subst (λ b. LeftAfter b no_pair s.at.due s.at.reader.unread r) waits left.tail)
   value_refused e (pair u plain t all) cs s are waits left fewer = let (k, v, is_key, is_value) = pair_contents_at keys values no_pair all u plain t cs are in fewer u plain t all left v is_value
 
-module _ {U K V C D : Type 0} {key : K → C} {value : V → D} {keys : KeyConversion C} {values : Tree → Option D} {old : State} {ps : List (K × V)} {s new : SeenMap} (e : Error) (result : Result U Error) where
+module _ {U K V C D : Type 0} {key : K → C} {value : V → D} {keys : KeyConversion C} {values : Tree → Option D} {old : State} {ps : List (K × V)} {s new : MapAccessState} (e : Error) (result : Result U Error) where
   -- a key was refused
   pub key_completes : IsErrAnd result (λ y. y ≡ e) → ReadingPairs key value keys values old ps None s → ((all : Pairs) (r : List ℕ) → PairsLeft all r s → LeavesAValue key keys all r new (Err e)) → Completes (pairs_of keys values) old result
   key_completes is_err m fewer = completes_as keys values old e result is_err (λ all r cs are live reads shallow.
@@ -148,28 +148,28 @@ module _ {U K V C D : Type 0} {key : K → C} {value : V → D} {keys : KeyConve
       let w = m.left all r cs are live reads shallow in
       absurd (false≢true (ends r (no_pair_left key value keys values r new w.pairs (fewer w.pairs r w.left)))))
 
-module _ {U K V C D : Type 0} {key : K → C} {value : V → D} {keys : KeyConversion C} {values : Tree → Option D} {old : State} {ps : List (K × V)} {s : SeenMap} (e : Error) (result : Result U Error) where
+module _ {U K V C D : Type 0} {key : K → C} {value : V → D} {keys : KeyConversion C} {values : Tree → Option D} {old : State} {ps : List (K × V)} {s : MapAccessState} (e : Error) (result : Result U Error) where
   -- a value was refused
   pub value_completes : (k : K) → IsErrAnd result (λ y. y ≡ e) → AfterKey key value keys values old ps k s
-      → ((w : List ℕ) (free : Bool) (t : Tree) (others : Pairs) (r : List ℕ) → PairsLeft (pair w free t others) r s → (d : D) → values t ≡ Some d → IsOutOfMemory e) → Completes (pairs_of keys values) old result
+      → ((w : List ℕ) (allocation_free : Bool) (t : Tree) (others : Pairs) (r : List ℕ) → PairsLeft (pair w allocation_free t others) r s → (d : D) → values t ≡ Some d → IsOutOfMemory e) → Completes (pairs_of keys values) old result
   value_completes k is_err (u, plain, is, m) fewer = completes_as keys values old e result is_err (λ all r cs are live reads shallow.
       let w = m.left all r cs are live reads shallow in
       value_refused keys values r e w.pairs w.contents s w.are m.read.pending w.left (λ u plain t others. fewer u plain t others r))
 
 -- ---- where it is refused
 
-within : {K V C D : Type 0} {key : K → C} {value : V → D} {keys : KeyConversion C} {values : Tree → Option D} {old : State} {ps : List (K × V)} {waits : Option (List ℕ × Bool)} {s : SeenMap} → ReadingPairs key value keys values old ps waits s
+within : {K V C D : Type 0} {key : K → C} {value : V → D} {keys : KeyConversion C} {values : Tree → Option D} {old : State} {ps : List (K × V)} {waits : Option (List ℕ × Bool)} {s : MapAccessState} → ReadingPairs key value keys values old ps waits s
     → WithinMap keys values old waits s
 within {key = key} {value = value} {ps = ps} m = record { first = m.first; opened = m.opened; start = m.start; pairs = m.pairs; contents = map (pair_content key value) ps; are = m.are; read = m.read }
 
 -- an access within an object hasn't failed
-live : {C D : Type 0} {keys : KeyConversion C} {values : Tree → Option D} {old : State} {waits : Option (List ℕ × Bool)} {s : SeenMap} → WithinMap keys values old waits s → s.at.reader.failed ≡ false
+live : {C D : Type 0} {keys : KeyConversion C} {values : Tree → Option D} {old : State} {waits : Option (List ℕ × Bool)} {s : MapAccessState} → WithinMap keys values old waits s → s.at.reader.failed ≡ false
 live w = ap (λ (s : State). s.failed) w.read.rest ∙ w.read.live
 
 refuses_map : {C D : Type 0} (sides : Sides C D) (old : State) (e : Error) (new : State) → old.failed ≡ false → new.failed ≡ true → MapFault sides old e → RefusesMap sides old e new
 refuses_map sides old e new live failed fault = record { cause = λ l. fault; failed = failed; before = λ h. absurd (true_false h live) }
 
-module _ {U K V C D : Type 0} {key : K → C} {value : V → D} (sides : Sides C D) {old : State} {ps : List (K × V)} {s : SeenMap} (e : Error) (result : Result U Error) (new : State) where
+module _ {U K V C D : Type 0} {key : K → C} {value : V → D} (sides : Sides C D) {old : State} {ps : List (K × V)} {s : MapAccessState} (e : Error) (result : Result U Error) (new : State) where
   -- a key was refused
   pub key_faults : IsErrAnd result (λ y. y ≡ e) → ReadingPairs key value sides.keys sides.values old ps None s → (s.at.reader.failed ≡ false → KeyRefusedAtBrace sides.refuses_key s e) → new.failed ≡ true → IfErr result (λ y. RefusesMap sides old y new)
   key_faults is_err m fault failed = handed_on (λ r. IfErr r (λ y. RefusesMap sides old y new)) e result is_err (refuses_map sides old e new m.opened.live failed (at_key s (within m) (fault (live (within m)))))
@@ -181,7 +181,7 @@ module _ {U K V C D : Type 0} {key : K → C} {value : V → D} (sides : Sides C
       handed_on (λ r. IfErr r (λ y. RefusesMap sides old y new)) e result is_err (refuses_map sides old e new m.opened.live failed (at_value s u plain (key k) is (within m) (fault (live (within m)))))
 
 -- where its brace is next it is closed
-pub closes_there : (old now : SeenMap) (new : State) (e : Error) → AtClose curly old.at.due old.at.reader now.at.reader → ClosesMap now new (Err e) → {A : Type 0} → A
+pub closes_there : (old now : MapAccessState) (new : State) (e : Error) → AtClose curly old.at.due old.at.reader now.at.reader → ClosesMap now new (Err e) → {A : Type 0} → A
 closes_there old now new e at closes =
     let (r, close, next) = at.close in
     let live = ap (λ (s : State). s.failed) at.rest ∙ at.live in

@@ -20,7 +20,7 @@ pub mod WholeDecimals
 pub mod WithoutMemory
 pub mod ArrayCodes
 pub mod OtherCodes
-pub mod Rows
+pub mod TokenKinds
 pub mod ShortReads
 pub mod OpenClose
 pub mod Next
@@ -29,7 +29,7 @@ pub mod Calls
 pub mod Required
 pub mod ListFaults
 pub mod Loops
-pub mod Own
+pub mod Refinement
 pub mod TreeFaults
 pub mod TreesRead
 pub mod TreeCodes

@@ -15,13 +15,13 @@ use Rattle.json5_text.specs.declared.error.Error.{Error}
 use Rattle.json5_text.specs.Cursor.{IsOutOfMemory}
 use Rattle.json5_de.specs.State.{State}
 use Rattle.json5_de.specs.Law.{TookValue, Completes}
-use Rattle.json5_de.specs.Access.{Seen, Opened, OpensArray, ClosesArray, ElementsRead, ElementsLeft, ReadsMore, LeavesFewer}
+use Rattle.json5_de.specs.Access.{AccessState, Opened, OpensArray, ClosesArray, ElementsRead, ElementsLeft, ReadsMore, LeavesFewer}
 use Rattle.json5_de.specs.Seq.{RefusedAtBracket}
 use Rattle.json5_de.specs.Lists.{element, every, count, Within, any_number, array_of_size, at_element, too_many, LeavesRequired, RefusesRequired, RefusesList}
 use Rattle.json5_de.proofs.ListFaults.{every_accepted, count_values, refuses_list, required_fault, reading}
 
 -- elements that convert are left, of so many in all where so many were read
-pub record ManyLeft {C : Type 0} (f : Tree → Option C) (r : List ℕ) (all read : ℕ) (now : Seen) : Type 0 where
+pub record ManyLeft {C : Type 0} (f : Tree → Option C) (r : List ℕ) (all read : ℕ) (now : AccessState) : Type 0 where
   pub trees : Trees
   pub values : List C
   pub are : contents f trees ≡ Some values
@@ -29,7 +29,7 @@ pub record ManyLeft {C : Type 0} (f : Tree → Option C) (r : List ℕ) (all rea
   pub counted : read + length values ≡ all
 
 -- an array in the midst of its elements: the values stand for those that were read, and where all of it converts the others are left
-pub record Reading {V C : Type 0} (content : V → C) (f : Tree → Option C) (old : State) (vs : List V) (now : Seen) : Type 0 where
+pub record Reading {V C : Type 0} (content : V → C) (f : Tree → Option C) (old : State) (vs : List V) (now : AccessState) : Type 0 where
   pub first : State
   pub opened : Opened square old first
   pub start : (before : List ℕ) → old.input ≡ before ++ left_bracket ∷ first.unread → now.start ≡ length (encode_utf8_all before)
@@ -41,9 +41,9 @@ pub record Reading {V C : Type 0} (content : V → C) (f : Tree → Option C) (o
 -- ---- the loop's steps
 
 -- it begins, with no value
-pub begins : {A V C : Type 0} {Held : A → Type 0} (content : V → C) (f : Tree → Option C) {old : State} {vs : List V} (seen : A → Seen) (a : A) → OpensArray Held seen old (Ok a) → vs ≡ [] → Reading content f old vs (seen a)
-begins content f seen a opens e = record {
-  first = (seen a).reader;
+pub begins : {A V C : Type 0} {Held : A → Type 0} (content : V → C) (f : Tree → Option C) {old : State} {vs : List V} (state_of : A → AccessState) (a : A) → OpensArray Held state_of old (Ok a) → vs ≡ [] → Reading content f old vs (state_of a)
+begins content f state_of a opens e = record {
+  first = (state_of a).reader;
   opened = opens.bracket.opened.0;
   start = opens.bracket.start;
   trees = no_more;
@@ -52,7 +52,7 @@ begins content f seen a opens e = record {
   left = λ ts r cs are live reads shallow. let none = ap length e in record { trees = ts; values = cs; are = are; left = opens.left ts r live reads shallow; counted = omega (arith, none) };
 }
 
-one_less : {V C : Type 0} (content : V → C) (f : Tree → Option C) (ts : Trees) (r : List ℕ) (all done more_done : ℕ) (new : Seen) (v : V) (cs : List C) → contents f ts ≡ Some cs → done + length cs ≡ all → more_done ≡ done + 1
+one_less : {V C : Type 0} (content : V → C) (f : Tree → Option C) (ts : Trees) (r : List ℕ) (all done more_done : ℕ) (new : AccessState) (v : V) (cs : List C) → contents f ts ≡ Some cs → done + length cs ≡ all → more_done ≡ done + 1
     → LeavesFewer content f ts r new (Ok (Some v)) → ManyLeft f r all more_done new
 one_less content f no_more r all done more_done new v cs are counted one fewer = absurd fewer
 one_less content f (more t ts) r all done more_done new v cs are counted one (is, left) =
@@ -61,7 +61,7 @@ one_less content f (more t ts) r all done more_done new v cs are counted one (is
     record { trees = ts; values = rest; are = others; left = left; counted = omega (arith, length_is, counted, one) }
 
 -- one value more, which may be kept in another form than it was read
-pub steps : {V W C : Type 0} (content : V → C) (given : W → C) {f : Tree → Option C} {old : State} {vs ws : List V} {s new : Seen} (v : V) (w : W) → given w ≡ content v → Reading content f old vs s → ws ≡ vs ++ v ∷ [] → new.start ≡ s.start
+pub steps : {V W C : Type 0} (content : V → C) (given : W → C) {f : Tree → Option C} {old : State} {vs ws : List V} {s new : AccessState} (v : V) (w : W) → given w ≡ content v → Reading content f old vs s → ws ≡ vs ++ v ∷ [] → new.start ≡ s.start
     → ReadsMore given f s new (Some w) → ((ts : Trees) (r : List ℕ) → ElementsLeft ts r s → LeavesFewer given f ts r new (Ok (Some w))) → Reading content f old ws new
 steps content given {f = f} {old = old} {vs = vs} {ws = ws} {new = new} v w same m e start (t, is, on) fewer = record {
   first = m.first;
@@ -77,7 +77,7 @@ steps content given {f = f} {old = old} {vs = vs} {ws = ws} {new = new} v w same
 }
 
 -- it stops, and the bracket was taken: what was read is the whole array
-pub stops : {V C D : Type 0} {content : V → C} {f : Tree → Option C} {g : Trees → Option D} {d : D} {old last end : State} {vs : List V} {now : Seen} → Reading content f old vs now → end ≡ last
+pub stops : {V C D : Type 0} {content : V → C} {f : Tree → Option C} {g : Trees → Option D} {d : D} {old last end : State} {vs : List V} {now : AccessState} → Reading content f old vs now → end ≡ last
     → ((ts : Trees) → ElementsRead old ts now → TookValue old (array ts) last) → ((ts : Trees) → contents f ts ≡ Some (map content vs) → g ts ≡ Some d) → (t : Tree) × TookValue old t end × (array_of g t ≡ Some d)
 stops {old = old} m same ends whole = (array m.trees, subst (λ n. TookValue old (array m.trees) n) (sym same) (ends m.trees m.read), whole m.trees m.are)
 
@@ -87,19 +87,19 @@ is_array : {C : Type 0} (g : Trees → Option C) (s : State) (t : Tree) (r : Lis
     → (ts : Trees) × (g ts ≡ Some v) × Reads s.unread (array ts) r × (s.level + depth (array ts) ≤ max_depth)
 is_array g s t r v reads shallow converts = grind arith
 
-next_refused : {V C : Type 0} (content : V → C) (f : Tree → Option C) (ts : Trees) (r : List ℕ) (new : Seen) (e : Error) (cs : List C) → contents f ts ≡ Some cs → LeavesFewer content f ts r new (Err e) → IsOutOfMemory e
+next_refused : {V C : Type 0} (content : V → C) (f : Tree → Option C) (ts : Trees) (r : List ℕ) (new : AccessState) (e : Error) (cs : List C) → contents f ts ≡ Some cs → LeavesFewer content f ts r new (Err e) → IsOutOfMemory e
 next_refused content f no_more r new e cs are fewer = absurd fewer
 next_refused content f (more t ts) r new e cs are fewer = let (c, rest, is, others, k) = both_parts (f t) (contents f ts) cs are in fewer c is
 
-required_refused : {V C : Type 0} (content : V → C) (f : Tree → Option C) (ts : Trees) (r : List ℕ) (new : Seen) (e : Error) (cs : List C) → contents f ts ≡ Some cs → 0 < length cs → LeavesRequired content f ts r new (Err e) → IsOutOfMemory e
+required_refused : {V C : Type 0} (content : V → C) (f : Tree → Option C) (ts : Trees) (r : List ℕ) (new : AccessState) (e : Error) (cs : List C) → contents f ts ≡ Some cs → 0 < length cs → LeavesRequired content f ts r new (Err e) → IsOutOfMemory e
 required_refused content f no_more r new e cs are some fewer = let none : [] ≡ cs = cc in let zero = ap length none in absurd (omega (arith, some, zero))
 required_refused content f (more t ts) r new e cs are some fewer = let (c, rest, is, others, k) = both_parts (f t) (contents f ts) cs are in fewer c is
 
-none_left : {V C : Type 0} (content : V → C) (f : Tree → Option C) (ts : Trees) (r : List ℕ) (new : Seen) → LeavesFewer content f ts r new (Ok None) → ElementsLeft no_more r new
+none_left : {V C : Type 0} (content : V → C) (f : Tree → Option C) (ts : Trees) (r : List ℕ) (new : AccessState) → LeavesFewer content f ts r new (Ok None) → ElementsLeft no_more r new
 none_left content f no_more r new left = left
 none_left content f (more t ts) r new left = absurd left
 
-all_taken : {C : Type 0} (f : Tree → Option C) (ts : Trees) (r : List ℕ) (s : Seen) (cs : List C) → contents f ts ≡ Some cs → length cs ≡ 0 → ElementsLeft ts r s → ElementsLeft no_more r s
+all_taken : {C : Type 0} (f : Tree → Option C) (ts : Trees) (r : List ℕ) (s : AccessState) (cs : List C) → contents f ts ≡ Some cs → length cs ≡ 0 → ElementsLeft ts r s → ElementsLeft no_more r s
 all_taken f no_more r s cs are none left = left
 all_taken f (more t ts) r s cs are none left =
     let (c, rest, is, others, k) = both_parts (f t) (contents f ts) cs are in
@@ -127,7 +127,7 @@ completes_as : {V C : Type 0} (convert : Tree → Option C) (old : State) (e : E
     → ((t : Tree) (r : List ℕ) (c : C) → old.failed ≡ false → Reads old.unread t r → old.level + depth t ≤ max_depth → convert t ≡ Some c → IsOutOfMemory e) → Completes convert old result
 completes_as convert old e result is k = handed_on (λ r. Completes convert old r) e result is k
 
-module _ {U V W C D : Type 0} {content : V → C} (given : W → C) {f : Tree → Option C} (g : Trees → Option D) {vs : List V} {old : State} {now new : Seen} (e : Error) (result : Result U Error) where
+module _ {U V W C D : Type 0} {content : V → C} (given : W → C) {f : Tree → Option C} (g : Trees → Option D) {vs : List V} {old : State} {now new : AccessState} (e : Error) (result : Result U Error) where
   -- an element was refused
   pub next_completes : IsErrAnd result (λ y. y ≡ e) → HasContents f g → Reading content f old vs now → ((ts : Trees) (r : List ℕ) → ElementsLeft ts r now → LeavesFewer given f ts r new (Err e)) → Completes (array_of g) old result
   next_completes is_err parts m fewer = completes_as (array_of g) old e result is_err (λ t r d live reads shallow converts.
@@ -155,7 +155,7 @@ module _ {U V W C D : Type 0} {content : V → C} (given : W → C) {f : Tree �
       absurd (false≢true (ends r (none_left given f w.trees r new (fewer w.trees r w.left)))))
 
 -- one more was read than there may be, and is refused
-pub past_completes : {V C D : Type 0} {content : V → C} {f : Tree → Option C} (g : Trees → Option D) {vs : List V} {old : State} {now : Seen} (e : Error) (n : ℕ) → HasAtMost f g n → n < length vs → Reading content f old vs now → Completes {V = Unit {0}} (array_of g) old (Err e)
+pub past_completes : {V C D : Type 0} {content : V → C} {f : Tree → Option C} (g : Trees → Option D) {vs : List V} {old : State} {now : AccessState} (e : Error) (n : ℕ) → HasAtMost f g n → n < length vs → Reading content f old vs now → Completes {V = Unit {0}} (array_of g) old (Err e)
 past_completes g {old = old} e n parts past m t r d live reads shallow converts =
     let (ts, is, list, deep) = is_array g old t r d reads shallow converts in
     let (cs, are, few) = parts ts d is in
@@ -163,7 +163,7 @@ past_completes g {old = old} e n parts past m t r d live reads shallow converts 
     let counted = w.counted in
     absurd (omega (arith, past, few, counted))
 
-module _ {U V C D : Type 0} {content : V → C} {f : Tree → Option C} (g : Trees → Option D) {vs : List V} {old : State} {now : Seen} (e : Error) (result : Result U Error) where
+module _ {U V C D : Type 0} {content : V → C} {f : Tree → Option C} (g : Trees → Option D) {vs : List V} {old : State} {now : AccessState} (e : Error) (result : Result U Error) where
   -- the bracket was refused where all elements were read
   pub last_completes : IsErrAnd result (λ y. y ≡ e) → (n : ℕ) → HasSoMany f g n → length vs ≡ n → Reading content f old vs now → ((r : List ℕ) → ElementsLeft no_more r now → IsOk {T = Unit {0}} {E = Error} (Err e)) → Completes (array_of g) old result
   last_completes is_err n parts all m ends = completes_as (array_of g) old e result is_err (λ t r d live reads shallow converts.
@@ -175,7 +175,7 @@ module _ {U V C D : Type 0} {content : V → C} {f : Tree → Option C} (g : Tre
 
 -- ---- where it is refused
 
-in_loop : {V C : Type 0} {content : V → C} {f : Tree → Option C} (refuses : State → Error → State → Type 0) {old : State} {vs : List V} {now : Seen} → Reading content f old vs now → Within (every (element f refuses)) old now (length vs)
+in_loop : {V C : Type 0} {content : V → C} {f : Tree → Option C} (refuses : State → Error → State → Type 0) {old : State} {vs : List V} {now : AccessState} → Reading content f old vs now → Within (every (element f refuses)) old now (length vs)
 in_loop {content = content} {f = f} refuses {vs = vs} m = record {
   first = m.first;
   opened = m.opened;
@@ -186,7 +186,7 @@ in_loop {content = content} {f = f} refuses {vs = vs} m = record {
   accepted = every_accepted f refuses m.trees (map content vs) m.are;
 }
 
-module _ {U V C : Type 0} {content : V → C} {f : Tree → Option C} (refuses : State → Error → State → Type 0) {old : State} {vs : List V} {now : Seen} (e : Error) (result : Result U Error) where
+module _ {U V C : Type 0} {content : V → C} {f : Tree → Option C} (refuses : State → Error → State → Type 0) {old : State} {vs : List V} {now : AccessState} (e : Error) (result : Result U Error) where
   -- an element was refused
   pub next_faults : (new : State) → IsErrAnd result (λ y. y ≡ e) → Reading content f old vs now → (now.reader.failed ≡ false → RefusedAtBracket refuses now e) → new.failed ≡ true → IfErr result (λ y. RefusesList (every (element f refuses)) any_number old y new)
   next_faults new is_err m fault failed = handed_on (λ r. IfErr r (λ y. RefusesList (every (element f refuses)) any_number old y new)) e result is_err

@@ -10,9 +10,9 @@ use Rattle.json5_de.specs.State.{State, SameText}
 use Rattle.json5_de.specs.Keys.{KeyConversion}
 use Rattle.json5_de.specs.Law.{Steady}
 use Rattle.json5_de.specs.Access.{bare, CompletesClose, PlacedAtBracket}
-use Rattle.json5_de.specs.Objects.{SeenMap, bare_map, GivesPairKey, GivesPairValue, CompletesPairKey, CompletesPairValue}
+use Rattle.json5_de.specs.Objects.{MapAccessState, bare_map, GivesPairKey, GivesPairValue, CompletesPairKey, CompletesPairValue}
 use Rattle.json5_de.specs.ObjectFaults.{RefusesPairKey, RefusesPairValue}
-use Rattle.json5_de.specs.Lending.{seen_map, blocking_map, SettlesMap, KeepsMap, ReadsNextKey, ReadsNextValue}
+use Rattle.json5_de.specs.Lending.{map_state_of, blocking_map, SettlesMap, KeepsMap, ReadsNextKey, ReadsNextValue}
 use Rattle.json5_de.specs.Stages.{is_comma_due, is_pending, with_key}
 use Rattle.json5_de.specs.declared.map.MapAccess.{MapAccess}
 use Rattle.json5_de.specs.declared.stage.Stage.{Stage}
@@ -31,41 +31,41 @@ given_on (Ok w) v s = (sym s.given, s.blocks)
 given_on (Err own) v s = absurd s.refused
 
 -- what was refused is refused at the brace
-pub refused_on : {I V : Type 0} {mid new : MapAccess I} (read : Result V Error) (e : Error) → SettlesMap mid read new (Err e) → (own : Error) × (read ≡ Err own) × PlacedAtBracket (seen_map mid).at own e × (new ≡ blocking_map mid true)
+pub refused_on : {I V : Type 0} {mid new : MapAccess I} (read : Result V Error) (e : Error) → SettlesMap mid read new (Err e) → (own : Error) × (read ≡ Err own) × PlacedAtBracket (map_state_of mid).at own e × (new ≡ blocking_map mid true)
 refused_on (Ok w) e s = let no : Err e ≡ Ok w = s.given in absurd (cc)
 refused_on (Err own) e s = (own, refl, s.refused, s.blocks)
 
-kept : {I : Type 0} (old : MapAccess I) (after : State) (stage : Stage) (failed : Bool) → SameText (seen_map old).at.reader after → KeepsMap old (record (blocking_map (lent old after) failed) { stage = stage })
+kept : {I : Type 0} (old : MapAccess I) (after : State) (stage : Stage) (failed : Bool) → SameText (map_state_of old).at.reader after → KeepsMap old (record (blocking_map (lent old after) failed) { stage = stage })
 kept old after stage failed same = record { same_reference = refl; blocks = refl; start = refl; same_text = same }
 
 module _ {I K C : Type 0} (content : K → C) (convert : KeyConversion C) (refuses : State → Error → State → Type 0) (old : MapAccess I) (no_key : is_pending old.stage ≡ false) where
-  shorter : (new : SeenMap) (o : Option K) → GivesPairKey content convert (seen_map old) new o → IfSome o (λ k. length new.at.reader.unread < length (seen_map old).at.reader.unread)
-  shorter new (Some k) (u, plain, took, is, due, pending) = key_shorter (is_comma_due old.stage) (seen_map old).at.reader.unread new.at.reader.unread u plain took.key
+  shorter : (new : MapAccessState) (o : Option K) → GivesPairKey content convert (map_state_of old) new o → IfSome o (λ k. length new.at.reader.unread < length (map_state_of old).at.reader.unread)
+  shorter new (Some k) (u, plain, took, is, due, pending) = key_shorter (is_comma_due old.stage) (map_state_of old).at.reader.unread new.at.reader.unread u plain took.key
   shorter new None gives = tt
 
   -- a key was read, or the brace is next
-  pub key_given : (after : State) (new : MapAccess I) (some : Bool) (o : Option K) → new ≡ blocking_map (lent old after) old.failed → some ≡ is_some o → SameText (seen_map old).at.reader after
-      → GivesPairKey content convert (bare_map (seen_map old).at.reader (is_comma_due old.stage) false) (bare_map after (is_comma_due old.stage) (is_some o)) o → ReadsNextKey content convert refuses old (record new { stage = with_key new.stage some }) (Ok o)
+  pub key_given : (after : State) (new : MapAccess I) (some : Bool) (o : Option K) → new ≡ blocking_map (lent old after) old.failed → some ≡ is_some o → SameText (map_state_of old).at.reader after
+      → GivesPairKey content convert (bare_map (map_state_of old).at.reader (is_comma_due old.stage) false) (bare_map after (is_comma_due old.stage) (is_some o)) o → ReadsNextKey content convert refuses old (record new { stage = with_key new.stage some }) (Ok o)
   key_given after new some o same is text inner =
       let last = record (blocking_map (lent old after) old.failed) { stage = with_key old.stage some } in
       let pending = key_after_key old.stage some no_key ∙ is in
-      let gives = gives_key_seen content convert (seen_map old) (seen_map last) (seen_map old).at.reader after o refl refl (comma_after_key old.stage some) pending inner in
+      let gives = gives_key_seen content convert (map_state_of old) (map_state_of last) (map_state_of old).at.reader after o refl refl (comma_after_key old.stage some) pending inner in
       subst (λ m. ReadsNextKey content convert refuses old (record m { stage = with_key m.stage some }) (Ok o)) (sym same) (record {
         access = kept old after (with_key old.stage some) old.failed text;
         pending = record { given = pending; kept = tt };
         sound = gives;
-        complete = reads_pair_key content convert (seen_map old) (seen_map last) o gives;
+        complete = reads_pair_key content convert (map_state_of old) (map_state_of last) o gives;
         closing = λ r live close. refl;
-        shorter = shorter (seen_map last) o gives;
-        refused = gives_next_key content convert refuses (seen_map old) (seen_map last) o gives;
-        read = reads_a_key content convert (seen_map old) (seen_map last) o gives;
-        left = leaves_a_value content convert (seen_map old) (seen_map last) (Ok o) no_key gives (λ u plain r k live key is. tt) (λ r live close. refl);
+        shorter = shorter (map_state_of last) o gives;
+        refused = gives_next_key content convert refuses (map_state_of old) (map_state_of last) o gives;
+        read = reads_a_key content convert (map_state_of old) (map_state_of last) o gives;
+        left = leaves_a_value content convert (map_state_of old) (map_state_of last) (Ok o) no_key gives (λ u plain r k live key is. tt) (λ r live close. refl);
       })
 
   -- the call for one was refused
-  pub key_refused : (after : State) (new : MapAccess I) (own e : Error) → new ≡ blocking_map (lent old after) true → PlacedAtBracket (seen_map (lent old after)).at own e → RefusesPairKey refuses (is_comma_due old.stage) (seen_map old).at.reader own after
-      → Steady {V = Option K} (seen_map old).at.reader after (Err own) → CompletesPairKey {V = Option K} convert (bare_map (seen_map old).at.reader (is_comma_due old.stage) false) (Err own)
-      → CompletesClose {V = Option K} curly (bare (seen_map old).at.reader (is_comma_due old.stage)) (Err own) → ReadsNextKey content convert refuses old new (Err e)
+  pub key_refused : (after : State) (new : MapAccess I) (own e : Error) → new ≡ blocking_map (lent old after) true → PlacedAtBracket (map_state_of (lent old after)).at own e → RefusesPairKey refuses (is_comma_due old.stage) (map_state_of old).at.reader own after
+      → Steady {V = Option K} (map_state_of old).at.reader after (Err own) → CompletesPairKey {V = Option K} convert (bare_map (map_state_of old).at.reader (is_comma_due old.stage) false) (Err own)
+      → CompletesClose {V = Option K} curly (bare (map_state_of old).at.reader (is_comma_due old.stage)) (Err own) → ReadsNextKey content convert refuses old new (Err e)
   key_refused after new own e same placed cause steady complete closing =
       let last = blocking_map (lent old after) true in
       let at = subst (λ x. PlacedAt (StartsAfter x old.start) own e) steady.same_text placed in
@@ -76,33 +76,33 @@ module _ {I K C : Type 0} (content : K → C) (convert : KeyConversion C) (refus
         complete = λ u plain r k live key is. placed.kind ∙ complete u plain r k live key is;
         closing = closing;
         shorter = tt;
-        refused = refuses_next_key refuses (seen_map old) (seen_map last).at.reader after own e cause steady.unprompted steady.before at refl;
+        refused = refuses_next_key refuses (map_state_of old) (map_state_of last).at.reader after own e cause steady.unprompted steady.before at refl;
         read = tt;
-        left = leaves_a_value content convert (seen_map old) (seen_map last) (Err e) no_key tt (λ u plain r k live key is. placed.kind ∙ complete u plain r k live key is) closing;
+        left = leaves_a_value content convert (map_state_of old) (map_state_of last) (Err e) no_key tt (λ u plain r k live key is. placed.kind ∙ complete u plain r k live key is) closing;
       })
 
 module _ {I V C : Type 0} (content : V → C) (convert : Tree → Option C) (refuses : State → Error → State → Type 0) (old : MapAccess I) (key : is_pending old.stage ≡ true) where
   -- a value was read
-  pub value_given : (after : State) (new : MapAccess I) (v : V) → new ≡ blocking_map (lent old after) old.failed → SameText (seen_map old).at.reader after
-      → GivesPairValue content convert (bare_map (seen_map old).at.reader false true) (bare_map after true false) v → ReadsNextValue content convert refuses old (record new { stage = stages.Started }) (Ok v)
+  pub value_given : (after : State) (new : MapAccess I) (v : V) → new ≡ blocking_map (lent old after) old.failed → SameText (map_state_of old).at.reader after
+      → GivesPairValue content convert (bare_map (map_state_of old).at.reader false true) (bare_map after true false) v → ReadsNextValue content convert refuses old (record new { stage = stages.Started }) (Ok v)
   value_given after new v same text inner =
       let last = record (blocking_map (lent old after) old.failed) { stage = stages.Started } in
-      let gives = gives_value_seen content convert (seen_map old) (seen_map last) (seen_map old).at.reader after v refl refl refl refl inner in
+      let gives = gives_value_seen content convert (map_state_of old) (map_state_of last) (map_state_of old).at.reader after v refl refl refl refl inner in
       let (t, took, is, due, pending) = gives in
       subst (λ m. ReadsNextValue content convert refuses old (record m { stage = stages.Started }) (Ok v)) (sym same) (record {
         access = kept old after stages.Started old.failed text;
         pending = record { given = refl; kept = tt };
         sound = gives;
-        complete = reads_pair_value content convert (seen_map old) (seen_map last) v gives;
-        shorter = key_value_shorter (seen_map old).at.reader.unread after.unread t took.value;
-        refused = gives_next_value content convert refuses (seen_map old) (seen_map last) v gives;
-        read = reads_a_pair content convert (seen_map old) (seen_map last) v gives;
-        left = leaves_pairs content convert (seen_map old) (seen_map last) (Ok v) key gives (λ u r k live value shallow is. tt);
+        complete = reads_pair_value content convert (map_state_of old) (map_state_of last) v gives;
+        shorter = key_value_shorter (map_state_of old).at.reader.unread after.unread t took.value;
+        refused = gives_next_value content convert refuses (map_state_of old) (map_state_of last) v gives;
+        read = reads_a_pair content convert (map_state_of old) (map_state_of last) v gives;
+        left = leaves_pairs content convert (map_state_of old) (map_state_of last) (Ok v) key gives (λ u r k live value shallow is. tt);
       })
 
   -- the call for it was refused
-  pub value_refused : (after : State) (new : MapAccess I) (own e : Error) → new ≡ blocking_map (lent old after) true → PlacedAtBracket (seen_map (lent old after)).at own e → RefusesPairValue refuses (seen_map old).at.reader own after
-      → Steady {V = V} (seen_map old).at.reader after (Err own) → CompletesPairValue {V = V} convert (bare_map (seen_map old).at.reader false true) (Err own) → ReadsNextValue content convert refuses old new (Err e)
+  pub value_refused : (after : State) (new : MapAccess I) (own e : Error) → new ≡ blocking_map (lent old after) true → PlacedAtBracket (map_state_of (lent old after)).at own e → RefusesPairValue refuses (map_state_of old).at.reader own after
+      → Steady {V = V} (map_state_of old).at.reader after (Err own) → CompletesPairValue {V = V} convert (bare_map (map_state_of old).at.reader false true) (Err own) → ReadsNextValue content convert refuses old new (Err e)
   value_refused after new own e same placed cause steady complete =
       let last = blocking_map (lent old after) true in
       let at = subst (λ x. PlacedAt (StartsAfter x old.start) own e) steady.same_text placed in
@@ -112,7 +112,7 @@ module _ {I V C : Type 0} (content : V → C) (convert : Tree → Option C) (ref
         sound = tt;
         complete = λ t r c live value shallow is. placed.kind ∙ complete t r c live value shallow is;
         shorter = tt;
-        refused = refuses_next_value refuses (seen_map old) (seen_map last).at.reader after own e cause steady.unprompted steady.before at refl;
+        refused = refuses_next_value refuses (map_state_of old) (map_state_of last).at.reader after own e cause steady.unprompted steady.before at refl;
         read = tt;
-        left = leaves_pairs content convert (seen_map old) (seen_map last) (Err e) key tt (λ t r c live value shallow is. placed.kind ∙ complete t r c live value shallow is);
+        left = leaves_pairs content convert (map_state_of old) (map_state_of last) (Err e) key tt (λ t r c live value shallow is. placed.kind ∙ complete t r c live value shallow is);
       })

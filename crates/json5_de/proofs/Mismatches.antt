@@ -12,7 +12,7 @@ use Rattle.json5_text.specs.declared.error.Error.{Error}
 use Rattle.json5_text.specs.Errors.{place_of}
 use Rattle.json5_de.specs.State.{State}
 use Rattle.json5_de.specs.Faults.{RefusedByOrMemory, NotNumber, other_number, NotText, other_text}
-use Rattle.json5_de.specs.Steps.{PassedGap, TookText, IsMismatch, IsMismatchOf}
+use Rattle.json5_de.specs.ReaderSteps.{PassedGap, TookText, IsMismatch, IsMismatchOf}
 use Rattle.json5_de.proofs.Taken.{refused_token, input_of}
 
 -- the offset is that of what is unread

@@ -11,7 +11,7 @@ use Rattle.json5_text.specs.declared.error.Error.{Error}
 use Rattle.json5_text.specs.Errors.{code, kind_of, place_of, or_place}
 use Rattle.json5_de.specs.State.{State, OnlyRead}
 use Rattle.json5_de.specs.Faults.{AtEnd, AtOther, IsUnplaced, IsAfter}
-use Rattle.json5_de.specs.Access.{Seen, bare, Opened, TookElement, AtClose, GivesElement, PlacedAtBracket, IsAtBracket, is_comma_or_closing}
+use Rattle.json5_de.specs.Access.{AccessState, bare, Opened, TookElement, AtClose, GivesElement, PlacedAtBracket, IsAtBracket, is_comma_or_closing}
 use Rattle.json5_value.specs.declared.brackets.Brackets.{Brackets}
 use Rattle.json5_value.specs.Brackets.{square}
 use Rattle.json5_de.specs.Seq.{Cause, RefusesCall, RefusesElement, not_reached, in_element, RefusesNext}
@@ -28,7 +28,7 @@ pub lent_back : (old new : State) → OnlyRead old new → record new { failed =
 lent_back old new rest = ap (λ f. record new { failed = f }) (sym (ap (λ (s : State). s.failed) rest))
 
 -- what the reader gives the access gives
-pub gives_seen : {V C : Type 0} (content : V → C) (convert : Tree → Option C) (old new : Seen) (a b : State) (o : Option V) → a ≡ old.reader → new.reader ≡ record b { failed = old.reader.failed } → new.due ≡ (old.due || is_some o)
+pub gives_seen : {V C : Type 0} (content : V → C) (convert : Tree → Option C) (old new : AccessState) (a b : State) (o : Option V) → a ≡ old.reader → new.reader ≡ record b { failed = old.reader.failed } → new.due ≡ (old.due || is_some o)
     → GivesElement content convert (bare a old.due) (bare b (old.due || is_some o)) o → GivesElement content convert old new o
 gives_seen content convert old new a b (Some v) same lent due (t, took, is_due, is) =
     let rest = subst (λ s. OnlyRead s b) same took.rest in
@@ -39,7 +39,7 @@ gives_seen content convert old new a b None same lent due (at, is_due) =
     let back : b ≡ new.reader = sym (lent ∙ lent_back old.reader b rest) in
     (subst (λ s. AtClose square old.due old.reader s) back (subst (λ s. AtClose square old.due s b) same at), due ∙ is_due)
 
-abbrev seen_from : State → ℕ → Seen
+abbrev seen_from : State → ℕ → AccessState
 seen_from s start = record { reader = s; start = start; due = false }
 
 -- what was opened is blocked, and seen as it was
@@ -58,11 +58,11 @@ place_kept : (own e : Error) (p q : Position) → place_of e ≡ or_place (place
 place_kept own e p q is k = is ∙ ap (λ o. or_place o p) k
 
 -- a fault without a place got the bracket's
-at_bracket : (old : Seen) (own e : Error) → PlacedAtBracket old own e → place_of own ≡ None → IsAtBracket old e
+at_bracket : (old : AccessState) (own e : Error) → PlacedAtBracket old own e → place_of own ≡ None → IsAtBracket old e
 at_bracket old own e p none before starts = p.place ∙ ap (λ o. or_place o p.there) none ∙ ap Some (p.is_there before starts)
 
 -- a call that was answered
-pub answers_call : {V : Type 0} (IsCause : Cause) (asked : Bool) (begins : ℕ → Bool) (ends differs : ErrorCode) (old : Seen) (new : State) (v : V) → (asked ≡ true → AtEnd old.reader → ⊥) → (asked ≡ true → (w : List ℕ) → AtOther begins old.reader w → ⊥)
+pub answers_call : {V : Type 0} (IsCause : Cause) (asked : Bool) (begins : ℕ → Bool) (ends differs : ErrorCode) (old : AccessState) (new : State) (v : V) → (asked ≡ true → AtEnd old.reader → ⊥) → (asked ≡ true → (w : List ℕ) → AtOther begins old.reader w → ⊥)
     → (old.reader.failed ≡ true → ⊥) → RefusesCall IsCause asked begins ends differs old new (Ok v)
 answers_call IsCause asked begins ends differs old new v no_end no_other live = record {
   cause = tt;
@@ -75,7 +75,7 @@ answers_call IsCause asked begins ends differs old new v no_end no_other live = 
 }
 
 -- a call that was refused
-pub refuses_call : {V : Type 0} (IsCause : Cause) (asked : Bool) (begins : ℕ → Bool) (ends differs : ErrorCode) (old : Seen) (new after : State) (own e : Error) → IsCause own after → (asked ≡ true → AtEnd old.reader → IsUnplaced ends own)
+pub refuses_call : {V : Type 0} (IsCause : Cause) (asked : Bool) (begins : ℕ → Bool) (ends differs : ErrorCode) (old : AccessState) (new after : State) (own e : Error) → IsCause own after → (asked ≡ true → AtEnd old.reader → IsUnplaced ends own)
     → (asked ≡ true → (w : List ℕ) → AtOther begins old.reader w → IsAfter differs old.reader w own) → (old.reader.failed ≡ false → kind_of own ≢ code codes.Failed) → (old.reader.failed ≡ true → IsUnplaced codes.Failed own) → PlacedAtBracket old own e
     → new.failed ≡ true → RefusesCall {V = V} IsCause asked begins ends differs old new (Err e)
 refuses_call IsCause asked begins ends differs old new after own e cause at_end at_other other before p failed = record {
@@ -93,24 +93,24 @@ refuses_call IsCause asked begins ends differs old new after own e cause at_end 
 starts_with_comma : (due : Bool) (x r : List ℕ) (t : Tree) → due ≡ true → IsElement due x t r → IsElement true x t r
 starts_with_comma due x r t d e = subst (λ b. IsElement b x t r) d e
 
-end_no_element : {V C : Type 0} (content : V → C) (convert : Tree → Option C) (old new : Seen) (o : Option V) → old.due ≡ true → AtEnd old.reader → GivesElement content convert old new o → ⊥
+end_no_element : {V C : Type 0} (content : V → C) (convert : Tree → Option C) (old new : AccessState) (o : Option V) → old.due ≡ true → AtEnd old.reader → GivesElement content convert old new o → ⊥
 end_no_element content convert old new (Some v) d at (t, took, due, is) = let (z, comma, reads) = starts_with_comma old.due old.reader.unread new.reader.unread t d took.element in end_no_sign 0x2C old.reader z comma_solid at comma
 end_no_element content convert old new None d at (close, due) = end_goes_nowhere square square_signs old.due false old.reader new.reader d at close
 
-other_no_element : {V C : Type 0} (content : V → C) (convert : Tree → Option C) (old new : Seen) (o : Option V) (w : List ℕ) → old.due ≡ true → AtOther (is_comma_or_closing square) old.reader w → GivesElement content convert old new o → ⊥
+other_no_element : {V C : Type 0} (content : V → C) (convert : Tree → Option C) (old new : AccessState) (o : Option V) (w : List ℕ) → old.due ≡ true → AtOther (is_comma_or_closing square) old.reader w → GivesElement content convert old new o → ⊥
 other_no_element content convert old new (Some v) w d at (t, took, due, is) =
     let (z, comma, reads) = starts_with_comma old.due old.reader.unread new.reader.unread t d took.element in other_no_sign 0x2C old.reader w z comma_solid at (or_parts (at.char == 0x2C) (at.char == 0x5D) at.other).0 comma
 other_no_element content convert old new None w d at (close, due) = other_goes_nowhere square square_signs old.due false old.reader new.reader w d at close
 
-gives_live : {V C : Type 0} (content : V → C) (convert : Tree → Option C) (old new : Seen) (o : Option V) → old.reader.failed ≡ true → GivesElement content convert old new o → ⊥
+gives_live : {V C : Type 0} (content : V → C) (convert : Tree → Option C) (old new : AccessState) (o : Option V) → old.reader.failed ≡ true → GivesElement content convert old new o → ⊥
 gives_live content convert old new (Some v) h (t, took, due, is) = true_false h took.live
 gives_live content convert old new None h (close, due) = true_false h close.live
 
-pub gives_next : {V C : Type 0} (content : V → C) (convert : Tree → Option C) (refuses : State → Error → State → Type 0) (old new : Seen) (o : Option V) → GivesElement content convert old new o → RefusesNext refuses old new.reader (Ok o)
+pub gives_next : {V C : Type 0} (content : V → C) (convert : Tree → Option C) (refuses : State → Error → State → Type 0) (old new : AccessState) (o : Option V) → GivesElement content convert old new o → RefusesNext refuses old new.reader (Ok o)
 gives_next content convert refuses old new o gives =
     answers_call _ old.due _ _ _ old new.reader o (λ d at. end_no_element content convert old new o d at gives) (λ d w at. other_no_element content convert old new o w d at gives) (λ h. gives_live content convert old new o h gives)
 
-pub refuses_next : {V : Type 0} (refuses : State → Error → State → Type 0) (old : Seen) (new after : State) (own e : Error) → RefusesElement refuses old.due old.reader own after → (old.reader.failed ≡ false → kind_of own ≢ code codes.Failed)
+pub refuses_next : {V : Type 0} (refuses : State → Error → State → Type 0) (old : AccessState) (new after : State) (own e : Error) → RefusesElement refuses old.due old.reader own after → (old.reader.failed ≡ false → kind_of own ≢ code codes.Failed)
     → (old.reader.failed ≡ true → IsUnplaced codes.Failed own) → PlacedAtBracket old own e → new.failed ≡ true → RefusesNext {V = V} refuses old new (Err e)
 refuses_next refuses old new after own e cause other before p failed =
     refuses_call (RefusesElement refuses old.due old.reader) old.due (is_comma_or_closing square) codes.EofParsingArray codes.ExpectedComma old new after own e cause (λ d at. at_end cause d at) (λ d w o. at_other cause d w o) other before p failed

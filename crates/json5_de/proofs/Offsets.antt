@@ -5,7 +5,7 @@ use Rattle.json5_text.specs.Cursor.{Cursor, IsOffset, offset_of}
 use Rattle.json5_de.specs.State.{State}
 use Rattle.json5_value.specs.Places.{PlacedAt}
 use Rattle.json5_text.specs.declared.error.Error.{Error}
-use Rattle.json5_de.specs.Steps.{IsCount}
+use Rattle.json5_de.specs.ReaderSteps.{IsCount}
 use Rattle.json5_value.proofs.Steps.{counted_before}
 
 offset_before : (s : State) (cursor : Cursor) (offset : ℕ) → cursor.input ≡ s.input → cursor.unread ≡ s.unread → offset ≡ offset_of cursor → (before : List ℕ) × (cursor.input ≡ before ++ cursor.unread)

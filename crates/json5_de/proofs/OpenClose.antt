@@ -9,33 +9,33 @@ use Rattle.json5_de.specs.State.{State}
 use Rattle.json5_de.specs.Faults.{RefusedBy, IsUnplaced}
 use Rattle.json5_value.specs.declared.brackets.Brackets.{Brackets}
 use Rattle.json5_de.specs.Brackets.{AreSigns}
-use Rattle.json5_de.specs.Access.{Seen, Opened, Closed, NotOpened, NotClosed, OpensAs, ClosesAs}
+use Rattle.json5_de.specs.Access.{AccessState, Opened, Closed, NotOpened, NotClosed, OpensAs, ClosesAs}
 use Rattle.json5_de.proofs.Expected.{end_fault, other_fault}
 use Rattle.json5_grammar.specs.Documents.{max_depth}
-use Rattle.json5_de.specs.Steps.{PassedGap, TookText}
+use Rattle.json5_de.specs.ReaderSteps.{PassedGap, TookText}
 use Rattle.json5_de.proofs.Taken.{input_of}
 use Rattle.json5_de.proofs.OtherCodes.{opening_lacks, closing_lacks}
-use Rattle.json5_de.proofs.Rows.{refused_other}
+use Rattle.json5_de.proofs.TokenKinds.{refused_other}
 use Rattle.json5_de.proofs.Arrays.{opening_refused, only_read, level_of, unread_of, sign_next, after_gap_of}
 use Rattle.json5_de.proofs.ArrayCodes.{expects_opening, expects_closing, full_fault, end_no_sign, other_no_sign, end_not_closed, other_not_closed}
 use Rattle.json5_grammar.proofs.Basics.{true_false}
 
-pub opens : {A : Type 0} (b : Brackets) → AreSigns b → (seen : A → Seen) (old : State) (a : A) → Opened b old (seen a).reader → (seen a).due ≡ false
-    → ((before : List ℕ) → old.input ≡ before ++ b.opening ∷ (seen a).reader.unread → (seen a).start ≡ length (encode_utf8_all before)) → OpensAs b seen old (Ok a)
-opens b k seen old a o due start = record {
+pub opens : {A : Type 0} (b : Brackets) → AreSigns b → (state_of : A → AccessState) (old : State) (a : A) → Opened b old (state_of a).reader → (state_of a).due ≡ false
+    → ((before : List ℕ) → old.input ≡ before ++ b.opening ∷ (state_of a).reader.unread → (state_of a).start ≡ length (encode_utf8_all before)) → OpensAs b state_of old (Ok a)
+opens b k state_of old a o due start = record {
   opened = (o, due);
   start = start;
   complete = λ r live sign room. refl;
   refused = tt;
-  ends = λ at. absurd (end_no_sign b.opening old (seen a).reader.unread k.opening at o.bracket);
-  differs = λ w at. absurd (other_no_sign b.opening old w (seen a).reader.unread k.opening at at.other o.bracket);
+  ends = λ at. absurd (end_no_sign b.opening old (state_of a).reader.unread k.opening at o.bracket);
+  differs = λ w at. absurd (other_no_sign b.opening old w (state_of a).reader.unread k.opening at at.other o.bracket);
   too_deep = λ w at. let room = o.room in let full = at.full in absurd (omega (arith, room, full));
   unprompted = tt;
   before = λ h. absurd (true_false h o.live);
 }
 
-pub refuses_opening : {A : Type 0} (b : Brackets) → AreSigns b → (seen : A → Seen) (old : State) (e : Error) → RefusedBy (NotOpened b old.level) old e → (old.failed ≡ true → IsUnplaced codes.Failed e) → OpensAs b seen old (Err e)
-refuses_opening b k seen old e f before = record {
+pub refuses_opening : {A : Type 0} (b : Brackets) → AreSigns b → (state_of : A → AccessState) (old : State) (e : Error) → RefusedBy (NotOpened b old.level) old e → (old.failed ≡ true → IsUnplaced codes.Failed e) → OpensAs b state_of old (Err e)
+refuses_opening b k state_of old e f before = record {
   opened = tt;
   start = tt;
   complete = λ r live sign room. absurd (opening_refused b k old e r f live sign room);
@@ -48,8 +48,8 @@ refuses_opening b k seen old e f before = record {
 }
 
 -- a call that answers as another did
-pub opens_too : {A B : Type 0} (b : Brackets) (seen : A → Seen) (seen_too : B → Seen) (old : State) (e : Error) → OpensAs b seen old (Err e) → OpensAs b seen_too old (Err e)
-opens_too b seen seen_too old e o = record { opened = tt; start = tt; complete = o.complete; refused = o.refused; ends = o.ends; differs = o.differs; too_deep = o.too_deep; unprompted = o.unprompted; before = o.before }
+pub opens_too : {A B : Type 0} (b : Brackets) (state_of : A → AccessState) (seen_too : B → AccessState) (old : State) (e : Error) → OpensAs b state_of old (Err e) → OpensAs b seen_too old (Err e)
+opens_too b state_of seen_too old e o = record { opened = tt; start = tt; complete = o.complete; refused = o.refused; ends = o.ends; differs = o.differs; too_deep = o.too_deep; unprompted = o.unprompted; before = o.before }
 
 pub closes : (b : Brackets) → AreSigns b → (due : Bool) (old new : State) → Closed b due old new → ClosesAs b due old new (Ok tt)
 closes b k due old new c = record {
@@ -73,10 +73,10 @@ refuses_closing b k due old new e f complete before = record {
   before = before;
 }
 
-pub opens_same : {A B : Type 0} (b : Brackets) (see : A → Seen) (seen : B → Seen) (old : State) (a : A) (d : B) → see a ≡ seen d → OpensAs b see old (Ok a) → OpensAs b seen old (Ok d)
-opens_same b see seen old a d same o = record {
+pub opens_same : {A B : Type 0} (b : Brackets) (see : A → AccessState) (state_of : B → AccessState) (old : State) (a : A) (d : B) → see a ≡ state_of d → OpensAs b see old (Ok a) → OpensAs b state_of old (Ok d)
+opens_same b see state_of old a d same o = record {
   opened = subst (λ s. Opened b old s.reader × (s.due ≡ false)) same o.opened;
-  start = subst (λ (s : Seen). (before : List ℕ) → old.input ≡ before ++ b.opening ∷ s.reader.unread → s.start ≡ length (encode_utf8_all before)) same o.start;
+  start = subst (λ (s : AccessState). (before : List ℕ) → old.input ≡ before ++ b.opening ∷ s.reader.unread → s.start ≡ length (encode_utf8_all before)) same o.start;
   complete = λ r live sign room. refl;
   refused = tt;
   ends = o.ends;

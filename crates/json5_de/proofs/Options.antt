@@ -25,13 +25,13 @@ use Rattle.json5_value.specs.Places.{PlacedAt}
 use Rattle.json5_de.specs.Convert.{unit_of}
 use Rattle.json5_de.specs.ConvertLists.{option_of, if_some}
 use Rattle.json5_de.specs.Faults.{AtEnd, RefusedBy, IsUnplaced, FaultyNull}
-use Rattle.json5_de.specs.Steps.{PassedGap}
+use Rattle.json5_de.specs.ReaderSteps.{PassedGap}
 use Rattle.json5_value.specs.Steps.{Unexpected, at_end, at_char}
 use Rattle.json5_de.proofs.Expected.{Expected}
 use Rattle.json5_de.proofs.Arrays.{only_read, level_of}
 use Rattle.json5_de.proofs.Taken.{input_of, refused_token}
 use Rattle.json5_de.proofs.OtherCodes.{option_lacks}
-use Rattle.json5_de.proofs.Rows.{refused_other}
+use Rattle.json5_de.proofs.TokenKinds.{refused_other}
 use Rattle.json5_grammar.proofs.Basics.{first_same, true_false}
 
 pub not_nil : (c : ℕ) (x y : List ℕ) → y ≡ c ∷ x → y ≡ [] → ⊥
@@ -174,17 +174,17 @@ null_there old mid e m p n f = refused_token old mid e p (record {
 
 -- ---- the law of an option
 
-pub option_is_free : (free : Tree → Bool) (t : Tree) → (t ≡ null → ⊥) → option_free free t ≡ true → free t ≡ true
-option_is_free free null n e = absurd (n refl)
-option_is_free free (boolean b) n e = e
-option_is_free free (number k) n e = e
-option_is_free free (text u plain) n e = e
-option_is_free free (array ts) n e = e
-option_is_free free (object ps) n e = e
+pub option_is_free : (allocation_free : Tree → Bool) (t : Tree) → (t ≡ null → ⊥) → option_free allocation_free t ≡ true → allocation_free t ≡ true
+option_is_free allocation_free null n e = absurd (n refl)
+option_is_free allocation_free (boolean b) n e = e
+option_is_free allocation_free (number k) n e = e
+option_is_free allocation_free (text u plain) n e = e
+option_is_free allocation_free (array ts) n e = e
+option_is_free allocation_free (object ps) n e = e
 
-module _ {V C : Type 0} (content : V → C) (convert : Tree → Option C) (free : Tree → Bool) (refuses : State → Error → State → Type 0) where
+module _ {V C : Type 0} (content : V → C) (convert : Tree → Option C) (allocation_free : Tree → Bool) (refuses : State → Error → State → Type 0) where
   abbrev ReadsOption : State → State → Result (Option V) Error → Type 0
-  ReadsOption old new result = ReadsValue (if_some content) (option_of convert) (option_free free) (RefusesOption refuses) old new result
+  ReadsOption old new result = ReadsValue (if_some content) (option_of convert) (option_free allocation_free) (RefusesOption refuses) old new result
 
   pub reads_option : (old new : State) (o : Option V) → Gives (if_some content) (option_of convert) old new o → ReadsOption old new (Ok o)
   reads_option old new o (t, took, is) = record {
@@ -204,7 +204,7 @@ module _ {V C : Type 0} (content : V → C) (convert : Tree → Option C) (free 
   refuses_option old new e f failed before nothing = record {
     sound = tt;
     complete = λ t r c live reads shallow converts. absurd (nothing t r live reads);
-    no_memory = λ t r c live reads shallow converts free. absurd (nothing t r live reads);
+    no_memory = λ t r c live reads shallow converts allocation_free. absurd (nothing t r live reads);
     refused = λ live. inl (f live);
     unprompted = refused_other option_lacks old e f;
     same_text = failed.same_text;
@@ -214,14 +214,14 @@ module _ {V C : Type 0} (content : V → C) (convert : Tree → Option C) (free 
 
   -- T refuses
   pub refuses_some : (old start after new : State) (own e : Error) (c : ℕ) (m : List ℕ) → PassedGap old start → start.unread ≡ c ∷ m → (c == 110) ≡ false → refuses start own after → Completes {V = V} convert start (Err own)
-      → CompletesFree {V = V} free convert start (Err own) → Unprompted {V = V} start (Err own) → SameText start after → new ≡ record after { failed = true }
+      → CompletesFree {V = V} allocation_free convert start (Err own) → Unprompted {V = V} start (Err own) → SameText start after → new ≡ record after { failed = true }
       → PlacedAt (λ before. start.input ≡ before ++ start.unread) own e → ReadsOption old new (Err e)
   refuses_some old start after new own e c m p next no_null cause complete no_memory other same left placed = record {
     sound = tt;
     complete = λ t r v live reads shallow converts. let (k, is) = option_parts convert t v (is_no_null t r reads) converts in placed.kind ∙ complete t r k (at_start live) (there t r reads) (deep t shallow) is;
     no_memory = λ t r v live reads shallow converts is_free.
         let (k, is) = option_parts convert t v (is_no_null t r reads) converts in
-        absurd (false≢true (no_memory t r k (at_start live) (there t r reads) (deep t shallow) is (option_is_free free t (is_no_null t r reads) is_free)));
+        absurd (false≢true (no_memory t r k (at_start live) (there t r reads) (deep t shallow) is (option_is_free allocation_free t (is_no_null t r reads) is_free)));
     refused = λ live. inr (record { start = start; passed = p; char = c; more = m; begins = next; no_null = no_null; own = own; after = after; cause = cause; left = left; placed = placed });
     unprompted = λ live k. other (at_start live) (sym placed.kind ∙ k);
     same_text = input_of left ∙ same ∙ input_of p.rest;

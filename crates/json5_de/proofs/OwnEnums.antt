@@ -12,14 +12,14 @@ use Rattle.json5_text.specs.Cursor.{IsOutOfMemory}
 use Rattle.json5_de.specs.State.{State, SameText}
 use Rattle.json5_de.specs.Law.{Unprompted, Gives, Completes, TookValue, IsUnprompted}
 use Rattle.json5_de.specs.ConvertLists.{if_some, first_of, last_of}
-use Rattle.json5_de.specs.Own.{if_more}
-use Rattle.json5_de.specs.Access.{Seen, ElementsRead, ElementsLeft, ReadsMore, LeavesFewer}
-use Rattle.json5_de.specs.Objects.{SeenMap, PairsLeft}
+use Rattle.json5_de.specs.Refinement.{if_more}
+use Rattle.json5_de.specs.Access.{AccessState, ElementsRead, ElementsLeft, ReadsMore, LeavesFewer}
+use Rattle.json5_de.specs.Objects.{MapAccessState, PairsLeft}
 use Rattle.json5_de.specs.Plans.{Plan, run, ReadsPairs}
-use Rattle.json5_de.specs.Enums.{SeenEnum, NameRead, NamesVariant, ReadsVariant, GivesContent, AfterName, ContentLeft, OpensTuple, OpensStruct, ClosesTuple, ClosesStruct, enum_of, named_variant, content_of}
+use Rattle.json5_de.specs.Enums.{EnumAccessState, NameRead, NamesVariant, ReadsVariant, GivesContent, AfterName, ContentLeft, OpensTuple, OpensStruct, ClosesTuple, ClosesStruct, enum_of, named_variant, content_of}
 use Rattle.json5_de.specs.Variants.{Variant, from_place, FinishesVariant}
 use Rattle.json5_de.proofs.Loops.{handed_on}
-use Rattle.json5_de.proofs.Own.{parts}
+use Rattle.json5_de.proofs.Refinement.{parts}
 
 some_parts : {A B : Type 0} (g : A → B) (o : Option A) (b : B) → if_some g o ≡ Some b → (a : A) × (o ≡ Some a) × (g a ≡ b)
 some_parts g None b e = absurd (cc)
@@ -40,7 +40,7 @@ passed_place {C} n v w vs {k = k} not_it t = by (k == n) (other_place n not_it)
     by false e = refl
 
 -- a content that is read is the same where it converts in the same way
-pub finishes_same : {V C : Type 0} {content : V → C} {f h : Option Tree → Option C} {old : SeenEnum} {new : State} {result : Result V Error} → ((t : Option Tree) → f t ≡ h t) → FinishesVariant content h old new result → FinishesVariant content f old new result
+pub finishes_same : {V C : Type 0} {content : V → C} {f h : Option Tree → Option C} {old : EnumAccessState} {new : State} {result : Result V Error} → ((t : Option Tree) → f t ≡ h t) → FinishesVariant content h old new result → FinishesVariant content f old new result
 finishes_same {V} {C} {content = content} {f = f} {h = h} {old = old} {new = new} {result = result} same done = record {
   read = by result done.read;
   left = λ t r c l is. done.left t r c l (sym (same t) ∙ is);
@@ -53,17 +53,17 @@ finishes_same {V} {C} {content = content} {f = f} {h = h} {old = old} {new = new
     by (Err e) read = tt
 
 -- no variant was named
-pub enum_refused : {A U C : Type 0} (names : List (List ℕ)) (f : ℕ → Option Tree → Option C) (seen : A → SeenEnum) {old : State} (e : Error) (result : Result U Error) → IsErrAnd result (λ y. y ≡ e) → NamesVariant names seen old (Err e) → Completes (enum_of names f) old result
-enum_refused names f seen {old = old} e result is_err named = handed_on (λ r. Completes (enum_of names f) old r) e result is_err (λ t r c live reads shallow is.
+pub enum_refused : {A U C : Type 0} (names : List (List ℕ)) (f : ℕ → Option Tree → Option C) (state_of : A → EnumAccessState) {old : State} (e : Error) (result : Result U Error) → IsErrAnd result (λ y. y ≡ e) → NamesVariant names state_of old (Err e) → Completes (enum_of names f) old result
+enum_refused names f state_of {old = old} e result is_err named = handed_on (λ r. Completes (enum_of names f) old r) e result is_err (λ t r c live reads shallow is.
     let ((k, d), one, rest) = parts (λ (k, d). f k d) (named_variant names t) c is in
     named.left t r k d live reads shallow one)
 
-module _ {A V C : Type 0} (names : List (List ℕ)) (f : ℕ → Option Tree → Option C) (seen : A → SeenEnum) {content : V → C} {old new : State} {a : A} (result : Result V Error) (named : NamesVariant names seen old (Ok a)) (k : ℕ) (at : (seen a).variant ≡ k) (done : FinishesVariant content (f k) (seen a) new result) where
+module _ {A V C : Type 0} (names : List (List ℕ)) (f : ℕ → Option Tree → Option C) (state_of : A → EnumAccessState) {content : V → C} {old new : State} {a : A} (result : Result V Error) (named : NamesVariant names state_of old (Ok a)) (k : ℕ) (at : (state_of a).variant ≡ k) (done : FinishesVariant content (f k) (state_of a) new result) where
   -- the variant at place k was named, and its content was read
   pub enum_read : IfOk result (λ v. Gives content (enum_of names f) old new v)
   enum_read = by result done.read
     where
-      by : (r : Result V Error) → IfOk r (λ v. (ns : List (List ℕ)) (from : State) → NameRead ns from (seen a) → GivesContent content (f k) ns from (seen a).variant new v) → IfOk r (λ v. Gives content (enum_of names f) old new v)
+      by : (r : Result V Error) → IfOk r (λ v. (ns : List (List ℕ)) (from : State) → NameRead ns from (state_of a) → GivesContent content (f k) ns from (state_of a).variant new v) → IfOk r (λ v. Gives content (enum_of names f) old new v)
       by (Ok v) read = let (t, d, took, is, converts) = read names old named.read in (t, took, ap (if_more (λ (i, x). f i x)) is ∙ ap (λ i. f i d) at ∙ converts)
       by (Err e) read = tt
 
@@ -76,8 +76,8 @@ module _ {A V C : Type 0} (names : List (List ℕ)) (f : ℕ → Option Tree →
 
 -- ---- a content that one call reads
 
-module _ {U A V C : Type 0} {of : U → A} {f : Option Tree → Option A} {free : Option Tree → Bool} {refuses : State → Error → State → Type 0} {content : V → C} {old : SeenEnum} {new : State} (make : A → C) where
-  pub one_read : {u : U} {v : V} → ReadsVariant of f free refuses old new (Ok u) → make (of u) ≡ content v → FinishesVariant content (λ t. if_some make (f t)) old new (Ok v)
+module _ {U A V C : Type 0} {of : U → A} {f : Option Tree → Option A} {allocation_free : Option Tree → Bool} {refuses : State → Error → State → Type 0} {content : V → C} {old : EnumAccessState} {new : State} (make : A → C) where
+  pub one_read : {u : U} {v : V} → ReadsVariant of f allocation_free refuses old new (Ok u) → make (of u) ≡ content v → FinishesVariant content (λ t. if_some make (f t)) old new (Ok v)
   one_read is same = record {
     read = λ names from n. let (t, d, took, one, converts) = is.read names from n in (t, d, took, one, ap (if_some make) converts ∙ ap (λ x. Some x) same);
     left = λ t r c l converts. tt;
@@ -85,7 +85,7 @@ module _ {U A V C : Type 0} {of : U → A} {f : Option Tree → Option A} {free 
     same_text = is.same_text;
   }
 
-  pub one_refused : (e : Error) (result : Result V Error) → IsErrAnd result (λ y. y ≡ e) → ReadsVariant of f free refuses old new (Err e) → FinishesVariant content (λ t. if_some make (f t)) old new result
+  pub one_refused : (e : Error) (result : Result V Error) → IsErrAnd result (λ y. y ≡ e) → ReadsVariant of f allocation_free refuses old new (Err e) → FinishesVariant content (λ t. if_some make (f t)) old new result
   one_refused e result is_err is = handed_on (λ r. FinishesVariant content (λ t. if_some make (f t)) old new r) e result is_err (record {
     read = tt;
     left = λ t r c l converts. let (d, one, rest) = some_parts make (f t) c converts in is.left t r d l one;
@@ -145,7 +145,7 @@ with_last {A} {f = f} = record { begins = by }
     by (more t (more u us)) d is = absurd (cc)
 
 -- elements that h takes are left, which make a of the whole
-pub record RestOf {A D : Type 0} (h : Trees → Option D) (make : D → A) (a : A) (r : List ℕ) (now : Seen) : Type 0 where
+pub record RestOf {A D : Type 0} (h : Trees → Option D) (make : D → A) (a : A) (r : List ℕ) (now : AccessState) : Type 0 where
   pub trees : Trees
   pub values : D
   pub are : h trees ≡ Some values
@@ -155,19 +155,19 @@ pub record RestOf {A D : Type 0} (h : Trees → Option D) (make : D → A) (a : 
   pub brace : IsBrace true after r
 
 -- the array that g takes in the midst of its elements: h takes those that remain, and make says what the whole is
-pub record InTuple {A D : Type 0} (g : Trees → Option A) (old : SeenEnum) (h : Trees → Option D) (make : D → A) (now : Seen) : Type 0 where
+pub record InTuple {A D : Type 0} (g : Trees → Option A) (old : EnumAccessState) (h : Trees → Option D) (make : D → A) (now : AccessState) : Type 0 where
   pub has_content : old.has_content ≡ true
   pub trees : Trees
   pub read : ElementsRead old.reader trees now
   pub are : (us : Trees) (d : D) → h us ≡ Some d → g (joined_trees trees us) ≡ Some (make d)
   pub left : (t : Option Tree) (r : List ℕ) (a : A) → ContentLeft t r old → content_of (array_of g) t ≡ Some a → RestOf h make a r now
 
-module _ {A : Type 0} {g : Trees → Option A} {old : SeenEnum} where
+module _ {A : Type 0} {g : Trees → Option A} {old : EnumAccessState} where
   -- it begins
-  pub tuple_begun : {X : Type 0} (seen : X → Seen) {x : X} → OpensTuple seen old (Ok x) → InTuple g old g (λ a. a) (seen x)
-  tuple_begun seen {x = x} opens = record { has_content = opens.content.has_content; trees = no_more; read = opens.read; are = λ us d is. is; left = by }
+  pub tuple_begun : {X : Type 0} (state_of : X → AccessState) {x : X} → OpensTuple state_of old (Ok x) → InTuple g old g (λ a. a) (state_of x)
+  tuple_begun state_of {x = x} opens = record { has_content = opens.content.has_content; trees = no_more; read = opens.read; are = λ us d is. is; left = by }
     where
-      by : (t : Option Tree) (r : List ℕ) (a : A) → ContentLeft t r old → content_of (array_of g) t ≡ Some a → RestOf g (λ a. a) a r (seen x)
+      by : (t : Option Tree) (r : List ℕ) (a : A) → ContentLeft t r old → content_of (array_of g) t ≡ Some a → RestOf g (λ a. a) a r (state_of x)
       by None r a l is = absurd (cc)
       by (Some t) r a l is =
           let (ts, one, are) = array_only g t a is in
@@ -183,9 +183,9 @@ module _ {A : Type 0} {g : Trees → Option A} {old : SeenEnum} where
           }
 
   -- no array was opened
-  pub tuple_refused : {X V C : Type 0} (seen : X → Seen) (make : A → C) (content : V → C) {new : State} (e : Error) (result : Result V Error) → IsErrAnd result (λ y. y ≡ e) → OpensTuple seen old (Err e) → SameText old.reader new
+  pub tuple_refused : {X V C : Type 0} (state_of : X → AccessState) (make : A → C) (content : V → C) {new : State} (e : Error) (result : Result V Error) → IsErrAnd result (λ y. y ≡ e) → OpensTuple state_of old (Err e) → SameText old.reader new
       → FinishesVariant content (λ t. if_some make (content_of (array_of g) t)) old new result
-  tuple_refused {V = V} {C = C} seen make content {new = new} e result is_err opens same = handed_on (λ r. FinishesVariant content (λ t. if_some make (content_of (array_of g) t)) old new r) e result is_err (record {
+  tuple_refused {V = V} {C = C} state_of make content {new = new} e result is_err opens same = handed_on (λ r. FinishesVariant content (λ t. if_some make (content_of (array_of g) t)) old new r) e result is_err (record {
     read = tt;
     left = λ t r c l is. by t r c l is;
     unprompted = opens.content.unprompted;
@@ -200,7 +200,7 @@ module _ {A : Type 0} {g : Trees → Option A} {old : SeenEnum} where
           let (z, reads, close) = l.tail in
           absurd (opens.left ts z l.content l.live (subst (λ u. Reads old.reader.unread u z) one reads) (subst (λ u. old.reader.level + depth u ≤ max_depth) one l.shallow))
 
-  module _ {E C : Type 0} {f : Tree → Option C} {content : E → C} {now new : Seen} {v : E} where
+  module _ {E C : Type 0} {f : Tree → Option C} {content : E → C} {now new : AccessState} {v : E} where
     -- an element was read, and others follow
     pub first_on : {D : Type 0} {h : Trees → Option D} {make : C × D → A} → InTuple g old (first_of f h) make now → ReadsMore content f now new (Some v) → ((ts : Trees) (r : List ℕ) → ElementsLeft ts r now → LeavesFewer content f ts r new (Ok (Some v)))
         → InTuple g old h (λ d. make (content v, d)) new
@@ -243,7 +243,7 @@ module _ {A : Type 0} {g : Trees → Option A} {old : SeenEnum} where
             record { trees = no_more; values = tt; are = refl; same = ap make value ∙ same; after = z; left = left; brace = close }
         by a r (more u (more w us)) d z are same close left = absurd (cc)
 
-  module _ {V B D : Type 0} {h : Trees → Option D} {of : D → A} {now : Seen} (make : A → B) (content : V → B) where
+  module _ {V B D : Type 0} {h : Trees → Option D} {of : D → A} {now : AccessState} (make : A → B) (content : V → B) where
     still_live : InTuple g old h of now → now.reader.failed ≡ false
     still_live m = ap (λ (s : State). s.failed) m.read.rest ∙ m.read.live
 
@@ -262,7 +262,7 @@ module _ {A : Type 0} {g : Trees → Option A} {old : SeenEnum} where
       same_text = same_input new m same;
     })
 
-    module _ {E C : Type 0} {f : Tree → Option C} {given : E → C} {next : Seen} {new : State} (one : BeginsWith f h) where
+    module _ {E C : Type 0} {f : Tree → Option C} {given : E → C} {next : AccessState} {new : State} (one : BeginsWith f h) where
       -- an element was refused
       pub element_refused : (e : Error) (result : Result V Error) → IsErrAnd result (λ y. y ≡ e) → InTuple g old h of now → (now.reader.failed ≡ false → IsUnprompted e) → ((ts : Trees) (r : List ℕ) → ElementsLeft ts r now → LeavesFewer given f ts r next (Err e))
           → SameText now.reader new → FinishesVariant content (λ t. if_some make (content_of (array_of g) t)) old new result
@@ -275,7 +275,7 @@ module _ {A : Type 0} {g : Trees → Option A} {old : SeenEnum} where
       element_missing {e = e} m unprompted fewer same = refused_in e (Err e) refl m (λ live. unprompted) same (λ ts z r d are left close.
           let (t, us, c, split, is) = one.begins ts d are in absurd (subst (λ u. LeavesFewer given f u z next (Ok None)) split (fewer ts z left)))
 
-  module _ {V B : Type 0} {of : Unit {0} → A} {now : Seen} {brace : ℕ} {last : State} (make : A → B) (content : V → B) where
+  module _ {V B : Type 0} {of : Unit {0} → A} {now : AccessState} {brace : ℕ} {last : State} (make : A → B) (content : V → B) where
     -- its bracket or the variant's brace was refused
     pub tuple_open : (e : Error) (result : Result V Error) → IsErrAnd result (λ y. y ≡ e) → InTuple g old nothing of now → ClosesTuple brace now last (Err e) → FinishesVariant content (λ t. if_some make (content_of (array_of g) t)) old last result
     tuple_open e result is_err m closes = refused_in make content e result is_err m closes.bracket.unprompted closes.bracket.same_text (λ ts z r d are left close.
@@ -296,15 +296,15 @@ module _ {A : Type 0} {g : Trees → Option A} {old : SeenEnum} where
 
 -- ---- a content that is an object, by its fields
 
-module _ {S D : Type 0} (plan : Plan S D) {X : Type 0} (seen : X → SeenMap) {x : X} {old : SeenEnum} (opens : OpensStruct seen old (Ok x)) {V C : Type 0} (make : D → C) (content : V → C) where
-  struct_live : (seen x).at.reader.failed ≡ false
+module _ {S D : Type 0} (plan : Plan S D) {X : Type 0} (state_of : X → MapAccessState) {x : X} {old : EnumAccessState} (opens : OpensStruct state_of old (Ok x)) {V C : Type 0} (make : D → C) (content : V → C) where
+  struct_live : (state_of x).at.reader.failed ≡ false
   struct_live = ap (λ (s : State). s.failed) opens.read.rest ∙ opens.read.live
 
-  struct_input : (new : State) → SameText (seen x).at.reader new → SameText old.reader new
+  struct_input : (new : State) → SameText (state_of x).at.reader new → SameText old.reader new
   struct_input new same = same ∙ opens.same_text
 
   refused_fields : {new : State} (e : Error) (result : Result V Error) → IsErrAnd result (λ y. y ≡ e) → (old.reader.failed ≡ false → IsUnprompted e) → SameText old.reader new
-      → ((ps : Pairs) (z r : List ℕ) (m : S) (d : D) → run plan.step plan.start ps ≡ Some m → plan.build m ≡ Some d → PairsLeft ps z (seen x) → IsBrace true z r → IsOutOfMemory e) → FinishesVariant content (λ t. if_some make (content_of (object_of plan.convert) t)) old new result
+      → ((ps : Pairs) (z r : List ℕ) (m : S) (d : D) → run plan.step plan.start ps ≡ Some m → plan.build m ≡ Some d → PairsLeft ps z (state_of x) → IsBrace true z r → IsOutOfMemory e) → FinishesVariant content (λ t. if_some make (content_of (object_of plan.convert) t)) old new result
   refused_fields {new = new} e result is_err unprompted same memory = handed_on (λ r. FinishesVariant content (λ t. if_some make (content_of (object_of plan.convert) t)) old new r) e result is_err (record {
     read = tt;
     left = λ t r c l is. by t r c l is;
@@ -322,31 +322,31 @@ module _ {S D : Type 0} (plan : Plan S D) {X : Type 0} (seen : X → SeenMap) {x
           memory ps z r m d are built (opens.left ps z opens.content.has_content l.live (subst (λ u. Reads old.reader.unread u z) one reads) (subst (λ u. old.reader.level + depth u ≤ max_depth) one l.shallow)) close
 
   -- the refusal of its pairs isn't `Failed`
-  pub fields_unprompted : (before : State) {n : S} {now : SeenMap} (e : Error) (result : Result V Error) → IsErrAnd result (λ y. y ≡ e) → ReadsPairs plan.step plan.start n (seen x) now (Err e) → Unprompted before result
+  pub fields_unprompted : (before : State) {n : S} {now : MapAccessState} (e : Error) (result : Result V Error) → IsErrAnd result (λ y. y ≡ e) → ReadsPairs plan.step plan.start n (state_of x) now (Err e) → Unprompted before result
   fields_unprompted before e result is_err reads = handed_on (λ r. Unprompted before r) e result is_err (λ live. reads.unprompted struct_live)
 
   -- its pairs were refused
-  pub fields_refused : {n : S} {now : SeenMap} {new : State} (e : Error) (result : Result V Error) → IsErrAnd result (λ y. y ≡ e) → ReadsPairs plan.step plan.start n (seen x) now (Err e) → SameText (seen x).at.reader new
+  pub fields_refused : {n : S} {now : MapAccessState} {new : State} (e : Error) (result : Result V Error) → IsErrAnd result (λ y. y ≡ e) → ReadsPairs plan.step plan.start n (state_of x) now (Err e) → SameText (state_of x).at.reader new
       → FinishesVariant content (λ t. if_some make (content_of (object_of plan.convert) t)) old new result
   fields_refused {new = new} e result is_err reads same = refused_fields e result is_err (λ live. reads.unprompted struct_live) (struct_input new same) (λ ps z r m d are built left close. reads.left ps z m are left)
 
   -- all its pairs were read, and they make no struct
-  pub field_missing : {n : S} {now : SeenMap} {new : State} (e : Error) (result : Result V Error) → IsErrAnd result (λ y. y ≡ e) → ReadsPairs plan.step plan.start n (seen x) now (Ok tt) → plan.build n ≡ None → IsUnprompted e → SameText (seen x).at.reader new
+  pub field_missing : {n : S} {now : MapAccessState} {new : State} (e : Error) (result : Result V Error) → IsErrAnd result (λ y. y ≡ e) → ReadsPairs plan.step plan.start n (state_of x) now (Ok tt) → plan.build n ≡ None → IsUnprompted e → SameText (state_of x).at.reader new
       → FinishesVariant content (λ t. if_some make (content_of (object_of plan.convert) t)) old new result
   field_missing {new = new} e result is_err reads none own same = refused_fields e result is_err (λ live. own) (struct_input new same) (λ ps z r m d are built left close.
       let (one, rest) = reads.left ps z m are left in
       let both : Some d ≡ None = sym built ∙ ap plan.build one ∙ none in
       absurd (cc both))
 
-  module _ {n : S} {now : SeenMap} {brace : ℕ} {last : State} where
+  module _ {n : S} {now : MapAccessState} {brace : ℕ} {last : State} where
     -- its bracket or the variant's brace was refused
-    pub struct_open : (e : Error) (result : Result V Error) → IsErrAnd result (λ y. y ≡ e) → ReadsPairs plan.step plan.start n (seen x) now (Ok tt) → now.pending ≡ false → SameText (seen x).at.reader now.at.reader → ClosesStruct brace now last (Err e)
+    pub struct_open : (e : Error) (result : Result V Error) → IsErrAnd result (λ y. y ≡ e) → ReadsPairs plan.step plan.start n (state_of x) now (Ok tt) → now.pending ≡ false → SameText (state_of x).at.reader now.at.reader → ClosesStruct brace now last (Err e)
         → FinishesVariant content (λ t. if_some make (content_of (object_of plan.convert) t)) old last result
     struct_open e result is_err reads none same closes = refused_fields e result is_err (λ live. closes.bracket.unprompted reads.live) (struct_input last (closes.bracket.same_text ∙ same)) (λ ps z r m d are built left close.
         let (one, rest) = reads.left ps z m are left in absurd (false≢true (closes.left z r none rest close)))
 
     -- both were taken
-    pub struct_content : {new : State} {v : V} {d : D} → ReadsPairs plan.step plan.start n (seen x) now (Ok tt) → SameText (seen x).at.reader now.at.reader → ClosesStruct brace now last (Ok tt) → new ≡ last → plan.build n ≡ Some d → make d ≡ content v
+    pub struct_content : {new : State} {v : V} {d : D} → ReadsPairs plan.step plan.start n (state_of x) now (Ok tt) → SameText (state_of x).at.reader now.at.reader → ClosesStruct brace now last (Ok tt) → new ≡ last → plan.build n ≡ Some d → make d ≡ content v
         → FinishesVariant content (λ t. if_some make (content_of (object_of plan.convert) t)) old new (Ok v)
     struct_content {new = new} {v = v} {d = d} reads inside closes at built same = record {
       read = λ names from n.
@@ -361,9 +361,9 @@ module _ {S D : Type 0} (plan : Plan S D) {X : Type 0} (seen : X → SeenMap) {x
     }
 
 -- no object was opened
-pub struct_refused : {X S D V C : Type 0} (plan : Plan S D) (seen : X → SeenMap) (make : D → C) (content : V → C) {old : SeenEnum} {new : State} (e : Error) (result : Result V Error) → IsErrAnd result (λ y. y ≡ e) → OpensStruct seen old (Err e) → SameText old.reader new
+pub struct_refused : {X S D V C : Type 0} (plan : Plan S D) (state_of : X → MapAccessState) (make : D → C) (content : V → C) {old : EnumAccessState} {new : State} (e : Error) (result : Result V Error) → IsErrAnd result (λ y. y ≡ e) → OpensStruct state_of old (Err e) → SameText old.reader new
     → FinishesVariant content (λ t. if_some make (content_of (object_of plan.convert) t)) old new result
-struct_refused {V = V} {C = C} plan seen make content {old = old} {new = new} e result is_err opens same = handed_on (λ r. FinishesVariant content (λ t. if_some make (content_of (object_of plan.convert) t)) old new r) e result is_err (record {
+struct_refused {V = V} {C = C} plan state_of make content {old = old} {new = new} e result is_err opens same = handed_on (λ r. FinishesVariant content (λ t. if_some make (content_of (object_of plan.convert) t)) old new r) e result is_err (record {
   read = tt;
   left = λ t r c l is. by t r c l is;
   unprompted = opens.content.unprompted;

@@ -24,7 +24,7 @@ use Rattle.json5_text.specs.Cursor.{Refused}
 use Rattle.json5_text.specs.Tokens.{FaultyBlanks}
 use Rattle.json5_de.specs.State.{State, OnlyRead, SameText, cursor_of}
 use Rattle.json5_de.specs.Law.{TookValue, Steady, IsUnprompted}
-use Rattle.json5_de.specs.Steps.{PassedGap, TookText}
+use Rattle.json5_de.specs.ReaderSteps.{PassedGap, TookText}
 use Rattle.json5_de.specs.Keys.{KeyConversion, TookKey, GivesKey, CompletesKey}
 use Rattle.json5_value.specs.Brackets.{curly}
 use Rattle.json5_de.specs.Faults.{AfterBlanks, in_blanks, after_gap, RefusedBy, AtEnd, AtOther, IsUnplaced, IsAfter}
@@ -32,7 +32,7 @@ use Rattle.json5_de.specs.Access.{AtClose, PlacedAtBracket}
 use Rattle.json5_value.specs.Steps.{Unexpected, at_end, at_char}
 use Rattle.json5_value.specs.Places.{StartsAfter}
 use Rattle.json5_de.specs.Seq.{IsAfterGap, Begun, AtMember, NothingNext, NoNext, no_comma, comma_missing, in_blanks_after}
-use Rattle.json5_de.specs.Objects.{SeenMap, bare_map, TookPairKey, AfterColon, TookPairValue, GivesPairKey, GivesPairValue, CompletesPairKey}
+use Rattle.json5_de.specs.Objects.{MapAccessState, bare_map, TookPairKey, AfterColon, TookPairValue, GivesPairKey, GivesPairValue, CompletesPairKey}
 use Rattle.json5_de.proofs.Offsets.{placed_where}
 use Rattle.json5_de.specs.ObjectFaults.{begins_key, AtKey, NoKeyHere, no_key, key_missing, NoKey, no_next, not_here, not_after_comma, PlacedAtKey, at_key, as_it_is, RefusesPairKey, not_reached, in_key, ReadsKeyOfPair, begins_next_key, no_key_code, RefusesNextKey, NoColon, no_colon, colon_missing, is_colon, RefusesPairValue, no_value, in_value, RefusesNextValue}
 use Rattle.json5_de.proofs.Expected.{Expected, end_fault, other_fault}
@@ -239,7 +239,7 @@ other_at_key due s mid w o k = by due k.member.begun o
 -- ---- a call for a key
 
 -- what the reader gives the access gives
-pub gives_key_seen : {K C : Type 0} (content : K → C) (convert : KeyConversion C) (old new : SeenMap) (a b : State) (o : Option K) → a ≡ old.at.reader → new.at.reader ≡ record b { failed = old.at.reader.failed } → new.at.due ≡ old.at.due → new.pending ≡ is_some o
+pub gives_key_seen : {K C : Type 0} (content : K → C) (convert : KeyConversion C) (old new : MapAccessState) (a b : State) (o : Option K) → a ≡ old.at.reader → new.at.reader ≡ record b { failed = old.at.reader.failed } → new.at.due ≡ old.at.due → new.pending ≡ is_some o
     → GivesPairKey content convert (bare_map a old.at.due false) (bare_map b old.at.due (is_some o)) o → GivesPairKey content convert old new o
 gives_key_seen content convert old new a b (Some k) same lent due pending (u, p, took, is, one, two) =
     let rest = subst (λ s. OnlyRead s b) same took.rest in
@@ -250,7 +250,7 @@ gives_key_seen content convert old new a b None same lent due pending (at, one, 
     let back : b ≡ new.at.reader = sym (lent ∙ lent_back old.at.reader b rest) in
     (subst (λ s. AtClose curly old.at.due old.at.reader s) back (subst (λ s. AtClose curly old.at.due s b) same at), due, pending)
 
-pub gives_next_key : {K C : Type 0} (content : K → C) (convert : KeyConversion C) (refuses : State → Error → State → Type 0) (old new : SeenMap) (o : Option K) → GivesPairKey content convert old new o → RefusesNextKey refuses old new.at.reader (Ok o)
+pub gives_next_key : {K C : Type 0} (content : K → C) (convert : KeyConversion C) (refuses : State → Error → State → Type 0) (old new : MapAccessState) (o : Option K) → GivesPairKey content convert old new o → RefusesNextKey refuses old new.at.reader (Ok o)
 gives_next_key {K = K} content convert refuses old new o gives =
     answers_call _ true _ _ _ old.at new.at.reader o (λ a at. no_end o gives at) (λ a w at. no_other o gives w at) (λ h. live o gives h)
   where
@@ -269,7 +269,7 @@ gives_next_key {K = K} content convert refuses old new o gives =
     live (Some k) (u, p, took, is, due, pending) h = true_false h took.live
     live None (close, due, pending) h = true_false h close.live
 
-pub refuses_next_key : {K : Type 0} (refuses : State → Error → State → Type 0) (old : SeenMap) (new after : State) (own e : Error) → RefusesPairKey refuses old.at.due old.at.reader own after → (old.at.reader.failed ≡ false → kind_of own ≢ code codes.Failed)
+pub refuses_next_key : {K : Type 0} (refuses : State → Error → State → Type 0) (old : MapAccessState) (new after : State) (own e : Error) → RefusesPairKey refuses old.at.due old.at.reader own after → (old.at.reader.failed ≡ false → kind_of own ≢ code codes.Failed)
     → (old.at.reader.failed ≡ true → IsUnplaced codes.Failed own) → PlacedAtBracket old.at own e → new.failed ≡ true → RefusesNextKey {V = K} refuses old new (Err e)
 refuses_next_key refuses old new after own e cause other before p failed =
     refuses_call (RefusesPairKey refuses old.at.due old.at.reader) true (begins_next_key old.at.due) codes.EofParsingObject (no_key_code old.at.due) old.at new after own e cause (λ a at. ends cause at) (λ a w o. differs cause w o) other before p failed
@@ -370,19 +370,19 @@ no_colon_here x reason place n (at_char c r) = no_colon c r n
 pub refused_colon : (old mid at : State) (e : Error) → PassedGap old mid → at ≡ mid → NotBegun (λ c. c == 58) mid.unread → Refused (Unexpected codes.EofParsingObject codes.ExpectedColon) (cursor_of at) e → RefusedBy NoColon old e
 refused_colon old mid at e p same n f = refused_token old mid e p (refused_as at mid e same (λ reason place k. no_colon_here mid.unread reason place n k) f)
 
-pub gives_value_seen : {V C : Type 0} (content : V → C) (convert : Tree → Option C) (old new : SeenMap) (a b : State) (v : V) → a ≡ old.at.reader → new.at.reader ≡ record b { failed = old.at.reader.failed } → new.at.due ≡ true → new.pending ≡ false
+pub gives_value_seen : {V C : Type 0} (content : V → C) (convert : Tree → Option C) (old new : MapAccessState) (a b : State) (v : V) → a ≡ old.at.reader → new.at.reader ≡ record b { failed = old.at.reader.failed } → new.at.due ≡ true → new.pending ≡ false
     → GivesPairValue content convert (bare_map a false true) (bare_map b true false) v → GivesPairValue content convert old new v
 gives_value_seen content convert old new a b v same lent due pending (t, took, is, one, two) =
     let rest = subst (λ s. OnlyRead s b) same took.rest in
     let back : b ≡ new.at.reader = sym (lent ∙ lent_back old.at.reader b rest) in
     (t, subst (λ s. TookPairValue old.at.reader t s) back (subst (λ s. TookPairValue s t b) same took), is, due, pending)
 
-pub gives_next_value : {V C : Type 0} (content : V → C) (convert : Tree → Option C) (refuses : State → Error → State → Type 0) (old new : SeenMap) (v : V) → GivesPairValue content convert old new v → RefusesNextValue refuses old new.at.reader (Ok v)
+pub gives_next_value : {V C : Type 0} (content : V → C) (convert : Tree → Option C) (refuses : State → Error → State → Type 0) (old new : MapAccessState) (v : V) → GivesPairValue content convert old new v → RefusesNextValue refuses old new.at.reader (Ok v)
 gives_next_value content convert refuses old new v (t, took, is, due, pending) =
     let (y, colon, reads) = took.value in
     answers_call _ true _ _ _ old.at new.at.reader v (λ a at. end_no_sign 58 old.at.reader y colon_solid at colon) (λ a w at. other_no_sign 58 old.at.reader w y colon_solid at at.other colon) (λ h. true_false h took.live)
 
-pub refuses_next_value : {V : Type 0} (refuses : State → Error → State → Type 0) (old : SeenMap) (new after : State) (own e : Error) → RefusesPairValue refuses old.at.reader own after → (old.at.reader.failed ≡ false → kind_of own ≢ code codes.Failed)
+pub refuses_next_value : {V : Type 0} (refuses : State → Error → State → Type 0) (old : MapAccessState) (new after : State) (own e : Error) → RefusesPairValue refuses old.at.reader own after → (old.at.reader.failed ≡ false → kind_of own ≢ code codes.Failed)
     → (old.at.reader.failed ≡ true → IsUnplaced codes.Failed own) → PlacedAtBracket old.at own e → new.failed ≡ true → RefusesNextValue {V = V} refuses old new (Err e)
 refuses_next_value refuses old new after own e cause other before p failed =
     refuses_call (RefusesPairValue refuses old.at.reader) true is_colon codes.EofParsingObject codes.ExpectedColon old.at new after own e cause (λ a at. ends cause at) (λ a w o. differs cause w o) other before p failed

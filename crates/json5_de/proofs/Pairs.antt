@@ -15,8 +15,8 @@ use Rattle.json5_value.specs.declared.brackets.BracketKind.TheVariants as kind
 use Rattle.json5_de.specs.Brackets.{AreSigns}
 use Rattle.json5_value.specs.Brackets.{curly, brackets_of}
 use Rattle.json5_de.proofs.Arrays.{square_signs}
-use Rattle.json5_de.specs.Access.{Seen, Opened, Closed, AtClose, OpensAs, ClosesAs, CompletesClose}
-use Rattle.json5_de.specs.Objects.{SeenMap, TookPairKey, TookPairValue, GivesPairKey, GivesPairValue, CompletesPairKey, CompletesPairValue, ReadsPairKey, ReadsPairValue, PairsRead, PairsLeft, LeftAfter, ReadsAKey, ReadsAPair, LeavesAValue, LeavesPairs, OpensMap, ClosesMap}
+use Rattle.json5_de.specs.Access.{AccessState, Opened, Closed, AtClose, OpensAs, ClosesAs, CompletesClose}
+use Rattle.json5_de.specs.Objects.{MapAccessState, TookPairKey, TookPairValue, GivesPairKey, GivesPairValue, CompletesPairKey, CompletesPairValue, ReadsPairKey, ReadsPairValue, PairsRead, PairsLeft, LeftAfter, ReadsAKey, ReadsAPair, LeavesAValue, LeavesPairs, OpensMap, ClosesMap}
 use Rattle.json5_de.proofs.Taken.{input_of}
 use Rattle.json5_de.proofs.OpenClose.{opens_same, opens_too, closes}
 use Rattle.json5_de.proofs.Elements.{still_live, same_level, only_after, more_and_less}
@@ -40,7 +40,7 @@ signs_of kind.Object = curly_signs
 -- ---- what was read
 
 -- nothing, where the object was opened
-pub opened_read : (old : State) (first : SeenMap) → first.at.due ≡ false → first.pending ≡ false → Opened curly old first.at.reader → PairsRead old no_pair None first
+pub opened_read : (old : State) (first : MapAccessState) → first.at.due ≡ false → first.pending ≡ false → Opened curly old first.at.reader → PairsRead old no_pair None first
 opened_read old first due none o = record {
   live = o.live;
   shallow = let room = o.room in omega (arith, room);
@@ -54,13 +54,13 @@ opened_read old first due none o = record {
 }
 
 -- a key stands where the text stands, since no brace does
-key_after : (from : State) (old : SeenMap) (ps : Pairs) (u : List ℕ) (plain : Bool) (y : List ℕ) → (e : PairsRead from ps None old) → IsKey old.at.due old.at.reader.unread u plain y → IsKey old.at.due e.after u plain y
+key_after : (from : State) (old : MapAccessState) (ps : Pairs) (u : List ℕ) (plain : Bool) (y : List ℕ) → (e : PairsRead from ps None old) → IsKey old.at.due old.at.reader.unread u plain y → IsKey old.at.due e.after u plain y
 key_after from old ps u plain y e is = elim e.here [
   | inl same ↦ subst (λ x. IsKey old.at.due x u plain y) same is
   | inr at ↦ let (q, close) = found_brace old.at.due old.at.due e.after old.at.reader.unread at in absurd (key_or_brace old.at.due old.at.reader.unread y q u plain is close)
 ]
 
-pub key_read : (from : State) (old new : SeenMap) (ps : Pairs) (u : List ℕ) (plain : Bool) → TookPairKey old.at.due old.at.reader u plain new.at.reader → new.at.due ≡ old.at.due → new.pending ≡ true → PairsRead from ps None old → PairsRead from ps (Some (u, plain)) new
+pub key_read : (from : State) (old new : MapAccessState) (ps : Pairs) (u : List ℕ) (plain : Bool) → TookPairKey old.at.due old.at.reader u plain new.at.reader → new.at.due ≡ old.at.due → new.pending ≡ true → PairsRead from ps None old → PairsRead from ps (Some (u, plain)) new
 key_read from old new ps u plain took due pending e = record {
   live = e.live;
   shallow = e.shallow;
@@ -73,14 +73,14 @@ key_read from old new ps u plain took due pending e = record {
   rest = only_after from old.at.reader new.at.reader e.rest took.rest;
 }
 
-brace_after : (from : State) (old : SeenMap) (ps : Pairs) (r : List ℕ) → (e : PairsRead from ps None old) → IsBrace old.at.due old.at.reader.unread r → IsBrace old.at.due e.after r
+brace_after : (from : State) (old : MapAccessState) (ps : Pairs) (r : List ℕ) → (e : PairsRead from ps None old) → IsBrace old.at.due old.at.reader.unread r → IsBrace old.at.due e.after r
 brace_after from old ps r e is = elim e.here [
   | inl same ↦ subst (λ x. IsBrace old.at.due x r) same is
   | inr at ↦ brace_found old.at.due old.at.due e.after old.at.reader.unread r at is
 ]
 
 -- none, and the closing brace is next
-brace_read : (from : State) (old new : SeenMap) (ps : Pairs) → AtClose curly old.at.due old.at.reader new.at.reader → new.at.due ≡ old.at.due → new.pending ≡ false → PairsRead from ps None old → PairsRead from ps None new
+brace_read : (from : State) (old new : MapAccessState) (ps : Pairs) → AtClose curly old.at.due old.at.reader new.at.reader → new.at.due ≡ old.at.due → new.pending ≡ false → PairsRead from ps None old → PairsRead from ps None new
 brace_read from old new ps at due pending e =
     let (r, close, next) = at.close in
     record {
@@ -95,11 +95,11 @@ brace_read from old new ps at due pending e =
       rest = only_after from old.at.reader new.at.reader e.rest at.rest;
     }
 
-inside_level : (from : State) (now : SeenMap) (ps : Pairs) (key : Option (List ℕ × Bool)) → PairsRead from ps key now → now.at.reader.level ≡ from.level + 1
+inside_level : (from : State) (now : MapAccessState) (ps : Pairs) (key : Option (List ℕ × Bool)) → PairsRead from ps key now → now.at.reader.level ≡ from.level + 1
 inside_level from now ps key e = ap (λ (m : State). m.level) e.rest
 
 -- the value of the key, one pair more
-pub pair_read : (from : State) (old new : SeenMap) (ps : Pairs) (u : List ℕ) (plain : Bool) (t : Tree) → TookPairValue old.at.reader t new.at.reader → new.at.due ≡ true → new.pending ≡ false
+pub pair_read : (from : State) (old new : MapAccessState) (ps : Pairs) (u : List ℕ) (plain : Bool) (t : Tree) → TookPairValue old.at.reader t new.at.reader → new.at.due ≡ true → new.pending ≡ false
     → PairsRead from ps (Some (u, plain)) old → PairsRead from (snoc_pair ps u plain t) None new
 pair_read from old new ps u plain t took due pending e = record {
   live = e.live;
@@ -116,7 +116,7 @@ pair_read from old new ps u plain t took due pending e = record {
 }
 
 -- the whole object
-pub all_read : (from : State) (last : SeenMap) (new : State) (ps : Pairs) → Closed curly last.at.due last.at.reader new → PairsRead from ps None last → TookValue from (object ps) new
+pub all_read : (from : State) (last : MapAccessState) (new : State) (ps : Pairs) → Closed curly last.at.due last.at.reader new → PairsRead from ps None last → TookValue from (object ps) new
 all_read from last new ps c e = record {
   live = e.live;
   reads = object_closed from.unread e.inside e.after new.unread ps last.at.due e.bracket e.passed (brace_after from last ps new.unread e c.close);
@@ -127,12 +127,12 @@ all_read from last new ps c e = record {
 }
 
 -- what a call for a key reads
-pub reads_a_key : {K C : Type 0} (content : K → C) (convert : KeyConversion C) (old new : SeenMap) (o : Option K) → GivesPairKey content convert old new o → ReadsAKey content convert old new o
+pub reads_a_key : {K C : Type 0} (content : K → C) (convert : KeyConversion C) (old new : MapAccessState) (o : Option K) → GivesPairKey content convert old new o → ReadsAKey content convert old new o
 reads_a_key content convert old new (Some k) (u, plain, took, is, due, pending) = (u, plain, is, λ from ps e. key_read from old new ps u plain took due pending e)
 reads_a_key content convert old new None (at, due, pending) = λ from ps e. brace_read from old new ps at due pending e
 
 -- and a call for a value
-pub reads_a_pair : {V C : Type 0} (content : V → C) (convert : Tree → Option C) (old new : SeenMap) (v : V) → GivesPairValue content convert old new v → ReadsAPair content convert old new v
+pub reads_a_pair : {V C : Type 0} (content : V → C) (convert : Tree → Option C) (old new : MapAccessState) (v : V) → GivesPairValue content convert old new v → ReadsAPair content convert old new v
 reads_a_pair content convert old new v (t, took, is, due, pending) = (t, is, λ from ps u plain e. pair_read from old new ps u plain t took due pending e)
 
 -- ---- what is left
@@ -141,7 +141,7 @@ pub object_opens : (old : State) (ps : Pairs) (r : List ℕ) → Reads old.unrea
 object_opens old ps r reads shallow = let (y, opens, tail) = object_front old.unread r ps reads in (y, opens, omega (arith, shallow))
 
 -- all pairs, where the object was opened
-pub opened_left : (old : State) (first : SeenMap) (ps : Pairs) (r : List ℕ) → first.at.due ≡ false → first.pending ≡ false → Opened curly old first.at.reader → Reads old.unread (object ps) r → old.level + depth (object ps) ≤ max_depth → PairsLeft ps r first
+pub opened_left : (old : State) (first : MapAccessState) (ps : Pairs) (r : List ℕ) → first.at.due ≡ false → first.pending ≡ false → Opened curly old first.at.reader → Reads old.unread (object ps) r → old.level + depth (object ps) ≤ max_depth → PairsLeft ps r first
 opened_left old first ps r none no_key o reads shallow =
     let (y, bracket, tail) = object_front old.unread r ps reads in
     let level = ap (λ (m : State). m.level) o.rest in
@@ -153,7 +153,7 @@ opened_left old first ps r none no_key o reads shallow =
     }
 
 -- what a call for a key leaves
-pub leaves_a_value : {K C : Type 0} (content : K → C) (convert : KeyConversion C) (old new : SeenMap) (result : Result (Option K) Error) → old.pending ≡ false → IfOk result (GivesPairKey content convert old new) → CompletesPairKey convert old result
+pub leaves_a_value : {K C : Type 0} (content : K → C) (convert : KeyConversion C) (old new : MapAccessState) (result : Result (Option K) Error) → old.pending ≡ false → IfOk result (GivesPairKey content convert old new) → CompletesPairKey convert old result
     → CompletesClose curly old.at result → (ps : Pairs) (r : List ℕ) → PairsLeft ps r old → LeavesAValue content convert ps r new result
 leaves_a_value {K = K} content convert old new result none gives complete closing ps r e = by result ps gives complete closing e.live e.shallow (subst (λ p. LeftAfter p ps old.at.due old.at.reader.unread r) none e.tail)
   where
@@ -171,8 +171,8 @@ leaves_a_value {K = K} content convert old new result none gives complete closin
     by (Ok (Some k)) no_pair (u, plain, took, is, due, pending) complete closing live shallow tail = absurd (key_or_brace old.at.due old.at.reader.unread new.at.reader.unread r u plain took.key tail)
     by (Err f) no_pair gives complete closing live shallow tail = let ok = closing r live tail in absurd (cc)
     by (Ok None) (pair u plain t ps) (at, due, pending) complete closing live shallow (y, z, key, value, tail) = let (q, close, next) = at.close in absurd (key_or_brace old.at.due old.at.reader.unread y q u plain key close)
-    by (Ok (Some k)) (pair u plain t ps) (v, free, took, is, due, pending) complete closing live shallow (y, z, key, value, tail) =
-        let (same, mark, here) = one_key old.at.due old.at.reader.unread y new.at.reader.unread u v plain free key took.key in
+    by (Ok (Some k)) (pair u plain t ps) (v, allocation_free, took, is, due, pending) complete closing live shallow (y, z, key, value, tail) =
+        let (same, mark, here) = one_key old.at.due old.at.reader.unread y new.at.reader.unread u v plain allocation_free key took.key in
         let level = same_level old.at.reader new.at.reader took.rest in (
           subst (λ w. convert w plain ≡ Some (content k)) (sym same) (subst (λ p. convert v p ≡ Some (content k)) (sym mark) is),
           record {
@@ -184,7 +184,7 @@ leaves_a_value {K = K} content convert old new result none gives complete closin
     by (Err f) (pair u plain t ps) gives complete closing live shallow (y, z, key, value, tail) = λ c same. complete u plain y c live key same
 
 -- what a call for a value leaves
-pub leaves_pairs : {V C : Type 0} (content : V → C) (convert : Tree → Option C) (old new : SeenMap) (result : Result V Error) → old.pending ≡ true → IfOk result (GivesPairValue content convert old new) → CompletesPairValue convert old result
+pub leaves_pairs : {V C : Type 0} (content : V → C) (convert : Tree → Option C) (old new : MapAccessState) (result : Result V Error) → old.pending ≡ true → IfOk result (GivesPairValue content convert old new) → CompletesPairValue convert old result
     → (u : List ℕ) (plain : Bool) (t : Tree) (ps : Pairs) (r : List ℕ) → PairsLeft (pair u plain t ps) r old → LeavesPairs content convert t ps r new result
 leaves_pairs content convert old new (Ok v) key (s, took, is, due, pending) complete u plain t ps r e =
     let (z, value, tail) = subst (λ p. LeftAfter p (pair u plain t ps) old.at.due old.at.reader.unread r) key e.tail in
@@ -204,36 +204,36 @@ leaves_pairs content convert old new (Err f) key gives complete u plain t ps r e
     complete t z c e.live value (omega (arith, deep)) same
 
 -- one key stands there, so what is given is its content
-pub reads_pair_key : {K C : Type 0} (content : K → C) (convert : KeyConversion C) (old new : SeenMap) (o : Option K) → GivesPairKey content convert old new o → ReadsPairKey content convert old (Ok o)
-reads_pair_key content convert old new (Some k) (v, free, took, is, due, pending) u plain r c live key converts =
-    let (same, mark, here) = one_key old.at.due old.at.reader.unread r new.at.reader.unread u v plain free key took.key in
+pub reads_pair_key : {K C : Type 0} (content : K → C) (convert : KeyConversion C) (old new : MapAccessState) (o : Option K) → GivesPairKey content convert old new o → ReadsPairKey content convert old (Ok o)
+reads_pair_key content convert old new (Some k) (v, allocation_free, took, is, due, pending) u plain r c live key converts =
+    let (same, mark, here) = one_key old.at.due old.at.reader.unread r new.at.reader.unread u v plain allocation_free key took.key in
     sym (subst (λ w. convert w plain ≡ Some (content k)) (sym same) (subst (λ p. convert v p ≡ Some (content k)) (sym mark) is)) ∙ converts
 reads_pair_key content convert old new None (at, due, pending) u plain r c live key converts = let (q, close, next) = at.close in absurd (key_or_brace old.at.due old.at.reader.unread r q u plain key close)
 
 -- and one value
-pub reads_pair_value : {V C : Type 0} (content : V → C) (convert : Tree → Option C) (old new : SeenMap) (v : V) → GivesPairValue content convert old new v → ReadsPairValue content convert old (Ok v)
+pub reads_pair_value : {V C : Type 0} (content : V → C) (convert : Tree → Option C) (old new : MapAccessState) (v : V) → GivesPairValue content convert old new v → ReadsPairValue content convert old (Ok v)
 reads_pair_value content convert old new v (s, took, is, due, pending) t r c live value shallow converts = let (same, rest) = one_key_value old.at.reader.unread r new.at.reader.unread t s value took.value in cc (same, is, converts)
 
 -- ---- a maker
 
 -- what opened a brace opened an object, seen in another way
-pub opens_map : {A B : Type 0} {Held : B → Type 0} (see : A → Seen) (seen : B → SeenMap) (old : State) (a : A) (b : B) → Held b → see a ≡ (seen b).at → (seen b).pending ≡ false → OpensAs curly see old (Ok a) → OpensMap Held seen old (Ok b)
-opens_map see seen old a b held same no_key o =
-    let o : OpensAs curly (λ b. (seen b).at) old (Ok b) = opens_same curly see (λ b. (seen b).at) old a b same o in
+pub opens_map : {A B : Type 0} {Held : B → Type 0} (see : A → AccessState) (state_of : B → MapAccessState) (old : State) (a : A) (b : B) → Held b → see a ≡ (state_of b).at → (state_of b).pending ≡ false → OpensAs curly see old (Ok a) → OpensMap Held state_of old (Ok b)
+opens_map see state_of old a b held same no_key o =
+    let o : OpensAs curly (λ b. (state_of b).at) old (Ok b) = opens_same curly see (λ b. (state_of b).at) old a b same o in
     let (opened, due) = o.opened in
     record {
       held = held;
       bracket = o;
       no_key = no_key;
       same_text = input_of opened.rest;
-      read = opened_read old (seen b) due no_key opened;
-      left = λ ps r live reads shallow. opened_left old (seen b) ps r due no_key opened reads shallow;
+      read = opened_read old (state_of b) due no_key opened;
+      left = λ ps r live reads shallow. opened_left old (state_of b) ps r due no_key opened reads shallow;
     }
 
-pub refuses_map : {A B : Type 0} {Held : B → Type 0} (see : A → Seen) (seen : B → SeenMap) (old : State) (e : Error) → OpensAs curly see old (Err e) → OpensMap Held seen old (Err e)
-refuses_map see seen old e o = record {
+pub refuses_map : {A B : Type 0} {Held : B → Type 0} (see : A → AccessState) (state_of : B → MapAccessState) (old : State) (e : Error) → OpensAs curly see old (Err e) → OpensMap Held state_of old (Err e)
+refuses_map see state_of old e o = record {
   held = tt;
-  bracket = opens_too curly see (λ b. (seen b).at) old e o;
+  bracket = opens_too curly see (λ b. (state_of b).at) old e o;
   no_key = tt;
   same_text = tt;
   read = tt;
@@ -242,7 +242,7 @@ refuses_map see seen old e o = record {
 
 -- ---- the end
 
-pub closes_map : (old : SeenMap) (new : State) → Closed curly old.at.due old.at.reader new → ClosesMap old new (Ok tt)
+pub closes_map : (old : MapAccessState) (new : State) → Closed curly old.at.due old.at.reader new → ClosesMap old new (Ok tt)
 closes_map old new c = record {
   bracket = closes curly curly_signs old.at.due old.at.reader new c;
   same_text = input_of c.rest;
@@ -251,7 +251,7 @@ closes_map old new c = record {
   left = λ r none e. refl;
 }
 
-pub refuses_map_end : (old : SeenMap) (new : State) (e : Error) → GivesUp old.at.reader new → ClosesAs curly old.at.due old.at.reader new (Err e) → ClosesMap old new (Err e)
+pub refuses_map_end : (old : MapAccessState) (new : State) (e : Error) → GivesUp old.at.reader new → ClosesAs curly old.at.due old.at.reader new (Err e) → ClosesMap old new (Err e)
 refuses_map_end old new e failed c = record {
   bracket = c;
   same_text = failed.same_text;

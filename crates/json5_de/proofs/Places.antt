@@ -5,7 +5,7 @@ use Rattle.json5_grammar.specs.Codes.{after_text}
 use Rattle.json5_text.specs.declared.error.Error.{Error}
 use Rattle.json5_text.specs.Cursor.{Refused}
 use Rattle.json5_de.specs.State.{State, cursor_of}
-use Rattle.json5_de.specs.Steps.{TookText}
+use Rattle.json5_de.specs.ReaderSteps.{TookText}
 use Rattle.json5_de.proofs.Taken.{placed_after, input_of}
 
 -- another name for the same fault

@@ -19,14 +19,14 @@ use Rattle.json5_text.specs.declared.short.ShortStep.{ShortStep}
 use Rattle.json5_text.specs.declared.short.ShortStep.TheVariants as short
 use Rattle.json5_value.specs.declared.brackets.Brackets.{Brackets}
 use Rattle.json5_de.specs.Convert.{natural_below, integer_below, every_text}
-use Rattle.json5_de.specs.KeyRows.{ReadsKeyAs, string_key}
+use Rattle.json5_de.specs.KeyKinds.{ReadsKeyAs, string_key}
 use Rattle.json5_de.specs.Keys.{TookKey}
 use Rattle.json5_de.specs.Law.{TookValue}
-use Rattle.json5_de.specs.Rows.{ReadsAs, whole_row, natural_row, integer_row, string_row}
+use Rattle.json5_de.specs.TokenKinds.{ReadsAs, whole_kind, natural_kind, integer_kind, string_kind}
 use Rattle.json5_de.specs.Seq.{IsAfterGap, Begun}
 use Rattle.json5_de.specs.Short.{ReadsShort, StepsShort, ReadsShortText, ReadsShortKey, PassesShortColon, OwnsTextAt}
 use Rattle.json5_de.specs.State.{State}
-use Rattle.json5_de.proofs.Rows.{reads_ok}
+use Rattle.json5_de.proofs.TokenKinds.{reads_ok}
 use Rattle.json5_de.proofs.Taken.{value_gap, input_of}
 use Rattle.json5_de.proofs.FoundKeys.{key_ok}
 use Rattle.json5_grammar.proofs.Basics.{true_false}
@@ -55,10 +55,10 @@ took_whole before after level failed z room live k = record {
 }
 
 reads_whole : {V C : Type 0} (f : ℤ → Option C) (content : V → C) (before after : Cursor) (level : ℕ) (failed : Bool) (old : State) (z : ℤ) (v : V) → reader_at before level failed ≡ old → level ≤ max_depth → failed ≡ false → TookWhole before after z
-    → f z ≡ Some (content v) → ReadsAs (whole_row f) content old (reader_at after level failed) (Ok v)
+    → f z ≡ Some (content v) → ReadsAs (whole_kind f) content old (reader_at after level failed) (Ok v)
 reads_whole f content before after level failed old z v e room live k is =
-    subst (λ s. ReadsAs (whole_row f) content s (reader_at after level failed) (Ok v)) e
-    (reads_ok (whole_row f) content (reader_at before level failed) (reader_at after level failed) v (number (whole z), took_whole before after level failed z room live k, is))
+    subst (λ s. ReadsAs (whole_kind f) content s (reader_at after level failed) (Ok v)) e
+    (reads_ok (whole_kind f) content (reader_at before level failed) (reader_at after level failed) v (number (whole z), took_whole before after level failed z room live k, is))
 
 natural_in : (m : ℕ) (z : ℤ) → pos 0 ≤ℤ z → z ≤ℤ pos m → natural_below (m + 1) z ≡ Some (nat_abs z)
 natural_in m (pos n) l h = let below : nat_lt n (m + 1) ≡ true = grind (arith, nat_tests, ints, h) in rw below refl
@@ -70,7 +70,7 @@ integer_in (pos m) (negsuc n) p l h = let below : nat_lt n (m + 1) ≡ true = gr
 integer_in (negsuc m) z p l h = absurd (omega (arith, ints, p))
 
 pub short_natural : (before after : Cursor) (level : ℕ) (failed : Bool) (old : State) (max : ℕ) (most z : ℤ) → reader_at before level failed ≡ old → level ≤ max_depth → failed ≡ false → max < 2 ^ 64 → most ≡ pos max
-    → TookInRange (pos 0) (to_z w128 (of_z w128 most)) before after z → ReadsAs (natural_row (max + 1)) (λ n. n) old (reader_at after level failed) (Ok (nat_abs (to_z w128 (of_z w128 z))))
+    → TookInRange (pos 0) (to_z w128 (of_z w128 most)) before after z → ReadsAs (natural_kind (max + 1)) (λ n. n) old (reader_at after level failed) (Ok (nat_abs (to_z w128 (of_z w128 z))))
 short_natural before after level failed old max most z e room live m is k =
     let top : to_z w128 (of_z w128 most) ≡ pos max = rw is (to_z-of_z w128 (pos max) (omega (arith, ints, m))) in
     let high : z ≤ℤ pos max = rw top at k.high in
@@ -87,7 +87,7 @@ abbrev pub least : ℤ → ℤ
 least max = to_z w128 (of_z w128 (negsuc 0 -ℤ to_z w128 (of_z w128 max)))
 
 pub short_integer : (before after : Cursor) (level : ℕ) (failed : Bool) (old : State) (max : ℤ) (o : Option ℤ) → reader_at before level failed ≡ old → level ≤ max_depth → failed ≡ false → SFits w128 max → pos 0 ≤ℤ max
-    → MatchOption o (after ≡ before) (λ z. TookInRange (least max) (to_z w128 (of_z w128 max)) before after z) → ReadsShort (integer_row (nat_abs max + 1)) (λ n. n) old (reader_at after level failed) o
+    → MatchOption o (after ≡ before) (λ z. TookInRange (least max) (to_z w128 (of_z w128 max)) before after z) → ReadsShort (integer_kind (nat_abs max + 1)) (λ n. n) old (reader_at after level failed) o
 short_integer before after level failed old max None e room live fits p k = same_reader before after level failed old e k
 short_integer before after level failed old max (Some z) e room live fits p k =
     let top : to_z w128 (of_z w128 max) ≡ max = to_z-of_z w128 max fits in
@@ -149,13 +149,13 @@ short_colon before after level failed old true e live k =
 
 -- ---- a text in memory of its own
 
-pub own_value : {A : Type 0} {span : Span} (old mid new : State) (r : Result (String A) Error) → ((u : List ℕ) × TookValue old (text u true) mid × StandsAt mid.input u span.start span.end) → OwnsTextAt span mid new r → ReadsAs string_row string_bytes old new r
+pub own_value : {A : Type 0} {span : Span} (old mid new : State) (r : Result (String A) Error) → ((u : List ℕ) × TookValue old (text u true) mid × StandsAt mid.input u span.start span.end) → OwnsTextAt span mid new r → ReadsAs string_kind string_bytes old new r
 own_value old mid new (Ok t) (u, took, stands) (same, bytes) =
-    subst (λ s. ReadsAs string_row string_bytes old s (Ok t)) (sym same) (reads_ok string_row string_bytes old mid t (text u true, took, ap Some (sym (bytes u stands))))
+    subst (λ s. ReadsAs string_kind string_bytes old s (Ok t)) (sym same) (reads_ok string_kind string_bytes old mid t (text u true, took, ap Some (sym (bytes u stands))))
 own_value old mid new (Err e) (u, took, stands) (lacks, gives_up) = record {
   sound = tt;
   complete = λ t r c live reads shallow is. lacks.kind;
-  no_memory = λ t r c live reads shallow is free. absurd (cc);
+  no_memory = λ t r c live reads shallow is allocation_free. absurd (cc);
   refused = inl lacks;
   unprompted = λ live. memory_other e lacks.kind;
   same_text = gives_up.same_text ∙ input_of took.rest;

@@ -14,12 +14,12 @@ use Rattle.json5_de.specs.Faults.{RefusedBy}
 use Rattle.json5_de.specs.Access.{NotOpened, IsAtBracket}
 use Rattle.json5_de.specs.AnyTree.{RefusesTree}
 use Rattle.json5_value.specs.Brackets.{curly}
-use Rattle.json5_de.specs.KeyRows.{RefusedAsKey, string_key}
+use Rattle.json5_de.specs.KeyKinds.{RefusedAsKey, string_key}
 use Rattle.json5_de.specs.Keys.{KeyConversion}
-use Rattle.json5_de.specs.Objects.{SeenMap, GivesPairKey, OpensMap, ClosesMap}
+use Rattle.json5_de.specs.Objects.{MapAccessState, GivesPairKey, OpensMap, ClosesMap}
 use Rattle.json5_de.specs.ObjectFaults.{KeyRefusedAtBrace}
 use Rattle.json5_de.specs.Fields.{FieldFault, in_field, twice, FieldRead, RefusesHere, IsOwnAtBracket}
-use Rattle.json5_de.specs.Lending.{seen_map, KeepsMap}
+use Rattle.json5_de.specs.Lending.{map_state_of, KeepsMap}
 use Rattle.json5_de.specs.declared.map.MapAccess.{MapAccess}
 use Rattle.json5_de.specs.Plans.{Step, Plan, ReadsPairs}
 use Rattle.json5_de.specs.StructFaults.{ValueFaults, may_stand, of_field, first, second, of_any, RefusesPair, ReadSince, PairsFault, at_key, at_value, RefusesPairs, OpenedObject, StructFault, not_opened, in_pairs, missing}
@@ -32,9 +32,9 @@ some_made : {A B : Type 0} (g : A → B) (o : Option A) → is_some (if_some g o
 some_made g None = refl
 some_made g (Some a) = refl
 
-module _ {S : Type 0} (faults : ValueFaults) {step : Step S} {old : SeenMap} where
+module _ {S : Type 0} (faults : ValueFaults) {step : Step S} {old : MapAccessState} where
   -- a field's value is refused; s has what was read of the others, and the field's faults are among those of all
-  pub field_refused : {V C : Type 0} {content : V → C} {convert : Tree → Option C} {refuses : State → Error → State → Type 0} {name : List ℕ} {new : SeenMap} {field next : Option V} {result : Result (Unit {0}) Error} (s : S) (part : Part step name convert)
+  pub field_refused : {V C : Type 0} {content : V → C} {convert : Tree → Option C} {refuses : State → Error → State → Type 0} {name : List ℕ} {new : MapAccessState} {field next : Option V} {result : Result (Unit {0}) Error} (s : S) (part : Part step name convert)
       → ((may : Tree → Bool) (e : Error) → of_field name convert refuses name may old e → faults name may old e) → FieldRead content convert refuses old new field next result → RefusesPair faults step (part.set s (if_some content field)) name old result
   field_refused {V} {C} {content = content} {convert = convert} {refuses = refuses} {name = name} {field = field} {result = result} s part one is = by result is.cause
     where
@@ -62,20 +62,20 @@ module _ {S : Type 0} (faults : ValueFaults) {step : Step S} {old : SeenMap} whe
 
 -- ---- the pairs
 
-same_place : (old now : SeenMap) (e : Error) → SameText old.at.reader now.at.reader → now.at.start ≡ old.at.start → IsAtBracket now.at e → IsAtBracket old.at e
+same_place : (old now : MapAccessState) (e : Error) → SameText old.at.reader now.at.reader → now.at.start ≡ old.at.start → IsAtBracket now.at e → IsAtBracket old.at e
 same_place old now e same_text same_brace there before after = there before (record { rest = after.rest; split = same_text ∙ after.split; counted = same_brace ∙ after.counted })
 
 -- a key is given, or none, by a reader that hasn't failed
-pub live_before : {X C : Type 0} (content : X → C) (keys : KeyConversion C) (old new : SeenMap) (o : Option X) → GivesPairKey content keys old new o → old.at.reader.failed ≡ true → ⊥
+pub live_before : {X C : Type 0} (content : X → C) (keys : KeyConversion C) (old new : MapAccessState) (o : Option X) → GivesPairKey content keys old new o → old.at.reader.failed ≡ true → ⊥
 live_before content keys old new None (at, due, none) f = true_false f at.live
 live_before content keys old new (Some k) (u, plain, took, is, due, waits) f = true_false f took.live
 
-module _ {S : Type 0} {step : Step S} {start : S} {old : SeenMap} where
+module _ {S : Type 0} {step : Step S} {start : S} {old : MapAccessState} where
   -- what was read so far, perhaps a key after it
-  read_since : {s : S} {key : Option (List ℕ)} {now : SeenMap} (m : ReadingStruct step start old s key now) → SameText old.at.reader now.at.reader → now.at.start ≡ old.at.start → old.at.reader.failed ≡ false → ReadSince step start s m.waits old now
+  read_since : {s : S} {key : Option (List ℕ)} {now : MapAccessState} (m : ReadingStruct step start old s key now) → SameText old.at.reader now.at.reader → now.at.start ≡ old.at.start → old.at.reader.failed ≡ false → ReadSince step start s m.waits old now
   read_since m same_text same_brace live = record { live = m.live live; same_text = same_text; same_brace = same_brace; pairs = m.pairs; are = m.are; read = m.read }
 
-  module _ (faults : ValueFaults) {s : S} {now : SeenMap} (e : Error) (result : Result (Unit {0}) Error) where
+  module _ (faults : ValueFaults) {s : S} {now : MapAccessState} (e : Error) (result : Result (Unit {0}) Error) where
     -- the next key was refused
     pub key_cause : IsErrAnd result (λ y. y ≡ e) → ReadingStruct step start old s None now → SameText old.at.reader now.at.reader → now.at.start ≡ old.at.start
         → (now.at.reader.failed ≡ false → KeyRefusedAtBrace (RefusedAsKey string_key) now e) → (old.at.reader.failed ≡ true → (kind_of e ≡ code codes.Failed) × IsAtBracket now.at e) → RefusesPairs step faults start old result
@@ -102,11 +102,11 @@ module _ {S : Type 0} {step : Step S} {start : S} {old : SeenMap} where
 
 -- ---- the struct
 
-module _ {I : Type 0} {Held : MapAccess I → Type 0} {old : State} (map : MapAccess I) (opens : OpensMap Held seen_map old (Ok map)) where
-  opened_object : OpenedObject old (seen_map map)
+module _ {I : Type 0} {Held : MapAccess I → Type 0} {old : State} (map : MapAccess I) (opens : OpensMap Held map_state_of old (Ok map)) where
+  opened_object : OpenedObject old (map_state_of map)
   opened_object = record { opened = opens.bracket.opened.0; start = opens.bracket.start; read = opens.read }
 
-  begun_live : (seen_map map).at.reader.failed ≡ false
+  begun_live : (map_state_of map).at.reader.failed ≡ false
   begun_live = ap (λ (s : State). s.failed) opens.read.rest ∙ opens.read.live
 
 abbrev HasFault : {S D U : Type 0} → Plan S D → ValueFaults → State → Result U Error → Type 0
@@ -120,20 +120,20 @@ module _ {S D : Type 0} (plan : Plan S D) (faults : ValueFaults) {old : State} {
   pub unopened : RefusedBy (NotOpened curly old.level) old e → HasFault plan faults old result
   unopened refused = struct_fault (λ live. not_opened refused)
 
-  module _ {I : Type 0} {Held : MapAccess I → Type 0} (map : MapAccess I) (opens : OpensMap Held seen_map old (Ok map)) where
+  module _ {I : Type 0} {Held : MapAccess I → Type 0} (map : MapAccess I) (opens : OpensMap Held map_state_of old (Ok map)) where
     -- its pairs were refused
-    pub pairs_refused : RefusesPairs plan.step faults plan.start (seen_map map) (Err e) → HasFault plan faults old result
-    pairs_refused refuses = struct_fault (λ live. in_pairs (seen_map map) (opened_object map opens) (refuses.cause (begun_live map opens)))
+    pub pairs_refused : RefusesPairs plan.step faults plan.start (map_state_of map) (Err e) → HasFault plan faults old result
+    pairs_refused refuses = struct_fault (λ live. in_pairs (map_state_of map) (opened_object map opens) (refuses.cause (begun_live map opens)))
 
     -- a field is missing, once all were read
-    pub missing_refused : {n : S} {now : MapAccess I} → KeepsMap map now → ReadsPairs plan.step plan.start n (seen_map map) (seen_map now) (Ok tt) → plan.build n ≡ None → IsOwnAtBracket (seen_map now).at e → HasFault plan faults old result
+    pub missing_refused : {n : S} {now : MapAccess I} → KeepsMap map now → ReadsPairs plan.step plan.start n (map_state_of map) (map_state_of now) (Ok tt) → plan.build n ≡ None → IsOwnAtBracket (map_state_of now).at e → HasFault plan faults old result
     missing_refused {n = n} {now = now} keeps reads none own = struct_fault (λ live.
         let (ps, are, on) = reads.read in
         let (r, at) = reads.at_brace in
-        missing (seen_map map) (seen_map now) n r (opened_object map opens) (record { live = reads.live; same_text = keeps.same_text; same_brace = keeps.start; pairs = ps; are = are; read = on }) at none own)
+        missing (map_state_of map) (map_state_of now) n r (opened_object map opens) (record { live = reads.live; same_text = keeps.same_text; same_brace = keeps.start; pairs = ps; are = are; read = on }) at none own)
 
 -- where all pairs were read its brace is there
-pub closes_there : {S : Type 0} {step : Step S} {start n : S} {old now : SeenMap} {last : State} {e : Error} → ReadsPairs step start n old now (Ok tt) → ClosesMap now last (Err e) → {A : Type 0} → A
+pub closes_there : {S : Type 0} {step : Step S} {start n : S} {old now : MapAccessState} {last : State} {e : Error} → ReadsPairs step start n old now (Ok tt) → ClosesMap now last (Err e) → {A : Type 0} → A
 closes_there {now = now} reads closes =
     let (r, at) = reads.at_brace in
     let ok = closes.bracket.complete r reads.live (subst (λ x. IsBrace now.at.due x r) (sym at) (brace_closes now.at.due r)) in

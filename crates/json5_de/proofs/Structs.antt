@@ -15,16 +15,16 @@ use Rattle.json5_text.specs.Cursor.{IsOutOfMemory}
 use Rattle.json5_de.specs.State.{State}
 use Rattle.json5_de.specs.ConvertLists.{if_some}
 use Rattle.json5_de.specs.Law.{TookValue, Completes, IsUnprompted, Unprompted}
-use Rattle.json5_de.specs.Own.{if_more}
+use Rattle.json5_de.specs.Refinement.{if_more}
 use Rattle.json5_de.specs.Keys.{KeyConversion}
-use Rattle.json5_de.specs.Objects.{SeenMap, GivesPairKey, PairsRead, PairsLeft, ReadsAKey, LeavesAValue, OpensMap}
+use Rattle.json5_de.specs.Objects.{MapAccessState, GivesPairKey, PairsRead, PairsLeft, ReadsAKey, LeavesAValue, OpensMap}
 use Rattle.json5_de.specs.Fields.{or_value, FieldRead, FillsField, LeavesFilled}
 use Rattle.json5_de.specs.Convert.{every_text}
-use Rattle.json5_de.specs.Lending.{seen_map}
+use Rattle.json5_de.specs.Lending.{map_state_of}
 use Rattle.json5_de.specs.declared.map.MapAccess.{MapAccess}
 use Rattle.json5_de.specs.Plans.{LeavesTaken, PassesPair, Plan, Step, run, at_name, both_steps, TakesPair, ReadsPairs}
 use Rattle.json5_de.proofs.Loops.{handed_on}
-use Rattle.json5_de.proofs.Own.{parts}
+use Rattle.json5_de.proofs.Refinement.{parts}
 
 -- ---- where the value of a name goes
 
@@ -106,7 +106,7 @@ module _ {S T : Type 0} {a : Step S} {b : Step T} {name : List ℕ} where
 abbrev some_unit : Option (Unit {0})
 some_unit = Some tt
 
-module _ {S : Type 0} {step : Step S} {old new : SeenMap} where
+module _ {S : Type 0} {step : Step S} {old new : MapAccessState} where
   -- a field is read; s has what was read of the others
   pub takes_field : {V C : Type 0} {content : V → C} {convert : Tree → Option C} {refuses : _} {name : List ℕ} {field next : Option V} {result : Result (Unit {0}) Error} (s : S) (part : Part step name convert) → FieldRead content convert refuses old new field next result
       → TakesPair step (part.set s (if_some content field)) (part.set s (if_some content next)) name old new result
@@ -178,14 +178,14 @@ StandsFor (Some k) None = ⊥
 StandsFor (Some k) (Some (u, plain)) = encode_utf8_all u ≡ k
 
 -- of pairs that make m of what was read these are left
-pub record StillLeft {S : Type 0} (step : Step S) (s m : S) (key : Option (List ℕ)) (r : List ℕ) (now : SeenMap) : Type 0 where
+pub record StillLeft {S : Type 0} (step : Step S) (s m : S) (key : Option (List ℕ)) (r : List ℕ) (now : MapAccessState) : Type 0 where
   pub pairs : Pairs
   pub are : run step s pairs ≡ Some m
   pub begins : BeginsAt key pairs
   pub left : PairsLeft pairs r now
 
 -- a struct in the midst of its pairs, perhaps after a key: s is what was read of its fields since `old`, and where all pairs may stand the others are left
-pub record ReadingStruct {S : Type 0} (step : Step S) (start : S) (old : SeenMap) (s : S) (key : Option (List ℕ)) (now : SeenMap) : Type 0 where
+pub record ReadingStruct {S : Type 0} (step : Step S) (start : S) (old : MapAccessState) (s : S) (key : Option (List ℕ)) (now : MapAccessState) : Type 0 where
   pub live : old.at.reader.failed ≡ false → now.at.reader.failed ≡ false
   pub pairs : Pairs
   pub are : run step start pairs ≡ Some s
@@ -201,33 +201,33 @@ or_text other (Some k) = k
 -- one pair more
 run_snoc : {S : Type 0} (step : Step S) (s n m : S) (ps : Pairs) (u : List ℕ) (plain : Bool) (t : Tree) → run step s ps ≡ Some n → step n (encode_utf8_all u) t ≡ Some m → run step s (snoc_pair ps u plain t) ≡ Some m
 run_snoc step s n m no_pair u plain t is next = let same : s ≡ n = cc in rw (same, next) refl
-run_snoc {S} step s n m (pair v free w ps) u plain t is next = by (step s (encode_utf8_all v) w) is (λ x rest. run_snoc step x n m ps u plain t rest next)
+run_snoc {S} step s n m (pair v allocation_free w ps) u plain t is next = by (step s (encode_utf8_all v) w) is (λ x rest. run_snoc step x n m ps u plain t rest next)
   where
     by : (o : Option S) → if_more (λ x. run step x ps) o ≡ Some n → ((x : S) → run step x ps ≡ Some n → run step x (snoc_pair ps u plain t) ≡ Some m) → if_more (λ x. run step x (snoc_pair ps u plain t)) o ≡ Some m
     by None is others = absurd (cc)
     by (Some x) is others = others x is
 
-none_left : {S X : Type 0} (step : Step S) (content : X → List ℕ) (s z : S) (new : SeenMap) (ps : Pairs) (r : List ℕ) → run step s ps ≡ Some z → LeavesAValue content every_text ps r new (Ok None) → (z ≡ s) × PairsLeft no_pair r new
+none_left : {S X : Type 0} (step : Step S) (content : X → List ℕ) (s z : S) (new : MapAccessState) (ps : Pairs) (r : List ℕ) → run step s ps ≡ Some z → LeavesAValue content every_text ps r new (Ok None) → (z ≡ s) × PairsLeft no_pair r new
 none_left step content s z new no_pair r are left = (cc are, left)
 none_left step content s z new (pair u plain t ps) r are left = absurd left
 
 -- a key that was given leaves a reader that hasn't failed
-pub live_after_key : {X C : Type 0} (content : X → C) (keys : KeyConversion C) (old new : SeenMap) (k : X) → GivesPairKey content keys old new (Some k) → old.at.reader.failed ≡ false → new.at.reader.failed ≡ false
+pub live_after_key : {X C : Type 0} (content : X → C) (keys : KeyConversion C) (old new : MapAccessState) (k : X) → GivesPairKey content keys old new (Some k) → old.at.reader.failed ≡ false → new.at.reader.failed ≡ false
 live_after_key content keys old new k (u, plain, took, is, due, waits) live = ap (λ (s : State). s.failed) took.rest ∙ live
 
-pub live_at_brace : {X C : Type 0} (content : X → C) (keys : KeyConversion C) (old new : SeenMap) → GivesPairKey content keys old new None → new.at.reader.failed ≡ false
+pub live_at_brace : {X C : Type 0} (content : X → C) (keys : KeyConversion C) (old new : MapAccessState) → GivesPairKey content keys old new None → new.at.reader.failed ≡ false
 live_at_brace content keys old new (at, due, none) = ap (λ (s : State). s.failed) at.rest ∙ at.live
 
 -- where no key is given the brace is next
-pub brace_next : {X C : Type 0} (content : X → C) (keys : KeyConversion C) (old new : SeenMap) → GivesPairKey content keys old new None → (x : List ℕ) × (new.at.reader.unread ≡ right_brace ∷ x)
+pub brace_next : {X C : Type 0} (content : X → C) (keys : KeyConversion C) (old new : MapAccessState) → GivesPairKey content keys old new None → (x : List ℕ) × (new.at.reader.unread ≡ right_brace ∷ x)
 brace_next content keys old new (at, due, none) = let (r, close, next) = at.close in (r, next)
 
 -- none is read yet
-pub no_pairs : {S : Type 0} (step : Step S) (s : S) (old : SeenMap) → ReadingStruct step s old s None old
+pub no_pairs : {S : Type 0} (step : Step S) (s : S) (old : MapAccessState) → ReadingStruct step s old s None old
 no_pairs step s old = record { live = λ l. l; pairs = no_pair; are = refl; waits = None; named = tt; read = λ from p. p; left = λ ps r m is left. record { pairs = ps; are = is; begins = tt; left = left } }
 
-module _ {S : Type 0} {step : Step S} {start : S} {old : SeenMap} where
-  at_rest : {s : S} {now : SeenMap} (m : ReadingStruct step start old s None now) (from : State) → PairsRead from no_pair None old → PairsRead from m.pairs None now
+module _ {S : Type 0} {step : Step S} {start : S} {old : MapAccessState} where
+  at_rest : {s : S} {now : MapAccessState} (m : ReadingStruct step start old s None now) (from : State) → PairsRead from no_pair None old → PairsRead from m.pairs None now
   at_rest {now = now} m from begun = by m.waits m.named (m.read from begun)
     where
       by : (waits : Option (List ℕ × Bool)) → StandsFor None waits → PairsRead from m.pairs waits now → PairsRead from m.pairs None now
@@ -235,7 +235,7 @@ module _ {S : Type 0} {step : Step S} {start : S} {old : SeenMap} where
       by (Some w) named read = absurd named
 
   -- a key was read
-  pub reads_name : {X : Type 0} (content : X → List ℕ) {s : S} {at new : SeenMap} (k : X) → ReadingStruct step start old s None at → (at.at.reader.failed ≡ false → new.at.reader.failed ≡ false) → ReadsAKey content every_text at new (Some k)
+  pub reads_name : {X : Type 0} (content : X → List ℕ) {s : S} {at new : MapAccessState} (k : X) → ReadingStruct step start old s None at → (at.at.reader.failed ≡ false → new.at.reader.failed ≡ false) → ReadsAKey content every_text at new (Some k)
       → ((ps : Pairs) (r : List ℕ) → PairsLeft ps r at → LeavesAValue content every_text ps r new (Ok (Some k))) → ReadingStruct step start old s (Some (content k)) new
   reads_name content {s = s} {new = new} k m live (u, plain, is, on) fewer = record {
     live = λ l. live (m.live l);
@@ -252,7 +252,7 @@ module _ {S : Type 0} {step : Step S} {start : S} {old : SeenMap} where
       by z (pair u plain t ps) r are (is, left) = record { pairs = pair u plain t ps; are = are; begins = ap (or_text (content k)) is; left = left }
 
   -- and its value
-  pub takes_pair : {name : List ℕ} {s n : S} {at new : SeenMap} → ReadingStruct step start old s (Some name) at → TakesPair step s n name at new (Ok tt) → ReadingStruct step start old n None new
+  pub takes_pair : {name : List ℕ} {s n : S} {at new : MapAccessState} → ReadingStruct step start old s (Some name) at → TakesPair step s n name at new (Ok tt) → ReadingStruct step start old n None new
   takes_pair {name = name} {s = s} {n = n} {at = at} {new = new} m one = let (t, takes, on) = one.read in of t takes on m.waits m.named m.read
     where
       by : (z : S) (ps : Pairs) (r : List ℕ) → run step s ps ≡ Some z → BeginsAt (Some name) ps → PairsLeft ps r at → StillLeft step n z None r new
@@ -276,7 +276,7 @@ module _ {S : Type 0} {step : Step S} {start : S} {old : SeenMap} where
       }
 
   -- no key was given: all pairs were read
-  pub all_read : {X : Type 0} (content : X → List ℕ) {s : S} {at new : SeenMap} → ReadingStruct step start old s None at → new.at.reader.failed ≡ false → (x : List ℕ) × (new.at.reader.unread ≡ right_brace ∷ x) → ReadsAKey content every_text at new None
+  pub all_read : {X : Type 0} (content : X → List ℕ) {s : S} {at new : MapAccessState} → ReadingStruct step start old s None at → new.at.reader.failed ≡ false → (x : List ℕ) × (new.at.reader.unread ≡ right_brace ∷ x) → ReadsAKey content every_text at new None
       → ((ps : Pairs) (r : List ℕ) → PairsLeft ps r at → LeavesAValue content every_text ps r new (Ok None)) → ReadsPairs step start s old new (Ok tt)
   all_read content {s = s} {new = new} m live brace on fewer = record {
     at_brace = brace;
@@ -287,7 +287,7 @@ module _ {S : Type 0} {step : Step S} {start : S} {old : SeenMap} where
     unprompted = tt;
   }
 
-  module _ {n s : S} {at new : SeenMap} (e : Error) (result : Result (Unit {0}) Error) where
+  module _ {n s : S} {at new : MapAccessState} (e : Error) (result : Result (Unit {0}) Error) where
     refuses_as : {key : Option (List ℕ)} → IsErrAnd result (λ y. y ≡ e) → ReadingStruct step start old s key at → new.at.reader.failed ≡ true → (at.at.reader.failed ≡ false → IsUnprompted e)
         → ((ps : Pairs) (r : List ℕ) (z : S) → run step s ps ≡ Some z → BeginsAt key ps → PairsLeft ps r at → IsOutOfMemory e) → ReadsPairs step start n old new result
     refuses_as is_err m failed unprompted memory = handed_on (λ r. ReadsPairs step start n old new r) e result is_err (record {
@@ -319,7 +319,7 @@ module _ {S : Type 0} {step : Step S} {start : S} {old : SeenMap} where
             one.left u plain t ps r y (sym (ap (λ w. step s w t) named) ∙ is) left
 
 -- a field that is there leaves what was read
-pub still : {S : Type 0} {step : Step S} {s n : S} {old now new : SeenMap} {result : Result (Unit {0}) Error} → new ≡ now → ReadsPairs step s n old now result → ReadsPairs step s n old new result
+pub still : {S : Type 0} {step : Step S} {s n : S} {old now new : MapAccessState} {result : Result (Unit {0}) Error} → new ≡ now → ReadsPairs step s n old now result → ReadsPairs step s n old new result
 still {step = step} {s = s} {n = n} {old = old} {result = result} same reads = subst (λ w. ReadsPairs step s n old w result) (sym same) reads
 
 -- ---- a struct as a whole
@@ -329,39 +329,39 @@ pub or_default : {V C : Type 0} (content : V → C) (field : Option V) (default 
 or_default content None default = refl
 or_default content (Some v) default = refl
 
-module _ {S D : Type 0} (plan : Plan S D) {I : Type 0} {Held : MapAccess I → Type 0} {old : State} (map : MapAccess I) (opens : OpensMap Held seen_map old (Ok map)) where
-  opened_live : (seen_map map).at.reader.failed ≡ false
+module _ {S D : Type 0} (plan : Plan S D) {I : Type 0} {Held : MapAccess I → Type 0} {old : State} (map : MapAccess I) (opens : OpensMap Held map_state_of old (Ok map)) where
+  opened_live : (map_state_of map).at.reader.failed ≡ false
   opened_live = ap (λ (s : State). s.failed) opens.read.rest ∙ opens.read.live
 
   -- its brace was taken: what was read is the struct
-  pub struct_read : {n : S} {now : SeenMap} {d : D} {last end : State} → ReadsPairs plan.step plan.start n (seen_map map) now (Ok tt) → end ≡ last → ((from : State) (ps : Pairs) → PairsRead from ps None now → TookValue from (object ps) last) → plan.build n ≡ Some d
+  pub struct_read : {n : S} {now : MapAccessState} {d : D} {last end : State} → ReadsPairs plan.step plan.start n (map_state_of map) now (Ok tt) → end ≡ last → ((from : State) (ps : Pairs) → PairsRead from ps None now → TookValue from (object ps) last) → plan.build n ≡ Some d
       → (t : Tree) × TookValue old t end × (object_of plan.convert t ≡ Some d)
   struct_read reads same ends is =
       let (ps, are, on) = reads.read in
       (object ps, subst (λ e. TookValue old (object ps) e) (sym same) (ends old ps (on old opens.read)), plan.says ps ∙ ap (if_more plan.build) are ∙ is)
 
   -- the refusal of its pairs isn't `Failed`
-  pub fields_unprompted : {n : S} {now : SeenMap} {U : Type 0} (e : Error) (result : Result U Error) → IsErrAnd result (λ y. y ≡ e) → ReadsPairs plan.step plan.start n (seen_map map) now (Err e) → Unprompted old result
+  pub fields_unprompted : {n : S} {now : MapAccessState} {U : Type 0} (e : Error) (result : Result U Error) → IsErrAnd result (λ y. y ≡ e) → ReadsPairs plan.step plan.start n (map_state_of map) now (Err e) → Unprompted old result
   fields_unprompted e result is_err reads = handed_on (λ r. Unprompted old r) e result is_err (λ live. reads.unprompted opened_live)
 
   module _ {U : Type 0} (e : Error) (result : Result U Error) where
-    completes_as : IsErrAnd result (λ y. y ≡ e) → ((ps : Pairs) (r : List ℕ) (m : S) (d : D) → run plan.step plan.start ps ≡ Some m → plan.build m ≡ Some d → PairsLeft ps r (seen_map map) → IsOutOfMemory e) → Completes (object_of plan.convert) old result
+    completes_as : IsErrAnd result (λ y. y ≡ e) → ((ps : Pairs) (r : List ℕ) (m : S) (d : D) → run plan.step plan.start ps ≡ Some m → plan.build m ≡ Some d → PairsLeft ps r (map_state_of map) → IsOutOfMemory e) → Completes (object_of plan.convert) old result
     completes_as is_err k = handed_on (λ r. Completes (object_of plan.convert) old r) e result is_err (λ t r d live reads shallow is.
         let (ps, same, converts) = object_only plan.convert t d is in
         let (m, are, built) = parts plan.build (run plan.step plan.start ps) d (sym (plan.says ps) ∙ converts) in
         k ps r m d are built (opens.left ps r live (subst (λ u. Reads old.unread u r) same reads) (subst (λ u. old.level + depth u ≤ max_depth) same shallow)))
 
     -- its pairs were refused
-    pub fields_complete : {n : S} {now : SeenMap} → IsErrAnd result (λ y. y ≡ e) → ReadsPairs plan.step plan.start n (seen_map map) now (Err e) → Completes (object_of plan.convert) old result
+    pub fields_complete : {n : S} {now : MapAccessState} → IsErrAnd result (λ y. y ≡ e) → ReadsPairs plan.step plan.start n (map_state_of map) now (Err e) → Completes (object_of plan.convert) old result
     fields_complete is_err reads = completes_as is_err (λ ps r m d are built left. reads.left ps r m are left)
 
     -- all its pairs were read, and they make no struct
-    pub missing_completes : {n : S} {now : SeenMap} → IsErrAnd result (λ y. y ≡ e) → ReadsPairs plan.step plan.start n (seen_map map) now (Ok tt) → plan.build n ≡ None → Completes (object_of plan.convert) old result
+    pub missing_completes : {n : S} {now : MapAccessState} → IsErrAnd result (λ y. y ≡ e) → ReadsPairs plan.step plan.start n (map_state_of map) now (Ok tt) → plan.build n ≡ None → Completes (object_of plan.convert) old result
     missing_completes is_err reads none = completes_as is_err (λ ps r m d are built left.
         let (same, rest) = reads.left ps r m are left in
         let both : Some d ≡ None = sym built ∙ ap plan.build same ∙ none in
         absurd (cc both))
 
     -- its brace was refused
-    pub end_completes : {n : S} {now : SeenMap} → IsErrAnd result (λ y. y ≡ e) → ReadsPairs plan.step plan.start n (seen_map map) now (Ok tt) → ((r : List ℕ) → PairsLeft no_pair r now → IsOk {T = Unit {0}} {E = Error} (Err e)) → Completes (object_of plan.convert) old result
+    pub end_completes : {n : S} {now : MapAccessState} → IsErrAnd result (λ y. y ≡ e) → ReadsPairs plan.step plan.start n (map_state_of map) now (Ok tt) → ((r : List ℕ) → PairsLeft no_pair r now → IsOk {T = Unit {0}} {E = Error} (Err e)) → Completes (object_of plan.convert) old result
     end_completes is_err reads ends = completes_as is_err (λ ps r m d are built left. let (same, rest) = reads.left ps r m are left in absurd (false≢true (ends r rest)))

@@ -19,7 +19,7 @@ use Rattle.json5_text.specs.Tokens.{FaultyBlanks, FaultyWord}
 use Rattle.json5_de.specs.State.{State, cursor_of}
 use Rattle.json5_de.specs.Law.{TookValue}
 use Rattle.json5_de.specs.Faults.{AfterBlanks, in_blanks, after_gap, RefusedBy, RefusedByOrMemory, FaultyBool, begins_with}
-use Rattle.json5_de.specs.Steps.{PassedGap, TookText}
+use Rattle.json5_de.specs.ReaderSteps.{PassedGap, TookText}
 
 -- a gap before a value is of blanks
 pub value_gap : {s : List ℕ} {t : Tree} (w x r : List ℕ) → Val s t → Gap w x → x ≡ s ++ r → Blanks w

@@ -8,8 +8,8 @@ use Rattle.json5_grammar.specs.Strings.{Str}
 use Rattle.json5_text.proofs.TextScalars.{text_characters}
 use Rattle.json5_de.specs.Convert.{one_character}
 use Rattle.json5_de.specs.State.{State}
-use Rattle.json5_de.specs.Takes.{TakesOwnString}
-use Rattle.json5_de.specs.Steps.{TookOwned, TookCharacters}
+use Rattle.json5_de.specs.TokenCalls.{TakesOwnString}
+use Rattle.json5_de.specs.ReaderSteps.{TookOwned, TookCharacters}
 
 pub same_character : (u : List ℕ) (plain : Bool) → one_character u plain ≡ one_character u false
 same_character [] plain = refl

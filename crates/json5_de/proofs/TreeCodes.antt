@@ -79,12 +79,12 @@ gives_shallow content convert old new v (t, took, is) =
     let within : nat_le (depth t) (max_depth - old.level) ≡ true = grind (arith, nat_tests) in
     (t, took, ap (λ b. if b then convert t else None) within ∙ is)
 
-answers : {V C : Type 0} (content : V → C) (convert : Tree → Option C) (free : Tree → Bool) (old new : State) (result : Result V Error) → ReadsTree content convert free old new result
+answers : {V C : Type 0} (content : V → C) (convert : Tree → Option C) (allocation_free : Tree → Bool) (old new : State) (result : Result V Error) → ReadsTree content convert allocation_free old new result
     → IfOk result (λ v. Gives content (shallow old.level convert) old new v) × IfErr result (RefusedInReading old)
-answers content convert free old new (Ok v) k = (gives_shallow content convert old new v k.sound, tt)
-answers content convert free old new (Err e) k = (tt, as_reading old e k.refused)
+answers content convert allocation_free old new (Ok v) k = (gives_shallow content convert old new v k.sound, tt)
+answers content convert allocation_free old new (Err e) k = (tt, as_reading old e k.refused)
 
-pub tells_trees_apart : {V C : Type 0} (content : V → C) (convert : Tree → Option C) (free : Tree → Bool) → TellsTreesApart content convert free
-tells_trees_apart content convert free old new result k =
-    let (given, refused) = answers content convert free old new result k in
+pub tells_trees_apart : {V C : Type 0} (content : V → C) (convert : Tree → Option C) (allocation_free : Tree → Bool) → TellsTreesApart content convert allocation_free
+tells_trees_apart content convert allocation_free old new result k =
+    let (given, refused) = answers content convert allocation_free old new result k in
     (ends_or_memory IsOutOfMemory (expects_tree old.level convert) content old new result given refused, differs_or_memory IsOutOfMemory (expects_tree old.level convert) content old new result given refused)

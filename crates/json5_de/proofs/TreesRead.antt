@@ -23,7 +23,7 @@ use Rattle.json5_de.proofs.TreeFaults.{as_fault}
 use Rattle.json5_text.specs.declared.value.Value.{Value}
 use Rattle.json5_text.specs.ValueViews.{value_of}
 use Rattle.json5_value.specs.Keeping.{ReadsDatum, BlamesOrMemory, as_datum, datum_at}
-use Rattle.json5_value.specs.Skipping.{Skips}
+use Rattle.json5_value.specs.SkipSteps.{Skips}
 use Rattle.json5_value.specs.Steps.{StandsAt, Blames, value_at}
 use Rattle.json5_value.proofs.BuildScalars.{datum_got}
 use Rattle.json5_value.proofs.OtherCodes.{memory_other}
@@ -31,9 +31,9 @@ use Rattle.json5_value.proofs.Steps.{blames_as, forget_got}
 use Rattle.json5_de.specs.Convert.{every_datum}
 use Rattle.json5_de.specs.AnyTree.{ReadingRefuses, RefusedInReading, ReadsTree, nothing, every_value}
 use Rattle.json5_de.specs.Law.{TookValue, StaysFailed, Unprompted}
-use Rattle.json5_de.specs.Rows.{every_tree, no_tree}
+use Rattle.json5_de.specs.TokenKinds.{every_tree, no_tree}
 use Rattle.json5_de.specs.State.{State, Calls, cursor_of, OnlyRead, GivesUp}
-use Rattle.json5_de.specs.Steps.{PassedGap}
+use Rattle.json5_de.specs.ReaderSteps.{PassedGap}
 use Rattle.json5_de.proofs.Options.{blanks_no_value}
 use Rattle.json5_de.proofs.Taken.{input_of, value_gap, refused_blanks, refused_token}
 
@@ -56,12 +56,12 @@ took_tree old mid new t p e rest =
     }
 
 -- a value was read, and its tree converts
-pub tree_read : {V C : Type 0} (content : V → C) (convert : Tree → Option C) (free : Tree → Bool) (old mid new : State) (t : Tree) (v : V) → PassedGap old mid → read (max_depth - mid.level) mid.unread ≡ got t new.unread → OnlyRead mid new → convert t ≡ Some (content v)
-    → ReadsTree content convert free old new (Ok v)
-tree_read content convert free old mid new t v p e rest is = record {
+pub tree_read : {V C : Type 0} (content : V → C) (convert : Tree → Option C) (allocation_free : Tree → Bool) (old mid new : State) (t : Tree) (v : V) → PassedGap old mid → read (max_depth - mid.level) mid.unread ≡ got t new.unread → OnlyRead mid new → convert t ≡ Some (content v)
+    → ReadsTree content convert allocation_free old new (Ok v)
+tree_read content convert allocation_free old mid new t v p e rest is = record {
   sound = (t, took_tree old mid new t p e rest, is);
   complete = λ t r c live reads shallow is. tt;
-  no_memory = λ t r c live reads shallow is free. refl;
+  no_memory = λ t r c live reads shallow is allocation_free. refl;
   refused = tt;
   unprompted = tt;
   same_text = input_of rest ∙ input_of p.rest;
@@ -110,11 +110,11 @@ blamed old mid e p b = by_cause b.says
         inr (refused_token old mid e p (subst (λ n. Refused (ReadingRefuses n) (cursor_of mid) e) (ap (λ (s : State). s.level) p.rest) (placed_in mid b.reason b.place e is says there (read_place (max_depth - mid.level) mid.unread b.reason b.place is))))
 
 -- the value was refused
-pub tree_refused : {V C : Type 0} (content : V → C) (convert : Tree → Option C) (free : Tree → Bool) (old mid new : State) (e : Error) → PassedGap old mid → Blames mid.input (whole_at mid) e → GivesUp mid new → ReadsTree content convert free old new (Err e)
-tree_refused content convert free old mid new e p b g = record {
+pub tree_refused : {V C : Type 0} (content : V → C) (convert : Tree → Option C) (allocation_free : Tree → Bool) (old mid new : State) (e : Error) → PassedGap old mid → Blames mid.input (whole_at mid) e → GivesUp mid new → ReadsTree content convert allocation_free old new (Err e)
+tree_refused content convert allocation_free old mid new e p b g = record {
   sound = tt;
   complete = λ t r c live reads shallow is. absurd (readable old mid e t r p reads shallow b);
-  no_memory = λ t r c live reads shallow is free. absurd (readable old mid e t r p reads shallow b);
+  no_memory = λ t r c live reads shallow is allocation_free. absurd (readable old mid e t r p reads shallow b);
   refused = as_fault old e (blamed old mid e p b);
   unprompted = λ live. b.unprompted;
   same_text = g.same_text ∙ input_of p.rest;
@@ -123,12 +123,12 @@ tree_refused content convert free old mid new e p b g = record {
 }
 
 -- a comment before it was refused, or the reader had failed
-pub tree_not_begun : {V C : Type 0} (content : V → C) (convert : Tree → Option C) (free : Tree → Bool) (old new : State) (e : Error) → (old.failed ≡ false → Refused FaultyBlanks (cursor_of old) e) → GivesUp old new
-    → StaysFailed {V = Unit {0}} old new (Err e) → Unprompted {V = Unit {0}} old (Err e) → ReadsTree content convert free old new (Err e)
-tree_not_begun content convert free old new e k g before unprompted = record {
+pub tree_not_begun : {V C : Type 0} (content : V → C) (convert : Tree → Option C) (allocation_free : Tree → Bool) (old new : State) (e : Error) → (old.failed ≡ false → Refused FaultyBlanks (cursor_of old) e) → GivesUp old new
+    → StaysFailed {V = Unit {0}} old new (Err e) → Unprompted {V = Unit {0}} old (Err e) → ReadsTree content convert allocation_free old new (Err e)
+tree_not_begun content convert allocation_free old new e k g before unprompted = record {
   sound = tt;
   complete = λ t r c live reads shallow is. absurd (blanks_no_value old e t r (k live) reads);
-  no_memory = λ t r c live reads shallow is free. absurd (blanks_no_value old e t r (k live) reads);
+  no_memory = λ t r c live reads shallow is allocation_free. absurd (blanks_no_value old e t r (k live) reads);
   refused = as_fault old e (inr (refused_blanks old e k));
   unprompted = unprompted;
   same_text = g.same_text;
@@ -138,11 +138,11 @@ tree_not_begun content convert free old new e k g before unprompted = record {
 
 -- ---- the same with another content
 
-pub read_as : {V W C : Type 0} (content : V → C) (other : W → C) (convert : Tree → Option C) (free : Tree → Bool) (old new : State) (v : V) (w : W) → content v ≡ other w → ReadsTree content convert free old new (Ok v) → ReadsTree other convert free old new (Ok w)
-read_as content other convert free old new v w same k = record {
+pub read_as : {V W C : Type 0} (content : V → C) (other : W → C) (convert : Tree → Option C) (allocation_free : Tree → Bool) (old new : State) (v : V) (w : W) → content v ≡ other w → ReadsTree content convert allocation_free old new (Ok v) → ReadsTree other convert allocation_free old new (Ok w)
+read_as content other convert allocation_free old new v w same k = record {
   sound = let (t, took, is) = k.sound in (t, took, is ∙ ap Some same);
   complete = λ t r c live reads shallow is. tt;
-  no_memory = λ t r c live reads shallow is free. refl;
+  no_memory = λ t r c live reads shallow is allocation_free. refl;
   refused = tt;
   unprompted = tt;
   same_text = k.same_text;
@@ -150,11 +150,11 @@ read_as content other convert free old new v w same k = record {
   before = λ h. let (t, took, is) = k.sound in true_false h took.live;
 }
 
-pub refused_as : {V W C : Type 0} (content : V → C) (other : W → C) (convert : Tree → Option C) (free : Tree → Bool) (old new : State) (e : Error) → ReadsTree content convert free old new (Err e) → ReadsTree other convert free old new (Err e)
-refused_as content other convert free old new e k = record {
+pub refused_as : {V W C : Type 0} (content : V → C) (other : W → C) (convert : Tree → Option C) (allocation_free : Tree → Bool) (old new : State) (e : Error) → ReadsTree content convert allocation_free old new (Err e) → ReadsTree other convert allocation_free old new (Err e)
+refused_as content other convert allocation_free old new e k = record {
   sound = tt;
   complete = k.complete;
-  no_memory = λ t r c live reads shallow is free. absurd (false≢true (k.no_memory t r c live reads shallow is free));
+  no_memory = λ t r c live reads shallow is allocation_free. absurd (false≢true (k.no_memory t r c live reads shallow is allocation_free));
   refused = k.refused;
   unprompted = k.unprompted;
   same_text = k.same_text;
@@ -180,7 +180,7 @@ lacks_memory : (old mid new : State) (e : Error) → PassedGap old mid → IsOut
 lacks_memory old mid new e p memory g = record {
   sound = tt;
   complete = λ t r c live reads shallow is. memory;
-  no_memory = λ t r c live reads shallow is free. absurd (false≢true free);
+  no_memory = λ t r c live reads shallow is allocation_free. absurd (false≢true allocation_free);
   refused = inl memory;
   unprompted = λ live. memory_other e memory;
   same_text = g.same_text ∙ input_of p.rest;

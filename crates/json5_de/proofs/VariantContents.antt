@@ -9,22 +9,22 @@ use Rattle.json5_grammar.proofs.Unique.{one_phrase}
 use Rattle.json5_text.specs.declared.error.Error.{Error}
 use Rattle.json5_de.specs.State.{State, SameText, GivesUp}
 use Rattle.json5_de.specs.Law.{TookValue, Gives, Completes, CompletesFree, Unprompted}
-use Rattle.json5_de.specs.Steps.{IsMismatch}
+use Rattle.json5_de.specs.ReaderSteps.{IsMismatch}
 use Rattle.json5_de.specs.ConvertLists.{if_some}
 use Rattle.json5_value.specs.Places.{PlacedAt, StartsAfter}
 use Rattle.json5_value.specs.Brackets.{curly}
 use Rattle.json5_de.specs.Access.{ClosesAs}
-use Rattle.json5_de.specs.Enums.{SeenEnum, AfterName, ContentLeft, RefusesContent, no_content, in_content, not_closed, ReadsInBrace, ReadsVariant, content_of, unit_content, content_free}
+use Rattle.json5_de.specs.Enums.{EnumAccessState, AfterName, ContentLeft, RefusesContent, no_content, in_content, not_closed, ReadsInBrace, ReadsVariant, content_of, unit_content, content_free}
 use Rattle.json5_de.proofs.Elements.{still_live}
 use Rattle.json5_de.proofs.FoundKeys.{mismatch_other}
 use Rattle.json5_de.proofs.Taken.{input_of}
 use Rattle.json5_de.proofs.VariantNames.{whole_variant}
 
-module _ {V C : Type 0} (content : V → C) (convert : Tree → Option C) (free : Tree → Bool) (refuses : State → Error → State → Type 0) where
+module _ {V C : Type 0} (content : V → C) (convert : Tree → Option C) (allocation_free : Tree → Bool) (refuses : State → Error → State → Type 0) where
   -- ---- between the braces
 
   -- the content was read, and no closing brace is next
-  pub brace_missing : (start : ℕ) (old after new : State) (v : V) (e : Error) → Gives content convert old after v → ClosesAs curly true after new (Err e) → SameText after new → new.failed ≡ true → ReadsInBrace content convert free refuses start old new (Err e)
+  pub brace_missing : (start : ℕ) (old after new : State) (v : V) (e : Error) → Gives content convert old after v → ClosesAs curly true after new (Err e) → SameText after new → new.failed ≡ true → ReadsInBrace content convert allocation_free refuses start old new (Err e)
   brace_missing start old after new v e (t, took, is) closes same failed = record {
     sound = tt;
     complete = λ u z r c live reads close deep converts. absurd (nowhere u z r reads close);
@@ -42,8 +42,8 @@ module _ {V C : Type 0} (content : V → C) (convert : Tree → Option C) (free 
           absurd (cc)
 
   -- the content was refused
-  pub content_refused : (start : ℕ) (old after new : State) (own e : Error) → refuses old own after → Completes {V = V} convert old (Err own) → CompletesFree {V = V} free convert old (Err own) → Unprompted {V = V} old (Err own) → SameText old after
-      → new ≡ record after { failed = true } → PlacedAt (StartsAfter old.input start) own e → ReadsInBrace content convert free refuses start old new (Err e)
+  pub content_refused : (start : ℕ) (old after new : State) (own e : Error) → refuses old own after → Completes {V = V} convert old (Err own) → CompletesFree {V = V} allocation_free convert old (Err own) → Unprompted {V = V} old (Err own) → SameText old after
+      → new ≡ record after { failed = true } → PlacedAt (StartsAfter old.input start) own e → ReadsInBrace content convert allocation_free refuses start old new (Err e)
   content_refused start old after new own e cause complete no_memory other same left placed = record {
     sound = tt;
     complete = λ u z r c live reads close deep converts. placed.kind ∙ complete u z c live reads deep converts;
@@ -56,12 +56,12 @@ module _ {V C : Type 0} (content : V → C) (convert : Tree → Option C) (free 
 
   -- ---- what the access reads
 
-  module _ (of_content : Option Tree → Option C) (of_free : Option Tree → Bool) (same_convert : (t : Tree) → of_content (Some t) ≡ convert t) (same_free : (t : Tree) → of_free (Some t) ≡ free t) (old : SeenEnum) (new : State) where
+  module _ (of_content : Option Tree → Option C) (of_free : Option Tree → Bool) (same_convert : (t : Tree) → of_content (Some t) ≡ convert t) (same_free : (t : Tree) → of_free (Some t) ≡ allocation_free t) (old : EnumAccessState) (new : State) where
     one_content : (c : Option Tree) (r : List ℕ) → old.has_content ≡ true → ContentLeft c r old → (t : Tree) × (z : List ℕ) × (c ≡ Some t) × Reads old.reader.unread t z × IsBrace true z r × (old.reader.level + depth t ≤ max_depth)
     one_content None r has l = absurd (true_false has l.content)
     one_content (Some t) r has l = let (z, reads, close) = l.tail in (t, z, refl, reads, close, l.shallow)
 
-    pub variant_read : (result : Result V Error) → old.has_content ≡ true → ReadsInBrace content convert free refuses old.start old.reader new result → ReadsVariant content of_content of_free refuses old new result
+    pub variant_read : (result : Result V Error) → old.has_content ≡ true → ReadsInBrace content convert allocation_free refuses old.start old.reader new result → ReadsVariant content of_content of_free refuses old new result
     variant_read (Ok v) has k = record {
       read = λ names from n.
           let (t, after, took, closed, is) = k.sound in
@@ -93,7 +93,7 @@ module _ {V C : Type 0} (content : V → C) (convert : Tree → Option C) (free 
     }
 
   -- a text, where content is expected
-  pub text_refused : (old : SeenEnum) (new : State) (e : Error) → old.has_content ≡ false → IsMismatch old.reader.input old.start e → GivesUp old.reader new → ReadsVariant content (content_of convert) (content_free free) refuses old new (Err e)
+  pub text_refused : (old : EnumAccessState) (new : State) (e : Error) → old.has_content ≡ false → IsMismatch old.reader.input old.start e → GivesUp old.reader new → ReadsVariant content (content_of convert) (content_free allocation_free) refuses old new (Err e)
   text_refused old new e none is failed = record {
     read = tt;
     left = λ c r d l converts. absurd (lacks c r d l converts);
@@ -109,8 +109,8 @@ module _ {V C : Type 0} (content : V → C) (convert : Tree → Option C) (free 
       lacks (Some t) r d l e = true_false l.content none
 
 -- a text is a variant without content
-pub text_is_unit : (free : Option Tree → Bool) (refuses : State → Error → State → Type 0) (old : SeenEnum) (new : State) → old.has_content ≡ false → new ≡ old.reader → ReadsVariant {V = Unit {0}} (λ v. tt) unit_content free refuses old new (Ok tt)
-text_is_unit free refuses old new none same = record {
+pub text_is_unit : (allocation_free : Option Tree → Bool) (refuses : State → Error → State → Type 0) (old : EnumAccessState) (new : State) → old.has_content ≡ false → new ≡ old.reader → ReadsVariant {V = Unit {0}} (λ v. tt) unit_content allocation_free refuses old new (Ok tt)
+text_is_unit allocation_free refuses old new none same = record {
   read = λ names from n.
       let took = subst (λ s. TookValue from (text n.name n.plain) s) (sym same) (subst (λ b. AfterName b from n.name n.plain old.reader) none n.after) in
       (text n.name n.plain, None, took, ap (if_some (λ i. (i, None))) n.place, refl);

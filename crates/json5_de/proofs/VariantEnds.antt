@@ -7,13 +7,13 @@ use Rattle.json5_grammar.proofs.MembersPassed.{one_end}
 use Rattle.json5_text.specs.declared.error.Error.{Error}
 use Rattle.json5_value.specs.Places.{StartsAfter, PlacedAt}
 use Rattle.json5_de.specs.State.{State, GivesUp}
-use Rattle.json5_de.specs.Steps.{IsMismatch}
+use Rattle.json5_de.specs.ReaderSteps.{IsMismatch}
 use Rattle.json5_value.specs.declared.brackets.Brackets.{Brackets}
 use Rattle.json5_de.specs.Brackets.{AreSigns}
 use Rattle.json5_value.specs.Brackets.{square, curly}
-use Rattle.json5_de.specs.Access.{Seen, IsStart, Opened, OpensAs, ClosesArray}
-use Rattle.json5_de.specs.Objects.{SeenMap, ClosesMap, LeftAfter}
-use Rattle.json5_de.specs.Enums.{SeenEnum, no_content, in_content, ClosesLast, ClosesContent, not_ended, brace_open, ClosesTuple, ClosesStruct, EndsArray, EndsObject, OpensContent, OpensTuple, OpensStruct}
+use Rattle.json5_de.specs.Access.{AccessState, IsStart, Opened, OpensAs, ClosesArray}
+use Rattle.json5_de.specs.Objects.{MapAccessState, ClosesMap, LeftAfter}
+use Rattle.json5_de.specs.Enums.{EnumAccessState, no_content, in_content, ClosesLast, ClosesContent, not_ended, brace_open, ClosesTuple, ClosesStruct, EndsArray, EndsObject, OpensContent, OpensTuple, OpensStruct}
 use Rattle.json5_de.proofs.Arrays.{failed_of}
 use Rattle.json5_de.proofs.Elements as elements
 use Rattle.json5_de.proofs.Elements.{closes_array, refuses_end, more_and_less}
@@ -26,16 +26,16 @@ use Rattle.json5_de.proofs.VariantNames.{whole_variant}
 -- ---- closing
 
 -- the own bracket alone
-pub array_closed : (old : Seen) (new : State) (result : Result (Unit {0}) Error) → ClosesLast square old.due old.reader new result → ClosesArray old new result
+pub array_closed : (old : AccessState) (new : State) (result : Result (Unit {0}) Error) → ClosesLast square old.due old.reader new result → ClosesArray old new result
 array_closed old new (Ok tt) k = closes_array old new k.closes.closed
 array_closed old new (Err e) k = refuses_end old new e (record { failed = k.failed; same_text = k.same_text }) k.closes
 
-pub object_closed : (old : SeenMap) (new : State) (result : Result (Unit {0}) Error) → ClosesLast curly old.at.due old.at.reader new result → ClosesMap old new result
+pub object_closed : (old : MapAccessState) (new : State) (result : Result (Unit {0}) Error) → ClosesLast curly old.at.due old.at.reader new result → ClosesMap old new result
 object_closed old new (Ok tt) k = closes_map old new k.closes.closed
 object_closed old new (Err e) k = refuses_map_end old new e (record { failed = k.failed; same_text = k.same_text }) k.closes
 
 -- the variant's brace too
-pub tuple_closed : (brace : ℕ) (old : Seen) (new : State) (result : Result (Unit {0}) Error) → ClosesContent square old.due brace old.reader new result → ClosesTuple brace old new result
+pub tuple_closed : (brace : ℕ) (old : AccessState) (new : State) (result : Result (Unit {0}) Error) → ClosesContent square old.due brace old.reader new result → ClosesTuple brace old new result
 tuple_closed brace old new (Ok tt) k = record {
   bracket = k;
   read = λ from content u plain ts at e. let (after, one, two) = k.closed in whole_variant from content after new u plain (array ts) at (elements.all_read content old after ts one e) two;
@@ -43,7 +43,7 @@ tuple_closed brace old new (Ok tt) k = record {
 }
 tuple_closed brace old new (Err e) k = record { bracket = k; read = tt; left = λ x r l close. k.complete x r l.live l.tail close }
 
-pub struct_closed : (brace : ℕ) (old : SeenMap) (new : State) (result : Result (Unit {0}) Error) → ClosesContent curly old.at.due brace old.at.reader new result → ClosesStruct brace old new result
+pub struct_closed : (brace : ℕ) (old : MapAccessState) (new : State) (result : Result (Unit {0}) Error) → ClosesContent curly old.at.due brace old.at.reader new result → ClosesStruct brace old new result
 struct_closed brace old new (Ok tt) k = record {
   bracket = k;
   read = λ from content u plain ps at e. let (after, one, two) = k.closed in whole_variant from content after new u plain (object ps) at (pairs.all_read content old after ps one e) two;
@@ -52,16 +52,16 @@ struct_closed brace old new (Ok tt) k = record {
 struct_closed brace old new (Err e) k = record { bracket = k; read = tt; left = λ x r none l close. k.complete x r l.live (subst (λ p. LeftAfter p no_pair old.at.due old.at.reader.unread x) none l.tail) close }
 
 -- at the end of an access
-pub array_ends : (old : Seen) (new : State) (result : Result (Unit {0}) Error) → ClosesLast square old.due old.reader new result → EndsArray None old new result
+pub array_ends : (old : AccessState) (new : State) (result : Result (Unit {0}) Error) → ClosesLast square old.due old.reader new result → EndsArray None old new result
 array_ends old new result k = record { alone = λ none. array_closed old new result k; in_variant = λ start some. absurd (cc) }
 
-pub tuple_ends : (brace : ℕ) (old : Seen) (new : State) (result : Result (Unit {0}) Error) → ClosesContent square old.due brace old.reader new result → EndsArray (Some brace) old new result
+pub tuple_ends : (brace : ℕ) (old : AccessState) (new : State) (result : Result (Unit {0}) Error) → ClosesContent square old.due brace old.reader new result → EndsArray (Some brace) old new result
 tuple_ends brace old new result k = record { alone = λ none. absurd (cc); in_variant = λ start some. let same : brace ≡ start = cc in subst (λ b. ClosesTuple b old new result) same (tuple_closed brace old new result k) }
 
-pub object_ends : (old : SeenMap) (new : State) (result : Result (Unit {0}) Error) → ClosesLast curly old.at.due old.at.reader new result → EndsObject None old new result
+pub object_ends : (old : MapAccessState) (new : State) (result : Result (Unit {0}) Error) → ClosesLast curly old.at.due old.at.reader new result → EndsObject None old new result
 object_ends old new result k = record { alone = λ none. object_closed old new result k; in_variant = λ start some. absurd (cc) }
 
-pub struct_ends : (brace : ℕ) (old : SeenMap) (new : State) (result : Result (Unit {0}) Error) → ClosesContent curly old.at.due brace old.at.reader new result → EndsObject (Some brace) old new result
+pub struct_ends : (brace : ℕ) (old : MapAccessState) (new : State) (result : Result (Unit {0}) Error) → ClosesContent curly old.at.due brace old.at.reader new result → EndsObject (Some brace) old new result
 struct_ends brace old new result k = record { alone = λ none. absurd (cc); in_variant = λ start some. let same : brace ≡ start = cc in subst (λ b. ClosesStruct b old new result) same (struct_closed brace old new result k) }
 
 module _ (b : Brackets) (signs : AreSigns b) (due : Bool) (brace : ℕ) (old : State) where
@@ -103,12 +103,12 @@ module _ (b : Brackets) (signs : AreSigns b) (due : Bool) (brace : ℕ) (old : S
 
 -- ---- opening
 
-module _ (b : Brackets) (old : SeenEnum) where
-  pub content_opened : (seen : ℕ → Seen) (start : ℕ) → old.has_content ≡ true → OpensAs b seen old.reader (Ok start) → OpensContent b seen old (Ok start)
-  content_opened seen start has o = record { has_content = has; opened = o.opened; start = o.start; complete = λ r h live sign room. refl; refused = tt; unprompted = tt }
+module _ (b : Brackets) (old : EnumAccessState) where
+  pub content_opened : (state_of : ℕ → AccessState) (start : ℕ) → old.has_content ≡ true → OpensAs b state_of old.reader (Ok start) → OpensContent b state_of old (Ok start)
+  content_opened state_of start has o = record { has_content = has; opened = o.opened; start = o.start; complete = λ r h live sign room. refl; refused = tt; unprompted = tt }
 
-  pub content_not_opened : {A : Type 0} (see : A → Seen) (seen : ℕ → Seen) (new : State) (own e : Error) → old.has_content ≡ true → OpensAs b see old.reader (Err own) → GivesUp old.reader new → PlacedAt (StartsAfter new.input old.start) own e → OpensContent b seen old (Err e)
-  content_not_opened see seen new own e has o failed placed = record {
+  pub content_not_opened : {A : Type 0} (see : A → AccessState) (state_of : ℕ → AccessState) (new : State) (own e : Error) → old.has_content ≡ true → OpensAs b see old.reader (Err own) → GivesUp old.reader new → PlacedAt (StartsAfter new.input old.start) own e → OpensContent b state_of old (Err e)
+  content_not_opened see state_of new own e has o failed placed = record {
     has_content = tt;
     opened = tt;
     start = tt;
@@ -117,8 +117,8 @@ module _ (b : Brackets) (old : SeenEnum) where
     unprompted = λ live h. o.unprompted live (sym placed.kind ∙ h);
   }
 
-  pub no_content_opened : (seen : ℕ → Seen) (e : Error) → old.has_content ≡ false → IsMismatch old.reader.input old.start e → OpensContent b seen old (Err e)
-  no_content_opened seen e none is = record {
+  pub no_content_opened : (state_of : ℕ → AccessState) (e : Error) → old.has_content ≡ false → IsMismatch old.reader.input old.start e → OpensContent b state_of old (Err e)
+  no_content_opened state_of e none is = record {
     has_content = tt;
     opened = tt;
     start = tt;
@@ -128,39 +128,39 @@ module _ (b : Brackets) (old : SeenEnum) where
   }
 
 -- seen in another way
-pub tuple_opened : {A : Type 0} (see : ℕ → Seen) (seen : A → Seen) (old : SeenEnum) (start : ℕ) (a : A) → see start ≡ seen a → OpensContent square see old (Ok start) → OpensTuple seen old (Ok a)
-tuple_opened see seen old start a same k =
-    let (opened, due) = subst (λ (s : Seen). Opened square old.reader s.reader × (s.due ≡ false)) same k.opened in
+pub tuple_opened : {A : Type 0} (see : ℕ → AccessState) (state_of : A → AccessState) (old : EnumAccessState) (start : ℕ) (a : A) → see start ≡ state_of a → OpensContent square see old (Ok start) → OpensTuple state_of old (Ok a)
+tuple_opened see state_of old start a same k =
+    let (opened, due) = subst (λ (s : AccessState). Opened square old.reader s.reader × (s.due ≡ false)) same k.opened in
     let start_known = subst (IsStart square old.reader.input) same k.start in
     record {
       content = record { has_content = k.has_content; opened = (opened, due); start = start_known; complete = λ r h live sign room. refl; refused = tt; unprompted = tt };
       same_text = input_of opened.rest;
-      read = elements.opened_read old.reader (seen a) due opened;
-      left = λ ts r h live reads shallow. elements.opened_left old.reader (seen a) ts r due opened reads shallow;
+      read = elements.opened_read old.reader (state_of a) due opened;
+      left = λ ts r h live reads shallow. elements.opened_left old.reader (state_of a) ts r due opened reads shallow;
     }
 
-pub tuple_not_opened : {A : Type 0} (see : ℕ → Seen) (seen : A → Seen) (old : SeenEnum) (e : Error) → OpensContent square see old (Err e) → OpensTuple seen old (Err e)
-tuple_not_opened see seen old e k = record {
+pub tuple_not_opened : {A : Type 0} (see : ℕ → AccessState) (state_of : A → AccessState) (old : EnumAccessState) (e : Error) → OpensContent square see old (Err e) → OpensTuple state_of old (Err e)
+tuple_not_opened see state_of old e k = record {
   content = record { has_content = tt; opened = tt; start = tt; complete = k.complete; refused = k.refused; unprompted = k.unprompted };
   same_text = tt;
   read = tt;
   left = λ ts r h live reads shallow. let (y, opens, room) = elements.array_opens old.reader ts r reads shallow in let ok = k.complete y h live opens room in absurd (cc);
 }
 
-pub struct_opened : {A : Type 0} (see : ℕ → Seen) (seen : A → SeenMap) (old : SeenEnum) (start : ℕ) (a : A) → see start ≡ (seen a).at → (seen a).pending ≡ false → OpensContent curly see old (Ok start) → OpensStruct seen old (Ok a)
-struct_opened see seen old start a same none k =
-    let (opened, due) = subst (λ (s : Seen). Opened curly old.reader s.reader × (s.due ≡ false)) same k.opened in
+pub struct_opened : {A : Type 0} (see : ℕ → AccessState) (state_of : A → MapAccessState) (old : EnumAccessState) (start : ℕ) (a : A) → see start ≡ (state_of a).at → (state_of a).pending ≡ false → OpensContent curly see old (Ok start) → OpensStruct state_of old (Ok a)
+struct_opened see state_of old start a same none k =
+    let (opened, due) = subst (λ (s : AccessState). Opened curly old.reader s.reader × (s.due ≡ false)) same k.opened in
     let start_known = subst (IsStart curly old.reader.input) same k.start in
     record {
       content = record { has_content = k.has_content; opened = (opened, due); start = start_known; complete = λ r h live sign room. refl; refused = tt; unprompted = tt };
       no_key = none;
       same_text = input_of opened.rest;
-      read = pairs.opened_read old.reader (seen a) due none opened;
-      left = λ ps r h live reads shallow. pairs.opened_left old.reader (seen a) ps r due none opened reads shallow;
+      read = pairs.opened_read old.reader (state_of a) due none opened;
+      left = λ ps r h live reads shallow. pairs.opened_left old.reader (state_of a) ps r due none opened reads shallow;
     }
 
-pub struct_not_opened : {A : Type 0} (see : ℕ → Seen) (seen : A → SeenMap) (old : SeenEnum) (e : Error) → OpensContent curly see old (Err e) → OpensStruct seen old (Err e)
-struct_not_opened see seen old e k = record {
+pub struct_not_opened : {A : Type 0} (see : ℕ → AccessState) (state_of : A → MapAccessState) (old : EnumAccessState) (e : Error) → OpensContent curly see old (Err e) → OpensStruct state_of old (Err e)
+struct_not_opened see state_of old e k = record {
   content = record { has_content = tt; opened = tt; start = tt; complete = k.complete; refused = k.refused; unprompted = k.unprompted };
   no_key = tt;
   same_text = tt;

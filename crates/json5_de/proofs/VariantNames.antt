@@ -26,19 +26,19 @@ use Rattle.json5_value.specs.Places.{StartsAfter, PlacedAt}
 use Rattle.json5_text.specs.Tokens.{FaultyBlanks}
 use Rattle.json5_de.specs.State.{State, SameText, GivesUp, cursor_of}
 use Rattle.json5_de.specs.Law.{TookValue, IsUnprompted, Unprompted}
-use Rattle.json5_de.specs.Steps.{PassedGap}
-use Rattle.json5_de.specs.Convert.{as_text, place_among}
+use Rattle.json5_de.specs.ReaderSteps.{PassedGap}
+use Rattle.json5_de.specs.Convert.{as_text, index_of}
 use Rattle.json5_de.specs.ConvertLists.{if_some}
 use Rattle.json5_de.specs.Faults.{RefusedBy, AtEnd, AtOther, IsUnplaced}
 use Rattle.json5_value.specs.Brackets.{curly}
-use Rattle.json5_de.specs.Access.{Seen, OpensAs, NotOpened, Closed}
+use Rattle.json5_de.specs.Access.{AccessState, OpensAs, NotOpened, Closed}
 use Rattle.json5_value.specs.Steps.{Unexpected, at_end, at_char}
-use Rattle.json5_de.specs.Rows.{ReadsAs, variant_row}
+use Rattle.json5_de.specs.TokenKinds.{ReadsAs, variant_kind}
 use Rattle.json5_de.specs.Keys.{TookKey, GivesKey}
-use Rattle.json5_de.specs.KeyRows.{ReadsKeyAs, variant_key}
-use Rattle.json5_de.specs.Objects.{SeenMap, PairsRead, AfterColon, bare_map}
+use Rattle.json5_de.specs.KeyKinds.{ReadsKeyAs, variant_key}
+use Rattle.json5_de.specs.Objects.{MapAccessState, PairsRead, AfterColon, bare_map}
 use Rattle.json5_de.specs.ObjectFaults.{begins_key, BeginsKey, NoColon}
-use Rattle.json5_de.specs.Enums.{named_variant, SeenEnum, AtContent, AfterName, NameRead, ContentTail, content_depth, ContentLeft, begins_variant, NoVariant, no_variant, variant_missing, NotKeyed, not_keyed, key_missing, is_left_brace, Begins, IsNext, no_only_key, other_key, not_followed, RefusesKeyed, RefusesName, nothing_named, other_text, not_opened, in_object, NamesVariant, ReadsOnlyKey, ReadsKeyed}
+use Rattle.json5_de.specs.Enums.{named_variant, EnumAccessState, AtContent, AfterName, NameRead, ContentTail, content_depth, ContentLeft, begins_variant, NoVariant, no_variant, variant_missing, NotKeyed, not_keyed, key_missing, is_left_brace, Begins, IsNext, no_only_key, other_key, not_followed, RefusesKeyed, RefusesName, nothing_named, other_text, not_opened, in_object, NamesVariant, ReadsOnlyKey, ReadsKeyed}
 use Rattle.json5_de.proofs.Arrays.{only_read, level_of, failed_of, sign_next, after_gap_of}
 use Rattle.json5_de.proofs.Elements.{still_live, same_level}
 use Rattle.json5_de.proofs.Expected.{Expected, end_fault, other_fault}
@@ -47,7 +47,7 @@ use Rattle.json5_value.proofs.OtherCodes.{Lacks}
 use Rattle.json5_de.proofs.PairCodes.{value_read, key_there, no_key_begun, pair_key_found}
 use Rattle.json5_de.proofs.Pairs.{pair_read, all_read, key_read, opens_map, refuses_map}
 use Rattle.json5_de.proofs.Places.{refused_as}
-use Rattle.json5_de.proofs.Rows.{refused_other, given_up, gives_up}
+use Rattle.json5_de.proofs.TokenKinds.{refused_other, given_up, gives_up}
 use Rattle.json5_de.proofs.Taken.{input_of, refused_blanks, refused_token}
 use Rattle.json5_de.proofs.FoundKeys.{no_fault_before}
 
@@ -117,13 +117,13 @@ inside_deep from now u p at = level_of at.colon.rest ∙ level_of at.key.rest
 pub inside_text : (from now : State) (u : List ℕ) (p : Bool) → AtContent from u p now → SameText from now
 inside_text from now u p at = input_of at.colon.rest ∙ input_of at.key.rest
 
-module _ (names : List (List ℕ)) (from : State) (s : SeenEnum) (n : NameRead names from s) (t : Tree) (r : List ℕ) (k : ℕ) (c : Option Tree) (reads : Reads from.unread t r) (shallow : from.level + depth t ≤ max_depth)
+module _ (names : List (List ℕ)) (from : State) (s : EnumAccessState) (n : NameRead names from s) (t : Tree) (r : List ℕ) (k : ℕ) (c : Option Tree) (reads : Reads from.unread t r) (shallow : from.level + depth t ≤ max_depth)
     (is : named_variant names t ≡ Some (k, c)) where
   -- a text was read
   text_left : s.has_content ≡ false → TookValue from (text n.name n.plain) s.reader → (s.variant ≡ k) × ContentLeft c r s
   text_left none took =
       let (same, here) = one_phrase from.unread s.reader.unread r (text n.name n.plain) t took.reads reads in
-      let (place, empty) = named_as (place_among names n.name n.plain) s.variant k None c n.place (ap (named_variant names) same ∙ is) in
+      let (place, empty) = named_as (index_of names n.name n.plain) s.variant k None c n.place (ap (named_variant names) same ∙ is) in
       let level = same_level from s.reader took.rest in
       let high = took.shallow in (
         place,
@@ -154,7 +154,7 @@ module _ (names : List (List ℕ)) (from : State) (s : SeenEnum) (n : NameRead n
       by (text u plain) d next (at_text _ _ h) reads shallow is = absurd (true_false h (ap is_quote next))
       by (object (pair u plain w no_pair)) d next (at_object _ _ _ e) reads shallow is =
           let (same, mark, z, there, close) = at_content_left names from s.reader n.name u r n.plain plain w at reads in
-          let (place, whole) = named_as (place_among names u plain) s.variant k (Some w) c (subst (λ v. place_among names v plain ≡ Some s.variant) same (subst (λ p. place_among names n.name p ≡ Some s.variant) mark n.place)) is in
+          let (place, whole) = named_as (index_of names u plain) s.variant k (Some w) c (subst (λ v. index_of names v plain ≡ Some s.variant) same (subst (λ p. index_of names n.name p ≡ Some s.variant) mark n.place)) is in
           let level = inside_deep from s.reader n.name n.plain at in (
             place,
             record {
@@ -216,23 +216,23 @@ next_no_end begins old start n at = end_next old start n.first.char n.first.more
 pub wider_next : {f g : ℕ → Bool} (old start : State) → ((c : ℕ) → f c ≡ true → g c ≡ true) → IsNext f old start → IsNext g old start
 wider_next old start h n = record { passed = n.passed; first = record { char = n.first.char; more = n.first.more; split = n.first.split; is_first = h n.first.char n.first.is_first } }
 
-module _ {A : Type 0} (names : List (List ℕ)) (seen : A → SeenEnum) (old : State) where
+module _ {A : Type 0} (names : List (List ℕ)) (state_of : A → EnumAccessState) (old : State) where
   -- a name was read
-  pub names_read : (a : A) (start : State) → IsNext begins_variant old start → NameRead names old (seen a) → NamesVariant names seen old (Ok a)
+  pub names_read : (a : A) (start : State) → IsNext begins_variant old start → NameRead names old (state_of a) → NamesVariant names state_of old (Ok a)
   names_read a start next n = record {
     read = n;
-    left = λ t r k c live reads shallow is. content_left names old (seen a) n t r k c reads shallow is;
+    left = λ t r k c live reads shallow is. content_left names old (state_of a) n t r k c reads shallow is;
     refused = tt;
     ends = λ at. absurd (next_no_end begins_variant old start next at);
     differs = λ w o. absurd (next_no_other begins_variant old start w next o);
     unprompted = tt;
-    same_text = same_text_after (seen a).has_content old (seen a).reader n.name n.plain n.after;
+    same_text = same_text_after (state_of a).has_content old (state_of a).reader n.name n.plain n.after;
     before = λ h. absurd (true_false h next.passed.live);
   }
 
   -- neither a text nor an object is next
   pub names_nothing : (e : Error) → RefusedBy NoVariant old e → (old.failed ≡ true → IsUnplaced codes.Failed e) → ((t : Tree) (r : List ℕ) (x : ℕ × Option Tree) → old.failed ≡ false → Reads old.unread t r → named_variant names t ≡ Some x → ⊥)
-      → NamesVariant names seen old (Err e)
+      → NamesVariant names state_of old (Err e)
   names_nothing e f before nothing = record {
     read = tt;
     left = λ t r k c live reads shallow is. absurd (nothing t r (k, c) live reads is);
@@ -246,7 +246,7 @@ module _ {A : Type 0} (names : List (List ℕ)) (seen : A → SeenEnum) (old : S
 
   -- the text or the object that is next is refused
   pub names_refused : (e : Error) (start : State) → IsNext begins_variant old start → RefusesName names old e → (old.failed ≡ false → IsUnprompted e)
-      → ((t : Tree) (r : List ℕ) (k : ℕ) (c : Option Tree) → Reads start.unread t r → start.level + depth t ≤ max_depth → named_variant names t ≡ Some (k, c) → IsOutOfMemory e) → NamesVariant names seen old (Err e)
+      → ((t : Tree) (r : List ℕ) (k : ℕ) (c : Option Tree) → Reads start.unread t r → start.level + depth t ≤ max_depth → named_variant names t ≡ Some (k, c) → IsOutOfMemory e) → NamesVariant names state_of old (Err e)
   names_refused e start next f other left = record {
     read = tt;
     left = λ t r k c live reads shallow is. let level = level_of next.passed.rest in left t r k c (value_next old start t r next.passed reads) (omega (arith, level, shallow)) is;
@@ -350,7 +350,7 @@ module _ (names : List (List ℕ)) (old mid : State) where
     failed = given_up old mid new p (record { failed = k.failed; same_text = k.same_text });
   }
 
-  module _ (keyed new : State) (k : ℕ) (p : PassedGap old mid) (given : GivesKey (λ n. n) (place_among names) mid keyed k) where
+  module _ (keyed new : State) (k : ℕ) (p : PassedGap old mid) (given : GivesKey (λ n. n) (index_of names) mid keyed k) where
     -- no colon follows it
     pub colon_refused : (e : Error) → RefusedBy NoColon keyed e → ((t : Tree) (r : List ℕ) → keyed.failed ≡ false → IsKeyValue keyed.unread t r → IsOk {T = Unit {0}} {E = Error} (Err e)) → GivesUp keyed new → Unprompted {V = Unit {0}} keyed (Err e)
         → ReadsOnlyKey names old new (Err e)
@@ -377,10 +377,10 @@ module _ (names : List (List ℕ)) (old mid : State) where
 
 -- ---- an object up to its colon
 
-pub not_opened_keyed : {A : Type 0} (names : List (List ℕ)) (see : A → Seen) (old new : State) (e : Error) → OpensAs curly see old (Err e) → GivesUp old new → ReadsKeyed names old new (Err e)
+pub not_opened_keyed : {A : Type 0} (names : List (List ℕ)) (see : A → AccessState) (old new : State) (e : Error) → OpensAs curly see old (Err e) → GivesUp old new → ReadsKeyed names old new (Err e)
 not_opened_keyed names see old new e o failed = record {
   sound = tt;
-  complete = λ u r plain t k live reads shallow is. absurd ((refuses_map {Held = λ m. Unit {0}} see (λ (m : SeenMap). m) old e o).left (pair u plain t no_pair) r live reads shallow);
+  complete = λ u r plain t k live reads shallow is. absurd ((refuses_map {Held = λ m. Unit {0}} see (λ (m : MapAccessState). m) old e o).left (pair u plain t no_pair) r live reads shallow);
   refused = inl o.refused;
   unprompted = o.unprompted;
   failed = failed;
@@ -394,7 +394,7 @@ only_key_refused names old inside new start o own e k placed =
     record {
       sound = tt;
       complete = λ u r plain t i alive reads shallow is.
-          let map = opens_map {Held = λ m. Unit {0}} (λ (n : ℕ). record { reader = inside; start = n; due = false }) (λ (m : SeenMap). m) old start (record { at = record { reader = inside; start = start; due = false }; pending = false }) tt refl refl o in
+          let map = opens_map {Held = λ m. Unit {0}} (λ (n : ℕ). record { reader = inside; start = n; due = false }) (λ (m : MapAccessState). m) old start (record { at = record { reader = inside; start = start; due = false }; pending = false }) tt refl refl o in
           let left = map.left (pair u plain t no_pair) r alive reads shallow in
           let (y, z, key, value, close) = left.tail in
           placed.kind ∙ k.complete u y z plain t i left.live key value is;
@@ -420,7 +420,7 @@ place_named : (o : Option ℕ) (k : ℕ) (b c : Option Tree) → if_some {B = �
 place_named None k b c e = absurd (cc)
 place_named (Some i) k b c e = ap Some (same_pair (i, b) (k, c) e).0
 
-a_text : (names : List (List ℕ)) (t : Tree) (k : ℕ) → as_text (place_among names) t ≡ Some k → (u : List ℕ) × (plain : Bool) × (t ≡ text u plain) × (place_among names u plain ≡ Some k)
+a_text : (names : List (List ℕ)) (t : Tree) (k : ℕ) → as_text (index_of names) t ≡ Some k → (u : List ℕ) × (plain : Bool) × (t ≡ text u plain) × (index_of names u plain ≡ Some k)
 a_text names (text u plain) k e = (u, plain, refl, e)
 a_text names null k e = absurd (cc)
 a_text names (boolean b) k e = absurd (cc)
@@ -436,11 +436,11 @@ brace_next p h = record { passed = p; first = record { char = h.char; more = h.m
 
 module _ (names : List (List ℕ)) (old mid : State) (p : PassedGap old mid) (start : ℕ) (counted : (before : List ℕ) → mid.input ≡ before ++ mid.unread → start ≡ length (encode_utf8_all before)) where
   -- a text
-  pub text_named : {A : Type 0} (seen : A → SeenEnum) (new : State) (a : A) (k : ℕ) → Begins is_quote mid.unread → seen a ≡ record { reader = new; start = start; variant = k; has_content = false } → ReadsAs {V = ℕ} (variant_row names) (λ n. n) mid new (Ok k) → NamesVariant names seen old (Ok a)
-  text_named seen new a k h same reads =
+  pub text_named : {A : Type 0} (state_of : A → EnumAccessState) (new : State) (a : A) (k : ℕ) → Begins is_quote mid.unread → state_of a ≡ record { reader = new; start = start; variant = k; has_content = false } → ReadsAs {V = ℕ} (variant_kind names) (λ n. n) mid new (Ok k) → NamesVariant names state_of old (Ok a)
+  text_named state_of new a k h same reads =
       let (t, took, is) = reads.sound in
       let (u, plain, one, place) = a_text names t k is in
-      names_read names seen old a mid (quote_next p h) (subst (NameRead names old) (sym same) (record {
+      names_read names state_of old a mid (quote_next p h) (subst (NameRead names old) (sym same) (record {
         name = u;
         plain = plain;
         place = place;
@@ -450,13 +450,13 @@ module _ (names : List (List ℕ)) (old mid : State) (p : PassedGap old mid) (st
         counted = counted;
       }))
 
-  pub text_unnamed : {A : Type 0} (seen : A → SeenEnum) (new : State) (e : Error) → Begins is_quote mid.unread → ReadsAs {V = ℕ} (variant_row names) (λ n. n) mid new (Err e) → NamesVariant names seen old (Err e)
-  text_unnamed seen new e h k =
-      names_refused names seen old e mid (quote_next p h) (other_text mid (record { passed = p; first = h }) k.refused) (λ live. k.unprompted (failed_of p.rest ∙ live))
+  pub text_unnamed : {A : Type 0} (state_of : A → EnumAccessState) (new : State) (e : Error) → Begins is_quote mid.unread → ReadsAs {V = ℕ} (variant_kind names) (λ n. n) mid new (Err e) → NamesVariant names state_of old (Err e)
+  text_unnamed state_of new e h k =
+      names_refused names state_of old e mid (quote_next p h) (other_text mid (record { passed = p; first = h }) k.refused) (λ live. k.unprompted (failed_of p.rest ∙ live))
       (λ t r i d reads shallow is. by t r i d (variant_next names (i, d) mid.unread h.char h.more r t p.solid h.split reads is) reads shallow is)
     where
       by : (t : Tree) (r : List ℕ) (i : ℕ) (d : Option Tree) → VariantAt h.char t → Reads mid.unread t r → mid.level + depth t ≤ max_depth → named_variant names t ≡ Some (i, d) → IsOutOfMemory e
-      by (text u plain) r i d (at_text _ _ q) reads shallow is = k.complete (text u plain) r i (failed_of p.rest ∙ p.live) reads shallow (place_named (place_among names u plain) i None d is)
+      by (text u plain) r i d (at_text _ _ q) reads shallow is = k.complete (text u plain) r i (failed_of p.rest ∙ p.live) reads shallow (place_named (index_of names u plain) i None d is)
       by (object (pair u plain w no_pair)) r i d (at_object _ _ _ q) reads shallow is = absurd (true_false h.is_first (ap is_quote q))
       by null r i d at reads shallow is = absurd (cc)
       by (boolean b) r i d at reads shallow is = absurd (cc)
@@ -466,10 +466,10 @@ module _ (names : List (List ℕ)) (old mid : State) (p : PassedGap old mid) (st
       by (object (pair u plain w (pair v o x ps))) r i d at reads shallow is = absurd (cc)
 
   -- an object
-  pub object_named : {A : Type 0} (seen : A → SeenEnum) (new : State) (a : A) (k : ℕ) → Begins is_left_brace mid.unread → seen a ≡ record { reader = new; start = start; variant = k; has_content = true } → ReadsKeyed names mid new (Ok k) → NamesVariant names seen old (Ok a)
-  object_named seen new a k h same reads =
+  pub object_named : {A : Type 0} (state_of : A → EnumAccessState) (new : State) (a : A) (k : ℕ) → Begins is_left_brace mid.unread → state_of a ≡ record { reader = new; start = start; variant = k; has_content = true } → ReadsKeyed names mid new (Ok k) → NamesVariant names state_of old (Ok a)
+  object_named state_of new a k h same reads =
       let (u, plain, at, place) = reads.sound in
-      names_read names seen old a mid (brace_next p h) (subst (NameRead names old) (sym same) (record {
+      names_read names state_of old a mid (brace_next p h) (subst (NameRead names old) (sym same) (record {
         name = u;
         plain = plain;
         place = place;
@@ -479,9 +479,9 @@ module _ (names : List (List ℕ)) (old mid : State) (p : PassedGap old mid) (st
         counted = counted;
       }))
 
-  pub object_unnamed : {A : Type 0} (seen : A → SeenEnum) (new : State) (e : Error) → Begins is_left_brace mid.unread → ReadsKeyed names mid new (Err e) → NamesVariant names seen old (Err e)
-  object_unnamed seen new e h k =
-      names_refused names seen old e mid (brace_next p h) (cause k.refused) (λ live. k.unprompted (failed_of p.rest ∙ live))
+  pub object_unnamed : {A : Type 0} (state_of : A → EnumAccessState) (new : State) (e : Error) → Begins is_left_brace mid.unread → ReadsKeyed names mid new (Err e) → NamesVariant names state_of old (Err e)
+  object_unnamed state_of new e h k =
+      names_refused names state_of old e mid (brace_next p h) (cause k.refused) (λ live. k.unprompted (failed_of p.rest ∙ live))
       (λ t r i d reads shallow is. by t r i d (variant_next names (i, d) mid.unread h.char h.more r t p.solid h.split reads is) reads shallow is)
     where
       cause : RefusedBy (NotOpened curly mid.level) mid e ⊎ RefusesKeyed names mid e → RefusesName names old e
@@ -493,7 +493,7 @@ module _ (names : List (List ℕ)) (old mid : State) (p : PassedGap old mid) (st
         where
           no_quote_brace : (x : ℕ) → is_quote x ≡ true → is_left_brace x ≡ true → ⊥
           no_quote_brace x a b = grind arith
-      by (object (pair u plain w no_pair)) r i d (at_object _ _ _ q) reads shallow is = k.complete u r plain w i (failed_of p.rest ∙ p.live) reads shallow (place_named (place_among names u plain) i (Some w) d is)
+      by (object (pair u plain w no_pair)) r i d (at_object _ _ _ q) reads shallow is = k.complete u r plain w i (failed_of p.rest ∙ p.live) reads shallow (place_named (index_of names u plain) i (Some w) d is)
       by null r i d at reads shallow is = absurd (cc)
       by (boolean b) r i d at reads shallow is = absurd (cc)
       by (number n) r i d at reads shallow is = absurd (cc)
@@ -506,10 +506,10 @@ neither [] a b = tt
 neither (c ∷ x) a b = rw (a, b) refl
 
 -- neither stands there
-pub no_name_begun : {A : Type 0} (names : List (List ℕ)) (seen : A → SeenEnum) (old mid : State) → PassedGap old mid → (e : Error) → NotBegun is_quote mid.unread → NotBegun is_left_brace mid.unread → Refused (Unexpected codes.EofParsingValue codes.ExpectedStringOrObject) (cursor_of mid) e → NamesVariant names seen old (Err e)
-no_name_begun names seen old mid p e a b f =
+pub no_name_begun : {A : Type 0} (names : List (List ℕ)) (state_of : A → EnumAccessState) (old mid : State) → PassedGap old mid → (e : Error) → NotBegun is_quote mid.unread → NotBegun is_left_brace mid.unread → Refused (Unexpected codes.EofParsingValue codes.ExpectedStringOrObject) (cursor_of mid) e → NamesVariant names state_of old (Err e)
+no_name_begun names state_of old mid p e a b f =
     let n = neither mid.unread a b in
-    names_nothing names seen old e (refused_token old mid e p (refused_as mid mid e refl (λ reason place k. no_variant_here mid.unread reason place n k) f)) (λ h. absurd (true_false h p.live))
+    names_nothing names state_of old e (refused_token old mid e p (refused_as mid mid e refl (λ reason place k. no_variant_here mid.unread reason place n k) f)) (λ h. absurd (true_false h p.live))
     (λ t r x live reads is. nothing mid.unread t r x refl n (value_next old mid t r p reads) is)
   where
     nothing : (y : List ℕ) (t : Tree) (r : List ℕ) (x : ℕ × Option Tree) → mid.unread ≡ y → NotBegun begins_variant y → Reads mid.unread t r → named_variant names t ≡ Some x → ⊥
@@ -519,23 +519,23 @@ no_name_begun names seen old mid p e a b f =
 -- ---- the maker
 
 -- the same seen in another way
-pub unnamed_seen : {A B : Type 0} (names : List (List ℕ)) (see : A → SeenEnum) (seen : B → SeenEnum) (old : State) (e : Error) → NamesVariant names see old (Err e) → NamesVariant names seen old (Err e)
-unnamed_seen names see seen old e n = record { read = tt; left = n.left; refused = n.refused; ends = n.ends; differs = n.differs; unprompted = n.unprompted; same_text = tt; before = n.before }
+pub unnamed_seen : {A B : Type 0} (names : List (List ℕ)) (see : A → EnumAccessState) (state_of : B → EnumAccessState) (old : State) (e : Error) → NamesVariant names see old (Err e) → NamesVariant names state_of old (Err e)
+unnamed_seen names see state_of old e n = record { read = tt; left = n.left; refused = n.refused; ends = n.ends; differs = n.differs; unprompted = n.unprompted; same_text = tt; before = n.before }
 
-pub named_seen : {A B : Type 0} (names : List (List ℕ)) (see : A → SeenEnum) (seen : B → SeenEnum) (old : State) (a : A) (b : B) → see a ≡ seen b → NamesVariant names see old (Ok a) → NamesVariant names seen old (Ok b)
-named_seen names see seen old a b same n = record {
+pub named_seen : {A B : Type 0} (names : List (List ℕ)) (see : A → EnumAccessState) (state_of : B → EnumAccessState) (old : State) (a : A) (b : B) → see a ≡ state_of b → NamesVariant names see old (Ok a) → NamesVariant names state_of old (Ok b)
+named_seen names see state_of old a b same n = record {
   read = subst (NameRead names old) same n.read;
-  left = λ t r k c live reads shallow is. subst (λ (s : SeenEnum). (s.variant ≡ k) × ContentLeft c r s) same (n.left t r k c live reads shallow is);
+  left = λ t r k c live reads shallow is. subst (λ (s : EnumAccessState). (s.variant ≡ k) × ContentLeft c r s) same (n.left t r k c live reads shallow is);
   refused = tt;
   ends = λ at. n.ends at;
   differs = λ w o. n.differs w o;
   unprompted = tt;
-  same_text = subst (λ (s : SeenEnum). SameText old s.reader) same n.same_text;
+  same_text = subst (λ (s : EnumAccessState). SameText old s.reader) same n.same_text;
   before = λ h. n.before h;
 }
 
 -- the reader that was lent shows itself again
-pub lent_name : (names : List (List ℕ)) (old : State) (s : SeenEnum) (lent : State) → NameRead names old s → lent ≡ record s.reader { failed = true } → s ≡ record s { reader = record lent { failed = false } }
+pub lent_name : (names : List (List ℕ)) (old : State) (s : EnumAccessState) (lent : State) → NameRead names old s → lent ≡ record s.reader { failed = true } → s ≡ record s { reader = record lent { failed = false } }
 lent_name names old s lent n is = ap (λ (r : State). record s { reader = r }) (ap (λ b. record s.reader { failed = b }) (live s.has_content n.after) ∙ ap (λ (r : State). record r { failed = false }) (sym is))
   where
     live : (b : Bool) → AfterName b old n.name n.plain s.reader → s.reader.failed ≡ false

@@ -19,12 +19,12 @@ use Rattle.json5_text.specs.declared.error.Error.{Error}
 use Rattle.json5_text.specs.Cursor.{Says}
 use Rattle.json5_text.specs.Errors.{LacksMemory}
 use Rattle.json5_de.specs.Faults.{RefusedByOrMemory}
-use Rattle.json5_de.specs.KeyRows.{converted, document_of, NotDocument, no_value, more_follows, ConvertsDocuments}
-use Rattle.json5_de.specs.Rows.{Row, RefusedAs}
+use Rattle.json5_de.specs.KeyKinds.{converted, document_of, NotDocument, no_value, more_follows, ConvertsDocuments}
+use Rattle.json5_de.specs.TokenKinds.{Kind, RefusedAs}
 use Rattle.json5_de.specs.State.{at_start}
 use Rattle.json5_de.specs.Texts.{RefusesReading, in_value, after_value}
 use Rattle.json5_de.proofs.Arrays.{failed_of}
-use Rattle.json5_de.proofs.Rows.{or_memory_as}
+use Rattle.json5_de.proofs.TokenKinds.{or_memory_as}
 use Rattle.json5_de.proofs.Taken.{value_gap}
 
 -- ---- which texts are documents
@@ -86,13 +86,13 @@ converts_documents convert u plain c = (is_document convert u plain c, λ (t, do
 -- ---- why a text is refused
 
 -- memory ran out, or the fault has this code
-abbrev pub IsRefusedText : {C : Type 0} → Row C → List ℕ → Bool → Error → Type 0
-IsRefusedText row u plain e = LacksMemory e ⊎ ((reason : Option ErrorCode) × NotDocument row u plain reason × Says reason e)
+abbrev pub IsRefusedText : {C : Type 0} → Kind C → List ℕ → Bool → Error → Type 0
+IsRefusedText kind u plain e = LacksMemory e ⊎ ((reason : Option ErrorCode) × NotDocument kind u plain reason × Says reason e)
 
-from_refused : {C : Type 0} (row : Row C) (u : List ℕ) (plain : Bool) (e : Error) → RefusedByOrMemory row.IsFault (at_start max_depth u) e → IsRefusedText row u plain e
-from_refused row u plain e (inl m) = inl m
-from_refused row u plain e (inr k) = let f = k refl in inr (f.reason, no_value f.fault, f.says)
+from_refused : {C : Type 0} (kind : Kind C) (u : List ℕ) (plain : Bool) (e : Error) → RefusedByOrMemory kind.IsFault (at_start max_depth u) e → IsRefusedText kind u plain e
+from_refused kind u plain e (inl m) = inl m
+from_refused kind u plain e (inr k) = let f = k refl in inr (f.reason, no_value f.fault, f.says)
 
-pub refused_text : {C : Type 0} (row : Row C) (u : List ℕ) (plain : Bool) (e : Error) → RefusesReading row.convert (RefusedAs row) max_depth u e → IsRefusedText row u plain e
-refused_text row u plain e (in_value new k) = from_refused row u plain e (or_memory_as row.may_lack_memory (at_start max_depth u) e k)
-refused_text row u plain e (after_value t c new took is k) = let f = k (failed_of took.rest) in inr (f.reason, more_follows took.reads (let shallow = took.shallow in omega (arith, shallow)) is f.fault, f.says)
+pub refused_text : {C : Type 0} (kind : Kind C) (u : List ℕ) (plain : Bool) (e : Error) → RefusesReading kind.convert (RefusedAs kind) max_depth u e → IsRefusedText kind u plain e
+refused_text kind u plain e (in_value new k) = from_refused kind u plain e (or_memory_as kind.may_lack_memory (at_start max_depth u) e k)
+refused_text kind u plain e (after_value t c new took is k) = let f = k (failed_of took.rest) in inr (f.reason, more_follows took.reads (let shallow = took.shallow in omega (arith, shallow)) is f.fault, f.says)

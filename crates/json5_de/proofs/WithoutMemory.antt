@@ -12,7 +12,7 @@ use Rattle.json5_grammar.proofs.ValueHeads.{val_head, value_solid}
 use Rattle.json5_text.specs.NumberViews.{keeps_digits}
 use Rattle.json5_de.specs.Convert.{as_number, as_whole, as_text, if_plain}
 use Rattle.json5_de.specs.State.{State}
-use Rattle.json5_de.specs.Steps.{PassedGap, TookText}
+use Rattle.json5_de.specs.ReaderSteps.{PassedGap, TookText}
 use Rattle.json5_de.proofs.ExpectsNumbers.{number_phrase}
 use Rattle.json5_de.proofs.ExpectsTexts.{text_phrase}
 use Rattle.json5_grammar.proofs.Basics.{none_some}
@@ -29,7 +29,7 @@ pub record NumberThere (x r : List ℕ) : Type 0 where
   pub split : x ≡ literal ++ r
   pub is_number : Num literal number
   pub stops : Stops literal r
-  pub free : keeps_digits number ≡ false
+  pub allocation_free : keeps_digits number ≡ false
 
 whole_free : {C : Type 0} (f : ℤ → Option C) (n : Number) (v : C) → as_whole f n ≡ Some v → keeps_digits n ≡ false
 whole_free f (whole z) v e = refl
@@ -38,7 +38,7 @@ whole_free f (decimal d) v e = absurd (cc)
 pub whole_there : {C : Type 0} (f : ℤ → Option C) (old mid : State) (t : Tree) (r : List ℕ) (v : C) → PassedGap old mid → Reads old.unread t r → as_number (as_whole f) t ≡ Some v → NumberThere mid.unread r
 whole_there f old mid t r v p h is =
     let (n, num, e) = number_phrase (as_whole f) v is h.value in
-    record { literal = h.phrase; number = n; split = phrase_after old mid t r p h; is_number = num; stops = h.stops; free = whole_free f n v e }
+    record { literal = h.phrase; number = n; split = phrase_after old mid t r p h; is_number = num; stops = h.stops; allocation_free = whole_free f n v e }
 
 -- a number that isn't of the type isn't one that is
 pub no_other_number : {C : Type 0} (f : Number → Option C) (old mid new : State) (s : List ℕ) (n : Number) (t : Tree) (r : List ℕ) (v : C) → PassedGap old mid → TookText mid s new → Num s n → Stops s new.unread → f n ≡ None → Reads old.unread t r

@@ -24,13 +24,13 @@ use Rattle.json5_value.specs.Brackets.{square}
 
 -- what contracts see of an access: the reader that is lent to it, the count of bytes before the opening bracket,
 -- and whether a comma is due
-pub record Seen : Type 0 where
+pub record AccessState : Type 0 where
   pub reader : State
   pub start : ℕ
   pub due : Bool
 
 -- a reader seen so, wherever the bracket stands
-abbrev pub bare : State → Bool → Seen
+abbrev pub bare : State → Bool → AccessState
 bare reader due = record { reader = reader; start = 0; due = due }
 
 -- ---- brackets
@@ -55,7 +55,7 @@ pub record AtClose (b : Brackets) (due : Bool) (old new : State) : Type 0 where
   pub rest : OnlyRead old new
 
 -- nothing is refused where the closing bracket goes on
-abbrev pub CompletesClose : {V : Type 0} → Brackets → Seen → Result V Error → Type 0
+abbrev pub CompletesClose : {V : Type 0} → Brackets → AccessState → Result V Error → Type 0
 CompletesClose b old result = (r : List ℕ) → old.reader.failed ≡ false → IsEnd b.closing old.due old.reader.unread r → IsOk result
 
 -- ---- an array
@@ -68,17 +68,17 @@ pub record TookElement (due : Bool) (old : State) (t : Tree) (new : State) : Typ
   pub rest : OnlyRead old new
 
 -- an element was read and stands for v, or the closing bracket is next
-abbrev pub GivesElement : {V C : Type 0} → (V → C) → (Tree → Option C) → Seen → Seen → Option V → Type 0
+abbrev pub GivesElement : {V C : Type 0} → (V → C) → (Tree → Option C) → AccessState → AccessState → Option V → Type 0
 GivesElement content convert old new (Some v) = (t : Tree) × TookElement old.due old.reader t new.reader × (new.due ≡ true) × (convert t ≡ Some (content v))
 GivesElement content convert old new None = AtClose square old.due old.reader new.reader × (new.due ≡ old.due)
 
 -- an element that can be read is read, unless memory runs out
-abbrev pub CompletesElement : {V C : Type 0} → (Tree → Option C) → Seen → Result V Error → Type 0
+abbrev pub CompletesElement : {V C : Type 0} → (Tree → Option C) → AccessState → Result V Error → Type 0
 CompletesElement {C = C} convert old result =
     (t : Tree) (r : List ℕ) (c : C) → old.reader.failed ≡ false → IsElement old.due old.reader.unread t r → old.reader.level + depth t ≤ max_depth → convert t ≡ Some c → IsOkOrMemory result
 
 -- where an element that converts to c stands, the answer is Ok of an element whose content is c, unless memory runs out
-abbrev pub ReadsElement : {V C : Type 0} → (V → C) → (Tree → Option C) → Seen → Result (Option V) Error → Type 0
+abbrev pub ReadsElement : {V C : Type 0} → (V → C) → (Tree → Option C) → AccessState → Result (Option V) Error → Type 0
 ReadsElement {C = C} content convert old result =
     (t : Tree) (r : List ℕ) (c : C) → old.reader.failed ≡ false → IsElement old.due old.reader.unread t r → old.reader.level + depth t ≤ max_depth → convert t ≡ Some c
     → MatchResult result (λ o. if_some content o ≡ Some c) IsOutOfMemory
@@ -86,7 +86,7 @@ ReadsElement {C = C} content convert old result =
 -- ---- an array as a whole: what was read of it, and what is left
 
 -- an array begins at `from`, these elements of it were read, and perhaps what stands before the closing bracket, the last comma included
-pub record ElementsRead (from : State) (ts : Trees) (now : Seen) : Type 0 where
+pub record ElementsRead (from : State) (ts : Trees) (now : AccessState) : Type 0 where
   pub live : from.failed ≡ false
   pub shallow : from.level + depth (array ts) ≤ max_depth
   pub inside : List ℕ
@@ -97,19 +97,19 @@ pub record ElementsRead (from : State) (ts : Trees) (now : Seen) : Type 0 where
   pub rest : now.reader ≡ record from { unread = now.reader.unread; level = from.level + 1 }
 
 -- these elements are left, after a comma where one is due, and then the closing bracket, with r after it; none is too deep
-pub record ElementsLeft (ts : Trees) (r : List ℕ) (now : Seen) : Type 0 where
+pub record ElementsLeft (ts : Trees) (r : List ℕ) (now : AccessState) : Type 0 where
   pub live : now.reader.failed ≡ false
   pub shallow : now.reader.level + depths ts ≤ max_depth
   pub tail : Tail ts now.due now.reader.unread r
 
 -- one element more was read, which stands for v; or none, and what was read is the same (that the bracket is next says `GivesElement`)
-abbrev pub ReadsMore : {V C : Type 0} → (V → C) → (Tree → Option C) → Seen → Seen → Option V → Type 0
+abbrev pub ReadsMore : {V C : Type 0} → (V → C) → (Tree → Option C) → AccessState → AccessState → Option V → Type 0
 ReadsMore content convert old new (Some v) = (t : Tree) × (convert t ≡ Some (content v)) × ((from : State) (ts : Trees) → ElementsRead from ts old → ElementsRead from (snoc ts t) new)
 ReadsMore content convert old new None = (from : State) (ts : Trees) → ElementsRead from ts old → ElementsRead from ts new
 
 -- where elements are left and the first converts, it was read, unless memory ran out, and the others are left; where none is left, none was given.
 -- Nothing is said of the refusal of one that doesn't convert.
-abbrev pub LeavesFewer : {V C : Type 0} → (V → C) → (Tree → Option C) → Trees → List ℕ → Seen → Result (Option V) Error → Type 0
+abbrev pub LeavesFewer : {V C : Type 0} → (V → C) → (Tree → Option C) → Trees → List ℕ → AccessState → Result (Option V) Error → Type 0
 LeavesFewer content convert no_more r new (Ok None) = ElementsLeft no_more r new
 LeavesFewer content convert no_more r new (Ok (Some v)) = ⊥
 LeavesFewer content convert no_more r new (Err e) = ⊥
@@ -120,19 +120,19 @@ LeavesFewer {C = C} content convert (more t ts) r new (Err e) = (c : C) → conv
 -- ---- places
 
 -- the same fault, at the opening bracket where it had no place
-abbrev pub PlacedAtBracket : Seen → Error → Error → Type 0
+abbrev pub PlacedAtBracket : AccessState → Error → Error → Type 0
 PlacedAtBracket s own e = PlacedAt (StartsAfter s.reader.input s.start) own e
 
 -- the fault's place is the opening bracket
-abbrev pub IsAtBracket : Seen → Error → Type 0
+abbrev pub IsAtBracket : AccessState → Error → Type 0
 IsAtBracket s e = (before : List ℕ) → StartsAfter s.reader.input s.start before → place_of e ≡ Some (position_after before)
 
 -- `Failed`, at the opening bracket
-abbrev pub IsFailedAtBracket : Seen → Error → Type 0
+abbrev pub IsFailedAtBracket : AccessState → Error → Type 0
 IsFailedAtBracket s e = (kind_of e ≡ code codes.Failed) × IsAtBracket s e
 
 -- a call after a refusal answers so
-abbrev pub AnswersFailedAtBracket : {V : Type 0} → Seen → Result V Error → Type 0
+abbrev pub AnswersFailedAtBracket : {V : Type 0} → AccessState → Result V Error → Type 0
 AnswersFailedAtBracket s result = s.reader.failed ≡ true → IsErrAnd result (IsFailedAtBracket s)
 
 abbrev pub HasPlace : Error → Type 0
@@ -185,13 +185,13 @@ pub data NotClosed (b : Brackets) (due : Bool) : List ℕ → Option ErrorCode �
 -- ---- what the calls of an access mean
 
 -- the count of bytes before the bracket that was taken
-abbrev pub IsStart : Brackets → List ℕ → Seen → Type 0
+abbrev pub IsStart : Brackets → List ℕ → AccessState → Type 0
 IsStart b input s = (before : List ℕ) → input ≡ before ++ b.opening ∷ s.reader.unread → s.start ≡ length (encode_utf8_all before)
 
 -- where a bracket that opens is expected
-pub record OpensAs {A : Type 0} (b : Brackets) (seen : A → Seen) (old : State) (result : Result A Error) : Type 0 where
-  pub opened : IfOk result (λ a. Opened b old (seen a).reader × ((seen a).due ≡ false))
-  pub start : IfOk result (λ a. IsStart b old.input (seen a))
+pub record OpensAs {A : Type 0} (b : Brackets) (state_of : A → AccessState) (old : State) (result : Result A Error) : Type 0 where
+  pub opened : IfOk result (λ a. Opened b old (state_of a).reader × ((state_of a).due ≡ false))
+  pub start : IfOk result (λ a. IsStart b old.input (state_of a))
   pub complete : (r : List ℕ) → old.failed ≡ false → IsSign b.opening old.unread r → old.level < max_depth → IsOk result
   pub refused : IfErr result (RefusedBy (NotOpened b old.level) old)
   pub ends : EndsWith b.ends old result
@@ -211,15 +211,15 @@ pub record ClosesAs (b : Brackets) (due : Bool) (old new : State) (result : Resu
   pub before : AnswersFailed old result
 
 -- an array is opened by an access that holds the reader so: nothing was read of it, and where one can be read its elements are left
-pub record OpensArray {A : Type 0} (Held : A → Type 0) (seen : A → Seen) (old : State) (result : Result A Error) : Type 0 where
+pub record OpensArray {A : Type 0} (Held : A → Type 0) (state_of : A → AccessState) (old : State) (result : Result A Error) : Type 0 where
   pub held : IfOk result Held
-  pub bracket : OpensAs square seen old result
-  pub same_text : IfOk result (λ a. SameText old (seen a).reader)
-  pub read : IfOk result (λ a. ElementsRead old no_more (seen a))
-  pub left : (ts : Trees) (r : List ℕ) → old.failed ≡ false → Reads old.unread (array ts) r → old.level + depth (array ts) ≤ max_depth → IsOkAnd result (λ a. ElementsLeft ts r (seen a))
+  pub bracket : OpensAs square state_of old result
+  pub same_text : IfOk result (λ a. SameText old (state_of a).reader)
+  pub read : IfOk result (λ a. ElementsRead old no_more (state_of a))
+  pub left : (ts : Trees) (r : List ℕ) → old.failed ≡ false → Reads old.unread (array ts) r → old.level + depth (array ts) ≤ max_depth → IsOkAnd result (λ a. ElementsLeft ts r (state_of a))
 
 -- an array is closed: the elements that were read are all of it
-pub record ClosesArray (old : Seen) (new : State) (result : Result (Unit {0}) Error) : Type 0 where
+pub record ClosesArray (old : AccessState) (new : State) (result : Result (Unit {0}) Error) : Type 0 where
   pub bracket : ClosesAs square old.due old.reader new result
   pub same_text : SameText old.reader new
   pub failed : FailsIfErr new result

@@ -32,12 +32,12 @@ RefusedInReading s e = RefusedByOr IsOutOfMemory (ReadingRefuses s.level) s e
 
 -- one value of any kind is read from the front, as what its tree converts to
 abbrev pub ReadsTree : {V C : Type 0} → (V → C) → (Tree → Option C) → (Tree → Bool) → State → State → Result V Error → Type 0
-ReadsTree content convert free old new result = ReadsValue content convert free (λ (s : State) e t. RefusesTree s e) old new result
+ReadsTree content convert allocation_free old new result = ReadsValue content convert allocation_free (λ (s : State) e t. RefusesTree s e) old new result
 
 -- the code at the end, and that at a character that begins no value
 abbrev pub TellsTreesApart : {V C : Type 0} → (V → C) → (Tree → Option C) → (Tree → Bool) → Type 0
-TellsTreesApart {V = V} content convert free =
-    (old new : State) (result : Result V Error) → ReadsTree content convert free old new result
+TellsTreesApart {V = V} content convert allocation_free =
+    (old new : State) (result : Result V Error) → ReadsTree content convert allocation_free old new result
     → EndsWithOr IsOutOfMemory codes.EofParsingValue old result × DiffersWithOr IsOutOfMemory begins_value codes.ExpectedValue old result
 
 -- every tree converts, and nothing is kept of it

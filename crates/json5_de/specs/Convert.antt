@@ -111,11 +111,11 @@ abbrev pub spelled : List (Bor (List ℕ)) → List (List ℕ)
 spelled names = map (λ name. name.now) names
 
 -- a text that is one of these names, as its first place among them
-abbrev pub place_among : List (List ℕ) → List ℕ → Bool → Option ℕ
-place_among names u plain = position (λ name. bytes_eq name (encode_utf8_all u)) names
+abbrev pub index_of : List (List ℕ) → List ℕ → Bool → Option ℕ
+index_of names u plain = position (λ name. bytes_eq name (encode_utf8_all u)) names
 
 abbrev pub variant_of : List (List ℕ) → Tree → Option ℕ
-variant_of names = as_text (place_among names)
+variant_of names = as_text (index_of names)
 
 abbrev pub char_of : Tree → Option ℕ
 char_of = as_text one_character

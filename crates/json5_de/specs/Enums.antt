@@ -13,18 +13,18 @@ use Rattle.json5_text.specs.declared.error.Error.{Error}
 use Rattle.json5_text.specs.Cursor.{IsOutOfMemory}
 use Rattle.json5_de.specs.State.{State, SameText, GivesUp, FailsIfErr}
 use Rattle.json5_de.specs.Law.{IsOkOrMemory, TookValue, Unprompted, AnswersFailed}
-use Rattle.json5_de.specs.Convert.{unit_of, place_among}
+use Rattle.json5_de.specs.Convert.{unit_of, index_of}
 use Rattle.json5_de.specs.ConvertLists.{if_some}
-use Rattle.json5_de.specs.Own.{if_more}
+use Rattle.json5_de.specs.Refinement.{if_more}
 use Rattle.json5_value.specs.Places.{PlacedAt, StartsAfter}
-use Rattle.json5_de.specs.Steps.{PassedGap, IsMismatch}
+use Rattle.json5_de.specs.ReaderSteps.{PassedGap, IsMismatch}
 use Rattle.json5_de.specs.Faults.{RefusedBy, RefusedByOrMemory, NotText, EndsWith, DiffersWith}
 use Rattle.json5_value.specs.declared.brackets.Brackets.{Brackets}
 use Rattle.json5_value.specs.Brackets.{square, curly}
-use Rattle.json5_de.specs.Access.{Seen, IsStart, Opened, NotOpened, Closed, NotClosed, ClosesAs, ClosesArray, ElementsRead, ElementsLeft}
+use Rattle.json5_de.specs.Access.{AccessState, IsStart, Opened, NotOpened, Closed, NotClosed, ClosesAs, ClosesArray, ElementsRead, ElementsLeft}
 use Rattle.json5_de.specs.Keys.{TookKey}
-use Rattle.json5_de.specs.KeyRows.{NotKey, not_converted}
-use Rattle.json5_de.specs.Objects.{SeenMap, PairsRead, PairsLeft, AfterColon, ClosesMap, bare_map}
+use Rattle.json5_de.specs.KeyKinds.{NotKey, not_converted}
+use Rattle.json5_de.specs.Objects.{MapAccessState, PairsRead, PairsLeft, AfterColon, ClosesMap, bare_map}
 use Rattle.json5_de.specs.ObjectFaults.{begins_key, NoColon}
 
 -- ---- what a tree stands for
@@ -34,10 +34,10 @@ abbrev pub named_variant : List (List ℕ) → Tree → Option (ℕ × Option Tr
 named_variant names null = None
 named_variant names (boolean b) = None
 named_variant names (number n) = None
-named_variant names (text u plain) = if_some (λ k. (k, None)) (place_among names u plain)
+named_variant names (text u plain) = if_some (λ k. (k, None)) (index_of names u plain)
 named_variant names (array ts) = None
 named_variant names (object no_pair) = None
-named_variant names (object (pair u plain t no_pair)) = if_some (λ k. (k, Some t)) (place_among names u plain)
+named_variant names (object (pair u plain t no_pair)) = if_some (λ k. (k, Some t)) (index_of names u plain)
 named_variant names (object (pair u plain t (pair v other s ps))) = None
 
 -- what is made of the variant and its content
@@ -56,14 +56,14 @@ content_of convert (Some t) = convert t
 
 -- which contents are read without memory, from which trees are
 abbrev pub content_free : (Tree → Bool) → Option Tree → Bool
-content_free free None = true
-content_free free (Some t) = free t
+content_free allocation_free None = true
+content_free allocation_free (Some t) = allocation_free t
 
 -- ---- an access to a variant
 
 -- what contracts see of it: the reader that is lent to it, the count of bytes before the text or the brace, the variant's place among the
 -- names, and whether it has content that is to be read
-pub record SeenEnum : Type 0 where
+pub record EnumAccessState : Type 0 where
   pub reader : State
   pub start : ℕ
   pub variant : ℕ
@@ -81,10 +81,10 @@ AfterName false from u plain now = TookValue from (text u plain) now
 AfterName true from u plain now = AtContent from u plain now
 
 -- the name of a variant was read of a value that begins at `from`, after the blanks
-pub record NameRead (names : List (List ℕ)) (from : State) (now : SeenEnum) : Type 0 where
+pub record NameRead (names : List (List ℕ)) (from : State) (now : EnumAccessState) : Type 0 where
   pub name : List ℕ
   pub plain : Bool
-  pub place : place_among names name plain ≡ Some now.variant
+  pub place : index_of names name plain ≡ Some now.variant
   pub after : AfterName now.has_content from name plain now.reader
   pub between : State
   pub passed : PassedGap from between
@@ -100,7 +100,7 @@ content_depth None = 0
 content_depth (Some t) = depth t
 
 -- this content is left, and then the closing brace, with r after it
-pub record ContentLeft (c : Option Tree) (r : List ℕ) (now : SeenEnum) : Type 0 where
+pub record ContentLeft (c : Option Tree) (r : List ℕ) (now : EnumAccessState) : Type 0 where
   pub live : now.reader.failed ≡ false
   pub content : now.has_content ≡ is_some c
   pub shallow : now.reader.level + content_depth c ≤ max_depth
@@ -140,7 +140,7 @@ pub record IsNext (begins : ℕ → Bool) (old start : State) : Type 0 where
 -- why the only key of an object is refused: none is next, it names no variant, or no colon is after it
 pub data RefusesOnlyKey (names : List (List ℕ)) (inside : State) (e : Error) : Type 0 where
   no_only_key : RefusedBy NotKeyed inside e → RefusesOnlyKey names inside e
-  other_key : (start : State) → IsNext begins_key inside start → RefusedByOrMemory (NotKey (not_converted None (place_among names))) start e → RefusesOnlyKey names inside e
+  other_key : (start : State) → IsNext begins_key inside start → RefusedByOrMemory (NotKey (not_converted None (index_of names))) start e → RefusesOnlyKey names inside e
   not_followed : (u : List ℕ) (plain : Bool) (keyed : State) → TookKey inside u plain keyed → RefusedBy NoColon keyed e → RefusesOnlyKey names inside e
 
 -- an object was opened and its only key refused: a fault without a place gets the brace's
@@ -154,12 +154,12 @@ pub record RefusesKeyed (names : List (List ℕ)) (old : State) (e : Error) : Ty
 -- why no variant is named
 pub data RefusesName (names : List (List ℕ)) (old : State) (e : Error) : Type 0 where
   nothing_named : RefusedBy NoVariant old e → RefusesName names old e
-  other_text : (start : State) → IsNext is_quote old start → RefusedByOrMemory (NotText None (place_among names)) start e → RefusesName names old e
+  other_text : (start : State) → IsNext is_quote old start → RefusedByOrMemory (NotText None (index_of names)) start e → RefusesName names old e
   not_opened : (start : State) → IsNext is_left_brace old start → RefusedBy (NotOpened curly start.level) start e → RefusesName names old e
   in_object : (start : State) → IsNext is_left_brace old start → RefusesKeyed names start e → RefusesName names old e
 
 -- why a content is refused: there is none, its type refuses it, or its brace isn't closed. A fault of its type without a place gets the brace's.
-pub data RefusesContent (refuses : State → Error → State → Type 0) (old : SeenEnum) (e : Error) : Type 0 where
+pub data RefusesContent (refuses : State → Error → State → Type 0) (old : EnumAccessState) (e : Error) : Type 0 where
   no_content : old.has_content ≡ false → IsMismatch old.reader.input old.start e → RefusesContent refuses old e
   in_content : (own : Error) (after : State) → old.has_content ≡ true → refuses old.reader own after → PlacedAt (StartsAfter old.reader.input old.start) own e → RefusesContent refuses old e
   not_closed : (t : Tree) (after : State) → old.has_content ≡ true → TookValue old.reader t after → RefusedBy (NotClosed curly true) after e → RefusesContent refuses old e
@@ -168,26 +168,26 @@ pub data RefusesContent (refuses : State → Error → State → Type 0) (old : 
 
 -- the only key of an object and its colon are read
 pub record ReadsOnlyKey (names : List (List ℕ)) (old new : State) (result : Result ℕ Error) : Type 0 where
-  pub sound : IfOk result (λ k. (u : List ℕ) × (plain : Bool) × (keyed : State) × TookKey old u plain keyed × AfterColon keyed new × (place_among names u plain ≡ Some k))
-  pub complete : (u x r : List ℕ) (plain : Bool) (t : Tree) (k : ℕ) → old.failed ≡ false → ReadsKey old.unread u plain x → IsKeyValue x t r → place_among names u plain ≡ Some k → IsOkOrMemory result
+  pub sound : IfOk result (λ k. (u : List ℕ) × (plain : Bool) × (keyed : State) × TookKey old u plain keyed × AfterColon keyed new × (index_of names u plain ≡ Some k))
+  pub complete : (u x r : List ℕ) (plain : Bool) (t : Tree) (k : ℕ) → old.failed ≡ false → ReadsKey old.unread u plain x → IsKeyValue x t r → index_of names u plain ≡ Some k → IsOkOrMemory result
   pub refused : IfErr result (λ e. old.failed ≡ false → RefusesOnlyKey names old e)
   pub unprompted : Unprompted old result
   pub failed : OnErr result (GivesUp old new)
 
 -- an object is opened, and its only key and the colon are read
 pub record ReadsKeyed (names : List (List ℕ)) (old new : State) (result : Result ℕ Error) : Type 0 where
-  pub sound : IfOk result (λ k. (u : List ℕ) × (plain : Bool) × AtContent old u plain new × (place_among names u plain ≡ Some k))
-  pub complete : (u r : List ℕ) (plain : Bool) (t : Tree) (k : ℕ) → old.failed ≡ false → Reads old.unread (object (pair u plain t no_pair)) r → old.level + depth (object (pair u plain t no_pair)) ≤ max_depth → place_among names u plain ≡ Some k
+  pub sound : IfOk result (λ k. (u : List ℕ) × (plain : Bool) × AtContent old u plain new × (index_of names u plain ≡ Some k))
+  pub complete : (u r : List ℕ) (plain : Bool) (t : Tree) (k : ℕ) → old.failed ≡ false → Reads old.unread (object (pair u plain t no_pair)) r → old.level + depth (object (pair u plain t no_pair)) ≤ max_depth → index_of names u plain ≡ Some k
       → IsOkOrMemory result
   pub refused : IfErr result (λ e. RefusedBy (NotOpened curly old.level) old e ⊎ RefusesKeyed names old e)
   pub unprompted : Unprompted old result
   pub failed : OnErr result (GivesUp old new)
 
 -- a value that stands for v and the closing brace after it are read
-pub record ReadsInBrace {V C : Type 0} (content : V → C) (convert : Tree → Option C) (free : Tree → Bool) (refuses : State → Error → State → Type 0) (start : ℕ) (old new : State) (result : Result V Error) : Type 0 where
+pub record ReadsInBrace {V C : Type 0} (content : V → C) (convert : Tree → Option C) (allocation_free : Tree → Bool) (refuses : State → Error → State → Type 0) (start : ℕ) (old new : State) (result : Result V Error) : Type 0 where
   pub sound : IfOk result (λ v. (t : Tree) × (after : State) × TookValue old t after × Closed curly true after new × (convert t ≡ Some (content v)))
   pub complete : (t : Tree) (z r : List ℕ) (c : C) → old.failed ≡ false → Reads old.unread t z → IsBrace true z r → old.level + depth t ≤ max_depth → convert t ≡ Some c → IsOkOrMemory result
-  pub no_memory : (t : Tree) (z r : List ℕ) (c : C) → old.failed ≡ false → Reads old.unread t z → IsBrace true z r → old.level + depth t ≤ max_depth → convert t ≡ Some c → free t ≡ true → IsOk result
+  pub no_memory : (t : Tree) (z r : List ℕ) (c : C) → old.failed ≡ false → Reads old.unread t z → IsBrace true z r → old.level + depth t ≤ max_depth → convert t ≡ Some c → allocation_free t ≡ true → IsOk result
   pub refused : IfErr result (λ e. (k : ℕ) → RefusesContent refuses (record { reader = old; start = start; variant = k; has_content = true }) e)
   pub unprompted : Unprompted old result
   pub same_text : SameText old new
@@ -196,15 +196,15 @@ pub record ReadsInBrace {V C : Type 0} (content : V → C) (convert : Tree → O
 -- ---- what the calls mean
 
 -- the name of a variant is read: a text, or the only key of an object and its colon
-pub record NamesVariant {A : Type 0} (names : List (List ℕ)) (seen : A → SeenEnum) (old : State) (result : Result A Error) : Type 0 where
-  pub read : IfOk result (λ a. NameRead names old (seen a))
+pub record NamesVariant {A : Type 0} (names : List (List ℕ)) (state_of : A → EnumAccessState) (old : State) (result : Result A Error) : Type 0 where
+  pub read : IfOk result (λ a. NameRead names old (state_of a))
   pub left : (t : Tree) (r : List ℕ) (k : ℕ) (c : Option Tree) → old.failed ≡ false → Reads old.unread t r → old.level + depth t ≤ max_depth → named_variant names t ≡ Some (k, c)
-      → MatchResult result (λ a. ((seen a).variant ≡ k) × ContentLeft c r (seen a)) IsOutOfMemory
+      → MatchResult result (λ a. ((state_of a).variant ≡ k) × ContentLeft c r (state_of a)) IsOutOfMemory
   pub refused : IfErr result (λ e. old.failed ≡ false → RefusesName names old e)
   pub ends : EndsWith codes.EofParsingValue old result
   pub differs : DiffersWith begins_variant codes.ExpectedStringOrObject old result
   pub unprompted : Unprompted old result
-  pub same_text : IfOk result (λ a. SameText old (seen a).reader)
+  pub same_text : IfOk result (λ a. SameText old (state_of a).reader)
   pub before : AnswersFailed old result
 
 -- v stands for the content of the variant that was named at `from`, and the value was read to its end
@@ -212,10 +212,10 @@ abbrev pub GivesContent : {V C : Type 0} → (V → C) → (Option Tree → Opti
 GivesContent content convert names from k new v = (t : Tree) × (c : Option Tree) × TookValue from t new × (named_variant names t ≡ Some (k, c)) × (convert c ≡ Some (content v))
 
 -- the content of a variant is read, and its closing brace
-pub record ReadsVariant {V C : Type 0} (content : V → C) (convert : Option Tree → Option C) (free : Option Tree → Bool) (refuses : State → Error → State → Type 0) (old : SeenEnum) (new : State) (result : Result V Error) : Type 0 where
+pub record ReadsVariant {V C : Type 0} (content : V → C) (convert : Option Tree → Option C) (allocation_free : Option Tree → Bool) (refuses : State → Error → State → Type 0) (old : EnumAccessState) (new : State) (result : Result V Error) : Type 0 where
   pub read : IfOk result (λ v. (names : List (List ℕ)) (from : State) → NameRead names from old → GivesContent content convert names from old.variant new v)
   pub left : (c : Option Tree) (r : List ℕ) (d : C) → ContentLeft c r old → convert c ≡ Some d → MatchResult result (λ v. content v ≡ d) IsOutOfMemory
-  pub no_memory : (c : Option Tree) (r : List ℕ) (d : C) → ContentLeft c r old → convert c ≡ Some d → free c ≡ true → IsOk result
+  pub no_memory : (c : Option Tree) (r : List ℕ) (d : C) → ContentLeft c r old → convert c ≡ Some d → allocation_free c ≡ true → IsOk result
   pub refused : IfErr result (RefusesContent refuses old)
   pub unprompted : Unprompted old.reader result
   pub same_text : SameText old.reader new
@@ -244,46 +244,46 @@ pub record ClosesContent (b : Brackets) (due : Bool) (brace : ℕ) (old new : St
   pub failed : FailsIfErr new result
 
 -- an array that is a variant's content is closed, and the variant's brace: the value that began before the brace is read
-pub record ClosesTuple (brace : ℕ) (old : Seen) (new : State) (result : Result (Unit {0}) Error) : Type 0 where
+pub record ClosesTuple (brace : ℕ) (old : AccessState) (new : State) (result : Result (Unit {0}) Error) : Type 0 where
   pub bracket : ClosesContent square old.due brace old.reader new result
   pub read : OnOk result ((from content : State) (u : List ℕ) (plain : Bool) (ts : Trees) → AtContent from u plain content → ElementsRead content ts old → TookValue from (object (pair u plain (array ts) no_pair)) new)
   pub left : (x r : List ℕ) → ElementsLeft no_more x old → IsBrace true x r → IsOk result
 
 -- the same of an object
-pub record ClosesStruct (brace : ℕ) (old : SeenMap) (new : State) (result : Result (Unit {0}) Error) : Type 0 where
+pub record ClosesStruct (brace : ℕ) (old : MapAccessState) (new : State) (result : Result (Unit {0}) Error) : Type 0 where
   pub bracket : ClosesContent curly old.at.due brace old.at.reader new result
   pub read : OnOk result ((from content : State) (u : List ℕ) (plain : Bool) (ps : Pairs) → AtContent from u plain content → PairsRead content ps None old → TookValue from (object (pair u plain (object ps) no_pair)) new)
   pub left : (x r : List ℕ) → old.pending ≡ false → PairsLeft no_pair x old → IsBrace true x r → IsOk result
 
 -- the end of an access closes its own bracket, and where there is one the brace of the variant whose content it is
-pub record EndsArray (brace : Option ℕ) (old : Seen) (new : State) (result : Result (Unit {0}) Error) : Type 0 where
+pub record EndsArray (brace : Option ℕ) (old : AccessState) (new : State) (result : Result (Unit {0}) Error) : Type 0 where
   pub alone : brace ≡ None → ClosesArray old new result
   pub in_variant : (start : ℕ) → brace ≡ Some start → ClosesTuple start old new result
 
-pub record EndsObject (brace : Option ℕ) (old : SeenMap) (new : State) (result : Result (Unit {0}) Error) : Type 0 where
+pub record EndsObject (brace : Option ℕ) (old : MapAccessState) (new : State) (result : Result (Unit {0}) Error) : Type 0 where
   pub alone : brace ≡ None → ClosesMap old new result
   pub in_variant : (start : ℕ) → brace ≡ Some start → ClosesStruct start old new result
 
 -- the content of a variant is opened, which begins with this bracket
-pub record OpensContent {A : Type 0} (b : Brackets) (seen : A → Seen) (old : SeenEnum) (result : Result A Error) : Type 0 where
+pub record OpensContent {A : Type 0} (b : Brackets) (state_of : A → AccessState) (old : EnumAccessState) (result : Result A Error) : Type 0 where
   pub has_content : OnOk result (old.has_content ≡ true)
-  pub opened : IfOk result (λ a. Opened b old.reader (seen a).reader × ((seen a).due ≡ false))
-  pub start : IfOk result (λ a. IsStart b old.reader.input (seen a))
+  pub opened : IfOk result (λ a. Opened b old.reader (state_of a).reader × ((state_of a).due ≡ false))
+  pub start : IfOk result (λ a. IsStart b old.reader.input (state_of a))
   pub complete : (r : List ℕ) → old.has_content ≡ true → old.reader.failed ≡ false → IsSign b.opening old.reader.unread r → old.reader.level < max_depth → IsOk result
   pub refused : IfErr result (RefusesContent (λ s e t. RefusedBy (NotOpened b s.level) s e) old)
   pub unprompted : Unprompted old.reader result
 
 -- an array: nothing was read of it, and where one can be read its elements are left
-pub record OpensTuple {A : Type 0} (seen : A → Seen) (old : SeenEnum) (result : Result A Error) : Type 0 where
-  pub content : OpensContent square seen old result
-  pub same_text : IfOk result (λ a. SameText old.reader (seen a).reader)
-  pub read : IfOk result (λ a. ElementsRead old.reader no_more (seen a))
-  pub left : (ts : Trees) (r : List ℕ) → old.has_content ≡ true → old.reader.failed ≡ false → Reads old.reader.unread (array ts) r → old.reader.level + depth (array ts) ≤ max_depth → IsOkAnd result (λ a. ElementsLeft ts r (seen a))
+pub record OpensTuple {A : Type 0} (state_of : A → AccessState) (old : EnumAccessState) (result : Result A Error) : Type 0 where
+  pub content : OpensContent square state_of old result
+  pub same_text : IfOk result (λ a. SameText old.reader (state_of a).reader)
+  pub read : IfOk result (λ a. ElementsRead old.reader no_more (state_of a))
+  pub left : (ts : Trees) (r : List ℕ) → old.has_content ≡ true → old.reader.failed ≡ false → Reads old.reader.unread (array ts) r → old.reader.level + depth (array ts) ≤ max_depth → IsOkAnd result (λ a. ElementsLeft ts r (state_of a))
 
 -- the same of an object
-pub record OpensStruct {A : Type 0} (seen : A → SeenMap) (old : SeenEnum) (result : Result A Error) : Type 0 where
-  pub content : OpensContent curly (λ a. (seen a).at) old result
-  pub no_key : IfOk result (λ a. (seen a).pending ≡ false)
-  pub same_text : IfOk result (λ a. SameText old.reader (seen a).at.reader)
-  pub read : IfOk result (λ a. PairsRead old.reader no_pair None (seen a))
-  pub left : (ps : Pairs) (r : List ℕ) → old.has_content ≡ true → old.reader.failed ≡ false → Reads old.reader.unread (object ps) r → old.reader.level + depth (object ps) ≤ max_depth → IsOkAnd result (λ a. PairsLeft ps r (seen a))
+pub record OpensStruct {A : Type 0} (state_of : A → MapAccessState) (old : EnumAccessState) (result : Result A Error) : Type 0 where
+  pub content : OpensContent curly (λ a. (state_of a).at) old result
+  pub no_key : IfOk result (λ a. (state_of a).pending ≡ false)
+  pub same_text : IfOk result (λ a. SameText old.reader (state_of a).at.reader)
+  pub read : IfOk result (λ a. PairsRead old.reader no_pair None (state_of a))
+  pub left : (ps : Pairs) (r : List ℕ) → old.has_content ≡ true → old.reader.failed ≡ false → Reads old.reader.unread (object ps) r → old.reader.level + depth (object ps) ≤ max_depth → IsOkAnd result (λ a. PairsLeft ps r (state_of a))

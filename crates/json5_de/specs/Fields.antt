@@ -10,9 +10,9 @@ use Rattle.json5_text.specs.Cursor.{IsOutOfMemory}
 use Rattle.json5_de.specs.State.{State, FailsIfErr}
 use Rattle.json5_de.specs.ConvertLists.{if_some}
 use Rattle.json5_de.specs.Law.{Unprompted}
-use Rattle.json5_de.specs.Own.{if_more}
-use Rattle.json5_de.specs.Access.{Seen, IsAtBracket, AnswersFailedAtBracket}
-use Rattle.json5_de.specs.Objects.{SeenMap, KeepsPending, PairsLeft, ReadsAPair, LeavesPairs}
+use Rattle.json5_de.specs.Refinement.{if_more}
+use Rattle.json5_de.specs.Access.{AccessState, IsAtBracket, AnswersFailedAtBracket}
+use Rattle.json5_de.specs.Objects.{MapAccessState, KeepsPending, PairsLeft, ReadsAPair, LeavesPairs}
 use Rattle.json5_de.specs.ObjectFaults.{ValueRefusedAtBrace}
 
 -- ---- what a struct takes of an object
@@ -51,30 +51,30 @@ and_field f g ps = joint (f ps) (g ps)
 -- ---- what the calls for a field mean
 
 -- a fault with a text of its own at the opening bracket, or memory ran out
-pub record IsOwnAtBracket (s : Seen) (e : Error) : Type 0 where
+pub record IsOwnAtBracket (s : AccessState) (e : Error) : Type 0 where
   pub kind : ((text : List ℕ) × (kind_of e ≡ custom text)) ⊎ IsOutOfMemory e
   pub there : IsAtBracket s e
 
 -- the value of the key that was read fills the field, which had none
-abbrev pub FillsField : {V C : Type 0} → (V → C) → (Tree → Option C) → SeenMap → SeenMap → Option V → Option V → Type 0
+abbrev pub FillsField : {V C : Type 0} → (V → C) → (Tree → Option C) → MapAccessState → MapAccessState → Option V → Option V → Type 0
 FillsField {V} content convert old new field next = (v : V) × (field ≡ None) × (next ≡ Some v) × ReadsAPair content convert old new v
 
 -- where the first pair's value converts, it fills the field, unless memory runs out, and the others are left
-abbrev pub LeavesFilled : {V C : Type 0} → (V → C) → (Tree → Option C) → Tree → Pairs → List ℕ → SeenMap → Option V → Result (Unit {0}) Error → Type 0
+abbrev pub LeavesFilled : {V C : Type 0} → (V → C) → (Tree → Option C) → Tree → Pairs → List ℕ → MapAccessState → Option V → Result (Unit {0}) Error → Type 0
 LeavesFilled {V} content convert t ps r new next (Ok done) = (v : V) × (next ≡ Some v) × LeavesPairs content convert t ps r new (Ok v)
 LeavesFilled {V} content convert t ps r new next (Err e) = LeavesPairs {V = V} content convert t ps r new (Err e)
 
 -- a value that is refused, as its type refuses it
-abbrev pub RefusesHere : {V : Type 0} → (State → Error → State → Type 0) → SeenMap → Result V Error → Type 0
+abbrev pub RefusesHere : {V : Type 0} → (State → Error → State → Type 0) → MapAccessState → Result V Error → Type 0
 RefusesHere refuses old result = IfErr result (λ e. old.at.reader.failed ≡ false → ValueRefusedAtBrace refuses old e)
 
 -- why a field isn't filled: its value is refused, or it stands there a second time
-pub data FieldFault {V : Type 0} (refuses : State → Error → State → Type 0) (old : SeenMap) (field : Option V) (e : Error) : Type 0 where
+pub data FieldFault {V : Type 0} (refuses : State → Error → State → Type 0) (old : MapAccessState) (field : Option V) (e : Error) : Type 0 where
   in_field : field ≡ None → ValueRefusedAtBrace refuses old e → FieldFault refuses old field e
   twice : is_some field ≡ true → IsOwnAtBracket old.at e → FieldFault refuses old field e
 
 -- what a call for a field means
-pub record FieldRead {V C : Type 0} (content : V → C) (convert : Tree → Option C) (refuses : State → Error → State → Type 0) (old new : SeenMap) (field next : Option V) (result : Result (Unit {0}) Error) : Type 0 where
+pub record FieldRead {V C : Type 0} (content : V → C) (convert : Tree → Option C) (refuses : State → Error → State → Type 0) (old new : MapAccessState) (field next : Option V) (result : Result (Unit {0}) Error) : Type 0 where
   pub read : OnOk result (FillsField content convert old new field next)
   pub left : field ≡ None → (u : List ℕ) (plain : Bool) (t : Tree) (ps : Pairs) (r : List ℕ) → PairsLeft (pair u plain t ps) r old → LeavesFilled content convert t ps r new next result
   pub live : OnOk result (new.at.reader.failed ≡ false)
@@ -86,7 +86,7 @@ pub record FieldRead {V C : Type 0} (content : V → C) (convert : Tree → Opti
   pub kept : OnErr result (next ≡ field)
 
 -- what a call for a field that has to be there means
-pub record FieldRequired {V : Type 0} (old new : SeenMap) (field : Option V) (result : Result V Error) : Type 0 where
+pub record FieldRequired {V : Type 0} (old new : MapAccessState) (field : Option V) (result : Result V Error) : Type 0 where
   pub live : OnOk result (old.at.reader.failed ≡ false)
   pub same : OnOk result (new ≡ old)
   pub missing : IfErr result (λ e. old.at.reader.failed ≡ false → (field ≡ None) × IsOwnAtBracket old.at e)

@@ -16,8 +16,8 @@ use Rattle.json5_de.specs.State.{State, GivesUp}
 use Rattle.json5_de.specs.Convert.{as_text, every_text}
 use Rattle.json5_de.specs.Faults.{FaultRelation, RefusedByOrMemory}
 use Rattle.json5_de.specs.Law.{CompletesFree, StaysFailed}
-use Rattle.json5_de.specs.Rows.{plain_text}
-use Rattle.json5_de.specs.Steps.{PassedGap, TookText, IsMismatchOf}
+use Rattle.json5_de.specs.TokenKinds.{plain_text}
+use Rattle.json5_de.specs.ReaderSteps.{PassedGap, TookText, IsMismatchOf}
 use Rattle.json5_de.specs.Keys.{KeyConversion, every_key, CompletesKey}
 
 -- how a text is spelled: the spelling, what follows it, the text, and whether it is plain

@@ -33,8 +33,8 @@ Completes {C = C} convert old result =
 
 -- a tree that is free and can be read is read without memory
 abbrev pub CompletesFree : {V C : Type 0} → (Tree → Bool) → (Tree → Option C) → State → Result V Error → Type 0
-CompletesFree {C = C} free convert old result =
-    (t : Tree) (r : List ℕ) (c : C) → old.failed ≡ false → Reads old.unread t r → old.level + depth t ≤ max_depth → convert t ≡ Some c → free t ≡ true → IsOk result
+CompletesFree {C = C} allocation_free convert old result =
+    (t : Tree) (r : List ℕ) (c : C) → old.failed ≡ false → Reads old.unread t r → old.level + depth t ≤ max_depth → convert t ≡ Some c → allocation_free t ≡ true → IsOk result
 
 -- a reader that has failed answers `Failed` without a place
 abbrev pub AnswersFailed : {V : Type 0} → State → Result V Error → Type 0
@@ -53,10 +53,10 @@ abbrev pub Unprompted : {V : Type 0} → State → Result V Error → Type 0
 Unprompted old result = IfErr result (λ e. old.failed ≡ false → IsUnprompted e)
 
 -- one value is read from the front: the law of a type, and after a refusal the reader has failed for good
-pub record ReadsValue {V C : Type 0} (content : V → C) (convert : Tree → Option C) (free : Tree → Bool) (refuses : State → Error → State → Type 0) (old new : State) (result : Result V Error) : Type 0 where
+pub record ReadsValue {V C : Type 0} (content : V → C) (convert : Tree → Option C) (allocation_free : Tree → Bool) (refuses : State → Error → State → Type 0) (old new : State) (result : Result V Error) : Type 0 where
   pub sound : IfOk result (λ v. Gives content convert old new v)
   pub complete : Completes convert old result
-  pub no_memory : CompletesFree free convert old result
+  pub no_memory : CompletesFree allocation_free convert old result
   pub refused : IfErr result (λ e. refuses old e new)
   pub unprompted : Unprompted old result
   pub same_text : SameText old new

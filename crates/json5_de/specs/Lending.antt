@@ -10,15 +10,15 @@ use Rattle.json5_text.specs.Bytes.{bytes_of}
 use Rattle.json5_text.specs.Cows.{cow_bytes, is_borrowed}
 use Rattle.json5_de.specs.State.{State, SameText, GivesUp}
 use Rattle.json5_grammar.specs.Trees.{Tree, Trees, Pairs}
-use Rattle.json5_de.specs.Access.{Seen, OpensArray, PlacedAtBracket, GivesElement, ReadsElement, CompletesClose, ReadsMore, ElementsLeft, LeavesFewer}
+use Rattle.json5_de.specs.Access.{AccessState, OpensArray, PlacedAtBracket, GivesElement, ReadsElement, CompletesClose, ReadsMore, ElementsLeft, LeavesFewer}
 use Rattle.json5_de.specs.Seq.{RefusesNext}
 use Rattle.json5_de.specs.Keys.{KeyConversion, ReadsOneKey}
-use Rattle.json5_de.specs.Rows.{null_row}
-use Rattle.json5_de.specs.KeyRows.{KeyRow, RefusedAsKey, bytes_key, cow_key, document_key}
-use Rattle.json5_de.specs.Objects.{SeenMap, OpensMap, SetsPending, GivesPairKey, GivesPairValue, ReadsPairKey, ReadsPairValue, ReadsAKey, ReadsAPair, PairsLeft, LeavesAValue, LeavesOthers}
+use Rattle.json5_de.specs.TokenKinds.{null_kind}
+use Rattle.json5_de.specs.KeyKinds.{KeyKind, RefusedAsKey, bytes_key, cow_key, document_key}
+use Rattle.json5_de.specs.Objects.{MapAccessState, OpensMap, SetsPending, GivesPairKey, GivesPairValue, ReadsPairKey, ReadsPairValue, ReadsAKey, ReadsAPair, PairsLeft, LeavesAValue, LeavesOthers}
 use Rattle.json5_de.specs.ObjectFaults.{RefusesNextKey, RefusesNextValue}
 use Rattle.json5_de.specs.Stages.{is_comma_due, is_pending}
-use Rattle.json5_de.specs.Enums.{SeenEnum}
+use Rattle.json5_de.specs.Enums.{EnumAccessState}
 use Rattle.json5_de.specs.declared.enums.EnumAccess.{EnumAccess}
 use Rattle.json5_de.specs.declared.variant_names.Named.{Named}
 use Rattle.json5_de.specs.declared.key.MapKey.{MapKey}
@@ -27,8 +27,8 @@ use Rattle.json5_de.specs.declared.seq.SeqAccess.{SeqAccess}
 use Rattle.json5_de.specs.contracts.de.Deserializer.{the_row}
 
 module _ {I : Type 0} where
-  abbrev pub seen : SeqAccess I → Seen
-  seen s = record { reader = record s.de.now { failed = s.failed }; start = s.start; due = is_comma_due s.stage }
+  abbrev pub state_of : SeqAccess I → AccessState
+  state_of s = record { reader = record s.de.now { failed = s.failed }; start = s.start; due = is_comma_due s.stage }
 
   -- the count of bytes before the brace that its end closes too: that of the variant whose content it reads
   abbrev pub brace_of : SeqAccess I → Option ℕ
@@ -38,11 +38,11 @@ module _ {I : Type 0} where
   map_brace m = m.brace
 
   -- the reader itself, as the access holds it
-  abbrev pub held : SeqAccess I → State
-  held s = s.de.now
+  abbrev pub reader_of_access : SeqAccess I → State
+  reader_of_access s = s.de.now
 
-  abbrev pub held_by_map : MapAccess I → State
-  held_by_map m = m.de.now
+  abbrev pub reader_of_map : MapAccess I → State
+  reader_of_map m = m.de.now
 
   -- the access holds this reader
   abbrev pub Holds : MutBor State → SeqAccess I → Type 0
@@ -67,22 +67,22 @@ module _ {I : Type 0} where
   -- after its reader read it is blocked again, and a refusal is kept in mind, which is at the bracket where it had no place
   pub record Settles {V : Type 0} (old : SeqAccess I) (read : Result V Error) (new : SeqAccess I) (result : Result V Error) : Type 0 where
     pub given : IfOk read (λ v. result ≡ Ok v)
-    pub refused : IfErr read (λ own. IsErrAnd result (PlacedAtBracket (seen old) own))
+    pub refused : IfErr read (λ own. IsErrAnd result (PlacedAtBracket (state_of old) own))
     pub blocks : MatchResult read (λ v. new ≡ blocking old old.failed) (λ own. new ≡ blocking old true)
 
-  abbrev pub seen_map : MapAccess I → SeenMap
-  seen_map m = record { at = record { reader = record m.de.now { failed = m.failed }; start = m.start; due = is_comma_due m.stage }; pending = is_pending m.stage }
+  abbrev pub map_state_of : MapAccess I → MapAccessState
+  map_state_of m = record { at = record { reader = record m.de.now { failed = m.failed }; start = m.start; due = is_comma_due m.stage }; pending = is_pending m.stage }
 
   -- a key was read whose value wasn't, or none was
   abbrev pub KeyPending : MapAccess I → Type 0
-  KeyPending m = (seen_map m).pending ≡ true
+  KeyPending m = (map_state_of m).pending ≡ true
 
   abbrev pub NoKeyPending : MapAccess I → Type 0
-  NoKeyPending m = (seen_map m).pending ≡ false
+  NoKeyPending m = (map_state_of m).pending ≡ false
 
   -- the value of the pending key is taken; a refusal leaves the key pending
   abbrev pub TakesPendingKey : {V : Type 0} → MapAccess I → MapAccess I → Result V Error → Type 0
-  TakesPendingKey old new result = SetsPending (λ _. false) (seen_map old) (seen_map new) result
+  TakesPendingKey old new result = SetsPending (λ _. false) (map_state_of old) (map_state_of new) result
 
   -- the same of an access to an object
   abbrev pub HoldsMap : MutBor State → MapAccess I → Type 0
@@ -102,24 +102,24 @@ module _ {I : Type 0} where
 
   pub record SettlesMap {V : Type 0} (old : MapAccess I) (read : Result V Error) (new : MapAccess I) (result : Result V Error) : Type 0 where
     pub given : IfOk read (λ v. result ≡ Ok v)
-    pub refused : IfErr read (λ own. IsErrAnd result (PlacedAtBracket (seen_map old).at own))
+    pub refused : IfErr read (λ own. IsErrAnd result (PlacedAtBracket (map_state_of old).at own))
     pub blocks : MatchResult read (λ v. new ≡ blocking_map old old.failed) (λ own. new ≡ blocking_map old true)
 
 -- a name that was read, and the reader after it
-abbrev pub seen_named : State → Named → SeenEnum
-seen_named reader n = record { reader = reader; start = n.start; variant = n.variant; has_content = n.has_content }
+abbrev pub named_state_of : State → Named → EnumAccessState
+named_state_of reader n = record { reader = reader; start = n.start; variant = n.variant; has_content = n.has_content }
 
 module _ {I : Type 0} where
   -- the same of an access to a variant, which no call has failed
-  abbrev pub seen_enum : EnumAccess I → SeenEnum
-  seen_enum a = seen_named (record a.de.now { failed = false }) a.name
+  abbrev pub enum_state_of : EnumAccess I → EnumAccessState
+  enum_state_of a = named_state_of (record a.de.now { failed = false }) a.name
 
   -- the reader that it was given, and the same as it stands
   abbrev pub reader_of : EnumAccess I → MutBor State
   reader_of a = a.de
 
-  abbrev pub held_by_enum : EnumAccess I → State
-  held_by_enum a = a.de.now
+  abbrev pub reader_of_enum : EnumAccess I → State
+  reader_of_enum a = a.de.now
 
   abbrev pub HoldsEnum : MutBor State → EnumAccess I → Type 0
   HoldsEnum reader a = a.de.ghost_name ≡ reader.ghost_name
@@ -128,8 +128,8 @@ module _ {I : Type 0} where
   BlocksEnumReader a = a.de.now.failed ≡ true
 
 -- the reader that is lent to a key, which stands before it
-abbrev pub waiting : {I : Type 0} → MapKey I → State
-waiting key = key.de.now
+abbrev pub reader_of_key : {I : Type 0} → MapKey I → State
+reader_of_key key = key.de.now
 
 -- it still holds the same one
 abbrev pub HoldsTheSameKey : {I : Type 0} → MapKey I → MapKey I → Type 0
@@ -137,16 +137,16 @@ HoldsTheSameKey old new = new.de.ghost_name ≡ old.de.ghost_name
 
 -- a call reads the key that waits, and the reader stays lent to it
 pub record KeyReadsBy {I V C : Type 0} (content : V → C) (convert : KeyConversion C) (refuses : State → Error → State → Type 0) (old new : MapKey I) (result : Result V Error) : Type 0 where
-  pub reads : ReadsOneKey content convert refuses (waiting old) (waiting new) result
+  pub reads : ReadsOneKey content convert refuses (reader_of_key old) (reader_of_key new) result
   pub same_reference : HoldsTheSameKey old new
 
 -- the same of a kind of keys
-abbrev pub KeyReads : {I V C : Type 0} → KeyRow C → (V → C) → MapKey I → MapKey I → Result V Error → Type 0
-KeyReads row content old new result = KeyReadsBy content row.convert (RefusedAsKey row) old new result
+abbrev pub KeyReads : {I V C : Type 0} → KeyKind C → (V → C) → MapKey I → MapKey I → Result V Error → Type 0
+KeyReads kind content old new result = KeyReadsBy content kind.convert (RefusedAsKey kind) old new result
 
 -- null, bytes, or a text that is borrowed where it is plain
 abbrev pub ReadsNullKey : {I : Type 0} → MapKey I → MapKey I → Result (Unit {0}) Error → Type 0
-ReadsNullKey old new result = KeyReads (document_key null_row) (λ _. tt) old new result
+ReadsNullKey old new result = KeyReads (document_key null_kind) (λ _. tt) old new result
 
 abbrev pub ReadsBytesKey : {I : Type 0} → MapKey I → MapKey I → Result ByteBuf Error → Type 0
 ReadsBytesKey old new result = KeyReads bytes_key bytes_of old new result
@@ -167,57 +167,57 @@ pub record HoldsMapBlocked {I : Type 0} (reader : MutBor State) (brace : Option 
 
 -- an array is opened by an access that holds this reader, and whose end closes no brace; an object likewise
 abbrev pub OpensSeqAccess : {I : Type 0} → MutBor State → State → Result (SeqAccess I) Error → Type 0
-OpensSeqAccess reader old result = OpensArray (HoldsBlocked reader None) seen old result
+OpensSeqAccess reader old result = OpensArray (HoldsBlocked reader None) state_of old result
 
 abbrev pub OpensMapAccess : {I : Type 0} → MutBor State → State → Result (MapAccess I) Error → Type 0
-OpensMapAccess reader old result = OpensMap (HoldsMapBlocked reader None) seen_map old result
+OpensMapAccess reader old result = OpensMap (HoldsMapBlocked reader None) map_state_of old result
 
 -- a call of the access keeps its reference, blocks the reader, and leaves the bracket and the text where they were
 pub record KeepsAccess {I : Type 0} (old new : SeqAccess I) : Type 0 where
   pub same_reference : HoldsTheSame old new
   pub blocks : BlocksReader new
-  pub start : (seen new).start ≡ (seen old).start
-  pub same_text : SameText (seen old).reader (seen new).reader
+  pub start : (state_of new).start ≡ (state_of old).start
+  pub same_text : SameText (state_of old).reader (state_of new).reader
 
 pub record KeepsMap {I : Type 0} (old new : MapAccess I) : Type 0 where
   pub same_reference : HoldsTheSameMap old new
   pub blocks : BlocksMapReader new
-  pub start : (seen_map new).at.start ≡ (seen_map old).at.start
-  pub same_text : SameText (seen_map old).at.reader (seen_map new).at.reader
+  pub start : (map_state_of new).at.start ≡ (map_state_of old).at.start
+  pub same_text : SameText (map_state_of old).at.reader (map_state_of new).at.reader
 
 -- the next element is read, or none where the bracket is next
 pub record ReadsNext {I V C : Type 0} (content : V → C) (convert : Tree → Option C) (refuses : State → Error → State → Type 0) (old new : SeqAccess I) (result : Result (Option V) Error) : Type 0 where
   pub access : KeepsAccess old new
-  pub sound : IfOk result (GivesElement content convert (seen old) (seen new))
-  pub complete : ReadsElement content convert (seen old) result
-  pub closing : CompletesClose square (seen old) result
-  pub shorter : IfOk result (λ o. IfSome o (λ v. length (seen new).reader.unread < length (seen old).reader.unread))
-  pub refused : RefusesNext refuses (seen old) (seen new).reader result
-  pub read : IfOk result (ReadsMore content convert (seen old) (seen new))
-  pub left : (ts : Trees) (r : List ℕ) → ElementsLeft ts r (seen old) → LeavesFewer content convert ts r (seen new) result
+  pub sound : IfOk result (GivesElement content convert (state_of old) (state_of new))
+  pub complete : ReadsElement content convert (state_of old) result
+  pub closing : CompletesClose square (state_of old) result
+  pub shorter : IfOk result (λ o. IfSome o (λ v. length (state_of new).reader.unread < length (state_of old).reader.unread))
+  pub refused : RefusesNext refuses (state_of old) (state_of new).reader result
+  pub read : IfOk result (ReadsMore content convert (state_of old) (state_of new))
+  pub left : (ts : Trees) (r : List ℕ) → ElementsLeft ts r (state_of old) → LeavesFewer content convert ts r (state_of new) result
 
 -- the next key is read, or none where the brace is next
 pub record ReadsNextKey {I K C : Type 0} (content : K → C) (convert : KeyConversion C) (refuses : State → Error → State → Type 0) (old new : MapAccess I) (result : Result (Option K) Error) : Type 0 where
   pub access : KeepsMap old new
-  pub pending : SetsPending is_some (seen_map old) (seen_map new) result
-  pub sound : IfOk result (GivesPairKey content convert (seen_map old) (seen_map new))
-  pub complete : ReadsPairKey content convert (seen_map old) result
-  pub closing : CompletesClose curly (seen_map old).at result
-  pub shorter : IfOk result (λ o. IfSome o (λ k. length (seen_map new).at.reader.unread < length (seen_map old).at.reader.unread))
-  pub refused : RefusesNextKey refuses (seen_map old) (seen_map new).at.reader result
-  pub read : IfOk result (ReadsAKey content convert (seen_map old) (seen_map new))
-  pub left : (ps : Pairs) (r : List ℕ) → PairsLeft ps r (seen_map old) → LeavesAValue content convert ps r (seen_map new) result
+  pub pending : SetsPending is_some (map_state_of old) (map_state_of new) result
+  pub sound : IfOk result (GivesPairKey content convert (map_state_of old) (map_state_of new))
+  pub complete : ReadsPairKey content convert (map_state_of old) result
+  pub closing : CompletesClose curly (map_state_of old).at result
+  pub shorter : IfOk result (λ o. IfSome o (λ k. length (map_state_of new).at.reader.unread < length (map_state_of old).at.reader.unread))
+  pub refused : RefusesNextKey refuses (map_state_of old) (map_state_of new).at.reader result
+  pub read : IfOk result (ReadsAKey content convert (map_state_of old) (map_state_of new))
+  pub left : (ps : Pairs) (r : List ℕ) → PairsLeft ps r (map_state_of old) → LeavesAValue content convert ps r (map_state_of new) result
 
 -- the value of the key that was read last
 pub record ReadsNextValue {I V C : Type 0} (content : V → C) (convert : Tree → Option C) (refuses : State → Error → State → Type 0) (old new : MapAccess I) (result : Result V Error) : Type 0 where
   pub access : KeepsMap old new
   pub pending : TakesPendingKey old new result
-  pub sound : IfOk result (GivesPairValue content convert (seen_map old) (seen_map new))
-  pub complete : ReadsPairValue content convert (seen_map old) result
-  pub shorter : IfOk result (λ v. length (seen_map new).at.reader.unread < length (seen_map old).at.reader.unread)
-  pub refused : RefusesNextValue refuses (seen_map old) (seen_map new).at.reader result
-  pub read : IfOk result (ReadsAPair content convert (seen_map old) (seen_map new))
-  pub left : LeavesOthers content convert (seen_map old) (seen_map new) result
+  pub sound : IfOk result (GivesPairValue content convert (map_state_of old) (map_state_of new))
+  pub complete : ReadsPairValue content convert (map_state_of old) result
+  pub shorter : IfOk result (λ v. length (map_state_of new).at.reader.unread < length (map_state_of old).at.reader.unread)
+  pub refused : RefusesNextValue refuses (map_state_of old) (map_state_of new).at.reader result
+  pub read : IfOk result (ReadsAPair content convert (map_state_of old) (map_state_of new))
+  pub left : LeavesOthers content convert (map_state_of old) (map_state_of new) result
 
 module _ (I : RattleType) (g : input.Ghosts I.Denot) where
   -- the reader ends as the access leaves it, and after a refusal it has given up

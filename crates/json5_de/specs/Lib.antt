@@ -3,8 +3,8 @@ pub mod Law
 pub mod Faults
 pub mod Convert
 pub mod ConvertLists
-pub mod Steps
-pub mod Rows
+pub mod ReaderSteps
+pub mod TokenKinds
 pub mod Options
 pub mod Brackets
 pub mod Access
@@ -12,10 +12,10 @@ pub mod Seq
 pub mod Short
 pub mod Lists
 pub mod Keys
-pub mod KeyRows
+pub mod KeyKinds
 pub mod FoundTexts
 pub mod KeySteps
-pub mod Takes
+pub mod TokenCalls
 pub mod Objects
 pub mod ObjectFaults
 pub mod Maps
@@ -26,7 +26,7 @@ pub mod MapFaults
 pub mod Stages
 pub mod Lending
 pub mod Texts
-pub mod Own
+pub mod Refinement
 pub mod Spans
 pub mod AnyTree
 pub mod Enums

@@ -10,7 +10,7 @@ use Rattle.json5_text.specs.Errors.{LacksMemory}
 use Rattle.json5_de.specs.State.{State}
 use Rattle.json5_value.specs.Brackets.{square}
 use Rattle.json5_de.specs.Faults.{RefusedBy, IsUnplaced}
-use Rattle.json5_de.specs.Access.{Seen, Opened, AtClose, NotOpened, NotClosed, ElementsRead, LeavesFewer, IsAtBracket}
+use Rattle.json5_de.specs.Access.{AccessState, Opened, AtClose, NotOpened, NotClosed, ElementsRead, LeavesFewer, IsAtBracket}
 use Rattle.json5_de.specs.Seq.{RefusedAtBracket}
 
 -- ---- the elements of a list
@@ -48,16 +48,16 @@ Accepted es (more t ts) = ((es 0).accepts t ≡ true) × Accepted (λ n. es (suc
 -- ---- an element that has to be there
 
 -- a text of its own, or memory ran out, at the opening bracket
-abbrev pub IsTooShort : Seen → Error → Type 0
+abbrev pub IsTooShort : AccessState → Error → Type 0
 IsTooShort old e = (IsOutOfMemory e ⊎ Says None e) × IsAtBracket old e
 
 -- the element's fault, or the list ends before it
-pub data RefusesRequired (refuses : State → Error → State → Type 0) (old : Seen) (e : Error) : Type 0 where
+pub data RefusesRequired (refuses : State → Error → State → Type 0) (old : AccessState) (e : Error) : Type 0 where
   at_fault : RefusedAtBracket refuses old e → RefusesRequired refuses old e
   missing : (at : State) → AtClose square old.due old.reader at → IsTooShort old e → RefusesRequired refuses old e
 
 -- where elements are left and the first converts, it was read, unless memory ran out, and the others are left; where none is left, none was read
-abbrev pub LeavesRequired : {V C : Type 0} → (V → C) → (Tree → Option C) → Trees → List ℕ → Seen → Result V Error → Type 0
+abbrev pub LeavesRequired : {V C : Type 0} → (V → C) → (Tree → Option C) → Trees → List ℕ → AccessState → Result V Error → Type 0
 LeavesRequired content convert ts r new (Ok v) = LeavesFewer content convert ts r new (Ok (Some v))
 LeavesRequired content convert no_more r new (Err e) = Unit {0}
 LeavesRequired content convert (more t ts) r new (Err e) = LeavesFewer content convert (more t ts) r new (Err e)
@@ -65,7 +65,7 @@ LeavesRequired content convert (more t ts) r new (Err e) = LeavesFewer content c
 -- ---- a list
 
 -- the list was opened, and so many elements of it were read, each of which converts
-pub record Within (es : Elements) (old : State) (now : Seen) (n : ℕ) : Type 0 where
+pub record Within (es : Elements) (old : State) (now : AccessState) (n : ℕ) : Type 0 where
   pub first : State
   pub opened : Opened square old first
   pub start : (before : List ℕ) → old.input ≡ before ++ left_bracket ∷ first.unread → now.start ≡ length (encode_utf8_all before)
@@ -96,9 +96,9 @@ HasPlace (Some n) place = place < n
 -- why a list is refused: its opening bracket, the first element at fault, elements that are missing or too many, or memory that ran out
 pub data ListFault (es : Elements) (shape : Shape) (old : State) (e : Error) : Type 0 where
   not_opened : RefusedBy (NotOpened square old.level) old e → ListFault es shape old e
-  at_element : (now : Seen) (n : ℕ) → Within es old now n → HasPlace shape.size n → RefusedAtBracket (es n).refuses now e → ListFault es shape old e
-  too_few : (now : Seen) (n size : ℕ) → Within es old now n → shape.size ≡ Some size → n < size → (at : State) → AtClose square now.due now.reader at → IsTooShort now e → ListFault es shape old e
-  too_many : (now : Seen) (n : ℕ) → Within es old now n → shape.size ≡ Some n → RefusedBy (NotClosed square now.due) now.reader e → ListFault es shape old e
+  at_element : (now : AccessState) (n : ℕ) → Within es old now n → HasPlace shape.size n → RefusedAtBracket (es n).refuses now e → ListFault es shape old e
+  too_few : (now : AccessState) (n size : ℕ) → Within es old now n → shape.size ≡ Some size → n < size → (at : State) → AtClose square now.due now.reader at → IsTooShort now e → ListFault es shape old e
+  too_many : (now : AccessState) (n : ℕ) → Within es old now n → shape.size ≡ Some n → RefusedBy (NotClosed square now.due) now.reader e → ListFault es shape old e
   no_memory : shape.gathers ≡ true → LacksMemory e → ListFault es shape old e
 
 -- how a list is refused: after it the reader has failed for good

@@ -12,7 +12,7 @@ use Rattle.json5_value.specs.Brackets.{curly}
 use Rattle.json5_de.specs.Faults.{RefusedBy, IsUnplaced}
 use Rattle.json5_de.specs.Access.{Opened, NotOpened}
 use Rattle.json5_de.specs.Keys.{KeyConversion}
-use Rattle.json5_de.specs.Objects.{SeenMap, PairsRead}
+use Rattle.json5_de.specs.Objects.{MapAccessState, PairsRead}
 use Rattle.json5_de.specs.ObjectFaults.{KeyRefusedAtBrace, ValueRefusedAtBrace}
 
 -- how keys and values are read: what they convert to, and how their types refuse
@@ -26,7 +26,7 @@ abbrev pub sides : {C D : Type 0} → KeyConversion C → (Tree → Option D) �
 sides keys values refuses_key refuses_value = record { keys = keys; values = values; refuses_key = refuses_key; refuses_value = refuses_value }
 
 -- the object was opened, and pairs of it were read, each of which converts, and perhaps a key after them
-pub record WithinMap {C D : Type 0} (keys : KeyConversion C) (values : Tree → Option D) (old : State) (key : Option (List ℕ × Bool)) (now : SeenMap) : Type 0 where
+pub record WithinMap {C D : Type 0} (keys : KeyConversion C) (values : Tree → Option D) (old : State) (key : Option (List ℕ × Bool)) (now : MapAccessState) : Type 0 where
   pub first : State
   pub opened : Opened curly old first
   pub start : (before : List ℕ) → old.input ≡ before ++ left_brace ∷ first.unread → now.at.start ≡ length (encode_utf8_all before)
@@ -38,8 +38,8 @@ pub record WithinMap {C D : Type 0} (keys : KeyConversion C) (values : Tree → 
 -- its opening brace, the first key or value at fault, or memory that ran out; the key before that value converts
 pub data MapFault {C D : Type 0} (sides : Sides C D) (old : State) (e : Error) : Type 0 where
   not_opened : RefusedBy (NotOpened curly old.level) old e → MapFault sides old e
-  at_key : (now : SeenMap) → WithinMap sides.keys sides.values old None now → KeyRefusedAtBrace sides.refuses_key now e → MapFault sides old e
-  at_value : (now : SeenMap) (u : List ℕ) (plain : Bool) (c : C) → sides.keys u plain ≡ Some c → WithinMap sides.keys sides.values old (Some (u, plain)) now → ValueRefusedAtBrace sides.refuses_value now e → MapFault sides old e
+  at_key : (now : MapAccessState) → WithinMap sides.keys sides.values old None now → KeyRefusedAtBrace sides.refuses_key now e → MapFault sides old e
+  at_value : (now : MapAccessState) (u : List ℕ) (plain : Bool) (c : C) → sides.keys u plain ≡ Some c → WithinMap sides.keys sides.values old (Some (u, plain)) now → ValueRefusedAtBrace sides.refuses_value now e → MapFault sides old e
   no_memory : LacksMemory e → MapFault sides old e
 
 -- how a map is refused: after it the reader has failed for good

@@ -17,7 +17,7 @@ use Rattle.json5_de.specs.Faults.{AfterBlanks, RefusedBy}
 use Rattle.json5_de.specs.Access.{AtClose, CompletesClose, bare, is_comma_or_closing}
 use Rattle.json5_de.specs.Seq.{AtMember, NoNext, PlacedFault, RefusesCall}
 use Rattle.json5_de.specs.Keys.{KeyConversion}
-use Rattle.json5_de.specs.Objects.{SeenMap, AfterColon, GivesPairKey, CompletesPairKey, bare_map}
+use Rattle.json5_de.specs.Objects.{MapAccessState, AfterColon, GivesPairKey, CompletesPairKey, bare_map}
 
 -- a quote, a backslash or an identifier start
 abbrev pub begins_key : ℕ → Bool
@@ -102,11 +102,11 @@ no_key_code true = codes.ExpectedComma
 no_key_code false = codes.ExpectedIdentifier
 
 -- the fault of a call for a key, at the opening brace where it has no place
-abbrev pub KeyRefusedAtBrace : (State → Error → State → Type 0) → SeenMap → Error → Type 0
+abbrev pub KeyRefusedAtBrace : (State → Error → State → Type 0) → MapAccessState → Error → Type 0
 KeyRefusedAtBrace refuses old e = PlacedFault (RefusesPairKey refuses old.at.due old.at.reader) old.at e
 
 -- how a call for a key refuses
-abbrev pub RefusesNextKey : {V : Type 0} → (State → Error → State → Type 0) → SeenMap → State → Result V Error → Type 0
+abbrev pub RefusesNextKey : {V : Type 0} → (State → Error → State → Type 0) → MapAccessState → State → Result V Error → Type 0
 RefusesNextKey refuses old new result = RefusesCall (RefusesPairKey refuses old.at.due old.at.reader) true (begins_next_key old.at.due) codes.EofParsingObject (no_key_code old.at.due) old.at new result
 
 -- ---- values
@@ -133,9 +133,9 @@ pub data RefusesPairValue (refuses : State → Error → State → Type 0) (old 
   in_value : (start : State) → AfterColon old start → refuses start e after → RefusesPairValue refuses old e after
 
 -- the fault of a call for a value, at the opening brace where it has no place
-abbrev pub ValueRefusedAtBrace : (State → Error → State → Type 0) → SeenMap → Error → Type 0
+abbrev pub ValueRefusedAtBrace : (State → Error → State → Type 0) → MapAccessState → Error → Type 0
 ValueRefusedAtBrace refuses old e = PlacedFault (RefusesPairValue refuses old.at.reader) old.at e
 
 -- how a call for a value refuses
-abbrev pub RefusesNextValue : {V : Type 0} → (State → Error → State → Type 0) → SeenMap → State → Result V Error → Type 0
+abbrev pub RefusesNextValue : {V : Type 0} → (State → Error → State → Type 0) → MapAccessState → State → Result V Error → Type 0
 RefusesNextValue refuses old new result = RefusesCall (RefusesPairValue refuses old.at.reader) true is_colon codes.EofParsingObject codes.ExpectedColon old.at new result

@@ -12,15 +12,15 @@ use Rattle.json5_de.specs.Law.{IsOkOrMemory, TookValue}
 use Rattle.json5_de.specs.Keys.{KeyConversion}
 use Rattle.json5_de.specs.ConvertLists.{if_some}
 use Rattle.json5_value.specs.Brackets.{curly}
-use Rattle.json5_de.specs.Access.{Seen, bare, AtClose, OpensAs, ClosesAs}
+use Rattle.json5_de.specs.Access.{AccessState, bare, AtClose, OpensAs, ClosesAs}
 
 -- as of an array, and whether a key was read whose value wasn't
-pub record SeenMap : Type 0 where
-  pub at : Seen
+pub record MapAccessState : Type 0 where
+  pub at : AccessState
   pub pending : Bool
 
 -- a reader seen so, wherever the brace stands
-abbrev pub bare_map : State → Bool → Bool → SeenMap
+abbrev pub bare_map : State → Bool → Bool → MapAccessState
 bare_map reader due pending = record { at = bare reader due; pending = pending }
 
 -- ---- a key, and then its value
@@ -45,33 +45,33 @@ pub record TookPairValue (old : State) (t : Tree) (new : State) : Type 0 where
   pub rest : OnlyRead old new
 
 -- a key was read and stands for k, and its value is to follow; or the closing brace is next
-abbrev pub GivesPairKey : {K C : Type 0} → (K → C) → KeyConversion C → SeenMap → SeenMap → Option K → Type 0
+abbrev pub GivesPairKey : {K C : Type 0} → (K → C) → KeyConversion C → MapAccessState → MapAccessState → Option K → Type 0
 GivesPairKey content convert old new (Some k) =
     (u : List ℕ) × (plain : Bool) × TookPairKey old.at.due old.at.reader u plain new.at.reader × (convert u plain ≡ Some (content k)) × (new.at.due ≡ old.at.due) × (new.pending ≡ true)
 GivesPairKey content convert old new None = AtClose curly old.at.due old.at.reader new.at.reader × (new.at.due ≡ old.at.due) × (new.pending ≡ false)
 
 -- a value was read and stands for v, and a comma is due
-abbrev pub GivesPairValue : {V C : Type 0} → (V → C) → (Tree → Option C) → SeenMap → SeenMap → V → Type 0
+abbrev pub GivesPairValue : {V C : Type 0} → (V → C) → (Tree → Option C) → MapAccessState → MapAccessState → V → Type 0
 GivesPairValue content convert old new v = (t : Tree) × TookPairValue old.at.reader t new.at.reader × (convert t ≡ Some (content v)) × (new.at.due ≡ true) × (new.pending ≡ false)
 
 -- a key that converts is read, unless memory runs out
-abbrev pub CompletesPairKey : {V C : Type 0} → KeyConversion C → SeenMap → Result V Error → Type 0
+abbrev pub CompletesPairKey : {V C : Type 0} → KeyConversion C → MapAccessState → Result V Error → Type 0
 CompletesPairKey {C = C} convert old result =
     (u : List ℕ) (plain : Bool) (r : List ℕ) (c : C) → old.at.reader.failed ≡ false → IsKey old.at.due old.at.reader.unread u plain r → convert u plain ≡ Some c → IsOkOrMemory result
 
 -- where a key that converts to c stands, the answer is Ok of a key whose content is c, unless memory runs out
-abbrev pub ReadsPairKey : {V C : Type 0} → (V → C) → KeyConversion C → SeenMap → Result (Option V) Error → Type 0
+abbrev pub ReadsPairKey : {V C : Type 0} → (V → C) → KeyConversion C → MapAccessState → Result (Option V) Error → Type 0
 ReadsPairKey {C = C} content convert old result =
     (u : List ℕ) (plain : Bool) (r : List ℕ) (c : C) → old.at.reader.failed ≡ false → IsKey old.at.due old.at.reader.unread u plain r → convert u plain ≡ Some c
     → MatchResult result (λ o. if_some content o ≡ Some c) IsOutOfMemory
 
 -- a value that converts is read, unless memory runs out
-abbrev pub CompletesPairValue : {V C : Type 0} → (Tree → Option C) → SeenMap → Result V Error → Type 0
+abbrev pub CompletesPairValue : {V C : Type 0} → (Tree → Option C) → MapAccessState → Result V Error → Type 0
 CompletesPairValue {C = C} convert old result =
     (t : Tree) (r : List ℕ) (c : C) → old.at.reader.failed ≡ false → IsKeyValue old.at.reader.unread t r → old.at.reader.level + depth t ≤ max_depth → convert t ≡ Some c → IsOkOrMemory result
 
 -- where a value that converts to c stands, the answer is Ok of a value whose content is c, unless memory runs out
-abbrev pub ReadsPairValue : {V C : Type 0} → (V → C) → (Tree → Option C) → SeenMap → Result V Error → Type 0
+abbrev pub ReadsPairValue : {V C : Type 0} → (V → C) → (Tree → Option C) → MapAccessState → Result V Error → Type 0
 ReadsPairValue {C = C} content convert old result =
     (t : Tree) (r : List ℕ) (c : C) → old.at.reader.failed ≡ false → IsKeyValue old.at.reader.unread t r → old.at.reader.level + depth t ≤ max_depth → convert t ≡ Some c
     → MatchResult result (λ v. content v ≡ c) IsOutOfMemory
@@ -84,7 +84,7 @@ StandsAfter None due x y = (y ≡ x) ⊎ IsAtBrace due x y
 StandsAfter (Some (u, plain)) due x y = IsKey due x u plain y
 
 -- an object begins at `from`, these pairs of it were read, and perhaps a key after them
-pub record PairsRead (from : State) (ps : Pairs) (key : Option (List ℕ × Bool)) (now : SeenMap) : Type 0 where
+pub record PairsRead (from : State) (ps : Pairs) (key : Option (List ℕ × Bool)) (now : MapAccessState) : Type 0 where
   pub live : from.failed ≡ false
   pub shallow : from.level + depth (object ps) ≤ max_depth
   pub inside : List ℕ
@@ -102,25 +102,25 @@ LeftAfter true no_pair due x r = ⊥
 LeftAfter true (pair u plain t ps) due x r = (z : List ℕ) × IsKeyValue x t z × PairsTail ps true z r
 
 -- these pairs are left, the first perhaps without its key, and then the closing brace, with r after it; none is too deep
-pub record PairsLeft (ps : Pairs) (r : List ℕ) (now : SeenMap) : Type 0 where
+pub record PairsLeft (ps : Pairs) (r : List ℕ) (now : MapAccessState) : Type 0 where
   pub live : now.at.reader.failed ≡ false
   pub shallow : now.at.reader.level + pair_depths ps ≤ max_depth
   pub tail : LeftAfter now.pending ps now.at.due now.at.reader.unread r
 
 -- a key was read after the pairs, which stands for k; or none, and what was read is the same
-abbrev pub ReadsAKey : {K C : Type 0} → (K → C) → KeyConversion C → SeenMap → SeenMap → Option K → Type 0
+abbrev pub ReadsAKey : {K C : Type 0} → (K → C) → KeyConversion C → MapAccessState → MapAccessState → Option K → Type 0
 ReadsAKey content convert old new (Some k) =
     (u : List ℕ) × (plain : Bool) × (convert u plain ≡ Some (content k)) × ((from : State) (ps : Pairs) → PairsRead from ps None old → PairsRead from ps (Some (u, plain)) new)
 ReadsAKey content convert old new None = (from : State) (ps : Pairs) → PairsRead from ps None old → PairsRead from ps None new
 
 -- the key that was read has this value, one pair more
-abbrev pub ReadsAPair : {V C : Type 0} → (V → C) → (Tree → Option C) → SeenMap → SeenMap → V → Type 0
+abbrev pub ReadsAPair : {V C : Type 0} → (V → C) → (Tree → Option C) → MapAccessState → MapAccessState → V → Type 0
 ReadsAPair content convert old new v =
     (t : Tree) × (convert t ≡ Some (content v)) × ((from : State) (ps : Pairs) (u : List ℕ) (plain : Bool) → PairsRead from ps (Some (u, plain)) old → PairsRead from (snoc_pair ps u plain t) None new)
 
 -- where pairs are left and the first one's key converts, it was read, unless memory ran out, and its value is left; where none is left, none was given.
 -- Nothing is said of the refusal of a key that doesn't convert.
-abbrev pub LeavesAValue : {K C : Type 0} → (K → C) → KeyConversion C → Pairs → List ℕ → SeenMap → Result (Option K) Error → Type 0
+abbrev pub LeavesAValue : {K C : Type 0} → (K → C) → KeyConversion C → Pairs → List ℕ → MapAccessState → Result (Option K) Error → Type 0
 LeavesAValue content convert no_pair r new (Ok None) = PairsLeft no_pair r new
 LeavesAValue content convert no_pair r new (Ok (Some k)) = ⊥
 LeavesAValue content convert no_pair r new (Err e) = ⊥
@@ -129,36 +129,36 @@ LeavesAValue content convert (pair u plain t ps) r new (Ok (Some k)) = (convert 
 LeavesAValue {C = C} content convert (pair u plain t ps) r new (Err e) = (c : C) → convert u plain ≡ Some c → IsOutOfMemory e
 
 -- where the first pair's value converts, it was read, unless memory ran out, and the others are left
-abbrev pub LeavesPairs : {V C : Type 0} → (V → C) → (Tree → Option C) → Tree → Pairs → List ℕ → SeenMap → Result V Error → Type 0
+abbrev pub LeavesPairs : {V C : Type 0} → (V → C) → (Tree → Option C) → Tree → Pairs → List ℕ → MapAccessState → Result V Error → Type 0
 LeavesPairs content convert t ps r new (Ok v) = (convert t ≡ Some (content v)) × PairsLeft ps r new
 LeavesPairs {C = C} content convert t ps r new (Err e) = (c : C) → convert t ≡ Some c → IsOutOfMemory e
 
 -- the same of any pairs that are left
-abbrev pub LeavesOthers : {V C : Type 0} → (V → C) → (Tree → Option C) → SeenMap → SeenMap → Result V Error → Type 0
+abbrev pub LeavesOthers : {V C : Type 0} → (V → C) → (Tree → Option C) → MapAccessState → MapAccessState → Result V Error → Type 0
 LeavesOthers content convert old new result = (u : List ℕ) (plain : Bool) (t : Tree) (ps : Pairs) (r : List ℕ) → PairsLeft (pair u plain t ps) r old → LeavesPairs content convert t ps r new result
 
 -- ---- what the calls mean
 
 -- a key is pending as it was
-abbrev pub KeepsPending : SeenMap → SeenMap → Type 0
+abbrev pub KeepsPending : MapAccessState → MapAccessState → Type 0
 KeepsPending old new = new.pending ≡ old.pending
 
 -- whether a key waits for its value, which a call that is refused leaves as it was
-pub record SetsPending {V : Type 0} (waits : V → Bool) (old new : SeenMap) (result : Result V Error) : Type 0 where
+pub record SetsPending {V : Type 0} (waits : V → Bool) (old new : MapAccessState) (result : Result V Error) : Type 0 where
   pub given : IfOk result (λ v. new.pending ≡ waits v)
   pub kept : OnErr result (KeepsPending old new)
 
 -- an object is opened by an access that holds the reader so: nothing was read of it, and where one can be read its pairs are left
-pub record OpensMap {A : Type 0} (Held : A → Type 0) (seen : A → SeenMap) (old : State) (result : Result A Error) : Type 0 where
+pub record OpensMap {A : Type 0} (Held : A → Type 0) (state_of : A → MapAccessState) (old : State) (result : Result A Error) : Type 0 where
   pub held : IfOk result Held
-  pub bracket : OpensAs curly (λ a. (seen a).at) old result
-  pub no_key : IfOk result (λ a. (seen a).pending ≡ false)
-  pub same_text : IfOk result (λ a. SameText old (seen a).at.reader)
-  pub read : IfOk result (λ a. PairsRead old no_pair None (seen a))
-  pub left : (ps : Pairs) (r : List ℕ) → old.failed ≡ false → Reads old.unread (object ps) r → old.level + depth (object ps) ≤ max_depth → IsOkAnd result (λ a. PairsLeft ps r (seen a))
+  pub bracket : OpensAs curly (λ a. (state_of a).at) old result
+  pub no_key : IfOk result (λ a. (state_of a).pending ≡ false)
+  pub same_text : IfOk result (λ a. SameText old (state_of a).at.reader)
+  pub read : IfOk result (λ a. PairsRead old no_pair None (state_of a))
+  pub left : (ps : Pairs) (r : List ℕ) → old.failed ≡ false → Reads old.unread (object ps) r → old.level + depth (object ps) ≤ max_depth → IsOkAnd result (λ a. PairsLeft ps r (state_of a))
 
 -- an object is closed: the pairs that were read are all of it
-pub record ClosesMap (old : SeenMap) (new : State) (result : Result (Unit {0}) Error) : Type 0 where
+pub record ClosesMap (old : MapAccessState) (new : State) (result : Result (Unit {0}) Error) : Type 0 where
   pub bracket : ClosesAs curly old.at.due old.at.reader new result
   pub same_text : SameText old.at.reader new
   pub failed : FailsIfErr new result

@@ -7,18 +7,18 @@ use Rattle.json5_grammar.specs.Trees.{Tree, null, boolean, number, text, array, 
 use Rattle.json5_text.specs.declared.error.Error.{Error}
 use Rattle.json5_text.specs.Cursor.{Refused}
 use Rattle.json5_de.specs.State.{State, cursor_of}
-use Rattle.json5_de.specs.Steps.{PassedGap}
+use Rattle.json5_de.specs.ReaderSteps.{PassedGap}
 use Rattle.json5_de.specs.Faults.{AfterBlanks, FaultyNull}
 use Rattle.json5_value.specs.Places.{PlacedAt}
 
 -- null is read without memory, and what T reads so
 abbrev pub option_free : (Tree → Bool) → Tree → Bool
-option_free free null = true
-option_free free (boolean b) = free (boolean b)
-option_free free (number n) = free (number n)
-option_free free (text u plain) = free (text u plain)
-option_free free (array ts) = free (array ts)
-option_free free (object ps) = free (object ps)
+option_free allocation_free null = true
+option_free allocation_free (boolean b) = allocation_free (boolean b)
+option_free allocation_free (number n) = allocation_free (number n)
+option_free allocation_free (text u plain) = allocation_free (text u plain)
+option_free allocation_free (array ts) = allocation_free (array ts)
+option_free allocation_free (object ps) = allocation_free (object ps)
 
 -- no T begins: EofParsingValue at the end, and the faults of null at an `n`
 pub data NoOption : List ℕ → Option ErrorCode → Option (List ℕ) → Type 0 where

@@ -10,8 +10,8 @@ use Rattle.json5_text.specs.Cursor.{IsOutOfMemory}
 use Rattle.json5_de.specs.State.{State, FailsIfErr}
 use Rattle.json5_de.specs.ConvertLists.{if_some}
 use Rattle.json5_de.specs.Law.{Unprompted}
-use Rattle.json5_de.specs.Own.{if_more}
-use Rattle.json5_de.specs.Objects.{SeenMap, PairsRead, PairsLeft}
+use Rattle.json5_de.specs.Refinement.{if_more}
+use Rattle.json5_de.specs.Objects.{MapAccessState, PairsRead, PairsLeft}
 use Rattle.json5_de.specs.Fields.{values_named, at_most_one, or_value}
 use Rattle.json5_de.specs.Fields as spec
 
@@ -133,12 +133,12 @@ and_field a b = record {
 -- ---- what the calls mean that read a struct's pairs
 
 -- where a pair, or pairs, make m of what was read it is read, unless memory runs out, and these pairs are left
-abbrev pub LeavesTaken : {S : Type 0} → S → S → Pairs → List ℕ → SeenMap → Result (Unit {0}) Error → Type 0
+abbrev pub LeavesTaken : {S : Type 0} → S → S → Pairs → List ℕ → MapAccessState → Result (Unit {0}) Error → Type 0
 LeavesTaken n m ps r new (Ok done) = (m ≡ n) × PairsLeft ps r new
 LeavesTaken n m ps r new (Err e) = IsOutOfMemory e
 
 -- the value of the key that was read, which has this name: s is what was read of the fields before, n after it
-pub record TakesPair {S : Type 0} (step : Step S) (s n : S) (name : List ℕ) (old new : SeenMap) (result : Result (Unit {0}) Error) : Type 0 where
+pub record TakesPair {S : Type 0} (step : Step S) (s n : S) (name : List ℕ) (old new : MapAccessState) (result : Result (Unit {0}) Error) : Type 0 where
   pub read : OnOk result ((t : Tree) × (step s name t ≡ Some n) × ((from : State) (ps : Pairs) (u : List ℕ) (plain : Bool) → PairsRead from ps (Some (u, plain)) old → PairsRead from (snoc_pair ps u plain t) None new))
   pub left : (u : List ℕ) (plain : Bool) (t : Tree) (ps : Pairs) (r : List ℕ) (m : S) → step s name t ≡ Some m → PairsLeft (pair u plain t ps) r old → LeavesTaken n m ps r new result
   pub live : OnOk result (new.at.reader.failed ≡ false)
@@ -147,11 +147,11 @@ pub record TakesPair {S : Type 0} (step : Step S) (s n : S) (name : List ℕ) (o
   pub unprompted : Unprompted old.at.reader result
 
 -- any value of a key that was read, of which nothing is kept
-abbrev pub PassesPair : SeenMap → SeenMap → Result (Unit {0}) Error → Type 0
+abbrev pub PassesPair : MapAccessState → MapAccessState → Result (Unit {0}) Error → Type 0
 PassesPair old new result = TakesPair {S = Unit {0}} (λ s name t. Some s) tt tt [] old new result
 
 -- all pairs that are left, from the first, up to the closing brace: s is what was read of the fields before, n after them
-pub record ReadsPairs {S : Type 0} (step : Step S) (s n : S) (old new : SeenMap) (result : Result (Unit {0}) Error) : Type 0 where
+pub record ReadsPairs {S : Type 0} (step : Step S) (s n : S) (old new : MapAccessState) (result : Result (Unit {0}) Error) : Type 0 where
   pub read : OnOk result ((ps : Pairs) × (run step s ps ≡ Some n) × ((from : State) → PairsRead from no_pair None old → PairsRead from ps None new))
   pub left : (ps : Pairs) (r : List ℕ) (m : S) → run step s ps ≡ Some m → PairsLeft ps r old → LeavesTaken n m no_pair r new result
   pub live : OnOk result (new.at.reader.failed ≡ false)

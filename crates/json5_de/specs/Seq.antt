@@ -15,7 +15,7 @@ use Rattle.json5_value.specs.declared.brackets.Brackets.{Brackets}
 use Rattle.json5_value.specs.Brackets.{square}
 use Rattle.json5_de.specs.Law.{Unprompted, Steady}
 use Rattle.json5_de.specs.Faults.{RefusedBy, AtEnd, DiffersWith}
-use Rattle.json5_de.specs.Access.{Seen, AtClose, HasPlace, PlacedAtBracket, IsAtBracket, is_comma_or_closing, AnswersFailedAtBracket}
+use Rattle.json5_de.specs.Access.{AccessState, AtClose, HasPlace, PlacedAtBracket, IsAtBracket, is_comma_or_closing, AnswersFailedAtBracket}
 use Rattle.json5_value.specs.Steps.{Unexpected}
 
 -- y is what stands after the gap in front of x
@@ -85,7 +85,7 @@ abbrev pub Cause : Type 1
 Cause = Error → State → Type 0
 
 -- the fault, at the opening bracket where it had no place
-pub record PlacedFault (IsCause : Cause) (old : Seen) (e : Error) : Type 0 where
+pub record PlacedFault (IsCause : Cause) (old : AccessState) (e : Error) : Type 0 where
   pub own : Error
   pub after : State
   pub cause : IsCause own after
@@ -93,7 +93,7 @@ pub record PlacedFault (IsCause : Cause) (old : Seen) (e : Error) : Type 0 where
 
 -- how a call is refused: a fault without a place gets the opening bracket's. Where something is asked for, `end_code` comes
 -- at the end, and `other_code` at a character that begins nothing of it.
-pub record RefusesCall {V : Type 0} (IsCause : Cause) (asked : Bool) (begins : ℕ → Bool) (end_code other_code : ErrorCode) (old : Seen) (new : State) (result : Result V Error) : Type 0 where
+pub record RefusesCall {V : Type 0} (IsCause : Cause) (asked : Bool) (begins : ℕ → Bool) (end_code other_code : ErrorCode) (old : AccessState) (new : State) (result : Result V Error) : Type 0 where
   pub cause : IfErr result (λ e. old.reader.failed ≡ false → PlacedFault IsCause old e)
   pub placed : IfErr result HasPlace
   pub ends : asked ≡ true → AtEnd old.reader → IsErrAnd result (λ e. (kind_of e ≡ code end_code) × IsAtBracket old e)
@@ -110,9 +110,9 @@ pub data RefusesElement (refuses : State → Error → State → Type 0) (due : 
   in_element : (start : State) → AtMember square due old start → refuses start e after → RefusesElement refuses due old e after
 
 -- the element's fault, at the opening bracket where it had no place
-abbrev pub RefusedAtBracket : (State → Error → State → Type 0) → Seen → Error → Type 0
+abbrev pub RefusedAtBracket : (State → Error → State → Type 0) → AccessState → Error → Type 0
 RefusedAtBracket refuses old e = PlacedFault (RefusesElement refuses old.due old.reader) old e
 
 -- how a call for an element refuses, which asks for a comma or the bracket after the first
-abbrev pub RefusesNext : {V : Type 0} → (State → Error → State → Type 0) → Seen → State → Result V Error → Type 0
+abbrev pub RefusesNext : {V : Type 0} → (State → Error → State → Type 0) → AccessState → State → Result V Error → Type 0
 RefusesNext refuses old new result = RefusesCall (RefusesElement refuses old.due old.reader) old.due (is_comma_or_closing square) codes.EofParsingArray codes.ExpectedComma old new result

@@ -14,13 +14,13 @@ use Rattle.json5_value.specs.declared.brackets.Brackets.{Brackets}
 use Rattle.json5_de.specs.Keys.{TookKey}
 use Rattle.json5_de.specs.Law.{TookValue}
 use Rattle.json5_de.specs.Objects.{AfterColon}
-use Rattle.json5_de.specs.Rows.{Row, ReadsAs}
+use Rattle.json5_de.specs.TokenKinds.{Kind, ReadsAs}
 use Rattle.json5_de.specs.Seq.{GoesOn}
 use Rattle.json5_de.specs.State.{State, GivesUp}
 
 -- a value of the kind is read, or nothing
-abbrev pub ReadsShort : {V C : Type 0} → Row C → (V → C) → State → State → Option V → Type 0
-ReadsShort row content old new result = MatchOption result (new ≡ old) (λ v. ReadsAs row content old new (Ok v))
+abbrev pub ReadsShort : {V C : Type 0} → Kind C → (V → C) → State → State → Option V → Type 0
+ReadsShort kind content old new result = MatchOption result (new ≡ old) (λ v. ReadsAs kind content old new (Ok v))
 
 -- a step to the next member or to the closing bracket is taken, or nothing
 abbrev pub StepsShort : Brackets → Bool → State → State → ShortStep → Type 0

@@ -5,7 +5,7 @@ use Rattle.json5_text.specs.declared.error.Error.{Error}
 use Rattle.json5_text.specs.Cursor.{Refused}
 use Rattle.json5_text.specs.Tokens.{FaultyBlanks}
 use Rattle.json5_de.specs.State.{State, cursor_of}
-use Rattle.json5_de.specs.Steps.{PassedGap}
+use Rattle.json5_de.specs.ReaderSteps.{PassedGap}
 
 -- so many bytes stand before what is unread
 abbrev pub IsBefore : State → ℕ → Type 0

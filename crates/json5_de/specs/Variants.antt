@@ -5,7 +5,7 @@ use Rattle.json5_text.specs.declared.error.Error.{Error}
 use Rattle.json5_de.specs.State.{State, SameText}
 use Rattle.json5_de.specs.Law.{IsOkOrMemory, Unprompted}
 use Rattle.json5_de.specs.ConvertLists.{if_some}
-use Rattle.json5_de.specs.Enums.{SeenEnum, NameRead, GivesContent, ContentLeft, enum_of, unit_content, content_of}
+use Rattle.json5_de.specs.Enums.{EnumAccessState, NameRead, GivesContent, ContentLeft, enum_of, unit_content, content_of}
 
 -- a variant's name, and what its content converts to
 pub record Variant (C : Type 0) : Type 0 where
@@ -37,7 +37,7 @@ abbrev pub one_of : {C : Type 0} → List (Variant C) → Tree → Option C
 one_of vs = enum_of (names vs) (at_place vs)
 
 -- the content of the variant that was named is read, and the value to its end
-pub record FinishesVariant {V C : Type 0} (content : V → C) (convert : Option Tree → Option C) (old : SeenEnum) (new : State) (result : Result V Error) : Type 0 where
+pub record FinishesVariant {V C : Type 0} (content : V → C) (convert : Option Tree → Option C) (old : EnumAccessState) (new : State) (result : Result V Error) : Type 0 where
   pub read : IfOk result (λ v. (names : List (List ℕ)) (from : State) → NameRead names from old → GivesContent content convert names from old.variant new v)
   pub left : (t : Option Tree) (r : List ℕ) (c : C) → ContentLeft t r old → convert t ≡ Some c → IsOkOrMemory result
   pub unprompted : Unprompted old.reader result

@@ -3,7 +3,7 @@
 ghost use Rattle.json5_text.specs.ValueViews.{value_of};
 ghost use Rattle.json5_de.specs.AnyTree.{ReadsTree, every_value, nothing};
 ghost use Rattle.json5_de.specs.Convert.{every_datum};
-ghost use Rattle.json5_de.specs.Rows.{every_tree, no_tree};
+ghost use Rattle.json5_de.specs.TokenKinds.{every_tree, no_tree};
 
 use crate::de::{Deserialize, Deserializer};
 use json5_text::error::Result;
@@ -24,7 +24,7 @@ impl<I: Input> Deserializer<I> {
     pub fn deserialize_any(&mut self) -> Result<Value>
         ensures { ReadsTree value_of every_datum no_tree self.old self.new result }
     {
-        self.begin()?;
+        self.skip_blank()?;
         self.read_value()
     }
 
@@ -37,7 +37,7 @@ impl<I: Input> Deserializer<I> {
     pub fn deserialize_ignored_any(&mut self) -> Result<()>
         ensures { ReadsTree nothing every_value every_tree self.old self.new result }
     {
-        self.begin()?;
+        self.skip_blank()?;
         self.skip_value()
     }
 }
@@ -57,7 +57,7 @@ pub struct IgnoredAny;
 /// Passes over every value, without memory.
 impl<I: Input> Deserialize<I> for IgnoredAny {
     ghost use Rattle.json5_de.specs.AnyTree.{RefusesTree, every_value, nothing};
-    ghost use Rattle.json5_de.specs.Rows.{every_tree};
+    ghost use Rattle.json5_de.specs.TokenKinds.{every_tree};
 
     ghost Content = { Unit {0} };
 
@@ -65,7 +65,7 @@ impl<I: Input> Deserialize<I> for IgnoredAny {
 
     ghost convert = { every_value };
 
-    ghost free = { every_tree };
+    ghost allocation_free = { every_tree };
 
     ghost refuses = { λ s e t. RefusesTree s e };
 

@@ -25,13 +25,13 @@ impl<I: Input> Deserializer<I> {
         ensures opens { OpensAs (brackets_of kind) (λ start. record { reader = self.new; start = start; due = false }) self.old result }
         ensures failed { GivesUpIfErr self.old self.new result }
     {
-        self.begin()?;
+        self.skip_blank()?;
         let brackets = kind.brackets();
         let start = self.offset();
         if !self.eat(brackets.opening) {
-            return Err(self.unexpected(brackets.ends, brackets.not_opened));
+            return Err(self.fail_unexpected(brackets.ends, brackets.not_opened));
         }
-        if !self.enter() {
+        if !self.enter_bracket() {
             let error = Error::new_at(self.position_of(start), ErrorCode::TooDeep);
             return self.refuse(error);
         }
@@ -48,22 +48,22 @@ impl<I: Input> Deserializer<I> {
 
     /// Goes to the next member and says true, or to the closing bracket and says false.
     #[inline(always)]
-    pub(crate) fn goes_on(&mut self, kind: BracketKind, due: bool) -> Result<bool>
+    pub(crate) fn advance_to_entry(&mut self, kind: BracketKind, due: bool) -> Result<bool>
         ensures { Advances (brackets_of kind) due self.old self.new result }
     {
         match self.short_step(kind, due) {
             ShortStep::Member => Ok(true),
             ShortStep::Closing => Ok(false),
-            ShortStep::Other => self.goes_on_slowly(kind, due),
+            ShortStep::Other => self.advance_slowly(kind, due),
         }
     }
 
     /// The same, whatever is in front.
     #[inline(never)]
-    fn goes_on_slowly(&mut self, kind: BracketKind, due: bool) -> Result<bool>
+    fn advance_slowly(&mut self, kind: BracketKind, due: bool) -> Result<bool>
         ensures { Advances (brackets_of kind) due self.old self.new result }
     {
-        self.begin()?;
+        self.skip_blank()?;
         if self.at_closing(kind) {
             return Ok(false);
         }
@@ -71,9 +71,9 @@ impl<I: Input> Deserializer<I> {
             return Ok(true);
         }
         if !self.eat(',') {
-            return Err(self.unexpected(kind.brackets().ends, ErrorCode::ExpectedComma));
+            return Err(self.fail_unexpected(kind.brackets().ends, ErrorCode::ExpectedComma));
         }
-        self.begin()?;
+        self.skip_blank()?;
         Ok(!self.at_closing(kind))
     }
 
@@ -83,9 +83,9 @@ impl<I: Input> Deserializer<I> {
     {
         let brackets = kind.brackets();
         if !self.eat(brackets.closing) {
-            return Err(self.unexpected(brackets.ends, brackets.not_closed));
+            return Err(self.fail_unexpected(brackets.ends, brackets.not_closed));
         }
-        self.leave();
+        self.exit_bracket();
         Ok(())
     }
 
@@ -97,14 +97,14 @@ impl<I: Input> Deserializer<I> {
         ensures complete { (r : List ℕ) → self.old.failed ≡ false → IsEnd (brackets_of kind).closing due self.old.unread r → IsOk result }
         ensures before { AnswersFailed self.old result }
     {
-        self.begin()?;
+        self.skip_blank()?;
         if !due {
             return self.bracket(kind);
         }
         if !self.eat(',') {
             return self.bracket(kind);
         }
-        self.begin()?;
+        self.skip_blank()?;
         self.bracket(kind)
     }
 }

@@ -5,9 +5,9 @@ ghost use Rattle.json5_grammar.specs.declared.code.ErrorCode.TheVariants as code
 ghost use Rattle.json5_text.specs.Bytes.{bytes_of};
 ghost use Rattle.json5_de.specs.Convert.{digits_bytes};
 ghost use Rattle.json5_de.specs.FoundTexts.{Judges};
-ghost use Rattle.json5_de.specs.Rows.{ReadsBytes};
+ghost use Rattle.json5_de.specs.TokenKinds.{ReadsBytes};
 ghost use Rattle.json5_de.specs.State.{GivesUpWith};
-ghost use Rattle.json5_de.specs.Steps.{IsFaultAt, IsUndecoded};
+ghost use Rattle.json5_de.specs.ReaderSteps.{IsFaultAt, IsUndecoded};
 
 use crate::de::Deserializer;
 use crate::found_text::FoundText;

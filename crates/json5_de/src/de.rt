@@ -9,15 +9,15 @@ ghost use Rattle.json5_grammar.specs.declared.code.ErrorCode.TheVariants as code
 ghost use Rattle.json5_value.specs.Keeping.{OwnsKey, ReadsDatum};
 ghost use Rattle.json5_value.specs.Kinds.{word_of, ends_of, differs_of};
 ghost use Rattle.json5_value.specs.Places.{PlacedAt, StartsAfter};
-ghost use Rattle.json5_value.specs.Skipping.{Skips};
+ghost use Rattle.json5_value.specs.SkipSteps.{Skips};
 ghost use Rattle.json5_de.specs.State.{State, SameText, Calls, GivesUpWith, cursor_of, next, at_start};
 ghost use Rattle.json5_de.specs.Faults.{IsUnplaced};
 ghost use Rattle.json5_de.specs.Law.{Gives, Completes, CompletesFree, Unprompted};
 ghost use Rattle.json5_de.specs.Seq.{IsUnexpected};
-ghost use Rattle.json5_de.specs.Steps.{Eats, IsCount, IsMismatch};
+ghost use Rattle.json5_de.specs.ReaderSteps.{Eats, IsCount, IsMismatch};
 ghost use Rattle.json5_de.specs.FoundTexts.{SpellsText, SpellsCow};
-ghost use Rattle.json5_de.specs.Takes as tokens;
-ghost use Rattle.json5_de.specs.Takes.{PassesGap, Takes, TakesOwnString, PassesWord};
+ghost use Rattle.json5_de.specs.TokenCalls as tokens;
+ghost use Rattle.json5_de.specs.TokenCalls.{PassesGap, Takes, TakesOwnString, PassesWord};
 ghost use Rattle.json5_de.specs.Texts.{ReadsEnd};
 
 use crate::mismatch::Mismatch;
@@ -70,7 +70,7 @@ pub trait Deserialize<I: Input>: Sized + Drop {
     ghost convert: { Tree → Option Content };
 
     // Which trees that convert are read without memory.
-    ghost free: { Tree → Bool } = { λ _. false };
+    ghost allocation_free: { Tree → Bool } = { λ _. false };
 
     // What is known of a refusal, beside what the law says.
     ghost refuses: { State → Error → State → Type 0 } = { λ _ _ _. ⊤ };
@@ -83,7 +83,7 @@ pub trait Deserialize<I: Input>: Sized + Drop {
     fn deserialize(de: &mut Deserializer<I>) -> Result<Self>
         ensures sound { IfOk result (λ v. Gives content convert de.old de.new v) }
         ensures complete { Completes convert de.old result }
-        ensures no_memory { CompletesFree free convert de.old result }
+        ensures no_memory { CompletesFree allocation_free convert de.old result }
         ensures refused { IfErr result (λ e. refuses de.old e de.new) }
         ensures unprompted { Unprompted de.old result }
         ensures same_text { SameText de.old de.new };
@@ -192,7 +192,7 @@ impl<I: Input> Deserializer<I> {
 
     /// Answers `Failed` where a call refused before, or an access holds the reader.
     #[inline(always)]
-    pub(crate) fn live(&self) -> Result<()>
+    pub(crate) fn check_not_failed(&self) -> Result<()>
         ensures live { OnOk result ((self.now.failed ≡ false) × (self.now.level ≤ max_depth)) }
         ensures failed { IfErr result (λ e. (self.now.failed ≡ true) × IsUnplaced codes.Failed e) }
     {
@@ -223,10 +223,10 @@ impl<I: Input> Deserializer<I> {
 
     /// Passes over blanks, where there was no refusal so far.
     #[inline(always)]
-    pub(crate) fn begin(&mut self) -> Result<()>
+    pub(crate) fn skip_blank(&mut self) -> Result<()>
         ensures { PassesGap self.old self.new result }
     {
-        self.live()?;
+        self.check_not_failed()?;
         match self.scanner.skip_blank() {
             Ok(()) => Ok(()),
             Err(e) => self.refuse(e),
@@ -331,7 +331,7 @@ impl<I: Input> Deserializer<I> {
     /// Refuses what is next: `differs` at the character, or `ends` at the end, without a position.
     #[cold]
     #[inline(never)]
-    pub(crate) fn unexpected(&mut self, ends: ErrorCode, differs: ErrorCode) -> Error
+    pub(crate) fn fail_unexpected(&mut self, ends: ErrorCode, differs: ErrorCode) -> Error
         ensures { IsUnexpected ends differs self.old self.new result }
     {
         let error = unexpected_here(&self.scanner, ends, differs);
@@ -358,7 +358,7 @@ impl<I: Input> Deserializer<I> {
     pub fn end(&mut self) -> Result<()>
         ensures { ReadsEnd self.old self.new result }
     {
-        self.begin()?;
+        self.skip_blank()?;
         if self.peek().is_some() {
             let error = self.fault_here(ErrorCode::TrailingCharacters);
             return self.refuse(error);
@@ -405,7 +405,7 @@ impl<I: Input> Deserializer<I> {
     }
 
     /// Counts one more open bracket, where there is room, and says whether there was.
-    pub(crate) fn enter(&mut self) -> bool
+    pub(crate) fn enter_bracket(&mut self) -> bool
         ensures entered { result ≡ true → (self.old.level < max_depth) × (self.new ≡ record self.old { level = self.old.level + 1 }) }
         ensures kept { result ≡ false → (self.old.level ≡ max_depth) × (self.new ≡ self.old) }
     {
@@ -418,7 +418,7 @@ impl<I: Input> Deserializer<I> {
     }
 
     /// Counts one open bracket less.
-    pub(crate) fn leave(&mut self)
+    pub(crate) fn exit_bracket(&mut self)
         ensures { self.new ≡ record self.old { level = self.old.level - 1 } }
     {
         self.level = self.level.saturating_sub(1);

@@ -5,7 +5,7 @@ ghost use Rattle.std.specs.Borrow.{sem};
 ghost use Rattle.json5_de.specs.State.{GivesUpIfErr};
 ghost use Rattle.json5_de.specs.Convert.{spelled};
 ghost use Rattle.json5_value.specs.Brackets.{brackets_of};
-ghost use Rattle.json5_de.specs.Rows.{RefusedAs, null_row, every_tree};
+ghost use Rattle.json5_de.specs.TokenKinds.{RefusedAs, null_kind, every_tree};
 ghost use Rattle.json5_de.specs.Enums.{NamesVariant, ReadsVariant, ReadsInBrace, ClosesLast, ClosesContent, OpensContent, OpensTuple, OpensStruct, content_of, unit_content, content_free};
 
 use crate::de::{Deserialize, Deserializer};
@@ -51,17 +51,17 @@ pub struct EnumAccess<'a, I: Input> {
 
 /// Dropped before its content is read, it leaves the reader blocked.
 impl<I: Input> Drop for EnumAccess<'_, I> {
-    ghost use Rattle.json5_de.specs.Lending.{held_by_enum};
+    ghost use Rattle.json5_de.specs.Lending.{reader_of_enum};
 
     fn drop(self)
-        ensures { self.exit.0.now ≡ held_by_enum self.entry }
+        ensures { self.exit.0.now ≡ reader_of_enum self.entry }
     {
         let EnumAccess { de: _, name: _ } = self;
     }
 }
 
 impl<I: Input> Deserializer<I> {
-    ghost use Rattle.json5_de.specs.Lending.{seen_named, seen_enum, HoldsEnum, BlocksEnumReader, lends_to_enum};
+    ghost use Rattle.json5_de.specs.Lending.{named_state_of, enum_state_of, HoldsEnum, BlocksEnumReader, lends_to_enum};
 
     /// Reads the name of a variant: a string, or the only key of an object and its colon. The access that it lends the reader
     /// to reads the content. The name of the enum changes nothing.
@@ -95,7 +95,7 @@ impl<I: Input> Deserializer<I> {
         ensures* lends { sem 𝓛 (lends_to_enum I.row I.Input self.entry result) }
         ensures same_reference { IfOk result (HoldsEnum self.entry) }
         ensures blocks { IfOk result BlocksEnumReader }
-        ensures names { NamesVariant (spelled variants.now) seen_enum self.old result }
+        ensures names { NamesVariant (spelled variants.now) enum_state_of self.old result }
     {
         let name = self.named(variants)?;
         self.set_failed(true);
@@ -103,7 +103,7 @@ impl<I: Input> Deserializer<I> {
     }
 
     /// Takes a closing bracket, and before it the comma that may be there; a refusal is for good.
-    pub(crate) fn close_last(&mut self, kind: BracketKind, due: bool) -> Result<()>
+    pub(crate) fn close_or_fail(&mut self, kind: BracketKind, due: bool) -> Result<()>
         ensures { ClosesLast (brackets_of kind) due self.old self.new result }
     {
         match self.close(kind, due) {
@@ -117,8 +117,8 @@ impl<I: Input> Deserializer<I> {
     pub(crate) fn close_content(&mut self, kind: BracketKind, due: bool, brace: usize) -> Result<()>
         ensures { ClosesContent (brackets_of kind) due brace self.old self.new result }
     {
-        match self.close_last(kind, due) {
-            Ok(()) => self.close_last(BracketKind::Object, true),
+        match self.close_or_fail(kind, due) {
+            Ok(()) => self.close_or_fail(BracketKind::Object, true),
             Err(e) => Err(self.place_at(brace, e)),
         }
     }
@@ -126,7 +126,7 @@ impl<I: Input> Deserializer<I> {
     /// Opens the content of a variant, which is an array or an object. A fault without a position gets that of the variant's brace;
     /// a string has no content.
     fn open_content(&mut self, kind: BracketKind, name: &Named, expected: &str) -> Result<usize>
-        ensures opens { OpensContent (brackets_of kind) (λ start. record { reader = self.new; start = start; due = false }) (seen_named self.old name.now) result }
+        ensures opens { OpensContent (brackets_of kind) (λ start. record { reader = self.new; start = start; due = false }) (named_state_of self.old name.now) result }
         ensures failed { GivesUpIfErr self.old self.new result }
     {
         if !name.has_content {
@@ -141,11 +141,11 @@ impl<I: Input> Deserializer<I> {
     /// Reads the content of a variant and the closing brace. A fault of the content without a position gets that of the opening
     /// brace.
     fn in_brace<T: Deserialize<I>>(&mut self, start: usize) -> Result<T>
-        ensures { ReadsInBrace T.content T.convert T.free T.refuses start self.old self.new result }
+        ensures { ReadsInBrace T.content T.convert T.allocation_free T.refuses start self.old self.new result }
     {
         match T::deserialize(self) {
             Ok(value) => {
-                self.close_last(BracketKind::Object, true)?;
+                self.close_or_fail(BracketKind::Object, true)?;
                 Ok(value)
             }
             Err(e) => {
@@ -157,11 +157,11 @@ impl<I: Input> Deserializer<I> {
 }
 
 impl<'a, I: Input> EnumAccess<'a, I> {
-    ghost use Rattle.json5_de.specs.Lending.{seen, seen_map, seen_enum, reader_of, HoldsBlocked, HoldsMapBlocked, lends_reader, lends_to_map};
+    ghost use Rattle.json5_de.specs.Lending.{state_of, map_state_of, enum_state_of, reader_of, HoldsBlocked, HoldsMapBlocked, lends_reader, lends_to_map};
 
     /// Returns the index of the name among the variants, counted from 0; of equal names it is the first.
     pub fn variant(&self) -> usize
-        ensures { result ≡ (seen_enum self.now).variant }
+        ensures { result ≡ (enum_state_of self.now).variant }
     {
         self.name.variant
     }
@@ -180,7 +180,7 @@ impl<'a, I: Input> EnumAccess<'a, I> {
     ///   brace.
     /// - The codes of every call: see [`EnumAccess`].
     pub fn unit_variant(self) -> Result<()>
-        ensures { ReadsVariant (λ _. tt) unit_content (content_free every_tree) (RefusedAs null_row) (seen_enum self.entry) self.exit.0.now result }
+        ensures { ReadsVariant (λ _. tt) unit_content (content_free every_tree) (RefusedAs null_kind) (enum_state_of self.entry) self.exit.0.now result }
     {
         let EnumAccess { de, name } = self;
         de.set_failed(false);
@@ -201,7 +201,7 @@ impl<'a, I: Input> EnumAccess<'a, I> {
     /// - The faults of `T`; one without a position gets that of the opening brace.
     /// - The codes of every call: see [`EnumAccess`].
     pub fn newtype_variant<T: Deserialize<I>>(self) -> Result<T>
-        ensures { ReadsVariant T.content (content_of T.convert) (content_free T.free) T.refuses (seen_enum self.entry) self.exit.0.now result }
+        ensures { ReadsVariant T.content (content_of T.convert) (content_free T.allocation_free) T.refuses (enum_state_of self.entry) self.exit.0.now result }
     {
         let EnumAccess { de, name } = self;
         de.set_failed(false);
@@ -227,8 +227,8 @@ impl<'a, I: Input> EnumAccess<'a, I> {
     /// - The codes of every call: see [`EnumAccess`].
     pub fn tuple_variant(self, _length: usize) -> Result<SeqAccess<'a, I>>
         ensures* lends { sem 𝓛 (lends_reader I.row I.Input (reader_of self.entry) result) }
-        ensures held { IfOk result (HoldsBlocked (reader_of self.entry) (Some (seen_enum self.entry).start)) }
-        ensures opens { OpensTuple seen (seen_enum self.entry) result }
+        ensures held { IfOk result (HoldsBlocked (reader_of self.entry) (Some (enum_state_of self.entry).start)) }
+        ensures opens { OpensTuple state_of (enum_state_of self.entry) result }
     {
         let EnumAccess { de, name } = self;
         de.set_failed(false);
@@ -259,8 +259,8 @@ impl<'a, I: Input> EnumAccess<'a, I> {
     /// - The codes of every call: see [`EnumAccess`].
     pub fn struct_variant(self, _fields: &'static [&'static str]) -> Result<MapAccess<'a, I>>
         ensures* lends { sem 𝓛 (lends_to_map I.row I.Input (reader_of self.entry) result) }
-        ensures held { IfOk result (HoldsMapBlocked (reader_of self.entry) (Some (seen_enum self.entry).start)) }
-        ensures opens { OpensStruct seen_map (seen_enum self.entry) result }
+        ensures held { IfOk result (HoldsMapBlocked (reader_of self.entry) (Some (enum_state_of self.entry).start)) }
+        ensures opens { OpensStruct map_state_of (enum_state_of self.entry) result }
     {
         let EnumAccess { de, name } = self;
         de.set_failed(false);

@@ -6,14 +6,14 @@ ghost use Rattle.json5_text.specs.Errors.{code};
 ghost use Rattle.json5_value.specs.Keeping.{OwnsKey};
 ghost use Rattle.json5_de.specs.Access.{IsFailedAtBracket};
 ghost use Rattle.json5_de.specs.Convert.{every_text};
-ghost use Rattle.json5_de.specs.KeyRows.{ReadsKeyAs, RefusedAsKey, string_key};
+ghost use Rattle.json5_de.specs.KeyKinds.{ReadsKeyAs, RefusedAsKey, string_key};
 ghost use Rattle.json5_de.specs.ObjectFaults.{ReadsKeyOfPair};
 ghost use Rattle.json5_de.specs.Law.{IsUnprompted};
 ghost use Rattle.json5_de.specs.Objects.{KeepsPending};
 ghost use Rattle.json5_de.specs.Fields.{FieldRead, FieldRequired, IsOwnAtBracket, RefusesHere};
 ghost use Rattle.json5_de.specs.Plans.{PassesPair, ReadsPairs};
 ghost use Rattle.json5_de.specs.StructFaults.{RefusesPairs};
-ghost use Rattle.json5_de.specs.Lending.{seen_map, KeepsMap, KeyPending, NoKeyPending, TakesPendingKey, ReadsNextKey};
+ghost use Rattle.json5_de.specs.Lending.{map_state_of, KeepsMap, KeyPending, NoKeyPending, TakesPendingKey, ReadsNextKey};
 
 use crate::any::IgnoredAny;
 use crate::de::{Deserialize, Deserializer};
@@ -41,7 +41,7 @@ pub trait Fields<I: Input>: Sized + Drop {
     ghost use Rattle.std.specs.Prelude.{⊤};
     ghost use Rattle.json5_de.specs.Plans.{Step, TakesPair};
     ghost use Rattle.json5_de.specs.StructFaults.{ValueFaults, RefusesPair};
-    ghost use Rattle.json5_de.specs.Lending.{seen_map, KeepsMap, KeyPending, NoKeyPending, TakesPendingKey};
+    ghost use Rattle.json5_de.specs.Lending.{map_state_of, KeepsMap, KeyPending, NoKeyPending, TakesPendingKey};
 
     // What of them counts.
     ghost Content: { Type 0 };
@@ -64,8 +64,8 @@ pub trait Fields<I: Input>: Sized + Drop {
         requires key { KeyPending map.old }
         ensures access { KeepsMap map.old map.new }
         ensures pending { OnOk result (NoKeyPending map.new) }
-        ensures takes { TakesPair step (content self.old) (content self.new) name.now (seen_map map.old) (seen_map map.new) result }
-        ensures refused { RefusesPair refuses step (content self.old) name.now (seen_map map.old) result };
+        ensures takes { TakesPair step (content self.old) (content self.new) name.now (map_state_of map.old) (map_state_of map.new) result }
+        ensures refused { RefusesPair refuses step (content self.old) name.now (map_state_of map.old) result };
 }
 
 impl<I: Input> Deserializer<I> {
@@ -96,7 +96,7 @@ impl<I: Input> Deserializer<I> {
     fn pair_name(&mut self, due: bool, spare: String) -> Result<Option<String>>
         ensures { ReadsKeyOfPair string_bytes every_text (RefusedAsKey string_key) due self.old self.new result }
     {
-        if !self.goes_to_key(due)? {
+        if !self.advance_to_key(due)? {
             return Ok(None);
         }
         let start = self.offset();
@@ -110,7 +110,7 @@ impl<I: Input> Deserializer<I> {
 impl<'a, I: Input> MapAccess<'a, I> {
     /// A custom fault at the opening brace.
     fn own_fault<D: fmt::Display + Drop>(&self, message: D) -> Error
-        ensures own { IsOwnAtBracket (seen_map self.now).at result }
+        ensures own { IsOwnAtBracket (map_state_of self.now).at result }
         ensures unprompted { IsUnprompted result }
     {
         match Error::custom(self.de.allocator(), message) {
@@ -122,11 +122,11 @@ impl<'a, I: Input> MapAccess<'a, I> {
     /// Refuses a field that has a value.
     fn duplicate(&mut self, name: &str) -> Error
         ensures access { KeepsMap self.old self.new }
-        ensures pending { KeepsPending (seen_map self.old) (seen_map self.new) }
-        ensures failed { (seen_map self.new).at.reader.failed ≡ true }
-        ensures own { (seen_map self.old).at.reader.failed ≡ false → IsOwnAtBracket (seen_map self.old).at result }
-        ensures unprompted { (seen_map self.old).at.reader.failed ≡ false → IsUnprompted result }
-        ensures before { (seen_map self.old).at.reader.failed ≡ true → IsFailedAtBracket (seen_map self.old).at result }
+        ensures pending { KeepsPending (map_state_of self.old) (map_state_of self.new) }
+        ensures failed { (map_state_of self.new).at.reader.failed ≡ true }
+        ensures own { (map_state_of self.old).at.reader.failed ≡ false → IsOwnAtBracket (map_state_of self.old).at result }
+        ensures unprompted { (map_state_of self.old).at.reader.failed ≡ false → IsUnprompted result }
+        ensures before { (map_state_of self.old).at.reader.failed ≡ true → IsFailedAtBracket (map_state_of self.old).at result }
     {
         self.de.set_failed(true);
         if self.failed {
@@ -148,7 +148,7 @@ impl<'a, I: Input> MapAccess<'a, I> {
         requires key { KeyPending self.old }
         ensures access { KeepsMap self.old self.new }
         ensures pending { TakesPendingKey self.old self.new result }
-        ensures reads { FieldRead V.content V.convert V.refuses (seen_map self.old) (seen_map self.new) field.old field.new result }
+        ensures reads { FieldRead V.content V.convert V.refuses (map_state_of self.old) (map_state_of self.new) field.old field.new result }
     {
         if field.is_some() {
             return Err(self.duplicate(name));
@@ -167,8 +167,8 @@ impl<'a, I: Input> MapAccess<'a, I> {
         requires key { KeyPending self.old }
         ensures access { KeepsMap self.old self.new }
         ensures pending { TakesPendingKey self.old self.new result }
-        ensures passes { PassesPair (seen_map self.old) (seen_map self.new) result }
-        ensures cause { RefusesHere ⟦<IgnoredAny as Deserialize<I>>⟧.refuses (seen_map self.old) result }
+        ensures passes { PassesPair (map_state_of self.old) (map_state_of self.new) result }
+        ensures cause { RefusesHere ⟦<IgnoredAny as Deserialize<I>>⟧.refuses (map_state_of self.old) result }
     {
         self.next_value::<IgnoredAny>()?;
         Ok(())
@@ -191,7 +191,7 @@ impl<'a, I: Input> MapAccess<'a, I> {
     pub fn required_field<V: Deserialize<I>>(&mut self, name: &str, field: Option<V>) -> Result<V>
         ensures access { KeepsMap self.old self.new }
         ensures found { IfOk result (λ v. field ≡ Some v) }
-        ensures value { FieldRequired (seen_map self.old) (seen_map self.new) field result }
+        ensures value { FieldRequired (map_state_of self.old) (map_state_of self.new) field result }
     {
         self.de.set_failed(true);
         if self.failed {
@@ -229,8 +229,8 @@ impl<'a, I: Input> MapAccess<'a, I> {
         requires no_key { NoKeyPending self.old }
         ensures access { KeepsMap self.old self.new }
         ensures pending { OnOk result (NoKeyPending self.new) }
-        ensures reads { ReadsPairs F.step (F.content fields.old) (F.content fields.new) (seen_map self.old) (seen_map self.new) result }
-        ensures refused { RefusesPairs F.step F.refuses (F.content fields.old) (seen_map self.old) result }
+        ensures reads { ReadsPairs F.step (F.content fields.old) (F.content fields.new) (map_state_of self.old) (map_state_of self.new) result }
+        ensures refused { RefusesPairs F.step F.refuses (F.content fields.old) (map_state_of self.old) result }
     {
         let mut name = String::new(self.de.allocator());
         while let Some(next) = self.next_name(name)? {

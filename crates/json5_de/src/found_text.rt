@@ -20,7 +20,7 @@ impl<I: Input> Deserializer<I> {
     pub(crate) fn found_string(&mut self) -> Result<FoundText>
         ensures { FindsString self.old self.new result }
     {
-        self.begin()?;
+        self.skip_blank()?;
         let start = self.offset();
         let token = self.string_token()?;
         Ok(FoundText { start, token })
@@ -30,7 +30,7 @@ impl<I: Input> Deserializer<I> {
     pub(crate) fn found_key(&mut self) -> Result<FoundText>
         ensures { FindsKey self.old self.new result }
     {
-        self.begin()?;
+        self.skip_blank()?;
         let start = self.offset();
         let token = self.key()?;
         Ok(FoundText { start, token })

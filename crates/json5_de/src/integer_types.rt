@@ -1,7 +1,7 @@
 //! The integers that can be read.
 
 ghost use Rattle.std.specs.Prelude.{◌^◌};
-ghost use Rattle.json5_de.specs.Rows.{ReadsAs, natural_row, integer_row};
+ghost use Rattle.json5_de.specs.TokenKinds.{ReadsAs, natural_kind, integer_kind};
 
 use crate::de::{Deserialize, Deserializer};
 use json5_text::error::Result;
@@ -11,7 +11,7 @@ use json5_text::input::Input;
 impl<I: Input> Deserialize<I> for u8 {
     ghost use Rattle.std.specs.Prelude.{ℕ, ◌^◌};
     ghost use Rattle.json5_de.specs.Convert.{unsigned_below};
-    ghost use Rattle.json5_de.specs.Rows.{natural_row, every_tree, RefusedAs};
+    ghost use Rattle.json5_de.specs.TokenKinds.{natural_kind, every_tree, RefusedAs};
 
     ghost Content = { ℕ };
 
@@ -19,12 +19,12 @@ impl<I: Input> Deserialize<I> for u8 {
 
     ghost convert = { unsigned_below (2 ^ 8) };
 
-    ghost free = { every_tree };
+    ghost allocation_free = { every_tree };
 
-    ghost refuses = { RefusedAs (natural_row (2 ^ 8)) };
+    ghost refuses = { RefusedAs (natural_kind (2 ^ 8)) };
 
     fn deserialize(de: &mut Deserializer<I>) -> Result<u8>
-        ensures { ReadsAs (natural_row (2 ^ 8)) (λ n. n) de.old de.new result }
+        ensures { ReadsAs (natural_kind (2 ^ 8)) (λ n. n) de.old de.new result }
     {
         de.deserialize_u8()
     }
@@ -33,7 +33,7 @@ impl<I: Input> Deserialize<I> for u8 {
 impl<I: Input> Deserialize<I> for u16 {
     ghost use Rattle.std.specs.Prelude.{ℕ, ◌^◌};
     ghost use Rattle.json5_de.specs.Convert.{unsigned_below};
-    ghost use Rattle.json5_de.specs.Rows.{natural_row, every_tree, RefusedAs};
+    ghost use Rattle.json5_de.specs.TokenKinds.{natural_kind, every_tree, RefusedAs};
 
     ghost Content = { ℕ };
 
@@ -41,12 +41,12 @@ impl<I: Input> Deserialize<I> for u16 {
 
     ghost convert = { unsigned_below (2 ^ 16) };
 
-    ghost free = { every_tree };
+    ghost allocation_free = { every_tree };
 
-    ghost refuses = { RefusedAs (natural_row (2 ^ 16)) };
+    ghost refuses = { RefusedAs (natural_kind (2 ^ 16)) };
 
     fn deserialize(de: &mut Deserializer<I>) -> Result<u16>
-        ensures { ReadsAs (natural_row (2 ^ 16)) (λ n. n) de.old de.new result }
+        ensures { ReadsAs (natural_kind (2 ^ 16)) (λ n. n) de.old de.new result }
     {
         de.deserialize_u16()
     }
@@ -55,7 +55,7 @@ impl<I: Input> Deserialize<I> for u16 {
 impl<I: Input> Deserialize<I> for u32 {
     ghost use Rattle.std.specs.Prelude.{ℕ, ◌^◌};
     ghost use Rattle.json5_de.specs.Convert.{unsigned_below};
-    ghost use Rattle.json5_de.specs.Rows.{natural_row, every_tree, RefusedAs};
+    ghost use Rattle.json5_de.specs.TokenKinds.{natural_kind, every_tree, RefusedAs};
 
     ghost Content = { ℕ };
 
@@ -63,12 +63,12 @@ impl<I: Input> Deserialize<I> for u32 {
 
     ghost convert = { unsigned_below (2 ^ 32) };
 
-    ghost free = { every_tree };
+    ghost allocation_free = { every_tree };
 
-    ghost refuses = { RefusedAs (natural_row (2 ^ 32)) };
+    ghost refuses = { RefusedAs (natural_kind (2 ^ 32)) };
 
     fn deserialize(de: &mut Deserializer<I>) -> Result<u32>
-        ensures { ReadsAs (natural_row (2 ^ 32)) (λ n. n) de.old de.new result }
+        ensures { ReadsAs (natural_kind (2 ^ 32)) (λ n. n) de.old de.new result }
     {
         de.deserialize_u32()
     }
@@ -77,7 +77,7 @@ impl<I: Input> Deserialize<I> for u32 {
 impl<I: Input> Deserialize<I> for u64 {
     ghost use Rattle.std.specs.Prelude.{ℕ, ◌^◌};
     ghost use Rattle.json5_de.specs.Convert.{unsigned_below};
-    ghost use Rattle.json5_de.specs.Rows.{natural_row, every_tree, RefusedAs};
+    ghost use Rattle.json5_de.specs.TokenKinds.{natural_kind, every_tree, RefusedAs};
 
     ghost Content = { ℕ };
 
@@ -85,12 +85,12 @@ impl<I: Input> Deserialize<I> for u64 {
 
     ghost convert = { unsigned_below (2 ^ 64) };
 
-    ghost free = { every_tree };
+    ghost allocation_free = { every_tree };
 
-    ghost refuses = { RefusedAs (natural_row (2 ^ 64)) };
+    ghost refuses = { RefusedAs (natural_kind (2 ^ 64)) };
 
     fn deserialize(de: &mut Deserializer<I>) -> Result<u64>
-        ensures { ReadsAs (natural_row (2 ^ 64)) (λ n. n) de.old de.new result }
+        ensures { ReadsAs (natural_kind (2 ^ 64)) (λ n. n) de.old de.new result }
     {
         de.deserialize_u64()
     }
@@ -99,7 +99,7 @@ impl<I: Input> Deserialize<I> for u64 {
 impl<I: Input> Deserialize<I> for u128 {
     ghost use Rattle.std.specs.Prelude.{ℕ, ◌^◌};
     ghost use Rattle.json5_de.specs.Convert.{unsigned_below};
-    ghost use Rattle.json5_de.specs.Rows.{natural_row, every_tree, RefusedAs};
+    ghost use Rattle.json5_de.specs.TokenKinds.{natural_kind, every_tree, RefusedAs};
 
     ghost Content = { ℕ };
 
@@ -107,12 +107,12 @@ impl<I: Input> Deserialize<I> for u128 {
 
     ghost convert = { unsigned_below (2 ^ 128) };
 
-    ghost free = { every_tree };
+    ghost allocation_free = { every_tree };
 
-    ghost refuses = { RefusedAs (natural_row (2 ^ 128)) };
+    ghost refuses = { RefusedAs (natural_kind (2 ^ 128)) };
 
     fn deserialize(de: &mut Deserializer<I>) -> Result<u128>
-        ensures { ReadsAs (natural_row (2 ^ 128)) (λ n. n) de.old de.new result }
+        ensures { ReadsAs (natural_kind (2 ^ 128)) (λ n. n) de.old de.new result }
     {
         de.deserialize_u128()
     }
@@ -121,7 +121,7 @@ impl<I: Input> Deserialize<I> for u128 {
 impl<I: Input> Deserialize<I> for i8 {
     ghost use Rattle.std.specs.Prelude.{ℤ, ◌^◌};
     ghost use Rattle.json5_de.specs.Convert.{signed_below};
-    ghost use Rattle.json5_de.specs.Rows.{integer_row, every_tree, RefusedAs};
+    ghost use Rattle.json5_de.specs.TokenKinds.{integer_kind, every_tree, RefusedAs};
 
     ghost Content = { ℤ };
 
@@ -129,12 +129,12 @@ impl<I: Input> Deserialize<I> for i8 {
 
     ghost convert = { signed_below (2 ^ 7) };
 
-    ghost free = { every_tree };
+    ghost allocation_free = { every_tree };
 
-    ghost refuses = { RefusedAs (integer_row (2 ^ 7)) };
+    ghost refuses = { RefusedAs (integer_kind (2 ^ 7)) };
 
     fn deserialize(de: &mut Deserializer<I>) -> Result<i8>
-        ensures { ReadsAs (integer_row (2 ^ 7)) (λ n. n) de.old de.new result }
+        ensures { ReadsAs (integer_kind (2 ^ 7)) (λ n. n) de.old de.new result }
     {
         de.deserialize_i8()
     }
@@ -143,7 +143,7 @@ impl<I: Input> Deserialize<I> for i8 {
 impl<I: Input> Deserialize<I> for i16 {
     ghost use Rattle.std.specs.Prelude.{ℤ, ◌^◌};
     ghost use Rattle.json5_de.specs.Convert.{signed_below};
-    ghost use Rattle.json5_de.specs.Rows.{integer_row, every_tree, RefusedAs};
+    ghost use Rattle.json5_de.specs.TokenKinds.{integer_kind, every_tree, RefusedAs};
 
     ghost Content = { ℤ };
 
@@ -151,12 +151,12 @@ impl<I: Input> Deserialize<I> for i16 {
 
     ghost convert = { signed_below (2 ^ 15) };
 
-    ghost free = { every_tree };
+    ghost allocation_free = { every_tree };
 
-    ghost refuses = { RefusedAs (integer_row (2 ^ 15)) };
+    ghost refuses = { RefusedAs (integer_kind (2 ^ 15)) };
 
     fn deserialize(de: &mut Deserializer<I>) -> Result<i16>
-        ensures { ReadsAs (integer_row (2 ^ 15)) (λ n. n) de.old de.new result }
+        ensures { ReadsAs (integer_kind (2 ^ 15)) (λ n. n) de.old de.new result }
     {
         de.deserialize_i16()
     }
@@ -165,7 +165,7 @@ impl<I: Input> Deserialize<I> for i16 {
 impl<I: Input> Deserialize<I> for i32 {
     ghost use Rattle.std.specs.Prelude.{ℤ, ◌^◌};
     ghost use Rattle.json5_de.specs.Convert.{signed_below};
-    ghost use Rattle.json5_de.specs.Rows.{integer_row, every_tree, RefusedAs};
+    ghost use Rattle.json5_de.specs.TokenKinds.{integer_kind, every_tree, RefusedAs};
 
     ghost Content = { ℤ };
 
@@ -173,12 +173,12 @@ impl<I: Input> Deserialize<I> for i32 {
 
     ghost convert = { signed_below (2 ^ 31) };
 
-    ghost free = { every_tree };
+    ghost allocation_free = { every_tree };
 
-    ghost refuses = { RefusedAs (integer_row (2 ^ 31)) };
+    ghost refuses = { RefusedAs (integer_kind (2 ^ 31)) };
 
     fn deserialize(de: &mut Deserializer<I>) -> Result<i32>
-        ensures { ReadsAs (integer_row (2 ^ 31)) (λ n. n) de.old de.new result }
+        ensures { ReadsAs (integer_kind (2 ^ 31)) (λ n. n) de.old de.new result }
     {
         de.deserialize_i32()
     }
@@ -187,7 +187,7 @@ impl<I: Input> Deserialize<I> for i32 {
 impl<I: Input> Deserialize<I> for i64 {
     ghost use Rattle.std.specs.Prelude.{ℤ, ◌^◌};
     ghost use Rattle.json5_de.specs.Convert.{signed_below};
-    ghost use Rattle.json5_de.specs.Rows.{integer_row, every_tree, RefusedAs};
+    ghost use Rattle.json5_de.specs.TokenKinds.{integer_kind, every_tree, RefusedAs};
 
     ghost Content = { ℤ };
 
@@ -195,12 +195,12 @@ impl<I: Input> Deserialize<I> for i64 {
 
     ghost convert = { signed_below (2 ^ 63) };
 
-    ghost free = { every_tree };
+    ghost allocation_free = { every_tree };
 
-    ghost refuses = { RefusedAs (integer_row (2 ^ 63)) };
+    ghost refuses = { RefusedAs (integer_kind (2 ^ 63)) };
 
     fn deserialize(de: &mut Deserializer<I>) -> Result<i64>
-        ensures { ReadsAs (integer_row (2 ^ 63)) (λ n. n) de.old de.new result }
+        ensures { ReadsAs (integer_kind (2 ^ 63)) (λ n. n) de.old de.new result }
     {
         de.deserialize_i64()
     }
@@ -209,7 +209,7 @@ impl<I: Input> Deserialize<I> for i64 {
 impl<I: Input> Deserialize<I> for i128 {
     ghost use Rattle.std.specs.Prelude.{ℤ, ◌^◌};
     ghost use Rattle.json5_de.specs.Convert.{signed_below};
-    ghost use Rattle.json5_de.specs.Rows.{integer_row, every_tree, RefusedAs};
+    ghost use Rattle.json5_de.specs.TokenKinds.{integer_kind, every_tree, RefusedAs};
 
     ghost Content = { ℤ };
 
@@ -217,12 +217,12 @@ impl<I: Input> Deserialize<I> for i128 {
 
     ghost convert = { signed_below (2 ^ 127) };
 
-    ghost free = { every_tree };
+    ghost allocation_free = { every_tree };
 
-    ghost refuses = { RefusedAs (integer_row (2 ^ 127)) };
+    ghost refuses = { RefusedAs (integer_kind (2 ^ 127)) };
 
     fn deserialize(de: &mut Deserializer<I>) -> Result<i128>
-        ensures { ReadsAs (integer_row (2 ^ 127)) (λ n. n) de.old de.new result }
+        ensures { ReadsAs (integer_kind (2 ^ 127)) (λ n. n) de.old de.new result }
     {
         de.deserialize_i128()
     }

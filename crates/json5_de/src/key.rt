@@ -8,10 +8,10 @@ ghost use Rattle.json5_de.specs.State.{State, SameText};
 ghost use Rattle.json5_de.specs.ConvertLists.{if_some};
 ghost use Rattle.json5_de.specs.Law.{Unprompted};
 ghost use Rattle.json5_de.specs.Options.{RefusesLive};
-ghost use Rattle.json5_de.specs.Rows.{bool_row, natural_row, integer_row, decimal_row};
+ghost use Rattle.json5_de.specs.TokenKinds.{bool_kind, natural_kind, integer_kind, decimal_kind};
 ghost use Rattle.json5_de.specs.Convert.{spelled};
 ghost use Rattle.json5_de.specs.Keys.{GivesKey, CompletesKey, ReadsKeyOf, ReadsOneKey};
-ghost use Rattle.json5_de.specs.KeyRows.{ReadsKeyAs, string_key, char_key, plain_key, cow_key, variant_key, ignored_key, bytes_key, document_key, some_of};
+ghost use Rattle.json5_de.specs.KeyKinds.{ReadsKeyAs, string_key, char_key, plain_key, cow_key, variant_key, ignored_key, bytes_key, document_key, some_of};
 ghost use Rattle.json5_de.specs.KeySteps.{IsTextFault, is_out_of_memory};
 
 use crate::de::Deserializer;
@@ -57,10 +57,10 @@ pub struct MapKey<'a, I: Input> {
 
 /// Dropped unread, it leaves the reader before the key.
 impl<I: Input> Drop for MapKey<'_, I> {
-    ghost use Rattle.json5_de.specs.Lending.{waiting};
+    ghost use Rattle.json5_de.specs.Lending.{reader_of_key};
 
     fn drop(self)
-        ensures { self.exit.0.now ≡ waiting self.entry }
+        ensures { self.exit.0.now ≡ reader_of_key self.entry }
     {
         let MapKey { de: _ } = self;
     }
@@ -88,7 +88,7 @@ pub trait DeserializeKey<I: Input>: Sized + Drop {
     ghost use Rattle.json5_text.specs.declared.error.Error.{Error};
     ghost use Rattle.json5_de.specs.State.{State};
     ghost use Rattle.json5_de.specs.Keys.{KeyConversion};
-    ghost use Rattle.json5_de.specs.Lending.{waiting, HoldsTheSameKey};
+    ghost use Rattle.json5_de.specs.Lending.{reader_of_key, HoldsTheSameKey};
 
     // What of a key counts.
     ghost Content: { Type 0 };
@@ -107,11 +107,11 @@ pub trait DeserializeKey<I: Input>: Sized + Drop {
     ///
     /// The faults of the call of the key that the impl makes, and custom faults of its own.
     fn deserialize_key(key: &mut MapKey<'_, I>) -> Result<Self>
-        ensures sound { IfOk result (λ v. GivesKey content convert (waiting key.old) (waiting key.new) v) }
-        ensures complete { CompletesKey convert (waiting key.old) result }
-        ensures refused { IfErr result (λ e. refuses (waiting key.old) e (waiting key.new)) }
-        ensures unprompted { Unprompted (waiting key.old) result }
-        ensures same_text { SameText (waiting key.old) (waiting key.new) }
+        ensures sound { IfOk result (λ v. GivesKey content convert (reader_of_key key.old) (reader_of_key key.new) v) }
+        ensures complete { CompletesKey convert (reader_of_key key.old) result }
+        ensures refused { IfErr result (λ e. refuses (reader_of_key key.old) e (reader_of_key key.new)) }
+        ensures unprompted { Unprompted (reader_of_key key.old) result }
+        ensures same_text { SameText (reader_of_key key.old) (reader_of_key key.new) }
         ensures same_reference { HoldsTheSameKey key.old key.new };
 }
 
@@ -225,7 +225,7 @@ impl<I: Input> MapKey<'_, I> {
     ///
     /// As every call that reads a document: see [`MapKey`].
     pub fn deserialize_bool(&mut self) -> Result<bool>
-        ensures { KeyReads (document_key bool_row) (λ b. b) self.old self.new result }
+        ensures { KeyReads (document_key bool_kind) (λ b. b) self.old self.new result }
     {
         self.de.key_document()
     }
@@ -240,7 +240,7 @@ impl<I: Input> MapKey<'_, I> {
     ///
     /// As every call that reads a document: see [`MapKey`].
     pub fn deserialize_u8(&mut self) -> Result<u8>
-        ensures { KeyReads (document_key (natural_row (2 ^ 8))) (λ n. n) self.old self.new result }
+        ensures { KeyReads (document_key (natural_kind (2 ^ 8))) (λ n. n) self.old self.new result }
     {
         self.de.key_document()
     }
@@ -251,7 +251,7 @@ impl<I: Input> MapKey<'_, I> {
     ///
     /// As every call that reads a document: see [`MapKey`].
     pub fn deserialize_u16(&mut self) -> Result<u16>
-        ensures { KeyReads (document_key (natural_row (2 ^ 16))) (λ n. n) self.old self.new result }
+        ensures { KeyReads (document_key (natural_kind (2 ^ 16))) (λ n. n) self.old self.new result }
     {
         self.de.key_document()
     }
@@ -262,7 +262,7 @@ impl<I: Input> MapKey<'_, I> {
     ///
     /// As every call that reads a document: see [`MapKey`].
     pub fn deserialize_u32(&mut self) -> Result<u32>
-        ensures { KeyReads (document_key (natural_row (2 ^ 32))) (λ n. n) self.old self.new result }
+        ensures { KeyReads (document_key (natural_kind (2 ^ 32))) (λ n. n) self.old self.new result }
     {
         self.de.key_document()
     }
@@ -273,7 +273,7 @@ impl<I: Input> MapKey<'_, I> {
     ///
     /// As every call that reads a document: see [`MapKey`].
     pub fn deserialize_u64(&mut self) -> Result<u64>
-        ensures { KeyReads (document_key (natural_row (2 ^ 64))) (λ n. n) self.old self.new result }
+        ensures { KeyReads (document_key (natural_kind (2 ^ 64))) (λ n. n) self.old self.new result }
     {
         self.de.key_document()
     }
@@ -284,7 +284,7 @@ impl<I: Input> MapKey<'_, I> {
     ///
     /// As every call that reads a document: see [`MapKey`].
     pub fn deserialize_u128(&mut self) -> Result<u128>
-        ensures { KeyReads (document_key (natural_row (2 ^ 128))) (λ n. n) self.old self.new result }
+        ensures { KeyReads (document_key (natural_kind (2 ^ 128))) (λ n. n) self.old self.new result }
     {
         self.de.key_document()
     }
@@ -295,7 +295,7 @@ impl<I: Input> MapKey<'_, I> {
     ///
     /// As every call that reads a document: see [`MapKey`].
     pub fn deserialize_i8(&mut self) -> Result<i8>
-        ensures { KeyReads (document_key (integer_row (2 ^ 7))) (λ n. n) self.old self.new result }
+        ensures { KeyReads (document_key (integer_kind (2 ^ 7))) (λ n. n) self.old self.new result }
     {
         self.de.key_document()
     }
@@ -306,7 +306,7 @@ impl<I: Input> MapKey<'_, I> {
     ///
     /// As every call that reads a document: see [`MapKey`].
     pub fn deserialize_i16(&mut self) -> Result<i16>
-        ensures { KeyReads (document_key (integer_row (2 ^ 15))) (λ n. n) self.old self.new result }
+        ensures { KeyReads (document_key (integer_kind (2 ^ 15))) (λ n. n) self.old self.new result }
     {
         self.de.key_document()
     }
@@ -317,7 +317,7 @@ impl<I: Input> MapKey<'_, I> {
     ///
     /// As every call that reads a document: see [`MapKey`].
     pub fn deserialize_i32(&mut self) -> Result<i32>
-        ensures { KeyReads (document_key (integer_row (2 ^ 31))) (λ n. n) self.old self.new result }
+        ensures { KeyReads (document_key (integer_kind (2 ^ 31))) (λ n. n) self.old self.new result }
     {
         self.de.key_document()
     }
@@ -328,7 +328,7 @@ impl<I: Input> MapKey<'_, I> {
     ///
     /// As every call that reads a document: see [`MapKey`].
     pub fn deserialize_i64(&mut self) -> Result<i64>
-        ensures { KeyReads (document_key (integer_row (2 ^ 63))) (λ n. n) self.old self.new result }
+        ensures { KeyReads (document_key (integer_kind (2 ^ 63))) (λ n. n) self.old self.new result }
     {
         self.de.key_document()
     }
@@ -339,7 +339,7 @@ impl<I: Input> MapKey<'_, I> {
     ///
     /// As every call that reads a document: see [`MapKey`].
     pub fn deserialize_i128(&mut self) -> Result<i128>
-        ensures { KeyReads (document_key (integer_row (2 ^ 127))) (λ n. n) self.old self.new result }
+        ensures { KeyReads (document_key (integer_kind (2 ^ 127))) (λ n. n) self.old self.new result }
     {
         self.de.key_document()
     }
@@ -350,7 +350,7 @@ impl<I: Input> MapKey<'_, I> {
     ///
     /// As every call that reads a document: see [`MapKey`].
     pub fn deserialize_decimal(&mut self) -> Result<Decimal>
-        ensures { KeyReads (document_key decimal_row) (λ d. d) self.old self.new result }
+        ensures { KeyReads (document_key decimal_kind) (λ d. d) self.old self.new result }
     {
         self.de.key_document()
     }
@@ -366,7 +366,7 @@ impl<I: Input> MapKey<'_, I> {
     ) -> Result<K>
         ensures { KeyReadsBy K.content K.convert (RefusesLive K.refuses) self.old self.new result }
     {
-        self.de.key_as()
+        self.de.delegate_key()
     }
 
     /// Reads a `K`, which is always Some: a key is never None, not even `null`.
@@ -377,7 +377,7 @@ impl<I: Input> MapKey<'_, I> {
     pub fn deserialize_option<K: DeserializeKey<I>>(&mut self) -> Result<Option<K>>
         ensures { KeyReadsBy (if_some K.content) (some_of K.convert) (RefusesLive K.refuses) self.old self.new result }
     {
-        let key = self.de.key_as::<K>()?;
+        let key = self.de.delegate_key::<K>()?;
         Ok(Some(key))
     }
 }
@@ -437,10 +437,10 @@ impl<I: Input> Deserializer<I> {
     }
 
     /// Reads a K, with its faults; after a refusal the reader has failed.
-    fn key_as<K: DeserializeKey<I>>(&mut self) -> Result<K>
+    fn delegate_key<K: DeserializeKey<I>>(&mut self) -> Result<K>
         ensures { ReadsOneKey K.content K.convert (RefusesLive K.refuses) self.old self.new result }
     {
-        self.live()?;
+        self.check_not_failed()?;
         match self.read_key::<K>() {
             Ok(key) => Ok(key),
             Err(e) => self.refuse(e),

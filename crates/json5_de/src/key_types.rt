@@ -4,7 +4,7 @@ ghost use Rattle.std.specs.Prelude.{string_bytes};
 ghost use Rattle.json5_text.specs.Cows.{cow_bytes, is_borrowed};
 ghost use Rattle.json5_de.specs.ConvertLists.{if_some};
 ghost use Rattle.json5_de.specs.Options.{RefusesLive};
-ghost use Rattle.json5_de.specs.KeyRows.{string_key, char_key, plain_key, cow_key, some_of};
+ghost use Rattle.json5_de.specs.KeyKinds.{string_key, char_key, plain_key, cow_key, some_of};
 
 use crate::any::IgnoredAny;
 use crate::key::{DeserializeKey, MapKey};
@@ -19,7 +19,7 @@ use std::alloc::Global;
 impl<I: Input> DeserializeKey<I> for char {
     ghost use Rattle.std.specs.Prelude.{ℕ};
     ghost use Rattle.json5_de.specs.Convert.{one_character};
-    ghost use Rattle.json5_de.specs.KeyRows.{char_key, RefusedAsKey};
+    ghost use Rattle.json5_de.specs.KeyKinds.{char_key, RefusedAsKey};
 
     ghost Content = { ℕ };
 
@@ -37,7 +37,7 @@ impl<I: Input> DeserializeKey<I> for char {
 impl<I: Input> DeserializeKey<I> for String {
     ghost use Rattle.std.specs.Prelude.{ℕ, List, string_bytes};
     ghost use Rattle.json5_de.specs.Convert.{every_text};
-    ghost use Rattle.json5_de.specs.KeyRows.{string_key, RefusedAsKey};
+    ghost use Rattle.json5_de.specs.KeyKinds.{string_key, RefusedAsKey};
 
     ghost Content = { List ℕ };
 
@@ -56,7 +56,7 @@ impl<I: Input> DeserializeKey<I> for ByteBuf {
     ghost use Rattle.std.specs.Prelude.{ℕ, List};
     ghost use Rattle.json5_text.specs.Bytes.{bytes_of};
     ghost use Rattle.json5_de.specs.Convert.{digits_bytes};
-    ghost use Rattle.json5_de.specs.KeyRows.{bytes_key, RefusedAsKey};
+    ghost use Rattle.json5_de.specs.KeyKinds.{bytes_key, RefusedAsKey};
 
     ghost Content = { List ℕ };
 
@@ -74,7 +74,7 @@ impl<I: Input> DeserializeKey<I> for ByteBuf {
 impl<'de, I: Borrows<'de>> DeserializeKey<I> for &'de str {
     ghost use Rattle.std.specs.Prelude.{ℕ, List};
     ghost use Rattle.json5_de.specs.Convert.{if_plain};
-    ghost use Rattle.json5_de.specs.KeyRows.{plain_key, RefusedAsKey};
+    ghost use Rattle.json5_de.specs.KeyKinds.{plain_key, RefusedAsKey};
 
     ghost Content = { List ℕ };
 
@@ -93,7 +93,7 @@ impl<'de, I: Borrows<'de>> DeserializeKey<I> for CowStr<'de> {
     ghost use Rattle.std.specs.Prelude.{ℕ, List, Bool};
     ghost use Rattle.json5_text.specs.Cows.{cow_bytes, is_borrowed};
     ghost use Rattle.json5_de.specs.Convert.{every_cow};
-    ghost use Rattle.json5_de.specs.KeyRows.{cow_key, RefusedAsKey};
+    ghost use Rattle.json5_de.specs.KeyKinds.{cow_key, RefusedAsKey};
 
     ghost Content = { List ℕ × Bool };
 
@@ -110,7 +110,7 @@ impl<'de, I: Borrows<'de>> DeserializeKey<I> for CowStr<'de> {
 
 impl<I: Input> DeserializeKey<I> for IgnoredAny {
     ghost use Rattle.json5_de.specs.Keys.{every_key};
-    ghost use Rattle.json5_de.specs.KeyRows.{ignored_key, RefusedAsKey};
+    ghost use Rattle.json5_de.specs.KeyKinds.{ignored_key, RefusedAsKey};
 
     ghost Content = { Unit {0} };
 
@@ -129,7 +129,7 @@ impl<I: Input> DeserializeKey<I> for IgnoredAny {
 impl<I: Input, K: DeserializeKey<I>> DeserializeKey<I> for Option<K> {
     ghost use Rattle.std.specs.Prelude.{Option};
     ghost use Rattle.json5_de.specs.ConvertLists.{if_some};
-    ghost use Rattle.json5_de.specs.KeyRows.{some_of};
+    ghost use Rattle.json5_de.specs.KeyKinds.{some_of};
     ghost use Rattle.json5_de.specs.Options.{RefusesLive};
 
     ghost Content = { Option K.Content };
@@ -149,7 +149,7 @@ impl<I: Input, K: DeserializeKey<I>> DeserializeKey<I> for Option<K> {
 pub trait FromText: Sized + Drop {
     ghost use Rattle.std.specs.Str.{chars};
     ghost use Rattle.json5_grammar.specs.Documents.{max_depth};
-    ghost use Rattle.json5_de.specs.Rows.{Row, RefusedAs};
+    ghost use Rattle.json5_de.specs.TokenKinds.{Kind, RefusedAs};
     ghost use Rattle.json5_de.specs.Texts.{ReadsWholeText};
 
     // What of a value counts.
@@ -158,7 +158,7 @@ pub trait FromText: Sized + Drop {
     ghost content: { Self → Content };
 
     // The kind of value.
-    ghost kind: { Row Content };
+    ghost kind: { Kind Content };
 
     /// The value that the text holds.
     fn from_text(alloc: Global, text: &str) -> Result<Self>
@@ -167,7 +167,7 @@ pub trait FromText: Sized + Drop {
 
 /// A key whose text is a document of the kind.
 impl<I: Input, T: FromText> DeserializeKey<I> for T {
-    ghost use Rattle.json5_de.specs.KeyRows.{document_key, RefusedAsKey};
+    ghost use Rattle.json5_de.specs.KeyKinds.{document_key, RefusedAsKey};
 
     ghost Content = { T.Content };
 
@@ -183,13 +183,13 @@ impl<I: Input, T: FromText> DeserializeKey<I> for T {
 }
 
 impl FromText for () {
-    ghost use Rattle.json5_de.specs.Rows.{null_row};
+    ghost use Rattle.json5_de.specs.TokenKinds.{null_kind};
 
     ghost Content = { Unit {0} };
 
     ghost content = { λ _. tt };
 
-    ghost kind = { null_row };
+    ghost kind = { null_kind };
 
     fn from_text(alloc: Global, text: &str) -> Result<()> {
         from_str(alloc, text)
@@ -198,13 +198,13 @@ impl FromText for () {
 
 impl FromText for bool {
     ghost use Rattle.std.specs.Prelude.{Bool};
-    ghost use Rattle.json5_de.specs.Rows.{bool_row};
+    ghost use Rattle.json5_de.specs.TokenKinds.{bool_kind};
 
     ghost Content = { Bool };
 
     ghost content = { λ b. b };
 
-    ghost kind = { bool_row };
+    ghost kind = { bool_kind };
 
     fn from_text(alloc: Global, text: &str) -> Result<bool> {
         from_str(alloc, text)
@@ -213,13 +213,13 @@ impl FromText for bool {
 
 impl FromText for u8 {
     ghost use Rattle.std.specs.Prelude.{ℕ, ◌^◌};
-    ghost use Rattle.json5_de.specs.Rows.{natural_row};
+    ghost use Rattle.json5_de.specs.TokenKinds.{natural_kind};
 
     ghost Content = { ℕ };
 
     ghost content = { λ n. n };
 
-    ghost kind = { natural_row (2 ^ 8) };
+    ghost kind = { natural_kind (2 ^ 8) };
 
     fn from_text(alloc: Global, text: &str) -> Result<u8> {
         from_str(alloc, text)
@@ -228,13 +228,13 @@ impl FromText for u8 {
 
 impl FromText for u16 {
     ghost use Rattle.std.specs.Prelude.{ℕ, ◌^◌};
-    ghost use Rattle.json5_de.specs.Rows.{natural_row};
+    ghost use Rattle.json5_de.specs.TokenKinds.{natural_kind};
 
     ghost Content = { ℕ };
 
     ghost content = { λ n. n };
 
-    ghost kind = { natural_row (2 ^ 16) };
+    ghost kind = { natural_kind (2 ^ 16) };
 
     fn from_text(alloc: Global, text: &str) -> Result<u16> {
         from_str(alloc, text)
@@ -243,13 +243,13 @@ impl FromText for u16 {
 
 impl FromText for u32 {
     ghost use Rattle.std.specs.Prelude.{ℕ, ◌^◌};
-    ghost use Rattle.json5_de.specs.Rows.{natural_row};
+    ghost use Rattle.json5_de.specs.TokenKinds.{natural_kind};
 
     ghost Content = { ℕ };
 
     ghost content = { λ n. n };
 
-    ghost kind = { natural_row (2 ^ 32) };
+    ghost kind = { natural_kind (2 ^ 32) };
 
     fn from_text(alloc: Global, text: &str) -> Result<u32> {
         from_str(alloc, text)
@@ -258,13 +258,13 @@ impl FromText for u32 {
 
 impl FromText for u64 {
     ghost use Rattle.std.specs.Prelude.{ℕ, ◌^◌};
-    ghost use Rattle.json5_de.specs.Rows.{natural_row};
+    ghost use Rattle.json5_de.specs.TokenKinds.{natural_kind};
 
     ghost Content = { ℕ };
 
     ghost content = { λ n. n };
 
-    ghost kind = { natural_row (2 ^ 64) };
+    ghost kind = { natural_kind (2 ^ 64) };
 
     fn from_text(alloc: Global, text: &str) -> Result<u64> {
         from_str(alloc, text)
@@ -273,13 +273,13 @@ impl FromText for u64 {
 
 impl FromText for u128 {
     ghost use Rattle.std.specs.Prelude.{ℕ, ◌^◌};
-    ghost use Rattle.json5_de.specs.Rows.{natural_row};
+    ghost use Rattle.json5_de.specs.TokenKinds.{natural_kind};
 
     ghost Content = { ℕ };
 
     ghost content = { λ n. n };
 
-    ghost kind = { natural_row (2 ^ 128) };
+    ghost kind = { natural_kind (2 ^ 128) };
 
     fn from_text(alloc: Global, text: &str) -> Result<u128> {
         from_str(alloc, text)
@@ -288,13 +288,13 @@ impl FromText for u128 {
 
 impl FromText for i8 {
     ghost use Rattle.std.specs.Prelude.{ℤ, ◌^◌};
-    ghost use Rattle.json5_de.specs.Rows.{integer_row};
+    ghost use Rattle.json5_de.specs.TokenKinds.{integer_kind};
 
     ghost Content = { ℤ };
 
     ghost content = { λ n. n };
 
-    ghost kind = { integer_row (2 ^ 7) };
+    ghost kind = { integer_kind (2 ^ 7) };
 
     fn from_text(alloc: Global, text: &str) -> Result<i8> {
         from_str(alloc, text)
@@ -303,13 +303,13 @@ impl FromText for i8 {
 
 impl FromText for i16 {
     ghost use Rattle.std.specs.Prelude.{ℤ, ◌^◌};
-    ghost use Rattle.json5_de.specs.Rows.{integer_row};
+    ghost use Rattle.json5_de.specs.TokenKinds.{integer_kind};
 
     ghost Content = { ℤ };
 
     ghost content = { λ n. n };
 
-    ghost kind = { integer_row (2 ^ 15) };
+    ghost kind = { integer_kind (2 ^ 15) };
 
     fn from_text(alloc: Global, text: &str) -> Result<i16> {
         from_str(alloc, text)
@@ -318,13 +318,13 @@ impl FromText for i16 {
 
 impl FromText for i32 {
     ghost use Rattle.std.specs.Prelude.{ℤ, ◌^◌};
-    ghost use Rattle.json5_de.specs.Rows.{integer_row};
+    ghost use Rattle.json5_de.specs.TokenKinds.{integer_kind};
 
     ghost Content = { ℤ };
 
     ghost content = { λ n. n };
 
-    ghost kind = { integer_row (2 ^ 31) };
+    ghost kind = { integer_kind (2 ^ 31) };
 
     fn from_text(alloc: Global, text: &str) -> Result<i32> {
         from_str(alloc, text)
@@ -333,13 +333,13 @@ impl FromText for i32 {
 
 impl FromText for i64 {
     ghost use Rattle.std.specs.Prelude.{ℤ, ◌^◌};
-    ghost use Rattle.json5_de.specs.Rows.{integer_row};
+    ghost use Rattle.json5_de.specs.TokenKinds.{integer_kind};
 
     ghost Content = { ℤ };
 
     ghost content = { λ n. n };
 
-    ghost kind = { integer_row (2 ^ 63) };
+    ghost kind = { integer_kind (2 ^ 63) };
 
     fn from_text(alloc: Global, text: &str) -> Result<i64> {
         from_str(alloc, text)
@@ -348,13 +348,13 @@ impl FromText for i64 {
 
 impl FromText for i128 {
     ghost use Rattle.std.specs.Prelude.{ℤ, ◌^◌};
-    ghost use Rattle.json5_de.specs.Rows.{integer_row};
+    ghost use Rattle.json5_de.specs.TokenKinds.{integer_kind};
 
     ghost Content = { ℤ };
 
     ghost content = { λ n. n };
 
-    ghost kind = { integer_row (2 ^ 127) };
+    ghost kind = { integer_kind (2 ^ 127) };
 
     fn from_text(alloc: Global, text: &str) -> Result<i128> {
         from_str(alloc, text)
@@ -363,13 +363,13 @@ impl FromText for i128 {
 
 impl FromText for Decimal {
     ghost use Rattle.json5_grammar.specs.Numbers as numbers;
-    ghost use Rattle.json5_de.specs.Rows.{decimal_row};
+    ghost use Rattle.json5_de.specs.TokenKinds.{decimal_kind};
 
     ghost Content = { numbers.Decimal };
 
     ghost content = { λ d. d };
 
-    ghost kind = { decimal_row };
+    ghost kind = { decimal_kind };
 
     fn from_text(alloc: Global, text: &str) -> Result<Decimal> {
         from_str(alloc, text)

@@ -8,9 +8,9 @@ ghost use Rattle.json5_de.specs.AnyTree.{TellsTreesApart};
 ghost use Rattle.json5_de.specs.Convert.{every_datum, unit_of, bool_of, unsigned_below, signed_below, decimal_of};
 ghost use Rattle.json5_de.specs.Law.{OneAnswer};
 ghost use Rattle.json5_de.specs.Keys.{OneKeyAnswer};
-ghost use Rattle.json5_de.specs.KeyRows.{ConvertsDocuments};
+ghost use Rattle.json5_de.specs.KeyKinds.{ConvertsDocuments};
 ghost use Rattle.json5_de.specs.Maps.{HoldsInOrder, HoldsInTurn, HoldsAtKeys};
-ghost use Rattle.json5_de.specs.Rows.{TellsApart, no_tree, null_row, bool_row, natural_row, integer_row, decimal_row, string_row, char_row, plain_row, variant_row, cow_row, bytes_row, text_bytes, slice_bytes};
+ghost use Rattle.json5_de.specs.TokenKinds.{TellsApart, no_tree, null_kind, bool_kind, natural_kind, integer_kind, decimal_kind, string_kind, char_kind, plain_kind, variant_kind, cow_kind, bytes_kind, text_bytes, slice_bytes};
 
 use crate::de::Deserialize;
 use crate::key::DeserializeKey;
@@ -21,17 +21,17 @@ use std::hash::Hash;
 
 /// The codes at the end of the text and at another character, as they follow from the law of a read, for each kind of value.
 pub fn value_codes()
-    ensures null { TellsApart null_row (λ n. n) }
-    ensures boolean { TellsApart bool_row (λ b. b) }
-    ensures natural { (bound : ℕ) → TellsApart (natural_row bound) (λ n. n) }
-    ensures integer { (bound : ℕ) → TellsApart (integer_row bound) (λ n. n) }
-    ensures decimal { TellsApart decimal_row (λ d. d) }
-    ensures string { TellsApart string_row text_bytes }
-    ensures character { TellsApart char_row (λ c. c) }
-    ensures plain { TellsApart plain_row slice_bytes }
-    ensures variant { (names : List (List ℕ)) → TellsApart (variant_row names) (λ n. n) }
-    ensures cow { TellsApart cow_row (λ t. (cow_bytes t, is_borrowed t)) }
-    ensures bytes { TellsApart bytes_row bytes_of }
+    ensures null { TellsApart null_kind (λ n. n) }
+    ensures boolean { TellsApart bool_kind (λ b. b) }
+    ensures natural { (bound : ℕ) → TellsApart (natural_kind bound) (λ n. n) }
+    ensures integer { (bound : ℕ) → TellsApart (integer_kind bound) (λ n. n) }
+    ensures decimal { TellsApart decimal_kind (λ d. d) }
+    ensures string { TellsApart string_kind text_bytes }
+    ensures character { TellsApart char_kind (λ c. c) }
+    ensures plain { TellsApart plain_kind slice_bytes }
+    ensures variant { (names : List (List ℕ)) → TellsApart (variant_kind names) (λ n. n) }
+    ensures cow { TellsApart cow_kind (λ t. (cow_bytes t, is_borrowed t)) }
+    ensures bytes { TellsApart bytes_kind bytes_of }
     ensures any { TellsTreesApart value_of every_datum no_tree }
 {}
 

@@ -50,10 +50,10 @@ pub struct MapAccess<'a, I: Input> {
 
 /// Dropped before its end, it leaves the reader blocked.
 impl<I: Input> Drop for MapAccess<'_, I> {
-    ghost use Rattle.json5_de.specs.Lending.{held_by_map};
+    ghost use Rattle.json5_de.specs.Lending.{reader_of_map};
 
     fn drop(self)
-        ensures { self.exit.0.now ≡ held_by_map self.entry }
+        ensures { self.exit.0.now ≡ reader_of_map self.entry }
     {
         let MapAccess {
             de: _,
@@ -124,9 +124,9 @@ impl<I: Input> Deserializer<I> {
     fn colon_slowly(&mut self) -> Result<()>
         ensures { PassesColon self.old self.new result }
     {
-        self.begin()?;
+        self.skip_blank()?;
         if !self.eat(':') {
-            return Err(self.unexpected(ErrorCode::EofParsingObject, ErrorCode::ExpectedColon));
+            return Err(self.fail_unexpected(ErrorCode::EofParsingObject, ErrorCode::ExpectedColon));
         }
         Ok(())
     }
@@ -144,7 +144,7 @@ impl<I: Input> Deserializer<I> {
 }
 
 impl<'a, I: Input> MapAccess<'a, I> {
-    ghost use Rattle.json5_de.specs.Lending.{seen_map, KeyPending, NoKeyPending, map_brace, SettlesMap, ReadsNextKey, ReadsNextValue};
+    ghost use Rattle.json5_de.specs.Lending.{map_state_of, KeyPending, NoKeyPending, map_brace, SettlesMap, ReadsNextKey, ReadsNextValue};
 
     /// Blocks the reader again after a call of its own, and remembers a refusal. A fault without a position gets that of the
     /// opening brace.
@@ -206,7 +206,7 @@ impl<'a, I: Input> MapAccess<'a, I> {
 
     /// Says whether a key was read whose value wasn't. A call that is refused doesn't change it.
     pub fn key_pending(&self) -> bool
-        ensures { result ≡ (seen_map self.now).pending }
+        ensures { result ≡ (map_state_of self.now).pending }
     {
         self.stage.is_pending()
     }
@@ -219,7 +219,7 @@ impl<'a, I: Input> MapAccess<'a, I> {
     #[cold]
     #[inline(never)]
     pub fn place(&self, error: Error) -> Error
-        ensures { PlacedAtBracket (seen_map self.now).at error result }
+        ensures { PlacedAtBracket (map_state_of self.now).at error result }
     {
         self.de.place_at(self.start, error)
     }
@@ -227,7 +227,7 @@ impl<'a, I: Input> MapAccess<'a, I> {
     /// Returns the position of an offset in bytes, such as the `start` of a `Spanned` value: line and column, counted from 0.
     /// It is the position of the text's end where no character begins at the offset.
     pub fn position_of(&self, offset: usize) -> Position
-        ensures { Locates (seen_map self.now).at.reader.input offset result }
+        ensures { Locates (map_state_of self.now).at.reader.input offset result }
     {
         self.de.position_of(offset)
     }
@@ -247,7 +247,7 @@ impl<'a, I: Input> MapAccess<'a, I> {
     /// opening brace, and after the object's own brace come the faults of the variant's: see [`EnumAccess`](crate::EnumAccess).
     pub fn end(self) -> Result<()>
         requires no_key { NoKeyPending self }
-        ensures { EndsObject (map_brace self.entry) (seen_map self.entry) self.exit.0.now result }
+        ensures { EndsObject (map_brace self.entry) (map_state_of self.entry) self.exit.0.now result }
     {
         let MapAccess {
             de,
@@ -259,7 +259,7 @@ impl<'a, I: Input> MapAccess<'a, I> {
         de.set_failed(failed);
         let due = stage.is_comma_due();
         match brace {
-            None => de.close_last(BracketKind::Object, due),
+            None => de.close_or_fail(BracketKind::Object, due),
             Some(brace) => de.close_content(BracketKind::Object, due, brace),
         }
     }

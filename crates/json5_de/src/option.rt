@@ -2,7 +2,7 @@
 
 ghost use Rattle.json5_grammar.specs.declared.code.ErrorCode.TheVariants as codes;
 ghost use Rattle.json5_de.specs.Law.{ReadsValue};
-ghost use Rattle.json5_de.specs.Rows.{ReadsNull};
+ghost use Rattle.json5_de.specs.TokenKinds.{ReadsNull};
 ghost use Rattle.json5_de.specs.ConvertLists.{option_of, if_some};
 ghost use Rattle.json5_de.specs.Options.{option_free, RefusesOption, RefusesLive};
 ghost use Rattle.json5_de.specs.Faults.{EndsWith};
@@ -28,10 +28,10 @@ impl<I: Input> Deserializer<I> {
     /// - The faults of `T`; one without a position gets that of the value's first character.
     /// - The codes of every call: see [`Deserializer`].
     pub fn deserialize_option<T: Deserialize<I>>(&mut self) -> Result<Option<T>>
-        ensures reads { ReadsValue (if_some T.content) (option_of T.convert) (option_free T.free) (RefusesOption T.refuses) self.old self.new result }
+        ensures reads { ReadsValue (if_some T.content) (option_of T.convert) (option_free T.allocation_free) (RefusesOption T.refuses) self.old self.new result }
         ensures ends { EndsWith codes.EofParsingValue self.old result }
     {
-        self.begin()?;
+        self.skip_blank()?;
         let Some(next) = self.peek() else {
             return self.refuse(Error::new(ErrorCode::EofParsingValue));
         };
@@ -58,9 +58,9 @@ impl<I: Input> Deserializer<I> {
         &mut self,
         _name: &'static str,
     ) -> Result<T>
-        ensures { ReadsValue T.content T.convert T.free (RefusesLive T.refuses) self.old self.new result }
+        ensures { ReadsValue T.content T.convert T.allocation_free (RefusesLive T.refuses) self.old self.new result }
     {
-        self.live()?;
+        self.check_not_failed()?;
         match T::deserialize(self) {
             Ok(value) => Ok(value),
             Err(e) => self.refuse(e),
@@ -91,12 +91,12 @@ impl<I: Input, T: Deserialize<I>> Deserialize<I> for Option<T> {
 
     ghost convert = { option_of T.convert };
 
-    ghost free = { option_free T.free };
+    ghost allocation_free = { option_free T.allocation_free };
 
     ghost refuses = { RefusesOption T.refuses };
 
     fn deserialize(de: &mut Deserializer<I>) -> Result<Option<T>>
-        ensures { ReadsValue (if_some T.content) (option_of T.convert) (option_free T.free) (RefusesOption T.refuses) de.old de.new result }
+        ensures { ReadsValue (if_some T.content) (option_of T.convert) (option_free T.allocation_free) (RefusesOption T.refuses) de.old de.new result }
     {
         de.deserialize_option()
     }

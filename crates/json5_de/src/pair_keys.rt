@@ -62,17 +62,17 @@ impl<I: Input> Deserializer<I> {
     }
 
     /// Goes to the next key and says true, or to the closing brace and says false.
-    pub(crate) fn goes_to_key(&mut self, due: bool) -> Result<bool>
+    pub(crate) fn advance_to_key(&mut self, due: bool) -> Result<bool>
         ensures sound { IfOk result (λ more. GoesToKey due self.old self.new more) }
         ensures refused { IfErr result (RefusedBy (NoKey due) self.old) }
         ensures nowhere { OnErr result (self.old.failed ≡ false → NoPairGoes due self.old.unread) }
         ensures steady { Steady self.old self.new result }
     {
-        if !self.goes_on(BracketKind::Object, due)? {
+        if !self.advance_to_entry(BracketKind::Object, due)? {
             return Ok(false);
         }
         if !self.at_key() {
-            return Err(self.unexpected(ErrorCode::EofParsingObject, ErrorCode::ExpectedIdentifier));
+            return Err(self.fail_unexpected(ErrorCode::EofParsingObject, ErrorCode::ExpectedIdentifier));
         }
         Ok(true)
     }
@@ -92,7 +92,7 @@ impl<I: Input> Deserializer<I> {
     pub(crate) fn pair_key<K: DeserializeKey<I>>(&mut self, due: bool) -> Result<Option<K>>
         ensures { ReadsKeyOfPair K.content K.convert K.refuses due self.old self.new result }
     {
-        if !self.goes_to_key(due)? {
+        if !self.advance_to_key(due)? {
             return Ok(None);
         }
         let start = self.offset();

@@ -1,6 +1,6 @@
 //! Reading a value, to accept or refuse it.
 
-ghost use Rattle.json5_de.specs.Own.{ReadsExactly};
+ghost use Rattle.json5_de.specs.Refinement.{ReadsExactly};
 
 use crate::de::{Deserialize, Deserializer};
 use json5_text::error::Result;
@@ -17,7 +17,7 @@ use json5_text::input::Input;
 ///
 /// Those of `T::deserialize`.
 pub fn read<I: Input, T: Deserialize<I>>(de: &mut Deserializer<I>) -> Result<T>
-    ensures { ReadsExactly T.content T.convert T.free T.refuses de.old de.new result }
+    ensures { ReadsExactly T.content T.convert T.allocation_free T.refuses de.old de.new result }
 {
     T::deserialize(de)
 }

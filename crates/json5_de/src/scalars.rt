@@ -2,8 +2,8 @@
 
 ghost use Rattle.std.specs.Prelude.{◌+◌, ◌^◌, ◌≤ℤ◌, pos, nat_abs, Some, IfOk};
 ghost use Rattle.json5_de.specs.Convert.{IsUpTo, IsWithin};
-ghost use Rattle.json5_de.specs.Rows.{ReadsAs, ReadsNull, bool_row, whole_row, natural_row, integer_row, decimal_row};
-ghost use Rattle.json5_de.specs.Steps.{WholeAt};
+ghost use Rattle.json5_de.specs.TokenKinds.{ReadsAs, ReadsNull, bool_kind, whole_kind, natural_kind, integer_kind, decimal_kind};
+ghost use Rattle.json5_de.specs.ReaderSteps.{WholeAt};
 
 use crate::de::Deserializer;
 use crate::decimals::same_decimal;
@@ -27,7 +27,7 @@ impl<I: Input> Deserializer<I> {
     pub fn deserialize_unit(&mut self) -> Result<()>
         ensures { ReadsNull self.old self.new result }
     {
-        self.begin()?;
+        self.skip_blank()?;
         self.literal(Literal::Null)
     }
 
@@ -39,9 +39,9 @@ impl<I: Input> Deserializer<I> {
     /// - `EofParsingBool`, without a position, where the text ends before the word does.
     /// - The codes of every call: see [`Deserializer`].
     pub fn deserialize_bool(&mut self) -> Result<bool>
-        ensures { ReadsAs bool_row (λ b. b) self.old self.new result }
+        ensures { ReadsAs bool_kind (λ b. b) self.old self.new result }
     {
-        self.begin()?;
+        self.skip_blank()?;
         if self.peek() == Some('f') {
             self.literal(Literal::False)?;
             return Ok(false);
@@ -61,9 +61,9 @@ impl<I: Input> Deserializer<I> {
     ///
     /// As every call that reads a number: see [`Deserializer`].
     pub fn deserialize_decimal(&mut self) -> Result<Decimal>
-        ensures { ReadsAs decimal_row (λ d. d) self.old self.new result }
+        ensures { ReadsAs decimal_kind (λ d. d) self.old self.new result }
     {
-        self.begin()?;
+        self.skip_blank()?;
         let whole = match self.number()? {
             Number::Decimal(decimal) => return Ok(decimal),
             Number::Whole(whole) => whole,
@@ -76,10 +76,10 @@ impl<I: Input> Deserializer<I> {
 
     /// Reads a whole number, and returns the count of bytes before it too.
     fn whole(&mut self, name: &str) -> Result<(usize, Whole)>
-        ensures reads { ReadsAs (whole_row (λ z. Some z)) (λ read. read.1) self.old self.new result }
+        ensures reads { ReadsAs (whole_kind (λ z. Some z)) (λ read. read.1) self.old self.new result }
         ensures place { IfOk result (λ read. WholeAt self.old self.new read.0 read.1) }
     {
-        self.begin()?;
+        self.skip_blank()?;
         let start = self.offset();
         let Number::Whole(whole) = self.number()? else {
             return self.mismatch(start, &Mismatch::NotWhole(name));
@@ -90,7 +90,7 @@ impl<I: Input> Deserializer<I> {
     /// Reads a whole number from 0 to `max`.
     #[inline(never)]
     fn natural(&mut self, max: u128, name: &str) -> Result<u128>
-        ensures reads { ReadsAs (natural_row (max + 1)) (λ n. n) self.old self.new result }
+        ensures reads { ReadsAs (natural_kind (max + 1)) (λ n. n) self.old self.new result }
         ensures fits { IfOk result (IsUpTo max) }
     {
         let (start, whole) = self.whole(name)?;
@@ -104,7 +104,7 @@ impl<I: Input> Deserializer<I> {
     #[inline(never)]
     fn signed_integer(&mut self, max: i128, name: &str) -> Result<i128>
         requires { pos 0 ≤ℤ max }
-        ensures reads { ReadsAs (integer_row (nat_abs max + 1)) (λ n. n) self.old self.new result }
+        ensures reads { ReadsAs (integer_kind (nat_abs max + 1)) (λ n. n) self.old self.new result }
         ensures fits { IfOk result (IsWithin max) }
     {
         let (start, whole) = self.whole(name)?;
@@ -126,7 +126,7 @@ impl<I: Input> Deserializer<I> {
     /// As every call that reads a whole number: see [`Deserializer`].
     #[inline(always)]
     pub fn deserialize_u8(&mut self) -> Result<u8>
-        ensures { ReadsAs (natural_row (2 ^ 8)) (λ n. n) self.old self.new result }
+        ensures { ReadsAs (natural_kind (2 ^ 8)) (λ n. n) self.old self.new result }
     {
         if let Some(natural) = self.short_natural(0xff) {
             return Ok(natural as u8);
@@ -144,7 +144,7 @@ impl<I: Input> Deserializer<I> {
     /// As every call that reads a whole number: see [`Deserializer`].
     #[inline(always)]
     pub fn deserialize_u16(&mut self) -> Result<u16>
-        ensures { ReadsAs (natural_row (2 ^ 16)) (λ n. n) self.old self.new result }
+        ensures { ReadsAs (natural_kind (2 ^ 16)) (λ n. n) self.old self.new result }
     {
         if let Some(natural) = self.short_natural(0xffff) {
             return Ok(natural as u16);
@@ -162,7 +162,7 @@ impl<I: Input> Deserializer<I> {
     /// As every call that reads a whole number: see [`Deserializer`].
     #[inline(always)]
     pub fn deserialize_u32(&mut self) -> Result<u32>
-        ensures { ReadsAs (natural_row (2 ^ 32)) (λ n. n) self.old self.new result }
+        ensures { ReadsAs (natural_kind (2 ^ 32)) (λ n. n) self.old self.new result }
     {
         if let Some(natural) = self.short_natural(0xffffffff) {
             return Ok(natural as u32);
@@ -180,7 +180,7 @@ impl<I: Input> Deserializer<I> {
     /// As every call that reads a whole number: see [`Deserializer`].
     #[inline(always)]
     pub fn deserialize_u64(&mut self) -> Result<u64>
-        ensures { ReadsAs (natural_row (2 ^ 64)) (λ n. n) self.old self.new result }
+        ensures { ReadsAs (natural_kind (2 ^ 64)) (λ n. n) self.old self.new result }
     {
         if let Some(natural) = self.short_natural(0xffffffffffffffff) {
             return Ok(natural);
@@ -197,7 +197,7 @@ impl<I: Input> Deserializer<I> {
     ///
     /// As every call that reads a whole number: see [`Deserializer`].
     pub fn deserialize_u128(&mut self) -> Result<u128>
-        ensures { ReadsAs (natural_row (2 ^ 128)) (λ n. n) self.old self.new result }
+        ensures { ReadsAs (natural_kind (2 ^ 128)) (λ n. n) self.old self.new result }
     {
         self.natural(u128::MAX, "u128")
     }
@@ -209,7 +209,7 @@ impl<I: Input> Deserializer<I> {
     /// As every call that reads a whole number: see [`Deserializer`].
     #[inline(always)]
     pub fn deserialize_i8(&mut self) -> Result<i8>
-        ensures { ReadsAs (integer_row (2 ^ 7)) (λ n. n) self.old self.new result }
+        ensures { ReadsAs (integer_kind (2 ^ 7)) (λ n. n) self.old self.new result }
     {
         if let Some(integer) = self.short_integer(0x7f) {
             return Ok(integer as i8);
@@ -227,7 +227,7 @@ impl<I: Input> Deserializer<I> {
     /// As every call that reads a whole number: see [`Deserializer`].
     #[inline(always)]
     pub fn deserialize_i16(&mut self) -> Result<i16>
-        ensures { ReadsAs (integer_row (2 ^ 15)) (λ n. n) self.old self.new result }
+        ensures { ReadsAs (integer_kind (2 ^ 15)) (λ n. n) self.old self.new result }
     {
         if let Some(integer) = self.short_integer(0x7fff) {
             return Ok(integer as i16);
@@ -245,7 +245,7 @@ impl<I: Input> Deserializer<I> {
     /// As every call that reads a whole number: see [`Deserializer`].
     #[inline(always)]
     pub fn deserialize_i32(&mut self) -> Result<i32>
-        ensures { ReadsAs (integer_row (2 ^ 31)) (λ n. n) self.old self.new result }
+        ensures { ReadsAs (integer_kind (2 ^ 31)) (λ n. n) self.old self.new result }
     {
         if let Some(integer) = self.short_integer(0x7fffffff) {
             return Ok(integer as i32);
@@ -263,7 +263,7 @@ impl<I: Input> Deserializer<I> {
     /// As every call that reads a whole number: see [`Deserializer`].
     #[inline(always)]
     pub fn deserialize_i64(&mut self) -> Result<i64>
-        ensures { ReadsAs (integer_row (2 ^ 63)) (λ n. n) self.old self.new result }
+        ensures { ReadsAs (integer_kind (2 ^ 63)) (λ n. n) self.old self.new result }
     {
         if let Some(integer) = self.short_integer(0x7fffffffffffffff) {
             return Ok(integer as i64);
@@ -280,7 +280,7 @@ impl<I: Input> Deserializer<I> {
     ///
     /// As every call that reads a whole number: see [`Deserializer`].
     pub fn deserialize_i128(&mut self) -> Result<i128>
-        ensures { ReadsAs (integer_row (2 ^ 127)) (λ n. n) self.old self.new result }
+        ensures { ReadsAs (integer_kind (2 ^ 127)) (λ n. n) self.old self.new result }
     {
         self.signed_integer(i128::MAX, "i128")
     }

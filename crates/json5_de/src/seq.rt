@@ -51,10 +51,10 @@ pub struct SeqAccess<'a, I: Input> {
 
 /// Dropped before its end, it leaves the reader blocked.
 impl<I: Input> Drop for SeqAccess<'_, I> {
-    ghost use Rattle.json5_de.specs.Lending.{held};
+    ghost use Rattle.json5_de.specs.Lending.{reader_of_access};
 
     fn drop(self)
-        ensures { self.exit.0.now ≡ held self.entry }
+        ensures { self.exit.0.now ≡ reader_of_access self.entry }
     {
         let SeqAccess {
             de: _,
@@ -78,7 +78,7 @@ impl<I: Input> Deserializer<I> {
         ensures cause { IfErr result (λ e. RefusesElement T.refuses due self.old e self.new) }
         ensures steady { Steady self.old self.new result }
     {
-        if self.goes_on(BracketKind::Array, due)? {
+        if self.advance_to_entry(BracketKind::Array, due)? {
             Ok(Some(T::deserialize(self)?))
         } else {
             Ok(None)
@@ -146,7 +146,7 @@ impl<I: Input> Deserializer<I> {
 }
 
 impl<'a, I: Input> SeqAccess<'a, I> {
-    ghost use Rattle.json5_de.specs.Lending.{seen, brace_of, KeepsAccess, ReadsNext, Settles};
+    ghost use Rattle.json5_de.specs.Lending.{state_of, brace_of, KeepsAccess, ReadsNext, Settles};
 
     /// Blocks the reader again after a call of its own, and remembers a refusal. A fault without a position gets that of the
     /// opening bracket.
@@ -194,10 +194,10 @@ impl<'a, I: Input> SeqAccess<'a, I> {
         size: usize,
     ) -> Result<T>
         ensures access { KeepsAccess self.old self.new }
-        ensures read { IfOk result (λ v. ReadsMore T.content T.convert (seen self.old) (seen self.new) (Some v)) }
-        ensures left { (ts : Trees) (r : List ℕ) → ElementsLeft ts r (seen self.old) → LeavesRequired T.content T.convert ts r (seen self.new) result }
-        ensures refused { IfErr result (λ e. (seen self.old).reader.failed ≡ false → RefusesRequired T.refuses (seen self.old) e) }
-        ensures unprompted { Unprompted (seen self.old).reader result }
+        ensures read { IfOk result (λ v. ReadsMore T.content T.convert (state_of self.old) (state_of self.new) (Some v)) }
+        ensures left { (ts : Trees) (r : List ℕ) → ElementsLeft ts r (state_of self.old) → LeavesRequired T.content T.convert ts r (state_of self.new) result }
+        ensures refused { IfErr result (λ e. (state_of self.old).reader.failed ≡ false → RefusesRequired T.refuses (state_of self.old) e) }
+        ensures unprompted { Unprompted (state_of self.old).reader result }
     {
         match self.next_element::<T>()? {
             Some(item) => Ok(item),
@@ -207,7 +207,7 @@ impl<'a, I: Input> SeqAccess<'a, I> {
 
     /// Makes the fault of a list that ended too early, at its opening bracket.
     fn too_short(&self, alloc: Global, length: usize, expected: &str, size: usize) -> Error
-        ensures { IsTooShort (seen self.now) result }
+        ensures { IsTooShort (state_of self.now) result }
     {
         let message = format_args!("invalid length {length}, expected {expected} {size}");
         match Error::custom(alloc, message) {
@@ -226,7 +226,7 @@ impl<'a, I: Input> SeqAccess<'a, I> {
     #[cold]
     #[inline(never)]
     pub fn place(&self, error: Error) -> Error
-        ensures { PlacedAtBracket (seen self.now) error result }
+        ensures { PlacedAtBracket (state_of self.now) error result }
     {
         self.de.place_at(self.start, error)
     }
@@ -234,7 +234,7 @@ impl<'a, I: Input> SeqAccess<'a, I> {
     /// Returns the position of an offset in bytes, such as the `start` of a `Spanned` element: line and column, counted from 0.
     /// It is the position of the text's end where no character begins at the offset.
     pub fn position_of(&self, offset: usize) -> Position
-        ensures { Locates (seen self.now).reader.input offset result }
+        ensures { Locates (state_of self.now).reader.input offset result }
     {
         self.de.position_of(offset)
     }
@@ -253,7 +253,7 @@ impl<'a, I: Input> SeqAccess<'a, I> {
     /// `EofParsingComment` and `Failed` have no position either. In a variant a fault without one gets that of the variant's
     /// opening brace, and after the bracket come the faults of the variant's `}`: see [`EnumAccess`](crate::EnumAccess).
     pub fn end(self) -> Result<()>
-        ensures { EndsArray (brace_of self.entry) (seen self.entry) self.exit.0.now result }
+        ensures { EndsArray (brace_of self.entry) (state_of self.entry) self.exit.0.now result }
     {
         let SeqAccess {
             de,
@@ -265,7 +265,7 @@ impl<'a, I: Input> SeqAccess<'a, I> {
         de.set_failed(failed);
         let due = stage.is_comma_due();
         match brace {
-            None => de.close_last(BracketKind::Array, due),
+            None => de.close_or_fail(BracketKind::Array, due),
             Some(brace) => de.close_content(BracketKind::Array, due, brace),
         }
     }

@@ -4,10 +4,10 @@
 ghost use Rattle.std.specs.Prelude.{◌+◌, ◌≤ℤ◌, pos, nat_abs, string_bytes, IfSome};
 ghost use Rattle.json5_value.specs.Brackets.{brackets_of};
 ghost use Rattle.json5_de.specs.Convert.{IsUpTo, IsWithin};
-ghost use Rattle.json5_de.specs.Rows.{natural_row, integer_row};
+ghost use Rattle.json5_de.specs.TokenKinds.{natural_kind, integer_kind};
 ghost use Rattle.json5_text.specs.Cows.{cow_bytes, is_borrowed};
 ghost use Rattle.json5_text.specs.ShortTexts.{IsTextAt};
-ghost use Rattle.json5_de.specs.KeyRows.{ReadsKeyAs, plain_key, cow_key, string_key};
+ghost use Rattle.json5_de.specs.KeyKinds.{ReadsKeyAs, plain_key, cow_key, string_key};
 ghost use Rattle.json5_de.specs.Short.{ReadsShort, StepsShort, ReadsShortText, ReadsShortKey, ReadsPlainText, ReadsPlainKey, PassesShortColon, OwnsTextAt};
 
 use crate::de::Deserializer;
@@ -23,7 +23,7 @@ impl<I: Input> Deserializer<I> {
     /// Reads a whole number of few digits from 0 to `max`, or nothing.
     #[inline(always)]
     pub(crate) fn short_natural(&mut self, max: u64) -> Option<u64>
-        ensures reads { ReadsShort (natural_row (max + 1)) (λ n. n) self.old self.new result }
+        ensures reads { ReadsShort (natural_kind (max + 1)) (λ n. n) self.old self.new result }
         ensures fits { IfSome result (IsUpTo max) }
     {
         if self.failed {
@@ -37,7 +37,7 @@ impl<I: Input> Deserializer<I> {
     #[inline(always)]
     pub(crate) fn short_integer(&mut self, max: i128) -> Option<i128>
         requires { pos 0 ≤ℤ max }
-        ensures reads { ReadsShort (integer_row (nat_abs max + 1)) (λ n. n) self.old self.new result }
+        ensures reads { ReadsShort (integer_kind (nat_abs max + 1)) (λ n. n) self.old self.new result }
         ensures fits { IfSome result (IsWithin max) }
     {
         if self.failed {

@@ -1,7 +1,7 @@
 //! Values and where they are in the text.
 
 ghost use Rattle.std.specs.Prelude.{IfOk};
-ghost use Rattle.json5_de.specs.Own.{ReadsExactly};
+ghost use Rattle.json5_de.specs.Refinement.{ReadsExactly};
 ghost use Rattle.json5_de.specs.Spans.{SpansValue, RefusesSpanned};
 
 use crate::de::{Deserialize, Deserializer};
@@ -39,15 +39,15 @@ impl<I: Input, T: Deserialize<I>> Deserialize<I> for Spanned<T> {
 
     ghost convert = { T.convert };
 
-    ghost free = { T.free };
+    ghost allocation_free = { T.allocation_free };
 
     ghost refuses = { RefusesSpanned T.refuses };
 
     fn deserialize(de: &mut Deserializer<I>) -> Result<Spanned<T>>
-        ensures reads { ReadsExactly (λ s. T.content s.value) T.convert T.free (RefusesSpanned T.refuses) de.old de.new result }
+        ensures reads { ReadsExactly (λ s. T.content s.value) T.convert T.allocation_free (RefusesSpanned T.refuses) de.old de.new result }
         ensures spans { IfOk result (λ s. SpansValue de.old s.start s.end de.new) }
     {
-        de.begin()?;
+        de.skip_blank()?;
         let start = de.offset();
         let value = T::deserialize(de)?;
         let end = de.offset();

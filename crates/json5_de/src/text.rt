@@ -27,7 +27,7 @@ use std::alloc::Global;
 pub fn from_str<'de, T: Deserialize<&'de str>>(alloc: Global, input: &'de str) -> Result<T>
     ensures sound { IfOk result (λ v. (t : Tree) × Doc max_depth (chars input.now) t × (T.convert t ≡ Some (T.content v))) }
     ensures complete { ReadsDocument T.content T.convert max_depth (chars input.now) result }
-    ensures no_memory { (t : Tree) (c : T.Content) → Doc max_depth (chars input.now) t → T.convert t ≡ Some c → T.free t ≡ true → IsOk result }
+    ensures no_memory { (t : Tree) (c : T.Content) → Doc max_depth (chars input.now) t → T.convert t ≡ Some c → T.allocation_free t ≡ true → IsOk result }
     ensures refused { IfErr result (RefusesReading T.convert T.refuses max_depth (chars input.now)) }
     ensures after_value { IfErr result (BlamesRest T.convert max_depth (chars input.now)) }
     ensures unprompted { IfErr result IsUnprompted }
@@ -57,7 +57,7 @@ pub fn from_str_within<'de, T: Deserialize<&'de str>>(
 ) -> Result<T>
     ensures sound { IfOk result (λ v. (t : Tree) × Doc limit (chars input.now) t × (T.convert t ≡ Some (T.content v))) }
     ensures complete { ReadsDocument T.content T.convert limit (chars input.now) result }
-    ensures no_memory { (t : Tree) (c : T.Content) → Doc limit (chars input.now) t → T.convert t ≡ Some c → T.free t ≡ true → IsOk result }
+    ensures no_memory { (t : Tree) (c : T.Content) → Doc limit (chars input.now) t → T.convert t ≡ Some c → T.allocation_free t ≡ true → IsOk result }
     ensures refused { IfErr result (RefusesReading T.convert T.refuses limit (chars input.now)) }
     ensures after_value { IfErr result (BlamesRest T.convert limit (chars input.now)) }
     ensures unprompted { IfErr result IsUnprompted }

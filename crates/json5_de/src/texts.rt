@@ -5,7 +5,7 @@ ghost use Rattle.std.specs.Str.{chars};
 ghost use Rattle.json5_text.specs.Cows.{cow_bytes, is_borrowed};
 ghost use Rattle.json5_de.specs.Convert.{one_character};
 ghost use Rattle.json5_de.specs.FoundTexts.{Judges};
-ghost use Rattle.json5_de.specs.Rows.{ReadsAs, string_row, char_row, plain_row, cow_row};
+ghost use Rattle.json5_de.specs.TokenKinds.{ReadsAs, string_kind, char_kind, plain_kind, cow_kind};
 
 use crate::de::Deserializer;
 use crate::found_text::FoundText;
@@ -34,7 +34,7 @@ impl<I: Input> Deserializer<I> {
     /// As every call that reads a string: see [`Deserializer`].
     #[inline(always)]
     pub fn deserialize_string(&mut self) -> Result<String>
-        ensures { ReadsAs string_row string_bytes self.old self.new result }
+        ensures { ReadsAs string_kind string_bytes self.old self.new result }
     {
         match self.short_string() {
             Some(span) => self.own_text(span),
@@ -45,9 +45,9 @@ impl<I: Input> Deserializer<I> {
     /// The same for any text.
     #[inline(never)]
     fn string_slowly(&mut self) -> Result<String>
-        ensures { ReadsAs string_row string_bytes self.old self.new result }
+        ensures { ReadsAs string_kind string_bytes self.old self.new result }
     {
-        self.begin()?;
+        self.skip_blank()?;
         self.string_owned()
     }
 
@@ -62,7 +62,7 @@ impl<I: Input> Deserializer<I> {
     /// - A custom fault at the opening quote where the string has no character or several.
     /// - The codes of every call that reads a string: see [`Deserializer`].
     pub fn deserialize_char(&mut self) -> Result<char>
-        ensures { ReadsAs char_row (λ c. c) self.old self.new result }
+        ensures { ReadsAs char_kind (λ c. c) self.old self.new result }
     {
         let string = self.found_string()?;
         self.character_of(&string)
@@ -95,7 +95,7 @@ impl<'de, I: Borrows<'de>> Deserializer<I> {
     /// As every call that reads a string: see [`Deserializer`].
     #[inline(always)]
     pub fn deserialize_identifier(&mut self) -> Result<CowStr<'de>>
-        ensures { ReadsAs cow_row (λ t. (cow_bytes t, is_borrowed t)) self.old self.new result }
+        ensures { ReadsAs cow_kind (λ t. (cow_bytes t, is_borrowed t)) self.old self.new result }
     {
         match self.short_str() {
             Some(text) => Ok(CowStr::Borrowed(text)),
@@ -106,9 +106,9 @@ impl<'de, I: Borrows<'de>> Deserializer<I> {
     /// The same for any text.
     #[inline(never)]
     fn identifier_slowly(&mut self) -> Result<CowStr<'de>>
-        ensures { ReadsAs cow_row (λ t. (cow_bytes t, is_borrowed t)) self.old self.new result }
+        ensures { ReadsAs cow_kind (λ t. (cow_bytes t, is_borrowed t)) self.old self.new result }
     {
-        self.begin()?;
+        self.skip_blank()?;
         self.text()
     }
 
@@ -125,7 +125,7 @@ impl<'de, I: Borrows<'de>> Deserializer<I> {
     /// - The codes of every call that reads a string: see [`Deserializer`].
     #[inline(always)]
     pub fn deserialize_str(&mut self) -> Result<&'de str>
-        ensures { ReadsAs plain_row (λ t. t.now) self.old self.new result }
+        ensures { ReadsAs plain_kind (λ t. t.now) self.old self.new result }
     {
         match self.short_str() {
             Some(text) => Ok(text),
@@ -136,9 +136,9 @@ impl<'de, I: Borrows<'de>> Deserializer<I> {
     /// The same for any text.
     #[inline(never)]
     fn str_slowly(&mut self) -> Result<&'de str>
-        ensures { ReadsAs plain_row (λ t. t.now) self.old self.new result }
+        ensures { ReadsAs plain_kind (λ t. t.now) self.old self.new result }
     {
-        self.begin()?;
+        self.skip_blank()?;
         let start = self.offset();
         match self.text()? {
             CowStr::Borrowed(text) => Ok(text),

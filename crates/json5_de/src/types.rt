@@ -4,7 +4,7 @@ ghost use Rattle.std.specs.Prelude.{string_bytes};
 ghost use Rattle.json5_text.specs.Bytes.{bytes_of};
 ghost use Rattle.json5_text.specs.Cows.{cow_bytes, is_borrowed};
 ghost use Rattle.json5_text.specs.ValueViews.{value_of};
-ghost use Rattle.json5_de.specs.Rows.{ReadsAs, null_row, bool_row, decimal_row, string_row, char_row, plain_row, cow_row, bytes_row};
+ghost use Rattle.json5_de.specs.TokenKinds.{ReadsAs, null_kind, bool_kind, decimal_kind, string_kind, char_kind, plain_kind, cow_kind, bytes_kind};
 
 use crate::de::{Deserialize, Deserializer};
 use json5_text::byte_buf::ByteBuf;
@@ -17,7 +17,7 @@ use json5_text::value::Value;
 /// Reads `null`, as `deserialize_unit`.
 impl<I: Input> Deserialize<I> for () {
     ghost use Rattle.json5_de.specs.Convert.{unit_of};
-    ghost use Rattle.json5_de.specs.Rows.{null_row, every_tree, RefusedAs};
+    ghost use Rattle.json5_de.specs.TokenKinds.{null_kind, every_tree, RefusedAs};
 
     ghost Content = { Unit {0} };
 
@@ -25,12 +25,12 @@ impl<I: Input> Deserialize<I> for () {
 
     ghost convert = { unit_of };
 
-    ghost free = { every_tree };
+    ghost allocation_free = { every_tree };
 
-    ghost refuses = { RefusedAs null_row };
+    ghost refuses = { RefusedAs null_kind };
 
     fn deserialize(de: &mut Deserializer<I>) -> Result<()>
-        ensures { ReadsAs null_row (λ _. tt) de.old de.new result }
+        ensures { ReadsAs null_kind (λ _. tt) de.old de.new result }
     {
         de.deserialize_unit()
     }
@@ -40,7 +40,7 @@ impl<I: Input> Deserialize<I> for () {
 impl<I: Input> Deserialize<I> for bool {
     ghost use Rattle.std.specs.Prelude.{Bool};
     ghost use Rattle.json5_de.specs.Convert.{bool_of};
-    ghost use Rattle.json5_de.specs.Rows.{bool_row, every_tree, RefusedAs};
+    ghost use Rattle.json5_de.specs.TokenKinds.{bool_kind, every_tree, RefusedAs};
 
     ghost Content = { Bool };
 
@@ -48,12 +48,12 @@ impl<I: Input> Deserialize<I> for bool {
 
     ghost convert = { bool_of };
 
-    ghost free = { every_tree };
+    ghost allocation_free = { every_tree };
 
-    ghost refuses = { RefusedAs bool_row };
+    ghost refuses = { RefusedAs bool_kind };
 
     fn deserialize(de: &mut Deserializer<I>) -> Result<bool>
-        ensures { ReadsAs bool_row (λ b. b) de.old de.new result }
+        ensures { ReadsAs bool_kind (λ b. b) de.old de.new result }
     {
         de.deserialize_bool()
     }
@@ -63,7 +63,7 @@ impl<I: Input> Deserialize<I> for bool {
 impl<I: Input> Deserialize<I> for Decimal {
     ghost use Rattle.json5_grammar.specs.Numbers as numbers;
     ghost use Rattle.json5_de.specs.Convert.{decimal_of};
-    ghost use Rattle.json5_de.specs.Rows.{decimal_row, RefusedAs};
+    ghost use Rattle.json5_de.specs.TokenKinds.{decimal_kind, RefusedAs};
 
     ghost Content = { numbers.Decimal };
 
@@ -71,10 +71,10 @@ impl<I: Input> Deserialize<I> for Decimal {
 
     ghost convert = { decimal_of };
 
-    ghost refuses = { RefusedAs decimal_row };
+    ghost refuses = { RefusedAs decimal_kind };
 
     fn deserialize(de: &mut Deserializer<I>) -> Result<Decimal>
-        ensures { ReadsAs decimal_row (λ d. d) de.old de.new result }
+        ensures { ReadsAs decimal_kind (λ d. d) de.old de.new result }
     {
         de.deserialize_decimal()
     }
@@ -84,7 +84,7 @@ impl<I: Input> Deserialize<I> for Decimal {
 impl<I: Input> Deserialize<I> for char {
     ghost use Rattle.std.specs.Prelude.{ℕ};
     ghost use Rattle.json5_de.specs.Convert.{char_of};
-    ghost use Rattle.json5_de.specs.Rows.{char_row, plain_text, RefusedAs};
+    ghost use Rattle.json5_de.specs.TokenKinds.{char_kind, plain_text, RefusedAs};
 
     ghost Content = { ℕ };
 
@@ -92,12 +92,12 @@ impl<I: Input> Deserialize<I> for char {
 
     ghost convert = { char_of };
 
-    ghost free = { plain_text };
+    ghost allocation_free = { plain_text };
 
-    ghost refuses = { RefusedAs char_row };
+    ghost refuses = { RefusedAs char_kind };
 
     fn deserialize(de: &mut Deserializer<I>) -> Result<char>
-        ensures { ReadsAs char_row (λ c. c) de.old de.new result }
+        ensures { ReadsAs char_kind (λ c. c) de.old de.new result }
     {
         de.deserialize_char()
     }
@@ -107,7 +107,7 @@ impl<I: Input> Deserialize<I> for char {
 impl<I: Input> Deserialize<I> for String {
     ghost use Rattle.std.specs.Prelude.{ℕ, List, string_bytes};
     ghost use Rattle.json5_de.specs.Convert.{text_of};
-    ghost use Rattle.json5_de.specs.Rows.{string_row, RefusedAs};
+    ghost use Rattle.json5_de.specs.TokenKinds.{string_kind, RefusedAs};
 
     ghost Content = { List ℕ };
 
@@ -115,10 +115,10 @@ impl<I: Input> Deserialize<I> for String {
 
     ghost convert = { text_of };
 
-    ghost refuses = { RefusedAs string_row };
+    ghost refuses = { RefusedAs string_kind };
 
     fn deserialize(de: &mut Deserializer<I>) -> Result<String>
-        ensures { ReadsAs string_row string_bytes de.old de.new result }
+        ensures { ReadsAs string_kind string_bytes de.old de.new result }
     {
         de.deserialize_string()
     }
@@ -128,7 +128,7 @@ impl<I: Input> Deserialize<I> for String {
 impl<'de, I: Borrows<'de>> Deserialize<I> for &'de str {
     ghost use Rattle.std.specs.Prelude.{ℕ, List};
     ghost use Rattle.json5_de.specs.Convert.{plain_of};
-    ghost use Rattle.json5_de.specs.Rows.{plain_row, every_tree, RefusedAs};
+    ghost use Rattle.json5_de.specs.TokenKinds.{plain_kind, every_tree, RefusedAs};
 
     ghost Content = { List ℕ };
 
@@ -136,12 +136,12 @@ impl<'de, I: Borrows<'de>> Deserialize<I> for &'de str {
 
     ghost convert = { plain_of };
 
-    ghost free = { every_tree };
+    ghost allocation_free = { every_tree };
 
-    ghost refuses = { RefusedAs plain_row };
+    ghost refuses = { RefusedAs plain_kind };
 
     fn deserialize(de: &mut Deserializer<I>) -> Result<&'de str>
-        ensures { ReadsAs plain_row (λ t. t.now) de.old de.new result }
+        ensures { ReadsAs plain_kind (λ t. t.now) de.old de.new result }
     {
         de.deserialize_str()
     }
@@ -152,7 +152,7 @@ impl<'de, I: Borrows<'de>> Deserialize<I> for CowStr<'de> {
     ghost use Rattle.std.specs.Prelude.{ℕ, List, Bool};
     ghost use Rattle.json5_text.specs.Cows.{cow_bytes, is_borrowed};
     ghost use Rattle.json5_de.specs.Convert.{cow_of};
-    ghost use Rattle.json5_de.specs.Rows.{cow_row, plain_text, RefusedAs};
+    ghost use Rattle.json5_de.specs.TokenKinds.{cow_kind, plain_text, RefusedAs};
 
     ghost Content = { List ℕ × Bool };
 
@@ -160,12 +160,12 @@ impl<'de, I: Borrows<'de>> Deserialize<I> for CowStr<'de> {
 
     ghost convert = { cow_of };
 
-    ghost free = { plain_text };
+    ghost allocation_free = { plain_text };
 
-    ghost refuses = { RefusedAs cow_row };
+    ghost refuses = { RefusedAs cow_kind };
 
     fn deserialize(de: &mut Deserializer<I>) -> Result<CowStr<'de>>
-        ensures { ReadsAs cow_row (λ t. (cow_bytes t, is_borrowed t)) de.old de.new result }
+        ensures { ReadsAs cow_kind (λ t. (cow_bytes t, is_borrowed t)) de.old de.new result }
     {
         de.deserialize_identifier()
     }
@@ -176,7 +176,7 @@ impl<I: Input> Deserialize<I> for ByteBuf {
     ghost use Rattle.std.specs.Prelude.{ℕ, List};
     ghost use Rattle.json5_text.specs.Bytes.{bytes_of};
     ghost use Rattle.json5_de.specs.Convert.{byte_buf_of};
-    ghost use Rattle.json5_de.specs.Rows.{bytes_row, RefusedAs};
+    ghost use Rattle.json5_de.specs.TokenKinds.{bytes_kind, RefusedAs};
 
     ghost Content = { List ℕ };
 
@@ -184,10 +184,10 @@ impl<I: Input> Deserialize<I> for ByteBuf {
 
     ghost convert = { byte_buf_of };
 
-    ghost refuses = { RefusedAs bytes_row };
+    ghost refuses = { RefusedAs bytes_kind };
 
     fn deserialize(de: &mut Deserializer<I>) -> Result<ByteBuf>
-        ensures { ReadsAs bytes_row bytes_of de.old de.new result }
+        ensures { ReadsAs bytes_kind bytes_of de.old de.new result }
     {
         de.deserialize_byte_buf()
     }
@@ -198,7 +198,7 @@ impl<I: Input> Deserialize<I> for Value {
     ghost use Rattle.json5_text.specs.ValueViews.{Datum, value_of};
     ghost use Rattle.json5_de.specs.AnyTree.{RefusesTree, ReadsTree};
     ghost use Rattle.json5_de.specs.Convert.{every_datum};
-    ghost use Rattle.json5_de.specs.Rows.{no_tree};
+    ghost use Rattle.json5_de.specs.TokenKinds.{no_tree};
 
     ghost Content = { Datum };
 

@@ -5,7 +5,7 @@ ghost use Rattle.json5_grammar.specs.Characters.{NotBegun};
 ghost use Rattle.json5_grammar.specs.Strings.{is_quote};
 ghost use Rattle.json5_de.specs.Convert.{spelled};
 ghost use Rattle.json5_de.specs.Enums.{Begins, NamesVariant, ReadsOnlyKey, ReadsKeyed, is_left_brace};
-ghost use Rattle.json5_de.specs.Lending.{seen_named};
+ghost use Rattle.json5_de.specs.Lending.{named_state_of};
 ghost use Rattle.json5_de.specs.State.{GivesUpIfErr};
 
 use crate::de::Deserializer;
@@ -31,9 +31,9 @@ impl<I: Input> Deserializer<I> {
     fn only_key(&mut self, variants: &[&str]) -> Result<usize>
         ensures { ReadsOnlyKey (spelled variants.now) self.old self.new result }
     {
-        self.begin()?;
+        self.skip_blank()?;
         if !self.at_key() {
-            return Err(self.unexpected(ErrorCode::EofParsingObject, ErrorCode::ExpectedIdentifier));
+            return Err(self.fail_unexpected(ErrorCode::EofParsingObject, ErrorCode::ExpectedIdentifier));
         }
         let variant = self.key_variant(variants)?;
         self.colon()?;
@@ -75,10 +75,10 @@ impl<I: Input> Deserializer<I> {
 
     /// Reads the name of a variant, a string or the only key of an object.
     pub(crate) fn named(&mut self, variants: &[&str]) -> Result<Named>
-        ensures names { NamesVariant (spelled variants.now) (seen_named self.new) self.old result }
+        ensures names { NamesVariant (spelled variants.now) (named_state_of self.new) self.old result }
         ensures failed { GivesUpIfErr self.old self.new result }
     {
-        self.begin()?;
+        self.skip_blank()?;
         let start = self.offset();
         if self.at_text() {
             let variant = self.deserialize_variant(variants)?;
@@ -96,7 +96,7 @@ impl<I: Input> Deserializer<I> {
                 has_content: true,
             });
         }
-        Err(self.unexpected(
+        Err(self.fail_unexpected(
             ErrorCode::EofParsingValue,
             ErrorCode::ExpectedStringOrObject,
         ))

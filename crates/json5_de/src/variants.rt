@@ -3,10 +3,10 @@
 ghost use Rattle.std.specs.Prelude.{◌≡◌, false, None};
 ghost use Rattle.std.specs.List.{position};
 ghost use Rattle.std.specs.Str.{bytes_eq};
-ghost use Rattle.json5_de.specs.Convert.{spelled, place_among};
+ghost use Rattle.json5_de.specs.Convert.{spelled, index_of};
 ghost use Rattle.json5_de.specs.FoundTexts.{Judges};
-ghost use Rattle.json5_de.specs.Rows.{ReadsAs, variant_row};
-ghost use Rattle.json5_de.specs.Steps.{IsMismatch};
+ghost use Rattle.json5_de.specs.TokenKinds.{ReadsAs, variant_kind};
+ghost use Rattle.json5_de.specs.ReaderSteps.{IsMismatch};
 
 use crate::de::Deserializer;
 use crate::found_text::FoundText;
@@ -15,7 +15,7 @@ use json5_text::error::{Error, Result};
 use json5_text::input::Input;
 
 /// Returns the first index of the name among these, counted from 0.
-pub(crate) fn place_among(names: &[&str], name: &str) -> Option<usize>
+pub(crate) fn index_of(names: &[&str], name: &str) -> Option<usize>
     ensures { result ≡ position (λ n. bytes_eq n.now name.now) names.now }
 {
     names.iter().position(|other| *other == name)
@@ -35,7 +35,7 @@ impl<I: Input> Deserializer<I> {
     /// - A custom fault that lists the variants, at the opening quote of any other string.
     /// - The codes of every call that reads a string: see [`Deserializer`].
     pub fn deserialize_variant(&mut self, variants: &[&str]) -> Result<usize>
-        ensures { ReadsAs (variant_row (spelled variants.now)) (λ n. n) self.old self.new result }
+        ensures { ReadsAs (variant_kind (spelled variants.now)) (λ n. n) self.old self.new result }
     {
         let string = self.found_string()?;
         self.variant_of(&string, variants)
@@ -43,10 +43,10 @@ impl<I: Input> Deserializer<I> {
 
     /// The first place among the variants of a text that was found; another text is a custom fault at its start.
     pub(crate) fn variant_of(&mut self, found: &FoundText, variants: &[&str]) -> Result<usize>
-        ensures { Judges false None (place_among (spelled variants.now)) (λ n. n) found.now self.old self.new result }
+        ensures { Judges false None (index_of (spelled variants.now)) (λ n. n) found.now self.old self.new result }
     {
         let name = self.token_text(&found.token);
-        let Some(place) = place_among(variants, name) else {
+        let Some(place) = index_of(variants, name) else {
             let error = self.unknown_variant(found, name, variants);
             return self.refuse(error);
         };

@@ -4,7 +4,7 @@ use Rattle.std.specs.Prelude.{◌==◌}
 use Rattle.std.proofs.lemmas.Bool.{both_ways}
 use Rattle.json5_grammar.specs.Blanks.{Blanks, Gap, is_solid}
 use Rattle.json5_grammar.specs.Trees.{Tree, Pairs, object, no_pair, pair, depth, pair_depths}
-use Rattle.json5_grammar.specs.Values.{no_last_comma, last_comma, Val, is_empty_object, is_object, Entries, last_pair, next_pair, Entry, entry, Stops, Reads}
+use Rattle.json5_grammar.specs.Values.{no_last_comma, last_comma, Val, is_empty_object, is_object, MemberList, last_pair, next_pair, Member, entry, Stops, Reads}
 use Rattle.json5_grammar.specs.Members.{IsSign, OpensObject, ReadsKey, IsKey, IsKeyValue, IsBrace, IsAtBrace, PairsTail, PairsPassed, NoPairGoes, joined_pairs, snoc_pair}
 use Rattle.json5_grammar.proofs.Basics.{first_same}
 use Rattle.json5_grammar.proofs.BlanksRead.{begins_solid, printable_solid}
@@ -128,7 +128,7 @@ pairs_rest (pair v m u qs) (pair w n t ps) due now x y r (g, h, a, e, ok) (k, z,
 -- ---- objects from the front
 
 -- the key and the value of a pair, up to the character after it
-entry_read : {p u : List ℕ} {plain : Bool} {t : Tree} (c : ℕ) (y : List ℕ) → EndsValues c → Entry p u plain t → (k : List ℕ) × (v : List ℕ) × IsKey false (p ++ c ∷ y) u plain k × IsKeyValue k t (v ++ c ∷ y) × Blanks v
+entry_read : {p u : List ℕ} {plain : Bool} {t : Tree} (c : ℕ) (y : List ℕ) → EndsValues c → Member p u plain t → (k : List ℕ) × (v : List ℕ) × IsKey false (p ++ c ∷ y) u plain k × IsKeyValue k t (v ++ c ∷ y) × Blanks v
 entry_read c y ends (entry {a = a} {k = k} {b = b} {w = w} {s = s} {v = v} ba kt bb bw vs bv) = (
   b ++ 58 ∷ (w ++ (s ++ (v ++ c ∷ y))),
   v,
@@ -138,7 +138,7 @@ entry_read c y ends (entry {a = a} {k = k} {b = b} {w = w} {s = s} {v = v} ba kt
 )
 
 -- a key, a value and blanks after it are a pair
-entry_of : {x u y z v g : List ℕ} {plain : Bool} {t : Tree} → ReadsKey x u plain y → IsKeyValue y t z → z ≡ v ++ g → Blanks v → (p : List ℕ) × (x ≡ p ++ g) × Entry p u plain t
+entry_of : {x u y z v g : List ℕ} {plain : Bool} {t : Tree} → ReadsKey x u plain y → IsKeyValue y t z → z ≡ v ++ g → Blanks v → (p : List ℕ) × (x ≡ p ++ g) × Member p u plain t
 entry_of {v = v} {g = g} key (q, s, e) k b = (
   key.front ++ (key.spelling ++ (s.front ++ 58 ∷ (e.front ++ (e.phrase ++ v)))),
   key.split ∙ ap (λ i. key.front ++ (key.spelling ++ i)) (s.split ∙ ap (λ i. s.front ++ 58 ∷ i) (e.split ∙ ap (λ i. e.front ++ (e.phrase ++ i)) k)) ∙ sym (regroup_pair key.front key.spelling s.front e.front e.phrase v g),
@@ -150,7 +150,7 @@ pairs_comma no_pair x y r s c = inr (y, s, c)
 pairs_comma (pair u p t ps) x y r s (k, z, a, e, tl) = (k, z, (y, s, a), e, tl)
 
 -- pairs and the brace are read one after another
-pub entries_tail : {m : List ℕ} {ps : Pairs} (r : List ℕ) → Entries m ps → PairsTail ps false (m ++ 125 ∷ r) r
+pub entries_tail : {m : List ℕ} {ps : Pairs} (r : List ℕ) → MemberList m ps → PairsTail ps false (m ++ 125 ∷ r) r
 entries_tail r (last_pair {p = p} {u = u} {plain = plain} {t = t} e no_last_comma) =
     let (k, v, key, value, b) = entry_read 125 r brace_ends_values e in
     subst (λ z. PairsTail (pair u plain t no_pair) false z r) (sym (append_assoc p [] (125 ∷ r)))
@@ -165,7 +165,7 @@ entries_tail r (next_pair {p = p} {m = m} {u = u} {plain = plain} {t = t} {ps = 
     (k, v ++ 44 ∷ (m ++ 125 ∷ r), key, value, pairs_comma ps (v ++ 44 ∷ (m ++ 125 ∷ r)) (m ++ 125 ∷ r) r (record { front = v; split = refl; blank = b }) (entries_tail r ms))
 
 -- what is read one after another are pairs and the brace
-pub tail_entries : (u : List ℕ) (plain : Bool) (t : Tree) (ps : Pairs) (x r : List ℕ) → PairsTail (pair u plain t ps) false x r → (m : List ℕ) × (x ≡ m ++ 125 ∷ r) × Entries m (pair u plain t ps)
+pub tail_entries : (u : List ℕ) (plain : Bool) (t : Tree) (ps : Pairs) (x r : List ℕ) → PairsTail (pair u plain t ps) false x r → (m : List ℕ) × (x ≡ m ++ 125 ∷ r) × MemberList m (pair u plain t ps)
 tail_entries u plain t no_pair x r (y, z, key, value, inl c) =
     let (p, e, is) = entry_of key value c.split c.blank in
     (p ++ [], e ∙ sym (append_assoc p [] (125 ∷ r)), last_pair is no_last_comma)

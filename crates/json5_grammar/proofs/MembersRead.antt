@@ -4,7 +4,7 @@ use Rattle.std.proofs.lemmas.Bool.{both_ways}
 use Rattle.json5_grammar.specs.Blanks.{Blanks, Gap, is_solid, Solid}
 use Rattle.json5_grammar.specs.Trees.{Tree, Trees, array, no_more, more}
 use Rattle.json5_grammar.specs.Faults.{begins_value}
-use Rattle.json5_grammar.specs.Values.{no_last_comma, last_comma, Val, is_empty_array, is_array, Members, last, next, Stops, Reads}
+use Rattle.json5_grammar.specs.Values.{no_last_comma, last_comma, Val, is_empty_array, is_array, ElementList, last, next, Stops, Reads}
 use Rattle.json5_grammar.specs.Members.{IsSign, Opens, Tail}
 use Rattle.json5_grammar.proofs.Basics.{first_same, rest_same}
 use Rattle.json5_grammar.proofs.BlanksRead.{begins_solid, printable_solid}
@@ -84,7 +84,7 @@ tail_comma no_more x y r s c = inr (y, s, c)
 tail_comma (more t ts) x y r s (z, e, tl) = (z, (y, s, e), tl)
 
 -- members and the bracket are read one after another
-pub members_tail : {m : List ℕ} {ts : Trees} (r : List ℕ) → Members m ts → Tail ts false (m ++ 93 ∷ r) r
+pub members_tail : {m : List ℕ} {ts : Trees} (r : List ℕ) → ElementList m ts → Tail ts false (m ++ 93 ∷ r) r
 members_tail r (last {w = w} {s = s} {v = v} bw vs bv no_last_comma) = (
   v ++ 93 ∷ r,
   record { front = w; phrase = s; split = regroup w s v [] (93 ∷ r); blank = bw; value = vs; stops = stops_blanks s 93 r bv bracket_ends_values },
@@ -102,7 +102,7 @@ members_tail r (next {w = w} {s = s} {v = v} {m = m} {ts = ts} bw vs bv ms) = (
 )
 
 -- what is read one after another are members and the bracket
-pub tail_members : (t : Tree) (ts : Trees) (x r : List ℕ) → Tail (more t ts) false x r → (m : List ℕ) × (x ≡ m ++ 93 ∷ r) × Members m (more t ts)
+pub tail_members : (t : Tree) (ts : Trees) (x r : List ℕ) → Tail (more t ts) false x r → (m : List ℕ) × (x ≡ m ++ 93 ∷ r) × ElementList m (more t ts)
 tail_members t no_more x r (y, e, inl c) = (
   e.front ++ (e.phrase ++ (c.front ++ [])),
   e.split ∙ ap (λ z. e.front ++ (e.phrase ++ z)) c.split ∙ sym (regroup e.front e.phrase c.front [] (93 ∷ r)),

@@ -5,7 +5,7 @@ use Rattle.json5_grammar.specs.Blanks.{Blanks}
 use Rattle.json5_grammar.specs.Numbers.{Num, Number}
 use Rattle.json5_grammar.specs.Strings.{Str, quoted}
 use Rattle.json5_grammar.specs.Trees.{Tree, Trees, Pairs, null, boolean, number, text, array, object, no_more, more, no_pair, pair, depth, depths, pair_depths}
-use Rattle.json5_grammar.specs.Values.{no_last_comma, last_comma, KeyText, Val, is_null, is_true, is_false, is_number, is_text, is_empty_array, is_array, is_empty_object, is_object, Members, last, next, Entries, last_pair, next_pair, Entry, entry, null_text, true_text, false_text, Stops}
+use Rattle.json5_grammar.specs.Values.{no_last_comma, last_comma, KeyText, Val, is_null, is_true, is_false, is_number, is_text, is_empty_array, is_array, is_empty_object, is_object, ElementList, last, next, MemberList, last_pair, next_pair, Member, entry, null_text, true_text, false_text, Stops}
 use Rattle.json5_grammar.specs.Reading.{Read, got, and_then, placed}
 use Rattle.json5_grammar.specs.ReadBlanks.{skip, between}
 use Rattle.json5_grammar.specs.ReadNumbers as numbers
@@ -169,7 +169,7 @@ mutual
   read_complete (is_object {m = m} {ps = qs} ps) r st (suc d) l = read_brace d m r qs (λ n h. entries_complete ps r d (omega arith) n h)
 
   -- members and the closing bracket are read; more turns than characters are enough
-  pub members_complete : {m : List ℕ} {ts : Trees} → Members m ts → (r : List ℕ) → (d : ℕ) → depths ts ≤ d → (n : ℕ) → length (m ++ 93 ∷ r) < n → items (read d) n (m ++ 93 ∷ r) ≡ got ts r
+  pub members_complete : {m : List ℕ} {ts : Trees} → ElementList m ts → (r : List ℕ) → (d : ℕ) → depths ts ≤ d → (n : ℕ) → length (m ++ 93 ∷ r) < n → items (read d) n (m ++ 93 ∷ r) ≡ got ts r
   members_complete (last bw vs bv lc) r d l zero h = absurd (omega arith)
   members_complete (last {w = w} {s = s} {v = v} {t = t} bw vs bv no_last_comma) r d l (suc k) h =
       ap (items (read d) (suc k)) (regroup w s v [] (93 ∷ r))
@@ -186,7 +186,7 @@ mutual
       ∙ after_comma t ts d k (m ++ 93 ∷ r) r (members_complete ms r d (omega arith) k (shorter w s v m (93 ∷ r) k h))
 
   -- pairs and the closing brace are read
-  pub entries_complete : {m : List ℕ} {ps : Pairs} → Entries m ps → (r : List ℕ) → (d : ℕ) → pair_depths ps ≤ d → (n : ℕ) → length (m ++ 125 ∷ r) < n → entries (read d) n (m ++ 125 ∷ r) ≡ got ps r
+  pub entries_complete : {m : List ℕ} {ps : Pairs} → MemberList m ps → (r : List ℕ) → (d : ℕ) → pair_depths ps ≤ d → (n : ℕ) → length (m ++ 125 ∷ r) < n → entries (read d) n (m ++ 125 ∷ r) ≡ got ps r
   entries_complete (last_pair e lc) r d l zero h = absurd (omega arith)
   entries_complete (last_pair {p = p} {u = u} {plain = plain} {t = t} e no_last_comma) r d l (suc k) h =
       ap (entries (read d) (suc k)) (append_assoc p [] (125 ∷ r))
@@ -203,7 +203,7 @@ mutual
       ∙ after_pair_comma u plain t qs d k (m ++ 125 ∷ r) r (entries_complete ps r d (omega arith) k (shorter_pair p m (125 ∷ r) k h))
 
   -- a pair is read, up to the character after it
-  pub entry_complete : {p u : List ℕ} {plain : Bool} {t : Tree} → Entry p u plain t → (c : ℕ) (y : List ℕ) → EndsValues c → (d : ℕ) → depth t ≤ d → (n : ℕ)
+  pub entry_complete : {p u : List ℕ} {plain : Bool} {t : Tree} → Member p u plain t → (c : ℕ) (y : List ℕ) → EndsValues c → (d : ℕ) → depth t ≤ d → (n : ℕ)
       → entries (read d) (suc n) (p ++ c ∷ y) ≡ after_pair_blanks (entries (read d) n) u plain t (c ∷ y)
   entry_complete (entry {a = a} {k = k} {b = b} {w = w} {s = s} {v = v} ba kt bb bw vs bv) c y ends d l n =
       ap (entries (read d) (suc n)) (regroup_pair a k b w s v (c ∷ y))

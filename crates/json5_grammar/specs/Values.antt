@@ -37,23 +37,23 @@ mutual
     is_number : {s : List ℕ} {n : Number} → Num s n → Val s (number n)
     is_text : {s u : List ℕ} {plain : Bool} → Str s u plain → Val s (text u plain)
     is_empty_array : {w : List ℕ} → Blanks w → Val (left_bracket ∷ w ++ right_bracket ∷ []) (array no_more)
-    is_array : {m : List ℕ} {ts : Trees} → Members m ts → Val (left_bracket ∷ m ++ right_bracket ∷ []) (array ts)
+    is_array : {m : List ℕ} {ts : Trees} → ElementList m ts → Val (left_bracket ∷ m ++ right_bracket ∷ []) (array ts)
     is_empty_object : {w : List ℕ} → Blanks w → Val (left_brace ∷ w ++ right_brace ∷ []) (object no_pair)
-    is_object : {m : List ℕ} {ps : Pairs} → Entries m ps → Val (left_brace ∷ m ++ right_brace ∷ []) (object ps)
+    is_object : {m : List ℕ} {ps : Pairs} → MemberList m ps → Val (left_brace ∷ m ++ right_brace ∷ []) (object ps)
 
   -- one or more members, and the optional comma
-  pub data Members : List ℕ → Trees → Type 0 where
-    last : {w s v c : List ℕ} {t : Tree} → Blanks w → Val s t → Blanks v → LastComma c → Members (w ++ (s ++ (v ++ c))) (more t no_more)
-    next : {w s v m : List ℕ} {t : Tree} {ts : Trees} → Blanks w → Val s t → Blanks v → Members m ts → Members (w ++ (s ++ (v ++ comma_sign ∷ m))) (more t ts)
+  pub data ElementList : List ℕ → Trees → Type 0 where
+    last : {w s v c : List ℕ} {t : Tree} → Blanks w → Val s t → Blanks v → LastComma c → ElementList (w ++ (s ++ (v ++ c))) (more t no_more)
+    next : {w s v m : List ℕ} {t : Tree} {ts : Trees} → Blanks w → Val s t → Blanks v → ElementList m ts → ElementList (w ++ (s ++ (v ++ comma_sign ∷ m))) (more t ts)
 
-  pub data Entries : List ℕ → Pairs → Type 0 where
-    last_pair : {p c u : List ℕ} {plain : Bool} {t : Tree} → Entry p u plain t → LastComma c → Entries (p ++ c) (pair u plain t no_pair)
-    next_pair : {p m u : List ℕ} {plain : Bool} {t : Tree} {ps : Pairs} → Entry p u plain t → Entries m ps → Entries (p ++ comma_sign ∷ m) (pair u plain t ps)
+  pub data MemberList : List ℕ → Pairs → Type 0 where
+    last_pair : {p c u : List ℕ} {plain : Bool} {t : Tree} → Member p u plain t → LastComma c → MemberList (p ++ c) (pair u plain t no_pair)
+    next_pair : {p m u : List ℕ} {plain : Bool} {t : Tree} {ps : Pairs} → Member p u plain t → MemberList m ps → MemberList (p ++ comma_sign ∷ m) (pair u plain t ps)
 
   -- blanks, key, blanks, `:`, blanks, value, blanks
-  pub data Entry : List ℕ → List ℕ → Bool → Tree → Type 0 where
+  pub data Member : List ℕ → List ℕ → Bool → Tree → Type 0 where
     entry : {a k b w s v u : List ℕ} {plain : Bool} {t : Tree} → Blanks a → KeyText k u plain → Blanks b → Blanks w → Val s t → Blanks v
-        → Entry (a ++ (k ++ (b ++ colon_sign ∷ (w ++ (s ++ v))))) u plain t
+        → Member (a ++ (k ++ (b ++ colon_sign ∷ (w ++ (s ++ v))))) u plain t
 
 -- r doesn't begin with a character that lengthens the value's text s
 abbrev pub Stops : List ℕ → List ℕ → Type 0

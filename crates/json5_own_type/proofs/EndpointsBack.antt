@@ -5,7 +5,7 @@ use Rattle.json5.specs.ReadsBack.{ReadsBack}
 use Rattle.json5.specs.Members.{array_of}
 use Rattle.json5.specs.Convert.{text_of, unsigned_below}
 use Rattle.json5.specs.ConvertLists.{first_of, last_of}
-use Rattle.json5.specs.Own.{and_then}
+use Rattle.json5.specs.Refinement.{and_then}
 use Rattle.json5.proofs.ReadsBack.{string_back, natural_back}
 use Rattle.json5_own_type.specs.Accepted.{above_zero}
 use Rattle.json5_own_type.specs.Endpoints.{endpoint_tree, endpoint_content}

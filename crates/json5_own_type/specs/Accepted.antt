@@ -3,7 +3,7 @@ use Rattle.std.specs.Prelude.{◌==◌, ℕ, if◌then◌else◌, nat_lt, length
 use Rattle.std.specs.Str.{bytes_eq}
 use Rattle.json5.specs.Trees.{Tree, Trees}
 use Rattle.json5.specs.Members.{contents}
-use Rattle.json5.specs.Own.{if_more}
+use Rattle.json5.specs.Refinement.{if_more}
 use Rattle.json5_own_type.specs.declared.levels.Level.{Level}
 use Rattle.json5_own_type.specs.declared.levels.Level.TheVariants.{Low, Middle, High}
 

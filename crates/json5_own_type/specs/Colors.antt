@@ -1,8 +1,8 @@
 -- The names of colors.
 use Rattle.std.specs.Prelude.{◌==◌, ℕ, Bool, if◌then◌else◌, List, [], ◌∷◌, Option, Some, codes}
 use Rattle.std.specs.Str.{chars}
-use Rattle.json5.specs.Convert.{place_among}
-use Rattle.json5.specs.Own.{if_more}
+use Rattle.json5.specs.Convert.{index_of}
+use Rattle.json5.specs.Refinement.{if_more}
 use Rattle.json5.specs.WrittenTrees.{Key, named}
 use Rattle.json5_own_type.specs.declared.colors.Color.{Color}
 use Rattle.json5_own_type.specs.declared.colors.Color.TheVariants.{Red, Green, Blue}
@@ -16,7 +16,7 @@ color_at k = Some (if k == 0 then Red else if k == 1 then Green else Blue)
 
 -- the color of this name
 abbrev pub color_named : List ℕ → Bool → Option Color
-color_named u plain = if_more color_at (place_among color_names u plain)
+color_named u plain = if_more color_at (index_of color_names u plain)
 
 -- the key that is written of a color
 abbrev pub color_key : Color → Key

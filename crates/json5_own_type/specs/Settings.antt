@@ -3,7 +3,7 @@ use Rattle.std.specs.Prelude.{ℕ, ◌^◌, List, Option, codes}
 use Rattle.json5.specs.Trees.{Tree}
 use Rattle.json5.specs.Error.{Error}
 use Rattle.json5.specs.Convert.{text_of, unsigned_below}
-use Rattle.json5.specs.Own.{and_then}
+use Rattle.json5.specs.Refinement.{and_then}
 use Rattle.json5.specs.State.{State}
 use Rattle.json5.specs.Plans.{Plan, required, optional, with_default, and_field}
 use Rattle.json5.specs.StructFaults.{ValueFaults, of_field, or_of, of_any}

@@ -21,7 +21,7 @@ pub enum Color {
 
 /// A key that names a color; another one is a custom fault at the key, which lists the names.
 impl<I: Input> DeserializeKey<I> for Color {
-    ghost use Rattle.json5.specs.KeyRows.{variant_key, RefusedAsKey};
+    ghost use Rattle.json5.specs.KeyKinds.{variant_key, RefusedAsKey};
     ghost use Rattle.json5_own_type.specs.declared.colors.Color.{Color};
     ghost use Rattle.json5_own_type.specs.Colors.{color_names, color_named};
 

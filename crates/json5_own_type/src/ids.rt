@@ -14,14 +14,14 @@ pub struct Id {
 /// A key whose text is a number: `'7'`.
 impl<I: Input> DeserializeKey<I> for Id {
     ghost use Rattle.std.specs.Prelude.{ℕ, ◌^◌};
-    ghost use Rattle.json5.specs.Rows.{natural_row};
-    ghost use Rattle.json5.specs.KeyRows.{document_key};
+    ghost use Rattle.json5.specs.TokenKinds.{natural_kind};
+    ghost use Rattle.json5.specs.KeyKinds.{document_key};
 
     ghost Content = { ℕ };
 
     ghost content = { λ i. i.number };
 
-    ghost convert = { (document_key (natural_row (2 ^ 32))).convert };
+    ghost convert = { (document_key (natural_kind (2 ^ 32))).convert };
 
     fn deserialize_key(key: &mut MapKey<'_, I>) -> Result<Id> {
         let number = key.deserialize_u32()?;

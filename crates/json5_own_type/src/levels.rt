@@ -16,7 +16,7 @@ pub enum Level {
 /// A text that names a level; another one is refused where it stands.
 impl<I: Input> Deserialize<I> for Level {
     ghost use Rattle.json5.specs.Convert.{text_of};
-    ghost use Rattle.json5.specs.Own.{and_then, RefusesOwn};
+    ghost use Rattle.json5.specs.Refinement.{and_then, RefusesOwn};
     ghost use Rattle.json5_own_type.specs.declared.levels.Level.{Level};
     ghost use Rattle.json5_own_type.specs.Accepted.{level_named};
 

@@ -22,7 +22,7 @@ pub struct OpenPort {
 impl<I: Input> Deserialize<I> for OpenPort {
     ghost use Rattle.std.specs.Prelude.{ℕ, ◌^◌};
     ghost use Rattle.json5.specs.Convert.{unsigned_below};
-    ghost use Rattle.json5.specs.Own.{and_then, RefusesOwn};
+    ghost use Rattle.json5.specs.Refinement.{and_then, RefusesOwn};
     ghost use Rattle.json5_own_type.specs.Accepted.{above_zero};
 
     ghost Content = { ℕ };
@@ -69,7 +69,7 @@ impl<I: Input> Deserialize<I> for Endpoint {
     ghost use Rattle.json5.specs.Members.{array_of};
     ghost use Rattle.json5.specs.Convert.{text_of, unsigned_below};
     ghost use Rattle.json5.specs.ConvertLists.{first_of, last_of};
-    ghost use Rattle.json5.specs.Own.{and_then};
+    ghost use Rattle.json5.specs.Refinement.{and_then};
     ghost use Rattle.json5_own_type.specs.Accepted.{above_zero};
 
     ghost Content = { List ℕ × ℕ };
@@ -123,7 +123,7 @@ impl<I: Input> Deserialize<I> for PortRange {
     ghost use Rattle.json5.specs.Members.{array_of};
     ghost use Rattle.json5.specs.Convert.{unsigned_below};
     ghost use Rattle.json5.specs.ConvertLists.{first_of, last_of};
-    ghost use Rattle.json5.specs.Own.{and_then};
+    ghost use Rattle.json5.specs.Refinement.{and_then};
     ghost use Rattle.json5_own_type.specs.Accepted.{in_order};
 
     ghost Content = { ℕ × ℕ };

@@ -1,6 +1,6 @@
 //! Reminders, which are read and written as an enum is: each variant by its name.
 
-ghost use Rattle.json5.specs.Lending.{seen_enum};
+ghost use Rattle.json5.specs.Lending.{enum_state_of};
 ghost use Rattle.json5.specs.Variants.{FinishesVariant};
 ghost use Rattle.json5.specs.Writes.{WritesTree};
 ghost use Rattle.json5_own_type.specs.Reminders.{reminded, off_read, daily_read, weekly_tree, once_tree};
@@ -75,14 +75,14 @@ impl<I: Input> Deserialize<I> for Reminder {
 }
 
 fn read_off<I: Input>(access: EnumAccess<'_, I>) -> Result<Reminder>
-    ensures { FinishesVariant reminded off_read.convert (seen_enum access.entry) access.exit.0.now result }
+    ensures { FinishesVariant reminded off_read.convert (enum_state_of access.entry) access.exit.0.now result }
 {
     access.unit_variant()?;
     Ok(Reminder::Off)
 }
 
 fn read_daily<I: Input>(access: EnumAccess<'_, I>) -> Result<Reminder>
-    ensures { FinishesVariant reminded daily_read.convert (seen_enum access.entry) access.exit.0.now result }
+    ensures { FinishesVariant reminded daily_read.convert (enum_state_of access.entry) access.exit.0.now result }
 {
     let hour = access.newtype_variant::<u8>()?;
     Ok(Reminder::Daily(hour))

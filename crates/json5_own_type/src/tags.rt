@@ -14,7 +14,7 @@ impl<I: Input> Deserialize<I> for Labels {
     ghost use Rattle.std.specs.Prelude.{ℕ, List, map, string_bytes};
     ghost use Rattle.json5.specs.Members.{array_of, contents};
     ghost use Rattle.json5.specs.Convert.{text_of};
-    ghost use Rattle.json5.specs.Own.{and_then, RefusesOwn};
+    ghost use Rattle.json5.specs.Refinement.{and_then, RefusesOwn};
     ghost use Rattle.json5_own_type.specs.Accepted.{not_empty};
 
     ghost Content = { List (List ℕ) };

@@ -4,10 +4,10 @@ use Rattle.std.specs.Str.{chars}
 use Rattle.json5.specs.WrittenTrees.{Written, Elements, element, no_element, Fields, field, no_field, text, null, integer, newtype_variant, tuple_variant, struct_variant, Key, named, bad}
 use Rattle.json5.specs.Trees.{Tree}
 use Rattle.json5.specs.Members.{array_of, object_of}
-use Rattle.json5.specs.Convert.{unit_of, signed_below, place_among}
+use Rattle.json5.specs.Convert.{unit_of, signed_below, index_of}
 use Rattle.json5.specs.ConvertLists.{first_of, last_of}
 use Rattle.json5.specs.Plans.{Plan, required, and_field}
-use Rattle.json5.specs.Own.{if_more}
+use Rattle.json5.specs.Refinement.{if_more}
 use Rattle.json5.specs.Variants.{Variant, unit, holding}
 use Rattle.json5_rows.specs.declared.hand_enums.F.{F}
 use Rattle.json5_rows.specs.declared.hand_enums.F.TheVariants.{A, B, C}
@@ -53,7 +53,7 @@ f_at k = if k == 0 then Some an_a else if k == 1 then Some a_b else None
 
 -- what the text of a key names
 abbrev pub f_named : List ℕ → Bool → Option OfF
-f_named u plain = if_more f_at (place_among f_names u plain)
+f_named u plain = if_more f_at (index_of f_names u plain)
 
 -- what is written of it as a key
 abbrev pub f_key : F → Key

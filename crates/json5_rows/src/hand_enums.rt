@@ -1,7 +1,7 @@
 //! Enums whose impls are written by hand.
 
 ghost use Rattle.json5.specs.Law.{IsUnprompted};
-ghost use Rattle.json5.specs.Lending.{seen_enum};
+ghost use Rattle.json5.specs.Lending.{enum_state_of};
 ghost use Rattle.json5.specs.Variants.{FinishesVariant};
 ghost use Rattle.json5.specs.Writes.{WritesTree};
 ghost use Rattle.json5_rows.specs.HandEnums.{f_content, f_a, f_b, f_c};
@@ -47,21 +47,21 @@ impl<I: Input> Deserialize<I> for F {
 }
 
 fn read_a<I: Input>(access: EnumAccess<'_, I>) -> Result<F>
-    ensures { FinishesVariant f_content f_a.convert (seen_enum access.entry) access.exit.0.now result }
+    ensures { FinishesVariant f_content f_a.convert (enum_state_of access.entry) access.exit.0.now result }
 {
     access.unit_variant()?;
     Ok(F::A)
 }
 
 fn read_b<I: Input>(access: EnumAccess<'_, I>) -> Result<F>
-    ensures { FinishesVariant f_content f_b.convert (seen_enum access.entry) access.exit.0.now result }
+    ensures { FinishesVariant f_content f_b.convert (enum_state_of access.entry) access.exit.0.now result }
 {
     access.unit_variant()?;
     Ok(F::B)
 }
 
 fn read_c<I: Input>(access: EnumAccess<'_, I>) -> Result<F>
-    ensures { FinishesVariant f_content f_c.convert (seen_enum access.entry) access.exit.0.now result }
+    ensures { FinishesVariant f_content f_c.convert (enum_state_of access.entry) access.exit.0.now result }
 {
     let unit = access.newtype_variant::<()>()?;
     Ok(F::C(unit))
@@ -219,14 +219,14 @@ fn too_short<I: Input>(seq: &SeqAccess<'_, I>, alloc: Global, length: usize) -> 
 }
 
 fn read_y<I: Input>(access: EnumAccess<'_, I>) -> Result<E>
-    ensures { FinishesVariant e_content e_y.convert (seen_enum access.entry) access.exit.0.now result }
+    ensures { FinishesVariant e_content e_y.convert (enum_state_of access.entry) access.exit.0.now result }
 {
     let number = access.newtype_variant::<i32>()?;
     Ok(E::Y(number))
 }
 
 fn read_z<I: Input>(access: EnumAccess<'_, I>) -> Result<E>
-    ensures { FinishesVariant e_content e_z.convert (seen_enum access.entry) access.exit.0.now result }
+    ensures { FinishesVariant e_content e_z.convert (enum_state_of access.entry) access.exit.0.now result }
 {
     access.unit_variant()?;
     Ok(E::Z)

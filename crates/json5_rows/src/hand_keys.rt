@@ -30,14 +30,14 @@ impl<'de, I: Borrows<'de>> DeserializeKey<I> for ByAny<'de> {
 pub struct ByUnitStruct;
 
 impl<I: Input> DeserializeKey<I> for ByUnitStruct {
-    ghost use Rattle.json5.specs.Rows.{null_row};
-    ghost use Rattle.json5.specs.KeyRows.{document_key};
+    ghost use Rattle.json5.specs.TokenKinds.{null_kind};
+    ghost use Rattle.json5.specs.KeyKinds.{document_key};
 
     ghost Content = { Unit {0} };
 
     ghost content = { λ _. tt };
 
-    ghost convert = { (document_key null_row).convert };
+    ghost convert = { (document_key null_kind).convert };
 
     fn deserialize_key(key: &mut MapKey<'_, I>) -> Result<ByUnitStruct> {
         key.deserialize_unit_struct("ByUnitStruct")?;
@@ -51,14 +51,14 @@ pub struct ByNewtypeStruct(u8);
 
 impl<I: Input> DeserializeKey<I> for ByNewtypeStruct {
     ghost use Rattle.std.specs.Prelude.{ℕ, ◌^◌};
-    ghost use Rattle.json5.specs.Rows.{natural_row};
-    ghost use Rattle.json5.specs.KeyRows.{document_key};
+    ghost use Rattle.json5.specs.TokenKinds.{natural_kind};
+    ghost use Rattle.json5.specs.KeyKinds.{document_key};
 
     ghost Content = { ℕ };
 
     ghost content = { λ k. k.0 };
 
-    ghost convert = { (document_key (natural_row (2 ^ 8))).convert };
+    ghost convert = { (document_key (natural_kind (2 ^ 8))).convert };
 
     fn deserialize_key(key: &mut MapKey<'_, I>) -> Result<ByNewtypeStruct> {
         let number = key.deserialize_newtype_struct::<u8>("ByNewtypeStruct")?;

@@ -14,7 +14,7 @@ use Rattle.json5_text.specs.NumberPieces.{IsFront}
 use Rattle.json5_ser.specs.Out.{piece, ◌then◌}
 use Rattle.std.specs.Result.{IsErrAnd}
 use Rattle.json5_text.specs.declared.error.Error.{Error}
-use Rattle.json5_ser.specs.Writes.{Seen, Wrote, Refuses, Writes}
+use Rattle.json5_ser.specs.Writes.{SerializerState, Wrote, Refuses, Writes}
 use Rattle.json5_ser.proofs.Joins.{Reaches, Reaches-none, Reaches-next, Reaches-exit}
 
 pub first : (a b : Bool) → (a && b) ≡ true → a ≡ true
@@ -129,22 +129,22 @@ some_decimal (finite m ds e) = some_after (sign_text m) (digits_text ds e) (some
 -- ---- the pieces in a row
 
 -- what is left of a decimal's text; something was written once a part of it is gone
-pub record IsLeft (d : Decimal) (o m : Seen) (rest : List ℕ) : Type 0 where
+pub record IsLeft (d : Decimal) (o m : SerializerState) (rest : List ℕ) : Type 0 where
   pub reaches : Reaches (piece (decimal_text d)) o m (piece rest)
   pub ascii : is_spelled rest ≡ true
   pub started : length rest < length (decimal_text d) → m.failed ≡ false
 
-pub left_all : (d : Decimal) (o : Seen) (all : List ℕ) → Normal d → all ≡ decimal_text d → IsLeft d o o all
+pub left_all : (d : Decimal) (o : SerializerState) (all : List ℕ) → Normal d → all ≡ decimal_text d → IsLeft d o o all
 left_all d o all n e = rw e (record { reaches = Reaches-none (piece (decimal_text d)) o; ascii = ascii_decimal d n; started = λ h. absurd (omega (arith, h)) })
 
 -- a piece that consists of its characters
 piece_plain : (rest p after : List ℕ) → is_spelled rest ≡ true → IsFront rest p after → chars p ≡ p
 piece_plain rest p after a f = ascii_chars p (ascii_front p after (subst (λ t. is_spelled t ≡ true) f.parts a))
 
-parted : (d : Decimal) (o m : Seen) (rest p after : List ℕ) → IsLeft d o m rest → IsFront rest p after → Reaches (piece (decimal_text d)) o m (piece p then piece after)
+parted : (d : Decimal) (o m : SerializerState) (rest p after : List ℕ) → IsLeft d o m rest → IsFront rest p after → Reaches (piece (decimal_text d)) o m (piece p then piece after)
 parted d o m rest p after h f = subst (λ t. Reaches (piece (decimal_text d)) o m (piece t)) f.parts h.reaches
 
-pub left_next : (d : Decimal) (o m n : Seen) (rest p after : List ℕ) → IsLeft d o m rest → IsFront rest p after → Wrote (piece (chars p)) m n → IsLeft d o n after
+pub left_next : (d : Decimal) (o m n : SerializerState) (rest p after : List ℕ) → IsLeft d o m rest → IsFront rest p after → Wrote (piece (chars p)) m n → IsLeft d o n after
 left_next d o m n rest p after h f w =
     let wrote : Wrote (piece p) m n = subst (λ t. Wrote (piece t) m n) (piece_plain rest p after h.ascii f) w in
     record {
@@ -153,11 +153,11 @@ left_next d o m n rest p after h f w =
       started = λ _. wrote.failed;
     }
 
-pub left_exit : {A : Type 0} (d : Decimal) (o m n : Seen) (rest p after : List ℕ) (e : Error) (r : Result A Error) → IsLeft d o m rest → IsFront rest p after → IsErrAnd r (λ y. y ≡ e) → Refuses (piece (chars p)) m e n → Writes (piece (decimal_text d)) o r n
+pub left_exit : {A : Type 0} (d : Decimal) (o m n : SerializerState) (rest p after : List ℕ) (e : Error) (r : Result A Error) → IsLeft d o m rest → IsFront rest p after → IsErrAnd r (λ y. y ≡ e) → Refuses (piece (chars p)) m e n → Writes (piece (decimal_text d)) o r n
 left_exit d o m n rest p after e r h f q w =
     Reaches-exit (piece (decimal_text d)) (piece p) (piece after) o m n e r (parted d o m rest p after h f) q (subst (λ t. Refuses (piece t) m e n) (piece_plain rest p after h.ascii f) w)
 
-pub left_none : (d : Decimal) (o m : Seen) (rest : List ℕ) → IsLeft d o m rest → rest ≡ [] → Wrote (piece (decimal_text d)) o m
+pub left_none : (d : Decimal) (o m : SerializerState) (rest : List ℕ) → IsLeft d o m rest → rest ≡ [] → Wrote (piece (decimal_text d)) o m
 left_none d o m rest h e =
     let none : Reaches (piece (decimal_text d)) o m (piece []) = subst (λ t. Reaches (piece (decimal_text d)) o m (piece t)) e h.reaches in
     let ready : m.failed ≡ false = h.started (rw e (some_decimal d)) in

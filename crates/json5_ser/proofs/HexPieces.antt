@@ -17,7 +17,7 @@ use Rattle.json5_grammar.specs.Characters.{is_identifier_start, is_identifier_pa
 use Rattle.json5_grammar.specs.Quoting.{quoted_text, is_name}
 use Rattle.json5_text.specs.declared.error.Error.{Error}
 use Rattle.json5_ser.specs.Out.{Out, piece, ◌then◌}
-use Rattle.json5_ser.specs.Writes.{Seen, Wrote, Refuses, Writes}
+use Rattle.json5_ser.specs.Writes.{SerializerState, Wrote, Refuses, Writes}
 use Rattle.json5_ser.proofs.DecimalPieces.{is_spelling, IsAscii-text, first, second, both}
 use Rattle.json5_ser.proofs.SpelledKeys.{run, not_in_run, spelled_quoted}
 use Rattle.json5_ser.proofs.Joins.{Reaches, Reaches-next, Reaches-exit}
@@ -47,23 +47,23 @@ pub decodes : {A B U : Type 0} (P : A → Type 0) (Q : B → Type 0) (r : Result
 decodes P Q (Ok x) u h = refl
 decodes P Q (Err e) u h = absurd (h.0 u)
 
-parted : (all : Out) (o m : Seen) (left chunk rest t : List ℕ) → left ≡ chunk ++ rest → t ≡ encode_lower chunk → Reaches all o m (piece (encode_lower left)) → Reaches all o m (piece (chars t) then piece (encode_lower rest))
+parted : (all : Out) (o m : SerializerState) (left chunk rest t : List ℕ) → left ≡ chunk ++ rest → t ≡ encode_lower chunk → Reaches all o m (piece (encode_lower left)) → Reaches all o m (piece (chars t) then piece (encode_lower rest))
 parted all o m left chunk rest t e f h = subst (Reaches all o m) (hex_first left chunk rest e ∙ ap (λ l. piece l then piece (encode_lower rest)) (sym (ap chars f ∙ hex_chars chunk))) h
 
 -- a chunk's digits were written
-pub digits_next : (all : Out) (o m n : Seen) (left chunk rest t : List ℕ) → left ≡ chunk ++ rest → t ≡ encode_lower chunk → Reaches all o m (piece (encode_lower left)) → Wrote (piece (chars t)) m n → Reaches all o n (piece (encode_lower rest))
+pub digits_next : (all : Out) (o m n : SerializerState) (left chunk rest t : List ℕ) → left ≡ chunk ++ rest → t ≡ encode_lower chunk → Reaches all o m (piece (encode_lower left)) → Wrote (piece (chars t)) m n → Reaches all o n (piece (encode_lower rest))
 digits_next all o m n left chunk rest t e f h w = Reaches-next all (piece (chars t)) (piece (encode_lower rest)) o m n (parted all o m left chunk rest t e f h) w
 
 -- they were refused
-pub digits_exit : {A : Type 0} (all : Out) (o m n : Seen) (left chunk rest t : List ℕ) (e : Error) (r : Result A Error) → left ≡ chunk ++ rest → t ≡ encode_lower chunk → Reaches all o m (piece (encode_lower left))
+pub digits_exit : {A : Type 0} (all : Out) (o m n : SerializerState) (left chunk rest t : List ℕ) (e : Error) (r : Result A Error) → left ≡ chunk ++ rest → t ≡ encode_lower chunk → Reaches all o m (piece (encode_lower left))
     → IsErrAnd r (λ y. y ≡ e) → Refuses (piece (chars t)) m e n → Writes all o r n
 digits_exit all o m n left chunk rest t e r is f h q p = Reaches-exit all (piece (chars t)) (piece (encode_lower rest)) o m n e r (parted all o m left chunk rest t is f h) q p
 
-nothing : (m : Seen) → m.failed ≡ false → Wrote (piece []) m m
+nothing : (m : SerializerState) → m.failed ≡ false → Wrote (piece []) m m
 nothing m was = record { was = was; stop = refl; chars = refl; bytes = Appends-nil m.known; depth = refl; limit = refl; failed = was }
 
 -- none is left
-pub digits_all : (all : Out) (o m : Seen) (left : List ℕ) → length left ≡ 0 → m.failed ≡ false → Reaches all o m (piece (encode_lower left)) → Wrote all o m
+pub digits_all : (all : Out) (o m : SerializerState) (left : List ℕ) → length left ≡ 0 → m.failed ≡ false → Reaches all o m (piece (encode_lower left)) → Wrote all o m
 digits_all all o m left none was h =
     let same : piece (encode_lower left) ≡ piece [] = ap (λ l. piece (encode_lower l)) (nil_from_length left none) ∙ ap piece hex_none in
     Reaches.wrote (subst (Reaches all o m) same h) m (nothing m was)

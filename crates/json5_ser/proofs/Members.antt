@@ -7,8 +7,8 @@ use Rattle.json5_text.specs.declared.error.Error.{Error}
 use Rattle.json5_grammar.specs.Characters.{comma_sign, colon_sign, space, left_bracket, right_bracket, left_brace, right_brace}
 use Rattle.json5_ser.specs.WrittenTrees.{Written, array, object, tuple_variant, struct_variant, Elements, no_element, element, elements_of, Fields, no_field, field, fields_of, Key, named}
 use Rattle.json5_ser.specs.Out.{Out, piece, ◌then◌, opening, closing, out, elements_out, fields_out, element_out, key_part, value_part, entry_out, variant_opening}
-use Rattle.json5_ser.specs.Writes.{Seen, Refuses, Writes, WritesTree}
-use Rattle.json5_ser.specs.Lending.{inner, held, reference_of, seen, has_member, in_variant, list_opening, object_opening, ListBegun, ObjectBegun, VariantListBegun, VariantObjectBegun, Steps, outside, ending}
+use Rattle.json5_ser.specs.Writes.{SerializerState, Refuses, Writes, WritesTree}
+use Rattle.json5_ser.specs.Lending.{inner, serializer_of, reference_of, state_of, has_member, in_variant, list_opening, object_opening, ListBegun, ObjectBegun, VariantListBegun, VariantObjectBegun, Steps, outside, ending}
 use Rattle.json5_ser.specs.declared.collection.SerializeCollection.{SerializeCollection}
 use Rattle.json5_ser.proofs.Joins.{Refuses-before, Writes-handed}
 use Rattle.json5_ser.proofs.Remains.{Rest, Remains, elements, fields, value, BeginsWith, then_assoc, remains_on, remains_refused, remains_all, ends_whole, closes_list, closes_object}
@@ -46,19 +46,19 @@ variant_object l u fs d =
 
 -- ---- no collection was begun
 
-refused_first : {A : Type 0} (all o rest : Out) (at last : Seen) (e : Error) (result : Result A Error) → all ≡ o then rest → Refuses o at e last → IsErrAnd result (λ y. y ≡ e) → Writes all at result last
+refused_first : {A : Type 0} (all o rest : Out) (at last : SerializerState) (e : Error) (result : Result A Error) → all ≡ o then rest → Refuses o at e last → IsErrAnd result (λ y. y ≡ e) → Writes all at result last
 refused_first all o rest at last e result same p is = Writes-handed all at last e result is (subst (λ x. Refuses x at e last) (sym same) (Refuses-before o rest at last e p))
 
-pub list_refused : {A : Type 0} (ts : Elements) (at last : Seen) (e : Error) (result : Result A Error) → Refuses (opening at.limit at.depth left_bracket) at e last → IsErrAnd result (λ y. y ≡ e) → WritesTree (array ts) at result last
+pub list_refused : {A : Type 0} (ts : Elements) (at last : SerializerState) (e : Error) (result : Result A Error) → Refuses (opening at.limit at.depth left_bracket) at e last → IsErrAnd result (λ y. y ≡ e) → WritesTree (array ts) at result last
 list_refused ts at last e result p is = refused_first _ (opening at.limit at.depth left_bracket) (elements_out at.limit ts at.depth false) at last e result refl p is
 
-pub object_refused : {A : Type 0} (fs : Fields) (at last : Seen) (e : Error) (result : Result A Error) → Refuses (opening at.limit at.depth left_brace) at e last → IsErrAnd result (λ y. y ≡ e) → WritesTree (object fs) at result last
+pub object_refused : {A : Type 0} (fs : Fields) (at last : SerializerState) (e : Error) (result : Result A Error) → Refuses (opening at.limit at.depth left_brace) at e last → IsErrAnd result (λ y. y ≡ e) → WritesTree (object fs) at result last
 object_refused fs at last e result p is = refused_first _ (opening at.limit at.depth left_brace) (fields_out at.limit fs at.depth false) at last e result refl p is
 
-pub variant_list_refused : {A : Type 0} (u : List ℕ) (ts : Elements) (at last : Seen) (e : Error) (result : Result A Error) → Refuses (variant_opening at.limit u left_bracket at.depth) at e last → IsErrAnd result (λ y. y ≡ e) → WritesTree (tuple_variant u ts) at result last
+pub variant_list_refused : {A : Type 0} (u : List ℕ) (ts : Elements) (at last : SerializerState) (e : Error) (result : Result A Error) → Refuses (variant_opening at.limit u left_bracket at.depth) at e last → IsErrAnd result (λ y. y ≡ e) → WritesTree (tuple_variant u ts) at result last
 variant_list_refused u ts at last e result p is = refused_first _ (variant_opening at.limit u left_bracket at.depth) _ at last e result (variant_list at.limit u ts at.depth) p is
 
-pub variant_object_refused : {A : Type 0} (u : List ℕ) (fs : Fields) (at last : Seen) (e : Error) (result : Result A Error) → Refuses (variant_opening at.limit u left_brace at.depth) at e last → IsErrAnd result (λ y. y ≡ e) → WritesTree (struct_variant u fs) at result last
+pub variant_object_refused : {A : Type 0} (u : List ℕ) (fs : Fields) (at last : SerializerState) (e : Error) (result : Result A Error) → Refuses (variant_opening at.limit u left_brace at.depth) at e last → IsErrAnd result (λ y. y ≡ e) → WritesTree (struct_variant u fs) at result last
 variant_object_refused u fs at last e result p is = refused_first _ (variant_opening at.limit u left_brace at.depth) _ at last e result (variant_object at.limit u fs at.depth) p is
 
 item_first : {A : Type 0} (xs : List A) (i : ℕ) (x : A) → i < length xs → x ≡ get_or xs i x → drop i xs ≡ x ∷ drop (i + 1) xs
@@ -67,88 +67,88 @@ item_first xs i x h e = rw add-one (drop-cons xs i x h ∙ ap (λ y. y ∷ drop 
 module _ {W : Type 0} where
   -- ---- a collection was begun, and all its members remain
 
-  pub list_begun : (ts : Elements) {ser : MutBor Seen} {c : SerializeCollection W} → ListBegun ser c → Remains (array ts) ser.ghost_name ser.now c (elements ts)
+  pub list_begun : (ts : Elements) {ser : MutBor SerializerState} {c : SerializeCollection W} → ListBegun ser c → Remains (array ts) ser.ghost_name ser.now c (elements ts)
   list_begun ts {ser} {c} o = remains_all (array ts) ser c (elements ts) (list_opening ser) false refl o refl
 
-  pub object_begun : (fs : Fields) {ser : MutBor Seen} {c : SerializeCollection W} → ObjectBegun ser c → Remains (object fs) ser.ghost_name ser.now c (fields fs)
+  pub object_begun : (fs : Fields) {ser : MutBor SerializerState} {c : SerializeCollection W} → ObjectBegun ser c → Remains (object fs) ser.ghost_name ser.now c (fields fs)
   object_begun fs {ser} {c} o = remains_all (object fs) ser c (fields fs) (object_opening ser) false refl o refl
 
-  pub variant_list_begun : (u : List ℕ) (ts : Elements) {ser : MutBor Seen} {c : SerializeCollection W} → VariantListBegun u ser c → Remains (tuple_variant u ts) ser.ghost_name ser.now c (elements ts)
+  pub variant_list_begun : (u : List ℕ) (ts : Elements) {ser : MutBor SerializerState} {c : SerializeCollection W} → VariantListBegun u ser c → Remains (tuple_variant u ts) ser.ghost_name ser.now c (elements ts)
   variant_list_begun u ts {ser} {c} o = remains_all _ ser c (elements ts) (variant_opening ser.now.limit u left_bracket ser.now.depth) true (variant_list ser.now.limit u ts ser.now.depth) o refl
 
-  pub variant_object_begun : (u : List ℕ) (fs : Fields) {ser : MutBor Seen} {c : SerializeCollection W} → VariantObjectBegun u ser c → Remains (struct_variant u fs) ser.ghost_name ser.now c (fields fs)
+  pub variant_object_begun : (u : List ℕ) (fs : Fields) {ser : MutBor SerializerState} {c : SerializeCollection W} → VariantObjectBegun u ser c → Remains (struct_variant u fs) ser.ghost_name ser.now c (fields fs)
   variant_object_begun u fs {ser} {c} o = remains_all _ ser c (fields fs) (variant_opening ser.now.limit u left_brace ser.now.depth) true (variant_object ser.now.limit u fs ser.now.depth) o refl
 
   -- ---- elements
 
-  pub element_on : {t u : Written} {name : GName} {at : Seen} {c n : SerializeCollection W} {ts : Elements} {x : ⊤} → Remains t name at c (elements (element u ts)) → Steps (element_out (seen c).depth (out (seen c).limit u (seen c).depth)) false c (Ok x) n → Remains t name at n (elements ts)
+  pub element_on : {t u : Written} {name : GName} {at : SerializerState} {c n : SerializeCollection W} {ts : Elements} {x : ⊤} → Remains t name at c (elements (element u ts)) → Steps (element_out (state_of c).depth (out (state_of c).limit u (state_of c).depth)) false c (Ok x) n → Remains t name at n (elements ts)
   element_on {t} {u} {name} {at} {c} {n} {ts} {x} h s =
-      remains_on t name at c n (elements (element u ts)) (elements ts) (element_out (seen c).depth (out (seen c).limit u (seen c).depth)) x (first_element u ts (inner (in_variant c) at.depth) (seen c).depth at.limit (seen c).limit (has_member c) h.depth h.limit) refl h s
+      remains_on t name at c n (elements (element u ts)) (elements ts) (element_out (state_of c).depth (out (state_of c).limit u (state_of c).depth)) x (first_element u ts (inner (in_variant c) at.depth) (state_of c).depth at.limit (state_of c).limit (has_member c) h.depth h.limit) refl h s
 
-  pub element_refused : {A : Type 0} {t u : Written} {name : GName} {at : Seen} {c n : SerializeCollection W} {ts : Elements} {e : Error} (result : Result A Error) → Remains t name at c (elements (element u ts))
-      → Steps (element_out (seen c).depth (out (seen c).limit u (seen c).depth)) false c (Err e) n → IsErrAnd result (λ y. y ≡ e) → {last lent : Seen} → lent ≡ held n → (name ≡ reference_of n → last ≡ lent) → WritesTree t at result last
+  pub element_refused : {A : Type 0} {t u : Written} {name : GName} {at : SerializerState} {c n : SerializeCollection W} {ts : Elements} {e : Error} (result : Result A Error) → Remains t name at c (elements (element u ts))
+      → Steps (element_out (state_of c).depth (out (state_of c).limit u (state_of c).depth)) false c (Err e) n → IsErrAnd result (λ y. y ≡ e) → {last lent : SerializerState} → lent ≡ serializer_of n → (name ≡ reference_of n → last ≡ lent) → WritesTree t at result last
   element_refused {A} {t} {u} {name} {at} {c} {n} {ts} {e} result h s is {last} {lent} dropped follows =
-      remains_refused t name at last lent c n (elements (element u ts)) (elements ts) (element_out (seen c).depth (out (seen c).limit u (seen c).depth)) false e result (first_element u ts (inner (in_variant c) at.depth) (seen c).depth at.limit (seen c).limit (has_member c) h.depth h.limit) h s is dropped follows
+      remains_refused t name at last lent c n (elements (element u ts)) (elements ts) (element_out (state_of c).depth (out (state_of c).limit u (state_of c).depth)) false e result (first_element u ts (inner (in_variant c) at.depth) (state_of c).depth at.limit (state_of c).limit (has_member c) h.depth h.limit) h s is dropped follows
 
-  pub list_ended : {A : Type 0} {t : Written} {name : GName} {at : Seen} {c : SerializeCollection W} (n : Seen) (r : Result A Error) → Remains t name at c (elements no_element) → Writes (ending c) (outside c) r n → {last : Seen} → (name ≡ reference_of c → last ≡ n) → WritesTree t at r last
+  pub list_ended : {A : Type 0} {t : Written} {name : GName} {at : SerializerState} {c : SerializeCollection W} (n : SerializerState) (r : Result A Error) → Remains t name at c (elements no_element) → Writes (ending c) (outside c) r n → {last : SerializerState} → (name ≡ reference_of c → last ≡ n) → WritesTree t at r last
   list_ended {A} {t} {name} {at} {c} n r h w {last} follows =
-      let whole_tree = ends_whole (in_variant c) (has_member c) c.brackets right_bracket (out at.limit t at.depth) at (seen c) n r h.depth (closes_list c.brackets h.list) h.reaches w in
+      let whole_tree = ends_whole (in_variant c) (has_member c) c.brackets right_bracket (out at.limit t at.depth) at (state_of c) n r h.depth (closes_list c.brackets h.list) h.reaches w in
       subst (Writes (out at.limit t at.depth) at r) (sym (follows (sym h.same_reference))) whole_tree
 
-  pub next_item : {A : Type 0} (tree : A → Written) (xs : List A) (i : ℕ) (x : A) {t : Written} {name : GName} {at : Seen} {c : SerializeCollection W} → i < length xs → x ≡ get_or xs i x → Remains t name at c (elements (elements_of tree (drop i xs)))
+  pub next_item : {A : Type 0} (tree : A → Written) (xs : List A) (i : ℕ) (x : A) {t : Written} {name : GName} {at : SerializerState} {c : SerializeCollection W} → i < length xs → x ≡ get_or xs i x → Remains t name at c (elements (elements_of tree (drop i xs)))
       → Remains t name at c (elements (element (tree x) (elements_of tree (drop (i + 1) xs))))
   next_item tree xs i x {t} {name} {at} {c} l e h = subst (λ ys. Remains t name at c (elements (elements_of tree ys))) (item_first xs i x l e) h
 
-  pub no_item : {A : Type 0} (tree : A → Written) (xs : List A) (i : ℕ) {t : Written} {name : GName} {at : Seen} {c : SerializeCollection W} → length xs ≤ i → Remains t name at c (elements (elements_of tree (drop i xs))) → Remains t name at c (elements no_element)
+  pub no_item : {A : Type 0} (tree : A → Written) (xs : List A) (i : ℕ) {t : Written} {name : GName} {at : SerializerState} {c : SerializeCollection W} → length xs ≤ i → Remains t name at c (elements (elements_of tree (drop i xs))) → Remains t name at c (elements no_element)
   no_item tree xs i {t} {name} {at} {c} l h = subst (λ ys. Remains t name at c (elements (elements_of tree ys))) (drop_of_length-le xs l) h
 
   -- ---- keys and values
 
-  pub key_on : {t u : Written} {k : Key} {name : GName} {at : Seen} {c n : SerializeCollection W} {fs : Fields} {x : ⊤} → Remains t name at c (fields (field k u fs)) → Steps (key_part (seen c).depth k) true c (Ok x) n → Remains t name at n (value u fs)
+  pub key_on : {t u : Written} {k : Key} {name : GName} {at : SerializerState} {c n : SerializeCollection W} {fs : Fields} {x : ⊤} → Remains t name at c (fields (field k u fs)) → Steps (key_part (state_of c).depth k) true c (Ok x) n → Remains t name at n (value u fs)
   key_on {t} {u} {k} {name} {at} {c} {n} {fs} {x} h s =
-      remains_on t name at c n (fields (field k u fs)) (value u fs) (key_part (seen c).depth k) x (first_key k u fs (inner (in_variant c) at.depth) (seen c).depth at.limit (has_member c) h.depth) refl h s
+      remains_on t name at c n (fields (field k u fs)) (value u fs) (key_part (state_of c).depth k) x (first_key k u fs (inner (in_variant c) at.depth) (state_of c).depth at.limit (has_member c) h.depth) refl h s
 
-  pub key_refused : {A : Type 0} {t u : Written} {k : Key} {name : GName} {at : Seen} {c n : SerializeCollection W} {fs : Fields} {e : Error} (result : Result A Error) → Remains t name at c (fields (field k u fs))
-      → Steps (key_part (seen c).depth k) true c (Err e) n → IsErrAnd result (λ y. y ≡ e) → {last lent : Seen} → lent ≡ held n → (name ≡ reference_of n → last ≡ lent) → WritesTree t at result last
+  pub key_refused : {A : Type 0} {t u : Written} {k : Key} {name : GName} {at : SerializerState} {c n : SerializeCollection W} {fs : Fields} {e : Error} (result : Result A Error) → Remains t name at c (fields (field k u fs))
+      → Steps (key_part (state_of c).depth k) true c (Err e) n → IsErrAnd result (λ y. y ≡ e) → {last lent : SerializerState} → lent ≡ serializer_of n → (name ≡ reference_of n → last ≡ lent) → WritesTree t at result last
   key_refused {A} {t} {u} {k} {name} {at} {c} {n} {fs} {e} result h s is {last} {lent} dropped follows =
-      remains_refused t name at last lent c n (fields (field k u fs)) (value u fs) (key_part (seen c).depth k) true e result (first_key k u fs (inner (in_variant c) at.depth) (seen c).depth at.limit (has_member c) h.depth) h s is dropped follows
+      remains_refused t name at last lent c n (fields (field k u fs)) (value u fs) (key_part (state_of c).depth k) true e result (first_key k u fs (inner (in_variant c) at.depth) (state_of c).depth at.limit (has_member c) h.depth) h s is dropped follows
 
-  pub value_on : {t u : Written} {name : GName} {at : Seen} {c n : SerializeCollection W} {fs : Fields} {x : ⊤} → Remains t name at c (value u fs) → Steps (value_part (out (seen c).limit u (seen c).depth)) false c (Ok x) n → Remains t name at n (fields fs)
+  pub value_on : {t u : Written} {name : GName} {at : SerializerState} {c n : SerializeCollection W} {fs : Fields} {x : ⊤} → Remains t name at c (value u fs) → Steps (value_part (out (state_of c).limit u (state_of c).depth)) false c (Ok x) n → Remains t name at n (fields fs)
   value_on {t} {u} {name} {at} {c} {n} {fs} {x} h s =
-      remains_on t name at c n (value u fs) (fields fs) (value_part (out (seen c).limit u (seen c).depth)) x (first_value u fs (inner (in_variant c) at.depth) (seen c).depth at.limit (seen c).limit (has_member c) h.depth h.limit) refl h s
+      remains_on t name at c n (value u fs) (fields fs) (value_part (out (state_of c).limit u (state_of c).depth)) x (first_value u fs (inner (in_variant c) at.depth) (state_of c).depth at.limit (state_of c).limit (has_member c) h.depth h.limit) refl h s
 
-  pub value_refused : {A : Type 0} {t u : Written} {name : GName} {at : Seen} {c n : SerializeCollection W} {fs : Fields} {e : Error} (result : Result A Error) → Remains t name at c (value u fs)
-      → Steps (value_part (out (seen c).limit u (seen c).depth)) false c (Err e) n → IsErrAnd result (λ y. y ≡ e) → {last lent : Seen} → lent ≡ held n → (name ≡ reference_of n → last ≡ lent) → WritesTree t at result last
+  pub value_refused : {A : Type 0} {t u : Written} {name : GName} {at : SerializerState} {c n : SerializeCollection W} {fs : Fields} {e : Error} (result : Result A Error) → Remains t name at c (value u fs)
+      → Steps (value_part (out (state_of c).limit u (state_of c).depth)) false c (Err e) n → IsErrAnd result (λ y. y ≡ e) → {last lent : SerializerState} → lent ≡ serializer_of n → (name ≡ reference_of n → last ≡ lent) → WritesTree t at result last
   value_refused {A} {t} {u} {name} {at} {c} {n} {fs} {e} result h s is {last} {lent} dropped follows =
-      remains_refused t name at last lent c n (value u fs) (fields fs) (value_part (out (seen c).limit u (seen c).depth)) false e result (first_value u fs (inner (in_variant c) at.depth) (seen c).depth at.limit (seen c).limit (has_member c) h.depth h.limit) h s is dropped follows
+      remains_refused t name at last lent c n (value u fs) (fields fs) (value_part (out (state_of c).limit u (state_of c).depth)) false e result (first_value u fs (inner (in_variant c) at.depth) (state_of c).depth at.limit (state_of c).limit (has_member c) h.depth h.limit) h s is dropped follows
 
-  pub field_on : {t u : Written} {k : Key} {name : GName} {at : Seen} {c n : SerializeCollection W} {fs : Fields} {x : ⊤} → Remains t name at c (fields (field k u fs)) → Steps (entry_out (seen c).limit (seen c).depth k u) false c (Ok x) n → Remains t name at n (fields fs)
+  pub field_on : {t u : Written} {k : Key} {name : GName} {at : SerializerState} {c n : SerializeCollection W} {fs : Fields} {x : ⊤} → Remains t name at c (fields (field k u fs)) → Steps (entry_out (state_of c).limit (state_of c).depth k u) false c (Ok x) n → Remains t name at n (fields fs)
   field_on {t} {u} {k} {name} {at} {c} {n} {fs} {x} h s =
-      remains_on t name at c n (fields (field k u fs)) (fields fs) (entry_out (seen c).limit (seen c).depth k u) x (first_entry k u fs (inner (in_variant c) at.depth) (seen c).depth at.limit (seen c).limit (has_member c) h.depth h.limit) refl h s
+      remains_on t name at c n (fields (field k u fs)) (fields fs) (entry_out (state_of c).limit (state_of c).depth k u) x (first_entry k u fs (inner (in_variant c) at.depth) (state_of c).depth at.limit (state_of c).limit (has_member c) h.depth h.limit) refl h s
 
-  pub field_refused : {A : Type 0} {t u : Written} {k : Key} {name : GName} {at : Seen} {c n : SerializeCollection W} {fs : Fields} {e : Error} (result : Result A Error) → Remains t name at c (fields (field k u fs))
-      → Steps (entry_out (seen c).limit (seen c).depth k u) false c (Err e) n → IsErrAnd result (λ y. y ≡ e) → {last lent : Seen} → lent ≡ held n → (name ≡ reference_of n → last ≡ lent) → WritesTree t at result last
+  pub field_refused : {A : Type 0} {t u : Written} {k : Key} {name : GName} {at : SerializerState} {c n : SerializeCollection W} {fs : Fields} {e : Error} (result : Result A Error) → Remains t name at c (fields (field k u fs))
+      → Steps (entry_out (state_of c).limit (state_of c).depth k u) false c (Err e) n → IsErrAnd result (λ y. y ≡ e) → {last lent : SerializerState} → lent ≡ serializer_of n → (name ≡ reference_of n → last ≡ lent) → WritesTree t at result last
   field_refused {A} {t} {u} {k} {name} {at} {c} {n} {fs} {e} result h s is {last} {lent} dropped follows =
-      remains_refused t name at last lent c n (fields (field k u fs)) (fields fs) (entry_out (seen c).limit (seen c).depth k u) false e result (first_entry k u fs (inner (in_variant c) at.depth) (seen c).depth at.limit (seen c).limit (has_member c) h.depth h.limit) h s is dropped follows
+      remains_refused t name at last lent c n (fields (field k u fs)) (fields fs) (entry_out (state_of c).limit (state_of c).depth k u) false e result (first_entry k u fs (inner (in_variant c) at.depth) (state_of c).depth at.limit (state_of c).limit (has_member c) h.depth h.limit) h s is dropped follows
 
   -- fields that may be left out: what remains where it is known which are
-  pub same_fields : {t : Written} {name : GName} {at : Seen} {c : SerializeCollection W} {fs gs : Fields} → fs ≡ gs → Remains t name at c (fields fs) → Remains t name at c (fields gs)
+  pub same_fields : {t : Written} {name : GName} {at : SerializerState} {c : SerializeCollection W} {fs gs : Fields} → fs ≡ gs → Remains t name at c (fields fs) → Remains t name at c (fields gs)
   same_fields {t} {name} {at} {c} e h = subst (λ l. Remains t name at c (fields l)) e h
 
-  pub same_entries : {K V : Type 0} (key : K → Key) (tree : V → Written) (es rest : List (K × V)) {t : Written} {name : GName} {at : Seen} {c : SerializeCollection W} → es ≡ rest → Remains t name at c (fields (fields_of key tree es)) → Remains t name at c (fields (fields_of key tree rest))
+  pub same_entries : {K V : Type 0} (key : K → Key) (tree : V → Written) (es rest : List (K × V)) {t : Written} {name : GName} {at : SerializerState} {c : SerializeCollection W} → es ≡ rest → Remains t name at c (fields (fields_of key tree es)) → Remains t name at c (fields (fields_of key tree rest))
   same_entries key tree es rest {t} {name} {at} {c} e h = subst (λ l. Remains t name at c (fields (fields_of key tree l))) e h
 
-  pub object_ended : {A : Type 0} {t : Written} {name : GName} {at : Seen} {c : SerializeCollection W} (n : Seen) (r : Result A Error) → Remains t name at c (fields no_field) → Writes (ending c) (outside c) r n → {last : Seen} → (name ≡ reference_of c → last ≡ n) → WritesTree t at r last
+  pub object_ended : {A : Type 0} {t : Written} {name : GName} {at : SerializerState} {c : SerializeCollection W} (n : SerializerState) (r : Result A Error) → Remains t name at c (fields no_field) → Writes (ending c) (outside c) r n → {last : SerializerState} → (name ≡ reference_of c → last ≡ n) → WritesTree t at r last
   object_ended {A} {t} {name} {at} {c} n r h w {last} follows =
-      let whole_tree = ends_whole (in_variant c) (has_member c) c.brackets right_brace (out at.limit t at.depth) at (seen c) n r h.depth (closes_object c.brackets h.list) h.reaches w in
+      let whole_tree = ends_whole (in_variant c) (has_member c) c.brackets right_brace (out at.limit t at.depth) at (state_of c) n r h.depth (closes_object c.brackets h.list) h.reaches w in
       subst (Writes (out at.limit t at.depth) at r) (sym (follows (sym h.same_reference))) whole_tree
 
   -- ---- loops
 
   -- by the name of the reference that a loop begins with
-  pub in_loop : {t : Written} {name : GName} {at : Seen} {c : SerializeCollection W} {r : Rest} → Remains t name at c r → Remains t (reference_of c) at c r
+  pub in_loop : {t : Written} {name : GName} {at : SerializerState} {c : SerializeCollection W} {r : Rest} → Remains t name at c r → Remains t (reference_of c) at c r
   in_loop {t} {name} {at} {c} {r} h = subst (λ x. Remains t x at c r) (sym h.same_reference) h
 
   -- by the name of the reference that was lent
-  pub out_of_loop : {t : Written} {name other : GName} {at : Seen} {c : SerializeCollection W} {r : Rest} → other ≡ name → Remains t other at c r → Remains t name at c r
+  pub out_of_loop : {t : Written} {name other : GName} {at : SerializerState} {c : SerializeCollection W} {r : Rest} → other ≡ name → Remains t other at c r → Remains t name at c r
   out_of_loop {t} {name} {other} {at} {c} {r} e h = subst (λ x. Remains t x at c r) e h

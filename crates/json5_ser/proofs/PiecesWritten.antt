@@ -7,13 +7,13 @@ use Rattle.json5_grammar.specs.Values.{null_text, true_text, false_text}
 use Rattle.json5_grammar.specs.Quoting.{quote_for, escaped_all, quoted_text}
 use Rattle.json5_ser.specs.Out.{piece, ◌then◌}
 use Rattle.json5_ser.specs.Pieces.{AppendsFront}
-use Rattle.json5_ser.specs.Writes.{Seen, Wrote, Broke}
+use Rattle.json5_ser.specs.Writes.{SerializerState, Wrote, Broke}
 
-pub wrote_piece : (t : List ℕ) (o n : Seen) → IsUtf8 t → o.failed ≡ false → n.failed ≡ false → n.depth ≡ o.depth → n.limit ≡ o.limit → Appends o.known n.known t → Wrote (piece (chars t)) o n
+pub wrote_piece : (t : List ℕ) (o n : SerializerState) → IsUtf8 t → o.failed ≡ false → n.failed ≡ false → n.depth ≡ o.depth → n.limit ≡ o.limit → Appends o.known n.known t → Wrote (piece (chars t)) o n
 wrote_piece t o n u was failed depth limit p =
     record { was = was; stop = refl; chars = scalars-chars t u; bytes = subst (Appends o.known n.known) (sym (encodes-chars t u)) p; depth = depth; limit = limit; failed = failed }
 
-pub broke_piece : (t : List ℕ) (o n : Seen) → IsUtf8 t → o.failed ≡ false → n.failed ≡ true → AppendsFront o.known n.known t → Broke (piece (chars t)) o n
+pub broke_piece : (t : List ℕ) (o n : SerializerState) → IsUtf8 t → o.failed ≡ false → n.failed ≡ true → AppendsFront o.known n.known t → Broke (piece (chars t)) o n
 broke_piece t o n u was failed p = record { was = was; front = p.0; rest = p.1; cut = encodes-chars t u ∙ p.2; bytes = p.3; failed = failed }
 
 pub chars_null : chars null_text ≡ null_text

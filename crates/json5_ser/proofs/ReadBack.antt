@@ -4,7 +4,7 @@ use Rattle.json5_grammar.specs.Blanks.{Blanks, empty, blank}
 use Rattle.json5_grammar.specs.Quoting.{quoted_text, is_name, key_text}
 use Rattle.json5_grammar.specs.Trees as marked
 use Rattle.json5_grammar.specs.Trees.{Tree, Trees, Pairs, no_more, more, no_pair, pair}
-use Rattle.json5_grammar.specs.Values.{Val, is_null, is_true, is_false, is_empty_array, is_array, is_empty_object, is_object, Members, last, next, Entries, last_pair, next_pair, Entry, entry, KeyText, string_key, name_key, last_comma}
+use Rattle.json5_grammar.specs.Values.{Val, is_null, is_true, is_false, is_empty_array, is_array, is_empty_object, is_object, ElementList, last, next, MemberList, last_pair, next_pair, Member, entry, KeyText, string_key, name_key, last_comma}
 use Rattle.json5_grammar.proofs.ScalarsWritten.{number_value, text_value}
 use Rattle.json5_grammar.proofs.TextsWritten.{quoted_is, name_is}
 use Rattle.json5_ser.specs.WrittenTrees.{Written, null, boolean, number, text, array, object, Elements, no_element, element, Fields, no_field, field, named, bad}
@@ -35,12 +35,12 @@ line_blanks d = blank refl (spaces (2 * d))
 record HasMembers (x : List ℕ) (ts : Trees) : Type 0 where
   inside : List ℕ
   split : x ≡ inside ++ 93 ∷ []
-  members : Members inside ts
+  members : ElementList inside ts
 
 record HasEntries (x : List ℕ) (ps : Pairs) : Type 0 where
   inside : List ℕ
   split : x ≡ inside ++ 125 ∷ []
-  entries : Entries inside ps
+  entries : MemberList inside ps
 
 list_value : (x : List ℕ) (ts : Trees) → HasMembers x ts → Val (91 ∷ x) (marked.array ts)
 list_value x ts h = subst (λ l. Val (91 ∷ l) (marked.array ts)) (sym h.split) (is_array h.members)
@@ -69,10 +69,10 @@ next_member l o r t ts b v h = record {
   members = next b v empty h.members;
 }
 
-last_entry : (p w u : List ℕ) (plain : Bool) (t : Tree) → Entry p u plain t → Blanks w → HasEntries ((p ++ 44 ∷ []) ++ (w ++ 125 ∷ [])) (pair u plain t no_pair)
+last_entry : (p w u : List ℕ) (plain : Bool) (t : Tree) → Member p u plain t → Blanks w → HasEntries ((p ++ 44 ∷ []) ++ (w ++ 125 ∷ [])) (pair u plain t no_pair)
 last_entry p w u plain t e c = record { inside = p ++ 44 ∷ w; split = shift p _ w 125 refl; entries = last_pair e (last_comma c) }
 
-next_entry : (p r u : List ℕ) (plain : Bool) (t : Tree) (ps : Pairs) → Entry p u plain t → HasEntries r ps → HasEntries ((p ++ 44 ∷ []) ++ r) (pair u plain t ps)
+next_entry : (p r u : List ℕ) (plain : Bool) (t : Tree) (ps : Pairs) → Member p u plain t → HasEntries r ps → HasEntries ((p ++ 44 ∷ []) ++ r) (pair u plain t ps)
 next_entry p r u plain t ps e h = record { inside = p ++ 44 ∷ h.inside; split = shift p r h.inside 125 h.split; entries = next_pair e h.entries }
 
 -- a key as it is written
@@ -87,7 +87,7 @@ written_key u = key_by u (is_name u) refl
 abbrev entry_text : ℕ → List ℕ → List ℕ → List ℕ
 entry_text d u o = line d ++ (key_text u ++ 58 ∷ 32 ∷ (o ++ []))
 
-written_entry : (d : ℕ) (u o : List ℕ) (t : Tree) → Val o t → Entry (entry_text d u o) u (is_plain_key u) t
+written_entry : (d : ℕ) (u o : List ℕ) (t : Tree) → Val o t → Member (entry_text d u o) u (is_plain_key u) t
 written_entry d u o t v = entry (line_blanks d) (written_key u) empty (blank refl empty) v empty
 
 -- a field with its comma
@@ -149,7 +149,7 @@ mutual
       let m = elements_read limit us d (out limit u (d + 1)).text (marks u) (read_back limit u (d + 1) e.first) e.others in
       next_member (line (d + 1)) o _ t _ (line_blanks (d + 1)) v (subst (λ l. HasMembers l (element_marks (element u us))) (sym e.text) m)
 
-  fields_read : (limit : ℕ) (fs : Fields) (d : ℕ) (p u : List ℕ) (plain : Bool) (t : Tree) → Entry p u plain t → (fields_out limit fs d true).stop ≡ whole → HasEntries ((p ++ 44 ∷ []) ++ (fields_out limit fs d true).text) (pair u plain t (field_marks fs))
+  fields_read : (limit : ℕ) (fs : Fields) (d : ℕ) (p u : List ℕ) (plain : Bool) (t : Tree) → Member p u plain t → (fields_out limit fs d true).stop ≡ whole → HasEntries ((p ++ 44 ∷ []) ++ (fields_out limit fs d true).text) (pair u plain t (field_marks fs))
   fields_read limit no_field d p u plain t v h = last_entry p (line d) u plain t v (line_blanks d)
   fields_read limit (field (named k) s fs) d p u plain t v h =
       let e = first_field (d + 1) k (out limit s (d + 1)) (fields_out limit fs d true) h in

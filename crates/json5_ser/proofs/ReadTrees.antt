@@ -3,7 +3,7 @@ use Rattle.std.proofs.Common.{◌≡◌, ℕ, suc, Bool, List, refl, ap, arith}
 use Rattle.json5_grammar.specs.Numbers.{Number, Num, whole, decimal}
 use Rattle.json5_grammar.specs.NumberText.{IsNumber}
 use Rattle.json5_grammar.specs.Trees.{Tree, Trees, Pairs, null, boolean, number, text, array, object, no_more, more, no_pair, pair, depth, depths, pair_depths}
-use Rattle.json5_grammar.specs.Values.{Val, is_null, is_true, is_false, is_number, is_text, is_empty_array, is_array, is_empty_object, is_object, Members, last, next, Entries, last_pair, next_pair, Entry, entry}
+use Rattle.json5_grammar.specs.Values.{Val, is_null, is_true, is_false, is_number, is_text, is_empty_array, is_array, is_empty_object, is_object, ElementList, last, next, MemberList, last_pair, next_pair, Member, entry}
 use Rattle.json5_grammar.specs.Documents.{Doc}
 use Rattle.json5_grammar.proofs.NormalForms.{num_normal}
 use Rattle.json5_ser.specs.Out as written
@@ -27,15 +27,15 @@ mutual
   value_spelled (is_empty_object h) = tt
   value_spelled (is_object h) = entries_spelled h
 
-  members_spelled : {s : List ℕ} {ts : Trees} → Members s ts → AreSpelled (unmarked_elements ts)
+  members_spelled : {s : List ℕ} {ts : Trees} → ElementList s ts → AreSpelled (unmarked_elements ts)
   members_spelled (last w v b c) = (value_spelled v, tt)
   members_spelled (next w v b m) = (value_spelled v, members_spelled m)
 
-  entries_spelled : {s : List ℕ} {ps : Pairs} → Entries s ps → FieldsAreSpelled (unmarked_fields ps)
+  entries_spelled : {s : List ℕ} {ps : Pairs} → MemberList s ps → FieldsAreSpelled (unmarked_fields ps)
   entries_spelled (last_pair e c) = (entry_spelled e, tt)
   entries_spelled (next_pair e m) = (entry_spelled e, entries_spelled m)
 
-  entry_spelled : {s u : List ℕ} {plain : Bool} {t : Tree} → Entry s u plain t → IsSpelled (unmarked t)
+  entry_spelled : {s u : List ℕ} {plain : Bool} {t : Tree} → Member s u plain t → IsSpelled (unmarked t)
   entry_spelled (entry a k b w v c) = value_spelled v
 
 mutual

@@ -13,7 +13,7 @@ use Rattle.json5_grammar.specs.NumberText.{IsNumber, IsNormal, number_text}
 use Rattle.json5_text.specs.declared.error.Error.{Error}
 use Rattle.json5_ser.specs.Writable.{is_within, is_normal, is_writable}
 use Rattle.json5_ser.specs.Out.{Out, whole as ended_whole, no_number, piece, stopped, number_out}
-use Rattle.json5_ser.specs.Writes.{Seen, Writes}
+use Rattle.json5_ser.specs.Writes.{SerializerState, Writes}
 use Rattle.std.proofs.lemmas.Bool.{and_parts}
 
 both_from : (a b : Bool) → a ≡ true → b ≡ true → (a && b) ≡ true
@@ -82,7 +82,7 @@ whole_by false o h = absurd (cc)
 pub number_whole : (n : Number) → (number_out n).stop ≡ ended_whole → IsNumber n
 number_whole n h = number_from n (whole_by (is_writable n) (piece (number_text n)) h)
 
-pub Writes-number : {A : Type 0} (n : Number) (o m : Seen) (r : Result A Error) → IsNumber n → Writes (piece (number_text n)) o r m → Writes (number_out n) o r m
+pub Writes-number : {A : Type 0} (n : Number) (o m : SerializerState) (r : Result A Error) → IsNumber n → Writes (piece (number_text n)) o r m → Writes (number_out n) o r m
 Writes-number n o m r h w = subst (λ x. Writes x o r m) (sym (number_piece n h)) w
 
 pub unsigned_whole : (n : ℕ) → n < 2 ^ 128 → InWhole (pos n)

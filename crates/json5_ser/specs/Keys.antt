@@ -3,7 +3,7 @@ use Rattle.std.specs.Prelude.{Result}
 use Rattle.json5_text.specs.declared.error.Error.{Error}
 use Rattle.json5_ser.specs.WrittenTrees.{Key}
 use Rattle.json5_ser.specs.Out.{key_out}
-use Rattle.json5_ser.specs.Writes.{Seen, Writes}
+use Rattle.json5_ser.specs.Writes.{SerializerState, Writes}
 
-abbrev pub WritesKey : {A : Type 0} → Key → Seen → Result A Error → Seen → Type 0
+abbrev pub WritesKey : {A : Type 0} → Key → SerializerState → Result A Error → SerializerState → Type 0
 WritesKey k old result new = Writes (key_out k) old result new

@@ -5,7 +5,7 @@ use Rattle.std.specs.declared.io.Write as write
 use Rattle.json5_grammar.specs.Characters.{comma_sign, left_bracket, left_brace, right_brace}
 use Rattle.json5_text.specs.declared.error.Error.{Error}
 use Rattle.json5_ser.specs.Out.{Out, piece, ◌then◌, opening, closing, variant_opening}
-use Rattle.json5_ser.specs.Writes.{Seen, Wrote, Refuses, Writes, at_depth}
+use Rattle.json5_ser.specs.Writes.{SerializerState, Wrote, Refuses, Writes, at_depth}
 use Rattle.json5_ser.specs.Brackets.{closing_sign, is_square}
 use Rattle.json5_ser.specs.Stages.{is_started, is_pending}
 use Rattle.json5_ser.specs.declared.stage.Stage.{Stage}
@@ -23,24 +23,24 @@ inner true d = d + 1
 inner false d = d
 
 -- the bracket of a list, and of an object, with which this serializer goes on
-abbrev pub list_opening : MutBor Seen → Out
+abbrev pub list_opening : MutBor SerializerState → Out
 list_opening ser = opening ser.now.limit ser.now.depth left_bracket
 
-abbrev pub object_opening : MutBor Seen → Out
+abbrev pub object_opening : MutBor SerializerState → Out
 object_opening ser = opening ser.now.limit ser.now.depth left_brace
 
 module _ {W : Type 0} where
   -- the serializer itself, as the collection holds it
-  abbrev pub held : SerializeCollection W → Seen
-  held c = c.ser.now
+  abbrev pub serializer_of : SerializeCollection W → SerializerState
+  serializer_of c = c.ser.now
 
   -- the name of the reference that it holds
   abbrev pub reference_of : SerializeCollection W → GName
   reference_of c = c.ser.ghost_name
 
   -- the serializer as the calls of the collection see it: failed where one of them was refused
-  abbrev pub seen : SerializeCollection W → Seen
-  seen c = record c.ser.now { failed = c.failed }
+  abbrev pub state_of : SerializeCollection W → SerializerState
+  state_of c = record c.ser.now { failed = c.failed }
 
   abbrev pub is_list : SerializeCollection W → Bool
   is_list c = is_square c.brackets
@@ -58,35 +58,35 @@ module _ {W : Type 0} where
   in_variant c = c.in_variant
 
   -- a new collection, to which this serializer is lent, and of which this was written
-  pub record Opened (o : Out) (of_list of_variant : Bool) (ser : MutBor Seen) (c : SerializeCollection W) : Type 0 where
+  pub record Opened (o : Out) (of_list of_variant : Bool) (ser : MutBor SerializerState) (c : SerializeCollection W) : Type 0 where
     pub same_reference : reference_of c ≡ ser.ghost_name
-    pub wrote : Wrote o ser.now (at_depth ser.now.depth (seen c))
-    pub depth : (seen c).depth ≡ inner of_variant ser.now.depth + 1
-    pub blocks : (held c).failed ≡ true
+    pub wrote : Wrote o ser.now (at_depth ser.now.depth (state_of c))
+    pub depth : (state_of c).depth ≡ inner of_variant ser.now.depth + 1
+    pub blocks : (serializer_of c).failed ≡ true
     pub list : is_list c ≡ of_list
     pub variant : in_variant c ≡ of_variant
     pub empty : has_member c ≡ false
     pub pending : key_pending c ≡ false
 
   -- a list, and an object, that was begun
-  abbrev pub ListBegun : MutBor Seen → SerializeCollection W → Type 0
+  abbrev pub ListBegun : MutBor SerializerState → SerializeCollection W → Type 0
   ListBegun ser c = Opened (list_opening ser) true false ser c
 
-  abbrev pub ObjectBegun : MutBor Seen → SerializeCollection W → Type 0
+  abbrev pub ObjectBegun : MutBor SerializerState → SerializeCollection W → Type 0
   ObjectBegun ser c = Opened (object_opening ser) false false ser c
 
   -- the same as what a variant of this name holds
-  abbrev pub VariantListBegun : List ℕ → MutBor Seen → SerializeCollection W → Type 0
+  abbrev pub VariantListBegun : List ℕ → MutBor SerializerState → SerializeCollection W → Type 0
   VariantListBegun name ser c = Opened (variant_opening ser.now.limit name left_bracket ser.now.depth) true true ser c
 
-  abbrev pub VariantObjectBegun : List ℕ → MutBor Seen → SerializeCollection W → Type 0
+  abbrev pub VariantObjectBegun : List ℕ → MutBor SerializerState → SerializeCollection W → Type 0
   VariantObjectBegun name ser c = Opened (variant_opening ser.now.limit name left_brace ser.now.depth) false true ser c
 
   -- a call that has this text to write, after which a key waits for its value or none does. It blocks the serializer again
   pub record Steps (o : Out) (pending_next : Bool) (old : SerializeCollection W) (result : Result ⊤ Error) (new : SerializeCollection W) : Type 0 where
     pub same_reference : reference_of new ≡ reference_of old
-    pub writes : Writes o (seen old) result (seen new)
-    pub blocks : (held new).failed ≡ true
+    pub writes : Writes o (state_of old) result (state_of new)
+    pub blocks : (serializer_of new).failed ≡ true
     pub list : is_list new ≡ is_list old
     pub variant : in_variant new ≡ in_variant old
     pub started : OnOk result (has_member new ≡ true)
@@ -94,21 +94,21 @@ module _ {W : Type 0} where
 
   -- the brackets round what `end` closes
   abbrev pub outer : SerializeCollection W → ℕ
-  outer c = (seen c).depth - inner (in_variant c) 1
+  outer c = (state_of c).depth - inner (in_variant c) 1
 
   -- the serializer with these brackets alone
-  abbrev pub outside : SerializeCollection W → Seen
-  outside c = at_depth (outer c) (seen c)
+  abbrev pub outside : SerializeCollection W → SerializerState
+  outside c = at_depth (outer c) (state_of c)
 
   -- what closes the collection, and a variant's object round it
   abbrev pub ending : SerializeCollection W → Out
-  ending c = within_variant (in_variant c) (outer c) (closing ((seen c).depth - 1) (has_member c) (closing_sign c.brackets))
+  ending c = within_variant (in_variant c) (outer c) (closing ((state_of c).depth - 1) (has_member c) (closing_sign c.brackets))
 
   -- the serializer is blocked again, and the collection goes on to a stage where nothing was refused
   pub record Settles (old : SerializeCollection W) (written : Result ⊤ Error) (next : Stage) (new : SerializeCollection W) (result : Result ⊤ Error) : Type 0 where
     pub same : result ≡ written
     pub same_reference : reference_of new ≡ reference_of old
-    pub blocks : held new ≡ record (held old) { failed = true }
+    pub blocks : serializer_of new ≡ record (serializer_of old) { failed = true }
     pub brackets : new.brackets ≡ old.brackets
     pub variant : new.in_variant ≡ old.in_variant
     pub goes_on : OnOk written ((new.failed ≡ old.failed) × (new.stage ≡ next))
@@ -116,14 +116,14 @@ module _ {W : Type 0} where
 
 module _ (W : RattleType) (g : write.Ghosts W.Denot) where
   -- where it refuses the text o, the serializer ends so, and else as the collection leaves it
-  abbrev pub lends_serializer : Out → MutBor Seen → Result (SerializeCollection W.Denot) Error → Fml
+  abbrev pub lends_serializer : Out → MutBor SerializerState → Result (SerializeCollection W.Denot) Error → Fml
   lends_serializer o ser result = RestsIfErr (the_row W g) ser (λ c. reference_of c) result (λ last. IfErr result (λ e. Refuses o ser.now e last))
 
-  abbrev pub lends_list : MutBor Seen → Result (SerializeCollection W.Denot) Error → Fml
+  abbrev pub lends_list : MutBor SerializerState → Result (SerializeCollection W.Denot) Error → Fml
   lends_list ser result = lends_serializer (list_opening ser) ser result
 
-  abbrev pub lends_object : MutBor Seen → Result (SerializeCollection W.Denot) Error → Fml
+  abbrev pub lends_object : MutBor SerializerState → Result (SerializeCollection W.Denot) Error → Fml
   lends_object ser result = lends_serializer (object_opening ser) ser result
 
-  abbrev pub lends_variant : List ℕ → ℕ → MutBor Seen → Result (SerializeCollection W.Denot) Error → Fml
+  abbrev pub lends_variant : List ℕ → ℕ → MutBor SerializerState → Result (SerializeCollection W.Denot) Error → Fml
   lends_variant name bracket ser result = lends_serializer (variant_opening ser.now.limit name bracket ser.now.depth) ser result

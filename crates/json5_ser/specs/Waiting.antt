@@ -3,18 +3,18 @@ use Rattle.std.specs.Prelude.{Result}
 use Rattle.json5_grammar.specs.Values.{null_text}
 use Rattle.json5_text.specs.declared.error.Error.{Error}
 use Rattle.json5_ser.specs.WrittenTrees.{named, bad}
-use Rattle.json5_ser.specs.Writes.{Seen}
+use Rattle.json5_ser.specs.Writes.{SerializerState}
 use Rattle.json5_ser.specs.Keys.{WritesKey}
 use Rattle.json5_ser.specs.declared.key.MapKey.{MapKey}
 
 module _ {W : Type 0} where
-  abbrev pub waiting : MapKey W → Seen
-  waiting key = key.ser.now
+  abbrev pub serializer_of_key : MapKey W → SerializerState
+  serializer_of_key key = key.ser.now
 
   -- a call that writes `null` as the key
-  abbrev pub WritesNull : {A : Type 0} → MapKey W → Result A Error → Seen → Type 0
-  WritesNull key result new = WritesKey (named null_text) (waiting key) result new
+  abbrev pub WritesNull : {A : Type 0} → MapKey W → Result A Error → SerializerState → Type 0
+  WritesNull key result new = WritesKey (named null_text) (serializer_of_key key) result new
 
   -- a call of what is no key
-  abbrev pub RefusesKey : {A : Type 0} → MapKey W → Result A Error → Seen → Type 0
-  RefusesKey key result new = WritesKey bad (waiting key) result new
+  abbrev pub RefusesKey : {A : Type 0} → MapKey W → Result A Error → SerializerState → Type 0
+  RefusesKey key result new = WritesKey bad (serializer_of_key key) result new

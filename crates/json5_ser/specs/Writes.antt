@@ -10,14 +10,14 @@ use Rattle.json5_ser.specs.WrittenTrees.{Written}
 use Rattle.json5_ser.specs.Out.{Out, Stop, whole, invalid_key, too_deep, out}
 
 -- the bytes that the writer holds, where they are known; how many brackets are open; how many may be; whether a call was refused
-pub record Seen : Type 0 where
+pub record SerializerState : Type 0 where
   pub known : Option (List ℕ)
   pub depth : ℕ
   pub limit : ℕ
   pub failed : Bool
 
 -- the whole text was written, in UTF-8
-pub record Wrote (o : Out) (old new : Seen) : Type 0 where
+pub record Wrote (o : Out) (old new : SerializerState) : Type 0 where
   pub was : old.failed ≡ false
   pub stop : o.stop ≡ whole
   pub chars : all_scalars o.text ≡ true
@@ -27,14 +27,14 @@ pub record Wrote (o : Out) (old new : Seen) : Type 0 where
   pub failed : new.failed ≡ false
 
 -- the text stops here, and was written up to there
-pub record Stopped (s : Stop) (o : Out) (old new : Seen) : Type 0 where
+pub record Stopped (s : Stop) (o : Out) (old new : SerializerState) : Type 0 where
   pub was : old.failed ≡ false
   pub stop : o.stop ≡ s
   pub bytes : Appends old.known new.known (encode_utf8_all o.text)
   pub failed : new.failed ≡ true
 
 -- the writer failed, and got a prefix of the text
-pub record Broke (o : Out) (old new : Seen) : Type 0 where
+pub record Broke (o : Out) (old new : SerializerState) : Type 0 where
   pub was : old.failed ≡ false
   pub front : List ℕ
   pub rest : List ℕ
@@ -43,7 +43,7 @@ pub record Broke (o : Out) (old new : Seen) : Type 0 where
   pub failed : new.failed ≡ true
 
 -- an earlier call was refused, and nothing is written
-pub record Idled (old new : Seen) : Type 0 where
+pub record Idled (old new : SerializerState) : Type 0 where
   pub was : old.failed ≡ true
   pub bytes : Keeps old.known new.known
   pub failed : new.failed ≡ true
@@ -65,7 +65,7 @@ refusal_of (code _) = by_none
 refusal_of failed_write = by_writer
 refusal_of (custom _) = by_none
 
-abbrev pub RefusesBy : Out → Seen → Refusal → Seen → Type 0
+abbrev pub RefusesBy : Out → SerializerState → Refusal → SerializerState → Type 0
 RefusesBy o old by_key new = Stopped invalid_key o old new
 RefusesBy o old by_depth new = Stopped too_deep o old new
 RefusesBy o old by_writer new = Broke o old new
@@ -73,34 +73,34 @@ RefusesBy o old by_refusal new = Idled old new
 RefusesBy o old by_none new = ⊥
 
 -- a refusal has no place
-pub record Refuses (o : Out) (old : Seen) (e : Error) (new : Seen) : Type 0 where
+pub record Refuses (o : Out) (old : SerializerState) (e : Error) (new : SerializerState) : Type 0 where
   pub leaves : RefusesBy o old (refusal_of (kind_of e)) new
   pub no_place : place_of e ≡ None
 
 -- what a call did that has this text to write
-abbrev pub Writes : {A : Type 0} → Out → Seen → Result A Error → Seen → Type 0
+abbrev pub Writes : {A : Type 0} → Out → SerializerState → Result A Error → SerializerState → Type 0
 Writes o old (Ok x) new = Wrote o old new
 Writes o old (Err e) new = Refuses o old e new
 
 -- what a call did that writes this tree within the brackets that are open, and within the limit of the serializer
-abbrev pub WritesTree : {A : Type 0} → Written → Seen → Result A Error → Seen → Type 0
+abbrev pub WritesTree : {A : Type 0} → Written → SerializerState → Result A Error → SerializerState → Type 0
 WritesTree t old result new = Writes (out old.limit t old.depth) old result new
 
 -- nothing is written yet, within a limit and at the full one
-abbrev pub fresh_within : ℕ → Option (List ℕ) → Seen
+abbrev pub fresh_within : ℕ → Option (List ℕ) → SerializerState
 fresh_within limit known = record { known = known; depth = 0; limit = limit; failed = false }
 
-abbrev pub fresh : Option (List ℕ) → Seen
+abbrev pub fresh : Option (List ℕ) → SerializerState
 fresh = fresh_within max_depth
 
 -- a whole text was written, or refused
-abbrev pub ended_within : {A : Type 0} → ℕ → Option (List ℕ) → Result A Error → Seen
+abbrev pub ended_within : {A : Type 0} → ℕ → Option (List ℕ) → Result A Error → SerializerState
 ended_within limit known (Ok x) = record { known = known; depth = 0; limit = limit; failed = false }
 ended_within limit known (Err e) = record { known = known; depth = 0; limit = limit; failed = true }
 
-abbrev pub ended : {A : Type 0} → Option (List ℕ) → Result A Error → Seen
+abbrev pub ended : {A : Type 0} → Option (List ℕ) → Result A Error → SerializerState
 ended = ended_within max_depth
 
 -- the same with so many brackets open
-abbrev pub at_depth : ℕ → Seen → Seen
+abbrev pub at_depth : ℕ → SerializerState → SerializerState
 at_depth d s = record s { depth = d }

@@ -27,7 +27,7 @@ impl<W: Write + Drop> Serializer<W> {
     fn put_digits_of(&mut self, bytes: &[u8]) -> Result<()>
         ensures { Writes (piece (encode_lower bytes.now)) self.old result self.new }
     {
-        self.live()?;
+        self.check_not_failed()?;
         let mut buffer = [0u8; 64];
         for chunk in bytes.chunks(32) {
             let digits = &mut buffer[..2 * chunk.len()];

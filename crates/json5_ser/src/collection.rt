@@ -43,10 +43,10 @@ pub struct SerializeCollection<'a, W: Write + Drop> {
 
 /// Dropped before its end, it leaves the serializer blocked.
 impl<W: Write + Drop> Drop for SerializeCollection<'_, W> {
-    ghost use Rattle.json5_ser.specs.Lending.{held};
+    ghost use Rattle.json5_ser.specs.Lending.{serializer_of};
 
     fn drop(self)
-        ensures { self.exit.0.now ≡ held self.entry }
+        ensures { self.exit.0.now ≡ serializer_of self.entry }
     {
         let SerializeCollection {
             ser: _,
@@ -224,7 +224,7 @@ impl<W: Write + Drop> Serializer<W> {
 }
 
 impl<W: Write + Drop> SerializeCollection<'_, W> {
-    ghost use Rattle.json5_ser.specs.Lending.{seen, is_list, key_pending, Steps, Settles, ending, outside};
+    ghost use Rattle.json5_ser.specs.Lending.{state_of, is_list, key_pending, Steps, Settles, ending, outside};
 
     /// Says whether it is an array, for code that gets a collection of either kind. It still answers after a refusal.
     pub fn is_list(&self) -> bool
@@ -264,7 +264,7 @@ impl<W: Write + Drop> SerializeCollection<'_, W> {
     /// As every call: see [`SerializeCollection`].
     pub fn serialize_element<T: Serialize>(&mut self, value: &T) -> Result<()>
         requires list { is_list self.old ≡ true }
-        ensures { Steps (element_out (seen self.old).depth (out (seen self.old).limit (T.tree value.now) (seen self.old).depth)) false self.old result self.new }
+        ensures { Steps (element_out (state_of self.old).depth (out (state_of self.old).limit (T.tree value.now) (state_of self.old).depth)) false self.old result self.new }
     {
         self.ser.set_failed(self.failed);
         let written = self.ser.element(value);
@@ -280,7 +280,7 @@ impl<W: Write + Drop> SerializeCollection<'_, W> {
     pub fn serialize_key<K: SerializeKey>(&mut self, key: &K) -> Result<()>
         requires object { is_list self.old ≡ false }
         requires no_key { key_pending self.old ≡ false }
-        ensures { Steps (key_part (seen self.old).depth (K.as_key key.now)) true self.old result self.new }
+        ensures { Steps (key_part (state_of self.old).depth (K.as_key key.now)) true self.old result self.new }
     {
         self.ser.set_failed(self.failed);
         let written = self.ser.key(key);
@@ -294,7 +294,7 @@ impl<W: Write + Drop> SerializeCollection<'_, W> {
     /// As every call: see [`SerializeCollection`].
     pub fn serialize_value<T: Serialize>(&mut self, value: &T) -> Result<()>
         requires { key_pending self.old ≡ true }
-        ensures { Steps (value_part (out (seen self.old).limit (T.tree value.now) (seen self.old).depth)) false self.old result self.new }
+        ensures { Steps (value_part (out (state_of self.old).limit (T.tree value.now) (state_of self.old).depth)) false self.old result self.new }
     {
         self.ser.set_failed(self.failed);
         let written = self.ser.value(value);
@@ -313,7 +313,7 @@ impl<W: Write + Drop> SerializeCollection<'_, W> {
     ) -> Result<()>
         requires object { is_list self.old ≡ false }
         requires no_key { key_pending self.old ≡ false }
-        ensures { Steps (entry_out (seen self.old).limit (seen self.old).depth (K.as_key key.now) (T.tree value.now)) false self.old result self.new }
+        ensures { Steps (entry_out (state_of self.old).limit (state_of self.old).depth (K.as_key key.now) (T.tree value.now)) false self.old result self.new }
     {
         self.ser.set_failed(self.failed);
         let written = self.ser.entry(key, value);
@@ -328,7 +328,7 @@ impl<W: Write + Drop> SerializeCollection<'_, W> {
     pub fn serialize_field<T: Serialize>(&mut self, key: &'static str, value: &T) -> Result<()>
         requires object { is_list self.old ≡ false }
         requires no_key { key_pending self.old ≡ false }
-        ensures { Steps (entry_out (seen self.old).limit (seen self.old).depth (named (chars key.now)) (T.tree value.now)) false self.old result self.new }
+        ensures { Steps (entry_out (state_of self.old).limit (state_of self.old).depth (named (chars key.now)) (T.tree value.now)) false self.old result self.new }
     {
         self.serialize_entry(&key, value)
     }

@@ -41,10 +41,10 @@ pub struct MapKey<'a, W: Write + Drop> {
 
 /// Dropped unused, it leaves the serializer before the key.
 impl<W: Write + Drop> Drop for MapKey<'_, W> {
-    ghost use Rattle.json5_ser.specs.Waiting.{waiting};
+    ghost use Rattle.json5_ser.specs.Waiting.{serializer_of_key};
 
     fn drop(self)
-        ensures { self.exit.0.now ≡ waiting self.entry }
+        ensures { self.exit.0.now ≡ serializer_of_key self.entry }
     {
         let MapKey { ser: _ } = self;
     }
@@ -65,7 +65,7 @@ impl<W: Write + Drop> Drop for MapKey<'_, W> {
 /// }
 /// ```
 pub trait SerializeKey {
-    ghost use Rattle.json5_ser.specs.Waiting.{waiting};
+    ghost use Rattle.json5_ser.specs.Waiting.{serializer_of_key};
 
     ghost as_key: { Self → Key };
 
@@ -75,7 +75,7 @@ pub trait SerializeKey {
     ///
     /// As every call of a [`MapKey`]; `InvalidKey` where the value is no key, and then nothing of it is written.
     fn serialize_key<W: Write + Drop>(&self, key: MapKey<'_, W>) -> Result<()>
-        ensures { WritesKey (as_key self.now) (waiting key.entry) result key.exit.0.now };
+        ensures { WritesKey (as_key self.now) (serializer_of_key key.entry) result key.exit.0.now };
 }
 
 #[tactic(auto, using(crate::proofs::PiecesWritten::chars_true, crate::proofs::PiecesWritten::chars_false))]
@@ -143,7 +143,7 @@ impl<W: Write + Drop> Serializer<W> {
 }
 
 impl<W: Write + Drop> MapKey<'_, W> {
-    ghost use Rattle.json5_ser.specs.Waiting.{waiting, WritesNull, RefusesKey};
+    ghost use Rattle.json5_ser.specs.Waiting.{serializer_of_key, WritesNull, RefusesKey};
 
     /// Writes the key `true` or `false`.
     ///
@@ -151,7 +151,7 @@ impl<W: Write + Drop> MapKey<'_, W> {
     ///
     /// As every call: see [`MapKey`].
     pub fn serialize_bool(self, value: bool) -> Result<()>
-        ensures { WritesKey (named (bool_text value)) (waiting self.entry) result self.exit.0.now }
+        ensures { WritesKey (named (bool_text value)) (serializer_of_key self.entry) result self.exit.0.now }
     {
         let MapKey { ser } = self;
         ser.put_name(bool_name(value))
@@ -163,7 +163,7 @@ impl<W: Write + Drop> MapKey<'_, W> {
     ///
     /// As every call: see [`MapKey`].
     pub fn serialize_u8(self, value: u8) -> Result<()>
-        ensures { WritesKey (⟦<u8 as SerializeKey>⟧.as_key value) (waiting self.entry) result self.exit.0.now }
+        ensures { WritesKey (⟦<u8 as SerializeKey>⟧.as_key value) (serializer_of_key self.entry) result self.exit.0.now }
     {
         let MapKey { ser } = self;
         ser.put_digits(value)
@@ -175,7 +175,7 @@ impl<W: Write + Drop> MapKey<'_, W> {
     ///
     /// As every call: see [`MapKey`].
     pub fn serialize_u16(self, value: u16) -> Result<()>
-        ensures { WritesKey (⟦<u16 as SerializeKey>⟧.as_key value) (waiting self.entry) result self.exit.0.now }
+        ensures { WritesKey (⟦<u16 as SerializeKey>⟧.as_key value) (serializer_of_key self.entry) result self.exit.0.now }
     {
         let MapKey { ser } = self;
         ser.put_digits(value)
@@ -187,7 +187,7 @@ impl<W: Write + Drop> MapKey<'_, W> {
     ///
     /// As every call: see [`MapKey`].
     pub fn serialize_u32(self, value: u32) -> Result<()>
-        ensures { WritesKey (⟦<u32 as SerializeKey>⟧.as_key value) (waiting self.entry) result self.exit.0.now }
+        ensures { WritesKey (⟦<u32 as SerializeKey>⟧.as_key value) (serializer_of_key self.entry) result self.exit.0.now }
     {
         let MapKey { ser } = self;
         ser.put_digits(value)
@@ -199,7 +199,7 @@ impl<W: Write + Drop> MapKey<'_, W> {
     ///
     /// As every call: see [`MapKey`].
     pub fn serialize_u64(self, value: u64) -> Result<()>
-        ensures { WritesKey (⟦<u64 as SerializeKey>⟧.as_key value) (waiting self.entry) result self.exit.0.now }
+        ensures { WritesKey (⟦<u64 as SerializeKey>⟧.as_key value) (serializer_of_key self.entry) result self.exit.0.now }
     {
         let MapKey { ser } = self;
         ser.put_digits(value)
@@ -211,7 +211,7 @@ impl<W: Write + Drop> MapKey<'_, W> {
     ///
     /// As every call: see [`MapKey`].
     pub fn serialize_u128(self, value: u128) -> Result<()>
-        ensures { WritesKey (⟦<u128 as SerializeKey>⟧.as_key value) (waiting self.entry) result self.exit.0.now }
+        ensures { WritesKey (⟦<u128 as SerializeKey>⟧.as_key value) (serializer_of_key self.entry) result self.exit.0.now }
     {
         let MapKey { ser } = self;
         ser.put_digits(value)
@@ -223,7 +223,7 @@ impl<W: Write + Drop> MapKey<'_, W> {
     ///
     /// As every call: see [`MapKey`].
     pub fn serialize_i8(self, value: i8) -> Result<()>
-        ensures { WritesKey (⟦<i8 as SerializeKey>⟧.as_key value) (waiting self.entry) result self.exit.0.now }
+        ensures { WritesKey (⟦<i8 as SerializeKey>⟧.as_key value) (serializer_of_key self.entry) result self.exit.0.now }
     {
         let MapKey { ser } = self;
         ser.put_digits(value)
@@ -235,7 +235,7 @@ impl<W: Write + Drop> MapKey<'_, W> {
     ///
     /// As every call: see [`MapKey`].
     pub fn serialize_i16(self, value: i16) -> Result<()>
-        ensures { WritesKey (⟦<i16 as SerializeKey>⟧.as_key value) (waiting self.entry) result self.exit.0.now }
+        ensures { WritesKey (⟦<i16 as SerializeKey>⟧.as_key value) (serializer_of_key self.entry) result self.exit.0.now }
     {
         let MapKey { ser } = self;
         ser.put_digits(value)
@@ -247,7 +247,7 @@ impl<W: Write + Drop> MapKey<'_, W> {
     ///
     /// As every call: see [`MapKey`].
     pub fn serialize_i32(self, value: i32) -> Result<()>
-        ensures { WritesKey (⟦<i32 as SerializeKey>⟧.as_key value) (waiting self.entry) result self.exit.0.now }
+        ensures { WritesKey (⟦<i32 as SerializeKey>⟧.as_key value) (serializer_of_key self.entry) result self.exit.0.now }
     {
         let MapKey { ser } = self;
         ser.put_digits(value)
@@ -259,7 +259,7 @@ impl<W: Write + Drop> MapKey<'_, W> {
     ///
     /// As every call: see [`MapKey`].
     pub fn serialize_i64(self, value: i64) -> Result<()>
-        ensures { WritesKey (⟦<i64 as SerializeKey>⟧.as_key value) (waiting self.entry) result self.exit.0.now }
+        ensures { WritesKey (⟦<i64 as SerializeKey>⟧.as_key value) (serializer_of_key self.entry) result self.exit.0.now }
     {
         let MapKey { ser } = self;
         ser.put_digits(value)
@@ -271,7 +271,7 @@ impl<W: Write + Drop> MapKey<'_, W> {
     ///
     /// As every call: see [`MapKey`].
     pub fn serialize_i128(self, value: i128) -> Result<()>
-        ensures { WritesKey (⟦<i128 as SerializeKey>⟧.as_key value) (waiting self.entry) result self.exit.0.now }
+        ensures { WritesKey (⟦<i128 as SerializeKey>⟧.as_key value) (serializer_of_key self.entry) result self.exit.0.now }
     {
         let MapKey { ser } = self;
         ser.put_digits(value)
@@ -283,7 +283,7 @@ impl<W: Write + Drop> MapKey<'_, W> {
     ///
     /// As every call: see [`MapKey`].
     pub fn serialize_str(self, value: &str) -> Result<()>
-        ensures { WritesKey (named (chars value.now)) (waiting self.entry) result self.exit.0.now }
+        ensures { WritesKey (named (chars value.now)) (serializer_of_key self.entry) result self.exit.0.now }
     {
         let MapKey { ser } = self;
         ser.put_name(value)
@@ -295,7 +295,7 @@ impl<W: Write + Drop> MapKey<'_, W> {
     ///
     /// As every call: see [`MapKey`].
     pub fn serialize_char(self, value: char) -> Result<()>
-        ensures { WritesKey (named (value ∷ [])) (waiting self.entry) result self.exit.0.now }
+        ensures { WritesKey (named (value ∷ [])) (serializer_of_key self.entry) result self.exit.0.now }
     {
         let mut buffer = [0u8; 4];
         self.serialize_str(value.encode_utf8(&mut buffer))
@@ -308,7 +308,7 @@ impl<W: Write + Drop> MapKey<'_, W> {
     ///
     /// As every call: see [`MapKey`].
     pub fn serialize_decimal(self, value: &Decimal) -> Result<()>
-        ensures { WritesKey (named (decimal_text value.now)) (waiting self.entry) result self.exit.0.now }
+        ensures { WritesKey (named (decimal_text value.now)) (serializer_of_key self.entry) result self.exit.0.now }
     {
         let MapKey { ser } = self;
         ser.put_decimal_name(value)
@@ -320,7 +320,7 @@ impl<W: Write + Drop> MapKey<'_, W> {
     ///
     /// As every call: see [`MapKey`].
     pub fn serialize_bytes(self, value: &[u8]) -> Result<()>
-        ensures { WritesKey (named (encode_lower value.now)) (waiting self.entry) result self.exit.0.now }
+        ensures { WritesKey (named (encode_lower value.now)) (serializer_of_key self.entry) result self.exit.0.now }
     {
         let MapKey { ser } = self;
         ser.put_bytes_name(value)
@@ -364,7 +364,7 @@ impl<W: Write + Drop> MapKey<'_, W> {
         _index: u32,
         variant: &'static str,
     ) -> Result<()>
-        ensures { WritesKey (named (chars variant.now)) (waiting self.entry) result self.exit.0.now }
+        ensures { WritesKey (named (chars variant.now)) (serializer_of_key self.entry) result self.exit.0.now }
     {
         self.serialize_str(variant)
     }
@@ -375,7 +375,7 @@ impl<W: Write + Drop> MapKey<'_, W> {
     ///
     /// As every call: see [`MapKey`].
     pub fn serialize_some<K: SerializeKey>(self, key: &K) -> Result<()>
-        ensures { WritesKey (option_key K.as_key (Some key.now)) (waiting self.entry) result self.exit.0.now }
+        ensures { WritesKey (option_key K.as_key (Some key.now)) (serializer_of_key self.entry) result self.exit.0.now }
     {
         key.serialize_key(self)
     }
@@ -390,7 +390,7 @@ impl<W: Write + Drop> MapKey<'_, W> {
         _name: &'static str,
         key: &K,
     ) -> Result<()>
-        ensures { WritesKey (K.as_key key.now) (waiting self.entry) result self.exit.0.now }
+        ensures { WritesKey (K.as_key key.now) (serializer_of_key self.entry) result self.exit.0.now }
     {
         key.serialize_key(self)
     }

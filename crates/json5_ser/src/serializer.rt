@@ -12,7 +12,7 @@ ghost use Rattle.json5_text.specs.Errors.{code, kind_of, place_of};
 ghost use Rattle.json5_grammar.specs.Characters.{comma_sign, right_brace, double_quote};
 ghost use Rattle.json5_ser.specs.Brackets.{opening_sign, closing_sign};
 ghost use Rattle.json5_ser.specs.Stages.{is_started};
-ghost use Rattle.json5_ser.specs.Writes.{Seen, Writes, WritesTree, fresh, fresh_within, at_depth};
+ghost use Rattle.json5_ser.specs.Writes.{SerializerState, Writes, WritesTree, fresh, fresh_within, at_depth};
 
 use crate::Serialize;
 use crate::brackets::Brackets;
@@ -58,7 +58,7 @@ pub struct Serializer<W: Write + Drop> {
 }
 
 impl<W: Write + Drop> Model for Serializer<W> {
-    ghost Value = { Seen };
+    ghost Value = { SerializerState };
 
     ghost view = { λ s. record { known = W.contents s.writer; depth = s.depth; limit = s.limit; failed = s.failed } };
 
@@ -113,7 +113,7 @@ impl<W: Write + Drop> Serializer<W> {
     }
 
     /// Answers `Failed` where a call was refused before, or a collection holds the serializer.
-    pub(crate) fn live(&self) -> Result<()>
+    pub(crate) fn check_not_failed(&self) -> Result<()>
         ensures live { OnOk result (self.now.failed ≡ false) }
         ensures failed { IfErr result (λ e. (self.now.failed ≡ true) × (kind_of e ≡ code codes.Failed) × (place_of e ≡ None)) }
     {
@@ -129,7 +129,7 @@ impl<W: Write + Drop> Serializer<W> {
         ensures too_deep { code ≡ codes.TooDeep → Writes (stopped too_deep) self.old result self.new }
         ensures refused { IsErr result }
     {
-        self.live()?;
+        self.check_not_failed()?;
         self.failed = true;
         Err(Error::new(code))
     }
@@ -382,7 +382,7 @@ impl<W: Write + Drop> Serializer<W> {
     }
 
     /// Counts one open bracket less.
-    fn leave(&mut self)
+    fn exit_bracket(&mut self)
         ensures { self.new ≡ at_depth (self.old.depth - 1) self.old }
     {
         self.depth = self.depth.saturating_sub(1);
@@ -392,7 +392,7 @@ impl<W: Write + Drop> Serializer<W> {
     pub(crate) fn close(&mut self, brackets: Brackets, stage: Stage) -> Result<()>
         ensures { Writes (closing (self.old.depth - 1) (is_started stage) (closing_sign brackets)) (at_depth (self.old.depth - 1) self.old) result self.new }
     {
-        self.leave();
+        self.exit_bracket();
         if !stage.is_started() {
             return self.put(brackets.closing());
         }

@@ -10,7 +10,7 @@ use Rattle.json5_grammar.proofs.KeysRead.{key_complete}
 use Rattle.json5_text.specs.declared.error.Error.{Error}
 use Rattle.json5_text.specs.declared.refusal.Refusal.{Refusal}
 use Rattle.json5_text.specs.declared.refusal.Refusal.TheVariants as refusal
-use Rattle.json5_text.specs.Answered.{SparesPlain}
+use Rattle.json5_text.specs.TokenResults.{SparesPlain}
 use Rattle.json5_text.specs.Cursor.{Cursor}
 use Rattle.json5_text.specs.Errors.{LacksMemory}
 use Rattle.json5_text.specs.Outcome.{outcome}

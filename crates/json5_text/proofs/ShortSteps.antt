@@ -12,7 +12,7 @@ use Rattle.json5_grammar.specs.Members.{IsSign}
 use Rattle.json5_grammar.specs.ReadBlanks.{skip, between}
 use Rattle.json5_grammar.proofs.Basics.{eq_from}
 use Rattle.json5_grammar.proofs.BlanksSound.{gap_blanks}
-use Rattle.json5_text.specs.Answered.{Gives}
+use Rattle.json5_text.specs.TokenResults.{Gives}
 use Rattle.json5_text.specs.Cursor.{Cursor}
 use Rattle.json5_text.specs.Scan.{Leaves, LeavesAt}
 use Rattle.json5_text.specs.Short.{IsStep, FindsStep, IsInFront, Stepped, FindsSign, TakesShortSign}

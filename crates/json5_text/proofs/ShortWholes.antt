@@ -16,7 +16,7 @@ use Rattle.json5_grammar.specs.ReadNumbers as model
 use Rattle.json5_grammar.proofs.NumbersRead.{complete}
 use Rattle.json5_grammar.proofs.WholesWritten.{literal_alone}
 use Rattle.std.proofs.lemmas.Int.{ints}
-use Rattle.json5_text.specs.Answered.{Gives}
+use Rattle.json5_text.specs.TokenResults.{Gives}
 use Rattle.json5_grammar.specs.ReadNumbers.{front_of, rest_of}
 use Rattle.json5_grammar.proofs.NumberTests.{front_each, digit_nonzero, nonzero_not_48, nonzero_digit, digit_no_sign}
 use Rattle.json5_grammar.proofs.Basics.{eq_from}

@@ -4,7 +4,7 @@ pub mod Refused
 pub mod Cursor
 pub mod Tokens
 pub mod TextTokens
-pub mod Takes
+pub mod TokenCalls
 pub mod NumberViews
 pub mod NumberPieces
 pub mod NumberDecimals
@@ -13,7 +13,7 @@ pub mod NumberEquality
 pub mod ScanTexts
 pub mod NumberWholes
 pub mod Scan
-pub mod Answered
+pub mod TokenResults
 pub mod Escapes
 pub mod Cows
 pub mod Bytes

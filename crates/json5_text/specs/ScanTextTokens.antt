@@ -7,7 +7,7 @@ use Rattle.json5_text.specs.declared.cow_str.CowStr.TheVariants as cow
 use Rattle.json5_text.specs.declared.text_token.TextToken.{TextToken}
 use Rattle.json5_text.specs.declared.text_token.TextToken.TheVariants as token
 use Rattle.json5_text.specs.declared.refusal.Refusal.{Refusal}
-use Rattle.json5_text.specs.Answered.{GivesText, RefusesText}
+use Rattle.json5_text.specs.TokenResults.{GivesText, RefusesText}
 use Rattle.json5_text.specs.Outcome.{bytes_in}
 use Rattle.json5_text.specs.TextTokens.{Spells}
 

@@ -17,7 +17,7 @@ use Rattle.json5_text.specs.declared.texts.Stop.{Stop}
 use Rattle.json5_text.specs.declared.texts.Stop.TheVariants as stop
 use Rattle.json5_text.specs.declared.texts.Step.{Step}
 use Rattle.json5_text.specs.Scan.{AtEscape, in_list}
-use Rattle.json5_text.specs.Answered.{Gives, RefusesByCode, RefusesByFault}
+use Rattle.json5_text.specs.TokenResults.{Gives, RefusesByCode, RefusesByFault}
 
 abbrev pub quote_of : Quote → ℕ
 quote_of quotes.Double = double_quote

@@ -12,7 +12,7 @@ use Rattle.json5_text.specs.declared.short.ShortStep.{ShortStep}
 use Rattle.json5_text.specs.declared.short.ShortStep.TheVariants as short
 use Rattle.json5_text.specs.declared.short.ShortWhole.{ShortWhole}
 use Rattle.json5_text.specs.declared.short.Step.{Step}
-use Rattle.json5_text.specs.Answered.{Gives}
+use Rattle.json5_text.specs.TokenResults.{Gives}
 use Rattle.json5_text.specs.Cursor.{Cursor}
 use Rattle.json5_text.specs.Outcome.{bytes_in}
 

@@ -3,7 +3,7 @@
 ghost use Rattle.std.specs.Prelude.{MatchOption, MatchResult};
 ghost use Rattle.std.specs.Str.{chars};
 ghost use Rattle.json5_grammar.specs.ReadBlanks.{Mode, skip, between, slash};
-ghost use Rattle.json5_text.specs.Answered.{Skips, RefusesByCode};
+ghost use Rattle.json5_text.specs.TokenResults.{Skips, RefusesByCode};
 ghost use Rattle.json5_text.specs.ScanBlanks.{Continues, IsUnclosed};
 
 use crate::bytes::{begins_solid, blanks_len, line_len, star_place};

@@ -6,7 +6,7 @@ ghost use Rattle.json5_grammar.specs.Reading.{and_then};
 ghost use Rattle.json5_grammar.specs.Strings.{short_escape, is_high, is_low, pair_value};
 ghost use Rattle.json5_grammar.specs.ReadTexts.{hex, second, unicode_at, one_char, after_nul, after_cr, not_short, escape_at};
 ghost use Rattle.json5_text.specs.declared.refusal.Refusal.{Refusal};
-ghost use Rattle.json5_text.specs.Answered.{Gives, Answers, AnswersAs};
+ghost use Rattle.json5_text.specs.TokenResults.{Gives, Answers, AnswersAs};
 ghost use Rattle.json5_text.specs.Scan.{in_list};
 
 use crate::front::front;

@@ -3,7 +3,7 @@
 ghost use Rattle.std.specs.Prelude.{MatchResult};
 ghost use Rattle.std.specs.Str.{chars};
 ghost use Rattle.json5_grammar.specs.ReadNumbers as model;
-ghost use Rattle.json5_text.specs.Answered.{AnswersAs};
+ghost use Rattle.json5_text.specs.TokenResults.{AnswersAs};
 ghost use Rattle.json5_text.specs.NumberParts.{scanned_of};
 ghost use Rattle.json5_text.specs.ScanNumbers.{GivesHex, Overflows};
 

@@ -3,7 +3,7 @@
 ghost use Rattle.std.specs.Prelude.{◌≡◌};
 ghost use Rattle.std.specs.Str.{chars};
 ghost use Rattle.json5_grammar.specs.ReadTexts.{name_escape, identifier};
-ghost use Rattle.json5_text.specs.Answered.{Answers, AnswersAs, AnswersCow, Passes};
+ghost use Rattle.json5_text.specs.TokenResults.{Answers, AnswersAs, AnswersCow, Passes};
 ghost use Rattle.json5_text.specs.Scan.{SkipsAll, SkipsSome, in_list};
 ghost use Rattle.json5_text.specs.ScanTexts.{fits, is_raw_part, item_of_name, SkipsRaw};
 

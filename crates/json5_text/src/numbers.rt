@@ -5,7 +5,7 @@ ghost use Rattle.std.specs.Str.{IsUtf8, chars};
 ghost use Rattle.json5_grammar.specs.Characters.{digit_zero};
 ghost use Rattle.json5_grammar.specs.Numbers as numbers;
 ghost use Rattle.json5_grammar.specs.ReadNumbers as model;
-ghost use Rattle.json5_text.specs.Answered.{Gives, AnswersAs, AnswersNumber, AnswersWhole};
+ghost use Rattle.json5_text.specs.TokenResults.{Gives, AnswersAs, AnswersNumber, AnswersWhole};
 ghost use Rattle.json5_text.specs.NumberViews.{number_of};
 ghost use Rattle.json5_text.specs.NumberParts.{scanned_of};
 

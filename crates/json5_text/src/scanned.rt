@@ -5,7 +5,7 @@ ghost use Rattle.std.specs.Str.{chars};
 ghost use Rattle.json5_grammar.specs.Characters.{is_digit, Each};
 ghost use Rattle.json5_grammar.specs.Numbers as numbers;
 ghost use Rattle.json5_grammar.specs.ReadNumbers as model;
-ghost use Rattle.json5_text.specs.Answered.{Judges};
+ghost use Rattle.json5_text.specs.TokenResults.{Judges};
 ghost use Rattle.json5_text.specs.NumberViews.{number_of, keeps_digits, whole_in};
 ghost use Rattle.json5_text.specs.NumberParts.{scanned_of, parts_of, signed_limited, limited_exponent, is_whole_literal, HasExponentDigits, HasDigits};
 ghost use Rattle.json5_text.specs.NumberSteps.{IsSmallExponent};

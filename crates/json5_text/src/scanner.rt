@@ -5,7 +5,7 @@ ghost use Rattle.std.specs.Str.{all_scalars, chars};
 ghost use Rattle.json5_grammar.specs.Characters.{NotBegun};
 ghost use Rattle.json5_text.specs.Cursor.{Cursor, offset_of, Took};
 ghost use Rattle.json5_text.specs.Scan.{InText, Leaves, LeavesAt};
-ghost use Rattle.json5_text.specs.Takes.{PassesBlanks, TakesWord, TakesNumber, TakesOwned, TakesStringToken, TakesKey, PassesString, PassesName, PassesNumber};
+ghost use Rattle.json5_text.specs.TokenCalls.{PassesBlanks, TakesWord, TakesNumber, TakesOwned, TakesStringToken, TakesKey, PassesString, PassesName, PassesNumber};
 
 use crate::blanks::skip_blank;
 use crate::error::Result;
@@ -30,7 +30,7 @@ macro_rules! take {
             Ok((token, rest)) => (token, rest.len()),
             Err(refusal) => return Err($scanner.fault(refusal)),
         };
-        $scanner.leave_unread(left);
+        $scanner.set_remaining(left);
         Ok(token)
     }};
 }
@@ -42,7 +42,7 @@ macro_rules! pass {
             Ok(rest) => rest.len(),
             Err(refusal) => return Err($scanner.fault(refusal)),
         };
-        $scanner.leave_unread(left);
+        $scanner.set_remaining(left);
         Ok(())
     }};
 }
@@ -276,7 +276,7 @@ impl<I: Input> Scanner<I> {
     }
 
     /// Leaves so many bytes unread.
-    pub(crate) fn leave_unread(&mut self, left: usize)
+    pub(crate) fn set_remaining(&mut self, left: usize)
         requires { Leaves self.old left }
         ensures { LeavesAt self.old left self.new }
     {

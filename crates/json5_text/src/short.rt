@@ -4,7 +4,7 @@
 ghost use Rattle.std.specs.Prelude.{◌<◌, true, false, IfSome};
 ghost use Rattle.std.specs.Str.{chars};
 ghost use Rattle.json5_grammar.specs.ReadBlanks.{skip, between};
-ghost use Rattle.json5_text.specs.Answered.{Gives};
+ghost use Rattle.json5_text.specs.TokenResults.{Gives};
 ghost use Rattle.json5_text.specs.Short.{IsShortWhole, GivesSpaced, TakesShortWhole, IsInFront, FindsStep, TakesShortStep, FindsSign, TakesShortSign};
 
 use crate::blanks::skip_ascii;
@@ -158,7 +158,7 @@ impl<I: Input> Scanner<I> {
         if found.number < min || max < found.number {
             return None;
         }
-        self.leave_unread(found.left);
+        self.set_remaining(found.left);
         Some(found.number)
     }
 
@@ -171,7 +171,7 @@ impl<I: Input> Scanner<I> {
         let Some(step) = find_step(closing, due, self.rest(self.input.as_text())) else {
             return ShortStep::Other;
         };
-        self.leave_unread(step.left);
+        self.set_remaining(step.left);
         if step.at_closing {
             ShortStep::Closing
         } else {
@@ -187,7 +187,7 @@ impl<I: Input> Scanner<I> {
         let Some(left) = after_sign(sign, self.rest(self.input.as_text())) else {
             return false;
         };
-        self.leave_unread(left);
+        self.set_remaining(left);
         true
     }
 }

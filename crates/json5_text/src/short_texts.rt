@@ -106,7 +106,7 @@ impl<I: Input> Scanner<I> {
             start: self.end - found.from,
             end: self.end - found.to,
         };
-        self.leave_unread(found.left);
+        self.set_remaining(found.left);
         Some(span)
     }
 
@@ -121,7 +121,7 @@ impl<I: Input> Scanner<I> {
             start: self.end - found.from,
             end: self.end - found.to,
         };
-        self.leave_unread(found.left);
+        self.set_remaining(found.left);
         Some(span)
     }
 }

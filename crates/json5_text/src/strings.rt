@@ -3,7 +3,7 @@
 ghost use Rattle.std.specs.Prelude.{◌≡◌, ◌≤◌, length};
 ghost use Rattle.std.specs.Str.{chars};
 ghost use Rattle.json5_grammar.specs.Strings.{is_quote, is_raw};
-ghost use Rattle.json5_text.specs.Answered.{AnswersCow, AnswersOwned, Passes};
+ghost use Rattle.json5_text.specs.TokenResults.{AnswersCow, AnswersOwned, Passes};
 ghost use Rattle.json5_text.specs.Scan.{SkipsAll};
 ghost use Rattle.json5_text.specs.ScanTextTokens.{AnswersToken};
 ghost use Rattle.json5_text.specs.ScanTexts.{quote_of, string_at, AnswersQuote};

@@ -3,7 +3,7 @@
 ghost use Rattle.std.specs.Prelude.{◌≡◌, ◌++◌, OnOk, string_bytes};
 ghost use Rattle.std.specs.Str.{chars, encode_utf8_all};
 ghost use Rattle.json5_grammar.specs.Characters.{NotBegun};
-ghost use Rattle.json5_text.specs.Answered.{AnswersAs, AnswersCow, AnswersMore, Passes};
+ghost use Rattle.json5_text.specs.TokenResults.{AnswersAs, AnswersCow, AnswersMore, Passes};
 ghost use Rattle.json5_text.specs.Scan.{AtEscape, in_list};
 ghost use Rattle.json5_text.specs.ScanTexts.{quote_of, rest_of, past, ends_early, text_at, item, is_raw_in, SkipsRaw, AnswersStop, AnswersRun, AnswersStep};
 

@@ -2,7 +2,7 @@
 
 ghost use Rattle.std.specs.Str.{chars};
 ghost use Rattle.json5_grammar.specs.ReadValues.{word_at};
-ghost use Rattle.json5_text.specs.Answered.{Skips};
+ghost use Rattle.json5_text.specs.TokenResults.{Skips};
 
 use crate::front::front;
 use crate::refusal::Refusal;

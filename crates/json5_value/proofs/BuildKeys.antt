@@ -20,7 +20,7 @@ use Rattle.json5_text.specs.declared.text_token.TextToken.{TextToken}
 use Rattle.json5_text.specs.Cursor.{Cursor}
 use Rattle.json5_text.specs.Errors.{code, kind_of, place_of}
 use Rattle.json5_text.specs.TextTokens.{Spells}
-use Rattle.json5_text.specs.Takes.{TakesKey}
+use Rattle.json5_text.specs.TokenCalls.{TakesKey}
 use Rattle.json5_text.specs.Tokens.{FaultyKey, at_quote, at_name}
 use Rattle.json5_text.proofs.TextScalars.{key_scalars}
 use Rattle.json5_value.specs.Entries.{entry_front, entry_start, next_entry}

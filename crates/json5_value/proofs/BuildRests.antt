@@ -11,7 +11,7 @@ use Rattle.json5_grammar.proofs.TreeSteps.{trees_step, trees_later, pairs_step, 
 use Rattle.json5_text.specs.declared.value.Value.{Value}
 use Rattle.json5_text.specs.ValueViews as views
 use Rattle.json5_text.specs.ValueViews.{Datum, Items, Fields, no_item, item, no_field, field, value_of, items_view, fields_view}
-use Rattle.json5_value.specs.Building.{elements_before, members_before, array_with, object_with, rest_of_array, rest_of_object}
+use Rattle.json5_value.specs.BuildSteps.{elements_before, members_before, array_with, object_with, rest_of_array, rest_of_object}
 use Rattle.json5_value.specs.Keeping.{as_datum, next_key}
 use Rattle.json5_value.specs.Data.{datum_of, items_of, fields_of}
 

@@ -14,7 +14,7 @@ use Rattle.json5_text.specs.ValueViews as views
 use Rattle.json5_text.proofs.ValuesCompared.{view-Array, view-Object}
 use Rattle.json5_value.specs.declared.read.Unfinished.{Unfinished}
 use Rattle.json5_value.specs.declared.read.Unfinished.TheVariants as unfinished
-use Rattle.json5_value.specs.Building.{elements_before, members_before, object_with, array_at, object_at, value_in_at, start_of, value_in, Building, BuildingInside, TurnsInside}
+use Rattle.json5_value.specs.BuildSteps.{elements_before, members_before, object_with, array_at, object_at, value_in_at, start_of, value_in, Building, BuildingInside, TurnsInside}
 use Rattle.json5_value.specs.Keeping.{BlamesOrMemory, IsNextKey, next_key, datum_at}
 use Rattle.json5_value.specs.Nesting.{Within}
 use Rattle.json5_value.specs.Places.{StartsAfter, PlacedAt}

@@ -16,7 +16,7 @@ use Rattle.json5_value.specs.declared.brackets.BracketKind.TheVariants as bracke
 use Rattle.json5_value.specs.declared.brackets.OpenBracket.{OpenBracket}
 use Rattle.json5_value.specs.declared.read.Unfinished.{Unfinished}
 use Rattle.json5_value.specs.Brackets.{bracket_of}
-use Rattle.json5_value.specs.Building.{array_at, object_at, value_in_at, start_of, value_in, Building, BuildingInside, PlacedIn, Turns, TurnsInside}
+use Rattle.json5_value.specs.BuildSteps.{array_at, object_at, value_in_at, start_of, value_in, Building, BuildingInside, PlacedIn, Turns, TurnsInside}
 use Rattle.json5_value.specs.Keeping.{BlamesOrMemory, as_datum, datum_at, ReadsDatum}
 use Rattle.json5_value.specs.Nesting.{Nested}
 use Rattle.json5_value.specs.Opening.{OpenedAt}

@@ -24,7 +24,7 @@ use Rattle.std.proofs.lemmas.List.{append-nil}
 use Rattle.json5_text.specs.declared.error.Error.{Error}
 use Rattle.json5_text.specs.Errors.{code, kind_of, place_of}
 use Rattle.json5_text.specs.Cursor.{IsPlaced}
-use Rattle.json5_text.specs.Takes.{TakesWord, PassesString, PassesNumber}
+use Rattle.json5_text.specs.TokenCalls.{TakesWord, PassesString, PassesNumber}
 use Rattle.json5_text.specs.Cursor.{Cursor, Took, offset_of}
 use Rattle.json5_value.specs.declared.kinds.Literal.{Literal}
 use Rattle.json5_value.specs.declared.kinds.Literal.TheVariants as literal
@@ -34,7 +34,7 @@ use Rattle.json5_value.specs.declared.brackets.OpenBracket.{OpenBracket}
 use Rattle.json5_value.specs.Brackets.{bracket_of}
 use Rattle.json5_value.specs.Kinds.{kind_at, word_of, ends_of, differs_of}
 use Rattle.json5_value.specs.Opening.{OpenedAt, Opens}
-use Rattle.json5_value.specs.Skipping.{SkipsOrOpens}
+use Rattle.json5_value.specs.SkipSteps.{SkipsOrOpens}
 use Rattle.json5_value.specs.Steps.{IsInside, SameText, Blames, Gave, Steps, value_at}
 use Rattle.json5_value.proofs.Steps.{same_step, refused_step, forget_got, blames_made, none_next, some_next, counted_before}
 use Rattle.json5_value.proofs.TokenSteps.{string_step, number_step, word_step, without}

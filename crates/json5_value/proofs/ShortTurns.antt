@@ -18,7 +18,7 @@ use Rattle.json5_value.specs.Nesting.{Within}
 use Rattle.json5_value.specs.Opening.{OpenedAt}
 use Rattle.json5_value.specs.Places.{StartsAfter, PlacedAt}
 use Rattle.json5_value.specs.Short.{EntersShort, PassesShort, name_at, member_at, SkippingMember, TurnsMember, Reached, Advanced, TurnsShort, ResumesShort}
-use Rattle.json5_value.specs.Skipping.{start_of, rest_in, rest_at, Skipping, SkippingInside}
+use Rattle.json5_value.specs.SkipSteps.{start_of, rest_in, rest_at, Skipping, SkippingInside}
 use Rattle.json5_value.specs.Steps.{IsInside, SameText, Blames, Gave, value_at}
 use Rattle.json5_value.proofs.EntryValues.{next_is, head_or_end, head_of}
 use Rattle.json5_value.proofs.Nesting.{value_reached, inside_blamed, moved}

@@ -29,7 +29,7 @@ use Rattle.json5_grammar.proofs.StringsSound.{StringSound, string_sound}
 use Rattle.json5_grammar.proofs.WordsRead.{differs_at, ends_in, word_complete}
 use Rattle.json5_text.specs.declared.error.Error.{Error}
 use Rattle.json5_text.specs.Cursor.{Cursor, Took}
-use Rattle.json5_text.specs.Takes.{PassesBlanks, PassesString, PassesName, PassesNumber, TakesWord}
+use Rattle.json5_text.specs.TokenCalls.{PassesBlanks, PassesString, PassesName, PassesNumber, TakesWord}
 use Rattle.json5_text.specs.NumberViews.{whole_in}
 use Rattle.json5_text.specs.Tokens.{FaultyBlanks, FaultyWord, word_differs, word_ends, FaultyNumber, no_number, number_missing, FaultyString, no_quote, string_missing, FaultyName, no_name, name_missing}
 use Rattle.json5_text.specs.Tokens as tokens

@@ -5,8 +5,8 @@ pub mod Steps
 pub mod Entries
 pub mod Opening
 pub mod Nesting
-pub mod Skipping
+pub mod SkipSteps
 pub mod Short
 pub mod Data
 pub mod Keeping
-pub mod Building
+pub mod BuildSteps

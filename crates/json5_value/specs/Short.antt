@@ -15,7 +15,7 @@ use Rattle.json5_value.specs.declared.skip.ShortTurn.TheVariants as turn
 use Rattle.json5_value.specs.Brackets.{bracket_of}
 use Rattle.json5_value.specs.Entries.{next_entry}
 use Rattle.json5_value.specs.Nesting.{Inside}
-use Rattle.json5_value.specs.Skipping.{start_of, rest_in, Skipping, SkippingInside}
+use Rattle.json5_value.specs.SkipSteps.{start_of, rest_in, Skipping, SkippingInside}
 use Rattle.json5_value.specs.Steps.{SameText, Blames, Gave, value_at}
 
 -- ---- entries and values

@@ -1,7 +1,7 @@
 //! What a value begins with, and the literals (JSON5 section 2).
 
 ghost use Rattle.std.specs.Prelude.{◌≡◌};
-ghost use Rattle.json5_text.specs.Takes.{TakesWord};
+ghost use Rattle.json5_text.specs.TokenCalls.{TakesWord};
 ghost use Rattle.json5_value.specs.Kinds.{kind_at, word_of, ends_of, differs_of};
 
 use json5_text::ErrorCode;

@@ -1,7 +1,7 @@
 //! Reading of values of any kind (JSON5 sections 2 to 6).
 
 ghost use Rattle.std.specs.Prelude.{◌≡◌, true};
-ghost use Rattle.json5_value.specs.Building.{PlacedIn, Turns, TurnsInside, array_at, object_at, start_of, value_in_at};
+ghost use Rattle.json5_value.specs.BuildSteps.{PlacedIn, Turns, TurnsInside, array_at, object_at, start_of, value_in_at};
 ghost use Rattle.json5_value.specs.Keeping.{ReadsDatum, ReadsOrOpens};
 ghost use Rattle.json5_value.specs.Steps.{IsInside};
 

@@ -7,7 +7,7 @@ ghost use Rattle.json5_value.specs.Brackets.{bracket_of};
 ghost use Rattle.json5_value.specs.Opening.{AtScalar};
 ghost use Rattle.json5_value.specs.Steps.{IsInside, Steps, value_at};
 ghost use Rattle.json5_value.specs.Short.{TurnsMember, ResumesShort, TurnsShort};
-ghost use Rattle.json5_value.specs.Skipping.{SkipsOrOpens, Turns, TurnsInside, PlacedWithin, Skips};
+ghost use Rattle.json5_value.specs.SkipSteps.{SkipsOrOpens, Turns, TurnsInside, PlacedWithin, Skips};
 
 use crate::brackets::{BracketKind, OpenBracket, open_bracket};
 use crate::entries::{skip_name, skip_to_value};

@@ -4,7 +4,7 @@ ghost use Rattle.std.specs.Prelude.{◌≡◌, ℕ, List};
 ghost use Rattle.std.specs.Str.{chars, encode_utf8_all};
 ghost use Rattle.json5_text.specs.TextTokens.{StandsAt, IsTextOf, IsCowOf};
 ghost use Rattle.json5_text.specs.ShortTexts.{IsTextAt};
-ghost use Rattle.json5_text.specs.Takes.{TakesString, TakesName};
+ghost use Rattle.json5_text.specs.TokenCalls.{TakesString, TakesName};
 
 use crate::cow_str::CowStr;
 use crate::error::Result;

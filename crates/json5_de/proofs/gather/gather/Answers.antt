@@ -1,5 +1,5 @@
 use Rattle.std.proofs.Common.{rules, refl, ◌∙◌, ◌∷◌, [], ◌++◌}
-use Rattle.json5_de.specs.Lending.{seen_map}
+use Rattle.json5_de.specs.Lending.{map_state_of}
 use Rattle.json5_de.proofs.Gathering.{begins, reads_key, reads_value, stops, key_completes, value_completes, end_completes, key_faults, value_faults, closes_there}
 use Rattle.json5_de.proofs.gather.gather.Goals as goal
 
@@ -8,7 +8,7 @@ loop-map-init g c = record {
   same_reference = refl;
   pairs = [];
   gathered = c.requires;
-  reading = begins g.K.DeserializeKey.content g.V.Deserialize.content g.K.DeserializeKey.convert g.V.Deserialize.convert seen_map c.in_ok-map.map c.in_ok-map.ensures.opens;
+  reading = begins g.K.DeserializeKey.content g.V.Deserialize.content g.K.DeserializeKey.convert g.V.Deserialize.convert map_state_of c.in_ok-map.map c.in_ok-map.ensures.opens;
 }
 
 pub loop-map-preserved : goal.loop-map-preserved
@@ -48,7 +48,7 @@ returns-in_err-end-clause-complete g c =
 
 pub returns-in_err-end-clause-refused : goal.returns-in_err-end-clause-refused
 returns-in_err-end-clause-refused g c =
-    let (at, due, none) = rw c.in_default.is at c.in_ok-key.ensures.sound in closes_there (seen_map c.loop-map.map) (seen_map c.next_key.new.self) _ _ at (c.in_err-end.ensures.alone (search rules))
+    let (at, due, none) = rw c.in_default.is at c.in_ok-key.ensures.sound in closes_there (map_state_of c.loop-map.map) (map_state_of c.next_key.new.self) _ _ at (c.in_err-end.ensures.alone (search rules))
 
 pub returns-clause-sound : goal.returns-clause-sound
 returns-clause-sound g c = (

@@ -1,5 +1,5 @@
 use Rattle.std.proofs.Common.{List, length, None}
-use Rattle.json5_de.specs.Lending.{seen_map, HoldsTheSameMap}
+use Rattle.json5_de.specs.Lending.{map_state_of, HoldsTheSameMap}
 use Rattle.json5_de.proofs.Gathering.{ReadingPairs}
 use Rattle.json5_de.proofs.gather.gather.Given as goal
 
@@ -8,8 +8,8 @@ invariant-loop-map g l = record {
   same_reference : HoldsTheSameMap l.initial.map l.map;
   pairs : List (g.row.K.Denot × g.row.V.Denot);
   gathered : g.M.Gathers.gathered l.items pairs;
-  reading : ReadingPairs g.K.DeserializeKey.content g.V.Deserialize.content g.K.DeserializeKey.convert g.V.Deserialize.convert l.fn.de pairs None (seen_map l.map);
+  reading : ReadingPairs g.K.DeserializeKey.content g.V.Deserialize.content g.K.DeserializeKey.convert g.V.Deserialize.convert l.fn.de pairs None (map_state_of l.map);
 }
 
 abbrev pub decreases-loop-map : goal.decreases-loop-map
-decreases-loop-map g l = length (seen_map l.map).at.reader.unread
+decreases-loop-map g l = length (map_state_of l.map).at.reader.unread

@@ -1,9 +1,9 @@
 use Rattle.json5_text.specs.Bytes.{bytes_of}
 use Rattle.json5_text.specs.Cows.{cow_bytes, is_borrowed}
 use Rattle.json5_text.specs.ValueViews.{value_of}
-use Rattle.json5_de.specs.Convert.{every_datum, natural_below, integer_below, every_text, one_character, if_plain, place_among, every_cow}
-use Rattle.json5_de.specs.Rows.{every_tree, no_tree, plain_text, text_bytes, slice_bytes}
-use Rattle.json5_de.proofs.Rows.{tells_apart, lawful_null, lawful_bool, lawful_whole, lawful_decimal, lawful_text, lawful_bytes}
+use Rattle.json5_de.specs.Convert.{every_datum, natural_below, integer_below, every_text, one_character, if_plain, index_of, every_cow}
+use Rattle.json5_de.specs.TokenKinds.{every_tree, no_tree, plain_text, text_bytes, slice_bytes}
+use Rattle.json5_de.proofs.TokenKinds.{tells_apart, lawful_null, lawful_bool, lawful_whole, lawful_decimal, lawful_text, lawful_bytes}
 use Rattle.json5_de.proofs.TreeCodes.{tells_trees_apart}
 use Rattle.json5_de.proofs.laws.value_codes.Goals as goal
 
@@ -32,7 +32,7 @@ pub returns-clause-plain : goal.returns-clause-plain
 returns-clause-plain c = tells_apart (lawful_text if_plain every_tree) slice_bytes
 
 pub returns-clause-variant : goal.returns-clause-variant
-returns-clause-variant c names = tells_apart (lawful_text (place_among names) plain_text) (λ n. n)
+returns-clause-variant c names = tells_apart (lawful_text (index_of names) plain_text) (λ n. n)
 
 pub returns-clause-cow : goal.returns-clause-cow
 returns-clause-cow c = tells_apart (lawful_text every_cow plain_text) (λ t. (cow_bytes t, is_borrowed t))

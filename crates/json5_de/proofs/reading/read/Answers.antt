@@ -1,4 +1,4 @@
-use Rattle.json5_de.proofs.Own.{reads_content}
+use Rattle.json5_de.proofs.Refinement.{reads_content}
 use Rattle.json5_de.proofs.reading.read.Goals as goal
 
 pub returns : goal.returns

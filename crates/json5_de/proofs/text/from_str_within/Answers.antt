@@ -5,7 +5,7 @@ use Rattle.std.specs.Str.{chars}
 use Rattle.json5_de.specs.Law.{TookValue}
 use Rattle.json5_de.specs.Texts.{in_value, after_value}
 use Rattle.json5_de.proofs.OtherCodes.{trailing_lacks}
-use Rattle.json5_de.proofs.Rows.{refused_other}
+use Rattle.json5_de.proofs.TokenKinds.{refused_other}
 use Rattle.json5_de.proofs.Documents.{read_document, readable, the_document, blames_value, blames_rest, live_after}
 use Rattle.json5_de.proofs.text.from_str_within.Goals as goal
 
@@ -16,9 +16,9 @@ returns-in_err-value-clause-complete g c = λ t v doc converts.
     rw (is, from) (c.in_err-value.ensures.complete t k.rest v k.live k.reads k.shallow converts)
 
 pub returns-in_err-value-clause-no_memory : goal.returns-in_err-value-clause-no_memory
-returns-in_err-value-clause-no_memory g c = λ t v doc converts free.
+returns-in_err-value-clause-no_memory g c = λ t v doc converts allocation_free.
     let k = readable c.args.limit c.within-de.result (chars c.args.input.now) t c.within-de.ensures.bound c.within-de.ensures.starts doc in
-    absurd (false≢true (c.in_err-value.ensures.no_memory t k.rest v k.live k.reads k.shallow converts free))
+    absurd (false≢true (c.in_err-value.ensures.no_memory t k.rest v k.live k.reads k.shallow converts allocation_free))
 
 pub returns-in_err-value-clause-refused : goal.returns-in_err-value-clause-refused
 returns-in_err-value-clause-refused g c =
@@ -43,7 +43,7 @@ returns-in_err-end-clause-complete g c = λ t v doc converts.
     absurd (cc (c.in_err-end.ensures.complete there.1))
 
 pub returns-in_err-end-clause-no_memory : goal.returns-in_err-end-clause-no_memory
-returns-in_err-end-clause-no_memory g c = λ t v doc converts free.
+returns-in_err-end-clause-no_memory g c = λ t v doc converts allocation_free.
     let (u, took, is) = c.in_ok-value.ensures.sound in
     let there = the_document c.args.limit c.within-de.result c.deserialize.new.de (chars c.args.input.now) t u c.within-de.ensures.bound c.within-de.ensures.starts doc took in
     absurd (cc (c.in_err-end.ensures.complete there.1))

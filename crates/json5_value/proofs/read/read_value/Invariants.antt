@@ -1,5 +1,5 @@
 use Rattle.std.proofs.Common.{length}
-use Rattle.json5_value.specs.Building.{Building}
+use Rattle.json5_value.specs.BuildSteps.{Building}
 use Rattle.json5_value.specs.Keeping.{datum_at}
 use Rattle.json5_value.specs.Steps.{SameText}
 use Rattle.json5_value.proofs.read.read_value.Given as goal

@@ -1,5 +1,5 @@
 use Rattle.std.proofs.Common.{length}
-use Rattle.json5_value.specs.Skipping.{Skipping}
+use Rattle.json5_value.specs.SkipSteps.{Skipping}
 use Rattle.json5_value.specs.Steps.{SameText, value_at}
 use Rattle.json5_value.proofs.skip.skip_value.Given as goal
 

@@ -1,7 +1,7 @@
 use Rattle.std.proofs.Common.{refl}
 use Rattle.std.proofs.lemmas.Result.{err_from_is_err_and}
 use Rattle.json5_de.specs.AnyTree.{nothing, every_value}
-use Rattle.json5_de.specs.Rows.{every_tree}
+use Rattle.json5_de.specs.TokenKinds.{every_tree}
 use Rattle.json5_de.proofs.TreesRead.{read_as, refused_as}
 use Rattle.json5_de.proofs.any.IgnoredAnyDeserialize.deserialize.Goals as goal
 

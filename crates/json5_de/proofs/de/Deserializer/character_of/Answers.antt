@@ -1,5 +1,5 @@
 use Rattle.std.proofs.Common.{None, Some, refl, inr}
-use Rattle.json5_de.proofs.Rows.{gives_up}
+use Rattle.json5_de.proofs.TokenKinds.{gives_up}
 use Rattle.json5_de.proofs.FoundStrings.{judged_character}
 use Rattle.json5_de.proofs.de.Deserializer.character_of.Goals as goal
 

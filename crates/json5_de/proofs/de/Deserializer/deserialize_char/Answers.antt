@@ -1,7 +1,7 @@
 use Rattle.std.proofs.Common.{false, None}
 use Rattle.std.proofs.lemmas.Result.{err_from_is_err_and}
 use Rattle.json5_de.specs.Convert.{one_character}
-use Rattle.json5_de.specs.Rows.{plain_text}
+use Rattle.json5_de.specs.TokenKinds.{plain_text}
 use Rattle.json5_de.proofs.FoundStrings.{no_string, string_judged}
 use Rattle.json5_de.proofs.de.Deserializer.deserialize_char.Goals as goal
 

@@ -1,13 +1,13 @@
 use Rattle.std.proofs.lemmas.Result.{err_from_is_err_and}
 use Rattle.json5_de.specs.AnyTree.{nothing, every_value}
-use Rattle.json5_de.specs.Rows.{every_tree}
+use Rattle.json5_de.specs.TokenKinds.{every_tree}
 use Rattle.json5_de.proofs.TreesRead.{tree_not_begun, tree_result}
 use Rattle.json5_de.proofs.de.Deserializer.deserialize_ignored_any.Goals as goal
 
-pub returns-in_err-begin : goal.returns-in_err-begin
-returns-in_err-begin g c =
+pub returns-in_err-skip_blank : goal.returns-in_err-skip_blank
+returns-in_err-skip_blank g c =
     let (y, is, from) = err_from_is_err_and c.from_residual.result c.from_residual.ensures.1 in
-    rw (is, from) (tree_not_begun nothing every_value every_tree c.args.self.now c.begin.new.self c.in_err-begin.field-0.0 c.in_err-begin.ensures.refused c.in_err-begin.ensures.failed c.in_err-begin.ensures.before c.in_err-begin.ensures.unprompted)
+    rw (is, from) (tree_not_begun nothing every_value every_tree c.args.self.now c.skip_blank.new.self c.in_err-skip_blank.field-0.0 c.in_err-skip_blank.ensures.refused c.in_err-skip_blank.ensures.failed c.in_err-skip_blank.ensures.before c.in_err-skip_blank.ensures.unprompted)
 
 pub returns : goal.returns
-returns g c = tree_result c.args.self.now c.begin.new.self c.skip_value.new.self c.skip_value.result c.in_ok-begin.ensures.passed c.skip_value.ensures
+returns g c = tree_result c.args.self.now c.skip_blank.new.self c.skip_value.new.self c.skip_value.result c.in_ok-skip_blank.ensures.passed c.skip_value.ensures

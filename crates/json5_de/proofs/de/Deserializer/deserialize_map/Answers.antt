@@ -1,7 +1,7 @@
 use Rattle.std.proofs.Common.{refl}
 use Rattle.std.proofs.lemmas.Result.{err_from_is_err_and}
 use Rattle.json5_value.specs.Brackets.{curly}
-use Rattle.json5_de.specs.Lending.{seen_map}
+use Rattle.json5_de.specs.Lending.{map_state_of}
 use Rattle.json5_de.proofs.Arrays.{failed_of}
 use Rattle.json5_de.proofs.Next.{opened_seen}
 use Rattle.json5_de.proofs.Pairs.{opens_map, refuses_map}
@@ -12,7 +12,7 @@ returns-in_err-start g c =
     let (y, is, from) = err_from_is_err_and c.from_residual.result c.from_residual.ensures.1 in
     rw (is, from) (
       (refl, λ w. tt, c.in_err-start.ensures.failed),
-      record { lends = tt; opens = refuses_map _ seen_map c.args.self.now c.in_err-start.field-0.0 c.in_err-start.ensures.opens },
+      record { lends = tt; opens = refuses_map _ map_state_of c.args.self.now c.in_err-start.field-0.0 c.in_err-start.ensures.opens },
     )
 
 pub returns : goal.returns
@@ -22,6 +22,6 @@ returns g c =
       (refl, λ w. refl, tt),
       record {
         lends = tt;
-        opens = opens_map _ seen_map c.args.self.now c.in_ok-start.start _ (record { same_reference = refl; blocks = failed_of c.set_failed.ensures; closes = refl }) (opened_seen curly c.args.self.now c.open.new.self c.set_failed.new.self c.in_ok-start.start opened c.set_failed.ensures) refl opens;
+        opens = opens_map _ map_state_of c.args.self.now c.in_ok-start.start _ (record { same_reference = refl; blocks = failed_of c.set_failed.ensures; closes = refl }) (opened_seen curly c.args.self.now c.open.new.self c.set_failed.new.self c.in_ok-start.start opened c.set_failed.ensures) refl opens;
       },
     )

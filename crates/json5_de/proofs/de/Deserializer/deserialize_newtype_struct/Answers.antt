@@ -14,7 +14,7 @@ returns-in-Err g c = rw c.refuse.ensures.result (record {
   unprompted = c.in-Err.ensures.unprompted;
   same_text = input_of c.refuse.ensures.state ∙ c.in-Err.ensures.same_text;
   failed = ap (λ (s : State). s.failed) c.refuse.ensures.state;
-  before = λ h. absurd (true_false h c.in_ok-live.ensures.live.0);
+  before = λ h. absurd (true_false h c.in_ok-check_not_failed.ensures.live.0);
 })
 
 pub returns-in-Ok : goal.returns-in-Ok
@@ -26,17 +26,17 @@ returns-in-Ok g c = record {
   unprompted = tt;
   same_text = c.in-Ok.ensures.same_text;
   failed = tt;
-  before = λ h. absurd (true_false h c.in_ok-live.ensures.live.0);
+  before = λ h. absurd (true_false h c.in_ok-check_not_failed.ensures.live.0);
 }
 
-pub returns-in_err-live : goal.returns-in_err-live
-returns-in_err-live g c =
+pub returns-in_err-check_not_failed : goal.returns-in_err-check_not_failed
+returns-in_err-check_not_failed g c =
     let (y, is, from) = err_from_is_err_and c.from_residual.result c.from_residual.ensures.1 in
-    let had = c.in_err-live.ensures.failed in
+    let had = c.in_err-check_not_failed.ensures.failed in
     rw (is, from) (record {
       sound = tt;
       complete = λ t r v live reads shallow converts. absurd (true_false had.0 live);
-      no_memory = λ t r v live reads shallow converts free. absurd (true_false had.0 live);
+      no_memory = λ t r v live reads shallow converts allocation_free. absurd (true_false had.0 live);
       refused = λ live. absurd (true_false had.0 live);
       unprompted = λ live. absurd (true_false had.0 live);
       same_text = refl;

@@ -1,7 +1,7 @@
 use Rattle.std.proofs.Common.{refl}
 use Rattle.std.proofs.lemmas.Result.{err_from_is_err_and}
 use Rattle.json5_value.specs.Brackets.{square}
-use Rattle.json5_de.specs.Lending.{seen}
+use Rattle.json5_de.specs.Lending.{state_of}
 use Rattle.json5_de.proofs.Arrays.{failed_of}
 use Rattle.json5_de.proofs.Next.{opened_seen}
 use Rattle.json5_de.proofs.Elements.{opens_array, refuses_array}
@@ -12,7 +12,7 @@ returns-in_err-start g c =
     let (y, is, from) = err_from_is_err_and c.from_residual.result c.from_residual.ensures.1 in
     rw (is, from) (
       (refl, λ w. tt, c.in_err-start.ensures.failed),
-      record { lends = tt; opens = refuses_array _ seen c.args.self.now c.in_err-start.field-0.0 c.in_err-start.ensures.opens },
+      record { lends = tt; opens = refuses_array _ state_of c.args.self.now c.in_err-start.field-0.0 c.in_err-start.ensures.opens },
     )
 
 pub returns : goal.returns
@@ -22,6 +22,6 @@ returns g c =
       (refl, λ w. refl, tt),
       record {
         lends = tt;
-        opens = opens_array _ seen c.args.self.now c.in_ok-start.start _ (record { same_reference = refl; blocks = failed_of c.set_failed.ensures; closes = refl }) (opened_seen square c.args.self.now c.open.new.self c.set_failed.new.self c.in_ok-start.start opened c.set_failed.ensures) opens;
+        opens = opens_array _ state_of c.args.self.now c.in_ok-start.start _ (record { same_reference = refl; blocks = failed_of c.set_failed.ensures; closes = refl }) (opened_seen square c.args.self.now c.open.new.self c.set_failed.new.self c.in_ok-start.start opened c.set_failed.ensures) opens;
       },
     )

@@ -2,37 +2,37 @@ use Rattle.std.proofs.Common.{refl}
 use Rattle.std.proofs.lemmas.Result.{err_from_is_err_and}
 use Rattle.json5_grammar.proofs.Basics.{true_false}
 use Rattle.json5_de.proofs.Ends.{not_ended, ended, refused_trailing, end_not_blamed}
-use Rattle.json5_de.proofs.Rows.{given_up, gives_up}
+use Rattle.json5_de.proofs.TokenKinds.{given_up, gives_up}
 use Rattle.json5_de.proofs.Taken.{refused_blanks}
 use Rattle.json5_de.proofs.de.Deserializer.end.Goals as goal
 
-pub returns-in_err-begin : goal.returns-in_err-begin
-returns-in_err-begin g c =
+pub returns-in_err-skip_blank : goal.returns-in_err-skip_blank
+returns-in_err-skip_blank g c =
     let (y, is, from) = err_from_is_err_and c.from_residual.result c.from_residual.ensures.1 in
     rw (is, from) (record {
       sound = tt;
-      complete = λ end. end_not_blamed c.args.self.now c.in_err-begin.field-0.0 end c.in_err-begin.ensures.refused;
-      refused = refused_blanks c.args.self.now c.in_err-begin.field-0.0 c.in_err-begin.ensures.refused;
-      failed = c.in_err-begin.ensures.failed;
-      before = c.in_err-begin.ensures.before;
+      complete = λ end. end_not_blamed c.args.self.now c.in_err-skip_blank.field-0.0 end c.in_err-skip_blank.ensures.refused;
+      refused = refused_blanks c.args.self.now c.in_err-skip_blank.field-0.0 c.in_err-skip_blank.ensures.refused;
+      failed = c.in_err-skip_blank.ensures.failed;
+      before = c.in_err-skip_blank.ensures.before;
     })
 
 pub returns-then-is_some : goal.returns-then-is_some
 returns-then-is_some g c =
-    let passed = c.in_ok-begin.ensures.passed in
+    let passed = c.in_ok-skip_blank.ensures.passed in
     rw c.refuse.ensures.result (record {
       sound = tt;
-      complete = λ end. not_ended c.args.self.now c.begin.new.self c.peek.result c.is_some.result passed c.if-is_some.true c.is_some.ensures c.peek.ensures end;
-      refused = refused_trailing c.args.self.now c.begin.new.self c.fault_here-error.result c.peek.result c.is_some.result passed c.if-is_some.true c.is_some.ensures c.peek.ensures c.fault_here-error.ensures.kind c.fault_here-error.ensures.placed;
-      failed = given_up c.args.self.now c.begin.new.self c.refuse.new.self passed (gives_up _ _ c.refuse.ensures.state);
+      complete = λ end. not_ended c.args.self.now c.skip_blank.new.self c.peek.result c.is_some.result passed c.if-is_some.true c.is_some.ensures c.peek.ensures end;
+      refused = refused_trailing c.args.self.now c.skip_blank.new.self c.fault_here-error.result c.peek.result c.is_some.result passed c.if-is_some.true c.is_some.ensures c.peek.ensures c.fault_here-error.ensures.kind c.fault_here-error.ensures.placed;
+      failed = given_up c.args.self.now c.skip_blank.new.self c.refuse.new.self passed (gives_up _ _ c.refuse.ensures.state);
       before = λ h. absurd (true_false h passed.live);
     })
 
 pub returns : goal.returns
 returns g c =
-    let passed = c.in_ok-begin.ensures.passed in
+    let passed = c.in_ok-skip_blank.ensures.passed in
     record {
-      sound = ended c.args.self.now c.begin.new.self c.peek.result c.is_some.result passed c.if-is_some.false c.is_some.ensures c.peek.ensures;
+      sound = ended c.args.self.now c.skip_blank.new.self c.peek.result c.is_some.result passed c.if-is_some.false c.is_some.ensures c.peek.ensures;
       complete = λ end. refl;
       refused = tt;
       failed = tt;

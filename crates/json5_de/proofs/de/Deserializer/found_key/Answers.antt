@@ -6,30 +6,30 @@ use Rattle.json5_text.specs.TextTokens.{Spells}
 use Rattle.json5_de.proofs.Taken.{input_of, refused_blanks, refused_or_memory}
 use Rattle.json5_text.proofs.TextScalars.{key_scalars}
 use Rattle.json5_de.proofs.FoundKeys.{key_after, no_fault_before}
-use Rattle.json5_de.proofs.Rows.{given_up}
+use Rattle.json5_de.proofs.TokenKinds.{given_up}
 use Rattle.json5_de.proofs.de.Deserializer.found_key.Goals as goal
 
-pub returns-in_err-begin : goal.returns-in_err-begin
-returns-in_err-begin g c =
+pub returns-in_err-skip_blank : goal.returns-in_err-skip_blank
+returns-in_err-skip_blank g c =
     let (y, is, from) = err_from_is_err_and c.from_residual.result c.from_residual.ensures.1 in
-    let e = c.in_err-begin.field-0.0 in
+    let e = c.in_err-skip_blank.field-0.0 in
     rw (is, from) (record {
       taken = tt;
-      refused = inr (refused_blanks c.args.self.now e c.in_err-begin.ensures.refused);
-      complete = λ u plain r t live reads every. absurd (no_fault_before c.args.self.now e u plain r reads (c.in_err-begin.ensures.refused live));
-      failed = c.in_err-begin.ensures.failed;
-      before = c.in_err-begin.ensures.before;
+      refused = inr (refused_blanks c.args.self.now e c.in_err-skip_blank.ensures.refused);
+      complete = λ u plain r t live reads every. absurd (no_fault_before c.args.self.now e u plain r reads (c.in_err-skip_blank.ensures.refused live));
+      failed = c.in_err-skip_blank.ensures.failed;
+      before = c.in_err-skip_blank.ensures.before;
     })
 
 pub returns-in_err-token : goal.returns-in_err-token
 returns-in_err-token g c =
     let (y, is, from) = err_from_is_err_and c.from_residual-in_err-token.result c.from_residual-in_err-token.ensures.1 in
-    let passed = c.in_ok-begin.ensures.passed in
+    let passed = c.in_ok-skip_blank.ensures.passed in
     rw (is, from) (record {
       taken = tt;
-      refused = refused_or_memory c.args.self.now c.begin.new.self c.in_err-token.field-0.0 (λ x reason place f. f) passed c.in_err-token.ensures.refused;
-      complete = λ u plain r t live reads every. let lacks = c.in_err-token.ensures.complete reads.spelling u r plain (key_after c.args.self.now c.begin.new.self u plain r passed reads) reads.key in lacks.kind;
-      failed = given_up c.args.self.now c.begin.new.self c.key.new.self passed c.in_err-token.ensures.failed;
+      refused = refused_or_memory c.args.self.now c.skip_blank.new.self c.in_err-token.field-0.0 (λ x reason place f. f) passed c.in_err-token.ensures.refused;
+      complete = λ u plain r t live reads every. let lacks = c.in_err-token.ensures.complete reads.spelling u r plain (key_after c.args.self.now c.skip_blank.new.self u plain r passed reads) reads.key in lacks.kind;
+      failed = given_up c.args.self.now c.skip_blank.new.self c.key.new.self passed c.in_err-token.ensures.failed;
       before = λ h. absurd (true_false h passed.live);
     })
 
@@ -38,20 +38,20 @@ returns g c =
     let (s, u, plain, took, is_key, is_text) = c.in_ok-token.ensures.taken in
     record {
       taken = record {
-        between = c.begin.new.self;
+        between = c.skip_blank.new.self;
         spelling = s;
         text = u;
         plain = plain;
-        passed = c.in_ok-begin.ensures.passed;
+        passed = c.in_ok-skip_blank.ensures.passed;
         took = took;
         is_spelling = is_key;
         is_text = subst (λ x. Spells x u plain c.in_ok-token.token) (sym (input_of took.rest)) is_text;
         counted = c.offset-start.ensures.counted;
         offset = subst (λ x. IsOffset x c.offset-start.result) (sym (input_of took.rest)) c.offset-start.ensures.offset;
-        scalars = key_scalars c.begin.new.self.unread c.key.new.self.unread took.split c.offset-start.ensures.scalars is_key;
+        scalars = key_scalars c.skip_blank.new.self.unread c.key.new.self.unread took.split c.offset-start.ensures.scalars is_key;
       };
       refused = tt;
       complete = λ u plain r t live reads every. tt;
       failed = tt;
-      before = λ h. absurd (true_false h c.in_ok-begin.ensures.passed.live);
+      before = λ h. absurd (true_false h c.in_ok-skip_blank.ensures.passed.live);
     }

@@ -3,7 +3,7 @@ use Rattle.std.proofs.lemmas.Result.{err_from_is_err_and}
 use Rattle.json5_grammar.specs.declared.code.ErrorCode.TheVariants.{InvalidBytes}
 use Rattle.json5_text.specs.Bytes.{bytes_of}
 use Rattle.json5_de.specs.Convert.{digits_bytes}
-use Rattle.json5_de.specs.KeyRows.{bytes_key}
+use Rattle.json5_de.specs.KeyKinds.{bytes_key}
 use Rattle.json5_de.proofs.FoundKeys.{not_found, key_judged}
 use Rattle.json5_de.proofs.de.Deserializer.key_bytes.Goals as goal
 

@@ -1,7 +1,7 @@
 use Rattle.std.proofs.Common.{false, None}
 use Rattle.std.proofs.lemmas.Result.{err_from_is_err_and}
 use Rattle.json5_de.specs.Convert.{one_character}
-use Rattle.json5_de.specs.KeyRows.{char_key}
+use Rattle.json5_de.specs.KeyKinds.{char_key}
 use Rattle.json5_de.proofs.FoundKeys.{not_found, key_judged}
 use Rattle.json5_de.proofs.de.Deserializer.key_char.Goals as goal
 

@@ -1,7 +1,7 @@
 use Rattle.std.specs.Str.{chars}
 use Rattle.std.proofs.lemmas.Result.{err_from_is_err_and}
-use Rattle.json5_de.specs.KeyRows.{document_key}
-use Rattle.json5_de.proofs.Rows.{gives_up}
+use Rattle.json5_de.specs.KeyKinds.{document_key}
+use Rattle.json5_de.proofs.TokenKinds.{gives_up}
 use Rattle.json5_de.proofs.FoundKeys.{not_found, key_characters, key_is_document, key_no_document}
 use Rattle.json5_de.proofs.de.Deserializer.key_document.Goals as goal
 

@@ -1,7 +1,7 @@
 use Rattle.std.proofs.Common.{refl}
 use Rattle.std.proofs.lemmas.Result.{err_from_is_err_and}
 use Rattle.json5_de.specs.Keys.{every_key}
-use Rattle.json5_de.specs.KeyRows.{ignored_key}
+use Rattle.json5_de.specs.KeyKinds.{ignored_key}
 use Rattle.json5_de.proofs.FoundKeys.{not_found, key_is_text}
 use Rattle.json5_de.proofs.de.Deserializer.key_ignored.Goals as goal
 

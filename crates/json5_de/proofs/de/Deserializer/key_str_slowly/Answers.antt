@@ -3,7 +3,7 @@ use Rattle.std.specs.Str.{encode_utf8_all}
 use Rattle.std.proofs.lemmas.Result.{err_from_is_err_and}
 use Rattle.json5_text.specs.Cows.{cow_bytes, is_borrowed}
 use Rattle.json5_de.specs.Convert.{if_plain}
-use Rattle.json5_de.specs.KeyRows.{plain_key}
+use Rattle.json5_de.specs.KeyKinds.{plain_key}
 use Rattle.json5_de.proofs.FoundKeys.{not_found, key_is_text, key_not_text}
 use Rattle.json5_de.proofs.de.Deserializer.key_str_slowly.Goals as goal
 

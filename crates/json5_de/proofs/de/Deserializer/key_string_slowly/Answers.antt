@@ -1,8 +1,8 @@
 use Rattle.std.proofs.Common.{Some, ap, sym, string_bytes}
 use Rattle.std.proofs.lemmas.Result.{err_from_is_err_and}
 use Rattle.json5_de.specs.Convert.{every_text}
-use Rattle.json5_de.specs.KeyRows.{string_key}
-use Rattle.json5_de.proofs.Rows.{gives_up}
+use Rattle.json5_de.specs.KeyKinds.{string_key}
+use Rattle.json5_de.proofs.TokenKinds.{gives_up}
 use Rattle.json5_de.proofs.FoundKeys.{not_found, key_is_text, key_lacks_memory}
 use Rattle.json5_de.proofs.de.Deserializer.key_string_slowly.Goals as goal
 

@@ -1,7 +1,7 @@
 use Rattle.std.proofs.Common.{false, None}
 use Rattle.std.proofs.lemmas.Result.{err_from_is_err_and}
-use Rattle.json5_de.specs.Convert.{spelled, place_among}
-use Rattle.json5_de.specs.KeyRows.{variant_key}
+use Rattle.json5_de.specs.Convert.{spelled, index_of}
+use Rattle.json5_de.specs.KeyKinds.{variant_key}
 use Rattle.json5_de.proofs.FoundKeys.{not_found, key_judged}
 use Rattle.json5_de.proofs.de.Deserializer.key_variant.Goals as goal
 
@@ -11,4 +11,4 @@ returns-in_err-key g c =
     rw (is, from) (not_found (variant_key (spelled c.args.variants.now)) (λ n. n) c.args.self.now c.found_key.new.self c.in_err-key.field-0.0 c.in_err-key.ensures.refused c.in_err-key.ensures.complete c.in_err-key.ensures.failed c.in_err-key.ensures.before)
 
 pub returns : goal.returns
-returns g c = key_judged false None (λ e. absurd (cc)) (place_among (spelled c.args.variants.now)) (λ n. n) c.args.self.now c.found_key.new.self c.variant_of.new.self c.in_ok-key.key c.variant_of.result c.in_ok-key.ensures.taken c.variant_of.ensures
+returns g c = key_judged false None (λ e. absurd (cc)) (index_of (spelled c.args.variants.now)) (λ n. n) c.args.self.now c.found_key.new.self c.variant_of.new.self c.in_ok-key.key c.variant_of.result c.in_ok-key.ensures.taken c.variant_of.ensures

@@ -1,5 +1,5 @@
 use Rattle.std.proofs.Common.{refl, ◌∙◌}
-use Rattle.json5_de.proofs.Rows.{gives_up}
+use Rattle.json5_de.proofs.TokenKinds.{gives_up}
 use Rattle.json5_de.proofs.de.Deserializer.own_text.Goals as goal
 
 pub returns-in-Ok : goal.returns-in-Ok

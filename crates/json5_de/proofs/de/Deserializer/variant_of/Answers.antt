@@ -2,7 +2,7 @@ use Rattle.std.proofs.Common.{refl, ap, sym, ◌∙◌, inr}
 use Rattle.std.specs.List.{position}
 use Rattle.std.specs.Str.{bytes_eq}
 use Rattle.json5_de.specs.Convert.{spelled}
-use Rattle.json5_de.proofs.Rows.{gives_up}
+use Rattle.json5_de.proofs.TokenKinds.{gives_up}
 use Rattle.json5_de.proofs.Spelled.{place_spelled}
 use Rattle.json5_de.proofs.de.Deserializer.variant_of.Goals as goal
 
@@ -12,7 +12,7 @@ returns-in_default g c =
     rw c.refuse.ensures.result (record {
       converts = tt;
       kept = tt;
-      other = inr (λ u plain is scalars. ap (λ b. position (λ n. bytes_eq n b) names) (sym (c.token_text-name.ensures u plain is)) ∙ sym (c.place_among.ensures ∙ place_spelled _ c.args.variants.now) ∙ c.in_default.is);
+      other = inr (λ u plain is scalars. ap (λ b. position (λ n. bytes_eq n b) names) (sym (c.token_text-name.ensures u plain is)) ∙ sym (c.index_of.ensures ∙ place_spelled _ c.args.variants.now) ∙ c.in_default.is);
       refused = c.unknown_variant-error.ensures;
       failed = gives_up c.args.self.now c.refuse.new.self c.refuse.ensures.state;
     })
@@ -21,7 +21,7 @@ pub returns : goal.returns
 returns g c =
     let names = spelled c.args.variants.now in
     record {
-      converts = λ u plain is scalars. ap (λ b. position (λ n. bytes_eq n b) names) (sym (c.token_text-name.ensures u plain is)) ∙ sym (c.place_among.ensures ∙ place_spelled _ c.args.variants.now) ∙ c.in-Some.is;
+      converts = λ u plain is scalars. ap (λ b. position (λ n. bytes_eq n b) names) (sym (c.token_text-name.ensures u plain is)) ∙ sym (c.index_of.ensures ∙ place_spelled _ c.args.variants.now) ∙ c.in-Some.is;
       kept = refl;
       other = tt;
       refused = tt;

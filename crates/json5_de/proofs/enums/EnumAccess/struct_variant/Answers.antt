@@ -1,7 +1,7 @@
 use Rattle.std.proofs.Common.{refl}
 use Rattle.std.proofs.lemmas.Result.{err_from_is_err_and}
 use Rattle.json5_value.specs.Brackets.{curly}
-use Rattle.json5_de.specs.Lending.{seen_map, seen_enum, held_by_enum}
+use Rattle.json5_de.specs.Lending.{map_state_of, enum_state_of, reader_of_enum}
 use Rattle.json5_de.proofs.Arrays.{failed_of}
 use Rattle.json5_de.proofs.Next.{opened_seen}
 use Rattle.json5_de.proofs.VariantEnds.{struct_opened, struct_not_opened, given_up_lent}
@@ -12,8 +12,8 @@ returns-in_err-start g c =
     let (y, is, from) = err_from_is_err_and c.from_residual.result c.from_residual.ensures.1 in
     let opens = rw c.set_failed.ensures at c.in_err-start.ensures.opens in
     rw (is, from) (
-      (refl, λ w. tt, given_up_lent (held_by_enum c.args.self) c.set_failed.new.self c.open_content.new.self c.set_failed.ensures c.in_err-start.ensures.failed),
-      record { lends = tt; held = tt; opens = struct_not_opened _ seen_map (seen_enum c.args.self) c.in_err-start.field-0.0 opens },
+      (refl, λ w. tt, given_up_lent (reader_of_enum c.args.self) c.set_failed.new.self c.open_content.new.self c.set_failed.ensures c.in_err-start.ensures.failed),
+      record { lends = tt; held = tt; opens = struct_not_opened _ map_state_of (enum_state_of c.args.self) c.in_err-start.field-0.0 opens },
     )
 
 pub returns : goal.returns
@@ -24,6 +24,6 @@ returns g c =
       record {
         lends = tt;
         held = record { same_reference = refl; blocks = failed_of c.set_failed-2.ensures; closes = refl };
-        opens = struct_opened _ seen_map (seen_enum c.args.self) c.in_ok-start.start _ (opened_seen curly (seen_enum c.args.self).reader c.open_content.new.self c.set_failed-2.new.self c.in_ok-start.start opened c.set_failed-2.ensures) refl opens;
+        opens = struct_opened _ map_state_of (enum_state_of c.args.self) c.in_ok-start.start _ (opened_seen curly (enum_state_of c.args.self).reader c.open_content.new.self c.set_failed-2.new.self c.in_ok-start.start opened c.set_failed-2.ensures) refl opens;
       },
     )

@@ -1,7 +1,7 @@
 use Rattle.std.proofs.Common.{refl}
 use Rattle.std.proofs.lemmas.Result.{err_from_is_err_and}
 use Rattle.json5_value.specs.Brackets.{square}
-use Rattle.json5_de.specs.Lending.{seen, seen_enum, held_by_enum}
+use Rattle.json5_de.specs.Lending.{state_of, enum_state_of, reader_of_enum}
 use Rattle.json5_de.proofs.Arrays.{failed_of}
 use Rattle.json5_de.proofs.Next.{opened_seen}
 use Rattle.json5_de.proofs.VariantEnds.{tuple_opened, tuple_not_opened, given_up_lent}
@@ -12,8 +12,8 @@ returns-in_err-start g c =
     let (y, is, from) = err_from_is_err_and c.from_residual.result c.from_residual.ensures.1 in
     let opens = rw c.set_failed.ensures at c.in_err-start.ensures.opens in
     rw (is, from) (
-      (refl, λ w. tt, given_up_lent (held_by_enum c.args.self) c.set_failed.new.self c.open_content.new.self c.set_failed.ensures c.in_err-start.ensures.failed),
-      record { lends = tt; held = tt; opens = tuple_not_opened _ seen (seen_enum c.args.self) c.in_err-start.field-0.0 opens },
+      (refl, λ w. tt, given_up_lent (reader_of_enum c.args.self) c.set_failed.new.self c.open_content.new.self c.set_failed.ensures c.in_err-start.ensures.failed),
+      record { lends = tt; held = tt; opens = tuple_not_opened _ state_of (enum_state_of c.args.self) c.in_err-start.field-0.0 opens },
     )
 
 pub returns : goal.returns
@@ -24,6 +24,6 @@ returns g c =
       record {
         lends = tt;
         held = record { same_reference = refl; blocks = failed_of c.set_failed-2.ensures; closes = refl };
-        opens = tuple_opened _ seen (seen_enum c.args.self) c.in_ok-start.start _ (opened_seen square (seen_enum c.args.self).reader c.open_content.new.self c.set_failed-2.new.self c.in_ok-start.start opened c.set_failed-2.ensures) opens;
+        opens = tuple_opened _ state_of (enum_state_of c.args.self) c.in_ok-start.start _ (opened_seen square (enum_state_of c.args.self).reader c.open_content.new.self c.set_failed-2.new.self c.in_ok-start.start opened c.set_failed-2.ensures) opens;
       },
     )

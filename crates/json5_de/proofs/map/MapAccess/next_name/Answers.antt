@@ -1,7 +1,7 @@
 use Rattle.std.proofs.Common.{Global, string_bytes}
 use Rattle.std.proofs.lemmas.Result.{err_from_is_err_and}
 use Rattle.json5_de.specs.Convert.{every_text}
-use Rattle.json5_de.specs.KeyRows.{RefusedAsKey, string_key}
+use Rattle.json5_de.specs.KeyKinds.{RefusedAsKey, string_key}
 use Rattle.json5_de.proofs.MapCalls.{given_on, refused_on, key_given, key_refused}
 use Rattle.json5_de.proofs.map.MapAccess.next_name.Goals as goal
 

@@ -1,4 +1,4 @@
-use Rattle.json5_de.proofs.Own.{completes}
+use Rattle.json5_de.proofs.Refinement.{completes}
 use Rattle.json5_de.proofs.spans.SpannedDeserialize.TheImpl.Goals as goal
 
 pub deserialize-tells : goal.deserialize-tells

@@ -4,42 +4,42 @@ use Rattle.json5_grammar.specs.Documents.{max_depth}
 use Rattle.json5_grammar.specs.Trees.{Tree, depth}
 use Rattle.json5_grammar.specs.Values.{Reads}
 use Rattle.json5_de.specs.State.{State}
-use Rattle.json5_de.specs.Steps.{PassedGap}
+use Rattle.json5_de.specs.ReaderSteps.{PassedGap}
 use Rattle.json5_de.proofs.Arrays.{level_of, failed_of}
 use Rattle.json5_de.proofs.Options.{blanks_no_value, value_next, took_after}
 use Rattle.json5_de.proofs.Taken.{input_of}
-use Rattle.json5_de.proofs.Own.{reads_content}
+use Rattle.json5_de.proofs.Refinement.{reads_content}
 use Rattle.json5_de.proofs.spans.SpannedDeserialize.deserialize.Goals as goal
 
 -- what can be read stands after the blanks
 stands_after : (old at : State) (t : Tree) (r : List ℕ) → PassedGap old at → old.failed ≡ false → Reads old.unread t r → old.level + depth t ≤ max_depth → (at.failed ≡ false) × Reads at.unread t r × (at.level + depth t ≤ max_depth)
 stands_after old at t r p live reads shallow = let level = level_of p.rest in (failed_of p.rest ∙ live, value_next old at t r p reads, omega (arith, shallow, level))
 
-pub returns-in_err-begin-clause-reads : goal.returns-in_err-begin-clause-reads
-returns-in_err-begin-clause-reads g c =
+pub returns-in_err-skip_blank-clause-reads : goal.returns-in_err-skip_blank-clause-reads
+returns-in_err-skip_blank-clause-reads g c =
     let (y, is, from) = err_from_is_err_and c.from_residual.result c.from_residual.ensures.1 in
     rw (is, from) (record {
       sound = tt;
-      complete = λ t r v live reads shallow converts. absurd (blanks_no_value c.args.de.now c.in_err-begin.field-0.0 t r (c.in_err-begin.ensures.refused live) reads);
-      no_memory = λ t r v live reads shallow converts free. absurd (blanks_no_value c.args.de.now c.in_err-begin.field-0.0 t r (c.in_err-begin.ensures.refused live) reads);
-      refused = λ live. inl (c.in_err-begin.ensures.refused live);
-      unprompted = c.in_err-begin.ensures.unprompted;
-      same_text = c.in_err-begin.ensures.failed.same_text;
+      complete = λ t r v live reads shallow converts. absurd (blanks_no_value c.args.de.now c.in_err-skip_blank.field-0.0 t r (c.in_err-skip_blank.ensures.refused live) reads);
+      no_memory = λ t r v live reads shallow converts allocation_free. absurd (blanks_no_value c.args.de.now c.in_err-skip_blank.field-0.0 t r (c.in_err-skip_blank.ensures.refused live) reads);
+      refused = λ live. inl (c.in_err-skip_blank.ensures.refused live);
+      unprompted = c.in_err-skip_blank.ensures.unprompted;
+      same_text = c.in_err-skip_blank.ensures.failed.same_text;
     })
 
 pub returns-in_err-value-clause-reads : goal.returns-in_err-value-clause-reads
 returns-in_err-value-clause-reads g c =
-    let passed = c.in_ok-begin.ensures.passed in
+    let passed = c.in_ok-skip_blank.ensures.passed in
     let (y, is, from) = err_from_is_err_and c.from_residual-in_err-value.result c.from_residual-in_err-value.ensures.1 in
     rw (is, from) (record {
       sound = tt;
       complete = λ t r v live reads shallow converts.
-          let (still, here, room) = stands_after c.args.de.now c.begin.new.self t r passed live reads shallow in
+          let (still, here, room) = stands_after c.args.de.now c.skip_blank.new.self t r passed live reads shallow in
           c.in_err-value.ensures.complete t r v still here room converts;
-      no_memory = λ t r v live reads shallow converts free.
-          let (still, here, room) = stands_after c.args.de.now c.begin.new.self t r passed live reads shallow in
-          c.in_err-value.ensures.no_memory t r v still here room converts free;
-      refused = λ live. inr (c.begin.new.self, passed, c.in_err-value.ensures.refused);
+      no_memory = λ t r v live reads shallow converts allocation_free.
+          let (still, here, room) = stands_after c.args.de.now c.skip_blank.new.self t r passed live reads shallow in
+          c.in_err-value.ensures.no_memory t r v still here room converts allocation_free;
+      refused = λ live. inr (c.skip_blank.new.self, passed, c.in_err-value.ensures.refused);
       unprompted = λ live. c.in_err-value.ensures.unprompted (failed_of passed.rest ∙ live);
       same_text = c.in_err-value.ensures.same_text ∙ input_of passed.rest;
     })
@@ -47,12 +47,12 @@ returns-in_err-value-clause-reads g c =
 pub returns-clause-reads : goal.returns-clause-reads
 returns-clause-reads g c =
     let (t, took, is) = c.in_ok-value.ensures.sound in
-    let passed = c.in_ok-begin.ensures.passed in
-    let whole = took_after c.args.de.now c.begin.new.self c.deserialize.new.de t passed took in
+    let passed = c.in_ok-skip_blank.ensures.passed in
+    let whole = took_after c.args.de.now c.skip_blank.new.self c.deserialize.new.de t passed took in
     record {
       sound = (t, whole, is);
       complete = reads_content g.T.Deserialize.content g.T.Deserialize.convert c.args.de.now c.deserialize.new.de (Ok c.in_ok-value.value) (t, whole, is) (λ t r v live reads shallow converts. tt);
-      no_memory = λ t r v live reads shallow converts free. refl;
+      no_memory = λ t r v live reads shallow converts allocation_free. refl;
       refused = tt;
       unprompted = tt;
       same_text = c.in_ok-value.ensures.same_text ∙ input_of passed.rest;

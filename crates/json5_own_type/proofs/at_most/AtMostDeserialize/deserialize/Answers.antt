@@ -3,7 +3,7 @@ use Rattle.std.proofs.lemmas.List.{length-append, length-map}
 use Rattle.json5.specs.Trees.{Tree, Trees}
 use Rattle.json5.specs.Members.{contents}
 use Rattle.json5.specs.declared.Spanned.{Spanned}
-use Rattle.json5.specs.Lending.{seen}
+use Rattle.json5.specs.Lending.{state_of}
 use Rattle.json5.proofs.Loops.{HasContents, HasAtMost, begins, steps, stops, next_completes, past_completes, end_completes}
 use Rattle.json5_own_type.specs.Accepted.{at_most}
 use Rattle.json5_own_type.proofs.at_most.AtMostDeserialize.deserialize.Goals as goal
@@ -19,7 +19,7 @@ few_values f n ts cs are few = grind arith
 
 pub loop-seq-init : goal.loop-seq-init
 loop-seq-init g c = let none = ap length c.new-values.ensures.items in
-    record { same_reference = refl; reading = begins g.T.Deserialize.content g.T.Deserialize.convert seen c.in_ok-seq.seq c.in_ok-seq.ensures.opens c.new-values.ensures.items; few = omega (arith, none) }
+    record { same_reference = refl; reading = begins g.T.Deserialize.content g.T.Deserialize.convert state_of c.in_ok-seq.seq c.in_ok-seq.ensures.opens c.new-values.ensures.items; few = omega (arith, none) }
 
 pub loop-seq-preserved : goal.loop-seq-preserved
 loop-seq-preserved g c = record {

@@ -1,10 +1,10 @@
 use Rattle.std.proofs.Common.{rules}
-use Rattle.json5.specs.Convert.{place_among}
-use Rattle.json5.proofs.Own.{parts}
+use Rattle.json5.specs.Convert.{index_of}
+use Rattle.json5.proofs.Refinement.{parts}
 use Rattle.json5_own_type.specs.Colors.{color_names, color_at}
 use Rattle.json5_own_type.proofs.colors.ColorDeserializeKey.deserialize_key.Goals as goal
 
 pub returns-in_err-place-clause-complete : goal.returns-in_err-place-clause-complete
 returns-in_err-place-clause-complete g c u plain r color live reads converts =
-    let (k, is, named) = parts color_at (place_among color_names u plain) color converts in
+    let (k, is, named) = parts color_at (index_of color_names u plain) color converts in
     search (rules, c.in_err-place.ensures.reads.complete u plain r k live reads is)

@@ -2,7 +2,7 @@ use Rattle.std.proofs.Common.{◌≡◌, ◌≢◌, List, ℕ, None, refl, inr, 
 use Rattle.std.proofs.lemmas.Bool.{false_from_ne_true}
 use Rattle.std.proofs.lemmas.Slice.Eq.{bytes_eq-Decides}
 use Rattle.json5.specs.Convert.{text_of}
-use Rattle.json5.proofs.Own.{parts, no_content, refused_at}
+use Rattle.json5.proofs.Refinement.{parts, no_content, refused_at}
 use Rattle.json5_own_type.specs.Accepted.{level_named}
 use Rattle.json5_own_type.proofs.levels.LevelDeserialize.deserialize.Goals as goal
 

@@ -1,6 +1,6 @@
 use Rattle.std.proofs.Common.{◌^◌, ap, inr, rules}
 use Rattle.json5.specs.Convert.{unsigned_below}
-use Rattle.json5.proofs.Own.{parts, no_content, refused_at}
+use Rattle.json5.proofs.Refinement.{parts, no_content, refused_at}
 use Rattle.json5_own_type.specs.Accepted.{above_zero}
 use Rattle.json5_own_type.proofs.ports.OpenPortDeserialize.deserialize.Goals as goal
 

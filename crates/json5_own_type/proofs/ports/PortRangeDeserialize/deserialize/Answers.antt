@@ -2,7 +2,7 @@ use Rattle.std.proofs.Common.{◌≡◌, ◌<◌, ◌^◌, ℕ, None, rules, ari
 use Rattle.json5.specs.Members.{array_of}
 use Rattle.json5.specs.Convert.{unsigned_below}
 use Rattle.json5.specs.ConvertLists.{first_of, last_of}
-use Rattle.json5.proofs.Own.{parts, no_content}
+use Rattle.json5.proofs.Refinement.{parts, no_content}
 use Rattle.json5_own_type.specs.Accepted.{in_order}
 use Rattle.json5_own_type.proofs.ports.PortRangeDeserialize.deserialize.Goals as goal
 

@@ -1,9 +1,9 @@
 use Rattle.std.proofs.Common.{subst}
 use Rattle.json5_ser.specs.WrittenTrees.{named}
-use Rattle.json5_ser.specs.Waiting.{waiting}
+use Rattle.json5_ser.specs.Waiting.{serializer_of_key}
 use Rattle.json5_ser.specs.Keys.{WritesKey}
 use Rattle.json5_ser.proofs.PiecesWritten.{chars_null}
 use Rattle.json5_ser.proofs.key.MapKey.serialize_unit.Goals as goal
 
 pub returns : goal.returns
-returns g c = subst (λ u. WritesKey (named u) (waiting c.args.self) c.put_name.result c.put_name.new.self) chars_null c.put_name.ensures
+returns g c = subst (λ u. WritesKey (named u) (serializer_of_key c.args.self) c.put_name.result c.put_name.new.self) chars_null c.put_name.ensures

@@ -6,12 +6,12 @@ use Rattle.json5_ser.proofs.serializer.Serializer.close.Goals as goal
 
 pub returns-in_err-start_line : goal.returns-in_err-start_line
 returns-in_err-start_line g c =
-    let starts = rw c.leave.ensures at c.in_err-start_line.ensures in
+    let starts = rw c.exit_bracket.ensures at c.in_err-start_line.ensures in
     let bracket = closing_sign c.args.brackets in
     rw (← c.if-not-is_started.ensures) (Writes-exit (piece (line (c.args.self.now.depth - 1))) (piece (bracket ∷ [])) _ _ _ _ c.from_residual.ensures.1 starts)
 
 pub returns : goal.returns
 returns g c =
-    let starts = rw c.leave.ensures at c.in_ok-start_line.ensures in
+    let starts = rw c.exit_bracket.ensures at c.in_ok-start_line.ensures in
     let bracket = rw c.closing-2.ensures at c.put-2.ensures in
     rw (← c.if-not-is_started.ensures) (Reaches-last _ (piece (closing_sign c.args.brackets ∷ [])) _ _ _ _ (Reaches-first (piece (line (c.args.self.now.depth - 1))) _ _ _ starts) bracket)

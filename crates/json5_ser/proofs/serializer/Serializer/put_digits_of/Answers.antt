@@ -13,7 +13,7 @@ loop-chunk-init g c =
     record {
       can_next = search rules;
       is_finite = tt;
-      live = c.in_ok-live.ensures.live;
+      live = c.in_ok-check_not_failed.ensures.live;
       size = search rules;
       reaches = subst (λ l. Reaches (piece (encode_lower l)) c.args.self.now c.args.self.now (piece (encode_lower (chunks_rest c.into_iter-chunk-iterator.result)))) all (Reaches-none _ _);
     }

@@ -2,16 +2,16 @@ use Rattle.std.proofs.Common.{◌≡◌, ℕ, List, subst}
 use Rattle.std.specs.Str.{chars}
 use Rattle.json5_grammar.specs.Quoting.{escaped_all}
 use Rattle.json5_ser.specs.Out.{Out, piece, ◌then◌}
-use Rattle.json5_ser.specs.Writes.{Seen}
+use Rattle.json5_ser.specs.Writes.{SerializerState}
 use Rattle.json5_ser.specs.Escaping.{SplitsAtEscape}
 use Rattle.json5_ser.proofs.Joins.{Reaches, Reaches-none, Reaches-next, Reaches-exit, Reaches-last}
 use Rattle.json5_ser.proofs.serializer.Serializer.put_escaped.Goals as goal
 
-parted : (all : Out) (q : ℕ) (o m : Seen) (t raw esc after : List ℕ) → SplitsAtEscape q t raw esc after → Reaches all o m (piece (escaped_all q (chars t)))
+parted : (all : Out) (q : ℕ) (o m : SerializerState) (t raw esc after : List ℕ) → SplitsAtEscape q t raw esc after → Reaches all o m (piece (escaped_all q (chars t)))
     → Reaches all o m (piece (chars raw) then (piece (chars esc) then piece (escaped_all q (chars after))))
 parted all q o m t raw esc after s h = subst (λ x. Reaches all o m (piece x)) s.text h
 
-unescaped : (all : Out) (q : ℕ) (o m : Seen) (t : List ℕ) → escaped_all q (chars t) ≡ chars t → Reaches all o m (piece (escaped_all q (chars t))) → Reaches all o m (piece (chars t))
+unescaped : (all : Out) (q : ℕ) (o m : SerializerState) (t : List ℕ) → escaped_all q (chars t) ≡ chars t → Reaches all o m (piece (escaped_all q (chars t))) → Reaches all o m (piece (chars t))
 unescaped all q o m t e h = subst (λ x. Reaches all o m (piece x)) e h
 
 pub loop-raw-init : goal.loop-raw-init

@@ -18,8 +18,8 @@ returns-in-Err g c = record {
   plain = λ s u r d split is_name stops. absurd (plain_name_memory (chars c.rest.result.now) c.args.self.now.unread s u r d c.in-Err.refusal c.rest.ensures c.in-Err.ensures.refused c.in-Err.ensures.memory split is_name stops);
 }
 
-pub leave_unread-requires : goal.leave_unread-requires
-leave_unread-requires g c =
+pub set_remaining-requires : goal.set_remaining-requires
+set_remaining-requires g c =
     let given = c.in-Ok.ensures in
     let k = name_taken (chars c.rest.result.now) c.args.self.now.unread given.spelled (chars c.in-Ok.rest.now) given.plain c.rest.ensures given.read in
     leaves_rest k.name c.in-Ok.rest.now k.split given.text
@@ -28,7 +28,7 @@ pub returns : goal.returns
 returns g c =
     let given = c.in-Ok.ensures in
     let k = name_taken (chars c.rest.result.now) c.args.self.now.unread given.spelled (chars c.in-Ok.rest.now) given.plain c.rest.ensures given.read in
-    let l = c.leave_unread.ensures k.name (chars c.in-Ok.rest.now) k.split (left_counted c.in-Ok.rest.now given.text) in
+    let l = c.set_remaining.ensures k.name (chars c.in-Ok.rest.now) k.split (left_counted c.in-Ok.rest.now given.text) in
     record {
       taken = (k.name, given.spelled, given.plain, l.0, k.is_name, given.is_text.borrowed, given.is_text.bytes);
       stops = (k.stops.0, k.stops.1, l.1 ∙ k.stops.2, k.stops.3);

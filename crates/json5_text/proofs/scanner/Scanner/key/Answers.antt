@@ -23,8 +23,8 @@ returns-in-Err g c = record {
   plain = λ s u r split is_key. absurd (plain_key_memory (chars c.rest.result.now) c.args.self.now.unread s u r c.in-Err.refusal c.rest.ensures c.in-Err.ensures.refused c.in-Err.ensures.memory split is_key);
 }
 
-pub leave_unread-requires : goal.leave_unread-requires
-leave_unread-requires g c =
+pub set_remaining-requires : goal.set_remaining-requires
+set_remaining-requires g c =
     let given = c.in-Ok.ensures in
     let k = key_taken (chars c.rest.result.now) c.args.self.now.unread given.spelled (chars c.in-Ok.rest.now) given.plain c.rest.ensures given.read in
     leaves_rest k.key c.in-Ok.rest.now k.split given.text
@@ -33,7 +33,7 @@ pub returns : goal.returns
 returns g c =
     let given = c.in-Ok.ensures in
     let k = key_taken (chars c.rest.result.now) c.args.self.now.unread given.spelled (chars c.in-Ok.rest.now) given.plain c.rest.ensures given.read in
-    let l = c.leave_unread.ensures k.key (chars c.in-Ok.rest.now) k.split (left_counted c.in-Ok.rest.now given.text) in
+    let l = c.set_remaining.ensures k.key (chars c.in-Ok.rest.now) k.split (left_counted c.in-Ok.rest.now given.text) in
     record {
       taken = (
         k.key,

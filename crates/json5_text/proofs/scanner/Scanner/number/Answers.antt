@@ -21,13 +21,13 @@ returns-in-Err g c = record {
   memory = λ s r n split num stops free. absurd (number_memory (chars c.rest.result.now) c.args.self.now.unread s r n c.in-Err.refusal c.rest.ensures c.in-Err.ensures.refused c.in-Err.ensures.memory split num stops free);
 }
 
-pub leave_unread-requires : goal.leave_unread-requires
-leave_unread-requires g c =
+pub set_remaining-requires : goal.set_remaining-requires
+set_remaining-requires g c =
     let k = number_taken (chars c.rest.result.now) c.args.self.now.unread (chars c.in-Ok.rest.now) (number_of c.in-Ok.token) c.rest.ensures c.in-Ok.ensures.read in
     leaves_rest k.literal c.in-Ok.rest.now k.split c.in-Ok.ensures.text
 
 pub returns : goal.returns
 returns g c =
     let k = number_taken (chars c.rest.result.now) c.args.self.now.unread (chars c.in-Ok.rest.now) (number_of c.in-Ok.token) c.rest.ensures c.in-Ok.ensures.read in
-    let l = c.leave_unread.ensures k.literal (chars c.in-Ok.rest.now) k.split (left_counted c.in-Ok.rest.now c.in-Ok.ensures.text) in
+    let l = c.set_remaining.ensures k.literal (chars c.in-Ok.rest.now) k.split (left_counted c.in-Ok.rest.now c.in-Ok.ensures.text) in
     record { taken = (k.literal, l.0, k.is_number, subst (NotBegun (lengthens k.literal)) (sym l.1) k.stops); refused = tt; kept = tt; memory = λ s r n split num stops free. refl }

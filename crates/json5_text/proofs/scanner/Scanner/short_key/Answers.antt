@@ -14,12 +14,12 @@ overflow_sub-span-2 g c =
     ends_inside c.self.invariant (ap (λ (s : Cursor). s.unread) c.self.view_is)
     (spaced (chars c.rest.result.now) c.args.self.now.unread (chars c.skip_ascii.result.now) key_read c.rest.ensures c.skip_ascii.ensures.passed c.in_ok-found.ensures)
 
-pub leave_unread-requires : goal.leave_unread-requires
-leave_unread-requires g c =
+pub set_remaining-requires : goal.set_remaining-requires
+set_remaining-requires g c =
     found_leaves c.args.self.now
     (spaced (chars c.rest.result.now) c.args.self.now.unread (chars c.skip_ascii.result.now) key_read c.rest.ensures c.skip_ascii.ensures.passed c.in_ok-found.ensures)
 
 pub returns : goal.returns
 returns g c =
-    took_plain c.args.self.now c.leave_unread.new.self c.self.invariant (ap (λ (s : Cursor). s.input) c.self.view_is) (ap (λ (s : Cursor). s.unread) c.self.view_is)
-    (spaced (chars c.rest.result.now) c.args.self.now.unread (chars c.skip_ascii.result.now) key_read c.rest.ensures c.skip_ascii.ensures.passed c.in_ok-found.ensures) c.leave_unread.ensures
+    took_plain c.args.self.now c.set_remaining.new.self c.self.invariant (ap (λ (s : Cursor). s.input) c.self.view_is) (ap (λ (s : Cursor). s.unread) c.self.view_is)
+    (spaced (chars c.rest.result.now) c.args.self.now.unread (chars c.skip_ascii.result.now) key_read c.rest.ensures c.skip_ascii.ensures.passed c.in_ok-found.ensures) c.set_remaining.ensures

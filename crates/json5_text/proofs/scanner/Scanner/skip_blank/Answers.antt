@@ -17,13 +17,13 @@ returns-in-Err g c = record {
   kept = refl;
 }
 
-pub leave_unread-requires : goal.leave_unread-requires
-leave_unread-requires g c =
+pub set_remaining-requires : goal.set_remaining-requires
+set_remaining-requires g c =
     let k = blanks_passed _ _ _ c.rest.ensures c.in-Ok.ensures.read in
     leaves_rest k.gap c.in-Ok.rest.now k.split c.in-Ok.ensures.text
 
 pub returns : goal.returns
 returns g c =
     let k = blanks_passed _ _ _ c.rest.ensures c.in-Ok.ensures.read in
-    let l = c.leave_unread.ensures k.gap (chars c.in-Ok.rest.now) k.split (left_counted c.in-Ok.rest.now c.in-Ok.ensures.text) in
+    let l = c.set_remaining.ensures k.gap (chars c.in-Ok.rest.now) k.split (left_counted c.in-Ok.rest.now c.in-Ok.ensures.text) in
     record { passed = (k.gap, l.0, subst (Gap k.gap) (sym l.1) k.blank, subst Solid (sym l.1) k.solid); refused = tt; kept = tt }

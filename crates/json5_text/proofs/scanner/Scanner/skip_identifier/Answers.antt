@@ -18,8 +18,8 @@ returns-in-Err g c = record {
   memory = λ s u r d plain split is_name stops. absurd (name_never (chars c.rest.result.now) c.args.self.now.unread s u r d plain c.in-Err.refusal c.rest.ensures c.in-Err.ensures.refused c.in-Err.ensures.known split is_name stops);
 }
 
-pub leave_unread-requires : goal.leave_unread-requires
-leave_unread-requires g c =
+pub set_remaining-requires : goal.set_remaining-requires
+set_remaining-requires g c =
     let given = c.in-Ok.ensures in
     let k = name_taken (chars c.rest.result.now) c.args.self.now.unread given.value.0 (chars c.in-Ok.rest.now) given.value.1 c.rest.ensures given.read in
     leaves_rest k.name c.in-Ok.rest.now k.split given.text
@@ -28,7 +28,7 @@ pub returns : goal.returns
 returns g c =
     let given = c.in-Ok.ensures in
     let k = name_taken (chars c.rest.result.now) c.args.self.now.unread given.value.0 (chars c.in-Ok.rest.now) given.value.1 c.rest.ensures given.read in
-    let l = c.leave_unread.ensures k.name (chars c.in-Ok.rest.now) k.split (left_counted c.in-Ok.rest.now given.text) in
+    let l = c.set_remaining.ensures k.name (chars c.in-Ok.rest.now) k.split (left_counted c.in-Ok.rest.now given.text) in
     record {
       taken = (k.name, given.value.0, given.value.1, l.0, k.is_name);
       stops = (k.stops.0, k.stops.1, l.1 ∙ k.stops.2, k.stops.3);

@@ -20,8 +20,8 @@ returns-in-Err g c = record {
   memory = λ s r n split num stops. absurd (number_never (chars c.rest.result.now) c.args.self.now.unread s r n c.in-Err.refusal c.rest.ensures c.in-Err.ensures.refused c.in-Err.ensures.known split num stops);
 }
 
-pub leave_unread-requires : goal.leave_unread-requires
-leave_unread-requires g c =
+pub set_remaining-requires : goal.set_remaining-requires
+set_remaining-requires g c =
     let given = c.in-Ok.ensures in
     let k = number_taken (chars c.rest.result.now) c.args.self.now.unread (chars c.in-Ok.rest.now) given.number c.rest.ensures given.read in
     leaves_rest k.literal c.in-Ok.rest.now k.split given.text
@@ -30,7 +30,7 @@ pub returns : goal.returns
 returns g c =
     let given = c.in-Ok.ensures in
     let k = number_taken (chars c.rest.result.now) c.args.self.now.unread (chars c.in-Ok.rest.now) given.number c.rest.ensures given.read in
-    let l = c.leave_unread.ensures k.literal (chars c.in-Ok.rest.now) k.split (left_counted c.in-Ok.rest.now given.text) in
+    let l = c.set_remaining.ensures k.literal (chars c.in-Ok.rest.now) k.split (left_counted c.in-Ok.rest.now given.text) in
     record {
       taken = (k.literal, given.number, l.0, k.is_number, subst (NotBegun (lengthens k.literal)) (sym l.1) k.stops, given.same);
       refused = tt;

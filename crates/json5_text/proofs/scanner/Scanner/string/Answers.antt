@@ -17,8 +17,8 @@ returns-in-Err g c = record {
   plain = λ s u r split is_string. absurd (plain_memory (chars c.rest.result.now) c.args.self.now.unread s u r c.in-Err.refusal c.rest.ensures c.in-Err.ensures.refused c.in-Err.ensures.memory split is_string);
 }
 
-pub leave_unread-requires : goal.leave_unread-requires
-leave_unread-requires g c =
+pub set_remaining-requires : goal.set_remaining-requires
+set_remaining-requires g c =
     let given = c.in-Ok.ensures in
     let k = string_taken (chars c.rest.result.now) c.args.self.now.unread given.spelled (chars c.in-Ok.rest.now) given.plain c.rest.ensures given.read in
     leaves_rest k.string c.in-Ok.rest.now k.split given.text
@@ -27,7 +27,7 @@ pub returns : goal.returns
 returns g c =
     let given = c.in-Ok.ensures in
     let k = string_taken (chars c.rest.result.now) c.args.self.now.unread given.spelled (chars c.in-Ok.rest.now) given.plain c.rest.ensures given.read in
-    let l = c.leave_unread.ensures k.string (chars c.in-Ok.rest.now) k.split (left_counted c.in-Ok.rest.now given.text) in
+    let l = c.set_remaining.ensures k.string (chars c.in-Ok.rest.now) k.split (left_counted c.in-Ok.rest.now given.text) in
     record {
       taken = (k.string, given.spelled, given.plain, l.0, k.is_string, (given.is_text.borrowed, given.is_text.bytes));
       refused = tt;

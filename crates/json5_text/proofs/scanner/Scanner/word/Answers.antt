@@ -19,12 +19,12 @@ returns-in-Err g c = record {
   kept = refl;
 }
 
-pub leave_unread-requires : goal.leave_unread-requires
-leave_unread-requires g c = leaves_rest (chars c.args.word.now) c.in-Ok.rest.now (word_passed _ _ _ _ _ _ c.rest.ensures c.in-Ok.ensures.read) c.in-Ok.ensures.text
+pub set_remaining-requires : goal.set_remaining-requires
+set_remaining-requires g c = leaves_rest (chars c.args.word.now) c.in-Ok.rest.now (word_passed _ _ _ _ _ _ c.rest.ensures c.in-Ok.ensures.read) c.in-Ok.ensures.text
 
 pub returns : goal.returns
 returns g c = record {
-  taken = (c.leave_unread.ensures (chars c.args.word.now) (chars c.in-Ok.rest.now) (word_passed _ _ _ _ _ _ c.rest.ensures c.in-Ok.ensures.read) (left_counted c.in-Ok.rest.now c.in-Ok.ensures.text)).0;
+  taken = (c.set_remaining.ensures (chars c.args.word.now) (chars c.in-Ok.rest.now) (word_passed _ _ _ _ _ _ c.rest.ensures c.in-Ok.ensures.read) (left_counted c.in-Ok.rest.now c.in-Ok.ensures.text)).0;
   refused = tt;
   kept = tt;
 }

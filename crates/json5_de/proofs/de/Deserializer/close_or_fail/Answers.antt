@@ -4,7 +4,7 @@ use Rattle.json5_de.proofs.OpenClose.{closes, refuses_closing}
 use Rattle.json5_de.proofs.Taken.{input_of}
 use Rattle.json5_value.specs.Brackets.{brackets_of}
 use Rattle.json5_de.proofs.Pairs.{signs_of}
-use Rattle.json5_de.proofs.de.Deserializer.close_last.Goals as goal
+use Rattle.json5_de.proofs.de.Deserializer.close_or_fail.Goals as goal
 
 pub returns-in-Ok : goal.returns-in-Ok
 returns-in-Ok g c = record { closes = closes (brackets_of c.args.kind) (signs_of c.args.kind) c.args.due c.args.self.now c.close.new.self c.in-Ok.ensures.closed; same_text = c.in-Ok.ensures.same_text; failed = tt }

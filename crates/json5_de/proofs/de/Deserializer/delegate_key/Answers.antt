@@ -3,7 +3,7 @@ use Rattle.std.proofs.lemmas.Result.{err_from_is_err_and}
 use Rattle.json5_grammar.proofs.Basics.{true_false}
 use Rattle.json5_de.specs.State.{State}
 use Rattle.json5_de.proofs.Taken.{input_of}
-use Rattle.json5_de.proofs.de.Deserializer.key_as.Goals as goal
+use Rattle.json5_de.proofs.de.Deserializer.delegate_key.Goals as goal
 
 pub returns-in-Err : goal.returns-in-Err
 returns-in-Err g c = rw c.refuse.ensures.result (record {
@@ -13,7 +13,7 @@ returns-in-Err g c = rw c.refuse.ensures.result (record {
   unprompted = c.in-Err.ensures.unprompted;
   same_text = input_of c.refuse.ensures.state ∙ c.in-Err.ensures.same_text;
   failed = ap (λ (s : State). s.failed) c.refuse.ensures.state;
-  before = λ h. absurd (true_false h c.in_ok-live.ensures.live.0);
+  before = λ h. absurd (true_false h c.in_ok-check_not_failed.ensures.live.0);
 })
 
 pub returns-in-Ok : goal.returns-in-Ok
@@ -24,13 +24,13 @@ returns-in-Ok g c = record {
   unprompted = tt;
   same_text = c.in-Ok.ensures.same_text;
   failed = tt;
-  before = λ h. absurd (true_false h c.in_ok-live.ensures.live.0);
+  before = λ h. absurd (true_false h c.in_ok-check_not_failed.ensures.live.0);
 }
 
-pub returns-in_err-live : goal.returns-in_err-live
-returns-in_err-live g c =
+pub returns-in_err-check_not_failed : goal.returns-in_err-check_not_failed
+returns-in_err-check_not_failed g c =
     let (y, is, from) = err_from_is_err_and c.from_residual.result c.from_residual.ensures.1 in
-    let had = c.in_err-live.ensures.failed in
+    let had = c.in_err-check_not_failed.ensures.failed in
     rw (is, from) (record {
       sound = tt;
       complete = λ u plain r c live reads converts. absurd (true_false had.0 live);

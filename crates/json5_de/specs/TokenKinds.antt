@@ -16,15 +16,15 @@ use Rattle.json5_text.specs.declared.error.Error.{Error}
 use Rattle.json5_text.specs.Bytes.{bytes_of}
 use Rattle.json5_de.specs.State.{State}
 use Rattle.json5_de.specs.Law.{ReadsValue}
-use Rattle.json5_de.specs.Convert.{unit_of, bool_of, as_number, as_whole, natural_below, integer_below, every_decimal, as_text, every_text, if_plain, every_cow, one_character, place_among, digits_bytes}
+use Rattle.json5_de.specs.Convert.{unit_of, bool_of, as_number, as_whole, natural_below, integer_below, every_decimal, as_text, every_text, if_plain, every_cow, one_character, index_of, digits_bytes}
 use Rattle.json5_de.specs.Faults.{FaultRelation, RefusedBy, RefusedByOrMemory, FaultyNull, FaultyBool, NotNumber, NotText, EndsWith, EndsWithOrMemory, DiffersWith, DiffersWithOrMemory}
 
 -- a kind of value: the faults where one is expected, what each tree gives, which trees are read without memory,
 -- what begins one, the codes at the end and at another character, and whether it may be refused because memory ran out
-pub record Row (C : Type 0) : Type 1 where
+pub record Kind (C : Type 0) : Type 1 where
   pub IsFault : FaultRelation
   pub convert : Tree → Option C
-  pub free : Tree → Bool
+  pub allocation_free : Tree → Bool
   pub begins : ℕ → Bool
   pub ends : ErrorCode
   pub differs : ErrorCode
@@ -35,12 +35,12 @@ RefusedWith false IsFault old e = RefusedBy IsFault old e
 RefusedWith true IsFault old e = RefusedByOrMemory IsFault old e
 
 -- refused with a fault of the kind
-abbrev pub RefusedAs : {C : Type 0} → Row C → State → Error → State → Type 0
-RefusedAs row old e new = RefusedWith row.may_lack_memory row.IsFault old e
+abbrev pub RefusedAs : {C : Type 0} → Kind C → State → Error → State → Type 0
+RefusedAs kind old e new = RefusedWith kind.may_lack_memory kind.IsFault old e
 
 -- one value of the kind is read from the front
-abbrev pub ReadsAs : {V C : Type 0} → Row C → (V → C) → State → State → Result V Error → Type 0
-ReadsAs row content old new result = ReadsValue content row.convert row.free (RefusedAs row) old new result
+abbrev pub ReadsAs : {V C : Type 0} → Kind C → (V → C) → State → State → Result V Error → Type 0
+ReadsAs kind content old new result = ReadsValue content kind.convert kind.allocation_free (RefusedAs kind) old new result
 
 abbrev pub EndsWhere : {V : Type 0} → Bool → ErrorCode → State → Result V Error → Type 0
 EndsWhere false ends old result = EndsWith ends old result
@@ -51,12 +51,12 @@ DiffersWhere false begins differs old result = DiffersWith begins differs old re
 DiffersWhere true begins differs old result = DiffersWithOrMemory begins differs old result
 
 -- the code at the end
-abbrev pub EndsAs : {V C : Type 0} → Row C → State → Result V Error → Type 0
-EndsAs row old result = EndsWhere row.may_lack_memory row.ends old result
+abbrev pub EndsAs : {V C : Type 0} → Kind C → State → Result V Error → Type 0
+EndsAs kind old result = EndsWhere kind.may_lack_memory kind.ends old result
 
 -- the code at a character that begins nothing of the kind
-abbrev pub DiffersAs : {V C : Type 0} → Row C → State → Result V Error → Type 0
-DiffersAs row old result = DiffersWhere row.may_lack_memory row.begins row.differs old result
+abbrev pub DiffersAs : {V C : Type 0} → Kind C → State → Result V Error → Type 0
+DiffersAs kind old result = DiffersWhere kind.may_lack_memory kind.begins kind.differs old result
 
 -- all trees, or none, whose contents need no memory
 abbrev pub every_tree : Tree → Bool
@@ -72,71 +72,71 @@ plain_text _ = false
 
 -- ---- the kinds
 
-abbrev pub null_row : Row (Unit {0})
-null_row = record { IsFault = FaultyNull; convert = unit_of; free = every_tree; begins = λ c. c == letter_n; ends = codes.EofParsingNull; differs = codes.ExpectedNull; may_lack_memory = false }
+abbrev pub null_kind : Kind (Unit {0})
+null_kind = record { IsFault = FaultyNull; convert = unit_of; allocation_free = every_tree; begins = λ c. c == letter_n; ends = codes.EofParsingNull; differs = codes.ExpectedNull; may_lack_memory = false }
 
-abbrev pub bool_row : Row Bool
-bool_row = record { IsFault = FaultyBool; convert = bool_of; free = every_tree; begins = λ c. (c == letter_t) || (c == letter_f); ends = codes.EofParsingBool; differs = codes.ExpectedBool; may_lack_memory = false }
+abbrev pub bool_kind : Kind Bool
+bool_kind = record { IsFault = FaultyBool; convert = bool_of; allocation_free = every_tree; begins = λ c. (c == letter_t) || (c == letter_f); ends = codes.EofParsingBool; differs = codes.ExpectedBool; may_lack_memory = false }
 
 -- a whole number that converts
-abbrev pub whole_row : {C : Type 0} → (ℤ → Option C) → Row C
-whole_row f = record { IsFault = NotNumber (as_whole f); convert = as_number (as_whole f); free = every_tree; begins = λ c. is_sign c || begins_number c; ends = codes.EofParsingNumber; differs = codes.ExpectedNumber; may_lack_memory = true }
+abbrev pub whole_kind : {C : Type 0} → (ℤ → Option C) → Kind C
+whole_kind f = record { IsFault = NotNumber (as_whole f); convert = as_number (as_whole f); allocation_free = every_tree; begins = λ c. is_sign c || begins_number c; ends = codes.EofParsingNumber; differs = codes.ExpectedNumber; may_lack_memory = true }
 
 -- from 0 to below the bound
-abbrev pub natural_row : ℕ → Row ℕ
-natural_row bound = whole_row (natural_below bound)
+abbrev pub natural_kind : ℕ → Kind ℕ
+natural_kind bound = whole_kind (natural_below bound)
 
 -- from the bound's negative to below the bound
-abbrev pub integer_row : ℕ → Row ℤ
-integer_row bound = whole_row (integer_below bound)
+abbrev pub integer_kind : ℕ → Kind ℤ
+integer_kind bound = whole_kind (integer_below bound)
 
-abbrev pub decimal_row : Row Decimal
-decimal_row = record { IsFault = NotNumber every_decimal; convert = as_number every_decimal; free = no_tree; begins = λ c. is_sign c || begins_number c; ends = codes.EofParsingNumber; differs = codes.ExpectedNumber; may_lack_memory = true }
+abbrev pub decimal_kind : Kind Decimal
+decimal_kind = record { IsFault = NotNumber every_decimal; convert = as_number every_decimal; allocation_free = no_tree; begins = λ c. is_sign c || begins_number c; ends = codes.EofParsingNumber; differs = codes.ExpectedNumber; may_lack_memory = true }
 
 -- a text that converts; else this code at the quote, None for a text of its own
-abbrev pub coded_text_row : {C : Type 0} → Option ErrorCode → (List ℕ → Bool → Option C) → (Tree → Bool) → Row C
-coded_text_row other f free = record { IsFault = NotText other f; convert = as_text f; free = free; begins = is_quote; ends = codes.EofParsingString; differs = codes.ExpectedString; may_lack_memory = true }
+abbrev pub coded_text_kind : {C : Type 0} → Option ErrorCode → (List ℕ → Bool → Option C) → (Tree → Bool) → Kind C
+coded_text_kind other f allocation_free = record { IsFault = NotText other f; convert = as_text f; allocation_free = allocation_free; begins = is_quote; ends = codes.EofParsingString; differs = codes.ExpectedString; may_lack_memory = true }
 
 -- a text that converts; else a text of its own
-abbrev pub text_row : {C : Type 0} → (List ℕ → Bool → Option C) → (Tree → Bool) → Row C
-text_row = coded_text_row None
+abbrev pub text_kind : {C : Type 0} → (List ℕ → Bool → Option C) → (Tree → Bool) → Kind C
+text_kind = coded_text_kind None
 
-abbrev pub string_row : Row (List ℕ)
-string_row = text_row every_text no_tree
+abbrev pub string_kind : Kind (List ℕ)
+string_kind = text_kind every_text no_tree
 
 -- one character; a plain text takes no memory
-abbrev pub char_row : Row ℕ
-char_row = text_row one_character plain_text
+abbrev pub char_kind : Kind ℕ
+char_kind = text_kind one_character plain_text
 
 -- a text without a backslash
-abbrev pub plain_row : Row (List ℕ)
-plain_row = text_row if_plain every_tree
+abbrev pub plain_kind : Kind (List ℕ)
+plain_kind = text_kind if_plain every_tree
 
 -- a text, and whether it is plain, which then takes no memory
-abbrev pub cow_row : Row (List ℕ × Bool)
-cow_row = text_row every_cow plain_text
+abbrev pub cow_kind : Kind (List ℕ × Bool)
+cow_kind = text_kind every_cow plain_text
 
 -- one of these names, by its first place among them; a plain text takes no memory
-abbrev pub variant_row : List (List ℕ) → Row ℕ
-variant_row names = text_row (place_among names) plain_text
+abbrev pub variant_kind : List (List ℕ) → Kind ℕ
+variant_kind names = text_kind (index_of names) plain_text
 
 -- bytes, as a text of hexadecimal digits
-abbrev pub bytes_row : Row (List ℕ)
-bytes_row = coded_text_row (Some codes.InvalidBytes) digits_bytes no_tree
+abbrev pub bytes_kind : Kind (List ℕ)
+bytes_kind = coded_text_kind (Some codes.InvalidBytes) digits_bytes no_tree
 
 -- ---- calls of more than one name
 
 abbrev pub ReadsNull : State → State → Result (Unit {0}) Error → Type 0
-ReadsNull old new result = ReadsAs null_row (λ _. tt) old new result
+ReadsNull old new result = ReadsAs null_kind (λ _. tt) old new result
 
 abbrev pub ReadsBytes : State → State → Result ByteBuf Error → Type 0
-ReadsBytes old new result = ReadsAs bytes_row bytes_of old new result
+ReadsBytes old new result = ReadsAs bytes_kind bytes_of old new result
 
 -- ---- the codes, which follow from the law of a read
 
 -- whoever reads such a value gets the code at the end, and that at a character that begins nothing of the kind
-abbrev pub TellsApart : {V C : Type 0} → Row C → (V → C) → Type 0
-TellsApart {V = V} row content = (old new : State) (result : Result V Error) → ReadsAs row content old new result → EndsAs row old result × DiffersAs row old result
+abbrev pub TellsApart : {V C : Type 0} → Kind C → (V → C) → Type 0
+TellsApart {V = V} kind content = (old new : State) (result : Result V Error) → ReadsAs kind content old new result → EndsAs kind old result × DiffersAs kind old result
 
 -- the bytes of a `String`
 abbrev pub text_bytes : String Global → List ℕ

@@ -17,7 +17,7 @@ use Rattle.json5_text.specs.Tokens.{FaultyBlanks, FaultyWord, FaultyNumber, Faul
 use Rattle.json5_de.specs.State.{State, GivesUp, cursor_of}
 use Rattle.json5_de.specs.Faults.{FaultRelation}
 use Rattle.json5_de.specs.Law.{StaysFailed, Unprompted}
-use Rattle.json5_de.specs.Steps.{PassedGap, TookText, TookNumber, TookOwned, TookCharacters, TookCow, RefusesToken}
+use Rattle.json5_de.specs.ReaderSteps.{PassedGap, TookText, TookNumber, TookOwned, TookCharacters, TookCow, RefusesToken}
 use Rattle.json5_de.specs.FoundTexts.{TookToken, IsString}
 
 -- blanks are passed over, where there was no refusal before

@@ -11,18 +11,18 @@ use Rattle.json5_grammar.specs.Values.{Reads}
 use Rattle.json5_text.specs.declared.error.Error.{Error}
 use Rattle.json5_text.specs.Tokens.{FaultyKey}
 use Rattle.json5_de.specs.State.{State}
-use Rattle.json5_de.specs.Convert.{every_text, if_plain, every_cow, one_character, place_among, digits_bytes}
+use Rattle.json5_de.specs.Convert.{every_text, if_plain, every_cow, one_character, index_of, digits_bytes}
 use Rattle.json5_de.specs.ConvertLists.{if_some}
 use Rattle.json5_de.specs.Faults.{AfterBlanks, RefusedByOrMemory, Trailing}
 use Rattle.json5_de.specs.Keys.{KeyConversion, every_key, ReadsOneKey}
-use Rattle.json5_de.specs.Rows.{Row}
+use Rattle.json5_de.specs.TokenKinds.{Kind}
 
 -- with which code the text of a key is refused, None for a fault with a text of its own; true where the key is plain
 abbrev pub KeyFault : Type 1
 KeyFault = List ℕ → Bool → Option ErrorCode → Type 0
 
 -- a kind of key: what each text gives, and what is refused
-pub record KeyRow (C : Type 0) : Type 1 where
+pub record KeyKind (C : Type 0) : Type 1 where
   pub convert : KeyConversion C
   pub IsFault : KeyFault
 
@@ -32,12 +32,12 @@ pub data NotKey (IsFault : KeyFault) : List ℕ → Option ErrorCode → Option 
   other_key : {s u : List ℕ} {plain : Bool} {reason : Option ErrorCode} (r : List ℕ) → Key s r u plain → IsFault u plain reason → NotKey IsFault (s ++ r) reason (Some [])
 
 -- refused with a fault of the kind, or memory ran out
-abbrev pub RefusedAsKey : {C : Type 0} → KeyRow C → State → Error → State → Type 0
-RefusedAsKey row old e new = RefusedByOrMemory (NotKey row.IsFault) old e
+abbrev pub RefusedAsKey : {C : Type 0} → KeyKind C → State → Error → State → Type 0
+RefusedAsKey kind old e new = RefusedByOrMemory (NotKey kind.IsFault) old e
 
 -- one key of the kind is read from the front
-abbrev pub ReadsKeyAs : {V C : Type 0} → KeyRow C → (V → C) → State → State → Result V Error → Type 0
-ReadsKeyAs row content old new result = ReadsOneKey content row.convert (RefusedAsKey row) old new result
+abbrev pub ReadsKeyAs : {V C : Type 0} → KeyKind C → (V → C) → State → State → Result V Error → Type 0
+ReadsKeyAs kind content old new result = ReadsOneKey content kind.convert (RefusedAsKey kind) old new result
 
 -- ---- texts
 
@@ -46,37 +46,37 @@ abbrev pub not_converted : {C : Type 0} → Option ErrorCode → KeyConversion C
 not_converted of_other f u plain reason = (reason ≡ of_other) × (f u plain ≡ None)
 
 -- a text that converts, and the code of any other
-abbrev pub coded_text_key : {C : Type 0} → Option ErrorCode → KeyConversion C → KeyRow C
+abbrev pub coded_text_key : {C : Type 0} → Option ErrorCode → KeyConversion C → KeyKind C
 coded_text_key of_other f = record { convert = f; IsFault = not_converted of_other f }
 
-abbrev pub text_key : {C : Type 0} → KeyConversion C → KeyRow C
+abbrev pub text_key : {C : Type 0} → KeyConversion C → KeyKind C
 text_key = coded_text_key None
 
-abbrev pub string_key : KeyRow (List ℕ)
+abbrev pub string_key : KeyKind (List ℕ)
 string_key = text_key every_text
 
 -- one character
-abbrev pub char_key : KeyRow ℕ
+abbrev pub char_key : KeyKind ℕ
 char_key = text_key one_character
 
 -- a text without an escape
-abbrev pub plain_key : KeyRow (List ℕ)
+abbrev pub plain_key : KeyKind (List ℕ)
 plain_key = text_key if_plain
 
 -- a text, and whether it is plain
-abbrev pub cow_key : KeyRow (List ℕ × Bool)
+abbrev pub cow_key : KeyKind (List ℕ × Bool)
 cow_key = text_key every_cow
 
 -- one of these names, by its first place among them
-abbrev pub variant_key : List (List ℕ) → KeyRow ℕ
-variant_key names = text_key (place_among names)
+abbrev pub variant_key : List (List ℕ) → KeyKind ℕ
+variant_key names = text_key (index_of names)
 
 -- any key, of which nothing is kept
-abbrev pub ignored_key : KeyRow (Unit {0})
+abbrev pub ignored_key : KeyKind (Unit {0})
 ignored_key = text_key every_key
 
 -- bytes, as a text of hexadecimal digits
-abbrev pub bytes_key : KeyRow (List ℕ)
+abbrev pub bytes_key : KeyKind (List ℕ)
 bytes_key = coded_text_key (Some codes.InvalidBytes) digits_bytes
 
 -- ---- documents
@@ -90,14 +90,14 @@ abbrev pub document_of : {C : Type 0} → (Tree → Option C) → KeyConversion 
 document_of convert u plain = converted convert (document max_depth u)
 
 -- the text isn't a document whose tree converts: the value in front is refused, or what stands after one that converts
-pub data NotDocument {C : Type 0} (row : Row C) : List ℕ → Bool → Option ErrorCode → Type 0 where
-  no_value : {u : List ℕ} {plain : Bool} {reason : Option ErrorCode} {place : Option (List ℕ)} → AfterBlanks row.IsFault u reason place → NotDocument row u plain reason
-  more_follows : {u r : List ℕ} {plain : Bool} {t : Tree} {c : C} {reason : Option ErrorCode} {place : Option (List ℕ)} → Reads u t r → depth t ≤ max_depth → row.convert t ≡ Some c
-      → AfterBlanks Trailing r reason place → NotDocument row u plain reason
+pub data NotDocument {C : Type 0} (kind : Kind C) : List ℕ → Bool → Option ErrorCode → Type 0 where
+  no_value : {u : List ℕ} {plain : Bool} {reason : Option ErrorCode} {place : Option (List ℕ)} → AfterBlanks kind.IsFault u reason place → NotDocument kind u plain reason
+  more_follows : {u r : List ℕ} {plain : Bool} {t : Tree} {c : C} {reason : Option ErrorCode} {place : Option (List ℕ)} → Reads u t r → depth t ≤ max_depth → kind.convert t ≡ Some c
+      → AfterBlanks Trailing r reason place → NotDocument kind u plain reason
 
 -- a text that is a document of the kind, blanks round it included; its faults keep their codes
-abbrev pub document_key : {C : Type 0} → Row C → KeyRow C
-document_key row = record { convert = document_of row.convert; IsFault = NotDocument row }
+abbrev pub document_key : {C : Type 0} → Kind C → KeyKind C
+document_key kind = record { convert = document_of kind.convert; IsFault = NotDocument kind }
 
 -- such a text converts exactly where it is a document whose tree converts
 abbrev pub ConvertsDocuments : {C : Type 0} → (Tree → Option C) → Type 0

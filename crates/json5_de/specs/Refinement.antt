@@ -16,10 +16,10 @@ ReadsContent {C = C} content convert old result =
     (t : Tree) (r : List ℕ) (c : C) → old.failed ≡ false → Reads old.unread t r → old.level + depth t ≤ max_depth → convert t ≡ Some c → MatchResult result (λ v. content v ≡ c) IsOutOfMemory
 
 -- one value is read from the front: the law of a type, and which content is answered
-pub record ReadsExactly {V C : Type 0} (content : V → C) (convert : Tree → Option C) (free : Tree → Bool) (refuses : State → Error → State → Type 0) (old new : State) (result : Result V Error) : Type 0 where
+pub record ReadsExactly {V C : Type 0} (content : V → C) (convert : Tree → Option C) (allocation_free : Tree → Bool) (refuses : State → Error → State → Type 0) (old new : State) (result : Result V Error) : Type 0 where
   pub sound : IfOk result (λ v. Gives content convert old new v)
   pub complete : ReadsContent content convert old result
-  pub no_memory : CompletesFree free convert old result
+  pub no_memory : CompletesFree allocation_free convert old result
   pub refused : IfErr result (λ e. refuses old e new)
   pub unprompted : Unprompted old result
   pub same_text : SameText old new
