@@ -72,7 +72,10 @@ impl<I: Input> Deserializer<I> {
             return Ok(false);
         }
         if !self.at_key() {
-            return Err(self.fail_unexpected(ErrorCode::EofParsingObject, ErrorCode::ExpectedIdentifier));
+            return Err(self.fail_unexpected(
+                ErrorCode::EofParsingObject,
+                ErrorCode::ExpectedIdentifier,
+            ));
         }
         Ok(true)
     }

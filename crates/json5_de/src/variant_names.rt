@@ -33,7 +33,10 @@ impl<I: Input> Deserializer<I> {
     {
         self.skip_blank()?;
         if !self.at_key() {
-            return Err(self.fail_unexpected(ErrorCode::EofParsingObject, ErrorCode::ExpectedIdentifier));
+            return Err(self.fail_unexpected(
+                ErrorCode::EofParsingObject,
+                ErrorCode::ExpectedIdentifier,
+            ));
         }
         let variant = self.key_variant(variants)?;
         self.colon()?;

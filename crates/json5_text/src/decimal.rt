@@ -21,7 +21,7 @@ use std::marker::Model;
 
 /// A decimal as it is kept: whether it is negative and, where it is finite, the power of ten that its digits are multiplied with,
 /// and these digits, in ASCII and without zeros at either end.
-#[derive(Debug, Drop)]
+#[derive(Drop)]
 enum Kept {
     Infinite(bool),
     NotANumber(bool),
@@ -31,7 +31,7 @@ enum Kept {
 }
 
 /// How large a decimal is, whatever its sign.
-#[derive(Clone, Copy)]
+#[derive(Clone, Copy, Debug)]
 enum Size<'a> {
     Infinite,
     NotANumber,
@@ -51,7 +51,7 @@ enum Size<'a> {
 /// price.exponent()       // -1
 /// price.is_negative()    // true
 /// ```
-#[derive(Debug, Drop)]
+#[derive(Drop)]
 pub struct Decimal {
     kept: Kept,
 }
@@ -377,6 +377,16 @@ impl Hash for Decimal {
                 exponent.hash(state);
             }
         }
+    }
+}
+
+/// Prints the sign and the size, with the digits and the exponent where it is finite.
+impl fmt::Debug for Decimal {
+    fn fmt<W: fmt::Write>(&self, f: &mut fmt::Formatter<W>) -> fmt::Result {
+        f.debug_struct("Decimal")
+            .field("negative", &self.is_negative())
+            .field("size", &self.size())
+            .finish()
     }
 }
 

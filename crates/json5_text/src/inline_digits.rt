@@ -1,15 +1,15 @@
-//! Decimal digits that stand in the value itself.
+//! Decimal digits that are kept in the value itself.
 
 ghost use Rattle.std.specs.Prelude.{◌≡◌, ◌<◌, ◌+◌, ◌++◌, length, MatchOption};
 ghost use Rattle.json5_grammar.specs.Characters.{is_digit, Each};
 
 use std::marker::Model;
-use std::{fmt, str};
+use std::str;
 
 /// How many digits fit.
 const CAPACITY: usize = 19;
 
-/// At most 19 ASCII digits, which take no memory of their own.
+/// At most 19 ASCII digits, which take no heap memory.
 #[derive(Drop)]
 pub(crate) struct InlineDigits {
     len: u8,
@@ -52,11 +52,5 @@ impl InlineDigits {
         ensures { result.now ≡ self.now }
     {
         unsafe { str::from_utf8_unchecked(&self.bytes[..usize::from(self.len)]) }
-    }
-}
-
-impl fmt::Debug for InlineDigits {
-    fn fmt<W: fmt::Write>(&self, f: &mut fmt::Formatter<W>) -> fmt::Result {
-        fmt::Debug::fmt(self.as_str(), f)
     }
 }
