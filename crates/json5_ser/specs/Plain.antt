@@ -1,6 +1,6 @@
 -- Characters that are written as they stand between any quotes, and are no quotes themselves. Private clauses and proofs alone cite it.
 use Rattle.std.specs.Prelude.{ℕ, Bool, not, ◌&&◌, ◌||◌, ◌==◌}
-use Rattle.json5_text.specs.ByteRuns.{is_in_line, is_line_part}
+use Rattle.json5_text.specs.ByteRuns.{is_line_part}
 
 -- a byte at which a run of them ends
 abbrev pub ends_plain : ℕ → Bool

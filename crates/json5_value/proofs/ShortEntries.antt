@@ -1,6 +1,6 @@
 -- The short ways to entries and past values take what reading on lists takes.
-use Rattle.std.proofs.Common.{◌≡◌, ℕ, Bool, true, false, cond, List, [], ◌∷◌, ◌++◌, refl, ap, sym, ◌∙◌, subst, append_assoc, inl, inr, Option, Some, None}
-use Rattle.std.specs.Prelude.{◌==◌, ℤ, slice_get, Ok, Result, is_some}
+use Rattle.std.proofs.Common.{◌≡◌, ℕ, Bool, true, false, List, [], ◌∷◌, ◌++◌, refl, ap, sym, ◌∙◌, subst, append_assoc, inl, inr, Option, Some, None}
+use Rattle.std.specs.Prelude.{◌==◌, ℤ, Ok, Result, is_some}
 use Rattle.std.proofs.lemmas.Bool.{both_ways}
 use Rattle.json5_grammar.specs.Blanks as blanks
 use Rattle.json5_grammar.specs.Blanks.{is_solid, Gap, Solid}
@@ -10,7 +10,7 @@ use Rattle.json5_grammar.specs.Members.{IsSign, IsEnd}
 use Rattle.json5_grammar.specs.Numbers.{whole}
 use Rattle.json5_grammar.specs.Reading.{Read, got, and_then}
 use Rattle.json5_grammar.specs.ReadBlanks.{skip, between}
-use Rattle.json5_grammar.specs.ReadSteps.{next_value, separator, comma_at}
+use Rattle.json5_grammar.specs.ReadSteps.{separator, comma_at}
 use Rattle.json5_grammar.specs.Trees as trees
 use Rattle.json5_grammar.specs.Values.{is_number}
 use Rattle.json5_grammar.proofs.Basics.{same_char}
@@ -38,7 +38,7 @@ use Rattle.json5_value.specs.Kinds.{kind_at}
 use Rattle.json5_value.specs.Keeping.{Keeps, IsOfTree, tree_at}
 use Rattle.json5_value.specs.Opening.{AtScalar, AtNumber}
 use Rattle.json5_value.specs.Short.{EntersShort, PassesShort}
-use Rattle.json5_value.specs.Steps.{IsInside, Gave, Steps, value_at}
+use Rattle.json5_value.specs.Steps.{IsInside, Gave, Steps}
 use Rattle.json5_value.proofs.BuildScalars.{scalar_taken}
 use Rattle.json5_value.proofs.EntrySteps.{separator_is, front_closes, front_goes, closes_here, start_or_end}
 use Rattle.json5_value.proofs.EntryValues.{next_closed, element_reached}

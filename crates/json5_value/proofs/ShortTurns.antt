@@ -1,5 +1,5 @@
 -- Short turns leave what is next as the longer ways would find it.
-use Rattle.std.proofs.Common.{◌≡◌, ℕ, ◌-◌, ◌<◌, ◌≤◌, Bool, true, false, cond, List, [], ◌∷◌, ◌++◌, length, refl, ap, sym, ◌∙◌, subst, arith, length-append}
+use Rattle.std.proofs.Common.{◌≡◌, ℕ, ◌-◌, ◌<◌, Bool, true, false, List, [], ◌∷◌, ◌++◌, length, refl, ap, sym, ◌∙◌, subst, arith}
 use Rattle.std.specs.Prelude.{Ok, Err}
 use Rattle.json5_grammar.specs.Fronts.{BracketKind, of_array, of_object}
 use Rattle.json5_grammar.specs.Reading.{Read, got, bad, and_then}
@@ -17,9 +17,9 @@ use Rattle.json5_value.specs.Entries.{next_entry}
 use Rattle.json5_value.specs.Nesting.{Within}
 use Rattle.json5_value.specs.Opening.{OpenedAt}
 use Rattle.json5_value.specs.Places.{StartsAfter, PlacedAt}
-use Rattle.json5_value.specs.Short.{EntersShort, PassesShort, name_at, member_at, SkippingMember, TurnsMember, Reached, Advanced, TurnsShort, ResumesShort}
+use Rattle.json5_value.specs.Short.{PassesShort, name_at, member_at, SkippingMember, TurnsMember, Advanced, TurnsShort, ResumesShort}
 use Rattle.json5_value.specs.SkipSteps.{start_of, rest_in, rest_at, Skipping, SkippingInside}
-use Rattle.json5_value.specs.Steps.{IsInside, SameText, Blames, Gave, value_at}
+use Rattle.json5_value.specs.Steps.{SameText, Blames, Gave, value_at}
 use Rattle.json5_value.proofs.EntryValues.{next_is, head_or_end, head_of}
 use Rattle.json5_value.proofs.Nesting.{value_reached, inside_blamed, moved}
 use Rattle.json5_value.proofs.Shorter.{entry_shorter}
