@@ -1,5 +1,5 @@
 -- What the short ways answer is what the reader's other calls answer.
-use Rattle.std.proofs.Common.{◌≡◌, ℕ, ◌+◌, ◌≤◌, ◌<◌, ◌^◌, Bool, true, false, nat_lt, ℤ, pos, negsuc, neg_ℤ, nat_abs, ◌-ℤ◌, ◌≤ℤ◌, List, ◌∷◌, ◌++◌, Option, Some, None, inl, refl, ap, sym, ◌∙◌, subst, arith}
+use Rattle.std.proofs.Common.{◌≡◌, ℕ, ◌+◌, ◌≤◌, ◌<◌, ◌^◌, Bool, true, false, nat_lt, ℤ, pos, negsuc, nat_abs, ◌-ℤ◌, ◌≤ℤ◌, List, ◌++◌, Option, Some, None, inl, refl, ap, sym, ◌∙◌, subst, arith}
 use Rattle.std.specs.Prelude.{MatchOption, Result, Ok, Err, String, string_bytes}
 use Rattle.std.proofs.lemmas.Bool.Decides.{nat_tests}
 use Rattle.std.proofs.lemmas.Int.{ints, to_z-of_z}
@@ -10,7 +10,7 @@ use Rattle.json5_grammar.specs.Numbers.{whole}
 use Rattle.json5_grammar.specs.Trees.{number, text}
 use Rattle.json5_grammar.specs.Values.{is_number}
 use Rattle.json5_text.specs.Cursor.{Cursor}
-use Rattle.json5_text.specs.Short.{TookWhole, TookInRange, AfterGap, StepsTo, TakesShortStep, TakesShortSign}
+use Rattle.json5_text.specs.Short.{TookWhole, TookInRange, StepsTo, TakesShortStep, TakesShortSign}
 use Rattle.json5_text.specs.ShortTexts.{ReadsPlainString, TookPlain, TakesShortString, TakesShortKey}
 use Rattle.json5_text.specs.ShortTexts as texts
 use Rattle.json5_text.specs.TextTokens.{StandsAt}
@@ -23,7 +23,7 @@ use Rattle.json5_de.specs.KeyKinds.{ReadsKeyAs, string_key}
 use Rattle.json5_de.specs.Keys.{TookKey}
 use Rattle.json5_de.specs.Law.{TookValue}
 use Rattle.json5_de.specs.TokenKinds.{ReadsAs, whole_kind, natural_kind, integer_kind, string_kind}
-use Rattle.json5_de.specs.Seq.{IsAfterGap, Begun}
+use Rattle.json5_de.specs.Seq.{Begun}
 use Rattle.json5_de.specs.Short.{ReadsShort, StepsShort, ReadsShortText, ReadsShortKey, PassesShortColon, OwnsTextAt}
 use Rattle.json5_de.specs.State.{State}
 use Rattle.json5_de.proofs.TokenKinds.{reads_ok}

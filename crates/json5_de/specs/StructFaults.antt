@@ -1,11 +1,9 @@
 -- Why a struct is refused.
 use Rattle.std.specs.Prelude.{◌≡◌, ◌⊎◌, ℕ, Bool, true, false, List, ◌∷◌, ◌++◌, length, Option, Some, None, is_some, Result, IfErr}
 use Rattle.std.specs.Str.{encode_utf8_all}
-use Rattle.json5_grammar.specs.declared.code.ErrorCode.TheVariants as codes
 use Rattle.json5_grammar.specs.Characters.{left_brace, right_brace}
 use Rattle.json5_grammar.specs.Trees.{Tree, Pairs, no_pair}
 use Rattle.json5_text.specs.declared.error.Error.{Error}
-use Rattle.json5_text.specs.Errors.{code}
 use Rattle.json5_de.specs.State.{State, SameText}
 use Rattle.json5_value.specs.Brackets.{curly}
 use Rattle.json5_de.specs.Faults.{RefusedBy}

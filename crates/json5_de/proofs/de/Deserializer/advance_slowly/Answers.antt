@@ -1,4 +1,4 @@
-use Rattle.std.proofs.Common.{◌∙◌, refl, [], ◌∷◌, rules}
+use Rattle.std.proofs.Common.{◌∙◌, refl, [], ◌∷◌}
 use Rattle.std.proofs.lemmas.Result.{err_from_is_err_and}
 use Rattle.json5_grammar.proofs.Basics.{true_false}
 use Rattle.json5_de.specs.Seq.{in_blanks_after}

@@ -1,4 +1,4 @@
-use Rattle.std.proofs.Common.{refl, subst, true}
+use Rattle.std.proofs.Common.{refl, subst}
 use Rattle.json5_grammar.proofs.Basics.{true_false}
 use Rattle.json5_de.specs.Short.{PassesShortColon}
 use Rattle.json5_de.proofs.Taken.{input_of}
