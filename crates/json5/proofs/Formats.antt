@@ -3,8 +3,8 @@ use Rattle.std.proofs.Common.{◌≡◌, ℕ, true, false, List, Option, refl, s
 use Rattle.std.specs.Prelude.{Result, Ok, Err, IfOk, IfErr, MatchResult}
 use Rattle.std.specs.Str.{chars, encode_utf8_all}
 use Rattle.json5_grammar.specs.declared.code.ErrorCode.TheVariants as codes_of
-use Rattle.json5_grammar.specs.Documents.{Doc, max_depth}
-use Rattle.json5_grammar.specs.Trees.{Tree, Trees, Pairs, null, boolean, number, text, array, object, no_more, more, no_pair, pair}
+use Rattle.json5_grammar.specs.Language.Documents.{Doc, max_depth}
+use Rattle.json5_grammar.specs.Language.Trees.{Tree, Trees, Pairs, null, boolean, number, text, array, object, no_more, more, no_pair, pair}
 use Rattle.json5_grammar.proofs.Unique.{one_tree}
 use Rattle.json5_text.specs.declared.error.Error.{Error}
 use Rattle.json5_text.specs.Cursor.{IsOutOfMemory}
@@ -30,7 +30,7 @@ mutual
   same_tree null = refl
   same_tree (boolean b) = refl
   same_tree (number n) = refl
-  same_tree (text u plain) = refl
+  same_tree (text u escape_free) = refl
   same_tree (array ts) = rw (same_trees ts) refl
   same_tree (object ps) = rw (same_pairs ps) refl
 
@@ -40,7 +40,7 @@ mutual
 
   same_pairs : (ps : Pairs) → fields_tree (fields_of ps) ≡ unmarked_fields ps
   same_pairs no_pair = refl
-  same_pairs (pair u plain t ps) = rw (same_tree t, same_pairs ps) refl
+  same_pairs (pair u escape_free t ps) = rw (same_tree t, same_pairs ps) refl
 
 -- what stands for the tree is written as it
 pub written_tree : (t : Tree) (d : Datum) → d ≡ datum_of t → datum_tree d ≡ unmarked t

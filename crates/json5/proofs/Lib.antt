@@ -7,7 +7,7 @@ pub mod ValuesBack
 pub mod MapsBack
 pub mod ReadAgain
 -- What proofs of a user's own types cite.
-pub use Rattle.json5_grammar.proofs.MembersPairs
+pub use Rattle.json5_grammar.proofs.CollectionsPairs
 pub use Rattle.json5_de.proofs.Refinement
 pub use Rattle.json5_de.proofs.Loops
 pub use Rattle.json5_de.proofs.SoMany

@@ -3,9 +3,9 @@ use Rattle.std.proofs.Common.{◌≡◌, ◌≤◌, ◌<◌, ◌+◌, ◌⊎◌,
 use Rattle.std.specs.Prelude.{Result, MatchResult, Option, ⊤}
 use Rattle.std.proofs.lemmas.Bool.Decides.{nat_tests}
 use Rattle.json5_grammar.specs.declared.code.ErrorCode.TheVariants as codes_of
-use Rattle.json5_grammar.specs.Documents.{Doc, max_depth}
-use Rattle.json5_grammar.specs.Trees.{Tree, depth, depths, pair_depths}
-use Rattle.json5_grammar.specs.NumberText.{number_text}
+use Rattle.json5_grammar.specs.Language.Documents.{Doc, max_depth}
+use Rattle.json5_grammar.specs.Language.Trees.{Tree, depth, depths, pair_depths}
+use Rattle.json5_grammar.specs.Written.NumberText.{number_text}
 use Rattle.json5_text.specs.declared.error.Error.{Error}
 use Rattle.json5_text.specs.Errors.{FaultKind, code, custom, failed_write, kind_of}
 use Rattle.json5_text.specs.Cursor.{IsOutOfMemory}

@@ -8,17 +8,16 @@ use Rattle.std.specs.List.{All}
 use Rattle.std.specs.declared.alloc.Global.{Global}
 use Rattle.std.specs.Str.{chars, encode_utf8_all}
 use Rattle.std.proofs.lemmas.Str.{encodes-chars, IsUtf8-string_bytes}
-use Rattle.json5_grammar.specs.Trees.{Tree}
-use Rattle.json5_grammar.specs.Trees as marked
-use Rattle.json5_grammar.specs.Members.{contents, array_of}
-use Rattle.json5_de.specs.Convert.{unit_of, bool_of, unsigned_below, signed_below, decimal_of, text_of, plain_of, if_plain, every_text, one_character}
+use Rattle.json5_grammar.specs.Language.Trees.{Tree}
+use Rattle.json5_grammar.specs.Language.Trees as marked
+use Rattle.json5_grammar.specs.Model.Collections.{contents, array_of, pair_contents}
+use Rattle.json5_de.specs.Convert.{unit_of, bool_of, unsigned_below, signed_below, decimal_of, text_of, escape_free_of, if_escape_free, every_text, one_character}
 use Rattle.json5_de.specs.ConvertLists.{option_of, if_some, first_of, last_of}
-use Rattle.json5_grammar.specs.Documents.{Doc, max_depth}
-use Rattle.json5_grammar.specs.Numbers.{Number, Decimal, whole, decimal, InWhole}
-use Rattle.json5_grammar.specs.NumberText.{IsNumber, Normal, number_text, decimal_text}
-use Rattle.json5_grammar.specs.Values.{null_text, true_text, false_text}
+use Rattle.json5_grammar.specs.Language.Documents.{Doc, max_depth}
+use Rattle.json5_grammar.specs.Language.Numbers.{Number, Decimal, whole, decimal, InWhole}
+use Rattle.json5_grammar.specs.Written.NumberText.{IsNumber, Normal, number_text, decimal_text}
+use Rattle.json5_grammar.specs.Language.Values.{null_text, true_text, false_text}
 use Rattle.json5_grammar.proofs.ScalarsWritten.{null_document, boolean_document, number_document}
-use Rattle.json5_grammar.specs.Members.{pair_contents}
 use Rattle.json5_de.specs.Keys.{KeyConversion}
 use Rattle.json5_de.specs.KeyKinds.{document_of}
 use Rattle.json5_de.proofs.WholeTexts.{converts_documents}
@@ -27,7 +26,7 @@ use Rattle.json5_ser.specs.ValueTrees.{text_key}
 use Rattle.json5_ser.proofs.Writables.{unsigned_whole}
 use Rattle.json5_ser.specs.WrittenTrees.{Key, named, natural_key, integer_key, Fields, field, fields_of}
 use Rattle.json5_ser.specs.WrittenTrees.{Written, null, boolean, number, text, array, object, natural, integer, no_element, element, elements_of}
-use Rattle.json5_ser.specs.Marks.{marks, field_marks, is_plain_key, element_marks, is_plain}
+use Rattle.json5_ser.specs.Marks.{marks, field_marks, is_escape_free_key, element_marks, is_escape_free}
 use Rattle.json5.specs.ReadsBack.{ReadsBack, KeyReadsBack, PairReadsBack, PairsReadBack, list_tree, list_of}
 
 pub natural_back : (bound n : ℕ) → n < bound → ReadsBack natural (unsigned_below bound) (λ n. n) n
@@ -41,13 +40,13 @@ integer_back bound (negsuc n) low high = let l : n < bound = omega (arith, ints,
 pub string_back : (s : String Global) → ReadsBack (λ s. text (chars (string_bytes s))) text_of string_bytes s
 string_back s = ap Some (encodes-chars (string_bytes s) (IsUtf8-string_bytes s))
 
-if_plain_by : (u : List ℕ) (b : Bool) → if_plain u b ≡ (if b then Some (encode_utf8_all u) else None)
-if_plain_by u true = refl
-if_plain_by u false = refl
+if_escape_free_by : (u : List ℕ) (b : Bool) → if_escape_free u b ≡ (if b then Some (encode_utf8_all u) else None)
+if_escape_free_by u true = refl
+if_escape_free_by u false = refl
 
 -- a text that holds an escape is no slice
-pub slice_back : (u : List ℕ) → plain_of (marks (text u)) ≡ (if is_plain u then Some (encode_utf8_all u) else None)
-slice_back u = if_plain_by u (is_plain u)
+pub slice_back : (u : List ℕ) → escape_free_of (marks (text u)) ≡ (if is_escape_free u then Some (encode_utf8_all u) else None)
+slice_back u = if_escape_free_by u (is_escape_free u)
 
 -- ---- options
 
@@ -87,18 +86,18 @@ pair_back first f as_first second g as_second v h k = rw (h, k) refl
 
 -- ---- keys
 
-document_back : {C : Type 0} (f : Tree → Option C) (u : List ℕ) (plain : Bool) (t : Tree) (c : C) → Doc max_depth u t → f t ≡ Some c → document_of f u plain ≡ Some c
-document_back f u plain t c d e = (converts_documents f u plain c).1 (t, d, e)
+document_back : {C : Type 0} (f : Tree → Option C) (u : List ℕ) (escape_free : Bool) (t : Tree) (c : C) → Doc max_depth u t → f t ≡ Some c → document_of f u escape_free ≡ Some c
+document_back f u escape_free t c d e = (converts_documents f u escape_free c).1 (t, d, e)
 
 pub null_key_back : KeyReadsBack (λ (v : Unit {0}). named null_text) (document_of unit_of) (λ v. tt) tt
-null_key_back = (null_text, refl, document_back unit_of null_text (is_plain_key null_text) marked.null tt (null_document max_depth) refl)
+null_key_back = (null_text, refl, document_back unit_of null_text (is_escape_free_key null_text) marked.null tt (null_document max_depth) refl)
 
 pub boolean_key_back : (b : Bool) → KeyReadsBack (λ b. named (bool_text b)) (document_of bool_of) (λ b. b) b
-boolean_key_back true = (true_text, refl, document_back bool_of true_text (is_plain_key true_text) (marked.boolean true) true (boolean_document max_depth true) refl)
-boolean_key_back false = (false_text, refl, document_back bool_of false_text (is_plain_key false_text) (marked.boolean false) false (boolean_document max_depth false) refl)
+boolean_key_back true = (true_text, refl, document_back bool_of true_text (is_escape_free_key true_text) (marked.boolean true) true (boolean_document max_depth true) refl)
+boolean_key_back false = (false_text, refl, document_back bool_of false_text (is_escape_free_key false_text) (marked.boolean false) false (boolean_document max_depth false) refl)
 
-number_key : {C : Type 0} (f : Tree → Option C) (n : Number) (c : C) → IsNumber n → f (marked.number n) ≡ Some c → (u : List ℕ) × (named (number_text n) ≡ named u) × (document_of f u (is_plain_key u) ≡ Some c)
-number_key f n c h e = (number_text n, refl, document_back f (number_text n) (is_plain_key (number_text n)) (marked.number n) c (number_document max_depth n h) e)
+number_key : {C : Type 0} (f : Tree → Option C) (n : Number) (c : C) → IsNumber n → f (marked.number n) ≡ Some c → (u : List ℕ) × (named (number_text n) ≡ named u) × (document_of f u (is_escape_free_key u) ≡ Some c)
+number_key f n c h e = (number_text n, refl, document_back f (number_text n) (is_escape_free_key (number_text n)) (marked.number n) c (number_document max_depth n h) e)
 
 pub natural_key_back : (bound n : ℕ) → n < bound → n < 2 ^ 128 → KeyReadsBack natural_key (document_of (unsigned_below bound)) (λ n. n) n
 natural_key_back bound n l h = number_key (unsigned_below bound) (whole (pos n)) n (unsigned_whole n h) (natural_back bound n l)
@@ -117,7 +116,7 @@ character_key_back c = (c ∷ [], refl, refl)
 
 -- ---- objects
 
-one_pair : {C D : Type 0} (keys : KeyConversion C) (values : Tree → Option D) (key : Key) (t : Written) (fs : Fields) (c : C) (x : D) (ps : List (C × D)) → ((u : List ℕ) × (key ≡ named u) × (keys u (is_plain_key u) ≡ Some c)) → values (marks t) ≡ Some x
+one_pair : {C D : Type 0} (keys : KeyConversion C) (values : Tree → Option D) (key : Key) (t : Written) (fs : Fields) (c : C) (x : D) (ps : List (C × D)) → ((u : List ℕ) × (key ≡ named u) × (keys u (is_escape_free_key u) ≡ Some c)) → values (marks t) ≡ Some x
     → pair_contents keys values (field_marks fs) ≡ Some ps → pair_contents keys values (field_marks (field key t fs)) ≡ Some ((c, x) ∷ ps)
 one_pair keys values key t fs c x ps (u, is, e) f g = rw (is, e, f, g) refl
 

@@ -1,8 +1,8 @@
 -- What the formatter gives.
 use Rattle.std.specs.Prelude.{◌≡◌, ℕ, List}
 use Rattle.std.specs.Str.{chars}
-use Rattle.json5_grammar.specs.Trees.{Tree}
-use Rattle.json5_grammar.specs.Documents.{Doc, max_depth}
+use Rattle.json5_grammar.specs.Language.Trees.{Tree}
+use Rattle.json5_grammar.specs.Language.Documents.{Doc, max_depth}
 use Rattle.json5_ser.specs.Out.{text_within}
 use Rattle.json5_ser.specs.Marks.{unmarked}
 use Rattle.json5_ser.specs.Texts.{IsText}

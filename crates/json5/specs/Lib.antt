@@ -2,13 +2,13 @@ pub mod AnyText
 pub mod Formatted
 pub mod ReadsBack
 -- What else contracts cite, and what a type of a user's own cites: trees, and what stands in a text.
-pub use Rattle.json5_grammar.specs.Trees
-pub use Rattle.json5_grammar.specs.Values
-pub use Rattle.json5_grammar.specs.Members
-pub use Rattle.json5_grammar.specs.Documents
-pub use Rattle.json5_grammar.specs.Numbers
-pub use Rattle.json5_grammar.specs.Characters
-pub use Rattle.json5_grammar.specs.Positions
+pub use Rattle.json5_grammar.specs.Language.Trees
+pub use Rattle.json5_grammar.specs.Language.Values
+pub use Rattle.json5_grammar.specs.Model.Collections
+pub use Rattle.json5_grammar.specs.Language.Documents
+pub use Rattle.json5_grammar.specs.Language.Numbers
+pub use Rattle.json5_grammar.specs.Language.Characters
+pub use Rattle.json5_grammar.specs.Faults.Positions
 pub use Rattle.json5_grammar.specs.declared.position.Position
 pub use Rattle.json5_grammar.specs.declared.code.ErrorCode
 pub use Rattle.json5_text.specs.Cows
@@ -53,6 +53,6 @@ pub use Rattle.json5_ser.specs.Marks
 pub use Rattle.json5_ser.specs.Writes
 pub use Rattle.json5_ser.specs.Pieces
 pub use Rattle.json5_ser.specs.Texts as WrittenTexts
-pub use Rattle.json5_ser.specs.Lending as Collections
+pub use Rattle.json5_ser.specs.Lending as WrittenCollections
 pub use Rattle.json5_ser.specs.Keys as WrittenKeys
 pub use Rattle.json5_ser.specs.Waiting

@@ -4,12 +4,12 @@ use Rattle.std.specs.List.{All, IsDistinct}
 use Rattle.std.specs.List.Sorted.{IsStrictlySortedBy}
 use Rattle.std.specs.Map.{keys_of}
 use Rattle.std.specs.declared.cmp.Ordering.{Ordering}
-use Rattle.json5_grammar.specs.Trees.{Tree}
-use Rattle.json5_grammar.specs.Members.{contents, array_of}
+use Rattle.json5_grammar.specs.Language.Trees.{Tree}
+use Rattle.json5_grammar.specs.Model.Collections.{contents, array_of}
 use Rattle.json5_de.specs.Keys.{KeyConversion}
 use Rattle.json5_de.specs.Maps.{TellsKeys, pair_content, pairs_of, in_order, in_turn}
 use Rattle.json5_ser.specs.WrittenTrees.{Written, Key, named, array, object, elements_of, fields_of}
-use Rattle.json5_ser.specs.Marks.{marks, is_plain_key}
+use Rattle.json5_ser.specs.Marks.{marks, is_escape_free_key}
 
 -- the tree that is written of the value converts, once it is read, to the value's content
 abbrev pub ReadsBack : {V C : Type 0} → (V → Written) → (Tree → Option C) → (V → C) → V → Type 0
@@ -24,7 +24,7 @@ list_of f = array_of (contents f)
 
 -- what is written of the key is a text that converts, once it is read, to the key's content
 abbrev pub KeyReadsBack : {K C : Type 0} → (K → Key) → KeyConversion C → (K → C) → K → Type 0
-KeyReadsBack key convert content k = (u : List ℕ) × (key k ≡ named u) × (convert u (is_plain_key u) ≡ Some (content k))
+KeyReadsBack key convert content k = (u : List ℕ) × (key k ≡ named u) × (convert u (is_escape_free_key u) ≡ Some (content k))
 
 -- a pair's key and its value read back
 pub record PairReadsBack {K V C D : Type 0} (key : K → Key) (keys : KeyConversion C) (as_key : K → C) (tree : V → Written) (values : Tree → Option D) (as_value : V → D) (e : K × V) : Type 0 where

@@ -22,8 +22,8 @@ pub mod ser;
 
 ghost use Rattle.std.specs.Prelude.{IfOk, IfErr, MatchResult, string_bytes};
 ghost use Rattle.std.specs.Str.{chars};
-ghost use Rattle.json5_grammar.specs.Trees.{Tree};
-ghost use Rattle.json5_grammar.specs.Documents.{Doc, max_depth};
+ghost use Rattle.json5_grammar.specs.Language.Trees.{Tree};
+ghost use Rattle.json5_grammar.specs.Language.Documents.{Doc, max_depth};
 ghost use Rattle.json5_text.specs.Cursor.{IsOutOfMemory};
 ghost use Rattle.json5.specs.AnyText.{IsRefused, IsRefusedWithin, ReadsText};
 ghost use Rattle.json5.specs.Formatted.{WritesTree, IsFormatted, IsFormattedWithin};

@@ -3,23 +3,24 @@ use Rattle.std.proofs.Common.{◌≡◌, ℕ, ◌<◌, Bool, true, false, not, L
 use Rattle.std.specs.Prelude.{◌==◌, slice_get, Result, Ok, Err, IfErr, IsOk}
 use Rattle.json5_grammar.specs.declared.code.ErrorCode.{ErrorCode}
 use Rattle.json5_grammar.specs.declared.code.ErrorCode.TheVariants as codes
-use Rattle.json5_grammar.specs.Characters.{NotBegun}
-use Rattle.json5_grammar.specs.Blanks.{Gap, is_solid, BlankFault}
+use Rattle.json5_grammar.specs.Language.Characters.{NotBegun}
+use Rattle.json5_grammar.specs.Language.Blanks.{Gap, is_solid}
+use Rattle.json5_grammar.specs.Faults.Tokens.{BlankFault}
 use Rattle.json5_grammar.proofs.BlanksSound.{no_blank_fault}
 use Rattle.json5_grammar.proofs.ValueHeads.{val_head, value_solid}
-use Rattle.json5_grammar.specs.Trees.{Tree}
-use Rattle.json5_grammar.specs.Values.{Reads}
-use Rattle.json5_grammar.specs.Documents.{max_depth}
-use Rattle.json5_grammar.specs.Members.{IsSign, IsEnd, IsElement}
-use Rattle.json5_grammar.proofs.MembersRead.{comma_solid, bracket_solid, opening_solid, sign_here, sign_found, reads_found}
-use Rattle.json5_grammar.proofs.MembersPassed.{after_same_comma, no_comma_end}
-use Rattle.json5_grammar.proofs.MembersNowhere.{reads_here, no_sign, no_sign_in_blanks}
+use Rattle.json5_grammar.specs.Language.Trees.{Tree}
+use Rattle.json5_grammar.specs.Language.Values.{Reads}
+use Rattle.json5_grammar.specs.Language.Documents.{max_depth}
+use Rattle.json5_grammar.specs.Model.Collections.{IsSign, IsEnd, IsElement}
+use Rattle.json5_grammar.proofs.CollectionsRead.{comma_solid, bracket_solid, opening_solid, sign_here, sign_found, reads_found}
+use Rattle.json5_grammar.proofs.CollectionsPassed.{after_same_comma, no_comma_end}
+use Rattle.json5_grammar.proofs.CollectionsNowhere.{reads_here, no_sign, no_sign_in_blanks}
 use Rattle.json5_text.specs.declared.error.Error.{Error}
 use Rattle.json5_text.specs.Cursor.{Refused}
 use Rattle.json5_text.specs.Tokens.{FaultyBlanks}
 use Rattle.json5_text.specs.Errors.{code, kind_of, place_of}
 use Rattle.json5_grammar.specs.declared.position.Position.{Position}
-use Rattle.json5_grammar.specs.Positions.{position_after}
+use Rattle.json5_grammar.specs.Faults.Positions.{position_after}
 use Rattle.std.proofs.lemmas.List.{append-nil}
 use Rattle.json5_de.specs.State.{State, cursor_of, OnlyRead}
 use Rattle.json5_de.specs.Law.{TookValue}
@@ -50,9 +51,9 @@ after_gap_of old mid p = record { gap = p.gap; split = p.split; is_gap = p.is_ga
 
 -- ---- what is refused
 
-pub no_next : (b : Brackets) (due : Bool) (x : List ℕ) (reason : Option ErrorCode) (place : Option (List ℕ)) → due ≡ true → NotBegun (λ c. c == 0x2C) x → NotBegun (λ c. c == b.closing) x → Unexpected b.ends codes.ExpectedComma x reason place → NoNext b due x reason place
-no_next b due x reason place d m n at_end = comma_missing d
-no_next b due x reason place d m n (at_char c r) = no_comma c r d m n
+pub no_next : (b : Brackets) (comma_due : Bool) (x : List ℕ) (reason : Option ErrorCode) (place : Option (List ℕ)) → comma_due ≡ true → NotBegun (λ c. c == 0x2C) x → NotBegun (λ c. c == b.closing) x → Unexpected b.ends codes.ExpectedComma x reason place → NoNext b comma_due x reason place
+no_next b comma_due x reason place d m n at_end = comma_missing d
+no_next b comma_due x reason place d m n (at_char c r) = no_comma c r d m n
 
 pub not_opened_here : (b : Brackets) (level : ℕ) (x : List ℕ) (reason : Option ErrorCode) (place : Option (List ℕ)) → NotBegun (λ c. c == b.opening) x → Unexpected b.ends b.not_opened x reason place → NotOpened b level x reason place
 not_opened_here b level x reason place n at_end = text_ends
@@ -88,19 +89,19 @@ nothing_due b x m n = record { no_member = λ y g. m g.0 g.1; no_close = λ r c.
     close r (inr (y, comma, c)) = m y comma
 
 -- neither the comma that is due nor the bracket
-pub nowhere_next : (b : Brackets) → AreSigns b → (due : Bool) (x y : List ℕ) → due ≡ true → IsAfterGap x y → NotBegun (λ c. c == 0x2C) y → NotBegun (λ c. c == b.closing) y → NothingNext b due x
-nowhere_next b k due x y is g m n = subst (λ d. NothingNext b d x) (sym is)
+pub nowhere_next : (b : Brackets) → AreSigns b → (comma_due : Bool) (x y : List ℕ) → comma_due ≡ true → IsAfterGap x y → NotBegun (λ c. c == 0x2C) y → NotBegun (λ c. c == b.closing) y → NothingNext b comma_due x
+nowhere_next b k comma_due x y is g m n = subst (λ d. NothingNext b d x) (sym is)
     (nothing_due b x (λ z c. no_sign_next 0x2C x y z comma_solid g m c) (λ r c. no_sign_next b.closing x y r k.closing g n c))
 
 -- a comment in front is at fault
-pub nowhere_faulty : (b : Brackets) → AreSigns b → (due : Bool) (s : State) (e : Error) → Refused FaultyBlanks (cursor_of s) e → NothingNext b due s.unread
+pub nowhere_faulty : (b : Brackets) → AreSigns b → (comma_due : Bool) (s : State) (e : Error) → Refused FaultyBlanks (cursor_of s) e → NothingNext b comma_due s.unread
 nowhere_faulty b k false s e f = record { no_member = λ y g. no_gap_faulty s e y f g; no_close = λ r c. no_sign_faulty b.closing s e r k.closing f c }
 nowhere_faulty b k true s e f = nothing_due b s.unread (λ y c. no_sign_faulty 0x2C s e y comma_solid f c) (λ r c. no_sign_faulty b.closing s e r k.closing f c)
 
 -- a comment after the comma is at fault
-pub nowhere_after : (b : Brackets) → AreSigns b → (due : Bool) (s mid next : State) (e : Error) → due ≡ true → PassedGap s mid → NotBegun (λ c. c == b.closing) mid.unread → TookText mid (0x2C ∷ []) next → Refused FaultyBlanks (cursor_of next) e
-    → NothingNext b due s.unread
-nowhere_after b k due s mid next e is p n took f = subst (λ d. NothingNext b d s.unread) (sym is) (record { no_member = λ y begun. member y begun; no_close = λ r c. close r c })
+pub nowhere_after : (b : Brackets) → AreSigns b → (comma_due : Bool) (s mid next : State) (e : Error) → comma_due ≡ true → PassedGap s mid → NotBegun (λ c. c == b.closing) mid.unread → TookText mid (0x2C ∷ []) next → Refused FaultyBlanks (cursor_of next) e
+    → NothingNext b comma_due s.unread
+nowhere_after b k comma_due s mid next e is p n took f = subst (λ d. NothingNext b d s.unread) (sym is) (record { no_member = λ y begun. member y begun; no_close = λ r c. close r c })
   where
     g : IsAfterGap s.unread mid.unread
     g = after_gap_of s mid p
@@ -119,9 +120,9 @@ pub only_read : (s t u : State) → OnlyRead s t → OnlyRead t u → OnlyRead s
 only_read s t u a b = b ∙ ap (λ (m : State). record m { unread = u.unread }) a
 
 -- the bracket or an element after the comma
-pub goes_after : (b : Brackets) (due is : Bool) (s mid next last : State) → due ≡ true → PassedGap s mid → TookText mid (0x2C ∷ []) next → PassedGap next last
-    → (is ≡ true → slice_get last.unread 0 ≡ Some b.closing) → (is ≡ false → NotBegun (λ c. c == b.closing) last.unread) → GoesOn b due s last (not is)
-goes_after b due true s mid next last d p took q found other =
+pub goes_after : (b : Brackets) (comma_due is : Bool) (s mid next last : State) → comma_due ≡ true → PassedGap s mid → TookText mid (0x2C ∷ []) next → PassedGap next last
+    → (is ≡ true → slice_get last.unread 0 ≡ Some b.closing) → (is ≡ false → NotBegun (λ c. c == b.closing) last.unread) → GoesOn b comma_due s last (not is)
+goes_after b comma_due true s mid next last d p took q found other =
     let (r, split) = some_next last.unread b.closing (found refl) in
     let comma = sign_next 0x2C s.unread mid.unread next.unread (after_gap_of s mid p) took.split in
     let bracket = sign_next b.closing next.unread last.unread r (after_gap_of next last q) split in
@@ -130,7 +131,7 @@ goes_after b due true s mid next last d p took q found other =
       close = (r, subst (λ w. IsEnd b.closing w s.unread r) (sym d) (inr (next.unread, comma, bracket)), split);
       rest = only_read s mid last p.rest (only_read mid next last took.rest q.rest);
     }
-goes_after b due false s mid next last d p took q found other =
+goes_after b comma_due false s mid next last d p took q found other =
     let comma = sign_next 0x2C s.unread mid.unread next.unread (after_gap_of s mid p) took.split in
     record {
       live = p.live;
@@ -142,7 +143,7 @@ goes_after b due false s mid next last d p took q found other =
 -- ---- an element
 
 -- what is read where it may begin
-pub element_read : (due : Bool) (x y r : List ℕ) (t : Tree) → Begun due x y → Reads y t r → IsElement due x t r
+pub element_read : (comma_due : Bool) (x y r : List ℕ) (t : Tree) → Begun comma_due x y → Reads y t r → IsElement comma_due x t r
 element_read false x y r t g p = reads_here x g.gap y r t g.split g.is_gap p
 element_read true x y r t (z, comma, g) p = (z, comma, reads_here z g.gap y r t g.split g.is_gap p)
 
@@ -151,25 +152,25 @@ reads_gap : (x r : List ℕ) (t : Tree) → Reads x t r → (y : List ℕ) × Is
 reads_gap x r t p = (p.phrase ++ r, record { gap = p.front; split = p.split; is_gap = Gap.blanks p.blank; solid = value_solid r (val_head p.value) })
 
 -- where no member may begin no element stands
-pub no_element_next : (b : Brackets) (due : Bool) (x r : List ℕ) (t : Tree) → NothingNext b due x → IsElement due x t r → ⊥
+pub no_element_next : (b : Brackets) (comma_due : Bool) (x r : List ℕ) (t : Tree) → NothingNext b comma_due x → IsElement comma_due x t r → ⊥
 no_element_next b false x r t n e = let (y, g) = reads_gap x r t e in n.no_member y g
 no_element_next b true x r t n (z, comma, e) = let (y, g) = reads_gap z r t e in n.no_member y (z, comma, g)
 
 -- and what stands there
-pub element_found : (due : Bool) (x y r : List ℕ) (t : Tree) → Begun due x y → IsElement due x t r → Reads y t r
+pub element_found : (comma_due : Bool) (x y r : List ℕ) (t : Tree) → Begun comma_due x y → IsElement comma_due x t r → Reads y t r
 element_found false x y r t g p = reads_found x g.gap y r t g.split g.is_gap g.solid p
 element_found true x y r t (z, comma, g) (k, other, p) = reads_found z g.gap y r t g.split g.is_gap g.solid (after_same_comma (λ q. Reads q t r) x z k comma other p)
 
 -- no bracket closes there
-pub no_close_found : (b : Brackets) → AreSigns b → (due : Bool) (x y r : List ℕ) → Begun due x y → NotBegun (λ c. c == b.closing) y → IsEnd b.closing due x r → ⊥
+pub no_close_found : (b : Brackets) → AreSigns b → (comma_due : Bool) (x y r : List ℕ) → Begun comma_due x y → NotBegun (λ c. c == b.closing) y → IsEnd b.closing comma_due x r → ⊥
 no_close_found b k false x y r g n c = no_sign_next b.closing x y r k.closing g n c
 no_close_found b k true x y r (z, comma, g) n (inl c) = no_comma_end b.closing x z r k.closing k.no_comma comma c
 no_close_found b k true x y r (z, comma, g) n (inr (w, other, c)) = no_sign_next b.closing z y r k.closing g n (after_same_comma (λ q. IsSign b.closing q r) x z w comma other c)
 
-pub took_element : (due : Bool) (s mid last : State) (t : Tree) → AtMember square due s mid → TookValue mid t last → TookElement due s t last
-took_element due s mid last t at took = record {
+pub took_element : (comma_due : Bool) (s mid last : State) (t : Tree) → AtMember square comma_due s mid → TookValue mid t last → TookElement comma_due s t last
+took_element comma_due s mid last t at took = record {
   live = at.live;
-  element = element_read due s.unread mid.unread last.unread t at.begun took.reads;
+  element = element_read comma_due s.unread mid.unread last.unread t at.begun took.reads;
   shallow = let deep = took.shallow in let level = level_of at.rest in omega (arith, deep, level);
   rest = only_read s mid last at.rest took.rest;
 }
@@ -198,18 +199,18 @@ too_deep_here b level s next e p full took kind place there = record {
 
 -- ---- no closing
 
-pub no_close_next : (b : Brackets) → AreSigns b → (due : Bool) (s mid : State) (r : List ℕ) → PassedGap s mid → (due ≡ true → NotBegun (λ c. c == 0x2C) mid.unread) → NotBegun (λ c. c == b.closing) mid.unread → IsEnd b.closing due s.unread r → ⊥
+pub no_close_next : (b : Brackets) → AreSigns b → (comma_due : Bool) (s mid : State) (r : List ℕ) → PassedGap s mid → (comma_due ≡ true → NotBegun (λ c. c == 0x2C) mid.unread) → NotBegun (λ c. c == b.closing) mid.unread → IsEnd b.closing comma_due s.unread r → ⊥
 no_close_next b k false s mid r p m n c = no_sign_next b.closing s.unread mid.unread r k.closing (after_gap_of s mid p) n c
 no_close_next b k true s mid r p m n (inl c) = no_sign_next b.closing s.unread mid.unread r k.closing (after_gap_of s mid p) n c
 no_close_next b k true s mid r p m n (inr (y, comma, c)) = no_sign_next 0x2C s.unread mid.unread y comma_solid (after_gap_of s mid p) (m refl) comma
 
 -- a comment in front is at fault
-pub no_close_faulty : (b : Brackets) → AreSigns b → (due : Bool) (s : State) (e : Error) (r : List ℕ) → Refused FaultyBlanks (cursor_of s) e → IsEnd b.closing due s.unread r → ⊥
-no_close_faulty b k due s e r f c = (nowhere_faulty b k due s e f).no_close r c
+pub no_close_faulty : (b : Brackets) → AreSigns b → (comma_due : Bool) (s : State) (e : Error) (r : List ℕ) → Refused FaultyBlanks (cursor_of s) e → IsEnd b.closing comma_due s.unread r → ⊥
+no_close_faulty b k comma_due s e r f c = (nowhere_faulty b k comma_due s e f).no_close r c
 
 -- after the comma
-pub no_close_after : (b : Brackets) → AreSigns b → (due : Bool) (s mid next : State) (r : List ℕ) → due ≡ true → PassedGap s mid → TookText mid (0x2C ∷ []) next → (IsSign b.closing next.unread r → ⊥) → IsEnd b.closing due s.unread r → ⊥
-no_close_after b k due s mid next r d p took n c = by (subst (λ t. IsEnd b.closing t s.unread r) d c)
+pub no_close_after : (b : Brackets) → AreSigns b → (comma_due : Bool) (s mid next : State) (r : List ℕ) → comma_due ≡ true → PassedGap s mid → TookText mid (0x2C ∷ []) next → (IsSign b.closing next.unread r → ⊥) → IsEnd b.closing comma_due s.unread r → ⊥
+no_close_after b k comma_due s mid next r d p took n c = by (subst (λ t. IsEnd b.closing t s.unread r) d c)
   where
     comma : IsSign 0x2C s.unread next.unread
     comma = sign_next 0x2C s.unread mid.unread next.unread (after_gap_of s mid p) took.split
@@ -225,22 +226,22 @@ ok_unless (Err e) k h = absurd (h e k)
 -- ---- what is refused in place of a closing bracket
 
 -- where no comma stands, or none may
-pub refused_bracket : (b : Brackets) (due : Bool) (s mid at : State) (e : Error) → PassedGap s mid → at ≡ mid → (due ≡ true → NotBegun (λ c. c == 0x2C) mid.unread)
-    → Refused (Unexpected b.ends b.not_closed) (cursor_of at) e × NotBegun (λ c. c == b.closing) at.unread → RefusedBy (NotClosed b due) s e
-refused_bracket b due s mid at e p same m (f, n) =
-    refused_token s mid e p (refused_as at mid e same (λ reason place k. not_here (no_bracket_here b due mid.unread reason place m (subst (NotBegun (λ c. c == b.closing)) (unread_of same) n) k)) f)
+pub refused_bracket : (b : Brackets) (comma_due : Bool) (s mid at : State) (e : Error) → PassedGap s mid → at ≡ mid → (comma_due ≡ true → NotBegun (λ c. c == 0x2C) mid.unread)
+    → Refused (Unexpected b.ends b.not_closed) (cursor_of at) e × NotBegun (λ c. c == b.closing) at.unread → RefusedBy (NotClosed b comma_due) s e
+refused_bracket b comma_due s mid at e p same m (f, n) =
+    refused_token s mid e p (refused_as at mid e same (λ reason place k. not_here (no_bracket_here b comma_due mid.unread reason place m (subst (NotBegun (λ c. c == b.closing)) (unread_of same) n) k)) f)
 
 -- after the comma
-pub refused_bracket_after : (b : Brackets) (due : Bool) (s mid next far : State) (e : Error) → due ≡ true → PassedGap s mid → TookText mid (0x2C ∷ []) next → PassedGap next far
-    → Refused (Unexpected b.ends b.not_closed) (cursor_of far) e × NotBegun (λ c. c == b.closing) far.unread → RefusedBy (NotClosed b due) s e
-refused_bracket_after b due s mid next far e d p took q (f, n) =
+pub refused_bracket_after : (b : Brackets) (comma_due : Bool) (s mid next far : State) (e : Error) → comma_due ≡ true → PassedGap s mid → TookText mid (0x2C ∷ []) next → PassedGap next far
+    → Refused (Unexpected b.ends b.not_closed) (cursor_of far) e × NotBegun (λ c. c == b.closing) far.unread → RefusedBy (NotClosed b comma_due) s e
+refused_bracket_after b comma_due s mid next far e d p took q (f, n) =
     let there : Refused (AfterBlanks (NoBracket b false)) (cursor_of next) e =
     refused_token next far e q (refused_as far far e refl (λ reason place k. no_bracket_here b false far.unread reason place (λ is. absurd (true_false is refl)) n k) f) q.live in
     refused_token s mid e p (refused_after mid next e (0x2C ∷ []) took (λ reason place k. comma_before d k) there)
 
 -- a faulty comment after the comma
-pub refused_blanks_after : (b : Brackets) (due : Bool) (s mid next : State) (e : Error) → due ≡ true → PassedGap s mid → TookText mid (0x2C ∷ []) next → (next.failed ≡ false → Refused FaultyBlanks (cursor_of next) e) → RefusedBy (NotClosed b due) s e
-refused_blanks_after b due s mid next e d p took f =
+pub refused_blanks_after : (b : Brackets) (comma_due : Bool) (s mid next : State) (e : Error) → comma_due ≡ true → PassedGap s mid → TookText mid (0x2C ∷ []) next → (next.failed ≡ false → Refused FaultyBlanks (cursor_of next) e) → RefusedBy (NotClosed b comma_due) s e
+refused_blanks_after b comma_due s mid next e d p took f =
     refused_token s mid e p (refused_after mid next e (0x2C ∷ []) took (λ reason place k. comma_before d (in_blanks k)) (f (failed_of took.rest ∙ failed_of p.rest ∙ p.live)))
 
 -- ---- no opening

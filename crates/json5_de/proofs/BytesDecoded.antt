@@ -28,6 +28,6 @@ pub judged_undecoded : (old new : State) (found : FoundText) (result : Result By
 judged_undecoded old new found (Ok v) h bytes spells why is failed = absurd is
 judged_undecoded old new found (Err e) h bytes spells why is failed = record { converts = tt; kept = tt; other = by_cause why; refused = undecoded h old.input found.start e is; failed = failed }
   where
-    by_cause : (h ≡ hex.OutOfMemory) ⊎ (decode_of bytes ≡ Err h) → ((true ≡ true) × LacksMemory e) ⊎ OfFound old found (λ u plain. digits_bytes u plain ≡ None)
+    by_cause : (h ≡ hex.OutOfMemory) ⊎ (decode_of bytes ≡ Err h) → ((true ≡ true) × LacksMemory e) ⊎ OfFound old found (λ u escape_free. digits_bytes u escape_free ≡ None)
     by_cause (inl memory) = inl (refl, subst (λ z. IsUndecoded z old.input found.start e) memory is)
-    by_cause (inr none) = inr (λ u plain spelled scalars. ap (λ b. result_ok (decode_of b)) (sym (spells u plain spelled)) ∙ ap result_ok none)
+    by_cause (inr none) = inr (λ u escape_free spelled scalars. ap (λ b. result_ok (decode_of b)) (sym (spells u escape_free spelled)) ∙ ap result_ok none)

@@ -3,8 +3,8 @@ use Rattle.std.proofs.Common.{◌≡◌, ◌<◌, true, Bool, refl, sym, ap, ◌
 use Rattle.json5_value.specs.Brackets.{square}
 use Rattle.json5_value.specs.Places.{StartsAfter, PlacedAt}
 use Rattle.std.specs.Prelude.{◌||◌, is_some, Result, IfSome}
-use Rattle.json5_grammar.specs.Trees.{Tree}
-use Rattle.json5_grammar.proofs.MembersPassed.{element_shorter}
+use Rattle.json5_grammar.specs.Language.Trees.{Tree}
+use Rattle.json5_grammar.proofs.CollectionsPassed.{element_shorter}
 use Rattle.json5_text.specs.declared.error.Error.{Error}
 use Rattle.json5_de.specs.State.{State, SameText}
 use Rattle.json5_de.specs.Law.{Steady}
@@ -37,7 +37,7 @@ kept old after stage failed same = record { same_reference = refl; blocks = refl
 
 module _ {I V C : Type 0} (content : V → C) (convert : Tree → Option C) (refuses : State → Error → State → Type 0) (old : SeqAccess I) where
   shorter : (new : AccessState) (o : Option V) → GivesElement content convert (state_of old) new o → IfSome o (λ v. length new.reader.unread < length (state_of old).reader.unread)
-  shorter new (Some v) (t, took, due, is) = element_shorter (state_of old).due (state_of old).reader.unread new.reader.unread t took.element
+  shorter new (Some v) (t, took, comma_due, is) = element_shorter (state_of old).comma_due (state_of old).reader.unread new.reader.unread t took.element
   shorter new None gives = tt
 
   given : (new : SeqAccess I) (o : Option V) → KeepsAccess old new → GivesElement content convert (state_of old) (state_of new) o → ReadsNext content convert refuses old new (Ok o)
@@ -57,9 +57,9 @@ module _ {I V C : Type 0} (content : V → C) (convert : Tree → Option C) (ref
       → GivesElement content convert (bare (state_of old).reader (is_comma_due old.stage)) (bare after (is_comma_due old.stage || is_some o)) o → ReadsNext content convert refuses old (record new { stage = with_member new.stage some }) (Ok o)
   next_given after new some o same is text gives =
       let last = record (blocking (lent old after) old.failed) { stage = with_member old.stage some } in
-      let due = comma_after_member old.stage some ∙ ap (λ b. is_comma_due old.stage || b) is in
+      let comma_due = comma_after_member old.stage some ∙ ap (λ b. is_comma_due old.stage || b) is in
       subst (λ s. ReadsNext content convert refuses old (record s { stage = with_member s.stage some }) (Ok o)) (sym same)
-      (given last o (kept old after (with_member old.stage some) old.failed text) (gives_seen content convert (state_of old) (state_of last) (state_of old).reader after o refl refl due gives))
+      (given last o (kept old after (with_member old.stage some) old.failed text) (gives_seen content convert (state_of old) (state_of last) (state_of old).reader after o refl refl comma_due gives))
 
   -- the call was refused
   pub next_refused : (after : State) (new : SeqAccess I) (own e : Error) → new ≡ blocking (lent old after) true → PlacedAtBracket (state_of (lent old after)) own e → RefusesElement refuses (is_comma_due old.stage) (state_of old).reader own after → Steady {V = Option V} (state_of old).reader after (Err own)

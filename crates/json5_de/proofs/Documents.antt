@@ -3,10 +3,10 @@ use Rattle.std.proofs.Common.{◌≡◌, ℕ, ◌+◌, ◌≤◌, false, List, a
 use Rattle.std.specs.Prelude.{Err}
 use Rattle.json5_text.specs.declared.error.Error.{Error}
 use Rattle.json5_text.specs.Cursor.{Cursor, Refused, IsOutOfMemory}
-use Rattle.json5_grammar.specs.Blanks.{LastBlanks}
-use Rattle.json5_grammar.specs.Trees.{Tree, depth}
-use Rattle.json5_grammar.specs.Values.{Reads}
-use Rattle.json5_grammar.specs.Documents.{Doc, max_depth}
+use Rattle.json5_grammar.specs.Language.Blanks.{LastBlanks}
+use Rattle.json5_grammar.specs.Language.Trees.{Tree, depth}
+use Rattle.json5_grammar.specs.Language.Values.{Reads}
+use Rattle.json5_grammar.specs.Language.Documents.{Doc, max_depth}
 use Rattle.json5_grammar.proofs.Unique.{document_phrase, phrase_document, one_phrase}
 use Rattle.json5_de.specs.State.{State, at_start}
 use Rattle.json5_de.specs.Law.{TookValue, Gives, Completes}

@@ -4,8 +4,8 @@ use Rattle.std.specs.Prelude.{◌==◌, ◌||◌, if◌then◌else◌}
 use lib.Chars.{codes}
 use Rattle.json5_grammar.specs.declared.code.ErrorCode.{ErrorCode}
 use Rattle.json5_grammar.specs.declared.code.ErrorCode.TheVariants as codes_of
-use Rattle.json5_grammar.specs.Trees.{Tree, null, boolean, number, text, array, object}
-use Rattle.json5_grammar.specs.Values.{Val, is_null, is_true, is_false, is_number, is_text, is_empty_array, is_array, is_empty_object, is_object, null_text, true_text, false_text}
+use Rattle.json5_grammar.specs.Language.Trees.{Tree, null, boolean, number, text, array, object}
+use Rattle.json5_grammar.specs.Language.Values.{Val, is_null, is_true, is_false, is_number, is_text, is_empty_array, is_array, is_empty_object, is_object, null_text, true_text, false_text}
 use Rattle.json5_grammar.proofs.Basics.{neq_from}
 use Rattle.json5_text.specs.Tokens.{FaultyWord}
 use Rattle.json5_de.specs.Convert.{unit_of, bool_of}
@@ -20,7 +20,7 @@ pub null_only : (t : Tree) (v : Unit {0}) → unit_of t ≡ Some v → t ≡ nul
 null_only null v e = refl
 null_only (boolean b) v e = absurd (cc)
 null_only (number n) v e = absurd (cc)
-null_only (text u plain) v e = absurd (cc)
+null_only (text u escape_free) v e = absurd (cc)
 null_only (array ts) v e = absurd (cc)
 null_only (object ps) v e = absurd (cc)
 

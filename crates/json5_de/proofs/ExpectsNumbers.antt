@@ -4,12 +4,12 @@ use Rattle.std.specs.Prelude.{◌||◌}
 use Rattle.std.proofs.lemmas.List.{append_cancel_right}
 use Rattle.json5_grammar.specs.declared.code.ErrorCode.{ErrorCode}
 use Rattle.json5_grammar.specs.declared.code.ErrorCode.TheVariants.{EofParsingNumber, ExpectedNumber}
-use Rattle.json5_grammar.specs.Reading.{here, inner, bad}
-use Rattle.json5_grammar.specs.ReadNumbers as reading
-use Rattle.json5_grammar.specs.NumberFaults.{is_sign, begins_number}
-use Rattle.json5_grammar.specs.Numbers.{Number, Num, no_sign}
-use Rattle.json5_grammar.specs.Trees.{Tree}
-use Rattle.json5_grammar.specs.Values.{Val, Stops, is_null, is_true, is_false, is_number, is_text, is_empty_array, is_array, is_empty_object, is_object}
+use Rattle.json5_grammar.specs.Model.Reading.{here, inner, bad}
+use Rattle.json5_grammar.specs.Model.ReadNumbers as reading
+use Rattle.json5_grammar.specs.Faults.Tokens.{is_sign, begins_number}
+use Rattle.json5_grammar.specs.Language.Numbers.{Number, Num, no_sign}
+use Rattle.json5_grammar.specs.Language.Trees.{Tree}
+use Rattle.json5_grammar.specs.Language.Values.{Val, Stops, is_null, is_true, is_false, is_number, is_text, is_empty_array, is_array, is_empty_object, is_object}
 use Rattle.json5_grammar.proofs.NumbersRead.{number_unsigned}
 use Rattle.json5_grammar.proofs.NumbersSound.{PlaceIs, unsigned_bad}
 use Rattle.json5_grammar.proofs.NumbersUnique.{refused, no_fault, one_number}

@@ -8,15 +8,16 @@ use Rattle.std.proofs.lemmas.Option.{same_Some}
 use Rattle.std.proofs.lemmas.Str.{chars-encodes}
 use Rattle.json5_grammar.specs.declared.code.ErrorCode.{ErrorCode}
 use Rattle.json5_grammar.specs.declared.code.ErrorCode.TheVariants as codes
-use Rattle.json5_grammar.specs.Blanks.{Blanks, Gap, BlankFault}
-use Rattle.json5_grammar.specs.Documents.{Doc, max_depth}
-use Rattle.json5_grammar.specs.Members.{ReadsKey}
-use Rattle.json5_grammar.specs.Names.{Key}
-use Rattle.json5_grammar.specs.Positions.{position_after}
-use Rattle.json5_grammar.specs.Trees.{Tree}
+use Rattle.json5_grammar.specs.Language.Blanks.{Blanks, Gap}
+use Rattle.json5_grammar.specs.Faults.Tokens.{BlankFault}
+use Rattle.json5_grammar.specs.Language.Documents.{Doc, max_depth}
+use Rattle.json5_grammar.specs.Model.Collections.{ReadsKey}
+use Rattle.json5_grammar.specs.Language.Names.{Key}
+use Rattle.json5_grammar.specs.Faults.Positions.{position_after}
+use Rattle.json5_grammar.specs.Language.Trees.{Tree}
 use Rattle.json5_grammar.proofs.Basics.{none_some, true_false}
 use Rattle.json5_grammar.proofs.BlanksSound.{gap_blanks, no_blank_fault, one_gap}
-use Rattle.json5_grammar.proofs.MembersPairs.{one_reads_key}
+use Rattle.json5_grammar.proofs.CollectionsPairs.{one_reads_key}
 use Rattle.json5_grammar.proofs.ValueHeads.{key_head, key_solid}
 use Rattle.json5_text.specs.declared.error.Error.{Error}
 use Rattle.json5_text.specs.Errors.{LacksMemory, code, custom, kind_of, place_of}
@@ -41,11 +42,11 @@ use Rattle.json5_de.proofs.WholeTexts.{converts, is_document, IsRefusedText, ref
 
 -- ---- what stands in front
 
-key_gap : {s u : List ℕ} {plain : Bool} (w x r : List ℕ) → Key s r u plain → Gap w x → x ≡ s ++ r → Blanks w
+key_gap : {s u : List ℕ} {escape_free : Bool} (w x r : List ℕ) → Key s r u escape_free → Gap w x → x ≡ s ++ r → Blanks w
 key_gap w x r k g e = let head = key_head k in gap_blanks head.char (head.more ++ r) (subst (Gap w) (e ∙ ap (λ z. z ++ r) head.is) g)
 
 -- the key that was taken was read from the front
-pub took_key : (old new : State) (key : FoundText) → (k : TookKeyAt old new key) → TookKey old k.text k.plain new
+pub took_key : (old new : State) (key : FoundText) → (k : TookKeyAt old new key) → TookKey old k.text k.escape_free new
 took_key old new key k = record {
   live = k.passed.live;
   reads = record {
@@ -59,26 +60,26 @@ took_key old new key k = record {
 }
 
 -- what can be read as a key stands after the gap
-pub key_after : (old mid : State) (u : List ℕ) (plain : Bool) (r : List ℕ) → PassedGap old mid → (h : ReadsKey old.unread u plain r) → mid.unread ≡ h.spelling ++ r
-key_after old mid u plain r p h = (one_gap h.front (h.spelling ++ r) p.gap mid.unread (Gap.blanks h.blank) (key_solid r (key_head h.key)) p.is_gap p.solid (sym h.split ∙ p.split)).1
+pub key_after : (old mid : State) (u : List ℕ) (escape_free : Bool) (r : List ℕ) → PassedGap old mid → (h : ReadsKey old.unread u escape_free r) → mid.unread ≡ h.spelling ++ r
+key_after old mid u escape_free r p h = (one_gap h.front (h.spelling ++ r) p.gap mid.unread (Gap.blanks h.blank) (key_solid r (key_head h.key)) p.is_gap p.solid (sym h.split ∙ p.split)).1
 
 -- no comment is at fault before a key
-pub no_fault_before : (old : State) (e : Error) (u : List ℕ) (plain : Bool) (r : List ℕ) → ReadsKey old.unread u plain r → Refused FaultyBlanks (cursor_of old) e → ⊥
-no_fault_before old e u plain r h f =
+pub no_fault_before : (old : State) (e : Error) (u : List ℕ) (escape_free : Bool) (r : List ℕ) → ReadsKey old.unread u escape_free r → Refused FaultyBlanks (cursor_of old) e → ⊥
+no_fault_before old e u escape_free r h f =
     let (before, part, shown, fault) = f.fault in
     no_blank_fault (Gap.blanks h.blank) (key_solid r (key_head h.key)) (subst (λ x. BlankFault x f.reason f.place before part shown) h.split fault)
 
 -- it is the key that was taken
-the_key : (old new : State) (key : FoundText) (u : List ℕ) (plain : Bool) (r : List ℕ) → (k : TookKeyAt old new key) → ReadsKey old.unread u plain r → (k.text ≡ u) × (k.plain ≡ plain)
-the_key old new key u plain r k h = let one = one_reads_key old.unread new.unread r k.text u k.plain plain (took_key old new key k).reads h in (one.0, one.1)
+the_key : (old new : State) (key : FoundText) (u : List ℕ) (escape_free : Bool) (r : List ℕ) → (k : TookKeyAt old new key) → ReadsKey old.unread u escape_free r → (k.text ≡ u) × (k.escape_free ≡ escape_free)
+the_key old new key u escape_free r k h = let one = one_reads_key old.unread new.unread r k.text u k.escape_free escape_free (took_key old new key k).reads h in (one.0, one.1)
 
 -- ---- the law of a key, from its steps
 
 -- a key was read
 pub key_ok : {V C : Type 0} (content : V → C) (convert : KeyConversion C) (refuses : State → Error → State → Type 0) (old new : State) (v : V) → GivesKey content convert old new v → ReadsOneKey content convert refuses old new (Ok v)
-key_ok content convert refuses old new v (u, plain, took, is) = record {
-  sound = (u, plain, took, is);
-  complete = λ u plain r c live reads is. tt;
+key_ok content convert refuses old new v (u, escape_free, took, is) = record {
+  sound = (u, escape_free, took, is);
+  complete = λ u escape_free r c live reads is. tt;
   refused = tt;
   unprompted = tt;
   same_text = input_of took.rest;
@@ -103,7 +104,7 @@ pub not_found : {V C : Type 0} (kind : KeyKind C) (content : V → C) (old new :
     → ReadsKeyAs kind content old new (Err e)
 not_found kind content old new e k complete failed before = record {
   sound = tt;
-  complete = λ u plain r c live reads is. complete u plain r tt live reads refl;
+  complete = λ u escape_free r c live reads is. complete u escape_free r tt live reads refl;
   refused = no_key_there old e k;
   unprompted = key_other old e k;
   same_text = failed.same_text;
@@ -112,7 +113,7 @@ not_found kind content old new e k complete failed before = record {
 }
 
 -- a key was found, and refused
-refuses_found : {V C : Type 0} (kind : KeyKind C) (content : V → C) (old new last : State) (key : FoundText) (e : Error) → (k : TookKeyAt old new key) → (kind.convert k.text k.plain ≡ None) ⊎ IsOutOfMemory e → RefusedByOrMemory (NotKey kind.IsFault) old e → IsUnprompted e → GivesUp new last
+refuses_found : {V C : Type 0} (kind : KeyKind C) (content : V → C) (old new last : State) (key : FoundText) (e : Error) → (k : TookKeyAt old new key) → (kind.convert k.text k.escape_free ≡ None) ⊎ IsOutOfMemory e → RefusedByOrMemory (NotKey kind.IsFault) old e → IsUnprompted e → GivesUp new last
     → ReadsKeyAs kind content old last (Err e)
 refuses_found {C = C} kind content old new last key e k not refused other gives_up = let failed = given_up_after old k.between new last k.spelling k.passed k.took gives_up in record {
   sound = tt;
@@ -124,14 +125,14 @@ refuses_found {C = C} kind content old new last key e k not refused other gives_
   before = λ h. true_false h k.passed.live;
 }
   where
-    completes : (kind.convert k.text k.plain ≡ None) ⊎ IsOutOfMemory e → (u : List ℕ) (plain : Bool) (r : List ℕ) (c : C) → old.failed ≡ false → ReadsKey old.unread u plain r → kind.convert u plain ≡ Some c → IsOutOfMemory e
-    completes (inl none) u plain r c live reads is =
-        let (text, mark) = the_key old new key u plain r k reads in
-        absurd (none_some (kind.convert u plain) c (subst (λ z. kind.convert u z ≡ None) mark (subst (λ z. kind.convert z k.plain ≡ None) text none)) is)
-    completes (inr m) u plain r c live reads is = m
+    completes : (kind.convert k.text k.escape_free ≡ None) ⊎ IsOutOfMemory e → (u : List ℕ) (escape_free : Bool) (r : List ℕ) (c : C) → old.failed ≡ false → ReadsKey old.unread u escape_free r → kind.convert u escape_free ≡ Some c → IsOutOfMemory e
+    completes (inl none) u escape_free r c live reads is =
+        let (text, mark) = the_key old new key u escape_free r k reads in
+        absurd (none_some (kind.convert u escape_free) c (subst (λ z. kind.convert u z ≡ None) mark (subst (λ z. kind.convert z k.escape_free ≡ None) text none)) is)
+    completes (inr m) u escape_free r c live reads is = m
 
 -- a fault of its text, at the key
-refused_key : {IsFault : KeyFault} (old new : State) (key : FoundText) (e : Error) (reason : Option ErrorCode) → (k : TookKeyAt old new key) → IsFault k.text k.plain reason → Says reason e
+refused_key : {IsFault : KeyFault} (old new : State) (key : FoundText) (e : Error) (reason : Option ErrorCode) → (k : TookKeyAt old new key) → IsFault k.text k.escape_free reason → Says reason e
     → ((before rest : List ℕ) → new.input ≡ before ++ rest → key.start ≡ length (encode_utf8_all before) → place_of e ≡ Some (position_after before)) → RefusedBy (NotKey IsFault) old e
 refused_key {IsFault = IsFault} old new key e reason k fault says placed = refused_token old k.between e k.passed (record {
   reason = reason;
@@ -148,8 +149,8 @@ key_lacks_memory kind content old new last key e k m failed = refuses_found kind
 -- ---- texts
 
 -- the text converts
-pub key_is_text : {V C : Type 0} {of_other : Option ErrorCode} (f : KeyConversion C) (content : V → C) (old new : State) (key : FoundText) (v : V) → (k : TookKeyAt old new key) → f k.text k.plain ≡ Some (content v) → ReadsKeyAs (coded_text_key of_other f) content old new (Ok v)
-key_is_text f content old new key v k is = key_ok content f _ old new v (k.text, k.plain, took_key old new key k, is)
+pub key_is_text : {V C : Type 0} {of_other : Option ErrorCode} (f : KeyConversion C) (content : V → C) (old new : State) (key : FoundText) (v : V) → (k : TookKeyAt old new key) → f k.text k.escape_free ≡ Some (content v) → ReadsKeyAs (coded_text_key of_other f) content old new (Ok v)
+key_is_text f content old new key v k is = key_ok content f _ old new v (k.text, k.escape_free, took_key old new key k, is)
 
 pub mismatch_other : (of_other : Option ErrorCode) (input : List ℕ) (start : ℕ) (e : Error) → (of_other ≡ Some codes.Failed → ⊥) → IsMismatchOf of_other input start e → IsUnprompted e
 mismatch_other of_other input start e unlike (inl m) = memory_other e m.kind
@@ -157,7 +158,7 @@ mismatch_other None input start e unlike (inr ((own, says), placed)) = λ k. let
 mismatch_other (Some c) input start e unlike (inr (says, placed)) = λ k. let same : code c ≡ code codes.Failed = sym says ∙ k in unlike (ap Some (cc))
 
 -- it doesn't
-pub key_not_coded : {V C : Type 0} (of_other : Option ErrorCode) (f : KeyConversion C) (content : V → C) (old new last : State) (key : FoundText) (e : Error) → (of_other ≡ Some codes.Failed → ⊥) → (k : TookKeyAt old new key) → f k.text k.plain ≡ None
+pub key_not_coded : {V C : Type 0} (of_other : Option ErrorCode) (f : KeyConversion C) (content : V → C) (old new last : State) (key : FoundText) (e : Error) → (of_other ≡ Some codes.Failed → ⊥) → (k : TookKeyAt old new key) → f k.text k.escape_free ≡ None
     → IsMismatchOf of_other new.input key.start e → GivesUp new last → ReadsKeyAs (coded_text_key of_other f) content old last (Err e)
 key_not_coded of_other f content old new last key e unlike k none is failed =
     refuses_found (coded_text_key of_other f) content old new last key e k (inl none) (refused is) (mismatch_other of_other new.input key.start e unlike is) failed
@@ -166,7 +167,7 @@ key_not_coded of_other f content old new last key e unlike k none is failed =
     refused (inl m) = inl m
     refused (inr (says, placed)) = inr (refused_key old new key e of_other k (refl, none) says placed)
 
-pub key_not_text : {V C : Type 0} (f : KeyConversion C) (content : V → C) (old new last : State) (key : FoundText) (e : Error) → (k : TookKeyAt old new key) → f k.text k.plain ≡ None → IsMismatch new.input key.start e → GivesUp new last
+pub key_not_text : {V C : Type 0} (f : KeyConversion C) (content : V → C) (old new last : State) (key : FoundText) (e : Error) → (k : TookKeyAt old new key) → f k.text k.escape_free ≡ None → IsMismatch new.input key.start e → GivesUp new last
     → ReadsKeyAs (text_key f) content old last (Err e)
 key_not_text f content old new last key e k none is failed = key_not_coded None f content old new last key e (λ e. absurd (cc)) k none is failed
 
@@ -174,12 +175,12 @@ key_not_text f content old new last key e k none is failed = key_not_coded None 
 pub key_judged : {V C : Type 0} (lacks : Bool) (of_other : Option ErrorCode) → (of_other ≡ Some codes.Failed → ⊥) → (f : KeyConversion C) (content : V → C) (old new last : State) (key : FoundText) (result : Result V Error) → TookKeyAt old new key
     → Judges lacks of_other f content key new last result → ReadsKeyAs (coded_text_key of_other f) content old last result
 key_judged lacks of_other unlike f content old new last key (Ok v) k j =
-    subst (λ s. ReadsKeyAs (coded_text_key of_other f) content old s (Ok v)) (sym j.kept) (key_is_text f content old new key v k (j.converts k.text k.plain k.is_text k.scalars))
+    subst (λ s. ReadsKeyAs (coded_text_key of_other f) content old s (Ok v)) (sym j.kept) (key_is_text f content old new key v k (j.converts k.text k.escape_free k.is_text k.scalars))
 key_judged {V = V} {C = C} lacks of_other unlike f content old new last key (Err e) k j = by_cause j.other
   where
-    by_cause : ((lacks ≡ true) × LacksMemory e) ⊎ OfFound new key (λ u plain. f u plain ≡ None) → ReadsKeyAs (coded_text_key of_other f) content old last (Err e)
+    by_cause : ((lacks ≡ true) × LacksMemory e) ⊎ OfFound new key (λ u escape_free. f u escape_free ≡ None) → ReadsKeyAs (coded_text_key of_other f) content old last (Err e)
     by_cause (inl (may, memory)) = key_lacks_memory (coded_text_key of_other f) content old new last key e k memory j.failed
-    by_cause (inr none) = key_not_coded of_other f content old new last key e unlike k (none k.text k.plain k.is_text k.scalars) j.refused j.failed
+    by_cause (inr none) = key_not_coded of_other f content old new last key e unlike k (none k.text k.escape_free k.is_text k.scalars) j.refused j.failed
 
 -- the characters of the bytes of its text
 pub key_characters : (old new : State) (key : FoundText) (bytes : List ℕ) → (k : TookKeyAt old new key) → bytes ≡ encode_utf8_all k.text → chars bytes ≡ k.text
@@ -191,25 +192,25 @@ key_characters old new key bytes k same = ap chars same ∙ chars-encodes k.text
 pub key_is_document : {V C : Type 0} (kind : Kind C) (content : V → C) (old new : State) (key : FoundText) (v : V) (x : List ℕ) → (k : TookKeyAt old new key) → x ≡ k.text → ((t : Tree) × Doc max_depth x t × (kind.convert t ≡ Some (content v)))
     → ReadsKeyAs (document_key kind) content old new (Ok v)
 key_is_document kind content old new key v x k same (t, doc, is) =
-    key_ok content (document_of kind.convert) _ old new v (k.text, k.plain, took_key old new key k, converts kind.convert k.text k.plain t (content v) (subst (λ z. Doc max_depth z t) same doc) is)
+    key_ok content (document_of kind.convert) _ old new v (k.text, k.escape_free, took_key old new key k, converts kind.convert k.text k.escape_free t (content v) (subst (λ z. Doc max_depth z t) same doc) is)
 
 -- it isn't
 pub key_no_document : {V C : Type 0} (kind : Kind C) (content : V → C) (old new last : State) (key : FoundText) (x : List ℕ) (own e : Error) → (k : TookKeyAt old new key) → x ≡ k.text → ReadsDocument content kind.convert max_depth x (Err own)
     → RefusesReading kind.convert (RefusedAs kind) max_depth x own → IsUnprompted own → IsTextFault new.input key.start own e → GivesUp new last → ReadsKeyAs (document_key kind) content old last (Err e)
 key_no_document {C = C} kind content old new last key x own e k same complete refuses other fault failed = let gives_up = given_up_after old k.between new last k.spelling k.passed k.took failed in record {
   sound = tt;
-  complete = λ u plain r c live reads is. lacks fault (completes u plain r c reads is);
-  refused = refused fault (refused_text kind k.text k.plain own (subst (λ z. RefusesReading kind.convert (RefusedAs kind) max_depth z own) same refuses));
+  complete = λ u escape_free r c live reads is. lacks fault (completes u escape_free r c reads is);
+  refused = refused fault (refused_text kind k.text k.escape_free own (subst (λ z. RefusesReading kind.convert (RefusedAs kind) max_depth z own) same refuses));
   unprompted = λ live. not_failed fault;
   same_text = gives_up.same_text;
   failed = gives_up.failed;
   before = λ h. true_false h k.passed.live;
 }
   where
-    completes : (u : List ℕ) (plain : Bool) (r : List ℕ) (c : C) → ReadsKey old.unread u plain r → document_of kind.convert u plain ≡ Some c → IsOutOfMemory own
-    completes u plain r c reads is =
-        let (text, mark) = the_key old new key u plain r k reads in
-        let (t, doc, found) = is_document kind.convert u plain c is in
+    completes : (u : List ℕ) (escape_free : Bool) (r : List ℕ) (c : C) → ReadsKey old.unread u escape_free r → document_of kind.convert u escape_free ≡ Some c → IsOutOfMemory own
+    completes u escape_free r c reads is =
+        let (text, mark) = the_key old new key u escape_free r k reads in
+        let (t, doc, found) = is_document kind.convert u escape_free c is in
         complete t c (subst (λ z. Doc max_depth z t) (sym (same ∙ text)) doc) found
 
     lacks : IsTextFault new.input key.start own e → IsOutOfMemory own → IsOutOfMemory e
@@ -224,7 +225,7 @@ key_no_document {C = C} kind content old new last key x own e k same complete re
     same_words None kind (words, is) = (words, kind ∙ is)
     same_words (Some c) kind is = kind ∙ is
 
-    refused : IsTextFault new.input key.start own e → IsRefusedText kind k.text k.plain own → RefusedByOrMemory (NotKey (NotDocument kind)) old e
+    refused : IsTextFault new.input key.start own e → IsRefusedText kind k.text k.escape_free own → RefusedByOrMemory (NotKey (NotDocument kind)) old e
     refused (no_memory is memory) why = inl memory
     refused (at_key none there is says) (inl m) = absurd (false≢true (sym none ∙ ap is_out_of_memory m.kind))
     refused (at_key none there is says) (inr (reason, why, words)) =
@@ -245,7 +246,7 @@ same_key content convert old new last v w (u, p, a, is) (x, q, b, other) =
 -- what K gives
 pub some_key : {V C : Type 0} (content : V → C) (convert : KeyConversion C) (refuses : State → Error → State → Type 0) (old new : State) (v : V) → ReadsOneKey content convert refuses old new (Ok v)
     → ReadsOneKey (if_some content) (some_of convert) refuses old new (Ok (Some v))
-some_key content convert refuses old new v k = let (u, plain, took, is) = k.sound in key_ok (if_some content) (some_of convert) refuses old new (Some v) (u, plain, took, ap (if_some Some) is)
+some_key content convert refuses old new v k = let (u, escape_free, took, is) = k.sound in key_ok (if_some content) (some_of convert) refuses old new (Some v) (u, escape_free, took, ap (if_some Some) is)
 
 some_there : {C : Type 0} (o : Option C) (c : Option C) → if_some Some o ≡ Some c → (d : C) × (o ≡ Some d)
 some_there None c e = absurd (cc)
@@ -256,7 +257,7 @@ pub no_some_key : {V C : Type 0} (content : V → C) (convert : KeyConversion C)
     → ReadsOneKey {V = Option V} (if_some content) (some_of convert) refuses old new (Err e)
 no_some_key content convert refuses old new e k = record {
   sound = tt;
-  complete = λ u plain r c live reads is. let (d, there) = some_there (convert u plain) c is in k.complete u plain r d live reads there;
+  complete = λ u escape_free r c live reads is. let (d, there) = some_there (convert u escape_free) c is in k.complete u escape_free r d live reads there;
   refused = k.refused;
   unprompted = k.unprompted;
   same_text = k.same_text;

@@ -4,15 +4,15 @@ use Rattle.std.proofs.lemmas.List.{map-append}
 use Rattle.std.proofs.lemmas.Bool.{false≢true}
 use Rattle.std.specs.Prelude.{Result, IsOk, IfErr, IsErrAnd}
 use Rattle.std.specs.Str.{encode_utf8_all}
-use Rattle.json5_grammar.specs.Characters.{left_brace}
-use Rattle.json5_grammar.specs.Documents.{max_depth}
-use Rattle.json5_grammar.specs.Trees.{Tree, Pairs, object, no_pair, pair, depth}
-use Rattle.json5_grammar.specs.Values.{Reads}
-use Rattle.json5_grammar.specs.Members.{IsBrace, joint, pair_contents, snoc_pair}
+use Rattle.json5_grammar.specs.Language.Characters.{left_brace}
+use Rattle.json5_grammar.specs.Language.Documents.{max_depth}
+use Rattle.json5_grammar.specs.Language.Trees.{Tree, Pairs, object, no_pair, pair, depth}
+use Rattle.json5_grammar.specs.Language.Values.{Reads}
+use Rattle.json5_grammar.specs.Model.Collections.{IsBrace, joint, pair_contents, snoc_pair}
 use Rattle.json5_grammar.proofs.Basics.{true_false}
-use Rattle.json5_grammar.proofs.MembersConverted.{both_parts}
-use Rattle.json5_grammar.proofs.MembersPairs.{brace_closes}
-use Rattle.json5_grammar.proofs.MembersPairsConverted.{pair_contents_snoc, pair_contents_at, object_only}
+use Rattle.json5_grammar.proofs.CollectionsConverted.{both_parts}
+use Rattle.json5_grammar.proofs.CollectionsPairs.{brace_closes}
+use Rattle.json5_grammar.proofs.CollectionsPairsConverted.{pair_contents_snoc, pair_contents_at, object_only}
 use Rattle.json5_text.specs.declared.error.Error.{Error}
 use Rattle.json5_text.specs.Cursor.{IsOutOfMemory}
 use Rattle.json5_de.specs.State.{State}
@@ -45,19 +45,19 @@ pub record ReadingPairs {K V C D : Type 0} (key : K → C) (value : V → D) (ke
 
 -- the same after a key was read, which stands for k
 abbrev pub AfterKey : {K V C D : Type 0} → (K → C) → (V → D) → KeyConversion C → (Tree → Option D) → State → List (K × V) → K → MapAccessState → Type 0
-AfterKey key value keys values old ps k now = (u : List ℕ) × (plain : Bool) × (keys u plain ≡ Some (key k)) × ReadingPairs key value keys values old ps (Some (u, plain)) now
+AfterKey key value keys values old ps k now = (u : List ℕ) × (escape_free : Bool) × (keys u escape_free ≡ Some (key k)) × ReadingPairs key value keys values old ps (Some (u, escape_free)) now
 
 module _ {K V C D : Type 0} (key : K → C) (value : V → D) (keys : KeyConversion C) (values : Tree → Option D) where
   key_left : (k : K) (all : Pairs) (cs : List (C × D)) (r : List ℕ) (new : MapAccessState) → pair_contents keys values all ≡ Some cs → LeavesAValue key keys all r new (Ok (Some k)) → LeftPairs keys values r new
   key_left k no_pair cs r new are left = absurd left
-  key_left k (pair u plain t all) cs r new are (is, left) = record { pairs = pair u plain t all; contents = cs; are = are; left = left }
+  key_left k (pair u escape_free t all) cs r new are (is, left) = record { pairs = pair u escape_free t all; contents = cs; are = are; left = left }
 
   value_left : (v : V) (all : Pairs) (cs : List (C × D)) (r : List ℕ) (s new : MapAccessState) → pair_contents keys values all ≡ Some cs → s.pending ≡ true → PairsLeft all r s
-      → ((u : List ℕ) (plain : Bool) (t : Tree) (others : Pairs) → PairsLeft (pair u plain t others) r s → LeavesPairs value values t others r new (Ok v)) → LeftPairs keys values r new
-  value_left v no_pair cs r s new are waits left fewer = absurd (subst (λ b. LeftAfter b no_pair s.at.due s.at.reader.unread r) waits left.tail)
-  value_left v (pair u plain t all) cs r s new are waits left fewer =
-      let (c, rest, is, others, k) = both_parts (joint (keys u plain) (values t)) (pair_contents keys values all) cs are in
-      record { pairs = all; contents = rest; are = others; left = (fewer u plain t all left).1 }
+      → ((u : List ℕ) (escape_free : Bool) (t : Tree) (others : Pairs) → PairsLeft (pair u escape_free t others) r s → LeavesPairs value values t others r new (Ok v)) → LeftPairs keys values r new
+  value_left v no_pair cs r s new are waits left fewer = absurd (subst (λ b. LeftAfter b no_pair s.at.comma_due s.at.reader.unread r) waits left.tail)
+  value_left v (pair u escape_free t all) cs r s new are waits left fewer =
+      let (c, rest, is, others, k) = both_parts (joint (keys u escape_free) (values t)) (pair_contents keys values all) cs are in
+      record { pairs = all; contents = rest; are = others; left = (fewer u escape_free t all left).1 }
 
 module _ {K V C D : Type 0} (key : K → C) (value : V → D) (keys : KeyConversion C) (values : Tree → Option D) {old : State} where
   -- it begins, with no pair
@@ -75,9 +75,9 @@ module _ {K V C D : Type 0} (key : K → C) (value : V → D) (keys : KeyConvers
   -- a key was read
   pub reads_key : {ps : List (K × V)} {s new : MapAccessState} (k : K) → ReadingPairs key value keys values old ps None s → new.at.start ≡ s.at.start → ReadsAKey key keys s new (Some k)
       → ((all : Pairs) (r : List ℕ) → PairsLeft all r s → LeavesAValue key keys all r new (Ok (Some k))) → AfterKey key value keys values old ps k new
-  reads_key {new = new} k m start (u, plain, is, on) fewer = (
+  reads_key {new = new} k m start (u, escape_free, is, on) fewer = (
     u,
-    plain,
+    escape_free,
     is,
     record {
       first = m.first;
@@ -93,14 +93,14 @@ module _ {K V C D : Type 0} (key : K → C) (value : V → D) (keys : KeyConvers
   -- and its value
   pub reads_value : {ps qs : List (K × V)} {s new : MapAccessState} (k : K) (v : V) → AfterKey key value keys values old ps k s → qs ≡ ps ++ (k, v) ∷ [] → new.at.start ≡ s.at.start
       → ReadsAPair value values s new v → ((w : List ℕ) (allocation_free : Bool) (t : Tree) (others : Pairs) (r : List ℕ) → PairsLeft (pair w allocation_free t others) r s → LeavesPairs value values t others r new (Ok v)) → ReadingPairs key value keys values old qs None new
-  reads_value {ps = ps} {s = s} {new = new} k v (u, plain, is, m) e start (t, stands, on) fewer = record {
+  reads_value {ps = ps} {s = s} {new = new} k v (u, escape_free, is, m) e start (t, stands, on) fewer = record {
     first = m.first;
     opened = m.opened;
     start = λ before split. start ∙ m.start before split;
-    pairs = snoc_pair m.pairs u plain t;
+    pairs = snoc_pair m.pairs u escape_free t;
     are = let all = ap (λ xs. map (pair_content key value) xs) e ∙ map-append (pair_content key value) ps ((k, v) ∷ []) in
-        rw all (pair_contents_snoc keys values m.pairs u plain t (map (pair_content key value) ps) (key k) (value v) m.are is stands);
-    read = on old m.pairs u plain m.read;
+        rw all (pair_contents_snoc keys values m.pairs u escape_free t (map (pair_content key value) ps) (key k) (value v) m.are is stands);
+    read = on old m.pairs u escape_free m.read;
     left = λ all r cs are live reads shallow. let w = m.left all r cs are live reads shallow in value_left key value keys values v w.pairs w.contents r s new w.are m.read.pending w.left (λ w allocation_free t others. fewer w allocation_free t others r);
   }
 
@@ -122,17 +122,17 @@ module _ {U C D : Type 0} (keys : KeyConversion C) (values : Tree → Option D) 
 module _ {K V C D : Type 0} (key : K → C) (value : V → D) (keys : KeyConversion C) (values : Tree → Option D) (r : List ℕ) (new : MapAccessState) where
   key_refused : (e : Error) (all : Pairs) (cs : List (C × D)) → pair_contents keys values all ≡ Some cs → LeavesAValue key keys all r new (Err e) → IsOutOfMemory e
   key_refused e no_pair cs are left = absurd left
-  key_refused e (pair u plain t all) cs are left = let (k, v, is_key, is_value) = pair_contents_at keys values no_pair all u plain t cs are in left k is_key
+  key_refused e (pair u escape_free t all) cs are left = let (k, v, is_key, is_value) = pair_contents_at keys values no_pair all u escape_free t cs are in left k is_key
 
   no_pair_left : (all : Pairs) → LeavesAValue key keys all r new (Ok None) → PairsLeft no_pair r new
   no_pair_left no_pair left = left
-  no_pair_left (pair u plain t all) left = absurd left
+  no_pair_left (pair u escape_free t all) left = absurd left
 
 module _ {C D : Type 0} (keys : KeyConversion C) (values : Tree → Option D) (r : List ℕ) where
   value_refused : (e : Error) (all : Pairs) (cs : List (C × D)) (s : MapAccessState) → pair_contents keys values all ≡ Some cs → s.pending ≡ true → PairsLeft all r s
-      → ((u : List ℕ) (plain : Bool) (t : Tree) (others : Pairs) → PairsLeft (pair u plain t others) r s → (d : D) → values t ≡ Some d → IsOutOfMemory e) → IsOutOfMemory e
-  value_refused e no_pair cs s are waits left fewer = absurd (subst (λ b. LeftAfter b no_pair s.at.due s.at.reader.unread r) waits left.tail)
-  value_refused e (pair u plain t all) cs s are waits left fewer = let (k, v, is_key, is_value) = pair_contents_at keys values no_pair all u plain t cs are in fewer u plain t all left v is_value
+      → ((u : List ℕ) (escape_free : Bool) (t : Tree) (others : Pairs) → PairsLeft (pair u escape_free t others) r s → (d : D) → values t ≡ Some d → IsOutOfMemory e) → IsOutOfMemory e
+  value_refused e no_pair cs s are waits left fewer = absurd (subst (λ b. LeftAfter b no_pair s.at.comma_due s.at.reader.unread r) waits left.tail)
+  value_refused e (pair u escape_free t all) cs s are waits left fewer = let (k, v, is_key, is_value) = pair_contents_at keys values no_pair all u escape_free t cs are in fewer u escape_free t all left v is_value
 
 module _ {U K V C D : Type 0} {key : K → C} {value : V → D} {keys : KeyConversion C} {values : Tree → Option D} {old : State} {ps : List (K × V)} {s new : MapAccessState} (e : Error) (result : Result U Error) where
   -- a key was refused
@@ -152,9 +152,9 @@ module _ {U K V C D : Type 0} {key : K → C} {value : V → D} {keys : KeyConve
   -- a value was refused
   pub value_completes : (k : K) → IsErrAnd result (λ y. y ≡ e) → AfterKey key value keys values old ps k s
       → ((w : List ℕ) (allocation_free : Bool) (t : Tree) (others : Pairs) (r : List ℕ) → PairsLeft (pair w allocation_free t others) r s → (d : D) → values t ≡ Some d → IsOutOfMemory e) → Completes (pairs_of keys values) old result
-  value_completes k is_err (u, plain, is, m) fewer = completes_as keys values old e result is_err (λ all r cs are live reads shallow.
+  value_completes k is_err (u, escape_free, is, m) fewer = completes_as keys values old e result is_err (λ all r cs are live reads shallow.
       let w = m.left all r cs are live reads shallow in
-      value_refused keys values r e w.pairs w.contents s w.are m.read.pending w.left (λ u plain t others. fewer u plain t others r))
+      value_refused keys values r e w.pairs w.contents s w.are m.read.pending w.left (λ u escape_free t others. fewer u escape_free t others r))
 
 -- ---- where it is refused
 
@@ -177,13 +177,13 @@ module _ {U K V C D : Type 0} {key : K → C} {value : V → D} (sides : Sides C
   -- a value was refused
   pub value_faults : (k : K) → IsErrAnd result (λ y. y ≡ e) → AfterKey key value sides.keys sides.values old ps k s
       → (s.at.reader.failed ≡ false → ValueRefusedAtBrace sides.refuses_value s e) → new.failed ≡ true → IfErr result (λ y. RefusesMap sides old y new)
-  value_faults k is_err (u, plain, is, m) fault failed =
-      handed_on (λ r. IfErr r (λ y. RefusesMap sides old y new)) e result is_err (refuses_map sides old e new m.opened.live failed (at_value s u plain (key k) is (within m) (fault (live (within m)))))
+  value_faults k is_err (u, escape_free, is, m) fault failed =
+      handed_on (λ r. IfErr r (λ y. RefusesMap sides old y new)) e result is_err (refuses_map sides old e new m.opened.live failed (at_value s u escape_free (key k) is (within m) (fault (live (within m)))))
 
 -- where its brace is next it is closed
-pub closes_there : (old now : MapAccessState) (new : State) (e : Error) → AtClose curly old.at.due old.at.reader now.at.reader → ClosesMap now new (Err e) → {A : Type 0} → A
+pub closes_there : (old now : MapAccessState) (new : State) (e : Error) → AtClose curly old.at.comma_due old.at.reader now.at.reader → ClosesMap now new (Err e) → {A : Type 0} → A
 closes_there old now new e at closes =
     let (r, close, next) = at.close in
     let live = ap (λ (s : State). s.failed) at.rest ∙ at.live in
-    let ok = closes.bracket.complete r live (subst (λ x. IsBrace now.at.due x r) (sym next) (brace_closes now.at.due r)) in
+    let ok = closes.bracket.complete r live (subst (λ x. IsBrace now.at.comma_due x r) (sym next) (brace_closes now.at.comma_due r)) in
     absurd (cc)

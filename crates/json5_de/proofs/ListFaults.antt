@@ -1,10 +1,10 @@
 -- How far a list was read, and why it is refused there.
 use Rattle.std.proofs.Common.{◌≡◌, ◌<◌, ℕ, suc, true, false, List, length, refl, sym, ap, ◌∙◌, subst, Option, Some, Ok, Err}
 use Rattle.std.specs.Prelude.{is_some}
-use Rattle.json5_grammar.specs.Trees.{Tree, Trees, no_more, more}
-use Rattle.json5_grammar.specs.Members.{snoc, contents, IsClose}
-use Rattle.json5_grammar.proofs.MembersConverted.{both_parts}
-use Rattle.json5_grammar.proofs.MembersPassed.{bracket_closes}
+use Rattle.json5_grammar.specs.Language.Trees.{Tree, Trees, no_more, more}
+use Rattle.json5_grammar.specs.Model.Collections.{snoc, contents, IsClose}
+use Rattle.json5_grammar.proofs.CollectionsConverted.{both_parts}
+use Rattle.json5_grammar.proofs.CollectionsPassed.{bracket_closes}
 use Rattle.json5_text.specs.declared.error.Error.{Error}
 use Rattle.json5_de.specs.State.{State}
 use Rattle.json5_value.specs.Brackets.{square}
@@ -78,9 +78,9 @@ required_fault es shape old e now n size is few w (at_fault f) = at_element now 
 required_fault es shape old e now n size is few w (missing at close short) = too_few now n size w is few at close short
 
 -- where its bracket is next it is closed
-pub closes_there : (old now : AccessState) (new : State) (e : Error) → AtClose square old.due old.reader now.reader → now.due ≡ old.due → ClosesArray now new (Err e) → {A : Type 0} → A
-closes_there old now new e at due closes =
+pub closes_there : (old now : AccessState) (new : State) (e : Error) → AtClose square old.comma_due old.reader now.reader → now.comma_due ≡ old.comma_due → ClosesArray now new (Err e) → {A : Type 0} → A
+closes_there old now new e at comma_due closes =
     let (r, close, next) = at.close in
     let live = ap (λ (s : State). s.failed) at.rest ∙ at.live in
-    let ok = closes.bracket.complete r live (subst (λ x. IsClose now.due x r) (sym next) (bracket_closes now.due r)) in
+    let ok = closes.bracket.complete r live (subst (λ x. IsClose now.comma_due x r) (sym next) (bracket_closes now.comma_due r)) in
     absurd (cc)

@@ -4,13 +4,13 @@ use Rattle.std.proofs.lemmas.List.{length-append, map-append, length-map}
 use Rattle.std.proofs.lemmas.Bool.{false≢true}
 use Rattle.std.specs.Prelude.{Result, IsOk, IfErr, IsErrAnd}
 use Rattle.std.specs.Str.{encode_utf8_all}
-use Rattle.json5_grammar.specs.Characters.{left_bracket}
+use Rattle.json5_grammar.specs.Language.Characters.{left_bracket}
 use Rattle.json5_value.specs.Brackets.{square}
-use Rattle.json5_grammar.specs.Documents.{max_depth}
-use Rattle.json5_grammar.specs.Trees.{Tree, Trees, array, no_more, more, depth}
-use Rattle.json5_grammar.specs.Values.{Reads}
-use Rattle.json5_grammar.specs.Members.{contents, array_of, snoc}
-use Rattle.json5_grammar.proofs.MembersConverted.{both_parts, contents_snoc}
+use Rattle.json5_grammar.specs.Language.Documents.{max_depth}
+use Rattle.json5_grammar.specs.Language.Trees.{Tree, Trees, array, no_more, more, depth}
+use Rattle.json5_grammar.specs.Language.Values.{Reads}
+use Rattle.json5_grammar.specs.Model.Collections.{contents, array_of, snoc}
+use Rattle.json5_grammar.proofs.CollectionsConverted.{both_parts, contents_snoc}
 use Rattle.json5_text.specs.declared.error.Error.{Error}
 use Rattle.json5_text.specs.Cursor.{IsOutOfMemory}
 use Rattle.json5_de.specs.State.{State}

@@ -3,8 +3,8 @@ use Rattle.std.proofs.Common.{◌≡◌, ◌<◌, true, false, Bool, refl, sym, 
 use Rattle.json5_value.specs.Brackets.{curly}
 use Rattle.json5_value.specs.Places.{StartsAfter, PlacedAt}
 use Rattle.std.specs.Prelude.{is_some, Result, IfSome}
-use Rattle.json5_grammar.specs.Trees.{Tree}
-use Rattle.json5_grammar.proofs.MembersPairs.{key_shorter, key_value_shorter}
+use Rattle.json5_grammar.specs.Language.Trees.{Tree}
+use Rattle.json5_grammar.proofs.CollectionsPairs.{key_shorter, key_value_shorter}
 use Rattle.json5_text.specs.declared.error.Error.{Error}
 use Rattle.json5_de.specs.State.{State, SameText}
 use Rattle.json5_de.specs.Keys.{KeyConversion}
@@ -40,7 +40,7 @@ kept old after stage failed same = record { same_reference = refl; blocks = refl
 
 module _ {I K C : Type 0} (content : K → C) (convert : KeyConversion C) (refuses : State → Error → State → Type 0) (old : MapAccess I) (no_key : is_pending old.stage ≡ false) where
   shorter : (new : MapAccessState) (o : Option K) → GivesPairKey content convert (map_state_of old) new o → IfSome o (λ k. length new.at.reader.unread < length (map_state_of old).at.reader.unread)
-  shorter new (Some k) (u, plain, took, is, due, pending) = key_shorter (is_comma_due old.stage) (map_state_of old).at.reader.unread new.at.reader.unread u plain took.key
+  shorter new (Some k) (u, escape_free, took, is, comma_due, pending) = key_shorter (is_comma_due old.stage) (map_state_of old).at.reader.unread new.at.reader.unread u escape_free took.key
   shorter new None gives = tt
 
   -- a key was read, or the brace is next
@@ -59,7 +59,7 @@ module _ {I K C : Type 0} (content : K → C) (convert : KeyConversion C) (refus
         shorter = shorter (map_state_of last) o gives;
         refused = gives_next_key content convert refuses (map_state_of old) (map_state_of last) o gives;
         read = reads_a_key content convert (map_state_of old) (map_state_of last) o gives;
-        left = leaves_a_value content convert (map_state_of old) (map_state_of last) (Ok o) no_key gives (λ u plain r k live key is. tt) (λ r live close. refl);
+        left = leaves_a_value content convert (map_state_of old) (map_state_of last) (Ok o) no_key gives (λ u escape_free r k live key is. tt) (λ r live close. refl);
       })
 
   -- the call for one was refused
@@ -73,12 +73,12 @@ module _ {I K C : Type 0} (content : K → C) (convert : KeyConversion C) (refus
         access = kept old after old.stage true steady.same_text;
         pending = record { given = tt; kept = refl };
         sound = tt;
-        complete = λ u plain r k live key is. placed.kind ∙ complete u plain r k live key is;
+        complete = λ u escape_free r k live key is. placed.kind ∙ complete u escape_free r k live key is;
         closing = closing;
         shorter = tt;
         refused = refuses_next_key refuses (map_state_of old) (map_state_of last).at.reader after own e cause steady.unprompted steady.before at refl;
         read = tt;
-        left = leaves_a_value content convert (map_state_of old) (map_state_of last) (Err e) no_key tt (λ u plain r k live key is. placed.kind ∙ complete u plain r k live key is) closing;
+        left = leaves_a_value content convert (map_state_of old) (map_state_of last) (Err e) no_key tt (λ u escape_free r k live key is. placed.kind ∙ complete u escape_free r k live key is) closing;
       })
 
 module _ {I V C : Type 0} (content : V → C) (convert : Tree → Option C) (refuses : State → Error → State → Type 0) (old : MapAccess I) (key : is_pending old.stage ≡ true) where
@@ -88,7 +88,7 @@ module _ {I V C : Type 0} (content : V → C) (convert : Tree → Option C) (ref
   value_given after new v same text inner =
       let last = record (blocking_map (lent old after) old.failed) { stage = stages.Started } in
       let gives = gives_value_seen content convert (map_state_of old) (map_state_of last) (map_state_of old).at.reader after v refl refl refl refl inner in
-      let (t, took, is, due, pending) = gives in
+      let (t, took, is, comma_due, pending) = gives in
       subst (λ m. ReadsNextValue content convert refuses old (record m { stage = stages.Started }) (Ok v)) (sym same) (record {
         access = kept old after stages.Started old.failed text;
         pending = record { given = refl; kept = tt };

@@ -4,10 +4,10 @@ use Rattle.std.specs.Prelude.{Result, Ok, Err, IfErr, IsErrAnd}
 use Rattle.std.specs.Str.{encode_utf8_all}
 use Rattle.std.proofs.lemmas.List.{append-nil}
 use Rattle.json5_grammar.specs.declared.code.ErrorCode.{ErrorCode}
-use Rattle.json5_grammar.specs.Positions.{position_after}
-use Rattle.json5_grammar.specs.Numbers.{Number, Num}
-use Rattle.json5_grammar.specs.Strings.{Str}
-use Rattle.json5_grammar.specs.Values.{Stops}
+use Rattle.json5_grammar.specs.Faults.Positions.{position_after}
+use Rattle.json5_grammar.specs.Language.Numbers.{Number, Num}
+use Rattle.json5_grammar.specs.Language.Strings.{Str}
+use Rattle.json5_grammar.specs.Language.Values.{Stops}
 use Rattle.json5_text.specs.declared.error.Error.{Error}
 use Rattle.json5_text.specs.Errors.{place_of}
 use Rattle.json5_de.specs.State.{State}
@@ -37,8 +37,8 @@ refused_number f old mid new (Ok v) start s n p k num stops none at is = tt
 refused_number f old mid new (Err e) start s n p k num stops none at is =
     mismatched None old mid new e start s p k at (subst (λ x. NotNumber f x None (Some [])) (sym k.split) (other_number new.unread num stops none)) is
 
-pub refused_text : {V C : Type 0} (other : Option ErrorCode) (f : List ℕ → Bool → Option C) (old mid new : State) (result : Result V Error) (start : ℕ) (s u : List ℕ) (plain : Bool) → PassedGap old mid → TookText mid s new → Str s u plain → f u plain ≡ None
+pub refused_text : {V C : Type 0} (other : Option ErrorCode) (f : List ℕ → Bool → Option C) (old mid new : State) (result : Result V Error) (start : ℕ) (s u : List ℕ) (escape_free : Bool) → PassedGap old mid → TookText mid s new → Str s u escape_free → f u escape_free ≡ None
     → StartsAt mid start → IsErrAnd result (IsMismatchOf other new.input start) → IfErr result (RefusedByOrMemory (NotText other f) old)
-refused_text other f old mid new (Ok v) start s u plain p k str none at is = tt
-refused_text other f old mid new (Err e) start s u plain p k str none at is =
+refused_text other f old mid new (Ok v) start s u escape_free p k str none at is = tt
+refused_text other f old mid new (Err e) start s u escape_free p k str none at is =
     mismatched other old mid new e start s p k at (subst (λ x. NotText other f x other (Some [])) (sym k.split) (other_text new.unread str none)) is

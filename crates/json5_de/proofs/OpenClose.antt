@@ -3,7 +3,7 @@ use Rattle.std.proofs.Common.{◌≡◌, ◌<◌, ◌+◌, ℕ, ◌++◌, ◌∷
 use Rattle.std.specs.Prelude.{OnOk, IsOk}
 use Rattle.std.specs.Str.{encode_utf8_all}
 use Rattle.json5_grammar.specs.declared.code.ErrorCode.TheVariants as codes
-use Rattle.json5_grammar.specs.Members.{IsEnd}
+use Rattle.json5_grammar.specs.Model.Collections.{IsEnd}
 use Rattle.json5_text.specs.declared.error.Error.{Error}
 use Rattle.json5_de.specs.State.{State}
 use Rattle.json5_de.specs.Faults.{RefusedBy, IsUnplaced}
@@ -11,7 +11,7 @@ use Rattle.json5_value.specs.declared.brackets.Brackets.{Brackets}
 use Rattle.json5_de.specs.Brackets.{AreSigns}
 use Rattle.json5_de.specs.Access.{AccessState, Opened, Closed, NotOpened, NotClosed, OpensAs, ClosesAs}
 use Rattle.json5_de.proofs.Expected.{end_fault, other_fault}
-use Rattle.json5_grammar.specs.Documents.{max_depth}
+use Rattle.json5_grammar.specs.Language.Documents.{max_depth}
 use Rattle.json5_de.specs.ReaderSteps.{PassedGap, TookText}
 use Rattle.json5_de.proofs.Taken.{input_of}
 use Rattle.json5_de.proofs.OtherCodes.{opening_lacks, closing_lacks}
@@ -20,10 +20,10 @@ use Rattle.json5_de.proofs.Arrays.{opening_refused, only_read, level_of, unread_
 use Rattle.json5_de.proofs.ArrayCodes.{expects_opening, expects_closing, full_fault, end_no_sign, other_no_sign, end_not_closed, other_not_closed}
 use Rattle.json5_grammar.proofs.Basics.{true_false}
 
-pub opens : {A : Type 0} (b : Brackets) → AreSigns b → (state_of : A → AccessState) (old : State) (a : A) → Opened b old (state_of a).reader → (state_of a).due ≡ false
+pub opens : {A : Type 0} (b : Brackets) → AreSigns b → (state_of : A → AccessState) (old : State) (a : A) → Opened b old (state_of a).reader → (state_of a).comma_due ≡ false
     → ((before : List ℕ) → old.input ≡ before ++ b.opening ∷ (state_of a).reader.unread → (state_of a).start ≡ length (encode_utf8_all before)) → OpensAs b state_of old (Ok a)
-opens b k state_of old a o due start = record {
-  opened = (o, due);
+opens b k state_of old a o comma_due start = record {
+  opened = (o, comma_due);
   start = start;
   complete = λ r live sign room. refl;
   refused = tt;
@@ -51,31 +51,31 @@ refuses_opening b k state_of old e f before = record {
 pub opens_too : {A B : Type 0} (b : Brackets) (state_of : A → AccessState) (seen_too : B → AccessState) (old : State) (e : Error) → OpensAs b state_of old (Err e) → OpensAs b seen_too old (Err e)
 opens_too b state_of seen_too old e o = record { opened = tt; start = tt; complete = o.complete; refused = o.refused; ends = o.ends; differs = o.differs; too_deep = o.too_deep; unprompted = o.unprompted; before = o.before }
 
-pub closes : (b : Brackets) → AreSigns b → (due : Bool) (old new : State) → Closed b due old new → ClosesAs b due old new (Ok tt)
-closes b k due old new c = record {
+pub closes : (b : Brackets) → AreSigns b → (comma_due : Bool) (old new : State) → Closed b comma_due old new → ClosesAs b comma_due old new (Ok tt)
+closes b k comma_due old new c = record {
   closed = c;
   complete = λ r live end. refl;
   refused = tt;
-  ends = λ at. absurd (end_not_closed b k due old new at c);
-  differs = λ w o. absurd (other_not_closed b k due old new w o c);
+  ends = λ at. absurd (end_not_closed b k comma_due old new at c);
+  differs = λ w o. absurd (other_not_closed b k comma_due old new w o c);
   unprompted = tt;
   before = λ h. absurd (true_false h c.live);
 }
 
-pub refuses_closing : (b : Brackets) → AreSigns b → (due : Bool) (old new : State) (e : Error) → RefusedBy (NotClosed b due) old e → ((r : List ℕ) → old.failed ≡ false → IsEnd b.closing due old.unread r → IsOk {T = Unit {0}} {E = Error} (Err e)) → (old.failed ≡ true → IsUnplaced codes.Failed e) → ClosesAs b due old new (Err e)
-refuses_closing b k due old new e f complete before = record {
+pub refuses_closing : (b : Brackets) → AreSigns b → (comma_due : Bool) (old new : State) (e : Error) → RefusedBy (NotClosed b comma_due) old e → ((r : List ℕ) → old.failed ≡ false → IsEnd b.closing comma_due old.unread r → IsOk {T = Unit {0}} {E = Error} (Err e)) → (old.failed ≡ true → IsUnplaced codes.Failed e) → ClosesAs b comma_due old new (Err e)
+refuses_closing b k comma_due old new e f complete before = record {
   closed = tt;
   complete = complete;
   refused = f;
-  ends = λ at. end_fault (expects_closing b due) old e at f;
-  differs = λ w o. other_fault (expects_closing b due) old e w o f;
-  unprompted = refused_other (closing_lacks b k due) old e f;
+  ends = λ at. end_fault (expects_closing b comma_due) old e at f;
+  differs = λ w o. other_fault (expects_closing b comma_due) old e w o f;
+  unprompted = refused_other (closing_lacks b k comma_due) old e f;
   before = before;
 }
 
 pub opens_same : {A B : Type 0} (b : Brackets) (see : A → AccessState) (state_of : B → AccessState) (old : State) (a : A) (d : B) → see a ≡ state_of d → OpensAs b see old (Ok a) → OpensAs b state_of old (Ok d)
 opens_same b see state_of old a d same o = record {
-  opened = subst (λ s. Opened b old s.reader × (s.due ≡ false)) same o.opened;
+  opened = subst (λ s. Opened b old s.reader × (s.comma_due ≡ false)) same o.opened;
   start = subst (λ (s : AccessState). (before : List ℕ) → old.input ≡ before ++ b.opening ∷ s.reader.unread → s.start ≡ length (encode_utf8_all before)) same o.start;
   complete = λ r live sign room. refl;
   refused = tt;
@@ -105,10 +105,10 @@ starts_here b old mid next last start p took entered counted before split =
     counted before (input_of p.rest ∙ split ∙ ap (λ z. before ++ z) (sym (took.split ∙ ap (λ z. b.opening ∷ z) (sym (unread_of entered)))))
 
 -- a bracket that was taken after the comma
-pub closed_after : {V : Type 0} (b : Brackets) (due : Bool) (old mid next far last : State) (result : Result V Error) → due ≡ true → PassedGap old mid → TookText mid (0x2C ∷ []) next → PassedGap next far
-    → OnOk result ((far.unread ≡ b.closing ∷ last.unread) × (last ≡ record far { unread = last.unread; level = far.level - 1 })) → OnOk result (Closed b due old last)
-closed_after b due old mid next far last (Err e) d p took q k = tt
-closed_after b due old mid next far last (Ok v) d p took q (split, left) =
+pub closed_after : {V : Type 0} (b : Brackets) (comma_due : Bool) (old mid next far last : State) (result : Result V Error) → comma_due ≡ true → PassedGap old mid → TookText mid (0x2C ∷ []) next → PassedGap next far
+    → OnOk result ((far.unread ≡ b.closing ∷ last.unread) × (last ≡ record far { unread = last.unread; level = far.level - 1 })) → OnOk result (Closed b comma_due old last)
+closed_after b comma_due old mid next far last (Err e) d p took q k = tt
+closed_after b comma_due old mid next far last (Ok v) d p took q (split, left) =
     let comma = sign_next 0x2C old.unread mid.unread next.unread (after_gap_of old mid p) took.split in
     let bracket = sign_next b.closing next.unread far.unread last.unread (after_gap_of next far q) split in
     let read = only_read old mid far p.rest (only_read mid next far took.rest q.rest) in

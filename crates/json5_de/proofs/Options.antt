@@ -3,17 +3,17 @@ use Rattle.std.proofs.Common.{◌≡◌, ℕ, ◌+◌, ◌≤◌, Bool, true, fa
 use Rattle.std.specs.Prelude.{◌==◌, Result, Ok, Err}
 use Rattle.std.proofs.lemmas.Bool.{false≢true}
 use Rattle.json5_grammar.specs.declared.code.ErrorCode.TheVariants as codes
-use Rattle.json5_grammar.specs.Documents.{max_depth}
+use Rattle.json5_grammar.specs.Language.Documents.{max_depth}
 use Rattle.json5_grammar.specs.declared.code.ErrorCode.{ErrorCode}
-use Rattle.json5_grammar.specs.Blanks.{Blanks, Gap, Solid}
-use Rattle.json5_grammar.specs.Strings.{quoted}
-use Rattle.json5_grammar.specs.Trees.{Tree, null, boolean, number, text, array, object, depth}
-use Rattle.json5_grammar.specs.Values.{Val, Reads, is_null, is_true, is_false, is_number, is_text, is_empty_array, is_array, is_empty_object, is_object}
+use Rattle.json5_grammar.specs.Language.Blanks.{Blanks, Gap, Solid}
+use Rattle.json5_grammar.specs.Language.Strings.{quoted}
+use Rattle.json5_grammar.specs.Language.Trees.{Tree, null, boolean, number, text, array, object, depth}
+use Rattle.json5_grammar.specs.Language.Values.{Val, Reads, is_null, is_true, is_false, is_number, is_text, is_empty_array, is_array, is_empty_object, is_object}
 use Rattle.json5_grammar.proofs.BlanksSound.{gap_last}
 use Rattle.json5_grammar.proofs.Classes.{number_others, quote_others}
 use Rattle.json5_grammar.proofs.ValueHeads.{val_head, number_head}
-use Rattle.json5_grammar.proofs.MembersRead.{phrase_found, reads_found}
-use Rattle.json5_grammar.proofs.MembersNowhere.{reads_here, no_reads_in_blanks}
+use Rattle.json5_grammar.proofs.CollectionsRead.{phrase_found, reads_found}
+use Rattle.json5_grammar.proofs.CollectionsNowhere.{reads_here, no_reads_in_blanks}
 use Rattle.json5_text.specs.declared.error.Error.{Error}
 use Rattle.json5_text.specs.Errors.{code, kind_of, place_of}
 use Rattle.json5_text.specs.Cursor.{Refused}
@@ -121,7 +121,7 @@ pub option_some : {C : Type 0} (f : Tree → Option C) (t : Tree) (c : C) → (t
 option_some f null c n e = absurd (n refl)
 option_some f (boolean b) c n e = ap (if_some Some) e
 option_some f (number k) c n e = ap (if_some Some) e
-option_some f (text u plain) c n e = ap (if_some Some) e
+option_some f (text u escape_free) c n e = ap (if_some Some) e
 option_some f (array ts) c n e = ap (if_some Some) e
 option_some f (object ps) c n e = ap (if_some Some) e
 
@@ -133,7 +133,7 @@ pub option_parts : {C : Type 0} (f : Tree → Option C) (t : Tree) (v : Option C
 option_parts f null v n e = absurd (n refl)
 option_parts f (boolean b) v n e = some_of (f (boolean b)) v e
 option_parts f (number k) v n e = some_of (f (number k)) v e
-option_parts f (text u plain) v n e = some_of (f (text u plain)) v e
+option_parts f (text u escape_free) v n e = some_of (f (text u escape_free)) v e
 option_parts f (array ts) v n e = some_of (f (array ts)) v e
 option_parts f (object ps) v n e = some_of (f (object ps)) v e
 
@@ -178,7 +178,7 @@ pub option_is_free : (allocation_free : Tree → Bool) (t : Tree) → (t ≡ nul
 option_is_free allocation_free null n e = absurd (n refl)
 option_is_free allocation_free (boolean b) n e = e
 option_is_free allocation_free (number k) n e = e
-option_is_free allocation_free (text u plain) n e = e
+option_is_free allocation_free (text u escape_free) n e = e
 option_is_free allocation_free (array ts) n e = e
 option_is_free allocation_free (object ps) n e = e
 

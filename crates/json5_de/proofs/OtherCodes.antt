@@ -2,7 +2,7 @@
 use Rattle.std.proofs.Common.{◌≢◌, ℕ, Bool, false, List, ◌∷◌, Option, Some}
 use Rattle.json5_grammar.specs.declared.code.ErrorCode.{ErrorCode}
 use Rattle.json5_grammar.specs.declared.code.ErrorCode.TheVariants as codes
-use Rattle.json5_grammar.specs.Numbers.{Number}
+use Rattle.json5_grammar.specs.Language.Numbers.{Number}
 use Rattle.json5_de.specs.ObjectFaults.{NoColon, no_colon, colon_missing}
 use Rattle.json5_de.specs.Faults.{AfterBlanks, in_blanks, after_gap, NotNumber, faulty_number, other_number, NotText, faulty_text, other_text, Trailing, trailing}
 use Rattle.json5_value.specs.declared.brackets.Brackets.{Brackets}
@@ -10,7 +10,7 @@ use Rattle.json5_de.specs.Brackets.{AreSigns}
 use Rattle.json5_de.specs.Access.{NotClosed, NoBracket, other_sign, bracket_missing, not_here, after_comma, NotOpened, no_bracket, text_ends, too_deep}
 use Rattle.json5_de.specs.Seq.{NoNext, no_comma, comma_missing, in_blanks_after}
 use Rattle.json5_de.specs.Options.{NoOption, option_missing, faulty_null}
-use Rattle.json5_grammar.specs.Values.{null_text}
+use Rattle.json5_grammar.specs.Language.Values.{null_text}
 use Rattle.json5_value.proofs.OtherCodes.{Lacks, in_blanks_other, word_lacks, faulty_number_lacks, faulty_string_lacks}
 
 pub after_lacks : {F : List ℕ → Option ErrorCode → Option (List ℕ) → Type 0} → Lacks F → Lacks (AfterBlanks F)
@@ -36,9 +36,9 @@ bracket_lacks : (b : Brackets) → AreSigns b → (comma : Bool) → Lacks (NoBr
 bracket_lacks b k comma x reason place (other_sign c r h l) = some_other b.not_closed k.other_not_closed
 bracket_lacks b k comma x reason place bracket_missing = some_other b.ends k.other_ends
 
-pub closing_lacks : (b : Brackets) → AreSigns b → (due : Bool) → Lacks (NotClosed b due)
-closing_lacks b k due x reason place (not_here f) = bracket_lacks b k due x reason place f
-closing_lacks b k due x reason place (after_comma {x = y} {place = p} h f) = after_lacks (bracket_lacks b k false) y reason p f
+pub closing_lacks : (b : Brackets) → AreSigns b → (comma_due : Bool) → Lacks (NotClosed b comma_due)
+closing_lacks b k comma_due x reason place (not_here f) = bracket_lacks b k comma_due x reason place f
+closing_lacks b k comma_due x reason place (after_comma {x = y} {place = p} h f) = after_lacks (bracket_lacks b k false) y reason p f
 
 pub opening_lacks : (b : Brackets) → AreSigns b → (level : ℕ) → Lacks (NotOpened b level)
 opening_lacks b k level x reason place (no_bracket c r h) = some_other b.not_opened k.other_not_opened
@@ -47,10 +47,10 @@ opening_lacks b k level x reason place (too_deep r full) = λ e. absurd (cc)
 
 -- ---- where the next member is expected
 
-pub next_lacks : (b : Brackets) → AreSigns b → (due : Bool) → Lacks (NoNext b due)
-next_lacks b w due x reason place (no_comma c r d h k) = λ e. absurd (cc)
-next_lacks b w due x reason place (comma_missing d) = some_other b.ends w.other_ends
-next_lacks b w due x reason place (in_blanks_after d (before, part, shown, fault)) = in_blanks_other fault
+pub next_lacks : (b : Brackets) → AreSigns b → (comma_due : Bool) → Lacks (NoNext b comma_due)
+next_lacks b w comma_due x reason place (no_comma c r d h k) = λ e. absurd (cc)
+next_lacks b w comma_due x reason place (comma_missing d) = some_other b.ends w.other_ends
+next_lacks b w comma_due x reason place (in_blanks_after d (before, part, shown, fault)) = in_blanks_other fault
 
 -- ---- where an option or the end is expected
 

@@ -2,11 +2,11 @@
 use Rattle.std.proofs.Common.{◌≡◌, ◌≢◌, ◌==◌, ℕ, ◌+◌, ◌≤◌, Bool, true, false, List, refl, sym, ap, ◌∙◌, subst, arith, Option, Some, None, Result, Ok, Err}
 use Rattle.std.proofs.lemmas.Bool.{false≢true}
 use Rattle.std.specs.Prelude.{◌∷◌, if◌then◌else◌, IsErrAnd, IfOk}
-use Rattle.json5_grammar.specs.Documents.{max_depth}
-use Rattle.json5_grammar.specs.Trees.{Tree, Trees, Pairs, null, boolean, number, text, array, object, no_more, more, no_pair, pair, depth}
-use Rattle.json5_grammar.specs.Values.{Reads}
-use Rattle.json5_grammar.specs.Members.{IsBrace, joint, array_of, object_of, snoc, joined_trees}
-use Rattle.json5_grammar.proofs.MembersPairsConverted.{object_only}
+use Rattle.json5_grammar.specs.Language.Documents.{max_depth}
+use Rattle.json5_grammar.specs.Language.Trees.{Tree, Trees, Pairs, null, boolean, number, text, array, object, no_more, more, no_pair, pair, depth}
+use Rattle.json5_grammar.specs.Language.Values.{Reads}
+use Rattle.json5_grammar.specs.Model.Collections.{IsBrace, joint, array_of, object_of, snoc, joined_trees}
+use Rattle.json5_grammar.proofs.CollectionsPairsConverted.{object_only}
 use Rattle.json5_text.specs.declared.error.Error.{Error}
 use Rattle.json5_text.specs.Cursor.{IsOutOfMemory}
 use Rattle.json5_de.specs.State.{State, SameText}
@@ -99,7 +99,7 @@ array_only : {C : Type 0} (g : Trees → Option C) (t : Tree) (c : C) → array_
 array_only g null c is = absurd (cc)
 array_only g (boolean b) c is = absurd (cc)
 array_only g (number n) c is = absurd (cc)
-array_only g (text u plain) c is = absurd (cc)
+array_only g (text u escape_free) c is = absurd (cc)
 array_only g (array ts) c is = (ts, refl, is)
 array_only g (object ps) c is = absurd (cc)
 
@@ -285,10 +285,10 @@ module _ {A : Type 0} {g : Trees → Option A} {old : EnumAccessState} where
     pub tuple_read : {new : State} {v : V} → InTuple g old nothing of now → ClosesTuple brace now last (Ok tt) → new ≡ last → make (of tt) ≡ content v → FinishesVariant content (λ t. if_some make (content_of (array_of g) t)) old new (Ok v)
     tuple_read {new = new} {v = v} m closes at same = record {
       read = λ names from n.
-          let after = subst (λ b. AfterName b from n.name n.plain old.reader) m.has_content n.after in
-          let took = closes.read from old.reader n.name n.plain m.trees after m.read in
+          let after = subst (λ b. AfterName b from n.name n.escape_free old.reader) m.has_content n.after in
+          let took = closes.read from old.reader n.name n.escape_free m.trees after m.read in
           let converts = ap g (sym (joined_none m.trees)) ∙ m.are no_more tt refl in
-          (object (pair n.name n.plain (array m.trees) no_pair), Some (array m.trees), subst (λ s. TookValue from (object (pair n.name n.plain (array m.trees) no_pair)) s) (sym at) took, ap (if_some (λ k. (k, Some (array m.trees)))) n.place, ap (if_some make) converts ∙ ap (λ x. Some x) same);
+          (object (pair n.name n.escape_free (array m.trees) no_pair), Some (array m.trees), subst (λ s. TookValue from (object (pair n.name n.escape_free (array m.trees) no_pair)) s) (sym at) took, ap (if_some (λ k. (k, Some (array m.trees)))) n.place, ap (if_some make) converts ∙ ap (λ x. Some x) same);
       left = λ t r c l is. tt;
       unprompted = tt;
       same_text = subst (λ s. SameText old.reader s) (sym at) (same_input make content last m closes.bracket.same_text);
@@ -351,10 +351,10 @@ module _ {S D : Type 0} (plan : Plan S D) {X : Type 0} (state_of : X → MapAcce
     struct_content {new = new} {v = v} {d = d} reads inside closes at built same = record {
       read = λ names from n.
           let (ps, are, on) = reads.read in
-          let after = subst (λ b. AfterName b from n.name n.plain old.reader) opens.content.has_content n.after in
-          let took = closes.read from old.reader n.name n.plain ps after (on old.reader opens.read) in
+          let after = subst (λ b. AfterName b from n.name n.escape_free old.reader) opens.content.has_content n.after in
+          let took = closes.read from old.reader n.name n.escape_free ps after (on old.reader opens.read) in
           let converts = plan.says ps ∙ ap (if_more plan.build) are ∙ built in
-          (object (pair n.name n.plain (object ps) no_pair), Some (object ps), subst (λ s. TookValue from (object (pair n.name n.plain (object ps) no_pair)) s) (sym at) took, ap (if_some (λ k. (k, Some (object ps)))) n.place, ap (if_some make) converts ∙ ap (λ x. Some x) same);
+          (object (pair n.name n.escape_free (object ps) no_pair), Some (object ps), subst (λ s. TookValue from (object (pair n.name n.escape_free (object ps) no_pair)) s) (sym at) took, ap (if_some (λ k. (k, Some (object ps)))) n.place, ap (if_some make) converts ∙ ap (λ x. Some x) same);
       left = λ t r c l is. tt;
       unprompted = tt;
       same_text = subst (λ s. SameText old.reader s) (sym at) (struct_input last (closes.bracket.same_text ∙ inside));

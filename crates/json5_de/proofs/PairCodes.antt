@@ -5,19 +5,19 @@ use Rattle.std.specs.Str.{encode_utf8_all}
 use Rattle.std.proofs.lemmas.Bool.{or_parts}
 use Rattle.json5_grammar.specs.declared.code.ErrorCode.{ErrorCode}
 use Rattle.json5_grammar.specs.declared.code.ErrorCode.TheVariants as codes
-use Rattle.json5_grammar.specs.Codes.{after_text}
-use Rattle.json5_grammar.specs.Characters.{NotBegun}
-use Rattle.json5_grammar.specs.Blanks.{Blanks, Gap, Solid}
-use Rattle.json5_grammar.specs.Trees.{Tree}
-use Rattle.json5_grammar.specs.Values.{Reads}
-use Rattle.json5_grammar.specs.Members.{ReadsKey, IsKey, IsKeyValue, NoPairGoes}
+use Rattle.json5_grammar.specs.Faults.Codes.{after_text}
+use Rattle.json5_grammar.specs.Language.Characters.{NotBegun}
+use Rattle.json5_grammar.specs.Language.Blanks.{Blanks, Gap, Solid}
+use Rattle.json5_grammar.specs.Language.Trees.{Tree}
+use Rattle.json5_grammar.specs.Language.Values.{Reads}
+use Rattle.json5_grammar.specs.Model.Collections.{ReadsKey, IsKey, IsKeyValue, NoPairGoes}
 use Rattle.json5_grammar.proofs.Basics.{first_same, true_false}
 use Rattle.json5_grammar.proofs.BlanksRead.{begins_solid}
 use Rattle.json5_grammar.proofs.BlanksSound.{one_gap, gap_last, gap_before, gap_blanks}
 use Rattle.json5_grammar.proofs.ValueHeads.{key_head, key_solid}
-use Rattle.json5_grammar.proofs.MembersRead.{comma_solid}
-use Rattle.json5_grammar.proofs.MembersPassed.{after_same_comma, same_sign}
-use Rattle.json5_grammar.proofs.MembersPairs.{colon_solid}
+use Rattle.json5_grammar.proofs.CollectionsRead.{comma_solid}
+use Rattle.json5_grammar.proofs.CollectionsPassed.{after_same_comma, same_sign}
+use Rattle.json5_grammar.proofs.CollectionsPairs.{colon_solid}
 use Rattle.json5_text.specs.declared.error.Error.{Error}
 use Rattle.json5_text.specs.Errors.{code, kind_of}
 use Rattle.json5_text.specs.Cursor.{Refused}
@@ -73,22 +73,22 @@ key_there x y r u p g k =
     }
 
 -- the same after the comma that is due
-pub pair_key_found : (due : Bool) (x y r u : List ℕ) (p : Bool) → Begun due x y → IsKey due x u p r → ReadsKey y u p r
+pub pair_key_found : (comma_due : Bool) (x y r u : List ℕ) (p : Bool) → Begun comma_due x y → IsKey comma_due x u p r → ReadsKey y u p r
 pair_key_found false x y r u p g k = key_here x y r u p g k
 pair_key_found true x y r u p (z, comma, g) (w, other, k) = key_here z y r u p g (after_same_comma (λ q. ReadsKey q u p r) x z w comma other k)
 
-pair_key_read : (due : Bool) (x y r u : List ℕ) (p : Bool) → Begun due x y → ReadsKey y u p r → IsKey due x u p r
+pair_key_read : (comma_due : Bool) (x y r u : List ℕ) (p : Bool) → Begun comma_due x y → ReadsKey y u p r → IsKey comma_due x u p r
 pair_key_read false x y r u p g k = key_there x y r u p g k
 pair_key_read true x y r u p (z, comma, g) k = (z, comma, key_there z y r u p g k)
 
-pub took_pair_key : (due : Bool) (s mid last : State) (u : List ℕ) (p : Bool) → AtKey due s mid → TookKey mid u p last → TookPairKey due s u p last
-took_pair_key due s mid last u p at took = record {
+pub took_pair_key : (comma_due : Bool) (s mid last : State) (u : List ℕ) (p : Bool) → AtKey comma_due s mid → TookKey mid u p last → TookPairKey comma_due s u p last
+took_pair_key comma_due s mid last u p at took = record {
   live = at.member.live;
-  key = pair_key_read due s.unread mid.unread last.unread u p at.member.begun took.reads;
+  key = pair_key_read comma_due s.unread mid.unread last.unread u p at.member.begun took.reads;
   rest = only_read s mid last at.member.rest took.rest;
 }
 
-begun_solid : (due : Bool) (x y : List ℕ) → Begun due x y → Solid y
+begun_solid : (comma_due : Bool) (x y : List ℕ) → Begun comma_due x y → Solid y
 begun_solid false x y g = g.solid
 begun_solid true x y (z, comma, g) = g.solid
 
@@ -99,18 +99,18 @@ no_key_begun y r u p solid n k =
     true_false head.begins (subst (NotBegun begins_key) (at ∙ ap (λ z. z ++ r) head.is) n)
 
 -- where no member may begin no pair goes on
-pub no_pair_next : (due : Bool) (x : List ℕ) → NothingNext curly due x → NoPairGoes due x
-no_pair_next due x n = record { no_key = λ u p r k. by due u p r n k; no_brace = n.no_close }
+pub no_pair_next : (comma_due : Bool) (x : List ℕ) → NothingNext curly comma_due x → NoPairGoes comma_due x
+no_pair_next comma_due x n = record { no_key = λ u p r k. by comma_due u p r n k; no_brace = n.no_close }
   where
-    by : (due : Bool) (u : List ℕ) (p : Bool) (r : List ℕ) → NothingNext curly due x → IsKey due x u p r → ⊥
+    by : (comma_due : Bool) (u : List ℕ) (p : Bool) (r : List ℕ) → NothingNext curly comma_due x → IsKey comma_due x u p r → ⊥
     by false u p r n k = let (y, g) = key_gap x r u p k in n.no_member y g
     by true u p r n (z, comma, k) = let (y, g) = key_gap z r u p k in n.no_member y (z, comma, g)
 
 -- nor where neither a key nor the brace begins
-pub no_pair_here : (due : Bool) (x y : List ℕ) → Begun due x y → NotBegun (λ c. c == 125) y → NotBegun begins_key y → NoPairGoes due x
-no_pair_here due x y begun n none = record {
-  no_key = λ u p r k. no_key_begun y r u p (begun_solid due x y begun) none (pair_key_found due x y r u p begun k);
-  no_brace = λ r c. no_close_found curly curly_signs due x y r begun n c;
+pub no_pair_here : (comma_due : Bool) (x y : List ℕ) → Begun comma_due x y → NotBegun (λ c. c == 125) y → NotBegun begins_key y → NoPairGoes comma_due x
+no_pair_here comma_due x y begun n none = record {
+  no_key = λ u p r k. no_key_begun y r u p (begun_solid comma_due x y begun) none (pair_key_found comma_due x y r u p begun k);
+  no_brace = λ r c. no_close_found curly curly_signs comma_due x y r begun n c;
 }
 
 -- ---- what is refused where a key is expected
@@ -121,8 +121,8 @@ after_wider x reason place h (in_blanks k) = in_blanks k
 after_wider x reason place h (after_gap {x = y} {place = p} g s k) = after_gap g s (h y reason p k)
 
 -- where no member was reached
-pub refused_next_key : (due : Bool) (s : State) (e : Error) → RefusedBy (NoNext curly due) s e → RefusedBy (NoKey due) s e
-refused_next_key due s e f live = let f = f live in record { reason = f.reason; place = f.place; fault = after_wider s.unread f.reason f.place (λ x reason place k. no_next k) f.fault; says = f.says; placed = f.placed }
+pub refused_next_key : (comma_due : Bool) (s : State) (e : Error) → RefusedBy (NoNext curly comma_due) s e → RefusedBy (NoKey comma_due) s e
+refused_next_key comma_due s e f live = let f = f live in record { reason = f.reason; place = f.place; fault = after_wider s.unread f.reason f.place (λ x reason place k. no_next k) f.fault; says = f.says; placed = f.placed }
 
 -- a fault after the gap
 refused_gap : {F : List ℕ → Option ErrorCode → Option (List ℕ) → Type 0} (old mid : State) (e : Error) → IsAfterGap old.unread mid.unread → SameText old mid → Refused F (cursor_of mid) e → Refused (AfterBlanks F) (cursor_of old) e
@@ -139,13 +139,13 @@ no_key_here x reason place n m at_end = key_missing
 no_key_here x reason place n m (at_char c r) = no_key c r n m
 
 -- where a member was reached, and no key begins it
-pub refused_key_here : (due : Bool) (s mid : State) (e : Error) → AtMember curly due s mid → NotBegun begins_key mid.unread → Refused (Unexpected codes.EofParsingObject codes.ExpectedIdentifier) (cursor_of mid) e → RefusedBy (NoKey due) s e
-refused_key_here due s mid e at n f live = by due at.begun
+pub refused_key_here : (comma_due : Bool) (s mid : State) (e : Error) → AtMember curly comma_due s mid → NotBegun begins_key mid.unread → Refused (Unexpected codes.EofParsingObject codes.ExpectedIdentifier) (cursor_of mid) e → RefusedBy (NoKey comma_due) s e
+refused_key_here comma_due s mid e at n f live = by comma_due at.begun
   where
     here : Refused NoKeyHere (cursor_of mid) e
     here = refused_as mid mid e refl (λ reason place k. no_key_here mid.unread reason place n at.inside k) f
 
-    by : (due : Bool) → Begun due s.unread mid.unread → Refused (AfterBlanks (NoKey due)) (cursor_of s) e
+    by : (comma_due : Bool) → Begun comma_due s.unread mid.unread → Refused (AfterBlanks (NoKey comma_due)) (cursor_of s) e
     by false g = refused_gap s mid e g (input_of at.rest) (refused_as mid mid e refl (λ reason place k. not_here refl k) here)
     by true (z, comma, g) =
         let next : State = record s { unread = z } in
@@ -155,26 +155,26 @@ refused_key_here due s mid e at n f live = by due at.begun
 
 -- ---- the codes of what is refused there
 
-next_due : {x : List ℕ} {reason : Option ErrorCode} {place : Option (List ℕ)} (due : Bool) → NoNext curly due x reason place → due ≡ true
-next_due due (no_comma c r d n m) = d
-next_due due (comma_missing d) = d
-next_due due (in_blanks_after d f) = d
+next_due : {x : List ℕ} {reason : Option ErrorCode} {place : Option (List ℕ)} (comma_due : Bool) → NoNext curly comma_due x reason place → comma_due ≡ true
+next_due comma_due (no_comma c r d n m) = d
+next_due comma_due (comma_missing d) = d
+next_due comma_due (in_blanks_after d f) = d
 
-expects_key : (due : Bool) → Expected {C = Unit {0}} (NoKey due) (λ t. None) (begins_next_key due) codes.EofParsingObject (no_key_code due)
-expects_key due = record {
+expects_key : (comma_due : Bool) → Expected {C = Unit {0}} (NoKey comma_due) (λ t. None) (begins_next_key comma_due) codes.EofParsingObject (no_key_code comma_due)
+expects_key comma_due = record {
   at_end = λ reason place f. at_none [] reason place refl f;
-  at_other = λ c r reason place h f. at_some due (c ∷ r) c r reason place refl h f;
+  at_other = λ c r reason place h f. at_some comma_due (c ∷ r) c r reason place refl h f;
   no_fault = λ s r t v reason place e k stops f. absurd (cc);
   first = λ s t v e k. absurd (cc);
 }
   where
-    at_none : (x : List ℕ) (reason : Option ErrorCode) (place : Option (List ℕ)) → x ≡ [] → NoKey due x reason place → (reason ≡ Some codes.EofParsingObject) × (place ≡ None)
-    at_none x reason place e (no_next f) = (expects_more curly due).at_end reason place (subst (λ z. NoNext curly due z reason place) e f)
+    at_none : (x : List ℕ) (reason : Option ErrorCode) (place : Option (List ℕ)) → x ≡ [] → NoKey comma_due x reason place → (reason ≡ Some codes.EofParsingObject) × (place ≡ None)
+    at_none x reason place e (no_next f) = (expects_more curly comma_due).at_end reason place (subst (λ z. NoNext curly comma_due z reason place) e f)
     at_none x reason place e (not_here d (no_key c r n m)) = absurd (cc)
     at_none x reason place e (not_here d key_missing) = (refl, refl)
     at_none x reason place e (not_after_comma d f) = absurd (cc)
 
-    at_some : (due : Bool) (x : List ℕ) (c : ℕ) (r : List ℕ) (reason : Option ErrorCode) (place : Option (List ℕ)) → x ≡ c ∷ r → begins_next_key due c ≡ false → NoKey due x reason place → (reason ≡ Some (no_key_code due)) × (place ≡ Some [])
+    at_some : (comma_due : Bool) (x : List ℕ) (c : ℕ) (r : List ℕ) (reason : Option ErrorCode) (place : Option (List ℕ)) → x ≡ c ∷ r → begins_next_key comma_due c ≡ false → NoKey comma_due x reason place → (reason ≡ Some (no_key_code comma_due)) × (place ≡ Some [])
     at_some true x c r reason place e h (no_next f) = (expects_more curly true).at_other c r reason place h (subst (λ z. NoNext curly true z reason place) e f)
     at_some false x c r reason place e h (no_next f) = absurd (true_false (next_due false f) refl)
     at_some true x c r reason place e h (not_here d f) = absurd (true_false refl d)
@@ -201,13 +201,13 @@ expects_colon = record {
 
 -- ---- where no key goes on
 
-end_no_key : (due : Bool) (s : State) (u r : List ℕ) (p : Bool) → AtEnd s → IsKey due s.unread u p r → ⊥
+end_no_key : (comma_due : Bool) (s : State) (u r : List ℕ) (p : Bool) → AtEnd s → IsKey comma_due s.unread u p r → ⊥
 end_no_key true s u r p at (z, comma, k) = end_no_sign 0x2C s z comma_solid at comma
 end_no_key false s u r p at k =
     let head = key_head k.key in
     not_nil head.char (head.more ++ r) (k.spelling ++ r) (ap (λ z. z ++ r) head.is) (gap_last s.unread k.front (k.spelling ++ r) at.1 (Gap.blanks k.blank) (key_solid r head) k.split).1
 
-other_no_key : (due : Bool) (s : State) (w u r : List ℕ) (p : Bool) → AtOther (begins_next_key due) s w → IsKey due s.unread u p r → ⊥
+other_no_key : (comma_due : Bool) (s : State) (w u r : List ℕ) (p : Bool) → AtOther (begins_next_key comma_due) s w → IsKey comma_due s.unread u p r → ⊥
 other_no_key true s w u r p o (z, comma, k) = other_no_sign 0x2C s w z comma_solid o (or_parts (o.char == 0x2C) (o.char == 125) o.other).0 comma
 other_no_key false s w u r p o k =
     let head = key_head k.key in
@@ -215,21 +215,21 @@ other_no_key false s w u r p o k =
     let same : head.char ≡ o.char = first_same head.char o.char (head.more ++ r) o.more (sym (ap (λ z. z ++ r) head.is) ∙ next) in
     true_false head.begins (subst (λ c. begins_key c ≡ false) (sym same) (or_parts (begins_key o.char) (o.char == 125) o.other).0)
 
-other_no_brace : (due : Bool) (s : State) (w r : List ℕ) → (o : AtOther (begins_next_key due) s w) → ((o.char == 125) ≡ false) × (due ≡ true → (o.char == 0x2C) ≡ false)
+other_no_brace : (comma_due : Bool) (s : State) (w r : List ℕ) → (o : AtOther (begins_next_key comma_due) s w) → ((o.char == 125) ≡ false) × (comma_due ≡ true → (o.char == 0x2C) ≡ false)
 other_no_brace true s w r o = let k = or_parts (o.char == 0x2C) (o.char == 125) o.other in (k.1, λ d. k.0)
 other_no_brace false s w r o = let k = or_parts (begins_key o.char) (o.char == 125) o.other in (k.1, λ d. absurd (true_false d refl))
 
-end_at_key : (due : Bool) (s mid : State) → AtEnd s → AtKey due s mid → ⊥
-end_at_key due s mid at k = by due k.member.begun
+end_at_key : (comma_due : Bool) (s mid : State) → AtEnd s → AtKey comma_due s mid → ⊥
+end_at_key comma_due s mid at k = by comma_due k.member.begun
   where
-    by : (due : Bool) → Begun due s.unread mid.unread → ⊥
+    by : (comma_due : Bool) → Begun comma_due s.unread mid.unread → ⊥
     by true (z, comma, g) = end_no_sign 0x2C s z comma_solid at comma
     by false g = not_nil k.begins.char k.begins.more mid.unread k.begins.split (gap_last s.unread g.gap mid.unread at.1 g.is_gap g.solid g.split).1
 
-other_at_key : (due : Bool) (s mid : State) (w : List ℕ) → AtOther (begins_next_key due) s w → AtKey due s mid → ⊥
-other_at_key due s mid w o k = by due k.member.begun o
+other_at_key : (comma_due : Bool) (s mid : State) (w : List ℕ) → AtOther (begins_next_key comma_due) s w → AtKey comma_due s mid → ⊥
+other_at_key comma_due s mid w o k = by comma_due k.member.begun o
   where
-    by : (due : Bool) → Begun due s.unread mid.unread → AtOther (begins_next_key due) s w → ⊥
+    by : (comma_due : Bool) → Begun comma_due s.unread mid.unread → AtOther (begins_next_key comma_due) s w → ⊥
     by true (z, comma, g) o = other_no_sign 0x2C s w z comma_solid o (or_parts (o.char == 0x2C) (o.char == 125) o.other).0 comma
     by false g o =
         let next = (gap_before w g.gap mid.unread o.char o.more o.blank o.solid g.is_gap g.solid (sym o.split ∙ g.split)).1 in
@@ -239,48 +239,48 @@ other_at_key due s mid w o k = by due k.member.begun o
 -- ---- a call for a key
 
 -- what the reader gives the access gives
-pub gives_key_seen : {K C : Type 0} (content : K → C) (convert : KeyConversion C) (old new : MapAccessState) (a b : State) (o : Option K) → a ≡ old.at.reader → new.at.reader ≡ record b { failed = old.at.reader.failed } → new.at.due ≡ old.at.due → new.pending ≡ is_some o
-    → GivesPairKey content convert (bare_map a old.at.due false) (bare_map b old.at.due (is_some o)) o → GivesPairKey content convert old new o
-gives_key_seen content convert old new a b (Some k) same lent due pending (u, p, took, is, one, two) =
+pub gives_key_seen : {K C : Type 0} (content : K → C) (convert : KeyConversion C) (old new : MapAccessState) (a b : State) (o : Option K) → a ≡ old.at.reader → new.at.reader ≡ record b { failed = old.at.reader.failed } → new.at.comma_due ≡ old.at.comma_due → new.pending ≡ is_some o
+    → GivesPairKey content convert (bare_map a old.at.comma_due false) (bare_map b old.at.comma_due (is_some o)) o → GivesPairKey content convert old new o
+gives_key_seen content convert old new a b (Some k) same lent comma_due pending (u, p, took, is, one, two) =
     let rest = subst (λ s. OnlyRead s b) same took.rest in
     let back : b ≡ new.at.reader = sym (lent ∙ lent_back old.at.reader b rest) in
-    (u, p, subst (λ s. TookPairKey old.at.due old.at.reader u p s) back (subst (λ s. TookPairKey old.at.due s u p b) same took), is, due, pending)
-gives_key_seen content convert old new a b None same lent due pending (at, one, two) =
+    (u, p, subst (λ s. TookPairKey old.at.comma_due old.at.reader u p s) back (subst (λ s. TookPairKey old.at.comma_due s u p b) same took), is, comma_due, pending)
+gives_key_seen content convert old new a b None same lent comma_due pending (at, one, two) =
     let rest = subst (λ s. OnlyRead s b) same at.rest in
     let back : b ≡ new.at.reader = sym (lent ∙ lent_back old.at.reader b rest) in
-    (subst (λ s. AtClose curly old.at.due old.at.reader s) back (subst (λ s. AtClose curly old.at.due s b) same at), due, pending)
+    (subst (λ s. AtClose curly old.at.comma_due old.at.reader s) back (subst (λ s. AtClose curly old.at.comma_due s b) same at), comma_due, pending)
 
 pub gives_next_key : {K C : Type 0} (content : K → C) (convert : KeyConversion C) (refuses : State → Error → State → Type 0) (old new : MapAccessState) (o : Option K) → GivesPairKey content convert old new o → RefusesNextKey refuses old new.at.reader (Ok o)
 gives_next_key {K = K} content convert refuses old new o gives =
     answers_call _ true _ _ _ old.at new.at.reader o (λ a at. no_end o gives at) (λ a w at. no_other o gives w at) (λ h. live o gives h)
   where
     no_end : (o : Option K) → GivesPairKey content convert old new o → AtEnd old.at.reader → ⊥
-    no_end (Some k) (u, p, took, is, due, pending) at = end_no_key old.at.due old.at.reader u new.at.reader.unread p at took.key
-    no_end None (close, due, pending) at = let (r, c, next) = close.close in end_no_close curly curly_signs old.at.due old.at.reader r at c
+    no_end (Some k) (u, p, took, is, comma_due, pending) at = end_no_key old.at.comma_due old.at.reader u new.at.reader.unread p at took.key
+    no_end None (close, comma_due, pending) at = let (r, c, next) = close.close in end_no_close curly curly_signs old.at.comma_due old.at.reader r at c
 
-    no_other : (o : Option K) → GivesPairKey content convert old new o → (w : List ℕ) → AtOther (begins_next_key old.at.due) old.at.reader w → ⊥
-    no_other (Some k) (u, p, took, is, due, pending) w at = other_no_key old.at.due old.at.reader w u new.at.reader.unread p at took.key
-    no_other None (close, due, pending) w at =
+    no_other : (o : Option K) → GivesPairKey content convert old new o → (w : List ℕ) → AtOther (begins_next_key old.at.comma_due) old.at.reader w → ⊥
+    no_other (Some k) (u, p, took, is, comma_due, pending) w at = other_no_key old.at.comma_due old.at.reader w u new.at.reader.unread p at took.key
+    no_other None (close, comma_due, pending) w at =
         let (r, c, next) = close.close in
-        let k = other_no_brace old.at.due old.at.reader w r at in
-        other_no_close curly curly_signs old.at.due old.at.reader w r at k.0 k.1 c
+        let k = other_no_brace old.at.comma_due old.at.reader w r at in
+        other_no_close curly curly_signs old.at.comma_due old.at.reader w r at k.0 k.1 c
 
     live : (o : Option K) → GivesPairKey content convert old new o → old.at.reader.failed ≡ true → ⊥
-    live (Some k) (u, p, took, is, due, pending) h = true_false h took.live
-    live None (close, due, pending) h = true_false h close.live
+    live (Some k) (u, p, took, is, comma_due, pending) h = true_false h took.live
+    live None (close, comma_due, pending) h = true_false h close.live
 
-pub refuses_next_key : {K : Type 0} (refuses : State → Error → State → Type 0) (old : MapAccessState) (new after : State) (own e : Error) → RefusesPairKey refuses old.at.due old.at.reader own after → (old.at.reader.failed ≡ false → kind_of own ≢ code codes.Failed)
+pub refuses_next_key : {K : Type 0} (refuses : State → Error → State → Type 0) (old : MapAccessState) (new after : State) (own e : Error) → RefusesPairKey refuses old.at.comma_due old.at.reader own after → (old.at.reader.failed ≡ false → kind_of own ≢ code codes.Failed)
     → (old.at.reader.failed ≡ true → IsUnplaced codes.Failed own) → PlacedAtBracket old.at own e → new.failed ≡ true → RefusesNextKey {V = K} refuses old new (Err e)
 refuses_next_key refuses old new after own e cause other before p failed =
-    refuses_call (RefusesPairKey refuses old.at.due old.at.reader) true (begins_next_key old.at.due) codes.EofParsingObject (no_key_code old.at.due) old.at new after own e cause (λ a at. ends cause at) (λ a w o. differs cause w o) other before p failed
+    refuses_call (RefusesPairKey refuses old.at.comma_due old.at.reader) true (begins_next_key old.at.comma_due) codes.EofParsingObject (no_key_code old.at.comma_due) old.at new after own e cause (λ a at. ends cause at) (λ a w o. differs cause w o) other before p failed
   where
-    ends : RefusesPairKey refuses old.at.due old.at.reader own after → AtEnd old.at.reader → IsUnplaced codes.EofParsingObject own
-    ends (not_reached f) at = end_fault (expects_key old.at.due) old.at.reader own at f
-    ends (in_key start k there c placed) at = absurd (end_at_key old.at.due old.at.reader start at there)
+    ends : RefusesPairKey refuses old.at.comma_due old.at.reader own after → AtEnd old.at.reader → IsUnplaced codes.EofParsingObject own
+    ends (not_reached f) at = end_fault (expects_key old.at.comma_due) old.at.reader own at f
+    ends (in_key start k there c placed) at = absurd (end_at_key old.at.comma_due old.at.reader start at there)
 
-    differs : RefusesPairKey refuses old.at.due old.at.reader own after → (w : List ℕ) → AtOther (begins_next_key old.at.due) old.at.reader w → IsAfter (no_key_code old.at.due) old.at.reader w own
-    differs (not_reached f) w o = other_fault (expects_key old.at.due) old.at.reader own w o f
-    differs (in_key start k there c placed) w o = absurd (other_at_key old.at.due old.at.reader start w o there)
+    differs : RefusesPairKey refuses old.at.comma_due old.at.reader own after → (w : List ℕ) → AtOther (begins_next_key old.at.comma_due) old.at.reader w → IsAfter (no_key_code old.at.comma_due) old.at.reader w own
+    differs (not_reached f) w o = other_fault (expects_key old.at.comma_due) old.at.reader own w o f
+    differs (in_key start k there c placed) w o = absurd (other_at_key old.at.comma_due old.at.reader start w o there)
 
 -- a key's fault keeps what it says, but for its place
 key_kind : (IsBefore : List ℕ → Type 0) (own e : Error) → PlacedAtKey IsBefore own e → kind_of e ≡ kind_of own
@@ -294,24 +294,24 @@ placed_before mid end offset own e same counted (at_key h p) = at_key h (placed_
 placed_before mid end offset own e same counted (as_it_is h kind place) = as_it_is h kind place
 
 -- what a key's type reads at a key
-module _ {K C : Type 0} (content : K → C) (convert : KeyConversion C) (refuses : State → Error → State → Type 0) (due : Bool) (s mid end : State) (at : AtKey due s mid) where
-  key_given : (k : K) → GivesKey content convert mid end k → GivesPairKey content convert (bare_map s due false) (bare_map end due true) (Some k)
-  key_given k (u, p, took, is) = (u, p, took_pair_key due s mid end u p at took, is, refl, refl)
+module _ {K C : Type 0} (content : K → C) (convert : KeyConversion C) (refuses : State → Error → State → Type 0) (comma_due : Bool) (s mid end : State) (at : AtKey comma_due s mid) where
+  key_given : (k : K) → GivesKey content convert mid end k → GivesPairKey content convert (bare_map s comma_due false) (bare_map end comma_due true) (Some k)
+  key_given k (u, p, took, is) = (u, p, took_pair_key comma_due s mid end u p at took, is, refl, refl)
 
-  key_completes : (own e : Error) → kind_of e ≡ kind_of own → CompletesKey {V = K} convert mid (Err own) → CompletesPairKey {V = Option K} convert (bare_map s due false) (Err e)
+  key_completes : (own e : Error) → kind_of e ≡ kind_of own → CompletesKey {V = K} convert mid (Err own) → CompletesPairKey {V = Option K} convert (bare_map s comma_due false) (Err e)
   key_completes own e same complete u p r c live key is =
-      same ∙ complete u p r c (failed_of at.member.rest ∙ live) (pair_key_found due s.unread mid.unread r u p at.member.begun key) is
+      same ∙ complete u p r c (failed_of at.member.rest ∙ live) (pair_key_found comma_due s.unread mid.unread r u p at.member.begun key) is
 
   key_cause : (own e : Error) (offset : ℕ) → SameText mid end → ((before : List ℕ) → mid.input ≡ before ++ mid.unread → offset ≡ length (encode_utf8_all before)) → PlacedAtKey (StartsAfter end.input offset) own e
-      → refuses mid own end → RefusesPairKey refuses due s e end
+      → refuses mid own end → RefusesPairKey refuses comma_due s e end
   key_cause own e offset same counted placed r =
       in_key mid own at r (placed_before mid end offset own e same counted placed)
 
   -- a key was read
-  pub read_key_given : (more : Bool) (k : K) → Steady {V = Bool} s mid (Ok more) → GivesKey content convert mid end k → SameText mid end → ReadsKeyOfPair content convert refuses due s end (Ok (Some k))
+  pub read_key_given : (more : Bool) (k : K) → Steady {V = Bool} s mid (Ok more) → GivesKey content convert mid end k → SameText mid end → ReadsKeyOfPair content convert refuses comma_due s end (Ok (Some k))
   read_key_given more k before gives same = record {
     sound = key_given k gives;
-    complete = λ u plain r c live key is. tt;
+    complete = λ u escape_free r c live key is. tt;
     closing = λ r live close. refl;
     cause = tt;
     steady = record { same_text = same ∙ before.same_text; unprompted = tt; before = λ h. absurd (before.before h) };
@@ -319,13 +319,13 @@ module _ {K C : Type 0} (content : K → C) (convert : KeyConversion C) (refuses
 
   -- or refused
   pub read_key_refused : (more : Bool) (own e : Error) (offset : ℕ) → Steady {V = Bool} s mid (Ok more) → CompletesKey {V = K} convert mid (Err own) → refuses mid own end → (mid.failed ≡ false → IsUnprompted own) → SameText mid end
-      → ((before : List ℕ) → mid.input ≡ before ++ mid.unread → offset ≡ length (encode_utf8_all before)) → PlacedAtKey (StartsAfter end.input offset) own e → ReadsKeyOfPair content convert refuses due s end (Err e)
+      → ((before : List ℕ) → mid.input ≡ before ++ mid.unread → offset ≡ length (encode_utf8_all before)) → PlacedAtKey (StartsAfter end.input offset) own e → ReadsKeyOfPair content convert refuses comma_due s end (Err e)
   read_key_refused more own e offset before complete refused unprompted same counted placed =
       let kind = key_kind _ own e placed in
       record {
         sound = tt;
         complete = key_completes own e kind complete;
-        closing = λ r live close. absurd (no_close_found curly curly_signs due s.unread mid.unread r at.member.begun at.member.inside close);
+        closing = λ r live close. absurd (no_close_found curly curly_signs comma_due s.unread mid.unread r at.member.begun at.member.inside close);
         cause = key_cause own e offset same counted placed refused;
         steady = record {
           same_text = same ∙ before.same_text;
@@ -370,15 +370,15 @@ no_colon_here x reason place n (at_char c r) = no_colon c r n
 pub refused_colon : (old mid at : State) (e : Error) → PassedGap old mid → at ≡ mid → NotBegun (λ c. c == 58) mid.unread → Refused (Unexpected codes.EofParsingObject codes.ExpectedColon) (cursor_of at) e → RefusedBy NoColon old e
 refused_colon old mid at e p same n f = refused_token old mid e p (refused_as at mid e same (λ reason place k. no_colon_here mid.unread reason place n k) f)
 
-pub gives_value_seen : {V C : Type 0} (content : V → C) (convert : Tree → Option C) (old new : MapAccessState) (a b : State) (v : V) → a ≡ old.at.reader → new.at.reader ≡ record b { failed = old.at.reader.failed } → new.at.due ≡ true → new.pending ≡ false
+pub gives_value_seen : {V C : Type 0} (content : V → C) (convert : Tree → Option C) (old new : MapAccessState) (a b : State) (v : V) → a ≡ old.at.reader → new.at.reader ≡ record b { failed = old.at.reader.failed } → new.at.comma_due ≡ true → new.pending ≡ false
     → GivesPairValue content convert (bare_map a false true) (bare_map b true false) v → GivesPairValue content convert old new v
-gives_value_seen content convert old new a b v same lent due pending (t, took, is, one, two) =
+gives_value_seen content convert old new a b v same lent comma_due pending (t, took, is, one, two) =
     let rest = subst (λ s. OnlyRead s b) same took.rest in
     let back : b ≡ new.at.reader = sym (lent ∙ lent_back old.at.reader b rest) in
-    (t, subst (λ s. TookPairValue old.at.reader t s) back (subst (λ s. TookPairValue s t b) same took), is, due, pending)
+    (t, subst (λ s. TookPairValue old.at.reader t s) back (subst (λ s. TookPairValue s t b) same took), is, comma_due, pending)
 
 pub gives_next_value : {V C : Type 0} (content : V → C) (convert : Tree → Option C) (refuses : State → Error → State → Type 0) (old new : MapAccessState) (v : V) → GivesPairValue content convert old new v → RefusesNextValue refuses old new.at.reader (Ok v)
-gives_next_value content convert refuses old new v (t, took, is, due, pending) =
+gives_next_value content convert refuses old new v (t, took, is, comma_due, pending) =
     let (y, colon, reads) = took.value in
     answers_call _ true _ _ _ old.at new.at.reader v (λ a at. end_no_sign 58 old.at.reader y colon_solid at colon) (λ a w at. other_no_sign 58 old.at.reader w y colon_solid at at.other colon) (λ h. true_false h took.live)
 

@@ -3,7 +3,7 @@ use Rattle.std.proofs.Common.{◌≡◌, ◌∙◌, Option, None, List, ℕ, Ok,
 use Rattle.json5_text.specs.declared.error.Error.{Error}
 use Rattle.json5_de.specs.State.{SameText}
 use Rattle.json5_de.specs.Access.{AccessState, IsAtBracket}
-use Rattle.json5_grammar.specs.Trees.{Tree, Trees, no_more, more}
+use Rattle.json5_grammar.specs.Language.Trees.{Tree, Trees, no_more, more}
 use Rattle.json5_de.specs.Access.{LeavesFewer}
 use Rattle.json5_de.specs.Lists.{IsTooShort, LeavesRequired}
 

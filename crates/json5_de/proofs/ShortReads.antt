@@ -5,13 +5,13 @@ use Rattle.std.proofs.lemmas.Bool.Decides.{nat_tests}
 use Rattle.std.proofs.lemmas.Int.{ints, to_z-of_z}
 use mir.Syntax.{w128}
 use mir.Val.{to_z, of_z, SFits}
-use Rattle.json5_grammar.specs.Documents.{max_depth}
-use Rattle.json5_grammar.specs.Numbers.{whole}
-use Rattle.json5_grammar.specs.Trees.{number, text}
-use Rattle.json5_grammar.specs.Values.{is_number}
+use Rattle.json5_grammar.specs.Language.Documents.{max_depth}
+use Rattle.json5_grammar.specs.Language.Numbers.{whole}
+use Rattle.json5_grammar.specs.Language.Trees.{number, text}
+use Rattle.json5_grammar.specs.Language.Values.{is_number}
 use Rattle.json5_text.specs.Cursor.{Cursor}
 use Rattle.json5_text.specs.Short.{TookWhole, TookInRange, StepsTo, TakesShortStep, TakesShortSign}
-use Rattle.json5_text.specs.ShortTexts.{ReadsPlainString, TookPlain, TakesShortString, TakesShortKey}
+use Rattle.json5_text.specs.ShortTexts.{ReadsEscapeFreeString, TookEscapeFree, TakesShortString, TakesShortKey}
 use Rattle.json5_text.specs.ShortTexts as texts
 use Rattle.json5_text.specs.TextTokens.{StandsAt}
 use Rattle.json5_text.specs.declared.short_texts.Span.{Span}
@@ -98,23 +98,23 @@ short_integer before after level failed old max (Some z) e room live fits p k =
 
 -- ---- a step to the next member
 
-begun_by : (due : Bool) (x y : List ℕ) → StepsTo due x y → Begun due x y
+begun_by : (comma_due : Bool) (x y : List ℕ) → StepsTo comma_due x y → Begun comma_due x y
 begun_by false x y k = record { gap = k.gap; split = k.split; is_gap = k.is_gap; solid = k.solid }
 begun_by true x y (z, comma, k) = (z, comma, record { gap = k.gap; split = k.split; is_gap = k.is_gap; solid = k.solid })
 
-pub short_step : (b : Brackets) (due : Bool) (before after : Cursor) (level : ℕ) (failed : Bool) (old : State) (step : ShortStep) → reader_at before level failed ≡ old → failed ≡ false → TakesShortStep b.closing due before after step
-    → StepsShort b due old (reader_at after level failed) step
-short_step b due before after level failed old short.Other e live k = same_reader before after level failed old e k
-short_step b due before after level failed old short.Member e live k =
-    subst (λ s. StepsShort b due s (reader_at after level failed) short.Member) e
-    (record { live = live; begun = begun_by due before.unread after.unread k.step.0; inside = k.step.1; rest = ap (λ i. record { input = i; unread = after.unread; level = level; failed = failed }) k.same })
-short_step b due before after level failed old short.Closing e live k =
-    subst (λ s. StepsShort b due s (reader_at after level failed) short.Closing) e
+pub short_step : (b : Brackets) (comma_due : Bool) (before after : Cursor) (level : ℕ) (failed : Bool) (old : State) (step : ShortStep) → reader_at before level failed ≡ old → failed ≡ false → TakesShortStep b.closing comma_due before after step
+    → StepsShort b comma_due old (reader_at after level failed) step
+short_step b comma_due before after level failed old short.Other e live k = same_reader before after level failed old e k
+short_step b comma_due before after level failed old short.Member e live k =
+    subst (λ s. StepsShort b comma_due s (reader_at after level failed) short.Member) e
+    (record { live = live; begun = begun_by comma_due before.unread after.unread k.step.0; inside = k.step.1; rest = ap (λ i. record { input = i; unread = after.unread; level = level; failed = failed }) k.same })
+short_step b comma_due before after level failed old short.Closing e live k =
+    subst (λ s. StepsShort b comma_due s (reader_at after level failed) short.Closing) e
     (record { live = live; close = k.step; rest = ap (λ i. record { input = i; unread = after.unread; level = level; failed = failed }) k.same })
 
 -- ---- texts and keys without an escape
 
-took_text : (before after : Cursor) (level : ℕ) (failed : Bool) (span : Span) → level ≤ max_depth → failed ≡ false → TookPlain ReadsPlainString before after span
+took_text : (before after : Cursor) (level : ℕ) (failed : Bool) (span : Span) → level ≤ max_depth → failed ≡ false → TookEscapeFree ReadsEscapeFreeString before after span
     → (u : List ℕ) × TookValue (reader_at before level failed) (text u true) (reader_at after level failed) × StandsAt after.input u span.start span.end
 took_text before after level failed span room live k = (
   k.spelled,
@@ -127,7 +127,7 @@ pub short_text : (before after : Cursor) (level : ℕ) (failed : Bool) (old : St
 short_text before after level failed old None e room live k = same_reader before after level failed old e k
 short_text before after level failed old (Some span) e room live k = subst (λ s. ReadsShortText s (reader_at after level failed) (Some span)) e (took_text before after level failed span room live k)
 
-took_key : (before after : Cursor) (level : ℕ) (failed : Bool) (span : Span) → failed ≡ false → TookPlain texts.ReadsPlainKey before after span
+took_key : (before after : Cursor) (level : ℕ) (failed : Bool) (span : Span) → failed ≡ false → TookEscapeFree texts.ReadsEscapeFreeKey before after span
     → (u : List ℕ) × TookKey (reader_at before level failed) u true (reader_at after level failed) × StandsAt after.input u span.start span.end
 took_key before after level failed span live k = (
   k.spelled,
@@ -168,7 +168,7 @@ own_key old mid new (Ok t) (u, took, stands) (same, bytes) =
     subst (λ s. ReadsKeyAs string_key string_bytes old s (Ok t)) (sym same) (key_ok string_bytes every_text _ old mid t (u, true, took, ap Some (sym (bytes u stands))))
 own_key old mid new (Err e) (u, took, stands) (lacks, gives_up) = record {
   sound = tt;
-  complete = λ u plain r c live reads is. lacks.kind;
+  complete = λ u escape_free r c live reads is. lacks.kind;
   refused = inl lacks;
   unprompted = λ live. memory_other e lacks.kind;
   same_text = gives_up.same_text ∙ input_of took.rest;

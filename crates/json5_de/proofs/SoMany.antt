@@ -1,8 +1,8 @@
 -- Lists of so many elements.
 use Rattle.std.proofs.Common.{◌≡◌, ℕ, Bool, true, false, List, length, refl, ap, ◌∙◌, arith, Option, Some, None}
 use Rattle.std.specs.Prelude.{◌==◌, if◌then◌else◌}
-use Rattle.json5_grammar.specs.Trees.{Tree, Trees}
-use Rattle.json5_grammar.specs.Members.{contents}
+use Rattle.json5_grammar.specs.Language.Trees.{Tree, Trees}
+use Rattle.json5_grammar.specs.Model.Collections.{contents}
 use Rattle.json5_de.specs.ConvertLists.{exactly, if_length}
 use Rattle.json5_de.proofs.Loops.{HasSoMany}
 use Rattle.json5_grammar.proofs.Basics.{eq_from}

@@ -2,10 +2,10 @@
 use Rattle.std.proofs.Common.{◌≡◌, ℕ, Bool, true, false, List, refl, sym, ap, ◌∙◌, subst, Option, Some, None, Ok, Err}
 use Rattle.std.specs.Prelude.{Result, IfErr, IsErrAnd, is_some}
 use Rattle.json5_grammar.specs.declared.code.ErrorCode.TheVariants as codes
-use Rattle.json5_grammar.specs.Members.{IsBrace}
-use Rattle.json5_grammar.specs.Trees.{Tree}
+use Rattle.json5_grammar.specs.Model.Collections.{IsBrace}
+use Rattle.json5_grammar.specs.Language.Trees.{Tree}
 use Rattle.json5_grammar.proofs.Basics.{true_false}
-use Rattle.json5_grammar.proofs.MembersPairs.{brace_closes}
+use Rattle.json5_grammar.proofs.CollectionsPairs.{brace_closes}
 use Rattle.json5_text.specs.declared.error.Error.{Error}
 use Rattle.json5_text.specs.Errors.{code, kind_of}
 use Rattle.json5_de.specs.State.{State, SameText}
@@ -67,8 +67,8 @@ same_place old now e same_text same_brace there before after = there before (rec
 
 -- a key is given, or none, by a reader that hasn't failed
 pub live_before : {X C : Type 0} (content : X → C) (keys : KeyConversion C) (old new : MapAccessState) (o : Option X) → GivesPairKey content keys old new o → old.at.reader.failed ≡ true → ⊥
-live_before content keys old new None (at, due, none) f = true_false f at.live
-live_before content keys old new (Some k) (u, plain, took, is, due, waits) f = true_false f took.live
+live_before content keys old new None (at, comma_due, none) f = true_false f at.live
+live_before content keys old new (Some k) (u, escape_free, took, is, comma_due, waits) f = true_false f took.live
 
 module _ {S : Type 0} {step : Step S} {start : S} {old : MapAccessState} where
   -- what was read so far, perhaps a key after it
@@ -98,7 +98,7 @@ module _ {S : Type 0} {step : Step S} {start : S} {old : MapAccessState} where
       where
         by : (waits : Option (List ℕ × Bool)) → StandsFor (Some name) waits → ReadSince step start s waits old now → PairsFault step faults start old e
         by None named since = absurd named
-        by (Some (u, plain)) named since = at_value s now u plain since (subst (λ w. faults w (may_stand step s w) now e) (sym named) (fault since.live))
+        by (Some (u, escape_free)) named since = at_value s now u escape_free since (subst (λ w. faults w (may_stand step s w) now e) (sym named) (fault since.live))
 
 -- ---- the struct
 
@@ -136,5 +136,5 @@ module _ {S D : Type 0} (plan : Plan S D) (faults : ValueFaults) {old : State} {
 pub closes_there : {S : Type 0} {step : Step S} {start n : S} {old now : MapAccessState} {last : State} {e : Error} → ReadsPairs step start n old now (Ok tt) → ClosesMap now last (Err e) → {A : Type 0} → A
 closes_there {now = now} reads closes =
     let (r, at) = reads.at_brace in
-    let ok = closes.bracket.complete r reads.live (subst (λ x. IsBrace now.at.due x r) (sym at) (brace_closes now.at.due r)) in
+    let ok = closes.bracket.complete r reads.live (subst (λ x. IsBrace now.at.comma_due x r) (sym at) (brace_closes now.at.comma_due r)) in
     absurd (cc)

@@ -4,12 +4,12 @@ use Rattle.std.proofs.lemmas.Bool.{false≢true, false_from_ne_true}
 use Rattle.std.proofs.lemmas.Slice.Eq.{bytes_eq-Decides}
 use Rattle.std.specs.Prelude.{Result, OnOk, IsOk, IsErrAnd}
 use Rattle.std.specs.Str.{bytes_eq, encode_utf8_all}
-use Rattle.json5_grammar.specs.Characters.{right_brace}
-use Rattle.json5_grammar.specs.Documents.{max_depth}
-use Rattle.json5_grammar.specs.Trees.{Tree, Pairs, object, no_pair, pair, depth}
-use Rattle.json5_grammar.specs.Values.{Reads}
-use Rattle.json5_grammar.specs.Members.{joint, snoc_pair, object_of}
-use Rattle.json5_grammar.proofs.MembersPairsConverted.{object_only}
+use Rattle.json5_grammar.specs.Language.Characters.{right_brace}
+use Rattle.json5_grammar.specs.Language.Documents.{max_depth}
+use Rattle.json5_grammar.specs.Language.Trees.{Tree, Pairs, object, no_pair, pair, depth}
+use Rattle.json5_grammar.specs.Language.Values.{Reads}
+use Rattle.json5_grammar.specs.Model.Collections.{joint, snoc_pair, object_of}
+use Rattle.json5_grammar.proofs.CollectionsPairsConverted.{object_only}
 use Rattle.json5_text.specs.declared.error.Error.{Error}
 use Rattle.json5_text.specs.Cursor.{IsOutOfMemory}
 use Rattle.json5_de.specs.State.{State}
@@ -112,7 +112,7 @@ module _ {S : Type 0} {step : Step S} {old new : MapAccessState} where
       → TakesPair step (part.set s (if_some content field)) (part.set s (if_some content next)) name old new result
   takes_field {V} {C} {content = content} {convert = convert} {name = name} {field = field} {next = next} {result = result} s part is = record {
     read = reads result is.read;
-    left = λ u plain t ps r m takes left. leaves result field m t ps r takes (λ none. is.left none u plain t ps r left);
+    left = λ u escape_free t ps r m takes left. leaves result field m t ps r takes (λ none. is.left none u escape_free t ps r left);
     live = is.live;
     shorter = is.shorter;
     failed = is.failed;
@@ -127,7 +127,7 @@ module _ {S : Type 0} {step : Step S} {old new : MapAccessState} where
       filled field next v t none some is = rw (none, some) (part.takes s t ∙ ap (if_some (λ c. part.set s (Some c))) is)
 
       reads : (result : Result (Unit {0}) Error) → OnOk result (FillsField content convert old new field next)
-          → OnOk result ((t : Tree) × (step (part.set s (if_some content field)) name t ≡ Some (part.set s (if_some content next))) × ((from : State) (ps : Pairs) (u : List ℕ) (plain : Bool) → PairsRead from ps (Some (u, plain)) old → PairsRead from (snoc_pair ps u plain t) None new))
+          → OnOk result ((t : Tree) × (step (part.set s (if_some content field)) name t ≡ Some (part.set s (if_some content next))) × ((from : State) (ps : Pairs) (u : List ℕ) (escape_free : Bool) → PairsRead from ps (Some (u, escape_free)) old → PairsRead from (snoc_pair ps u escape_free t) None new))
       reads (Ok done) (v, none, some, (t, is, on)) = (t, filled field next v t none some is, on)
       reads (Err e) fills = tt
 
@@ -146,15 +146,15 @@ module _ {S : Type 0} {step : Step S} {old new : MapAccessState} where
   pub passes_pair : {s : S} {name : List ℕ} {result : Result (Unit {0}) Error} → Passes step name → PassesPair old new result → TakesPair step s s name old new result
   passes_pair {s = s} {name = name} {result = result} passes is = record {
     read = reads result is.read;
-    left = λ u plain t ps r m takes left. leaves result m ps r (let one : Some s ≡ Some m = sym (passes.same s t) ∙ takes in cc one) (is.left u plain t ps r tt refl left);
+    left = λ u escape_free t ps r m takes left. leaves result m ps r (let one : Some s ≡ Some m = sym (passes.same s t) ∙ takes in cc one) (is.left u escape_free t ps r tt refl left);
     live = is.live;
     shorter = is.shorter;
     failed = is.failed;
     unprompted = is.unprompted;
   }
     where
-      reads : (result : Result (Unit {0}) Error) → OnOk result ((t : Tree) × (some_unit ≡ some_unit) × ((from : State) (ps : Pairs) (u : List ℕ) (plain : Bool) → PairsRead from ps (Some (u, plain)) old → PairsRead from (snoc_pair ps u plain t) None new))
-          → OnOk result ((t : Tree) × (step s name t ≡ Some s) × ((from : State) (ps : Pairs) (u : List ℕ) (plain : Bool) → PairsRead from ps (Some (u, plain)) old → PairsRead from (snoc_pair ps u plain t) None new))
+      reads : (result : Result (Unit {0}) Error) → OnOk result ((t : Tree) × (some_unit ≡ some_unit) × ((from : State) (ps : Pairs) (u : List ℕ) (escape_free : Bool) → PairsRead from ps (Some (u, escape_free)) old → PairsRead from (snoc_pair ps u escape_free t) None new))
+          → OnOk result ((t : Tree) × (step s name t ≡ Some s) × ((from : State) (ps : Pairs) (u : List ℕ) (escape_free : Bool) → PairsRead from ps (Some (u, escape_free)) old → PairsRead from (snoc_pair ps u escape_free t) None new))
       reads (Ok done) (t, same, on) = (t, passes.same s t, on)
       reads (Err e) read = tt
 
@@ -168,14 +168,14 @@ module _ {S : Type 0} {step : Step S} {old new : MapAccessState} where
 abbrev pub BeginsAt : Option (List ℕ) → Pairs → Type 0
 BeginsAt None ps = Unit {0}
 BeginsAt (Some k) no_pair = ⊥
-BeginsAt (Some k) (pair u plain t ps) = encode_utf8_all u ≡ k
+BeginsAt (Some k) (pair u escape_free t ps) = encode_utf8_all u ≡ k
 
 -- the key that waits for its value has this name
 abbrev pub StandsFor : Option (List ℕ) → Option (List ℕ × Bool) → Type 0
 StandsFor None None = Unit {0}
 StandsFor None (Some w) = ⊥
 StandsFor (Some k) None = ⊥
-StandsFor (Some k) (Some (u, plain)) = encode_utf8_all u ≡ k
+StandsFor (Some k) (Some (u, escape_free)) = encode_utf8_all u ≡ k
 
 -- of pairs that make m of what was read these are left
 pub record StillLeft {S : Type 0} (step : Step S) (s m : S) (key : Option (List ℕ)) (r : List ℕ) (now : MapAccessState) : Type 0 where
@@ -199,28 +199,28 @@ or_text other None = other
 or_text other (Some k) = k
 
 -- one pair more
-run_snoc : {S : Type 0} (step : Step S) (s n m : S) (ps : Pairs) (u : List ℕ) (plain : Bool) (t : Tree) → run step s ps ≡ Some n → step n (encode_utf8_all u) t ≡ Some m → run step s (snoc_pair ps u plain t) ≡ Some m
-run_snoc step s n m no_pair u plain t is next = let same : s ≡ n = cc in rw (same, next) refl
-run_snoc {S} step s n m (pair v allocation_free w ps) u plain t is next = by (step s (encode_utf8_all v) w) is (λ x rest. run_snoc step x n m ps u plain t rest next)
+run_snoc : {S : Type 0} (step : Step S) (s n m : S) (ps : Pairs) (u : List ℕ) (escape_free : Bool) (t : Tree) → run step s ps ≡ Some n → step n (encode_utf8_all u) t ≡ Some m → run step s (snoc_pair ps u escape_free t) ≡ Some m
+run_snoc step s n m no_pair u escape_free t is next = let same : s ≡ n = cc in rw (same, next) refl
+run_snoc {S} step s n m (pair v allocation_free w ps) u escape_free t is next = by (step s (encode_utf8_all v) w) is (λ x rest. run_snoc step x n m ps u escape_free t rest next)
   where
-    by : (o : Option S) → if_more (λ x. run step x ps) o ≡ Some n → ((x : S) → run step x ps ≡ Some n → run step x (snoc_pair ps u plain t) ≡ Some m) → if_more (λ x. run step x (snoc_pair ps u plain t)) o ≡ Some m
+    by : (o : Option S) → if_more (λ x. run step x ps) o ≡ Some n → ((x : S) → run step x ps ≡ Some n → run step x (snoc_pair ps u escape_free t) ≡ Some m) → if_more (λ x. run step x (snoc_pair ps u escape_free t)) o ≡ Some m
     by None is others = absurd (cc)
     by (Some x) is others = others x is
 
 none_left : {S X : Type 0} (step : Step S) (content : X → List ℕ) (s z : S) (new : MapAccessState) (ps : Pairs) (r : List ℕ) → run step s ps ≡ Some z → LeavesAValue content every_text ps r new (Ok None) → (z ≡ s) × PairsLeft no_pair r new
 none_left step content s z new no_pair r are left = (cc are, left)
-none_left step content s z new (pair u plain t ps) r are left = absurd left
+none_left step content s z new (pair u escape_free t ps) r are left = absurd left
 
 -- a key that was given leaves a reader that hasn't failed
 pub live_after_key : {X C : Type 0} (content : X → C) (keys : KeyConversion C) (old new : MapAccessState) (k : X) → GivesPairKey content keys old new (Some k) → old.at.reader.failed ≡ false → new.at.reader.failed ≡ false
-live_after_key content keys old new k (u, plain, took, is, due, waits) live = ap (λ (s : State). s.failed) took.rest ∙ live
+live_after_key content keys old new k (u, escape_free, took, is, comma_due, waits) live = ap (λ (s : State). s.failed) took.rest ∙ live
 
 pub live_at_brace : {X C : Type 0} (content : X → C) (keys : KeyConversion C) (old new : MapAccessState) → GivesPairKey content keys old new None → new.at.reader.failed ≡ false
-live_at_brace content keys old new (at, due, none) = ap (λ (s : State). s.failed) at.rest ∙ at.live
+live_at_brace content keys old new (at, comma_due, none) = ap (λ (s : State). s.failed) at.rest ∙ at.live
 
 -- where no key is given the brace is next
 pub brace_next : {X C : Type 0} (content : X → C) (keys : KeyConversion C) (old new : MapAccessState) → GivesPairKey content keys old new None → (x : List ℕ) × (new.at.reader.unread ≡ right_brace ∷ x)
-brace_next content keys old new (at, due, none) = let (r, close, next) = at.close in (r, next)
+brace_next content keys old new (at, comma_due, none) = let (r, close, next) = at.close in (r, next)
 
 -- none is read yet
 pub no_pairs : {S : Type 0} (step : Step S) (s : S) (old : MapAccessState) → ReadingStruct step s old s None old
@@ -237,11 +237,11 @@ module _ {S : Type 0} {step : Step S} {start : S} {old : MapAccessState} where
   -- a key was read
   pub reads_name : {X : Type 0} (content : X → List ℕ) {s : S} {at new : MapAccessState} (k : X) → ReadingStruct step start old s None at → (at.at.reader.failed ≡ false → new.at.reader.failed ≡ false) → ReadsAKey content every_text at new (Some k)
       → ((ps : Pairs) (r : List ℕ) → PairsLeft ps r at → LeavesAValue content every_text ps r new (Ok (Some k))) → ReadingStruct step start old s (Some (content k)) new
-  reads_name content {s = s} {new = new} k m live (u, plain, is, on) fewer = record {
+  reads_name content {s = s} {new = new} k m live (u, escape_free, is, on) fewer = record {
     live = λ l. live (m.live l);
     pairs = m.pairs;
     are = m.are;
-    waits = Some (u, plain);
+    waits = Some (u, escape_free);
     named = ap (or_text (content k)) is;
     read = λ from begun. on from m.pairs (at_rest m from begun);
     left = λ ps r z are left. let w = m.left ps r z are left in by z w.pairs r w.are (fewer w.pairs r w.left);
@@ -249,7 +249,7 @@ module _ {S : Type 0} {step : Step S} {start : S} {old : MapAccessState} where
     where
       by : (z : S) (ps : Pairs) (r : List ℕ) → run step s ps ≡ Some z → LeavesAValue content every_text ps r new (Ok (Some k)) → StillLeft step s z (Some (content k)) r new
       by z no_pair r are left = absurd left
-      by z (pair u plain t ps) r are (is, left) = record { pairs = pair u plain t ps; are = are; begins = ap (or_text (content k)) is; left = left }
+      by z (pair u escape_free t ps) r are (is, left) = record { pairs = pair u escape_free t ps; are = are; begins = ap (or_text (content k)) is; left = left }
 
   -- and its value
   pub takes_pair : {name : List ℕ} {s n : S} {at new : MapAccessState} → ReadingStruct step start old s (Some name) at → TakesPair step s n name at new (Ok tt) → ReadingStruct step start old n None new
@@ -257,21 +257,21 @@ module _ {S : Type 0} {step : Step S} {start : S} {old : MapAccessState} where
     where
       by : (z : S) (ps : Pairs) (r : List ℕ) → run step s ps ≡ Some z → BeginsAt (Some name) ps → PairsLeft ps r at → StillLeft step n z None r new
       by z no_pair r are named left = absurd named
-      by z (pair u plain t ps) r are named left =
+      by z (pair u escape_free t ps) r are named left =
           let (x, is, rest) = parts (λ x. run step x ps) (step s (encode_utf8_all u) t) z are in
-          let (same, others) = one.left u plain t ps r x (sym (ap (λ w. step s w t) named) ∙ is) left in
+          let (same, others) = one.left u escape_free t ps r x (sym (ap (λ w. step s w t) named) ∙ is) left in
           record { pairs = ps; are = ap (λ y. run step y ps) (sym same) ∙ rest; begins = tt; left = others }
 
-      of : (t : Tree) → step s name t ≡ Some n → ((from : State) (ps : Pairs) (u : List ℕ) (plain : Bool) → PairsRead from ps (Some (u, plain)) at → PairsRead from (snoc_pair ps u plain t) None new)
+      of : (t : Tree) → step s name t ≡ Some n → ((from : State) (ps : Pairs) (u : List ℕ) (escape_free : Bool) → PairsRead from ps (Some (u, escape_free)) at → PairsRead from (snoc_pair ps u escape_free t) None new)
           → (waits : Option (List ℕ × Bool)) → StandsFor (Some name) waits → ((from : State) → PairsRead from no_pair None old → PairsRead from m.pairs waits at) → ReadingStruct step start old n None new
       of t takes on None named read = absurd named
-      of t takes on (Some (u, plain)) named read = record {
+      of t takes on (Some (u, escape_free)) named read = record {
         live = λ l. one.live;
-        pairs = snoc_pair m.pairs u plain t;
-        are = run_snoc step start s n m.pairs u plain t m.are (ap (λ w. step s w t) named ∙ takes);
+        pairs = snoc_pair m.pairs u escape_free t;
+        are = run_snoc step start s n m.pairs u escape_free t m.are (ap (λ w. step s w t) named ∙ takes);
         waits = None;
         named = tt;
-        read = λ from begun. on from m.pairs u plain (read from begun);
+        read = λ from begun. on from m.pairs u escape_free (read from begun);
         left = λ ps r z are left. let w = m.left ps r z are left in by z w.pairs r w.are w.begins w.left;
       }
 
@@ -306,7 +306,7 @@ module _ {S : Type 0} {step : Step S} {start : S} {old : MapAccessState} where
       where
         by : (ps : Pairs) (r : List ℕ) → LeavesAValue content every_text ps r new (Err e) → IsOutOfMemory e
         by no_pair r left = absurd left
-        by (pair u plain t ps) r left = left (encode_utf8_all u) refl
+        by (pair u escape_free t ps) r left = left (encode_utf8_all u) refl
 
     -- a value was refused
     pub pair_refuses : {name : List ℕ} {x : S} → IsErrAnd result (λ y. y ≡ e) → ReadingStruct step start old s (Some name) at → TakesPair step s x name at new (Err e) → ReadsPairs step start n old new result
@@ -314,9 +314,9 @@ module _ {S : Type 0} {step : Step S} {start : S} {old : MapAccessState} where
       where
         by : (ps : Pairs) (r : List ℕ) (z : S) → run step s ps ≡ Some z → BeginsAt (Some name) ps → PairsLeft ps r at → IsOutOfMemory e
         by no_pair r z are named left = absurd named
-        by (pair u plain t ps) r z are named left =
+        by (pair u escape_free t ps) r z are named left =
             let (y, is, rest) = parts (λ y. run step y ps) (step s (encode_utf8_all u) t) z are in
-            one.left u plain t ps r y (sym (ap (λ w. step s w t) named) ∙ is) left
+            one.left u escape_free t ps r y (sym (ap (λ w. step s w t) named) ∙ is) left
 
 -- a field that is there leaves what was read
 pub still : {S : Type 0} {step : Step S} {s n : S} {old now new : MapAccessState} {result : Result (Unit {0}) Error} → new ≡ now → ReadsPairs step s n old now result → ReadsPairs step s n old new result

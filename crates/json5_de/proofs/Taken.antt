@@ -1,11 +1,11 @@
 -- What the steps of a read amount to.
 use Rattle.std.proofs.Common.{◌≡◌, ℕ, Bool, false, List, [], ◌∷◌, ◌++◌, refl, ap, sym, ◌∙◌, subst, append_assoc, ◌⊎◌, inl, inr, Option, Some, None, arith}
 use Rattle.json5_grammar.specs.declared.code.ErrorCode.{ErrorCode}
-use Rattle.json5_grammar.specs.Codes.{after_text}
-use Rattle.json5_grammar.specs.Blanks.{Blanks, Gap}
-use Rattle.json5_grammar.specs.Positions.{position_after}
-use Rattle.json5_grammar.specs.Trees.{Tree, depth}
-use Rattle.json5_grammar.specs.Values.{Val, Stops, null_text, true_text, false_text}
+use Rattle.json5_grammar.specs.Faults.Codes.{after_text}
+use Rattle.json5_grammar.specs.Language.Blanks.{Blanks, Gap}
+use Rattle.json5_grammar.specs.Faults.Positions.{position_after}
+use Rattle.json5_grammar.specs.Language.Trees.{Tree, depth}
+use Rattle.json5_grammar.specs.Language.Values.{Val, Stops, null_text, true_text, false_text}
 use Rattle.std.specs.Prelude.{◌==◌, slice_get, if◌then◌else◌}
 use Rattle.std.specs.Option.{option_eq}
 use Rattle.json5_grammar.specs.declared.code.ErrorCode.TheVariants as codes_of

@@ -7,29 +7,28 @@ use Rattle.json5_text.specs.declared.error.Error.{Error}
 use Rattle.json5_text.specs.Errors.{code, kind_of}
 use Rattle.json5_text.specs.Cursor.{Cursor}
 use Rattle.json5_text.specs.Errors.{LacksMemory}
-use Rattle.json5_grammar.specs.Values.{null_text, true_text, false_text, Stops, is_null, is_number}
+use Rattle.json5_grammar.specs.Language.Values.{null_text, true_text, false_text, Stops, is_null, is_number}
 use Rattle.json5_de.specs.State.{State, GivesUp}
 use Rattle.json5_text.specs.Cursor.{Refused}
 use Rattle.json5_text.specs.Tokens.{FaultyBlanks, FaultyNumber, FaultyString}
-use Rattle.json5_grammar.specs.Strings.{Str}
+use Rattle.json5_grammar.specs.Language.Strings.{Str}
 use Rattle.json5_de.specs.State.{cursor_of}
 use Rattle.json5_de.specs.ReaderSteps.{PassedGap, TookText, IsMismatch, IsMismatchOf, WholeAt}
 use Rattle.json5_de.specs.TokenCalls.{PassesWord}
 use Rattle.json5_de.specs.Law.{Gives, CompletesFree, StaysFailed, Unprompted}
-use Rattle.json5_grammar.specs.Numbers.{Number, whole, decimal, Num}
-use Rattle.json5_grammar.specs.Trees.{Tree, null, boolean, number, text, array, object}
-use Rattle.json5_de.specs.Convert.{as_whole, as_number, every_decimal, as_text, if_plain, digits_bytes}
+use Rattle.json5_grammar.specs.Language.Numbers.{Number, whole, decimal, Num, lengthens}
+use Rattle.json5_grammar.specs.Language.Trees.{Tree, null, boolean, number, text, array, object}
+use Rattle.json5_de.specs.Convert.{as_whole, as_number, every_decimal, as_text, if_escape_free, digits_bytes}
 use Rattle.json5_de.specs.Faults.{FaultRelation, AfterBlanks, in_blanks, after_gap, RefusedBy, RefusedByOrMemory, NotNumber, faulty_number, other_number, faulty_text, begins_with}
-use Rattle.json5_de.specs.TokenKinds.{Kind, RefusedWith, ReadsAs, ReadsNull, EndsWhere, DiffersWhere, TellsApart, every_tree, no_tree, plain_text, null_kind, bool_kind, whole_kind, decimal_kind, coded_text_kind, text_kind, plain_kind, bytes_kind}
+use Rattle.json5_de.specs.TokenKinds.{Kind, RefusedWith, ReadsAs, ReadsNull, EndsWhere, DiffersWhere, TellsApart, every_tree, no_tree, escape_free_text, null_kind, bool_kind, whole_kind, decimal_kind, coded_text_kind, text_kind, escape_free_kind, bytes_kind}
 use Rattle.json5_de.proofs.Expected.{Expected, wrongly_refused, completes_or_memory, ends_from, ends_or_memory, differs_from, differs_or_memory}
 use Rattle.json5_de.proofs.Expects.{expects_null, expects_bool}
 use Rattle.json5_de.proofs.ExpectsNumbers.{expects_number}
 use Rattle.json5_de.proofs.ExpectsTexts.{expects_text}
 use Rattle.json5_de.proofs.Taken.{input_of, refused_blanks, refused_token, took_leaf, refused_or_memory, null_stops}
 use Rattle.json5_de.proofs.Mismatches.{StartsAt, refused_number, refused_text}
-use Rattle.json5_de.proofs.WithoutMemory.{whole_there, no_other_number, plain_there, no_other_text}
-use Rattle.json5_grammar.specs.Characters.{NotBegun}
-use Rattle.json5_grammar.specs.Stops.{lengthens}
+use Rattle.json5_de.proofs.WithoutMemory.{whole_there, no_other_number, escape_free_there, no_other_text}
+use Rattle.json5_grammar.specs.Language.Characters.{NotBegun}
 use Rattle.json5_text.specs.NumberViews.{keeps_digits}
 use Rattle.std.proofs.lemmas.Bool.{false≢true}
 use Rattle.json5_de.proofs.OtherCodes.{after_lacks, number_lacks, text_lacks}
@@ -192,7 +191,7 @@ narrower {C = C} f wide content old new e k =
     some_whole (number n) v e = some_number n v e
     some_whole null v e = absurd (cc)
     some_whole (boolean b) v e = absurd (cc)
-    some_whole (text u plain) v e = absurd (cc)
+    some_whole (text u escape_free) v e = absurd (cc)
     some_whole (array ts) v e = absurd (cc)
     some_whole (object ps) v e = absurd (cc)
 
@@ -241,41 +240,41 @@ reads_text f allocation_free content old mid new (Err e) p gives k failed comple
     reads_err (lawful_text f allocation_free) content old new e complete (refused_or_memory old mid e (λ x reason place g. faulty_text g) p k) (given_up old mid new p failed) (λ h. true_false h p.live)
 
 -- it isn't of the type
-pub not_coded : {V C : Type 0} (other : Option ErrorCode) → other ≢ Some codes.Failed → (f : List ℕ → Bool → Option C) (allocation_free : Tree → Bool) (content : V → C) (old mid new last : State) (result : Result V Error) (start : ℕ) (s u : List ℕ) (plain : Bool)
-    → PassedGap old mid → TookText mid s new → Str s u plain → f u plain ≡ None → StartsAt mid start → IsErrAnd result (IsMismatchOf other new.input start) → GivesUp new last → ReadsAs (coded_text_kind other f allocation_free) content old last result
-not_coded other h f allocation_free content old mid new last (Ok v) start s u plain p k str none at is failed = absurd is
-not_coded other h f allocation_free content old mid new last (Err e) start s u plain p k str none at is failed =
+pub not_coded : {V C : Type 0} (other : Option ErrorCode) → other ≢ Some codes.Failed → (f : List ℕ → Bool → Option C) (allocation_free : Tree → Bool) (content : V → C) (old mid new last : State) (result : Result V Error) (start : ℕ) (s u : List ℕ) (escape_free : Bool)
+    → PassedGap old mid → TookText mid s new → Str s u escape_free → f u escape_free ≡ None → StartsAt mid start → IsErrAnd result (IsMismatchOf other new.input start) → GivesUp new last → ReadsAs (coded_text_kind other f allocation_free) content old last result
+not_coded other h f allocation_free content old mid new last (Ok v) start s u escape_free p k str none at is failed = absurd is
+not_coded other h f allocation_free content old mid new last (Err e) start s u escape_free p k str none at is failed =
     reads_err (lawful_coded other h f allocation_free) content old last e
-    (λ t r v live reads shallow converts allocation_free. absurd (no_other_text f old mid new s u plain t r v p k str none reads converts))
-    (refused_text {V = Unit {0}} other f old mid new (Err e) start s u plain p k str none at is)
+    (λ t r v live reads shallow converts allocation_free. absurd (no_other_text f old mid new s u escape_free t r v p k str none reads converts))
+    (refused_text {V = Unit {0}} other f old mid new (Err e) start s u escape_free p k str none at is)
     (given_up_after old mid new last s p k failed)
     (λ h. true_false h p.live)
 
-pub not_text : {V C : Type 0} (f : List ℕ → Bool → Option C) (allocation_free : Tree → Bool) (content : V → C) (old mid new last : State) (result : Result V Error) (start : ℕ) (s u : List ℕ) (plain : Bool) → PassedGap old mid → TookText mid s new → Str s u plain
-    → f u plain ≡ None → StartsAt mid start → IsErrAnd result (IsMismatch new.input start) → GivesUp new last → ReadsAs (text_kind f allocation_free) content old last result
+pub not_text : {V C : Type 0} (f : List ℕ → Bool → Option C) (allocation_free : Tree → Bool) (content : V → C) (old mid new last : State) (result : Result V Error) (start : ℕ) (s u : List ℕ) (escape_free : Bool) → PassedGap old mid → TookText mid s new → Str s u escape_free
+    → f u escape_free ≡ None → StartsAt mid start → IsErrAnd result (IsMismatch new.input start) → GivesUp new last → ReadsAs (text_kind f allocation_free) content old last result
 not_text = not_coded None (λ e. absurd (cc))
 
-plain_converts : (t : Tree) → plain_text t ≡ true → (v : List ℕ) × (as_text if_plain t ≡ Some v)
-plain_converts null e = absurd (cc)
-plain_converts (boolean b) e = absurd (cc)
-plain_converts (number n) e = absurd (cc)
-plain_converts (text u true) e = (_, refl)
-plain_converts (text u false) e = absurd (cc)
-plain_converts (array ts) e = absurd (cc)
-plain_converts (object ps) e = absurd (cc)
+escape_free_converts : (t : Tree) → escape_free_text t ≡ true → (v : List ℕ) × (as_text if_escape_free t ≡ Some v)
+escape_free_converts null e = absurd (cc)
+escape_free_converts (boolean b) e = absurd (cc)
+escape_free_converts (number n) e = absurd (cc)
+escape_free_converts (text u true) e = (_, refl)
+escape_free_converts (text u false) e = absurd (cc)
+escape_free_converts (array ts) e = absurd (cc)
+escape_free_converts (object ps) e = absurd (cc)
 
--- a plain text takes no memory
-pub plain_completes : {V C : Type 0} (convert : Tree → Option C) (old mid : State) (result : Result V Error) → PassedGap old mid → ((s u r : List ℕ) → mid.unread ≡ s ++ r → Str s u true → IsOk result) → CompletesFree plain_text convert old result
-plain_completes convert old mid result p ok t r c live reads shallow is allocation_free =
-    let (v, converts) = plain_converts t allocation_free in
-    let k = plain_there old mid t r v p reads converts in
+-- an escape-free text takes no memory
+pub escape_free_completes : {V C : Type 0} (convert : Tree → Option C) (old mid : State) (result : Result V Error) → PassedGap old mid → ((s u r : List ℕ) → mid.unread ≡ s ++ r → Str s u true → IsOk result) → CompletesFree escape_free_text convert old result
+escape_free_completes convert old mid result p ok t r c live reads shallow is allocation_free =
+    let (v, converts) = escape_free_converts t allocation_free in
+    let k = escape_free_there old mid t r v p reads converts in
     ok k.string k.text r k.split k.is_string
 
-pub plain_refused : {V : Type 0} (content : V → List ℕ) (old mid new : State) (e : Error) → PassedGap old mid → LacksMemory e ⊎ Refused FaultyString (cursor_of mid) e → GivesUp mid new → ((s u r : List ℕ) → mid.unread ≡ s ++ r → Str s u true → false ≡ true)
-    → ReadsAs plain_kind content old new (Err e)
-plain_refused content old mid new e p k failed ok =
-    reads_text if_plain every_tree content old mid new (Err e) p tt k failed
-    (λ t r v live reads shallow is allocation_free. let k = plain_there old mid t r v p reads is in absurd (false≢true (ok k.string k.text r k.split k.is_string)))
+pub escape_free_refused : {V : Type 0} (content : V → List ℕ) (old mid new : State) (e : Error) → PassedGap old mid → LacksMemory e ⊎ Refused FaultyString (cursor_of mid) e → GivesUp mid new → ((s u r : List ℕ) → mid.unread ≡ s ++ r → Str s u true → false ≡ true)
+    → ReadsAs escape_free_kind content old new (Err e)
+escape_free_refused content old mid new e p k failed ok =
+    reads_text if_escape_free every_tree content old mid new (Err e) p tt k failed
+    (λ t r v live reads shallow is allocation_free. let k = escape_free_there old mid t r v p reads is in absurd (false≢true (ok k.string k.text r k.split k.is_string)))
 
 -- ---- values of any kind
 

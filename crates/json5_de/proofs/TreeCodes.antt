@@ -4,12 +4,12 @@ use Rattle.std.specs.Prelude.{nat_le, if◌then◌else◌, Result, Ok, Err, IfOk
 use Rattle.std.proofs.lemmas.Bool.Decides.{nat_tests}
 use Rattle.json5_grammar.specs.declared.code.ErrorCode.{ErrorCode}
 use Rattle.json5_grammar.specs.declared.code.ErrorCode.TheVariants as codes
-use Rattle.json5_grammar.specs.Documents.{max_depth}
+use Rattle.json5_grammar.specs.Language.Documents.{max_depth}
 use Rattle.json5_grammar.specs.Faults.{begins_value}
-use Rattle.json5_grammar.specs.Reading.{Read, Place, here, inner, got, bad, IsAt}
-use Rattle.json5_grammar.specs.ReadValues.{read}
-use Rattle.json5_grammar.specs.Trees.{Tree, depth}
-use Rattle.json5_grammar.specs.Values.{Val, Stops}
+use Rattle.json5_grammar.specs.Model.Reading.{Read, Place, here, inner, got, bad, IsAt}
+use Rattle.json5_grammar.specs.Model.ReadValues.{read}
+use Rattle.json5_grammar.specs.Language.Trees.{Tree, depth}
+use Rattle.json5_grammar.specs.Language.Values.{Val, Stops}
 use Rattle.json5_grammar.proofs.ValueHeads.{val_head}
 use Rattle.json5_grammar.proofs.ValuesRead.{read_complete}
 use Rattle.json5_grammar.proofs.ValueSteps.{read_missing, read_nothing}

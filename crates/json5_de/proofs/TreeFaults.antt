@@ -1,11 +1,11 @@
 -- What reading on lists refuses a value with is its fault, and the other way round.
 use Rattle.std.proofs.Common.{◌≡◌, ℕ, ◌-◌, List, ◌++◌, refl, ap, sym, ◌∙◌, subst, inl, inr, Option, Some, None}
-use Rattle.json5_grammar.specs.Blanks.{Gap, Solid}
+use Rattle.json5_grammar.specs.Language.Blanks.{Gap, Solid}
 use Rattle.json5_grammar.specs.declared.code.ErrorCode.{ErrorCode}
-use Rattle.json5_grammar.specs.Documents.{max_depth}
-use Rattle.json5_grammar.specs.Reading.{Read, Place, here, inner, got, bad, and_then, IsAt}
-use Rattle.json5_grammar.specs.ReadBlanks.{skip, between}
-use Rattle.json5_grammar.specs.ReadValues.{read}
+use Rattle.json5_grammar.specs.Language.Documents.{max_depth}
+use Rattle.json5_grammar.specs.Model.Reading.{Read, Place, here, inner, got, bad, and_then, IsAt}
+use Rattle.json5_grammar.specs.Model.ReadBlanks.{skip, between}
+use Rattle.json5_grammar.specs.Model.ReadValues.{read}
 use Rattle.json5_grammar.proofs.Basics.{at_after}
 use Rattle.json5_grammar.proofs.BlanksSound.{BlanksSound, skip_sound, blank_refused, gap_read}
 use Rattle.json5_grammar.proofs.Found.{IsIn}

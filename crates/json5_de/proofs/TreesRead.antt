@@ -4,16 +4,16 @@ use Rattle.std.specs.Prelude.{Result, Ok, Err}
 use Rattle.std.proofs.lemmas.Bool.{false≢true}
 use Rattle.std.proofs.lemmas.List.{append_cancel_right}
 use Rattle.json5_grammar.specs.declared.code.ErrorCode.{ErrorCode}
-use Rattle.json5_grammar.specs.Documents.{max_depth}
-use Rattle.json5_grammar.specs.Positions.{position_after}
-use Rattle.json5_grammar.specs.Reading.{Read, Place, here, inner, got, bad}
-use Rattle.json5_grammar.specs.ReadSteps.{forget}
-use Rattle.json5_grammar.specs.ReadValues.{read}
-use Rattle.json5_grammar.specs.Trees.{Tree, depth}
-use Rattle.json5_grammar.specs.Values.{Reads}
+use Rattle.json5_grammar.specs.Language.Documents.{max_depth}
+use Rattle.json5_grammar.specs.Faults.Positions.{position_after}
+use Rattle.json5_grammar.specs.Model.Reading.{Read, Place, here, inner, got, bad}
+use Rattle.json5_grammar.specs.Model.ReadSteps.{forget}
+use Rattle.json5_grammar.specs.Model.ReadValues.{read}
+use Rattle.json5_grammar.specs.Language.Trees.{Tree, depth}
+use Rattle.json5_grammar.specs.Language.Values.{Reads}
 use Rattle.json5_grammar.proofs.Basics.{true_false}
 use Rattle.json5_grammar.proofs.Found.{IsIn}
-use Rattle.json5_grammar.proofs.MembersRead.{phrase_found}
+use Rattle.json5_grammar.proofs.CollectionsRead.{phrase_found}
 use Rattle.json5_grammar.proofs.ValuesRead.{read_complete}
 use Rattle.json5_grammar.proofs.ValuesSound.{read_sound, read_place}
 use Rattle.json5_text.specs.declared.error.Error.{Error}

@@ -1,9 +1,9 @@
 -- The content of a variant, with its closing brace.
 use Rattle.std.proofs.Common.{◌≡◌, ℕ, ◌≤◌, ◌+◌, Bool, true, false, List, refl, ap, sym, ◌∙◌, subst, Option, Some, None, Result, Ok, Err}
-use Rattle.json5_grammar.specs.Documents.{max_depth}
-use Rattle.json5_grammar.specs.Trees.{Tree, text, object, pair, no_pair, depth}
-use Rattle.json5_grammar.specs.Values.{Reads}
-use Rattle.json5_grammar.specs.Members.{IsBrace}
+use Rattle.json5_grammar.specs.Language.Documents.{max_depth}
+use Rattle.json5_grammar.specs.Language.Trees.{Tree, text, object, pair, no_pair, depth}
+use Rattle.json5_grammar.specs.Language.Values.{Reads}
+use Rattle.json5_grammar.specs.Model.Collections.{IsBrace}
 use Rattle.json5_grammar.proofs.Basics.{true_false}
 use Rattle.json5_grammar.proofs.Unique.{one_phrase}
 use Rattle.json5_text.specs.declared.error.Error.{Error}
@@ -65,8 +65,8 @@ module _ {V C : Type 0} (content : V → C) (convert : Tree → Option C) (alloc
     variant_read (Ok v) has k = record {
       read = λ names from n.
           let (t, after, took, closed, is) = k.sound in
-          let at = subst (λ b. AfterName b from n.name n.plain old.reader) has n.after in
-          (object (pair n.name n.plain t no_pair), Some t, whole_variant from old.reader after new n.name n.plain t at took closed, ap (if_some (λ i. (i, Some t))) n.place, same_convert t ∙ is);
+          let at = subst (λ b. AfterName b from n.name n.escape_free old.reader) has n.after in
+          (object (pair n.name n.escape_free t no_pair), Some t, whole_variant from old.reader after new n.name n.escape_free t at took closed, ap (if_some (λ i. (i, Some t))) n.place, same_convert t ∙ is);
       left = λ c r d l is.
           let (u, z, some, reads, close, deep) = one_content c r has l in
           let (t, after, took, closed, given) = k.sound in
@@ -112,8 +112,8 @@ module _ {V C : Type 0} (content : V → C) (convert : Tree → Option C) (alloc
 pub text_is_unit : (allocation_free : Option Tree → Bool) (refuses : State → Error → State → Type 0) (old : EnumAccessState) (new : State) → old.has_content ≡ false → new ≡ old.reader → ReadsVariant {V = Unit {0}} (λ v. tt) unit_content allocation_free refuses old new (Ok tt)
 text_is_unit allocation_free refuses old new none same = record {
   read = λ names from n.
-      let took = subst (λ s. TookValue from (text n.name n.plain) s) (sym same) (subst (λ b. AfterName b from n.name n.plain old.reader) none n.after) in
-      (text n.name n.plain, None, took, ap (if_some (λ i. (i, None))) n.place, refl);
+      let took = subst (λ s. TookValue from (text n.name n.escape_free) s) (sym same) (subst (λ b. AfterName b from n.name n.escape_free old.reader) none n.after) in
+      (text n.name n.escape_free, None, took, ap (if_some (λ i. (i, None))) n.place, refl);
   left = λ c r d l is. refl;
   no_memory = λ c r d l is f. refl;
   refused = tt;

@@ -1,9 +1,9 @@
 -- The content of a variant that is read through an access: how it is opened and closed.
 use Rattle.std.proofs.Common.{◌≡◌, ℕ, Bool, true, false, refl, sym, ◌∙◌, subst, Some, None, Result, Ok, Err}
-use Rattle.json5_grammar.specs.Trees.{array, object, no_pair}
-use Rattle.json5_grammar.specs.Members.{IsBrace}
+use Rattle.json5_grammar.specs.Language.Trees.{array, object, no_pair}
+use Rattle.json5_grammar.specs.Model.Collections.{IsBrace}
 use Rattle.json5_grammar.proofs.Basics.{true_false}
-use Rattle.json5_grammar.proofs.MembersPassed.{one_end}
+use Rattle.json5_grammar.proofs.CollectionsPassed.{one_end}
 use Rattle.json5_text.specs.declared.error.Error.{Error}
 use Rattle.json5_value.specs.Places.{StartsAfter, PlacedAt}
 use Rattle.json5_de.specs.State.{State, GivesUp}
@@ -26,47 +26,47 @@ use Rattle.json5_de.proofs.VariantNames.{whole_variant}
 -- ---- closing
 
 -- the own bracket alone
-pub array_closed : (old : AccessState) (new : State) (result : Result (Unit {0}) Error) → ClosesLast square old.due old.reader new result → ClosesArray old new result
+pub array_closed : (old : AccessState) (new : State) (result : Result (Unit {0}) Error) → ClosesLast square old.comma_due old.reader new result → ClosesArray old new result
 array_closed old new (Ok tt) k = closes_array old new k.closes.closed
 array_closed old new (Err e) k = refuses_end old new e (record { failed = k.failed; same_text = k.same_text }) k.closes
 
-pub object_closed : (old : MapAccessState) (new : State) (result : Result (Unit {0}) Error) → ClosesLast curly old.at.due old.at.reader new result → ClosesMap old new result
+pub object_closed : (old : MapAccessState) (new : State) (result : Result (Unit {0}) Error) → ClosesLast curly old.at.comma_due old.at.reader new result → ClosesMap old new result
 object_closed old new (Ok tt) k = closes_map old new k.closes.closed
 object_closed old new (Err e) k = refuses_map_end old new e (record { failed = k.failed; same_text = k.same_text }) k.closes
 
 -- the variant's brace too
-pub tuple_closed : (brace : ℕ) (old : AccessState) (new : State) (result : Result (Unit {0}) Error) → ClosesContent square old.due brace old.reader new result → ClosesTuple brace old new result
+pub tuple_closed : (brace : ℕ) (old : AccessState) (new : State) (result : Result (Unit {0}) Error) → ClosesContent square old.comma_due brace old.reader new result → ClosesTuple brace old new result
 tuple_closed brace old new (Ok tt) k = record {
   bracket = k;
-  read = λ from content u plain ts at e. let (after, one, two) = k.closed in whole_variant from content after new u plain (array ts) at (elements.all_read content old after ts one e) two;
+  read = λ from content u escape_free ts at e. let (after, one, two) = k.closed in whole_variant from content after new u escape_free (array ts) at (elements.all_read content old after ts one e) two;
   left = λ x r l close. refl;
 }
 tuple_closed brace old new (Err e) k = record { bracket = k; read = tt; left = λ x r l close. k.complete x r l.live l.tail close }
 
-pub struct_closed : (brace : ℕ) (old : MapAccessState) (new : State) (result : Result (Unit {0}) Error) → ClosesContent curly old.at.due brace old.at.reader new result → ClosesStruct brace old new result
+pub struct_closed : (brace : ℕ) (old : MapAccessState) (new : State) (result : Result (Unit {0}) Error) → ClosesContent curly old.at.comma_due brace old.at.reader new result → ClosesStruct brace old new result
 struct_closed brace old new (Ok tt) k = record {
   bracket = k;
-  read = λ from content u plain ps at e. let (after, one, two) = k.closed in whole_variant from content after new u plain (object ps) at (pairs.all_read content old after ps one e) two;
+  read = λ from content u escape_free ps at e. let (after, one, two) = k.closed in whole_variant from content after new u escape_free (object ps) at (pairs.all_read content old after ps one e) two;
   left = λ x r none l close. refl;
 }
-struct_closed brace old new (Err e) k = record { bracket = k; read = tt; left = λ x r none l close. k.complete x r l.live (subst (λ p. LeftAfter p no_pair old.at.due old.at.reader.unread x) none l.tail) close }
+struct_closed brace old new (Err e) k = record { bracket = k; read = tt; left = λ x r none l close. k.complete x r l.live (subst (λ p. LeftAfter p no_pair old.at.comma_due old.at.reader.unread x) none l.tail) close }
 
 -- at the end of an access
-pub array_ends : (old : AccessState) (new : State) (result : Result (Unit {0}) Error) → ClosesLast square old.due old.reader new result → EndsArray None old new result
+pub array_ends : (old : AccessState) (new : State) (result : Result (Unit {0}) Error) → ClosesLast square old.comma_due old.reader new result → EndsArray None old new result
 array_ends old new result k = record { alone = λ none. array_closed old new result k; in_variant = λ start some. absurd (cc) }
 
-pub tuple_ends : (brace : ℕ) (old : AccessState) (new : State) (result : Result (Unit {0}) Error) → ClosesContent square old.due brace old.reader new result → EndsArray (Some brace) old new result
+pub tuple_ends : (brace : ℕ) (old : AccessState) (new : State) (result : Result (Unit {0}) Error) → ClosesContent square old.comma_due brace old.reader new result → EndsArray (Some brace) old new result
 tuple_ends brace old new result k = record { alone = λ none. absurd (cc); in_variant = λ start some. let same : brace ≡ start = cc in subst (λ b. ClosesTuple b old new result) same (tuple_closed brace old new result k) }
 
-pub object_ends : (old : MapAccessState) (new : State) (result : Result (Unit {0}) Error) → ClosesLast curly old.at.due old.at.reader new result → EndsObject None old new result
+pub object_ends : (old : MapAccessState) (new : State) (result : Result (Unit {0}) Error) → ClosesLast curly old.at.comma_due old.at.reader new result → EndsObject None old new result
 object_ends old new result k = record { alone = λ none. object_closed old new result k; in_variant = λ start some. absurd (cc) }
 
-pub struct_ends : (brace : ℕ) (old : MapAccessState) (new : State) (result : Result (Unit {0}) Error) → ClosesContent curly old.at.due brace old.at.reader new result → EndsObject (Some brace) old new result
+pub struct_ends : (brace : ℕ) (old : MapAccessState) (new : State) (result : Result (Unit {0}) Error) → ClosesContent curly old.at.comma_due brace old.at.reader new result → EndsObject (Some brace) old new result
 struct_ends brace old new result k = record { alone = λ none. absurd (cc); in_variant = λ start some. let same : brace ≡ start = cc in subst (λ b. ClosesStruct b old new result) same (struct_closed brace old new result k) }
 
-module _ (b : Brackets) (signs : AreSigns b) (due : Bool) (brace : ℕ) (old : State) where
+module _ (b : Brackets) (signs : AreSigns b) (comma_due : Bool) (brace : ℕ) (old : State) where
   -- the own bracket isn't there
-  pub content_not_ended : (new : State) (own e : Error) → ClosesLast b due old new (Err own) → PlacedAt (StartsAfter new.input brace) own e → ClosesContent b due brace old new (Err e)
+  pub content_not_ended : (new : State) (own e : Error) → ClosesLast b comma_due old new (Err own) → PlacedAt (StartsAfter new.input brace) own e → ClosesContent b comma_due brace old new (Err e)
   content_not_ended new own e k placed = record {
     closed = tt;
     complete = λ x r live end close. let ok = k.closes.complete x live end in absurd (cc);
@@ -77,7 +77,7 @@ module _ (b : Brackets) (signs : AreSigns b) (due : Bool) (brace : ℕ) (old : S
   }
 
   -- it is, and then the variant's brace or not
-  pub content_ended : (mid new : State) (result : Result (Unit {0}) Error) → ClosesLast b due old mid (Ok tt) → ClosesLast curly true mid new result → ClosesContent b due brace old new result
+  pub content_ended : (mid new : State) (result : Result (Unit {0}) Error) → ClosesLast b comma_due old mid (Ok tt) → ClosesLast curly true mid new result → ClosesContent b comma_due brace old new result
   content_ended mid new (Ok tt) k m = record {
     closed = (mid, k.closes.closed, m.closes.closed);
     complete = λ x r live end close. refl;
@@ -92,7 +92,7 @@ module _ (b : Brackets) (signs : AreSigns b) (due : Bool) (brace : ℕ) (old : S
       record {
         closed = tt;
         complete = λ x r alive end close.
-            let same = one_end b.closing signs.closing signs.no_comma due old.unread x mid.unread end closed.close in
+            let same = one_end b.closing signs.closing signs.no_comma comma_due old.unread x mid.unread end closed.close in
             let ok = m.closes.complete r live (subst (λ z. IsBrace true z r) same close) in
             absurd (cc);
         refused = brace_open mid closed m.closes.refused;
@@ -130,13 +130,13 @@ module _ (b : Brackets) (old : EnumAccessState) where
 -- seen in another way
 pub tuple_opened : {A : Type 0} (see : ℕ → AccessState) (state_of : A → AccessState) (old : EnumAccessState) (start : ℕ) (a : A) → see start ≡ state_of a → OpensContent square see old (Ok start) → OpensTuple state_of old (Ok a)
 tuple_opened see state_of old start a same k =
-    let (opened, due) = subst (λ (s : AccessState). Opened square old.reader s.reader × (s.due ≡ false)) same k.opened in
+    let (opened, comma_due) = subst (λ (s : AccessState). Opened square old.reader s.reader × (s.comma_due ≡ false)) same k.opened in
     let start_known = subst (IsStart square old.reader.input) same k.start in
     record {
-      content = record { has_content = k.has_content; opened = (opened, due); start = start_known; complete = λ r h live sign room. refl; refused = tt; unprompted = tt };
+      content = record { has_content = k.has_content; opened = (opened, comma_due); start = start_known; complete = λ r h live sign room. refl; refused = tt; unprompted = tt };
       same_text = input_of opened.rest;
-      read = elements.opened_read old.reader (state_of a) due opened;
-      left = λ ts r h live reads shallow. elements.opened_left old.reader (state_of a) ts r due opened reads shallow;
+      read = elements.opened_read old.reader (state_of a) comma_due opened;
+      left = λ ts r h live reads shallow. elements.opened_left old.reader (state_of a) ts r comma_due opened reads shallow;
     }
 
 pub tuple_not_opened : {A : Type 0} (see : ℕ → AccessState) (state_of : A → AccessState) (old : EnumAccessState) (e : Error) → OpensContent square see old (Err e) → OpensTuple state_of old (Err e)
@@ -149,14 +149,14 @@ tuple_not_opened see state_of old e k = record {
 
 pub struct_opened : {A : Type 0} (see : ℕ → AccessState) (state_of : A → MapAccessState) (old : EnumAccessState) (start : ℕ) (a : A) → see start ≡ (state_of a).at → (state_of a).pending ≡ false → OpensContent curly see old (Ok start) → OpensStruct state_of old (Ok a)
 struct_opened see state_of old start a same none k =
-    let (opened, due) = subst (λ (s : AccessState). Opened curly old.reader s.reader × (s.due ≡ false)) same k.opened in
+    let (opened, comma_due) = subst (λ (s : AccessState). Opened curly old.reader s.reader × (s.comma_due ≡ false)) same k.opened in
     let start_known = subst (IsStart curly old.reader.input) same k.start in
     record {
-      content = record { has_content = k.has_content; opened = (opened, due); start = start_known; complete = λ r h live sign room. refl; refused = tt; unprompted = tt };
+      content = record { has_content = k.has_content; opened = (opened, comma_due); start = start_known; complete = λ r h live sign room. refl; refused = tt; unprompted = tt };
       no_key = none;
       same_text = input_of opened.rest;
-      read = pairs.opened_read old.reader (state_of a) due none opened;
-      left = λ ps r h live reads shallow. pairs.opened_left old.reader (state_of a) ps r due none opened reads shallow;
+      read = pairs.opened_read old.reader (state_of a) comma_due none opened;
+      left = λ ps r h live reads shallow. pairs.opened_left old.reader (state_of a) ps r comma_due none opened reads shallow;
     }
 
 pub struct_not_opened : {A : Type 0} (see : ℕ → AccessState) (state_of : A → MapAccessState) (old : EnumAccessState) (e : Error) → OpensContent curly see old (Err e) → OpensStruct state_of old (Err e)

@@ -5,20 +5,20 @@ use Rattle.std.specs.Str.{encode_utf8_all}
 use Rattle.std.proofs.lemmas.Bool.{or_left, or_right}
 use Rattle.json5_grammar.specs.declared.code.ErrorCode.{ErrorCode}
 use Rattle.json5_grammar.specs.declared.code.ErrorCode.TheVariants as codes
-use Rattle.json5_grammar.specs.Characters.{NotBegun}
-use Rattle.json5_grammar.specs.Blanks.{Blanks, Gap, Solid}
-use Rattle.json5_grammar.specs.Documents.{max_depth}
-use Rattle.json5_grammar.specs.Strings.{is_quote, quoted}
-use Rattle.json5_grammar.specs.Trees.{Tree, Pairs, null, boolean, number, text, array, object, pair, no_pair, depth}
-use Rattle.json5_grammar.specs.Values.{Val, Reads, is_null, is_true, is_false, is_number, is_text, is_empty_array, is_array, is_empty_object, is_object}
-use Rattle.json5_grammar.specs.Members.{IsSign, IsKey, IsKeyValue, IsBrace}
+use Rattle.json5_grammar.specs.Language.Characters.{NotBegun}
+use Rattle.json5_grammar.specs.Language.Blanks.{Blanks, Gap, Solid}
+use Rattle.json5_grammar.specs.Language.Documents.{max_depth}
+use Rattle.json5_grammar.specs.Language.Strings.{is_quote, quoted}
+use Rattle.json5_grammar.specs.Language.Trees.{Tree, Pairs, null, boolean, number, text, array, object, pair, no_pair, depth}
+use Rattle.json5_grammar.specs.Language.Values.{Val, Reads, is_null, is_true, is_false, is_number, is_text, is_empty_array, is_array, is_empty_object, is_object}
+use Rattle.json5_grammar.specs.Model.Collections.{IsSign, IsKey, IsKeyValue, IsBrace}
 use Rattle.json5_grammar.proofs.Basics.{first_same, true_false}
 use Rattle.json5_grammar.proofs.BlanksSound.{gap_before}
 use Rattle.json5_grammar.proofs.ValueHeads.{val_head, value_solid}
-use Rattle.json5_grammar.proofs.MembersRead.{sign_found, phrase_found}
-use Rattle.json5_grammar.proofs.MembersNowhere.{reads_here}
-use Rattle.json5_grammar.proofs.MembersPassed.{same_sign}
-use Rattle.json5_grammar.proofs.MembersPairs.{opening_brace_solid, colon_solid, one_opening_brace, one_key, one_reads_key, object_front}
+use Rattle.json5_grammar.proofs.CollectionsRead.{sign_found, phrase_found}
+use Rattle.json5_grammar.proofs.CollectionsNowhere.{reads_here}
+use Rattle.json5_grammar.proofs.CollectionsPassed.{same_sign}
+use Rattle.json5_grammar.proofs.CollectionsPairs.{opening_brace_solid, colon_solid, one_opening_brace, one_key, one_reads_key, object_front}
 use Rattle.json5_grammar.proofs.Unique.{one_phrase}
 use Rattle.json5_text.specs.declared.error.Error.{Error}
 use Rattle.json5_text.specs.Cursor.{Refused, IsOutOfMemory}
@@ -55,13 +55,13 @@ use Rattle.json5_de.proofs.FoundKeys.{no_fault_before}
 
 -- a text begins with a quote, an object with its brace
 pub data VariantAt (c : ℕ) : Tree → Type 0 where
-  at_text : (u : List ℕ) (plain : Bool) → is_quote c ≡ true → VariantAt c (text u plain)
-  at_object : (u : List ℕ) (plain : Bool) (t : Tree) → c ≡ 123 → VariantAt c (object (pair u plain t no_pair))
+  at_text : (u : List ℕ) (escape_free : Bool) → is_quote c ≡ true → VariantAt c (text u escape_free)
+  at_object : (u : List ℕ) (escape_free : Bool) (t : Tree) → c ≡ 123 → VariantAt c (object (pair u escape_free t no_pair))
 
 object_at : (c : ℕ) (names : List (List ℕ)) (x : ℕ × Option Tree) (ps : Pairs) → c ≡ 123 → named_variant names (object ps) ≡ Some x → VariantAt c (object ps)
 object_at c names x no_pair at e = absurd (cc)
-object_at c names x (pair u plain t no_pair) at e = at_object u plain t at
-object_at c names x (pair u plain t (pair v other s ps)) at e = absurd (cc)
+object_at c names x (pair u escape_free t no_pair) at e = at_object u escape_free t at
+object_at c names x (pair u escape_free t (pair v other s ps)) at e = absurd (cc)
 
 variant_at : {s : List ℕ} {t : Tree} (names : List (List ℕ)) (x : ℕ × Option Tree) → Val s t → named_variant names t ≡ Some x → (c : ℕ) × (y : List ℕ) × (s ≡ c ∷ y) × VariantAt c t
 variant_at names x is_null e = absurd (cc)
@@ -82,8 +82,8 @@ variant_next names x y c m r t solid next reads e =
     subst (λ k. VariantAt k t) (first_same d c (z ++ r) m whole) at
 
 pub begins_variant_at : (c : ℕ) (t : Tree) → VariantAt c t → begins_variant c ≡ true
-begins_variant_at c t (at_text u plain h) = or_left (is_quote c) (c == 123) h
-begins_variant_at c t (at_object u plain w e) = rw e refl
+begins_variant_at c t (at_text u escape_free h) = or_left (is_quote c) (c == 123) h
+begins_variant_at c t (at_object u escape_free w e) = rw e refl
 
 -- ---- the name was read
 
@@ -100,7 +100,7 @@ at_content_left : (names : List (List ℕ)) (from now : State) (u v r : List ℕ
 at_content_left names from now u v r p q w at reads =
     let (y, opens, (f, z, key, value, close)) = object_front from.unread r (pair v q w no_pair) reads in
     let e = at.key in
-    let (due, here) = e.passed in
+    let (comma_due, here) = e.passed in
     let inside : e.inside ≡ y = one_opening_brace from.unread e.inside y e.bracket opens in
     let first : IsKey false y u p at.keyed.unread = subst (λ k. IsKey false k u p at.keyed.unread) (sym here ∙ inside) e.here in
     let (same, mark, left) = one_key false y at.keyed.unread f u v p q first key in
@@ -120,10 +120,10 @@ inside_text from now u p at = input_of at.colon.rest ∙ input_of at.key.rest
 module _ (names : List (List ℕ)) (from : State) (s : EnumAccessState) (n : NameRead names from s) (t : Tree) (r : List ℕ) (k : ℕ) (c : Option Tree) (reads : Reads from.unread t r) (shallow : from.level + depth t ≤ max_depth)
     (is : named_variant names t ≡ Some (k, c)) where
   -- a text was read
-  text_left : s.has_content ≡ false → TookValue from (text n.name n.plain) s.reader → (s.variant ≡ k) × ContentLeft c r s
+  text_left : s.has_content ≡ false → TookValue from (text n.name n.escape_free) s.reader → (s.variant ≡ k) × ContentLeft c r s
   text_left none took =
-      let (same, here) = one_phrase from.unread s.reader.unread r (text n.name n.plain) t took.reads reads in
-      let (place, empty) = named_as (index_of names n.name n.plain) s.variant k None c n.place (ap (named_variant names) same ∙ is) in
+      let (same, here) = one_phrase from.unread s.reader.unread r (text n.name n.escape_free) t took.reads reads in
+      let (place, empty) = named_as (index_of names n.name n.escape_free) s.variant k None c n.place (ap (named_variant names) same ∙ is) in
       let level = same_level from s.reader took.rest in
       let high = took.shallow in (
         place,
@@ -136,7 +136,7 @@ module _ (names : List (List ℕ)) (from : State) (s : EnumAccessState) (n : Nam
       )
 
   -- a key was read
-  keyed_left : s.has_content ≡ true → AtContent from n.name n.plain s.reader → (s.variant ≡ k) × ContentLeft c r s
+  keyed_left : s.has_content ≡ true → AtContent from n.name n.escape_free s.reader → (s.variant ≡ k) × ContentLeft c r s
   keyed_left some at =
       let (d, y, first, there) = variant_at names (k, c) reads.value is in
       let brace : reads.phrase ++ r ≡ 123 ∷ at.key.inside =
@@ -151,14 +151,14 @@ module _ (names : List (List ℕ)) (from : State) (s : EnumAccessState) (n : Nam
       by (array ts) d next there reads shallow is = absurd (cc)
       by (object no_pair) d next there reads shallow is = absurd (cc)
       by (object (pair u p w (pair v o x ps))) d next there reads shallow is = absurd (cc)
-      by (text u plain) d next (at_text _ _ h) reads shallow is = absurd (true_false h (ap is_quote next))
-      by (object (pair u plain w no_pair)) d next (at_object _ _ _ e) reads shallow is =
-          let (same, mark, z, there, close) = at_content_left names from s.reader n.name u r n.plain plain w at reads in
-          let (place, whole) = named_as (index_of names u plain) s.variant k (Some w) c (subst (λ v. index_of names v plain ≡ Some s.variant) same (subst (λ p. index_of names n.name p ≡ Some s.variant) mark n.place)) is in
-          let level = inside_deep from s.reader n.name n.plain at in (
+      by (text u escape_free) d next (at_text _ _ h) reads shallow is = absurd (true_false h (ap is_quote next))
+      by (object (pair u escape_free w no_pair)) d next (at_object _ _ _ e) reads shallow is =
+          let (same, mark, z, there, close) = at_content_left names from s.reader n.name u r n.escape_free escape_free w at reads in
+          let (place, whole) = named_as (index_of names u escape_free) s.variant k (Some w) c (subst (λ v. index_of names v escape_free ≡ Some s.variant) same (subst (λ p. index_of names n.name p ≡ Some s.variant) mark n.place)) is in
+          let level = inside_deep from s.reader n.name n.escape_free at in (
             place,
             record {
-              live = inside_live from s.reader n.name n.plain at;
+              live = inside_live from s.reader n.name n.escape_free at;
               content = some ∙ ap is_some whole;
               shallow = subst (λ d. s.reader.level + content_depth d ≤ max_depth) whole (omega (arith, level, shallow));
               tail = subst (λ d. ContentTail d s.reader.unread r) whole (z, there, close);
@@ -168,14 +168,14 @@ module _ (names : List (List ℕ)) (from : State) (s : EnumAccessState) (n : Nam
   pub content_left : (s.variant ≡ k) × ContentLeft c r s
   content_left = by s.has_content refl n.after
     where
-      by : (b : Bool) → s.has_content ≡ b → AfterName b from n.name n.plain s.reader → (s.variant ≡ k) × ContentLeft c r s
+      by : (b : Bool) → s.has_content ≡ b → AfterName b from n.name n.escape_free s.reader → (s.variant ≡ k) × ContentLeft c r s
       by false is took = text_left is took
       by true is at = keyed_left is at
 
 -- the reader after the name reads the same text
-same_text_after : (b : Bool) (from now : State) (u : List ℕ) (plain : Bool) → AfterName b from u plain now → SameText from now
-same_text_after false from now u plain took = input_of took.rest
-same_text_after true from now u plain at = inside_text from now u plain at
+same_text_after : (b : Bool) (from now : State) (u : List ℕ) (escape_free : Bool) → AfterName b from u escape_free now → SameText from now
+same_text_after false from now u escape_free took = input_of took.rest
+same_text_after true from now u escape_free at = inside_text from now u escape_free at
 
 -- ---- what is refused where one is named
 
@@ -226,7 +226,7 @@ module _ {A : Type 0} (names : List (List ℕ)) (state_of : A → EnumAccessStat
     ends = λ at. absurd (next_no_end begins_variant old start next at);
     differs = λ w o. absurd (next_no_other begins_variant old start w next o);
     unprompted = tt;
-    same_text = same_text_after (state_of a).has_content old (state_of a).reader n.name n.plain n.after;
+    same_text = same_text_after (state_of a).has_content old (state_of a).reader n.name n.escape_free n.after;
     before = λ h. absurd (true_false h next.passed.live);
   }
 
@@ -278,24 +278,24 @@ took_key_after old mid last u p passed took = record {
 -- ---- an object, to its colon and to its end
 
 -- the object was opened, and its key and the colon were read
-pub at_content : (old inside keyed now : State) (u : List ℕ) (plain : Bool) → PairsRead old no_pair None (bare_map inside false false) → TookKey inside u plain keyed → AfterColon keyed now → AtContent old u plain now
-at_content old inside keyed now u plain read took colon = record {
+pub at_content : (old inside keyed now : State) (u : List ℕ) (escape_free : Bool) → PairsRead old no_pair None (bare_map inside false false) → TookKey inside u escape_free keyed → AfterColon keyed now → AtContent old u escape_free now
+at_content old inside keyed now u escape_free read took colon = record {
   keyed = keyed;
-  key = key_read old (bare_map inside false false) (bare_map keyed false true) no_pair u plain (record { live = took.live; key = took.reads; rest = took.rest }) refl refl read;
+  key = key_read old (bare_map inside false false) (bare_map keyed false true) no_pair u escape_free (record { live = took.live; key = took.reads; rest = took.rest }) refl refl read;
   colon = colon;
 }
 
 -- it begins before the gap
-pub content_after : (old mid now : State) (u : List ℕ) (plain : Bool) → PassedGap old mid → AtContent mid u plain now → AtContent old u plain now
-content_after old mid now u plain p at = record { keyed = at.keyed; key = from_gap; colon = at.colon }
+pub content_after : (old mid now : State) (u : List ℕ) (escape_free : Bool) → PassedGap old mid → AtContent mid u escape_free now → AtContent old u escape_free now
+content_after old mid now u escape_free p at = record { keyed = at.keyed; key = from_gap; colon = at.colon }
   where
-    e : PairsRead mid no_pair (Some (u, plain)) (bare_map at.keyed false true)
+    e : PairsRead mid no_pair (Some (u, escape_free)) (bare_map at.keyed false true)
     e = at.key
 
     next : mid.unread ≡ 123 ∷ e.inside
     next = sign_found 123 mid.unread [] mid.unread e.inside opening_brace_solid refl (Gap.blanks Blanks.empty) p.solid e.bracket
 
-    from_gap : PairsRead old no_pair (Some (u, plain)) (bare_map at.keyed false true)
+    from_gap : PairsRead old no_pair (Some (u, escape_free)) (bare_map at.keyed false true)
     from_gap = record {
       live = p.live;
       shallow = let level = level_of p.rest in let deep = e.shallow in omega (arith, level, deep);
@@ -309,10 +309,10 @@ content_after old mid now u plain p at = record { keyed = at.keyed; key = from_g
     }
 
 -- the whole object, once its value and the closing brace were read
-pub whole_variant : (from now after new : State) (u : List ℕ) (plain : Bool) (t : Tree) → AtContent from u plain now → TookValue now t after → Closed curly true after new → TookValue from (object (pair u plain t no_pair)) new
-whole_variant from now after new u plain t at took closed =
-    all_read from (bare_map after true false) new (pair u plain t no_pair) closed
-    (pair_read from (bare_map at.keyed false true) (bare_map after true false) no_pair u plain t (value_read at.keyed now after t at.colon took) refl refl at.key)
+pub whole_variant : (from now after new : State) (u : List ℕ) (escape_free : Bool) (t : Tree) → AtContent from u escape_free now → TookValue now t after → Closed curly true after new → TookValue from (object (pair u escape_free t no_pair)) new
+whole_variant from now after new u escape_free t at took closed =
+    all_read from (bare_map after true false) new (pair u escape_free t no_pair) closed
+    (pair_read from (bare_map at.keyed false true) (bare_map after true false) no_pair u escape_free t (value_read at.keyed now after t at.colon took) refl refl at.key)
 
 -- ---- the only key, step by step
 
@@ -321,7 +321,7 @@ module _ (names : List (List ℕ)) (old mid : State) where
   pub no_key_begun_faulty : (e : Error) → (old.failed ≡ false → Refused FaultyBlanks (cursor_of old) e) → GivesUp old mid → Unprompted {V = Unit {0}} old (Err e) → ReadsOnlyKey names old mid (Err e)
   no_key_begun_faulty e f failed other = record {
     sound = tt;
-    complete = λ u x r plain t k live key value is. absurd (no_fault_before old e u plain x key (f live));
+    complete = λ u x r escape_free t k live key value is. absurd (no_fault_before old e u escape_free x key (f live));
     refused = λ live. no_only_key (refused_blanks old e f);
     unprompted = other;
     failed = failed;
@@ -331,7 +331,7 @@ module _ (names : List (List ℕ)) (old mid : State) where
   pub no_key_begun_other : (new : State) (e : Error) → PassedGap old mid → NotBegun begins_key mid.unread → Refused (Unexpected codes.EofParsingObject codes.ExpectedIdentifier) (cursor_of mid) e → new ≡ record mid { failed = true } → ReadsOnlyKey names old new (Err e)
   no_key_begun_other new e p n f state = record {
     sound = tt;
-    complete = λ u x r plain t k live key value is. absurd (no_key_begun mid.unread x u plain p.solid n (pair_key_found false old.unread mid.unread x u plain (after_gap_of old mid p) key));
+    complete = λ u x r escape_free t k live key value is. absurd (no_key_begun mid.unread x u escape_free p.solid n (pair_key_found false old.unread mid.unread x u escape_free (after_gap_of old mid p) key));
     refused = λ live. no_only_key by;
     unprompted = refused_other keyed_lacks old e by;
     failed = given_up old mid new p (gives_up mid new state);
@@ -344,7 +344,7 @@ module _ (names : List (List ℕ)) (old mid : State) where
   pub key_refused : (new : State) (e : Error) → PassedGap old mid → BeginsKey mid.unread → ReadsKeyAs {V = ℕ} (variant_key names) (λ n. n) mid new (Err e) → ReadsOnlyKey names old new (Err e)
   key_refused new e p b k = record {
     sound = tt;
-    complete = λ u x r plain t i live key value is. k.complete u plain x i (failed_of p.rest ∙ live) (pair_key_found false old.unread mid.unread x u plain (after_gap_of old mid p) key) is;
+    complete = λ u x r escape_free t i live key value is. k.complete u escape_free x i (failed_of p.rest ∙ live) (pair_key_found false old.unread mid.unread x u escape_free (after_gap_of old mid p) key) is;
     refused = λ live. other_key mid (record { passed = p; first = record { char = b.char; more = b.more; split = b.split; is_first = b.is_first } }) k.refused;
     unprompted = λ live. k.unprompted (failed_of p.rest ∙ live);
     failed = given_up old mid new p (record { failed = k.failed; same_text = k.same_text });
@@ -354,21 +354,21 @@ module _ (names : List (List ℕ)) (old mid : State) where
     -- no colon follows it
     pub colon_refused : (e : Error) → RefusedBy NoColon keyed e → ((t : Tree) (r : List ℕ) → keyed.failed ≡ false → IsKeyValue keyed.unread t r → IsOk {T = Unit {0}} {E = Error} (Err e)) → GivesUp keyed new → Unprompted {V = Unit {0}} keyed (Err e)
         → ReadsOnlyKey names old new (Err e)
-    colon_refused e f complete failed other = let (u, plain, took, is) = given in record {
+    colon_refused e f complete failed other = let (u, escape_free, took, is) = given in record {
       sound = tt;
       complete = λ v x r q t i live key value at.
-          let (same, mark, here) = one_reads_key mid.unread keyed.unread x u v plain q took.reads (pair_key_found false old.unread mid.unread x v q (after_gap_of old mid p) key) in
+          let (same, mark, here) = one_reads_key mid.unread keyed.unread x u v escape_free q took.reads (pair_key_found false old.unread mid.unread x v q (after_gap_of old mid p) key) in
           let ok = complete t r (failed_of took.rest ∙ took.live) (subst (λ z. IsKeyValue z t r) (sym here) value) in
           absurd (cc);
-      refused = λ live. not_followed u plain keyed (took_key_after old mid keyed u plain p took) f;
+      refused = λ live. not_followed u escape_free keyed (took_key_after old mid keyed u escape_free p took) f;
       unprompted = λ live. other (failed_of took.rest ∙ took.live);
       failed = given_up old mid new p (record { failed = failed.failed; same_text = failed.same_text ∙ input_of took.rest });
     }
 
     -- both were read
     pub only_key_read : AfterColon keyed new → ReadsOnlyKey names old new (Ok k)
-    only_key_read colon = let (u, plain, took, is) = given in record {
-      sound = (u, plain, keyed, took_key_after old mid keyed u plain p took, colon, is);
+    only_key_read colon = let (u, escape_free, took, is) = given in record {
+      sound = (u, escape_free, keyed, took_key_after old mid keyed u escape_free p took, colon, is);
       complete = λ v x r q t i live key value at. tt;
       refused = tt;
       unprompted = tt;
@@ -380,24 +380,24 @@ module _ (names : List (List ℕ)) (old mid : State) where
 pub not_opened_keyed : {A : Type 0} (names : List (List ℕ)) (see : A → AccessState) (old new : State) (e : Error) → OpensAs curly see old (Err e) → GivesUp old new → ReadsKeyed names old new (Err e)
 not_opened_keyed names see old new e o failed = record {
   sound = tt;
-  complete = λ u r plain t k live reads shallow is. absurd ((refuses_map {Held = λ m. Unit {0}} see (λ (m : MapAccessState). m) old e o).left (pair u plain t no_pair) r live reads shallow);
+  complete = λ u r escape_free t k live reads shallow is. absurd ((refuses_map {Held = λ m. Unit {0}} see (λ (m : MapAccessState). m) old e o).left (pair u escape_free t no_pair) r live reads shallow);
   refused = inl o.refused;
   unprompted = o.unprompted;
   failed = failed;
 }
 
-pub only_key_refused : (names : List (List ℕ)) (old inside new : State) (start : ℕ) → OpensAs curly (λ (n : ℕ). record { reader = inside; start = n; due = false }) old (Ok start) → (own e : Error) → ReadsOnlyKey names inside new (Err own)
+pub only_key_refused : (names : List (List ℕ)) (old inside new : State) (start : ℕ) → OpensAs curly (λ (n : ℕ). record { reader = inside; start = n; comma_due = false }) old (Ok start) → (own e : Error) → ReadsOnlyKey names inside new (Err own)
     → PlacedAt (StartsAfter new.input start) own e → ReadsKeyed names old new (Err e)
 only_key_refused names old inside new start o own e k placed =
-    let (opened, due) = o.opened in
+    let (opened, comma_due) = o.opened in
     let live = failed_of opened.rest ∙ opened.live in
     record {
       sound = tt;
-      complete = λ u r plain t i alive reads shallow is.
-          let map = opens_map {Held = λ m. Unit {0}} (λ (n : ℕ). record { reader = inside; start = n; due = false }) (λ (m : MapAccessState). m) old start (record { at = record { reader = inside; start = start; due = false }; pending = false }) tt refl refl o in
-          let left = map.left (pair u plain t no_pair) r alive reads shallow in
+      complete = λ u r escape_free t i alive reads shallow is.
+          let map = opens_map {Held = λ m. Unit {0}} (λ (n : ℕ). record { reader = inside; start = n; comma_due = false }) (λ (m : MapAccessState). m) old start (record { at = record { reader = inside; start = start; comma_due = false }; pending = false }) tt refl refl o in
+          let left = map.left (pair u escape_free t no_pair) r alive reads shallow in
           let (y, z, key, value, close) = left.tail in
-          placed.kind ∙ k.complete u y z plain t i left.live key value is;
+          placed.kind ∙ k.complete u y z escape_free t i left.live key value is;
       refused = inr (record {
         inside = inside;
         opened = opened;
@@ -420,8 +420,8 @@ place_named : (o : Option ℕ) (k : ℕ) (b c : Option Tree) → if_some {B = �
 place_named None k b c e = absurd (cc)
 place_named (Some i) k b c e = ap Some (same_pair (i, b) (k, c) e).0
 
-a_text : (names : List (List ℕ)) (t : Tree) (k : ℕ) → as_text (index_of names) t ≡ Some k → (u : List ℕ) × (plain : Bool) × (t ≡ text u plain) × (index_of names u plain ≡ Some k)
-a_text names (text u plain) k e = (u, plain, refl, e)
+a_text : (names : List (List ℕ)) (t : Tree) (k : ℕ) → as_text (index_of names) t ≡ Some k → (u : List ℕ) × (escape_free : Bool) × (t ≡ text u escape_free) × (index_of names u escape_free ≡ Some k)
+a_text names (text u escape_free) k e = (u, escape_free, refl, e)
 a_text names null k e = absurd (cc)
 a_text names (boolean b) k e = absurd (cc)
 a_text names (number n) k e = absurd (cc)
@@ -439,12 +439,12 @@ module _ (names : List (List ℕ)) (old mid : State) (p : PassedGap old mid) (st
   pub text_named : {A : Type 0} (state_of : A → EnumAccessState) (new : State) (a : A) (k : ℕ) → Begins is_quote mid.unread → state_of a ≡ record { reader = new; start = start; variant = k; has_content = false } → ReadsAs {V = ℕ} (variant_kind names) (λ n. n) mid new (Ok k) → NamesVariant names state_of old (Ok a)
   text_named state_of new a k h same reads =
       let (t, took, is) = reads.sound in
-      let (u, plain, one, place) = a_text names t k is in
+      let (u, escape_free, one, place) = a_text names t k is in
       names_read names state_of old a mid (quote_next p h) (subst (NameRead names old) (sym same) (record {
         name = u;
-        plain = plain;
+        escape_free = escape_free;
         place = place;
-        after = took_after old mid new (text u plain) p (subst (λ z. TookValue mid z new) one took);
+        after = took_after old mid new (text u escape_free) p (subst (λ z. TookValue mid z new) one took);
         between = mid;
         passed = p;
         counted = counted;
@@ -456,24 +456,24 @@ module _ (names : List (List ℕ)) (old mid : State) (p : PassedGap old mid) (st
       (λ t r i d reads shallow is. by t r i d (variant_next names (i, d) mid.unread h.char h.more r t p.solid h.split reads is) reads shallow is)
     where
       by : (t : Tree) (r : List ℕ) (i : ℕ) (d : Option Tree) → VariantAt h.char t → Reads mid.unread t r → mid.level + depth t ≤ max_depth → named_variant names t ≡ Some (i, d) → IsOutOfMemory e
-      by (text u plain) r i d (at_text _ _ q) reads shallow is = k.complete (text u plain) r i (failed_of p.rest ∙ p.live) reads shallow (place_named (index_of names u plain) i None d is)
-      by (object (pair u plain w no_pair)) r i d (at_object _ _ _ q) reads shallow is = absurd (true_false h.is_first (ap is_quote q))
+      by (text u escape_free) r i d (at_text _ _ q) reads shallow is = k.complete (text u escape_free) r i (failed_of p.rest ∙ p.live) reads shallow (place_named (index_of names u escape_free) i None d is)
+      by (object (pair u escape_free w no_pair)) r i d (at_object _ _ _ q) reads shallow is = absurd (true_false h.is_first (ap is_quote q))
       by null r i d at reads shallow is = absurd (cc)
       by (boolean b) r i d at reads shallow is = absurd (cc)
       by (number n) r i d at reads shallow is = absurd (cc)
       by (array ts) r i d at reads shallow is = absurd (cc)
       by (object no_pair) r i d at reads shallow is = absurd (cc)
-      by (object (pair u plain w (pair v o x ps))) r i d at reads shallow is = absurd (cc)
+      by (object (pair u escape_free w (pair v o x ps))) r i d at reads shallow is = absurd (cc)
 
   -- an object
   pub object_named : {A : Type 0} (state_of : A → EnumAccessState) (new : State) (a : A) (k : ℕ) → Begins is_left_brace mid.unread → state_of a ≡ record { reader = new; start = start; variant = k; has_content = true } → ReadsKeyed names mid new (Ok k) → NamesVariant names state_of old (Ok a)
   object_named state_of new a k h same reads =
-      let (u, plain, at, place) = reads.sound in
+      let (u, escape_free, at, place) = reads.sound in
       names_read names state_of old a mid (brace_next p h) (subst (NameRead names old) (sym same) (record {
         name = u;
-        plain = plain;
+        escape_free = escape_free;
         place = place;
-        after = content_after old mid new u plain p at;
+        after = content_after old mid new u escape_free p at;
         between = mid;
         passed = p;
         counted = counted;
@@ -489,17 +489,17 @@ module _ (names : List (List ℕ)) (old mid : State) (p : PassedGap old mid) (st
       cause (inr f) = in_object mid (record { passed = p; first = h }) f
 
       by : (t : Tree) (r : List ℕ) (i : ℕ) (d : Option Tree) → VariantAt h.char t → Reads mid.unread t r → mid.level + depth t ≤ max_depth → named_variant names t ≡ Some (i, d) → IsOutOfMemory e
-      by (text u plain) r i d (at_text _ _ q) reads shallow is = absurd (no_quote_brace h.char q h.is_first)
+      by (text u escape_free) r i d (at_text _ _ q) reads shallow is = absurd (no_quote_brace h.char q h.is_first)
         where
           no_quote_brace : (x : ℕ) → is_quote x ≡ true → is_left_brace x ≡ true → ⊥
           no_quote_brace x a b = grind arith
-      by (object (pair u plain w no_pair)) r i d (at_object _ _ _ q) reads shallow is = k.complete u r plain w i (failed_of p.rest ∙ p.live) reads shallow (place_named (index_of names u plain) i (Some w) d is)
+      by (object (pair u escape_free w no_pair)) r i d (at_object _ _ _ q) reads shallow is = k.complete u r escape_free w i (failed_of p.rest ∙ p.live) reads shallow (place_named (index_of names u escape_free) i (Some w) d is)
       by null r i d at reads shallow is = absurd (cc)
       by (boolean b) r i d at reads shallow is = absurd (cc)
       by (number n) r i d at reads shallow is = absurd (cc)
       by (array ts) r i d at reads shallow is = absurd (cc)
       by (object no_pair) r i d at reads shallow is = absurd (cc)
-      by (object (pair u plain w (pair v o x ps))) r i d at reads shallow is = absurd (cc)
+      by (object (pair u escape_free w (pair v o x ps))) r i d at reads shallow is = absurd (cc)
 
 neither : (x : List ℕ) → NotBegun is_quote x → NotBegun is_left_brace x → NotBegun begins_variant x
 neither [] a b = tt
@@ -538,6 +538,6 @@ named_seen names see state_of old a b same n = record {
 pub lent_name : (names : List (List ℕ)) (old : State) (s : EnumAccessState) (lent : State) → NameRead names old s → lent ≡ record s.reader { failed = true } → s ≡ record s { reader = record lent { failed = false } }
 lent_name names old s lent n is = ap (λ (r : State). record s { reader = r }) (ap (λ b. record s.reader { failed = b }) (live s.has_content n.after) ∙ ap (λ (r : State). record r { failed = false }) (sym is))
   where
-    live : (b : Bool) → AfterName b old n.name n.plain s.reader → s.reader.failed ≡ false
+    live : (b : Bool) → AfterName b old n.name n.escape_free s.reader → s.reader.failed ≡ false
     live false took = still_live old s.reader took.live took.rest
-    live true at = inside_live old s.reader n.name n.plain at
+    live true at = inside_live old s.reader n.name n.escape_free at

@@ -4,8 +4,8 @@ use Rattle.std.specs.Prelude.{◌==◌, ℤ, pos, negsuc, nat_abs, ◌+ℤ◌}
 use Rattle.std.specs.Fmt.{decimal}
 use Rattle.std.proofs.lemmas.Fmt.{decimal_by_steps_wide, length-decimal-le_wide}
 use Rattle.std.proofs.lemmas.Int.{ints}
-use Rattle.json5_grammar.specs.Characters.{is_digit, Each, no_char, char}
-use Rattle.json5_grammar.specs.Numbers.{without_front_zeros, without_zeros, is_empty, normal_exponent, InExponents, InWhole}
+use Rattle.json5_grammar.specs.Language.Characters.{is_digit, Each, no_char, char}
+use Rattle.json5_grammar.specs.Language.Numbers.{without_front_zeros, without_zeros, is_empty, normal_exponent, InExponents, InWhole}
 use Rattle.json5_grammar.proofs.Basics.{by_test}
 use Rattle.json5_grammar.proofs.NumberTests.{Each-append}
 use Rattle.json5_grammar.proofs.WholesWritten.{glyph_digit}

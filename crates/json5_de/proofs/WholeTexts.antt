@@ -2,13 +2,13 @@
 use Rattle.std.proofs.Common.{◌≡◌, ℕ, ◌≤◌, Bool, List, [], ◌∷◌, ◌++◌, refl, ap, ◌∙◌, subst, arith, ◌⊎◌, inl, inr, Option, Some}
 use Rattle.std.proofs.lemmas.List.{append-nil}
 use Rattle.json5_grammar.specs.declared.code.ErrorCode.{ErrorCode}
-use Rattle.json5_grammar.specs.Blanks.{Gap}
-use Rattle.json5_grammar.specs.Documents.{Doc, max_depth}
-use Rattle.json5_grammar.specs.Reading.{Read, got, bad, and_then}
-use Rattle.json5_grammar.specs.ReadBlanks.{skip, between}
-use Rattle.json5_grammar.specs.ReadValues.{at_end, document, read}
-use Rattle.json5_grammar.specs.Trees.{Tree, depth}
-use Rattle.json5_grammar.specs.Values.{Val}
+use Rattle.json5_grammar.specs.Language.Blanks.{Gap}
+use Rattle.json5_grammar.specs.Language.Documents.{Doc, max_depth}
+use Rattle.json5_grammar.specs.Model.Reading.{Read, got, bad, and_then}
+use Rattle.json5_grammar.specs.Model.ReadBlanks.{skip, between}
+use Rattle.json5_grammar.specs.Model.ReadValues.{at_end, document, read}
+use Rattle.json5_grammar.specs.Language.Trees.{Tree, depth}
+use Rattle.json5_grammar.specs.Language.Values.{Val}
 use Rattle.json5_grammar.proofs.BlanksRead.{skip_blanks, skip_last}
 use Rattle.json5_grammar.proofs.BlanksSound.{gap_end}
 use Rattle.json5_grammar.proofs.Found.{found}
@@ -69,30 +69,30 @@ document_sound x t r e =
 -- ---- what a text converts to
 
 -- a document whose tree converts
-pub converts : {C : Type 0} (convert : Tree → Option C) (u : List ℕ) (plain : Bool) (t : Tree) (c : C) → Doc max_depth u t → convert t ≡ Some c → document_of convert u plain ≡ Some c
-converts convert u plain t c doc is = ap (converted convert) (document_read u t doc) ∙ is
+pub converts : {C : Type 0} (convert : Tree → Option C) (u : List ℕ) (escape_free : Bool) (t : Tree) (c : C) → Doc max_depth u t → convert t ≡ Some c → document_of convert u escape_free ≡ Some c
+converts convert u escape_free t c doc is = ap (converted convert) (document_read u t doc) ∙ is
 
 -- what converts is such a document
-pub is_document : {C : Type 0} (convert : Tree → Option C) (u : List ℕ) (plain : Bool) (c : C) → document_of convert u plain ≡ Some c → (t : Tree) × Doc max_depth u t × (convert t ≡ Some c)
-is_document {C = C} convert u plain c e = by_answer (document max_depth u) refl e
+pub is_document : {C : Type 0} (convert : Tree → Option C) (u : List ℕ) (escape_free : Bool) (c : C) → document_of convert u escape_free ≡ Some c → (t : Tree) × Doc max_depth u t × (convert t ≡ Some c)
+is_document {C = C} convert u escape_free c e = by_answer (document max_depth u) refl e
   where
     by_answer : (m : Read Tree) → document max_depth u ≡ m → converted convert m ≡ Some c → (t : Tree) × Doc max_depth u t × (convert t ≡ Some c)
     by_answer (got t r) k is = (t, document_sound u t r k, is)
     by_answer (bad d p) k is = absurd (cc)
 
 pub converts_documents : {C : Type 0} (convert : Tree → Option C) → ConvertsDocuments convert
-converts_documents convert u plain c = (is_document convert u plain c, λ (t, doc, is). converts convert u plain t c doc is)
+converts_documents convert u escape_free c = (is_document convert u escape_free c, λ (t, doc, is). converts convert u escape_free t c doc is)
 
 -- ---- why a text is refused
 
 -- memory ran out, or the fault has this code
 abbrev pub IsRefusedText : {C : Type 0} → Kind C → List ℕ → Bool → Error → Type 0
-IsRefusedText kind u plain e = LacksMemory e ⊎ ((reason : Option ErrorCode) × NotDocument kind u plain reason × Says reason e)
+IsRefusedText kind u escape_free e = LacksMemory e ⊎ ((reason : Option ErrorCode) × NotDocument kind u escape_free reason × Says reason e)
 
-from_refused : {C : Type 0} (kind : Kind C) (u : List ℕ) (plain : Bool) (e : Error) → RefusedByOrMemory kind.IsFault (at_start max_depth u) e → IsRefusedText kind u plain e
-from_refused kind u plain e (inl m) = inl m
-from_refused kind u plain e (inr k) = let f = k refl in inr (f.reason, no_value f.fault, f.says)
+from_refused : {C : Type 0} (kind : Kind C) (u : List ℕ) (escape_free : Bool) (e : Error) → RefusedByOrMemory kind.IsFault (at_start max_depth u) e → IsRefusedText kind u escape_free e
+from_refused kind u escape_free e (inl m) = inl m
+from_refused kind u escape_free e (inr k) = let f = k refl in inr (f.reason, no_value f.fault, f.says)
 
-pub refused_text : {C : Type 0} (kind : Kind C) (u : List ℕ) (plain : Bool) (e : Error) → RefusesReading kind.convert (RefusedAs kind) max_depth u e → IsRefusedText kind u plain e
-refused_text kind u plain e (in_value new k) = from_refused kind u plain e (or_memory_as kind.may_lack_memory (at_start max_depth u) e k)
-refused_text kind u plain e (after_value t c new took is k) = let f = k (failed_of took.rest) in inr (f.reason, more_follows took.reads (let shallow = took.shallow in omega (arith, shallow)) is f.fault, f.says)
+pub refused_text : {C : Type 0} (kind : Kind C) (u : List ℕ) (escape_free : Bool) (e : Error) → RefusesReading kind.convert (RefusedAs kind) max_depth u e → IsRefusedText kind u escape_free e
+refused_text kind u escape_free e (in_value new k) = from_refused kind u escape_free e (or_memory_as kind.may_lack_memory (at_start max_depth u) e k)
+refused_text kind u escape_free e (after_value t c new took is k) = let f = k (failed_of took.rest) in inr (f.reason, more_follows took.reads (let shallow = took.shallow in omega (arith, shallow)) is f.fault, f.says)

@@ -1,16 +1,16 @@
--- What stands after the blanks where a whole number or a plain text can be read.
+-- What stands after the blanks where a whole number or an escape-free text can be read.
 use Rattle.std.proofs.Common.{◌≡◌, ℕ, Bool, true, false, List, ◌++◌, refl, ap, sym, ◌∙◌, subst, Option, Some, None, ℤ}
-use Rattle.json5_grammar.specs.Blanks.{Gap}
-use Rattle.json5_grammar.specs.Numbers.{Number, whole, decimal, Num}
-use Rattle.json5_grammar.specs.Strings.{Str}
-use Rattle.json5_grammar.specs.Trees.{Tree}
-use Rattle.json5_grammar.specs.Values.{Stops, Reads}
+use Rattle.json5_grammar.specs.Language.Blanks.{Gap}
+use Rattle.json5_grammar.specs.Language.Numbers.{Number, whole, decimal, Num}
+use Rattle.json5_grammar.specs.Language.Strings.{Str}
+use Rattle.json5_grammar.specs.Language.Trees.{Tree}
+use Rattle.json5_grammar.specs.Language.Values.{Stops, Reads}
 use Rattle.json5_grammar.proofs.BlanksSound.{one_gap}
 use Rattle.json5_grammar.proofs.NumbersUnique.{one_number}
 use Rattle.json5_grammar.proofs.StringsRead.{one_string}
 use Rattle.json5_grammar.proofs.ValueHeads.{val_head, value_solid}
 use Rattle.json5_text.specs.NumberViews.{keeps_digits}
-use Rattle.json5_de.specs.Convert.{as_number, as_whole, as_text, if_plain}
+use Rattle.json5_de.specs.Convert.{as_number, as_whole, as_text, if_escape_free}
 use Rattle.json5_de.specs.State.{State}
 use Rattle.json5_de.specs.ReaderSteps.{PassedGap, TookText}
 use Rattle.json5_de.proofs.ExpectsNumbers.{number_phrase}
@@ -51,25 +51,25 @@ no_other_number f old mid new s n t r v p k num stops none h is =
 -- ---- texts
 
 -- a string without an escape
-pub record PlainThere (x r : List ℕ) : Type 0 where
+pub record EscapeFreeThere (x r : List ℕ) : Type 0 where
   pub string : List ℕ
   pub text : List ℕ
   pub split : x ≡ string ++ r
   pub is_string : Str string text true
 
-is_plain : (u : List ℕ) (plain : Bool) (v : List ℕ) → if_plain u plain ≡ Some v → plain ≡ true
-is_plain u true v e = refl
-is_plain u false v e = absurd (cc)
+is_escape_free : (u : List ℕ) (escape_free : Bool) (v : List ℕ) → if_escape_free u escape_free ≡ Some v → escape_free ≡ true
+is_escape_free u true v e = refl
+is_escape_free u false v e = absurd (cc)
 
-pub plain_there : (old mid : State) (t : Tree) (r v : List ℕ) → PassedGap old mid → Reads old.unread t r → as_text if_plain t ≡ Some v → PlainThere mid.unread r
-plain_there old mid t r v p h is =
-    let (u, plain, str, e) = text_phrase if_plain v is h.value in
-    record { string = h.phrase; text = u; split = phrase_after old mid t r p h; is_string = subst (Str h.phrase u) (is_plain u plain v e) str }
+pub escape_free_there : (old mid : State) (t : Tree) (r v : List ℕ) → PassedGap old mid → Reads old.unread t r → as_text if_escape_free t ≡ Some v → EscapeFreeThere mid.unread r
+escape_free_there old mid t r v p h is =
+    let (u, escape_free, str, e) = text_phrase if_escape_free v is h.value in
+    record { string = h.phrase; text = u; split = phrase_after old mid t r p h; is_string = subst (Str h.phrase u) (is_escape_free u escape_free v e) str }
 
 -- a text that isn't of the type isn't one that is
-pub no_other_text : {C : Type 0} (f : List ℕ → Bool → Option C) (old mid new : State) (s u : List ℕ) (plain : Bool) (t : Tree) (r : List ℕ) (v : C) → PassedGap old mid → TookText mid s new → Str s u plain → f u plain ≡ None → Reads old.unread t r
+pub no_other_text : {C : Type 0} (f : List ℕ → Bool → Option C) (old mid new : State) (s u : List ℕ) (escape_free : Bool) (t : Tree) (r : List ℕ) (v : C) → PassedGap old mid → TookText mid s new → Str s u escape_free → f u escape_free ≡ None → Reads old.unread t r
     → as_text f t ≡ Some v → ⊥
-no_other_text f old mid new s u plain t r v p k str none h is =
+no_other_text f old mid new s u escape_free t r v p k str none h is =
     let (w, q, there, e) = text_phrase f v is h.value in
     let one = one_string new.unread r str there (sym k.split ∙ phrase_after old mid t r p h) in
-    none_some (f w q) v (subst (λ z. f w z ≡ None) one.2 (subst (λ z. f z plain ≡ None) one.1 none)) e
+    none_some (f w q) v (subst (λ z. f w z ≡ None) one.2 (subst (λ z. f z escape_free ≡ None) one.1 none)) e

@@ -1,16 +1,16 @@
 -- What contracts see of an access to an array.
 use Rattle.std.specs.Prelude.{◌≡◌, ◌≢◌, ◌⊎◌, ℕ, ◌+◌, ◌-◌, ◌<◌, ◌≤◌, Bool, true, false, List, [], ◌∷◌, ◌++◌, length, Option, Some, None, Result, Ok, Err, IfOk, IfErr, OnOk, IsOk, IsOkAnd, IsErrAnd, MatchResult, ◌==◌, ◌||◌, ◌&&◌}
 use Rattle.std.specs.Str.{encode_utf8_all}
-use Rattle.json5_grammar.specs.Characters.{comma_sign}
+use Rattle.json5_grammar.specs.Language.Characters.{comma_sign}
 use Rattle.json5_grammar.specs.declared.code.ErrorCode.{ErrorCode}
 use Rattle.json5_grammar.specs.declared.code.ErrorCode.TheVariants as codes
-use Rattle.json5_grammar.specs.Codes.{after_text}
-use Rattle.json5_grammar.specs.Blanks.{Blanks}
-use Rattle.json5_grammar.specs.Positions.{position_after}
-use Rattle.json5_grammar.specs.Trees.{Tree, Trees, array, more, no_more, depth, depths}
-use Rattle.json5_grammar.specs.Documents.{max_depth}
-use Rattle.json5_grammar.specs.Values.{Reads}
-use Rattle.json5_grammar.specs.Members.{IsSign, IsEnd, Opens, IsElement, IsAtClose, Passed, Tail, snoc}
+use Rattle.json5_grammar.specs.Faults.Codes.{after_text}
+use Rattle.json5_grammar.specs.Language.Blanks.{Blanks}
+use Rattle.json5_grammar.specs.Faults.Positions.{position_after}
+use Rattle.json5_grammar.specs.Language.Trees.{Tree, Trees, array, more, no_more, depth, depths}
+use Rattle.json5_grammar.specs.Language.Documents.{max_depth}
+use Rattle.json5_grammar.specs.Language.Values.{Reads}
+use Rattle.json5_grammar.specs.Model.Collections.{IsSign, IsEnd, Opens, IsElement, IsAtClose, Passed, Tail, snoc}
 use Rattle.json5_text.specs.declared.error.Error.{Error}
 use Rattle.json5_text.specs.Errors.{code, kind_of, place_of}
 use Rattle.json5_de.specs.State.{State, OnlyRead, SameText, FailsIfErr}
@@ -27,11 +27,11 @@ use Rattle.json5_value.specs.Brackets.{square}
 pub record AccessState : Type 0 where
   pub reader : State
   pub start : ℕ
-  pub due : Bool
+  pub comma_due : Bool
 
 -- a reader seen so, wherever the bracket stands
 abbrev pub bare : State → Bool → AccessState
-bare reader due = record { reader = reader; start = 0; due = due }
+bare reader comma_due = record { reader = reader; start = 0; comma_due = comma_due }
 
 -- ---- brackets
 
@@ -43,44 +43,44 @@ pub record Opened (b : Brackets) (old new : State) : Type 0 where
   pub rest : new ≡ record old { unread = new.unread; level = old.level + 1 }
 
 -- the closing bracket was taken, after a comma where one may stand, and one bracket less is open
-pub record Closed (b : Brackets) (due : Bool) (old new : State) : Type 0 where
+pub record Closed (b : Brackets) (comma_due : Bool) (old new : State) : Type 0 where
   pub live : old.failed ≡ false
-  pub close : IsEnd b.closing due old.unread new.unread
+  pub close : IsEnd b.closing comma_due old.unread new.unread
   pub rest : new ≡ record old { unread = new.unread; level = old.level - 1 }
 
 -- the closing bracket is next, after the comma that may stand there
-pub record AtClose (b : Brackets) (due : Bool) (old new : State) : Type 0 where
+pub record AtClose (b : Brackets) (comma_due : Bool) (old new : State) : Type 0 where
   pub live : old.failed ≡ false
-  pub close : (r : List ℕ) × IsEnd b.closing due old.unread r × (new.unread ≡ b.closing ∷ r)
+  pub close : (r : List ℕ) × IsEnd b.closing comma_due old.unread r × (new.unread ≡ b.closing ∷ r)
   pub rest : OnlyRead old new
 
 -- nothing is refused where the closing bracket goes on
 abbrev pub CompletesClose : {V : Type 0} → Brackets → AccessState → Result V Error → Type 0
-CompletesClose b old result = (r : List ℕ) → old.reader.failed ≡ false → IsEnd b.closing old.due old.reader.unread r → IsOk result
+CompletesClose b old result = (r : List ℕ) → old.reader.failed ≡ false → IsEnd b.closing old.comma_due old.reader.unread r → IsOk result
 
 -- ---- an array
 
 -- an element of the tree t was read, after the comma that was due
-pub record TookElement (due : Bool) (old : State) (t : Tree) (new : State) : Type 0 where
+pub record TookElement (comma_due : Bool) (old : State) (t : Tree) (new : State) : Type 0 where
   pub live : old.failed ≡ false
-  pub element : IsElement due old.unread t new.unread
+  pub element : IsElement comma_due old.unread t new.unread
   pub shallow : old.level + depth t ≤ max_depth
   pub rest : OnlyRead old new
 
 -- an element was read and stands for v, or the closing bracket is next
 abbrev pub GivesElement : {V C : Type 0} → (V → C) → (Tree → Option C) → AccessState → AccessState → Option V → Type 0
-GivesElement content convert old new (Some v) = (t : Tree) × TookElement old.due old.reader t new.reader × (new.due ≡ true) × (convert t ≡ Some (content v))
-GivesElement content convert old new None = AtClose square old.due old.reader new.reader × (new.due ≡ old.due)
+GivesElement content convert old new (Some v) = (t : Tree) × TookElement old.comma_due old.reader t new.reader × (new.comma_due ≡ true) × (convert t ≡ Some (content v))
+GivesElement content convert old new None = AtClose square old.comma_due old.reader new.reader × (new.comma_due ≡ old.comma_due)
 
 -- an element that can be read is read, unless memory runs out
 abbrev pub CompletesElement : {V C : Type 0} → (Tree → Option C) → AccessState → Result V Error → Type 0
 CompletesElement {C = C} convert old result =
-    (t : Tree) (r : List ℕ) (c : C) → old.reader.failed ≡ false → IsElement old.due old.reader.unread t r → old.reader.level + depth t ≤ max_depth → convert t ≡ Some c → IsOkOrMemory result
+    (t : Tree) (r : List ℕ) (c : C) → old.reader.failed ≡ false → IsElement old.comma_due old.reader.unread t r → old.reader.level + depth t ≤ max_depth → convert t ≡ Some c → IsOkOrMemory result
 
 -- where an element that converts to c stands, the answer is Ok of an element whose content is c, unless memory runs out
 abbrev pub ReadsElement : {V C : Type 0} → (V → C) → (Tree → Option C) → AccessState → Result (Option V) Error → Type 0
 ReadsElement {C = C} content convert old result =
-    (t : Tree) (r : List ℕ) (c : C) → old.reader.failed ≡ false → IsElement old.due old.reader.unread t r → old.reader.level + depth t ≤ max_depth → convert t ≡ Some c
+    (t : Tree) (r : List ℕ) (c : C) → old.reader.failed ≡ false → IsElement old.comma_due old.reader.unread t r → old.reader.level + depth t ≤ max_depth → convert t ≡ Some c
     → MatchResult result (λ o. if_some content o ≡ Some c) IsOutOfMemory
 
 -- ---- an array as a whole: what was read of it, and what is left
@@ -92,15 +92,15 @@ pub record ElementsRead (from : State) (ts : Trees) (now : AccessState) : Type 0
   pub inside : List ℕ
   pub bracket : Opens from.unread inside
   pub after : List ℕ
-  pub passed : Passed ts false inside now.due after
-  pub here : (now.reader.unread ≡ after) ⊎ IsAtClose now.due after now.reader.unread
+  pub passed : Passed ts false inside now.comma_due after
+  pub here : (now.reader.unread ≡ after) ⊎ IsAtClose now.comma_due after now.reader.unread
   pub rest : now.reader ≡ record from { unread = now.reader.unread; level = from.level + 1 }
 
 -- these elements are left, after a comma where one is due, and then the closing bracket, with r after it; none is too deep
 pub record ElementsLeft (ts : Trees) (r : List ℕ) (now : AccessState) : Type 0 where
   pub live : now.reader.failed ≡ false
   pub shallow : now.reader.level + depths ts ≤ max_depth
-  pub tail : Tail ts now.due now.reader.unread r
+  pub tail : Tail ts now.comma_due now.reader.unread r
 
 -- one element more was read, which stands for v; or none, and what was read is the same (that the bracket is next says `GivesElement`)
 abbrev pub ReadsMore : {V C : Type 0} → (V → C) → (Tree → Option C) → AccessState → AccessState → Option V → Type 0
@@ -161,7 +161,7 @@ is_comma_or_closing b c = (c == comma_sign) || (c == b.closing)
 
 -- the closing bracket, and before it the comma that may stand there
 abbrev pub begins_close : Brackets → Bool → ℕ → Bool
-begins_close b due c = (c == b.closing) || (due && (c == comma_sign))
+begins_close b comma_due c = (c == b.closing) || (comma_due && (c == comma_sign))
 
 -- ---- what is refused
 
@@ -177,10 +177,10 @@ pub data NoBracket (b : Brackets) (comma : Bool) : List ℕ → Option ErrorCode
   bracket_missing : NoBracket b comma [] (Some b.ends) None
 
 -- where the closing bracket is expected, and a comma before it where one is due
-pub data NotClosed (b : Brackets) (due : Bool) : List ℕ → Option ErrorCode → Option (List ℕ) → Type 0 where
-  not_here : {x : List ℕ} {reason : Option ErrorCode} {place : Option (List ℕ)} → NoBracket b due x reason place → NotClosed b due x reason place
-  after_comma : {x : List ℕ} {reason : Option ErrorCode} {place : Option (List ℕ)} → due ≡ true → AfterBlanks (NoBracket b false) x reason place
-      → NotClosed b due (comma_sign ∷ x) reason (after_text (comma_sign ∷ []) place)
+pub data NotClosed (b : Brackets) (comma_due : Bool) : List ℕ → Option ErrorCode → Option (List ℕ) → Type 0 where
+  not_here : {x : List ℕ} {reason : Option ErrorCode} {place : Option (List ℕ)} → NoBracket b comma_due x reason place → NotClosed b comma_due x reason place
+  after_comma : {x : List ℕ} {reason : Option ErrorCode} {place : Option (List ℕ)} → comma_due ≡ true → AfterBlanks (NoBracket b false) x reason place
+      → NotClosed b comma_due (comma_sign ∷ x) reason (after_text (comma_sign ∷ []) place)
 
 -- ---- what the calls of an access mean
 
@@ -190,7 +190,7 @@ IsStart b input s = (before : List ℕ) → input ≡ before ++ b.opening ∷ s.
 
 -- where a bracket that opens is expected
 pub record OpensAs {A : Type 0} (b : Brackets) (state_of : A → AccessState) (old : State) (result : Result A Error) : Type 0 where
-  pub opened : IfOk result (λ a. Opened b old (state_of a).reader × ((state_of a).due ≡ false))
+  pub opened : IfOk result (λ a. Opened b old (state_of a).reader × ((state_of a).comma_due ≡ false))
   pub start : IfOk result (λ a. IsStart b old.input (state_of a))
   pub complete : (r : List ℕ) → old.failed ≡ false → IsSign b.opening old.unread r → old.level < max_depth → IsOk result
   pub refused : IfErr result (RefusedBy (NotOpened b old.level) old)
@@ -201,12 +201,12 @@ pub record OpensAs {A : Type 0} (b : Brackets) (state_of : A → AccessState) (o
   pub before : AnswersFailed old result
 
 -- where the closing bracket is expected
-pub record ClosesAs (b : Brackets) (due : Bool) (old new : State) (result : Result (Unit {0}) Error) : Type 0 where
-  pub closed : OnOk result (Closed b due old new)
-  pub complete : (r : List ℕ) → old.failed ≡ false → IsEnd b.closing due old.unread r → IsOk result
-  pub refused : IfErr result (RefusedBy (NotClosed b due) old)
+pub record ClosesAs (b : Brackets) (comma_due : Bool) (old new : State) (result : Result (Unit {0}) Error) : Type 0 where
+  pub closed : OnOk result (Closed b comma_due old new)
+  pub complete : (r : List ℕ) → old.failed ≡ false → IsEnd b.closing comma_due old.unread r → IsOk result
+  pub refused : IfErr result (RefusedBy (NotClosed b comma_due) old)
   pub ends : EndsWith b.ends old result
-  pub differs : DiffersWith (begins_close b due) b.not_closed old result
+  pub differs : DiffersWith (begins_close b comma_due) b.not_closed old result
   pub unprompted : Unprompted old result
   pub before : AnswersFailed old result
 
@@ -220,7 +220,7 @@ pub record OpensArray {A : Type 0} (Held : A → Type 0) (state_of : A → Acces
 
 -- an array is closed: the elements that were read are all of it
 pub record ClosesArray (old : AccessState) (new : State) (result : Result (Unit {0}) Error) : Type 0 where
-  pub bracket : ClosesAs square old.due old.reader new result
+  pub bracket : ClosesAs square old.comma_due old.reader new result
   pub same_text : SameText old.reader new
   pub failed : FailsIfErr new result
   pub read : OnOk result ((from : State) (ts : Trees) → ElementsRead from ts old → TookValue from (array ts) new)

@@ -1,12 +1,12 @@
 -- What is read where a value of any kind stands, and what is refused there.
 use Rattle.std.specs.Prelude.{◌≡◌, ◌⊎◌, ◌-◌, ℕ, Bool, false, Option, Some, Result}
 use Rattle.json5_grammar.specs.declared.code.ErrorCode.TheVariants as codes
-use Rattle.json5_grammar.specs.Documents.{max_depth}
+use Rattle.json5_grammar.specs.Language.Documents.{max_depth}
 use Rattle.json5_grammar.specs.Faults.{begins_value}
-use Rattle.json5_grammar.specs.Reading.{Place, bad, IsAt}
-use Rattle.json5_grammar.specs.ReadValues.{read}
-use Rattle.json5_grammar.specs.Refusals.{BlamesValue}
-use Rattle.json5_grammar.specs.Trees.{Tree}
+use Rattle.json5_grammar.specs.Model.Reading.{Place, bad, IsAt}
+use Rattle.json5_grammar.specs.Model.ReadValues.{read}
+use Rattle.json5_grammar.specs.Faults.Refusals.{BlamesValue}
+use Rattle.json5_grammar.specs.Language.Trees.{Tree}
 use Rattle.json5_text.specs.declared.error.Error.{Error}
 use Rattle.json5_text.specs.Cursor.{Refused, IsOutOfMemory}
 use Rattle.json5_de.specs.State.{State, cursor_of}

@@ -1,8 +1,8 @@
 -- What the brackets of a kind are not.
 use Rattle.std.specs.Prelude.{◌≡◌, ◌≢◌, true, false, ◌==◌}
 use Rattle.json5_grammar.specs.declared.code.ErrorCode.TheVariants as codes
-use Rattle.json5_grammar.specs.Characters.{comma_sign}
-use Rattle.json5_grammar.specs.Blanks.{is_solid}
+use Rattle.json5_grammar.specs.Language.Characters.{comma_sign}
+use Rattle.json5_grammar.specs.Language.Blanks.{is_solid}
 use Rattle.json5_value.specs.declared.brackets.Brackets.{Brackets}
 
 -- no blank begins with one of them, the closing one is no comma, and no code is that the reader had failed

@@ -6,8 +6,8 @@ use Rattle.std.specs.List.{position}
 use Rattle.std.specs.Result.{result_ok}
 use Rattle.std.specs.Str.{bytes_eq, encode_utf8_all}
 use Rattle.hex.specs.Hex.{decode_of}
-use Rattle.json5_grammar.specs.Numbers.{Number, Decimal, whole, decimal, finite, without_zeros, normal_exponent}
-use Rattle.json5_grammar.specs.Trees.{Tree, null, boolean, number, text}
+use Rattle.json5_grammar.specs.Language.Numbers.{Number, Decimal, whole, decimal, finite, without_zeros, normal_exponent}
+use Rattle.json5_grammar.specs.Language.Trees.{Tree, null, boolean, number, text}
 use Rattle.json5_text.specs.ValueViews.{Datum}
 pub use Rattle.json5_value.specs.Data.{datum_of, items_of, fields_of}
 
@@ -73,38 +73,38 @@ decimal_of = as_number every_decimal
 
 -- ---- texts
 
--- a text that converts; true where it is plain
+-- a text that converts; true where it is escape-free
 abbrev pub as_text : {C : Type 0} → (List ℕ → Bool → Option C) → Tree → Option C
-as_text f (text u plain) = f u plain
+as_text f (text u escape_free) = f u escape_free
 as_text f _ = None
 
 -- a text, by its bytes
 abbrev pub every_text : List ℕ → Bool → Option (List ℕ)
-every_text u plain = Some (encode_utf8_all u)
+every_text u escape_free = Some (encode_utf8_all u)
 
 abbrev pub text_of : Tree → Option (List ℕ)
 text_of = as_text every_text
 
 -- a text without a backslash, by its bytes
-abbrev pub if_plain : List ℕ → Bool → Option (List ℕ)
-if_plain u true = Some (encode_utf8_all u)
-if_plain u false = None
+abbrev pub if_escape_free : List ℕ → Bool → Option (List ℕ)
+if_escape_free u true = Some (encode_utf8_all u)
+if_escape_free u false = None
 
-abbrev pub plain_of : Tree → Option (List ℕ)
-plain_of = as_text if_plain
+abbrev pub escape_free_of : Tree → Option (List ℕ)
+escape_free_of = as_text if_escape_free
 
--- a text by its bytes, and whether it is plain
+-- a text by its bytes, and whether it is escape-free
 abbrev pub every_cow : List ℕ → Bool → Option (List ℕ × Bool)
-every_cow u plain = Some (encode_utf8_all u, plain)
+every_cow u escape_free = Some (encode_utf8_all u, escape_free)
 
 abbrev pub cow_of : Tree → Option (List ℕ × Bool)
 cow_of = as_text every_cow
 
 -- a text of one character
 abbrev pub one_character : List ℕ → Bool → Option ℕ
-one_character [] plain = None
-one_character (c ∷ []) plain = Some c
-one_character (c ∷ d ∷ u) plain = None
+one_character [] escape_free = None
+one_character (c ∷ []) escape_free = Some c
+one_character (c ∷ d ∷ u) escape_free = None
 
 -- the bytes of these names
 abbrev pub spelled : List (Bor (List ℕ)) → List (List ℕ)
@@ -112,7 +112,7 @@ spelled names = map (λ name. name.now) names
 
 -- a text that is one of these names, as its first place among them
 abbrev pub index_of : List (List ℕ) → List ℕ → Bool → Option ℕ
-index_of names u plain = position (λ name. bytes_eq name (encode_utf8_all u)) names
+index_of names u escape_free = position (λ name. bytes_eq name (encode_utf8_all u)) names
 
 abbrev pub variant_of : List (List ℕ) → Tree → Option ℕ
 variant_of names = as_text (index_of names)
@@ -122,7 +122,7 @@ char_of = as_text one_character
 
 -- the bytes of a text of hexadecimal digits in either case, two a byte; any other text converts to none
 abbrev pub digits_bytes : List ℕ → Bool → Option (List ℕ)
-digits_bytes u plain = result_ok (decode_of (encode_utf8_all u))
+digits_bytes u escape_free = result_ok (decode_of (encode_utf8_all u))
 
 abbrev pub byte_buf_of : Tree → Option (List ℕ)
 byte_buf_of = as_text digits_bytes

@@ -1,7 +1,7 @@
 -- What options and lists take of a tree.
 use Rattle.std.specs.Prelude.{◌==◌, ℕ, if◌then◌else◌, List, length, Option, Some, None}
-use Rattle.json5_grammar.specs.Trees.{Tree, Trees, null, boolean, number, text, array, object, no_more, more}
-use Rattle.json5_grammar.specs.Members.{joint, contents}
+use Rattle.json5_grammar.specs.Language.Trees.{Tree, Trees, null, boolean, number, text, array, object, no_more, more}
+use Rattle.json5_grammar.specs.Model.Collections.{joint, contents}
 
 -- some of what there is
 abbrev pub if_some : {A B : Type 0} → (A → B) → Option A → Option B
@@ -13,7 +13,7 @@ abbrev pub option_of : {C : Type 0} → (Tree → Option C) → Tree → Option 
 option_of f null = Some None
 option_of f (boolean b) = if_some Some (f (boolean b))
 option_of f (number n) = if_some Some (f (number n))
-option_of f (text u plain) = if_some Some (f (text u plain))
+option_of f (text u escape_free) = if_some Some (f (text u escape_free))
 option_of f (array ts) = if_some Some (f (array ts))
 option_of f (object ps) = if_some Some (f (object ps))
 

@@ -1,14 +1,14 @@
 -- Enums: a value names one of the variants, and may hold its content.
 use Rattle.std.specs.Prelude.{◌≡◌, ◌⊎◌, ◌==◌, ◌||◌, ℕ, ◌+◌, ◌<◌, ◌≤◌, Bool, true, false, List, [], ◌∷◌, ◌++◌, length, Option, Some, None, is_some, Result, IfOk, IfErr, OnOk, OnErr, IsOk, IsOkAnd, MatchResult}
 use Rattle.std.specs.Str.{encode_utf8_all}
-use Rattle.json5_grammar.specs.Characters.{left_brace}
+use Rattle.json5_grammar.specs.Language.Characters.{left_brace}
 use Rattle.json5_grammar.specs.declared.code.ErrorCode.{ErrorCode}
 use Rattle.json5_grammar.specs.declared.code.ErrorCode.TheVariants as codes
-use Rattle.json5_grammar.specs.Documents.{max_depth}
-use Rattle.json5_grammar.specs.Members.{ReadsKey, IsKeyValue, IsEnd, IsSign, IsBrace}
-use Rattle.json5_grammar.specs.Strings.{is_quote}
-use Rattle.json5_grammar.specs.Trees.{Tree, Trees, Pairs, null, boolean, number, text, array, object, pair, no_pair, no_more, depth}
-use Rattle.json5_grammar.specs.Values.{Reads}
+use Rattle.json5_grammar.specs.Language.Documents.{max_depth}
+use Rattle.json5_grammar.specs.Model.Collections.{ReadsKey, IsKeyValue, IsEnd, IsSign, IsBrace}
+use Rattle.json5_grammar.specs.Language.Strings.{is_quote}
+use Rattle.json5_grammar.specs.Language.Trees.{Tree, Trees, Pairs, null, boolean, number, text, array, object, pair, no_pair, no_more, depth}
+use Rattle.json5_grammar.specs.Language.Values.{Reads}
 use Rattle.json5_text.specs.declared.error.Error.{Error}
 use Rattle.json5_text.specs.Cursor.{IsOutOfMemory}
 use Rattle.json5_de.specs.State.{State, SameText, GivesUp, FailsIfErr}
@@ -34,11 +34,11 @@ abbrev pub named_variant : List (List ℕ) → Tree → Option (ℕ × Option Tr
 named_variant names null = None
 named_variant names (boolean b) = None
 named_variant names (number n) = None
-named_variant names (text u plain) = if_some (λ k. (k, None)) (index_of names u plain)
+named_variant names (text u escape_free) = if_some (λ k. (k, None)) (index_of names u escape_free)
 named_variant names (array ts) = None
 named_variant names (object no_pair) = None
-named_variant names (object (pair u plain t no_pair)) = if_some (λ k. (k, Some t)) (index_of names u plain)
-named_variant names (object (pair u plain t (pair v other s ps))) = None
+named_variant names (object (pair u escape_free t no_pair)) = if_some (λ k. (k, Some t)) (index_of names u escape_free)
+named_variant names (object (pair u escape_free t (pair v other s ps))) = None
 
 -- what is made of the variant and its content
 abbrev pub enum_of : {C : Type 0} → List (List ℕ) → (ℕ → Option Tree → Option C) → Tree → Option C
@@ -70,22 +70,22 @@ pub record EnumAccessState : Type 0 where
   pub has_content : Bool
 
 -- the opening brace, the only key and its colon were read, and the content is next
-pub record AtContent (from : State) (u : List ℕ) (plain : Bool) (now : State) : Type 0 where
+pub record AtContent (from : State) (u : List ℕ) (escape_free : Bool) (now : State) : Type 0 where
   pub keyed : State
-  pub key : PairsRead from no_pair (Some (u, plain)) (bare_map keyed false true)
+  pub key : PairsRead from no_pair (Some (u, escape_free)) (bare_map keyed false true)
   pub colon : AfterColon keyed now
 
 -- where the name of a variant was read: it is a text, or a key whose value is next
 abbrev pub AfterName : Bool → State → List ℕ → Bool → State → Type 0
-AfterName false from u plain now = TookValue from (text u plain) now
-AfterName true from u plain now = AtContent from u plain now
+AfterName false from u escape_free now = TookValue from (text u escape_free) now
+AfterName true from u escape_free now = AtContent from u escape_free now
 
 -- the name of a variant was read of a value that begins at `from`, after the blanks
 pub record NameRead (names : List (List ℕ)) (from : State) (now : EnumAccessState) : Type 0 where
   pub name : List ℕ
-  pub plain : Bool
-  pub place : index_of names name plain ≡ Some now.variant
-  pub after : AfterName now.has_content from name plain now.reader
+  pub escape_free : Bool
+  pub place : index_of names name escape_free ≡ Some now.variant
+  pub after : AfterName now.has_content from name escape_free now.reader
   pub between : State
   pub passed : PassedGap from between
   pub counted : (before : List ℕ) → between.input ≡ before ++ between.unread → now.start ≡ length (encode_utf8_all before)
@@ -141,7 +141,7 @@ pub record IsNext (begins : ℕ → Bool) (old start : State) : Type 0 where
 pub data RefusesOnlyKey (names : List (List ℕ)) (inside : State) (e : Error) : Type 0 where
   no_only_key : RefusedBy NotKeyed inside e → RefusesOnlyKey names inside e
   other_key : (start : State) → IsNext begins_key inside start → RefusedByOrMemory (NotKey (not_converted None (index_of names))) start e → RefusesOnlyKey names inside e
-  not_followed : (u : List ℕ) (plain : Bool) (keyed : State) → TookKey inside u plain keyed → RefusedBy NoColon keyed e → RefusesOnlyKey names inside e
+  not_followed : (u : List ℕ) (escape_free : Bool) (keyed : State) → TookKey inside u escape_free keyed → RefusedBy NoColon keyed e → RefusesOnlyKey names inside e
 
 -- an object was opened and its only key refused: a fault without a place gets the brace's
 pub record RefusesKeyed (names : List (List ℕ)) (old : State) (e : Error) : Type 0 where
@@ -168,16 +168,16 @@ pub data RefusesContent (refuses : State → Error → State → Type 0) (old : 
 
 -- the only key of an object and its colon are read
 pub record ReadsOnlyKey (names : List (List ℕ)) (old new : State) (result : Result ℕ Error) : Type 0 where
-  pub sound : IfOk result (λ k. (u : List ℕ) × (plain : Bool) × (keyed : State) × TookKey old u plain keyed × AfterColon keyed new × (index_of names u plain ≡ Some k))
-  pub complete : (u x r : List ℕ) (plain : Bool) (t : Tree) (k : ℕ) → old.failed ≡ false → ReadsKey old.unread u plain x → IsKeyValue x t r → index_of names u plain ≡ Some k → IsOkOrMemory result
+  pub sound : IfOk result (λ k. (u : List ℕ) × (escape_free : Bool) × (keyed : State) × TookKey old u escape_free keyed × AfterColon keyed new × (index_of names u escape_free ≡ Some k))
+  pub complete : (u x r : List ℕ) (escape_free : Bool) (t : Tree) (k : ℕ) → old.failed ≡ false → ReadsKey old.unread u escape_free x → IsKeyValue x t r → index_of names u escape_free ≡ Some k → IsOkOrMemory result
   pub refused : IfErr result (λ e. old.failed ≡ false → RefusesOnlyKey names old e)
   pub unprompted : Unprompted old result
   pub failed : OnErr result (GivesUp old new)
 
 -- an object is opened, and its only key and the colon are read
 pub record ReadsKeyed (names : List (List ℕ)) (old new : State) (result : Result ℕ Error) : Type 0 where
-  pub sound : IfOk result (λ k. (u : List ℕ) × (plain : Bool) × AtContent old u plain new × (index_of names u plain ≡ Some k))
-  pub complete : (u r : List ℕ) (plain : Bool) (t : Tree) (k : ℕ) → old.failed ≡ false → Reads old.unread (object (pair u plain t no_pair)) r → old.level + depth (object (pair u plain t no_pair)) ≤ max_depth → index_of names u plain ≡ Some k
+  pub sound : IfOk result (λ k. (u : List ℕ) × (escape_free : Bool) × AtContent old u escape_free new × (index_of names u escape_free ≡ Some k))
+  pub complete : (u r : List ℕ) (escape_free : Bool) (t : Tree) (k : ℕ) → old.failed ≡ false → Reads old.unread (object (pair u escape_free t no_pair)) r → old.level + depth (object (pair u escape_free t no_pair)) ≤ max_depth → index_of names u escape_free ≡ Some k
       → IsOkOrMemory result
   pub refused : IfErr result (λ e. RefusedBy (NotOpened curly old.level) old e ⊎ RefusesKeyed names old e)
   pub unprompted : Unprompted old result
@@ -224,35 +224,35 @@ pub record ReadsVariant {V C : Type 0} (content : V → C) (convert : Option Tre
 -- ---- a content that is read through an access
 
 -- a closing bracket is taken; a refusal is for good
-pub record ClosesLast (b : Brackets) (due : Bool) (old new : State) (result : Result (Unit {0}) Error) : Type 0 where
-  pub closes : ClosesAs b due old new result
+pub record ClosesLast (b : Brackets) (comma_due : Bool) (old new : State) (result : Result (Unit {0}) Error) : Type 0 where
+  pub closes : ClosesAs b comma_due old new result
   pub same_text : SameText old new
   pub failed : FailsIfErr new result
 
 -- why a content isn't closed, and then the variant's brace: a fault of the content's bracket without a place gets the brace's
-pub data RefusesEnding (b : Brackets) (due : Bool) (brace : ℕ) (old : State) (e : Error) : Type 0 where
-  not_ended : (own : Error) → RefusedBy (NotClosed b due) old own → PlacedAt (StartsAfter old.input brace) own e → RefusesEnding b due brace old e
-  brace_open : (after : State) → Closed b due old after → RefusedBy (NotClosed curly true) after e → RefusesEnding b due brace old e
+pub data RefusesEnding (b : Brackets) (comma_due : Bool) (brace : ℕ) (old : State) (e : Error) : Type 0 where
+  not_ended : (own : Error) → RefusedBy (NotClosed b comma_due) old own → PlacedAt (StartsAfter old.input brace) own e → RefusesEnding b comma_due brace old e
+  brace_open : (after : State) → Closed b comma_due old after → RefusedBy (NotClosed curly true) after e → RefusesEnding b comma_due brace old e
 
 -- the bracket of a variant's content is taken, and then the variant's brace
-pub record ClosesContent (b : Brackets) (due : Bool) (brace : ℕ) (old new : State) (result : Result (Unit {0}) Error) : Type 0 where
-  pub closed : OnOk result ((after : State) × Closed b due old after × Closed curly true after new)
-  pub complete : (x r : List ℕ) → old.failed ≡ false → IsEnd b.closing due old.unread x → IsBrace true x r → IsOk result
-  pub refused : IfErr result (RefusesEnding b due brace old)
+pub record ClosesContent (b : Brackets) (comma_due : Bool) (brace : ℕ) (old new : State) (result : Result (Unit {0}) Error) : Type 0 where
+  pub closed : OnOk result ((after : State) × Closed b comma_due old after × Closed curly true after new)
+  pub complete : (x r : List ℕ) → old.failed ≡ false → IsEnd b.closing comma_due old.unread x → IsBrace true x r → IsOk result
+  pub refused : IfErr result (RefusesEnding b comma_due brace old)
   pub unprompted : Unprompted old result
   pub same_text : SameText old new
   pub failed : FailsIfErr new result
 
 -- an array that is a variant's content is closed, and the variant's brace: the value that began before the brace is read
 pub record ClosesTuple (brace : ℕ) (old : AccessState) (new : State) (result : Result (Unit {0}) Error) : Type 0 where
-  pub bracket : ClosesContent square old.due brace old.reader new result
-  pub read : OnOk result ((from content : State) (u : List ℕ) (plain : Bool) (ts : Trees) → AtContent from u plain content → ElementsRead content ts old → TookValue from (object (pair u plain (array ts) no_pair)) new)
+  pub bracket : ClosesContent square old.comma_due brace old.reader new result
+  pub read : OnOk result ((from content : State) (u : List ℕ) (escape_free : Bool) (ts : Trees) → AtContent from u escape_free content → ElementsRead content ts old → TookValue from (object (pair u escape_free (array ts) no_pair)) new)
   pub left : (x r : List ℕ) → ElementsLeft no_more x old → IsBrace true x r → IsOk result
 
 -- the same of an object
 pub record ClosesStruct (brace : ℕ) (old : MapAccessState) (new : State) (result : Result (Unit {0}) Error) : Type 0 where
-  pub bracket : ClosesContent curly old.at.due brace old.at.reader new result
-  pub read : OnOk result ((from content : State) (u : List ℕ) (plain : Bool) (ps : Pairs) → AtContent from u plain content → PairsRead content ps None old → TookValue from (object (pair u plain (object ps) no_pair)) new)
+  pub bracket : ClosesContent curly old.at.comma_due brace old.at.reader new result
+  pub read : OnOk result ((from content : State) (u : List ℕ) (escape_free : Bool) (ps : Pairs) → AtContent from u escape_free content → PairsRead content ps None old → TookValue from (object (pair u escape_free (object ps) no_pair)) new)
   pub left : (x r : List ℕ) → old.pending ≡ false → PairsLeft no_pair x old → IsBrace true x r → IsOk result
 
 -- the end of an access closes its own bracket, and where there is one the brace of the variant whose content it is
@@ -267,7 +267,7 @@ pub record EndsObject (brace : Option ℕ) (old : MapAccessState) (new : State) 
 -- the content of a variant is opened, which begins with this bracket
 pub record OpensContent {A : Type 0} (b : Brackets) (state_of : A → AccessState) (old : EnumAccessState) (result : Result A Error) : Type 0 where
   pub has_content : OnOk result (old.has_content ≡ true)
-  pub opened : IfOk result (λ a. Opened b old.reader (state_of a).reader × ((state_of a).due ≡ false))
+  pub opened : IfOk result (λ a. Opened b old.reader (state_of a).reader × ((state_of a).comma_due ≡ false))
   pub start : IfOk result (λ a. IsStart b old.reader.input (state_of a))
   pub complete : (r : List ℕ) → old.has_content ≡ true → old.reader.failed ≡ false → IsSign b.opening old.reader.unread r → old.reader.level < max_depth → IsOk result
   pub refused : IfErr result (RefusesContent (λ s e t. RefusedBy (NotOpened b s.level) s e) old)

@@ -1,13 +1,13 @@
 -- What is refused where a value is expected.
 use Rattle.std.specs.Prelude.{◌≡◌, ℕ, Bool, true, false, if◌then◌else◌, ◌==◌, ◌⊎◌, List, [], ◌∷◌, ◌++◌, Option, Some, None, Result, IsErrAnd}
-use Rattle.json5_grammar.specs.Characters.{letter_f}
-use Rattle.json5_grammar.specs.Codes.{after_text}
+use Rattle.json5_grammar.specs.Language.Characters.{letter_f}
+use Rattle.json5_grammar.specs.Faults.Codes.{after_text}
 use Rattle.json5_grammar.specs.declared.code.ErrorCode.{ErrorCode}
 use Rattle.json5_grammar.specs.declared.code.ErrorCode.TheVariants as codes
-use Rattle.json5_grammar.specs.Blanks.{Blanks, LastBlanks, Gap, Solid, is_solid}
-use Rattle.json5_grammar.specs.Numbers.{Number, Num}
-use Rattle.json5_grammar.specs.Strings.{Str}
-use Rattle.json5_grammar.specs.Values.{Stops, null_text, true_text, false_text}
+use Rattle.json5_grammar.specs.Language.Blanks.{Blanks, LastBlanks, Gap, Solid, is_solid}
+use Rattle.json5_grammar.specs.Language.Numbers.{Number, Num}
+use Rattle.json5_grammar.specs.Language.Strings.{Str}
+use Rattle.json5_grammar.specs.Language.Values.{Stops, null_text, true_text, false_text}
 use Rattle.json5_text.specs.declared.error.Error.{Error}
 use Rattle.json5_text.specs.Errors.{LacksMemory, code, kind_of, place_of}
 use Rattle.json5_text.specs.Cursor.{IsPlaced, Refused}
@@ -31,7 +31,7 @@ pub data NotNumber {C : Type 0} (convert : Number → Option C) : List ℕ → O
 -- a string in front is faulty, or it is whole and isn't the type's: this code, None for a text of its own, at the quote
 pub data NotText {C : Type 0} (other : Option ErrorCode) (convert : List ℕ → Bool → Option C) : List ℕ → Option ErrorCode → Option (List ℕ) → Type 0 where
   faulty_text : {x : List ℕ} {reason : Option ErrorCode} {place : Option (List ℕ)} → FaultyString x reason place → NotText other convert x reason place
-  other_text : {s u : List ℕ} {plain : Bool} (r : List ℕ) → Str s u plain → convert u plain ≡ None → NotText other convert (s ++ r) other (Some [])
+  other_text : {s u : List ℕ} {escape_free : Bool} (r : List ℕ) → Str s u escape_free → convert u escape_free ≡ None → NotText other convert (s ++ r) other (Some [])
 
 -- a reader that hasn't failed refuses with a fault that the relation gives what is after the blanks, at its place
 abbrev pub RefusedBy : FaultRelation → State → Error → Type 0

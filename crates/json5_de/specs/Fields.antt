@@ -1,8 +1,8 @@
 -- Structs: the fields of an object by their names, in any order; a field may stand once.
 use Rattle.std.specs.Prelude.{◌≡◌, ◌⊎◌, ◌<◌, length, false, ℕ, Bool, if◌then◌else◌, true, is_some, List, Option, Some, None, Result, Ok, Err, OnOk, OnErr, IfErr}
 use Rattle.std.specs.Str.{bytes_eq, encode_utf8_all}
-use Rattle.json5_grammar.specs.Trees.{Tree, Trees, Pairs, no_more, more, no_pair, pair}
-use Rattle.json5_grammar.specs.Members.{joint}
+use Rattle.json5_grammar.specs.Language.Trees.{Tree, Trees, Pairs, no_more, more, no_pair, pair}
+use Rattle.json5_grammar.specs.Model.Collections.{joint}
 use Rattle.json5_text.specs.declared.error.Error.{Error}
 use Rattle.json5_text.specs.Errors.{custom, kind_of}
 use Rattle.json5_text.specs.Cursor.{IsOutOfMemory}
@@ -19,7 +19,7 @@ use Rattle.json5_de.specs.ObjectFaults.{ValueRefusedAtBrace}
 -- the values of the pairs with this name, in the order of the text; a name is the bytes of its text
 abbrev pub values_named : List ℕ → Pairs → Trees
 values_named name no_pair = no_more
-values_named name (pair u plain t ps) = if bytes_eq (encode_utf8_all u) name then more t (values_named name ps) else values_named name ps
+values_named name (pair u escape_free t ps) = if bytes_eq (encode_utf8_all u) name then more t (values_named name ps) else values_named name ps
 
 -- one value at most, where it converts
 abbrev pub at_most_one : {C : Type 0} → (Tree → Option C) → Trees → Option (Option C)
@@ -75,7 +75,7 @@ pub data FieldFault {V : Type 0} (refuses : State → Error → State → Type 0
 -- what a call for a field means
 pub record FieldRead {V C : Type 0} (content : V → C) (convert : Tree → Option C) (refuses : State → Error → State → Type 0) (old new : MapAccessState) (field next : Option V) (result : Result (Unit {0}) Error) : Type 0 where
   pub read : OnOk result (FillsField content convert old new field next)
-  pub left : field ≡ None → (u : List ℕ) (plain : Bool) (t : Tree) (ps : Pairs) (r : List ℕ) → PairsLeft (pair u plain t ps) r old → LeavesFilled content convert t ps r new next result
+  pub left : field ≡ None → (u : List ℕ) (escape_free : Bool) (t : Tree) (ps : Pairs) (r : List ℕ) → PairsLeft (pair u escape_free t ps) r old → LeavesFilled content convert t ps r new next result
   pub live : OnOk result (new.at.reader.failed ≡ false)
   pub shorter : OnOk result (length new.at.reader.unread < length old.at.reader.unread)
   pub cause : IfErr result (λ e. old.at.reader.failed ≡ false → FieldFault refuses old field e)

@@ -2,8 +2,8 @@
 use Rattle.std.specs.Prelude.{◌≡◌, ℕ, Bool, true, ◌⊎◌, List, ◌++◌, length, Option, Some, None, Result, IfOk, IfErr, OnOk, OnErr}
 use Rattle.std.specs.Str.{all_scalars, encode_utf8_all}
 use Rattle.json5_grammar.specs.declared.code.ErrorCode.{ErrorCode}
-use Rattle.json5_grammar.specs.Names.{Key}
-use Rattle.json5_grammar.specs.Strings.{Str}
+use Rattle.json5_grammar.specs.Language.Names.{Key}
+use Rattle.json5_grammar.specs.Language.Strings.{Str}
 use Rattle.json5_text.specs.declared.text_token.TextToken.{TextToken}
 use Rattle.json5_text.specs.declared.cow_str.CowStr.{CowStr}
 use Rattle.json5_text.specs.declared.error.Error.{Error}
@@ -16,26 +16,26 @@ use Rattle.json5_de.specs.State.{State, GivesUp}
 use Rattle.json5_de.specs.Convert.{as_text, every_text}
 use Rattle.json5_de.specs.Faults.{FaultRelation, RefusedByOrMemory}
 use Rattle.json5_de.specs.Law.{CompletesFree, StaysFailed}
-use Rattle.json5_de.specs.TokenKinds.{plain_text}
+use Rattle.json5_de.specs.TokenKinds.{escape_free_text}
 use Rattle.json5_de.specs.ReaderSteps.{PassedGap, TookText, IsMismatchOf}
 use Rattle.json5_de.specs.Keys.{KeyConversion, every_key, CompletesKey}
 
--- how a text is spelled: the spelling, what follows it, the text, and whether it is plain
+-- how a text is spelled: the spelling, what follows it, the text, and whether it is escape-free
 abbrev pub Spelling : Type 1
 Spelling = List ℕ → List ℕ → List ℕ → Bool → Type 0
 
 abbrev pub IsString : Spelling
-IsString s r u plain = Str s u plain
+IsString s r u escape_free = Str s u escape_free
 
 -- a spelling was taken to its token
 abbrev pub TookToken : Spelling → State → State → TextToken → Type 0
-TookToken Is old new t = (s u : List ℕ) × (plain : Bool) × TookText old s new × Is s new.unread u plain × Spells old.input u plain t
+TookToken Is old new t = (s u : List ℕ) × (escape_free : Bool) × TookText old s new × Is s new.unread u escape_free × Spells old.input u escape_free t
 
 -- the bytes of the text that the token spells, which this reader took
 abbrev pub SpellsText : State → TextToken → List ℕ → Type 0
 SpellsText s t bytes = IsTextOf s.input t bytes
 
--- the same, borrowed where the token is plain
+-- the same, borrowed where the token is escape-free
 abbrev pub SpellsCow : State → TextToken → CowStr → Type 0
 SpellsCow s t text = IsCowOf s.input t text
 
@@ -44,11 +44,11 @@ pub record TookFound (Is : Spelling) (old new : State) (found : FoundText) : Typ
   pub between : State
   pub spelling : List ℕ
   pub text : List ℕ
-  pub plain : Bool
+  pub escape_free : Bool
   pub passed : PassedGap old between
   pub took : TookText between spelling new
-  pub is_spelling : Is spelling new.unread text plain
-  pub is_text : Spells new.input text plain found.token
+  pub is_spelling : Is spelling new.unread text escape_free
+  pub is_text : Spells new.input text escape_free found.token
   pub counted : (before : List ℕ) → between.input ≡ before ++ between.unread → found.start ≡ length (encode_utf8_all before)
   pub offset : IsOffset new.input found.start
   pub scalars : all_scalars text ≡ true
@@ -71,19 +71,19 @@ pub record Finds (Is : Spelling) (IsFault : FaultRelation) (Completes : State �
 abbrev pub FindsKey : State → State → Result FoundText Error → Type 0
 FindsKey old new result = Finds Key FaultyKey (CompletesKey every_key) old new result
 
--- a string is; a plain one takes no memory
+-- a string is; an escape-free one takes no memory
 abbrev pub FindsString : State → State → Result FoundText Error → Type 0
-FindsString old new result = Finds IsString FaultyString (CompletesFree plain_text (as_text every_text)) old new result
+FindsString old new result = Finds IsString FaultyString (CompletesFree escape_free_text (as_text every_text)) old new result
 
 -- so it is for the text that was found
 abbrev pub OfFound : State → FoundText → (List ℕ → Bool → Type 0) → Type 0
-OfFound s found P = (u : List ℕ) (plain : Bool) → Spells s.input u plain found.token → all_scalars u ≡ true → P u plain
+OfFound s found P = (u : List ℕ) (escape_free : Bool) → Spells s.input u escape_free found.token → all_scalars u ≡ true → P u escape_free
 
 -- the content is what the text that was found converts to, and nothing changes; a text that doesn't convert is refused at its start with this code,
 -- None for a text of its own; one that does is only where it may lack memory
 pub record Judges {V C : Type 0} (may_lack_memory : Bool) (of_other : Option ErrorCode) (f : KeyConversion C) (content : V → C) (found : FoundText) (old new : State) (result : Result V Error) : Type 0 where
-  pub converts : IfOk result (λ v. OfFound old found (λ u plain. f u plain ≡ Some (content v)))
+  pub converts : IfOk result (λ v. OfFound old found (λ u escape_free. f u escape_free ≡ Some (content v)))
   pub kept : OnOk result (new ≡ old)
-  pub other : IfErr result (λ e. ((may_lack_memory ≡ true) × LacksMemory e) ⊎ OfFound old found (λ u plain. f u plain ≡ None))
+  pub other : IfErr result (λ e. ((may_lack_memory ≡ true) × LacksMemory e) ⊎ OfFound old found (λ u escape_free. f u escape_free ≡ None))
   pub refused : IfErr result (IsMismatchOf of_other old.input found.start)
   pub failed : OnErr result (GivesUp old new)

@@ -2,22 +2,22 @@
 use Rattle.std.specs.Prelude.{◌≡◌, ◌≤◌, ◌↔◌, ℕ, Bool, List, [], ◌++◌, Option, Some, None, Result}
 use Rattle.json5_grammar.specs.declared.code.ErrorCode.{ErrorCode}
 use Rattle.json5_grammar.specs.declared.code.ErrorCode.TheVariants as codes
-use Rattle.json5_grammar.specs.Documents.{Doc, max_depth}
-use Rattle.json5_grammar.specs.Names.{Key}
-use Rattle.json5_grammar.specs.Reading.{Read, got, bad}
-use Rattle.json5_grammar.specs.ReadValues.{document}
-use Rattle.json5_grammar.specs.Trees.{Tree, depth}
-use Rattle.json5_grammar.specs.Values.{Reads}
+use Rattle.json5_grammar.specs.Language.Documents.{Doc, max_depth}
+use Rattle.json5_grammar.specs.Language.Names.{Key}
+use Rattle.json5_grammar.specs.Model.Reading.{Read, got, bad}
+use Rattle.json5_grammar.specs.Model.ReadValues.{document}
+use Rattle.json5_grammar.specs.Language.Trees.{Tree, depth}
+use Rattle.json5_grammar.specs.Language.Values.{Reads}
 use Rattle.json5_text.specs.declared.error.Error.{Error}
 use Rattle.json5_text.specs.Tokens.{FaultyKey}
 use Rattle.json5_de.specs.State.{State}
-use Rattle.json5_de.specs.Convert.{every_text, if_plain, every_cow, one_character, index_of, digits_bytes}
+use Rattle.json5_de.specs.Convert.{every_text, if_escape_free, every_cow, one_character, index_of, digits_bytes}
 use Rattle.json5_de.specs.ConvertLists.{if_some}
 use Rattle.json5_de.specs.Faults.{AfterBlanks, RefusedByOrMemory, Trailing}
 use Rattle.json5_de.specs.Keys.{KeyConversion, every_key, ReadsOneKey}
 use Rattle.json5_de.specs.TokenKinds.{Kind}
 
--- with which code the text of a key is refused, None for a fault with a text of its own; true where the key is plain
+-- with which code the text of a key is refused, None for a fault with a text of its own; true where the key is escape-free
 abbrev pub KeyFault : Type 1
 KeyFault = List ℕ → Bool → Option ErrorCode → Type 0
 
@@ -29,7 +29,7 @@ pub record KeyKind (C : Type 0) : Type 1 where
 -- no whole key stands in front, or its text is refused, at the key's first character
 pub data NotKey (IsFault : KeyFault) : List ℕ → Option ErrorCode → Option (List ℕ) → Type 0 where
   no_key : {x : List ℕ} {reason : Option ErrorCode} {place : Option (List ℕ)} → FaultyKey x reason place → NotKey IsFault x reason place
-  other_key : {s u : List ℕ} {plain : Bool} {reason : Option ErrorCode} (r : List ℕ) → Key s r u plain → IsFault u plain reason → NotKey IsFault (s ++ r) reason (Some [])
+  other_key : {s u : List ℕ} {escape_free : Bool} {reason : Option ErrorCode} (r : List ℕ) → Key s r u escape_free → IsFault u escape_free reason → NotKey IsFault (s ++ r) reason (Some [])
 
 -- refused with a fault of the kind, or memory ran out
 abbrev pub RefusedAsKey : {C : Type 0} → KeyKind C → State → Error → State → Type 0
@@ -43,7 +43,7 @@ ReadsKeyAs kind content old new result = ReadsOneKey content kind.convert (Refus
 
 -- a text that doesn't convert is refused with this code, None for a text of its own
 abbrev pub not_converted : {C : Type 0} → Option ErrorCode → KeyConversion C → KeyFault
-not_converted of_other f u plain reason = (reason ≡ of_other) × (f u plain ≡ None)
+not_converted of_other f u escape_free reason = (reason ≡ of_other) × (f u escape_free ≡ None)
 
 -- a text that converts, and the code of any other
 abbrev pub coded_text_key : {C : Type 0} → Option ErrorCode → KeyConversion C → KeyKind C
@@ -60,10 +60,10 @@ abbrev pub char_key : KeyKind ℕ
 char_key = text_key one_character
 
 -- a text without an escape
-abbrev pub plain_key : KeyKind (List ℕ)
-plain_key = text_key if_plain
+abbrev pub escape_free_key : KeyKind (List ℕ)
+escape_free_key = text_key if_escape_free
 
--- a text, and whether it is plain
+-- a text, and whether it is escape-free
 abbrev pub cow_key : KeyKind (List ℕ × Bool)
 cow_key = text_key every_cow
 
@@ -87,13 +87,13 @@ converted convert (bad e p) = None
 
 -- what a text converts to that is read as a document of its own, where its tree converts; `document_keys` says which texts do
 abbrev pub document_of : {C : Type 0} → (Tree → Option C) → KeyConversion C
-document_of convert u plain = converted convert (document max_depth u)
+document_of convert u escape_free = converted convert (document max_depth u)
 
 -- the text isn't a document whose tree converts: the value in front is refused, or what stands after one that converts
 pub data NotDocument {C : Type 0} (kind : Kind C) : List ℕ → Bool → Option ErrorCode → Type 0 where
-  no_value : {u : List ℕ} {plain : Bool} {reason : Option ErrorCode} {place : Option (List ℕ)} → AfterBlanks kind.IsFault u reason place → NotDocument kind u plain reason
-  more_follows : {u r : List ℕ} {plain : Bool} {t : Tree} {c : C} {reason : Option ErrorCode} {place : Option (List ℕ)} → Reads u t r → depth t ≤ max_depth → kind.convert t ≡ Some c
-      → AfterBlanks Trailing r reason place → NotDocument kind u plain reason
+  no_value : {u : List ℕ} {escape_free : Bool} {reason : Option ErrorCode} {place : Option (List ℕ)} → AfterBlanks kind.IsFault u reason place → NotDocument kind u escape_free reason
+  more_follows : {u r : List ℕ} {escape_free : Bool} {t : Tree} {c : C} {reason : Option ErrorCode} {place : Option (List ℕ)} → Reads u t r → depth t ≤ max_depth → kind.convert t ≡ Some c
+      → AfterBlanks Trailing r reason place → NotDocument kind u escape_free reason
 
 -- a text that is a document of the kind, blanks round it included; its faults keep their codes
 abbrev pub document_key : {C : Type 0} → Kind C → KeyKind C
@@ -101,10 +101,10 @@ document_key kind = record { convert = document_of kind.convert; IsFault = NotDo
 
 -- such a text converts exactly where it is a document whose tree converts
 abbrev pub ConvertsDocuments : {C : Type 0} → (Tree → Option C) → Type 0
-ConvertsDocuments {C = C} convert = (u : List ℕ) (plain : Bool) (c : C) → (document_of convert u plain ≡ Some c) ↔ ((t : Tree) × Doc max_depth u t × (convert t ≡ Some c))
+ConvertsDocuments {C = C} convert = (u : List ℕ) (escape_free : Bool) (c : C) → (document_of convert u escape_free ≡ Some c) ↔ ((t : Tree) × Doc max_depth u t × (convert t ≡ Some c))
 
 -- ---- options
 
 -- some of what there is
 abbrev pub some_of : {C : Type 0} → KeyConversion C → KeyConversion (Option C)
-some_of f u plain = if_some Some (f u plain)
+some_of f u escape_free = if_some Some (f u escape_free)

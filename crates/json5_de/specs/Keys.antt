@@ -1,28 +1,28 @@
 -- Keys, and the law of a type that is read from one.
 -- JSON5 section 3 (a key is a string or an identifier).
 use Rattle.std.specs.Prelude.{◌≡◌, ℕ, Bool, false, List, Option, Some, Result, IfOk, IfErr}
-use Rattle.json5_grammar.specs.Members.{ReadsKey}
+use Rattle.json5_grammar.specs.Model.Collections.{ReadsKey}
 use Rattle.json5_text.specs.declared.error.Error.{Error}
 use Rattle.json5_de.specs.State.{State, OnlyRead, SameText, FailsIfErr}
 use Rattle.json5_de.specs.Law.{IsOkOrMemory, StaysFailed, Unprompted}
 
--- a key that stands for u was read, blanks before it included, and nothing else happened; plain says that no escape is used
-pub record TookKey (old : State) (u : List ℕ) (plain : Bool) (new : State) : Type 0 where
+-- a key that stands for u was read, blanks before it included, and nothing else happened; escape-free says that no escape is used
+pub record TookKey (old : State) (u : List ℕ) (escape_free : Bool) (new : State) : Type 0 where
   pub live : old.failed ≡ false
-  pub reads : ReadsKey old.unread u plain new.unread
+  pub reads : ReadsKey old.unread u escape_free new.unread
   pub rest : OnlyRead old new
 
--- what a key's text converts to, where it does; true where it is plain
+-- what a key's text converts to, where it does; true where it is escape-free
 abbrev pub KeyConversion : Type 0 → Type 0
 KeyConversion C = List ℕ → Bool → Option C
 
 -- every key converts
 abbrev pub every_key : KeyConversion (Unit {0})
-every_key u plain = Some tt
+every_key u escape_free = Some tt
 
 -- v stands for a key that was read
 abbrev pub GivesKey : {V C : Type 0} → (V → C) → KeyConversion C → State → State → V → Type 0
-GivesKey content convert old new v = (u : List ℕ) × (plain : Bool) × TookKey old u plain new × (convert u plain ≡ Some (content v))
+GivesKey content convert old new v = (u : List ℕ) × (escape_free : Bool) × TookKey old u escape_free new × (convert u escape_free ≡ Some (content v))
 
 -- two values that may be given for one key have the same content, and leave the same
 abbrev pub OneKeyAnswer : {V C : Type 0} → (V → C) → KeyConversion C → Type 0
@@ -31,7 +31,7 @@ OneKeyAnswer {V = V} content convert = (old new last : State) (v w : V) → Give
 -- a key that converts is read, unless memory runs out
 abbrev pub CompletesKey : {V C : Type 0} → KeyConversion C → State → Result V Error → Type 0
 CompletesKey {C = C} convert old result =
-    (u : List ℕ) (plain : Bool) (r : List ℕ) (c : C) → old.failed ≡ false → ReadsKey old.unread u plain r → convert u plain ≡ Some c → IsOkOrMemory result
+    (u : List ℕ) (escape_free : Bool) (r : List ℕ) (c : C) → old.failed ≡ false → ReadsKey old.unread u escape_free r → convert u escape_free ≡ Some c → IsOkOrMemory result
 
 -- one key is read from the front: the law of a key type
 pub record ReadsKeyOf {V C : Type 0} (content : V → C) (convert : KeyConversion C) (refuses : State → Error → State → Type 0) (old new : State) (result : Result V Error) : Type 0 where

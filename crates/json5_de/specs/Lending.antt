@@ -9,7 +9,7 @@ use Rattle.json5_text.specs.declared.input.Input as input
 use Rattle.json5_text.specs.Bytes.{bytes_of}
 use Rattle.json5_text.specs.Cows.{cow_bytes, is_borrowed}
 use Rattle.json5_de.specs.State.{State, SameText, GivesUp}
-use Rattle.json5_grammar.specs.Trees.{Tree, Trees, Pairs}
+use Rattle.json5_grammar.specs.Language.Trees.{Tree, Trees, Pairs}
 use Rattle.json5_de.specs.Access.{AccessState, OpensArray, PlacedAtBracket, GivesElement, ReadsElement, CompletesClose, ReadsMore, ElementsLeft, LeavesFewer}
 use Rattle.json5_de.specs.Seq.{RefusesNext}
 use Rattle.json5_de.specs.Keys.{KeyConversion, ReadsOneKey}
@@ -28,7 +28,7 @@ use Rattle.json5_de.specs.contracts.de.Deserializer.{the_row}
 
 module _ {I : Type 0} where
   abbrev pub state_of : SeqAccess I → AccessState
-  state_of s = record { reader = record s.de.now { failed = s.failed }; start = s.start; due = is_comma_due s.stage }
+  state_of s = record { reader = record s.de.now { failed = s.failed }; start = s.start; comma_due = is_comma_due s.stage }
 
   -- the count of bytes before the brace that its end closes too: that of the variant whose content it reads
   abbrev pub brace_of : SeqAccess I → Option ℕ
@@ -71,7 +71,7 @@ module _ {I : Type 0} where
     pub blocks : MatchResult read (λ v. new ≡ blocking old old.failed) (λ own. new ≡ blocking old true)
 
   abbrev pub map_state_of : MapAccess I → MapAccessState
-  map_state_of m = record { at = record { reader = record m.de.now { failed = m.failed }; start = m.start; due = is_comma_due m.stage }; pending = is_pending m.stage }
+  map_state_of m = record { at = record { reader = record m.de.now { failed = m.failed }; start = m.start; comma_due = is_comma_due m.stage }; pending = is_pending m.stage }
 
   -- a key was read whose value wasn't, or none was
   abbrev pub KeyPending : MapAccess I → Type 0
@@ -144,7 +144,7 @@ pub record KeyReadsBy {I V C : Type 0} (content : V → C) (convert : KeyConvers
 abbrev pub KeyReads : {I V C : Type 0} → KeyKind C → (V → C) → MapKey I → MapKey I → Result V Error → Type 0
 KeyReads kind content old new result = KeyReadsBy content kind.convert (RefusedAsKey kind) old new result
 
--- null, bytes, or a text that is borrowed where it is plain
+-- null, bytes, or a text that is borrowed where it is escape-free
 abbrev pub ReadsNullKey : {I : Type 0} → MapKey I → MapKey I → Result (Unit {0}) Error → Type 0
 ReadsNullKey old new result = KeyReads (document_key null_kind) (λ _. tt) old new result
 

@@ -2,8 +2,8 @@
 use Rattle.std.specs.Prelude.{◌≡◌, ◌⊎◌, ◌<◌, ℕ, zero, suc, Bool, true, false, List, ◌∷◌, ◌++◌, length, Option, Some, None, is_some, Result, Ok, Err}
 use Rattle.std.specs.Str.{encode_utf8_all}
 use Rattle.json5_grammar.specs.declared.code.ErrorCode.TheVariants as codes
-use Rattle.json5_grammar.specs.Characters.{left_bracket}
-use Rattle.json5_grammar.specs.Trees.{Tree, Trees, no_more, more}
+use Rattle.json5_grammar.specs.Language.Characters.{left_bracket}
+use Rattle.json5_grammar.specs.Language.Trees.{Tree, Trees, no_more, more}
 use Rattle.json5_text.specs.declared.error.Error.{Error}
 use Rattle.json5_text.specs.Cursor.{Says, IsOutOfMemory}
 use Rattle.json5_text.specs.Errors.{LacksMemory}
@@ -54,7 +54,7 @@ IsTooShort old e = (IsOutOfMemory e ⊎ Says None e) × IsAtBracket old e
 -- the element's fault, or the list ends before it
 pub data RefusesRequired (refuses : State → Error → State → Type 0) (old : AccessState) (e : Error) : Type 0 where
   at_fault : RefusedAtBracket refuses old e → RefusesRequired refuses old e
-  missing : (at : State) → AtClose square old.due old.reader at → IsTooShort old e → RefusesRequired refuses old e
+  missing : (at : State) → AtClose square old.comma_due old.reader at → IsTooShort old e → RefusesRequired refuses old e
 
 -- where elements are left and the first converts, it was read, unless memory ran out, and the others are left; where none is left, none was read
 abbrev pub LeavesRequired : {V C : Type 0} → (V → C) → (Tree → Option C) → Trees → List ℕ → AccessState → Result V Error → Type 0
@@ -97,8 +97,8 @@ HasPlace (Some n) place = place < n
 pub data ListFault (es : Elements) (shape : Shape) (old : State) (e : Error) : Type 0 where
   not_opened : RefusedBy (NotOpened square old.level) old e → ListFault es shape old e
   at_element : (now : AccessState) (n : ℕ) → Within es old now n → HasPlace shape.size n → RefusedAtBracket (es n).refuses now e → ListFault es shape old e
-  too_few : (now : AccessState) (n size : ℕ) → Within es old now n → shape.size ≡ Some size → n < size → (at : State) → AtClose square now.due now.reader at → IsTooShort now e → ListFault es shape old e
-  too_many : (now : AccessState) (n : ℕ) → Within es old now n → shape.size ≡ Some n → RefusedBy (NotClosed square now.due) now.reader e → ListFault es shape old e
+  too_few : (now : AccessState) (n size : ℕ) → Within es old now n → shape.size ≡ Some size → n < size → (at : State) → AtClose square now.comma_due now.reader at → IsTooShort now e → ListFault es shape old e
+  too_many : (now : AccessState) (n : ℕ) → Within es old now n → shape.size ≡ Some n → RefusedBy (NotClosed square now.comma_due) now.reader e → ListFault es shape old e
   no_memory : shape.gathers ≡ true → LacksMemory e → ListFault es shape old e
 
 -- how a list is refused: after it the reader has failed for good

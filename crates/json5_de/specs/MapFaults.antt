@@ -2,9 +2,9 @@
 use Rattle.std.specs.Prelude.{◌≡◌, ℕ, Bool, true, false, List, ◌∷◌, ◌++◌, length, Option, Some, None}
 use Rattle.std.specs.Str.{encode_utf8_all}
 use Rattle.json5_grammar.specs.declared.code.ErrorCode.TheVariants as codes
-use Rattle.json5_grammar.specs.Characters.{left_brace}
-use Rattle.json5_grammar.specs.Trees.{Tree, Pairs}
-use Rattle.json5_grammar.specs.Members.{pair_contents}
+use Rattle.json5_grammar.specs.Language.Characters.{left_brace}
+use Rattle.json5_grammar.specs.Language.Trees.{Tree, Pairs}
+use Rattle.json5_grammar.specs.Model.Collections.{pair_contents}
 use Rattle.json5_text.specs.declared.error.Error.{Error}
 use Rattle.json5_text.specs.Errors.{LacksMemory}
 use Rattle.json5_de.specs.State.{State}
@@ -39,7 +39,7 @@ pub record WithinMap {C D : Type 0} (keys : KeyConversion C) (values : Tree → 
 pub data MapFault {C D : Type 0} (sides : Sides C D) (old : State) (e : Error) : Type 0 where
   not_opened : RefusedBy (NotOpened curly old.level) old e → MapFault sides old e
   at_key : (now : MapAccessState) → WithinMap sides.keys sides.values old None now → KeyRefusedAtBrace sides.refuses_key now e → MapFault sides old e
-  at_value : (now : MapAccessState) (u : List ℕ) (plain : Bool) (c : C) → sides.keys u plain ≡ Some c → WithinMap sides.keys sides.values old (Some (u, plain)) now → ValueRefusedAtBrace sides.refuses_value now e → MapFault sides old e
+  at_value : (now : MapAccessState) (u : List ℕ) (escape_free : Bool) (c : C) → sides.keys u escape_free ≡ Some c → WithinMap sides.keys sides.values old (Some (u, escape_free)) now → ValueRefusedAtBrace sides.refuses_value now e → MapFault sides old e
   no_memory : LacksMemory e → MapFault sides old e
 
 -- how a map is refused: after it the reader has failed for good

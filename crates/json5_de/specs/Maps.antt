@@ -5,8 +5,8 @@ use Rattle.std.specs.BTreeMap as tree
 use Rattle.std.specs.HashMap.{HashMap}
 use Rattle.std.specs.Map.{lookup_entry}
 use Rattle.indexmap.specs.IndexMap.{IndexMap, insert_all}
-use Rattle.json5_grammar.specs.Trees.{Tree}
-use Rattle.json5_grammar.specs.Members.{pair_contents, object_of}
+use Rattle.json5_grammar.specs.Language.Trees.{Tree}
+use Rattle.json5_grammar.specs.Model.Collections.{pair_contents, object_of}
 use Rattle.json5_de.specs.ConvertLists.{if_some}
 use Rattle.json5_de.specs.State.{State}
 use Rattle.json5_de.specs.Law.{TookValue, Gives}

@@ -2,13 +2,13 @@
 use Rattle.std.specs.Prelude.{◌≡◌, ℕ, Bool, true, false, ◌==◌, ◌||◌, List, [], ◌∷◌, ◌++◌, Option, Some, None, is_some, Result, IfOk, IfErr, OnOk, OnErr, IsOk}
 use Rattle.json5_grammar.specs.declared.code.ErrorCode.{ErrorCode}
 use Rattle.json5_grammar.specs.declared.code.ErrorCode.TheVariants as codes
-use Rattle.json5_grammar.specs.Codes.{after_text}
-use Rattle.json5_grammar.specs.Characters.{comma_sign, colon_sign, right_brace, backslash, is_identifier_start}
-use Rattle.json5_grammar.specs.Strings.{is_quote}
+use Rattle.json5_grammar.specs.Faults.Codes.{after_text}
+use Rattle.json5_grammar.specs.Language.Characters.{comma_sign, colon_sign, right_brace, backslash, is_identifier_start}
+use Rattle.json5_grammar.specs.Language.Strings.{is_quote}
 use Rattle.json5_text.specs.declared.error.Error.{Error}
 use Rattle.json5_text.specs.Errors.{FaultKind, code, custom, failed_write, kind_of, place_of}
-use Rattle.json5_grammar.specs.Members.{IsKeyValue}
-use Rattle.json5_grammar.specs.Trees.{Tree}
+use Rattle.json5_grammar.specs.Model.Collections.{IsKeyValue}
+use Rattle.json5_grammar.specs.Language.Trees.{Tree}
 use Rattle.json5_de.specs.State.{State, GivesUp}
 use Rattle.json5_de.specs.Law.{Steady}
 use Rattle.json5_value.specs.Places.{PlacedAt}
@@ -33,13 +33,13 @@ pub record BeginsKey (x : List ℕ) : Type 0 where
 -- ---- keys
 
 -- a key is next, after the comma that is due
-pub record AtKey (due : Bool) (old new : State) : Type 0 where
-  pub member : AtMember curly due old new
+pub record AtKey (comma_due : Bool) (old new : State) : Type 0 where
+  pub member : AtMember curly comma_due old new
   pub begins : BeginsKey new.unread
 
 abbrev pub GoesToKey : Bool → State → State → Bool → Type 0
-GoesToKey due old new true = AtKey due old new
-GoesToKey due old new false = AtClose curly due old new
+GoesToKey comma_due old new true = AtKey comma_due old new
+GoesToKey comma_due old new false = AtClose curly comma_due old new
 
 -- what is refused where a key may begin
 pub data NoKeyHere : List ℕ → Option ErrorCode → Option (List ℕ) → Type 0 where
@@ -47,10 +47,10 @@ pub data NoKeyHere : List ℕ → Option ErrorCode → Option (List ℕ) → Typ
   key_missing : NoKeyHere [] (Some codes.EofParsingObject) None
 
 -- what is refused where the next key is expected, after a comma where one is due
-pub data NoKey (due : Bool) : List ℕ → Option ErrorCode → Option (List ℕ) → Type 0 where
-  no_next : {x : List ℕ} {reason : Option ErrorCode} {place : Option (List ℕ)} → NoNext curly due x reason place → NoKey due x reason place
-  not_here : {x : List ℕ} {reason : Option ErrorCode} {place : Option (List ℕ)} → due ≡ false → NoKeyHere x reason place → NoKey due x reason place
-  not_after_comma : {x : List ℕ} {reason : Option ErrorCode} {place : Option (List ℕ)} → due ≡ true → AfterBlanks NoKeyHere x reason place → NoKey due (comma_sign ∷ x) reason (after_text (comma_sign ∷ []) place)
+pub data NoKey (comma_due : Bool) : List ℕ → Option ErrorCode → Option (List ℕ) → Type 0 where
+  no_next : {x : List ℕ} {reason : Option ErrorCode} {place : Option (List ℕ)} → NoNext curly comma_due x reason place → NoKey comma_due x reason place
+  not_here : {x : List ℕ} {reason : Option ErrorCode} {place : Option (List ℕ)} → comma_due ≡ false → NoKeyHere x reason place → NoKey comma_due x reason place
+  not_after_comma : {x : List ℕ} {reason : Option ErrorCode} {place : Option (List ℕ)} → comma_due ≡ true → AfterBlanks NoKeyHere x reason place → NoKey comma_due (comma_sign ∷ x) reason (after_text (comma_sign ∷ []) place)
 
 -- the codes of a text that ended, of memory that ran out, and of a reader that had failed
 abbrev pub is_unplaced_code : ErrorCode → Bool
@@ -79,16 +79,16 @@ pub data PlacedAtKey (IsBefore : List ℕ → Type 0) (own e : Error) : Type 0 w
   as_it_is : is_unplaced (kind_of own) ≡ true → kind_of e ≡ kind_of own → place_of e ≡ place_of own → PlacedAtKey IsBefore own e
 
 -- the fault of a call for a key: none was reached, or the key's own
-pub data RefusesPairKey (refuses : State → Error → State → Type 0) (due : Bool) (old : State) (e : Error) (after : State) : Type 0 where
-  not_reached : RefusedBy (NoKey due) old e → RefusesPairKey refuses due old e after
-  in_key : (start : State) (own : Error) → AtKey due old start → refuses start own after → PlacedAtKey (λ before. start.input ≡ before ++ start.unread) own e → RefusesPairKey refuses due old e after
+pub data RefusesPairKey (refuses : State → Error → State → Type 0) (comma_due : Bool) (old : State) (e : Error) (after : State) : Type 0 where
+  not_reached : RefusedBy (NoKey comma_due) old e → RefusesPairKey refuses comma_due old e after
+  in_key : (start : State) (own : Error) → AtKey comma_due old start → refuses start own after → PlacedAtKey (λ before. start.input ≡ before ++ start.unread) own e → RefusesPairKey refuses comma_due old e after
 
 -- the next key of an object is read, or none where the closing brace is next
-pub record ReadsKeyOfPair {K C : Type 0} (content : K → C) (convert : KeyConversion C) (refuses : State → Error → State → Type 0) (due : Bool) (old new : State) (result : Result (Option K) Error) : Type 0 where
-  pub sound : IfOk result (λ o. GivesPairKey content convert (bare_map old due false) (bare_map new due (is_some o)) o)
-  pub complete : CompletesPairKey convert (bare_map old due false) result
-  pub closing : CompletesClose curly (bare old due) result
-  pub cause : IfErr result (λ e. RefusesPairKey refuses due old e new)
+pub record ReadsKeyOfPair {K C : Type 0} (content : K → C) (convert : KeyConversion C) (refuses : State → Error → State → Type 0) (comma_due : Bool) (old new : State) (result : Result (Option K) Error) : Type 0 where
+  pub sound : IfOk result (λ o. GivesPairKey content convert (bare_map old comma_due false) (bare_map new comma_due (is_some o)) o)
+  pub complete : CompletesPairKey convert (bare_map old comma_due false) result
+  pub closing : CompletesClose curly (bare old comma_due) result
+  pub cause : IfErr result (λ e. RefusesPairKey refuses comma_due old e new)
   pub steady : Steady old new result
 
 -- what is next at a key: after a pair the comma or the brace, else a key or the brace
@@ -103,11 +103,11 @@ no_key_code false = codes.ExpectedIdentifier
 
 -- the fault of a call for a key, at the opening brace where it has no place
 abbrev pub KeyRefusedAtBrace : (State → Error → State → Type 0) → MapAccessState → Error → Type 0
-KeyRefusedAtBrace refuses old e = PlacedFault (RefusesPairKey refuses old.at.due old.at.reader) old.at e
+KeyRefusedAtBrace refuses old e = PlacedFault (RefusesPairKey refuses old.at.comma_due old.at.reader) old.at e
 
 -- how a call for a key refuses
 abbrev pub RefusesNextKey : {V : Type 0} → (State → Error → State → Type 0) → MapAccessState → State → Result V Error → Type 0
-RefusesNextKey refuses old new result = RefusesCall (RefusesPairKey refuses old.at.due old.at.reader) true (begins_next_key old.at.due) codes.EofParsingObject (no_key_code old.at.due) old.at new result
+RefusesNextKey refuses old new result = RefusesCall (RefusesPairKey refuses old.at.comma_due old.at.reader) true (begins_next_key old.at.comma_due) codes.EofParsingObject (no_key_code old.at.comma_due) old.at new result
 
 -- ---- values
 

@@ -1,10 +1,10 @@
 -- What contracts see of an access to an object.
 use Rattle.std.specs.Prelude.{◌≡◌, ◌⊎◌, ℕ, ◌+◌, ◌≤◌, Bool, true, false, List, Option, Some, None, is_some, Result, Ok, Err, IfOk, OnOk, OnErr, IsOk, IsOkAnd, MatchResult}
-use Rattle.json5_grammar.specs.Characters.{colon_sign}
-use Rattle.json5_grammar.specs.Trees.{Tree, Pairs, object, pair, no_pair, depth, pair_depths}
-use Rattle.json5_grammar.specs.Documents.{max_depth}
-use Rattle.json5_grammar.specs.Values.{Reads}
-use Rattle.json5_grammar.specs.Members.{IsSign, OpensObject, IsKey, IsKeyValue, IsAtBrace, PairsPassed, PairsTail, snoc_pair}
+use Rattle.json5_grammar.specs.Language.Characters.{colon_sign}
+use Rattle.json5_grammar.specs.Language.Trees.{Tree, Pairs, object, pair, no_pair, depth, pair_depths}
+use Rattle.json5_grammar.specs.Language.Documents.{max_depth}
+use Rattle.json5_grammar.specs.Language.Values.{Reads}
+use Rattle.json5_grammar.specs.Model.Collections.{IsSign, OpensObject, IsKey, IsKeyValue, IsAtBrace, PairsPassed, PairsTail, snoc_pair}
 use Rattle.json5_text.specs.declared.error.Error.{Error}
 use Rattle.json5_text.specs.Cursor.{IsOutOfMemory}
 use Rattle.json5_de.specs.State.{State, OnlyRead, SameText, FailsIfErr}
@@ -21,14 +21,14 @@ pub record MapAccessState : Type 0 where
 
 -- a reader seen so, wherever the brace stands
 abbrev pub bare_map : State → Bool → Bool → MapAccessState
-bare_map reader due pending = record { at = bare reader due; pending = pending }
+bare_map reader comma_due pending = record { at = bare reader comma_due; pending = pending }
 
 -- ---- a key, and then its value
 
--- a key that stands for u was read, after the comma that was due; plain says that no escape is used
-pub record TookPairKey (due : Bool) (old : State) (u : List ℕ) (plain : Bool) (new : State) : Type 0 where
+-- a key that stands for u was read, after the comma that was due; escape-free says that no escape is used
+pub record TookPairKey (comma_due : Bool) (old : State) (u : List ℕ) (escape_free : Bool) (new : State) : Type 0 where
   pub live : old.failed ≡ false
-  pub key : IsKey due old.unread u plain new.unread
+  pub key : IsKey comma_due old.unread u escape_free new.unread
   pub rest : OnlyRead old new
 
 -- the colon after a key was read
@@ -47,22 +47,22 @@ pub record TookPairValue (old : State) (t : Tree) (new : State) : Type 0 where
 -- a key was read and stands for k, and its value is to follow; or the closing brace is next
 abbrev pub GivesPairKey : {K C : Type 0} → (K → C) → KeyConversion C → MapAccessState → MapAccessState → Option K → Type 0
 GivesPairKey content convert old new (Some k) =
-    (u : List ℕ) × (plain : Bool) × TookPairKey old.at.due old.at.reader u plain new.at.reader × (convert u plain ≡ Some (content k)) × (new.at.due ≡ old.at.due) × (new.pending ≡ true)
-GivesPairKey content convert old new None = AtClose curly old.at.due old.at.reader new.at.reader × (new.at.due ≡ old.at.due) × (new.pending ≡ false)
+    (u : List ℕ) × (escape_free : Bool) × TookPairKey old.at.comma_due old.at.reader u escape_free new.at.reader × (convert u escape_free ≡ Some (content k)) × (new.at.comma_due ≡ old.at.comma_due) × (new.pending ≡ true)
+GivesPairKey content convert old new None = AtClose curly old.at.comma_due old.at.reader new.at.reader × (new.at.comma_due ≡ old.at.comma_due) × (new.pending ≡ false)
 
 -- a value was read and stands for v, and a comma is due
 abbrev pub GivesPairValue : {V C : Type 0} → (V → C) → (Tree → Option C) → MapAccessState → MapAccessState → V → Type 0
-GivesPairValue content convert old new v = (t : Tree) × TookPairValue old.at.reader t new.at.reader × (convert t ≡ Some (content v)) × (new.at.due ≡ true) × (new.pending ≡ false)
+GivesPairValue content convert old new v = (t : Tree) × TookPairValue old.at.reader t new.at.reader × (convert t ≡ Some (content v)) × (new.at.comma_due ≡ true) × (new.pending ≡ false)
 
 -- a key that converts is read, unless memory runs out
 abbrev pub CompletesPairKey : {V C : Type 0} → KeyConversion C → MapAccessState → Result V Error → Type 0
 CompletesPairKey {C = C} convert old result =
-    (u : List ℕ) (plain : Bool) (r : List ℕ) (c : C) → old.at.reader.failed ≡ false → IsKey old.at.due old.at.reader.unread u plain r → convert u plain ≡ Some c → IsOkOrMemory result
+    (u : List ℕ) (escape_free : Bool) (r : List ℕ) (c : C) → old.at.reader.failed ≡ false → IsKey old.at.comma_due old.at.reader.unread u escape_free r → convert u escape_free ≡ Some c → IsOkOrMemory result
 
 -- where a key that converts to c stands, the answer is Ok of a key whose content is c, unless memory runs out
 abbrev pub ReadsPairKey : {V C : Type 0} → (V → C) → KeyConversion C → MapAccessState → Result (Option V) Error → Type 0
 ReadsPairKey {C = C} content convert old result =
-    (u : List ℕ) (plain : Bool) (r : List ℕ) (c : C) → old.at.reader.failed ≡ false → IsKey old.at.due old.at.reader.unread u plain r → convert u plain ≡ Some c
+    (u : List ℕ) (escape_free : Bool) (r : List ℕ) (c : C) → old.at.reader.failed ≡ false → IsKey old.at.comma_due old.at.reader.unread u escape_free r → convert u escape_free ≡ Some c
     → MatchResult result (λ o. if_some content o ≡ Some c) IsOutOfMemory
 
 -- a value that converts is read, unless memory runs out
@@ -80,8 +80,8 @@ ReadsPairValue {C = C} content convert old result =
 
 -- what stands after the last pair: nothing of the next, perhaps what is before the closing brace, or a key
 abbrev pub StandsAfter : Option (List ℕ × Bool) → Bool → List ℕ → List ℕ → Type 0
-StandsAfter None due x y = (y ≡ x) ⊎ IsAtBrace due x y
-StandsAfter (Some (u, plain)) due x y = IsKey due x u plain y
+StandsAfter None comma_due x y = (y ≡ x) ⊎ IsAtBrace comma_due x y
+StandsAfter (Some (u, escape_free)) comma_due x y = IsKey comma_due x u escape_free y
 
 -- an object begins at `from`, these pairs of it were read, and perhaps a key after them
 pub record PairsRead (from : State) (ps : Pairs) (key : Option (List ℕ × Bool)) (now : MapAccessState) : Type 0 where
@@ -90,33 +90,33 @@ pub record PairsRead (from : State) (ps : Pairs) (key : Option (List ℕ × Bool
   pub inside : List ℕ
   pub bracket : OpensObject from.unread inside
   pub after : List ℕ
-  pub passed : PairsPassed ps false inside now.at.due after
-  pub here : StandsAfter key now.at.due after now.at.reader.unread
+  pub passed : PairsPassed ps false inside now.at.comma_due after
+  pub here : StandsAfter key now.at.comma_due after now.at.reader.unread
   pub pending : now.pending ≡ is_some key
   pub rest : now.at.reader ≡ record from { unread = now.at.reader.unread; level = from.level + 1 }
 
 -- these pairs and the closing brace go on, with r after it; where a key is pending, the first pair without its key
 abbrev pub LeftAfter : Bool → Pairs → Bool → List ℕ → List ℕ → Type 0
-LeftAfter false ps due x r = PairsTail ps due x r
-LeftAfter true no_pair due x r = ⊥
-LeftAfter true (pair u plain t ps) due x r = (z : List ℕ) × IsKeyValue x t z × PairsTail ps true z r
+LeftAfter false ps comma_due x r = PairsTail ps comma_due x r
+LeftAfter true no_pair comma_due x r = ⊥
+LeftAfter true (pair u escape_free t ps) comma_due x r = (z : List ℕ) × IsKeyValue x t z × PairsTail ps true z r
 
 -- these pairs are left, the first perhaps without its key, and then the closing brace, with r after it; none is too deep
 pub record PairsLeft (ps : Pairs) (r : List ℕ) (now : MapAccessState) : Type 0 where
   pub live : now.at.reader.failed ≡ false
   pub shallow : now.at.reader.level + pair_depths ps ≤ max_depth
-  pub tail : LeftAfter now.pending ps now.at.due now.at.reader.unread r
+  pub tail : LeftAfter now.pending ps now.at.comma_due now.at.reader.unread r
 
 -- a key was read after the pairs, which stands for k; or none, and what was read is the same
 abbrev pub ReadsAKey : {K C : Type 0} → (K → C) → KeyConversion C → MapAccessState → MapAccessState → Option K → Type 0
 ReadsAKey content convert old new (Some k) =
-    (u : List ℕ) × (plain : Bool) × (convert u plain ≡ Some (content k)) × ((from : State) (ps : Pairs) → PairsRead from ps None old → PairsRead from ps (Some (u, plain)) new)
+    (u : List ℕ) × (escape_free : Bool) × (convert u escape_free ≡ Some (content k)) × ((from : State) (ps : Pairs) → PairsRead from ps None old → PairsRead from ps (Some (u, escape_free)) new)
 ReadsAKey content convert old new None = (from : State) (ps : Pairs) → PairsRead from ps None old → PairsRead from ps None new
 
 -- the key that was read has this value, one pair more
 abbrev pub ReadsAPair : {V C : Type 0} → (V → C) → (Tree → Option C) → MapAccessState → MapAccessState → V → Type 0
 ReadsAPair content convert old new v =
-    (t : Tree) × (convert t ≡ Some (content v)) × ((from : State) (ps : Pairs) (u : List ℕ) (plain : Bool) → PairsRead from ps (Some (u, plain)) old → PairsRead from (snoc_pair ps u plain t) None new)
+    (t : Tree) × (convert t ≡ Some (content v)) × ((from : State) (ps : Pairs) (u : List ℕ) (escape_free : Bool) → PairsRead from ps (Some (u, escape_free)) old → PairsRead from (snoc_pair ps u escape_free t) None new)
 
 -- where pairs are left and the first one's key converts, it was read, unless memory ran out, and its value is left; where none is left, none was given.
 -- Nothing is said of the refusal of a key that doesn't convert.
@@ -124,9 +124,9 @@ abbrev pub LeavesAValue : {K C : Type 0} → (K → C) → KeyConversion C → P
 LeavesAValue content convert no_pair r new (Ok None) = PairsLeft no_pair r new
 LeavesAValue content convert no_pair r new (Ok (Some k)) = ⊥
 LeavesAValue content convert no_pair r new (Err e) = ⊥
-LeavesAValue content convert (pair u plain t ps) r new (Ok None) = ⊥
-LeavesAValue content convert (pair u plain t ps) r new (Ok (Some k)) = (convert u plain ≡ Some (content k)) × PairsLeft (pair u plain t ps) r new
-LeavesAValue {C = C} content convert (pair u plain t ps) r new (Err e) = (c : C) → convert u plain ≡ Some c → IsOutOfMemory e
+LeavesAValue content convert (pair u escape_free t ps) r new (Ok None) = ⊥
+LeavesAValue content convert (pair u escape_free t ps) r new (Ok (Some k)) = (convert u escape_free ≡ Some (content k)) × PairsLeft (pair u escape_free t ps) r new
+LeavesAValue {C = C} content convert (pair u escape_free t ps) r new (Err e) = (c : C) → convert u escape_free ≡ Some c → IsOutOfMemory e
 
 -- where the first pair's value converts, it was read, unless memory ran out, and the others are left
 abbrev pub LeavesPairs : {V C : Type 0} → (V → C) → (Tree → Option C) → Tree → Pairs → List ℕ → MapAccessState → Result V Error → Type 0
@@ -135,7 +135,7 @@ LeavesPairs {C = C} content convert t ps r new (Err e) = (c : C) → convert t �
 
 -- the same of any pairs that are left
 abbrev pub LeavesOthers : {V C : Type 0} → (V → C) → (Tree → Option C) → MapAccessState → MapAccessState → Result V Error → Type 0
-LeavesOthers content convert old new result = (u : List ℕ) (plain : Bool) (t : Tree) (ps : Pairs) (r : List ℕ) → PairsLeft (pair u plain t ps) r old → LeavesPairs content convert t ps r new result
+LeavesOthers content convert old new result = (u : List ℕ) (escape_free : Bool) (t : Tree) (ps : Pairs) (r : List ℕ) → PairsLeft (pair u escape_free t ps) r old → LeavesPairs content convert t ps r new result
 
 -- ---- what the calls mean
 
@@ -159,7 +159,7 @@ pub record OpensMap {A : Type 0} (Held : A → Type 0) (state_of : A → MapAcce
 
 -- an object is closed: the pairs that were read are all of it
 pub record ClosesMap (old : MapAccessState) (new : State) (result : Result (Unit {0}) Error) : Type 0 where
-  pub bracket : ClosesAs curly old.at.due old.at.reader new result
+  pub bracket : ClosesAs curly old.at.comma_due old.at.reader new result
   pub same_text : SameText old.at.reader new
   pub failed : FailsIfErr new result
   pub read : OnOk result ((from : State) (ps : Pairs) → PairsRead from ps None old → TookValue from (object ps) new)

@@ -1,9 +1,9 @@
 -- What is refused where an option is expected.
 use Rattle.std.specs.Prelude.{◌≡◌, ◌⊎◌, ◌==◌, ℕ, Bool, true, false, List, [], ◌∷◌, ◌++◌, Option, Some, None}
-use Rattle.json5_grammar.specs.Characters.{letter_n}
+use Rattle.json5_grammar.specs.Language.Characters.{letter_n}
 use Rattle.json5_grammar.specs.declared.code.ErrorCode.{ErrorCode}
 use Rattle.json5_grammar.specs.declared.code.ErrorCode.TheVariants as codes
-use Rattle.json5_grammar.specs.Trees.{Tree, null, boolean, number, text, array, object}
+use Rattle.json5_grammar.specs.Language.Trees.{Tree, null, boolean, number, text, array, object}
 use Rattle.json5_text.specs.declared.error.Error.{Error}
 use Rattle.json5_text.specs.Cursor.{Refused}
 use Rattle.json5_de.specs.State.{State, cursor_of}
@@ -16,7 +16,7 @@ abbrev pub option_free : (Tree → Bool) → Tree → Bool
 option_free allocation_free null = true
 option_free allocation_free (boolean b) = allocation_free (boolean b)
 option_free allocation_free (number n) = allocation_free (number n)
-option_free allocation_free (text u plain) = allocation_free (text u plain)
+option_free allocation_free (text u escape_free) = allocation_free (text u escape_free)
 option_free allocation_free (array ts) = allocation_free (array ts)
 option_free allocation_free (object ps) = allocation_free (object ps)
 

@@ -3,23 +3,22 @@ use Rattle.std.specs.Prelude.{◌≡◌, ◌≤◌, ◌==◌, ℕ, ℤ, Bool, tr
 use Rattle.std.specs.Str.{all_scalars, chars, encode_utf8_all}
 use Rattle.hex.specs.declared.error.FromHexError.{FromHexError}
 use Rattle.hex.specs.declared.error.FromHexError.TheVariants as hex
-use Rattle.json5_grammar.specs.Characters.{NotBegun}
+use Rattle.json5_grammar.specs.Language.Characters.{NotBegun}
 use Rattle.json5_grammar.specs.declared.code.ErrorCode.{ErrorCode}
 use Rattle.json5_grammar.specs.declared.code.ErrorCode.TheVariants.{InvalidBytes}
-use Rattle.json5_grammar.specs.Stops.{lengthens}
-use Rattle.json5_grammar.specs.Strings.{Str}
+use Rattle.json5_grammar.specs.Language.Numbers.{lengthens, Num, whole}
+use Rattle.json5_grammar.specs.Language.Strings.{Str}
 use Rattle.json5_text.specs.declared.cow_str.CowStr.{CowStr}
 use Rattle.json5_text.specs.declared.number.Number as token
 use Rattle.json5_text.specs.Cows.{cow_bytes, is_borrowed}
 use Rattle.json5_text.specs.NumberViews.{number_of}
-use Rattle.json5_grammar.specs.Positions.{position_after}
+use Rattle.json5_grammar.specs.Faults.Positions.{position_after}
 use Rattle.json5_text.specs.declared.error.Error.{Error}
 use Rattle.json5_text.specs.Errors.{LacksMemory, place_of}
 use Rattle.json5_text.specs.Cursor.{Says, Refused, IsOffset}
-use Rattle.json5_grammar.specs.Blanks.{Gap, Solid}
-use Rattle.json5_grammar.specs.Documents.{max_depth}
-use Rattle.json5_grammar.specs.Numbers.{Num, whole}
-use Rattle.json5_grammar.specs.Values.{Stops}
+use Rattle.json5_grammar.specs.Language.Blanks.{Gap, Solid}
+use Rattle.json5_grammar.specs.Language.Documents.{max_depth}
+use Rattle.json5_grammar.specs.Language.Values.{Stops}
 use Rattle.json5_de.specs.State.{State, OnlyRead, cursor_of}
 use Rattle.json5_de.specs.Faults.{FaultRelation}
 
@@ -44,15 +43,15 @@ TookNumber old new n = (s : List ℕ) × TookText old s new × Num s (number_of 
 
 -- a string was taken, which stands for this text
 abbrev pub TookOwned : {A : Type 0} → State → State → String A → Type 0
-TookOwned old new t = (s u : List ℕ) × (plain : Bool) × TookText old s new × Str s u plain × (string_bytes t ≡ encode_utf8_all u)
+TookOwned old new t = (s u : List ℕ) × (escape_free : Bool) × TookText old s new × Str s u escape_free × (string_bytes t ≡ encode_utf8_all u)
 
--- the same, borrowed where it is plain
+-- the same, borrowed where it is escape-free
 abbrev pub TookCow : State → State → CowStr → Type 0
-TookCow old new t = (s u : List ℕ) × (plain : Bool) × TookText old s new × Str s u plain × (is_borrowed t ≡ plain) × (cow_bytes t ≡ encode_utf8_all u)
+TookCow old new t = (s u : List ℕ) × (escape_free : Bool) × TookText old s new × Str s u escape_free × (is_borrowed t ≡ escape_free) × (cow_bytes t ≡ encode_utf8_all u)
 
 -- the same, by the characters of its text
 abbrev pub TookCharacters : {A : Type 0} → State → State → String A → Type 0
-TookCharacters old new t = (s : List ℕ) × (plain : Bool) × TookText old s new × Str s (chars (string_bytes t)) plain
+TookCharacters old new t = (s : List ℕ) × (escape_free : Bool) × TookText old s new × Str s (chars (string_bytes t)) escape_free
 
 -- the token in front is refused with one of its faults, or memory ran out
 abbrev pub RefusesToken : FaultRelation → State → Error → Type 0

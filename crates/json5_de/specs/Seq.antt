@@ -2,10 +2,10 @@
 use Rattle.std.specs.Prelude.{◌≡◌, ℕ, ◌-◌, Bool, true, false, List, [], ◌∷◌, ◌++◌, Option, Some, None, ◌==◌, Result, IfOk, IfErr, OnOk, OnErr, IsErrAnd}
 use Rattle.json5_grammar.specs.declared.code.ErrorCode.{ErrorCode}
 use Rattle.json5_grammar.specs.declared.code.ErrorCode.TheVariants as codes
-use Rattle.json5_grammar.specs.Codes.{after_text}
-use Rattle.json5_grammar.specs.Characters.{NotBegun, comma_sign}
-use Rattle.json5_grammar.specs.Blanks.{Gap, Solid}
-use Rattle.json5_grammar.specs.Members.{IsSign, IsEnd}
+use Rattle.json5_grammar.specs.Faults.Codes.{after_text}
+use Rattle.json5_grammar.specs.Language.Characters.{NotBegun, comma_sign}
+use Rattle.json5_grammar.specs.Language.Blanks.{Gap, Solid}
+use Rattle.json5_grammar.specs.Model.Collections.{IsSign, IsEnd}
 use Rattle.json5_text.specs.Cursor.{Refused}
 use Rattle.json5_text.specs.Tokens.{FaultyBlanks}
 use Rattle.json5_text.specs.declared.error.Error.{Error}
@@ -50,32 +50,32 @@ pub record TakesClosing (b : Brackets) (old new : State) (result : Result (Unit 
   pub same_text : SameText old new
 
 -- a member may begin here: no closing bracket is next
-pub record AtMember (b : Brackets) (due : Bool) (old new : State) : Type 0 where
+pub record AtMember (b : Brackets) (comma_due : Bool) (old new : State) : Type 0 where
   pub live : old.failed ≡ false
-  pub begun : Begun due old.unread new.unread
+  pub begun : Begun comma_due old.unread new.unread
   pub inside : NotBegun (λ c. c == b.closing) new.unread
   pub rest : OnlyRead old new
 
 abbrev pub GoesOn : Brackets → Bool → State → State → Bool → Type 0
-GoesOn b due old new true = AtMember b due old new
-GoesOn b due old new false = AtClose b due old new
+GoesOn b comma_due old new true = AtMember b comma_due old new
+GoesOn b comma_due old new false = AtClose b comma_due old new
 
 -- x goes on with no place where a member may begin, and with no closing bracket
-pub record NothingNext (b : Brackets) (due : Bool) (x : List ℕ) : Type 0 where
-  pub no_member : (y : List ℕ) → Begun due x y → ⊥
-  pub no_close : (r : List ℕ) → IsEnd b.closing due x r → ⊥
+pub record NothingNext (b : Brackets) (comma_due : Bool) (x : List ℕ) : Type 0 where
+  pub no_member : (y : List ℕ) → Begun comma_due x y → ⊥
+  pub no_close : (r : List ℕ) → IsEnd b.closing comma_due x r → ⊥
 
 -- what is refused where the next member is expected
-pub data NoNext (b : Brackets) (due : Bool) : List ℕ → Option ErrorCode → Option (List ℕ) → Type 0 where
-  no_comma : (c : ℕ) (r : List ℕ) → due ≡ true → (c == comma_sign) ≡ false → (c == b.closing) ≡ false → NoNext b due (c ∷ r) (Some codes.ExpectedComma) (Some [])
-  comma_missing : due ≡ true → NoNext b due [] (Some b.ends) None
-  in_blanks_after : {x : List ℕ} {reason : Option ErrorCode} {place : Option (List ℕ)} → due ≡ true → FaultyBlanks x reason place → NoNext b due (comma_sign ∷ x) reason (after_text (comma_sign ∷ []) place)
+pub data NoNext (b : Brackets) (comma_due : Bool) : List ℕ → Option ErrorCode → Option (List ℕ) → Type 0 where
+  no_comma : (c : ℕ) (r : List ℕ) → comma_due ≡ true → (c == comma_sign) ≡ false → (c == b.closing) ≡ false → NoNext b comma_due (c ∷ r) (Some codes.ExpectedComma) (Some [])
+  comma_missing : comma_due ≡ true → NoNext b comma_due [] (Some b.ends) None
+  in_blanks_after : {x : List ℕ} {reason : Option ErrorCode} {place : Option (List ℕ)} → comma_due ≡ true → FaultyBlanks x reason place → NoNext b comma_due (comma_sign ∷ x) reason (after_text (comma_sign ∷ []) place)
 
 -- the reader goes to the next member, or to the closing bracket
-pub record Advances (b : Brackets) (due : Bool) (old new : State) (result : Result Bool Error) : Type 0 where
-  pub sound : IfOk result (λ more. GoesOn b due old new more)
-  pub refused : IfErr result (RefusedBy (NoNext b due) old)
-  pub nowhere : OnErr result (old.failed ≡ false → NothingNext b due old.unread)
+pub record Advances (b : Brackets) (comma_due : Bool) (old new : State) (result : Result Bool Error) : Type 0 where
+  pub sound : IfOk result (λ more. GoesOn b comma_due old new more)
+  pub refused : IfErr result (RefusedBy (NoNext b comma_due) old)
+  pub nowhere : OnErr result (old.failed ≡ false → NothingNext b comma_due old.unread)
   pub steady : Steady old new result
 
 -- ---- how a call of an access refuses
@@ -105,14 +105,14 @@ pub record RefusesCall {V : Type 0} (IsCause : Cause) (asked : Bool) (begins : �
 -- ---- elements
 
 -- the fault of a call for an element: none was reached, or the element's own
-pub data RefusesElement (refuses : State → Error → State → Type 0) (due : Bool) (old : State) (e : Error) (after : State) : Type 0 where
-  not_reached : RefusedBy (NoNext square due) old e → RefusesElement refuses due old e after
-  in_element : (start : State) → AtMember square due old start → refuses start e after → RefusesElement refuses due old e after
+pub data RefusesElement (refuses : State → Error → State → Type 0) (comma_due : Bool) (old : State) (e : Error) (after : State) : Type 0 where
+  not_reached : RefusedBy (NoNext square comma_due) old e → RefusesElement refuses comma_due old e after
+  in_element : (start : State) → AtMember square comma_due old start → refuses start e after → RefusesElement refuses comma_due old e after
 
 -- the element's fault, at the opening bracket where it had no place
 abbrev pub RefusedAtBracket : (State → Error → State → Type 0) → AccessState → Error → Type 0
-RefusedAtBracket refuses old e = PlacedFault (RefusesElement refuses old.due old.reader) old e
+RefusedAtBracket refuses old e = PlacedFault (RefusesElement refuses old.comma_due old.reader) old e
 
 -- how a call for an element refuses, which asks for a comma or the bracket after the first
 abbrev pub RefusesNext : {V : Type 0} → (State → Error → State → Type 0) → AccessState → State → Result V Error → Type 0
-RefusesNext refuses old new result = RefusesCall (RefusesElement refuses old.due old.reader) old.due (is_comma_or_closing square) codes.EofParsingArray codes.ExpectedComma old new result
+RefusesNext refuses old new result = RefusesCall (RefusesElement refuses old.comma_due old.reader) old.comma_due (is_comma_or_closing square) codes.EofParsingArray codes.ExpectedComma old new result

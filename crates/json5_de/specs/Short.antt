@@ -2,7 +2,7 @@
 use Rattle.std.specs.Prelude.{◌≡◌, ℕ, Bool, true, false, List, Option, MatchOption, Result, Ok, Err, String, string_bytes}
 use Rattle.std.specs.Borrow.{Bor}
 use Rattle.std.specs.Str.{encode_utf8_all}
-use Rattle.json5_grammar.specs.Trees.{text}
+use Rattle.json5_grammar.specs.Language.Trees.{text}
 use Rattle.json5_text.specs.Errors.{LacksMemory}
 use Rattle.json5_text.specs.TextTokens.{StandsAt}
 use Rattle.json5_text.specs.ShortTexts.{IsTextAt}
@@ -24,9 +24,9 @@ ReadsShort kind content old new result = MatchOption result (new ≡ old) (λ v.
 
 -- a step to the next member or to the closing bracket is taken, or nothing
 abbrev pub StepsShort : Brackets → Bool → State → State → ShortStep → Type 0
-StepsShort b due old new short.Member = GoesOn b due old new true
-StepsShort b due old new short.Closing = GoesOn b due old new false
-StepsShort b due old new short.Other = new ≡ old
+StepsShort b comma_due old new short.Member = GoesOn b comma_due old new true
+StepsShort b comma_due old new short.Closing = GoesOn b comma_due old new false
+StepsShort b comma_due old new short.Other = new ≡ old
 
 -- a text without an escape is read, which stands there, or nothing
 abbrev pub ReadsShortText : State → State → Option Span → Type 0
@@ -37,12 +37,12 @@ abbrev pub ReadsShortKey : State → State → Option Span → Type 0
 ReadsShortKey old new result = MatchOption result (new ≡ old) (λ span. (u : List ℕ) × TookKey old u true new × StandsAt new.input u span.start span.end)
 
 -- a text without an escape is read, or nothing
-abbrev pub ReadsPlainText : State → State → Option (Bor (List ℕ)) → Type 0
-ReadsPlainText old new result = MatchOption result (new ≡ old) (λ t. (u : List ℕ) × TookValue old (text u true) new × (t.now ≡ encode_utf8_all u))
+abbrev pub ReadsEscapeFreeText : State → State → Option (Bor (List ℕ)) → Type 0
+ReadsEscapeFreeText old new result = MatchOption result (new ≡ old) (λ t. (u : List ℕ) × TookValue old (text u true) new × (t.now ≡ encode_utf8_all u))
 
 -- a key without an escape is taken, or nothing
-abbrev pub ReadsPlainKey : State → State → Option (Bor (List ℕ)) → Type 0
-ReadsPlainKey old new result = MatchOption result (new ≡ old) (λ t. (u : List ℕ) × TookKey old u true new × (t.now ≡ encode_utf8_all u))
+abbrev pub ReadsEscapeFreeKey : State → State → Option (Bor (List ℕ)) → Type 0
+ReadsEscapeFreeKey old new result = MatchOption result (new ≡ old) (λ t. (u : List ℕ) × TookKey old u true new × (t.now ≡ encode_utf8_all u))
 
 -- the colon after a key is passed, or nothing
 abbrev pub PassesShortColon : State → State → Bool → Type 0

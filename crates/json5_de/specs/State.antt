@@ -1,6 +1,6 @@
 -- What contracts see of a reader.
 use Rattle.std.specs.Prelude.{◌≡◌, ℕ, ◌-◌, List, Bool, true, false, Option, Result, slice_get, OnOk, OnErr, IsErrAnd}
-use Rattle.json5_grammar.specs.Documents.{max_depth}
+use Rattle.json5_grammar.specs.Language.Documents.{max_depth}
 use Rattle.json5_text.specs.declared.error.Error.{Error}
 use Rattle.json5_text.specs.Cursor.{Cursor}
 

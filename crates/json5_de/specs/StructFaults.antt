@@ -1,8 +1,8 @@
 -- Why a struct is refused.
 use Rattle.std.specs.Prelude.{◌≡◌, ◌⊎◌, ℕ, Bool, true, false, List, ◌∷◌, ◌++◌, length, Option, Some, None, is_some, Result, IfErr}
 use Rattle.std.specs.Str.{encode_utf8_all}
-use Rattle.json5_grammar.specs.Characters.{left_brace, right_brace}
-use Rattle.json5_grammar.specs.Trees.{Tree, Pairs, no_pair}
+use Rattle.json5_grammar.specs.Language.Characters.{left_brace, right_brace}
+use Rattle.json5_grammar.specs.Language.Trees.{Tree, Pairs, no_pair}
 use Rattle.json5_text.specs.declared.error.Error.{Error}
 use Rattle.json5_de.specs.State.{State, SameText}
 use Rattle.json5_value.specs.Brackets.{curly}
@@ -57,7 +57,7 @@ pub record ReadSince {S : Type 0} (step : Step S) (start s : S) (key : Option (L
 -- after the pairs that were read the next key is refused, or the value of a key that was read
 pub data PairsFault {S : Type 0} (step : Step S) (faults : ValueFaults) (start : S) (old : MapAccessState) (e : Error) : Type 0 where
   at_key : (s : S) (now : MapAccessState) → ReadSince step start s None old now → KeyRefusedAtBrace (RefusedAsKey string_key) now e → PairsFault step faults start old e
-  at_value : (s : S) (now : MapAccessState) (u : List ℕ) (plain : Bool) → ReadSince step start s (Some (u, plain)) old now → faults (encode_utf8_all u) (may_stand step s (encode_utf8_all u)) now e → PairsFault step faults start old e
+  at_value : (s : S) (now : MapAccessState) (u : List ℕ) (escape_free : Bool) → ReadSince step start s (Some (u, escape_free)) old now → faults (encode_utf8_all u) (may_stand step s (encode_utf8_all u)) now e → PairsFault step faults start old e
 
 -- pairs that are refused have one of these faults; where a call was refused before, this one answers `Failed` at the opening brace
 pub record RefusesPairs {S : Type 0} (step : Step S) (faults : ValueFaults) (start : S) (old : MapAccessState) (result : Result (Unit {0}) Error) : Type 0 where

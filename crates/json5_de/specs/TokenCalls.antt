@@ -1,11 +1,10 @@
 -- What the reader's calls for one token mean: it is taken, or refused with one of its faults, and then the reader has failed.
 use Rattle.std.specs.Prelude.{◌≡◌, ℕ, Bool, true, false, List, ◌++◌, String, Result, IfOk, IfErr, OnOk, OnErr, IsOk}
 use Rattle.json5_grammar.specs.declared.code.ErrorCode.{ErrorCode}
-use Rattle.json5_grammar.specs.Characters.{NotBegun}
-use Rattle.json5_grammar.specs.Names.{Key}
-use Rattle.json5_grammar.specs.Numbers.{Number, Num}
-use Rattle.json5_grammar.specs.Stops.{lengthens}
-use Rattle.json5_grammar.specs.Strings.{Str}
+use Rattle.json5_grammar.specs.Language.Characters.{NotBegun}
+use Rattle.json5_grammar.specs.Language.Names.{Key}
+use Rattle.json5_grammar.specs.Language.Numbers.{Number, Num, lengthens}
+use Rattle.json5_grammar.specs.Language.Strings.{Str}
 use Rattle.json5_text.specs.declared.cow_str.CowStr.{CowStr}
 use Rattle.json5_text.specs.declared.error.Error.{Error}
 use Rattle.json5_text.specs.declared.text_token.TextToken.{TextToken}
@@ -64,18 +63,18 @@ number = record {
   Completes = λ x result. (s r : List ℕ) (n : Number) → x ≡ s ++ r → Num s n → NotBegun (lengthens s) r → keeps_digits n ≡ false → IsOk result;
 }
 
--- a plain string takes no memory
-abbrev pub CompletesPlain : {V : Type 0} → List ℕ → Result V Error → Type 0
-CompletesPlain x result = (s u r : List ℕ) → x ≡ s ++ r → Str s u true → IsOk result
+-- an escape-free string takes no memory
+abbrev pub CompletesEscapeFree : {V : Type 0} → List ℕ → Result V Error → Type 0
+CompletesEscapeFree x result = (s u r : List ℕ) → x ≡ s ++ r → Str s u true → IsOk result
 
--- a string, its text borrowed where it is plain
+-- a string, its text borrowed where it is escape-free
 abbrev pub string : Token CowStr
-string = record { Took = TookCow; IsFault = FaultyString; Completes = CompletesPlain }
+string = record { Took = TookCow; IsFault = FaultyString; Completes = CompletesEscapeFree }
 
 -- a string, to its token
 abbrev pub string_token : Token TextToken
-string_token = record { Took = TookToken IsString; IsFault = FaultyString; Completes = CompletesPlain }
+string_token = record { Took = TookToken IsString; IsFault = FaultyString; Completes = CompletesEscapeFree }
 
 -- a key
 abbrev pub key : Token TextToken
-key = record { Took = TookToken Key; IsFault = FaultyKey; Completes = λ x result. (s u r : List ℕ) (plain : Bool) → x ≡ s ++ r → Key s r u plain → IfErr result LacksMemory }
+key = record { Took = TookToken Key; IsFault = FaultyKey; Completes = λ x result. (s u r : List ℕ) (escape_free : Bool) → x ≡ s ++ r → Key s r u escape_free → IfErr result LacksMemory }

@@ -4,19 +4,19 @@ use Rattle.std.specs.String.{string_bytes}
 use Rattle.std.specs.Borrow.{Bor}
 use Rattle.std.specs.declared.string.String.{String}
 use Rattle.std.specs.declared.alloc.Global.{Global}
-use Rattle.json5_grammar.specs.Characters.{letter_f, letter_n, letter_t}
+use Rattle.json5_grammar.specs.Language.Characters.{letter_f, letter_n, letter_t}
 use Rattle.json5_grammar.specs.declared.code.ErrorCode.{ErrorCode}
 use Rattle.json5_grammar.specs.declared.code.ErrorCode.TheVariants as codes
-use Rattle.json5_grammar.specs.NumberFaults.{is_sign, begins_number}
-use Rattle.json5_grammar.specs.Numbers.{Decimal}
-use Rattle.json5_grammar.specs.Strings.{is_quote}
-use Rattle.json5_grammar.specs.Trees.{Tree, text}
+use Rattle.json5_grammar.specs.Faults.Tokens.{is_sign, begins_number}
+use Rattle.json5_grammar.specs.Language.Numbers.{Decimal}
+use Rattle.json5_grammar.specs.Language.Strings.{is_quote}
+use Rattle.json5_grammar.specs.Language.Trees.{Tree, text}
 use Rattle.json5_text.specs.declared.byte_buf.ByteBuf.{ByteBuf}
 use Rattle.json5_text.specs.declared.error.Error.{Error}
 use Rattle.json5_text.specs.Bytes.{bytes_of}
 use Rattle.json5_de.specs.State.{State}
 use Rattle.json5_de.specs.Law.{ReadsValue}
-use Rattle.json5_de.specs.Convert.{unit_of, bool_of, as_number, as_whole, natural_below, integer_below, every_decimal, as_text, every_text, if_plain, every_cow, one_character, index_of, digits_bytes}
+use Rattle.json5_de.specs.Convert.{unit_of, bool_of, as_number, as_whole, natural_below, integer_below, every_decimal, as_text, every_text, if_escape_free, every_cow, one_character, index_of, digits_bytes}
 use Rattle.json5_de.specs.Faults.{FaultRelation, RefusedBy, RefusedByOrMemory, FaultyNull, FaultyBool, NotNumber, NotText, EndsWith, EndsWithOrMemory, DiffersWith, DiffersWithOrMemory}
 
 -- a kind of value: the faults where one is expected, what each tree gives, which trees are read without memory,
@@ -66,9 +66,9 @@ abbrev pub no_tree : Tree → Bool
 no_tree t = false
 
 -- a text without a backslash
-abbrev pub plain_text : Tree → Bool
-plain_text (text u plain) = plain
-plain_text _ = false
+abbrev pub escape_free_text : Tree → Bool
+escape_free_text (text u escape_free) = escape_free
+escape_free_text _ = false
 
 -- ---- the kinds
 
@@ -104,21 +104,21 @@ text_kind = coded_text_kind None
 abbrev pub string_kind : Kind (List ℕ)
 string_kind = text_kind every_text no_tree
 
--- one character; a plain text takes no memory
+-- one character; an escape-free text takes no memory
 abbrev pub char_kind : Kind ℕ
-char_kind = text_kind one_character plain_text
+char_kind = text_kind one_character escape_free_text
 
 -- a text without a backslash
-abbrev pub plain_kind : Kind (List ℕ)
-plain_kind = text_kind if_plain every_tree
+abbrev pub escape_free_kind : Kind (List ℕ)
+escape_free_kind = text_kind if_escape_free every_tree
 
--- a text, and whether it is plain, which then takes no memory
+-- a text, and whether it is escape-free, which then takes no memory
 abbrev pub cow_kind : Kind (List ℕ × Bool)
-cow_kind = text_kind every_cow plain_text
+cow_kind = text_kind every_cow escape_free_text
 
--- one of these names, by its first place among them; a plain text takes no memory
+-- one of these names, by its first place among them; an escape-free text takes no memory
 abbrev pub variant_kind : List (List ℕ) → Kind ℕ
-variant_kind names = text_kind (index_of names) plain_text
+variant_kind names = text_kind (index_of names) escape_free_text
 
 -- bytes, as a text of hexadecimal digits
 abbrev pub bytes_kind : Kind (List ℕ)

@@ -2,8 +2,8 @@
 
 ghost use Rattle.std.specs.Prelude.{◌≡◌, ◌==◌, false, true, ℕ, List, Some, slice_get, IfErr, OnOk, IsOk};
 ghost use Rattle.json5_grammar.specs.declared.code.ErrorCode.TheVariants as codes;
-ghost use Rattle.json5_grammar.specs.Characters.{NotBegun};
-ghost use Rattle.json5_grammar.specs.Members.{IsEnd};
+ghost use Rattle.json5_grammar.specs.Language.Characters.{NotBegun};
+ghost use Rattle.json5_grammar.specs.Model.Collections.{IsEnd};
 ghost use Rattle.json5_de.specs.State.{SameText, GivesUpIfErr};
 ghost use Rattle.json5_de.specs.Faults.{RefusedBy};
 ghost use Rattle.json5_de.specs.Law.{AnswersFailed};
@@ -22,7 +22,7 @@ impl<I: Input> Deserializer<I> {
 
     /// Takes an opening bracket, and returns the count of bytes before it.
     pub(crate) fn open(&mut self, kind: BracketKind) -> Result<usize>
-        ensures opens { OpensAs (brackets_of kind) (λ start. record { reader = self.new; start = start; due = false }) self.old result }
+        ensures opens { OpensAs (brackets_of kind) (λ start. record { reader = self.new; start = start; comma_due = false }) self.old result }
         ensures failed { GivesUpIfErr self.old self.new result }
     {
         self.skip_blank()?;
@@ -48,26 +48,26 @@ impl<I: Input> Deserializer<I> {
 
     /// Goes to the next member and says true, or to the closing bracket and says false.
     #[inline(always)]
-    pub(crate) fn advance_to_entry(&mut self, kind: BracketKind, due: bool) -> Result<bool>
-        ensures { Advances (brackets_of kind) due self.old self.new result }
+    pub(crate) fn advance_to_entry(&mut self, kind: BracketKind, comma_due: bool) -> Result<bool>
+        ensures { Advances (brackets_of kind) comma_due self.old self.new result }
     {
-        match self.short_step(kind, due) {
+        match self.short_step(kind, comma_due) {
             ShortStep::Member => Ok(true),
             ShortStep::Closing => Ok(false),
-            ShortStep::Other => self.advance_slowly(kind, due),
+            ShortStep::Other => self.advance_slowly(kind, comma_due),
         }
     }
 
     /// The same, whatever is in front.
     #[inline(never)]
-    fn advance_slowly(&mut self, kind: BracketKind, due: bool) -> Result<bool>
-        ensures { Advances (brackets_of kind) due self.old self.new result }
+    fn advance_slowly(&mut self, kind: BracketKind, comma_due: bool) -> Result<bool>
+        ensures { Advances (brackets_of kind) comma_due self.old self.new result }
     {
         self.skip_blank()?;
         if self.at_closing(kind) {
             return Ok(false);
         }
-        if !due {
+        if !comma_due {
             return Ok(true);
         }
         if !self.eat(',') {
@@ -90,15 +90,15 @@ impl<I: Input> Deserializer<I> {
     }
 
     /// Takes a closing bracket, and before it the comma that may be there.
-    pub(crate) fn close(&mut self, kind: BracketKind, due: bool) -> Result<()>
-        ensures closed { OnOk result (Closed (brackets_of kind) due self.old self.new) }
-        ensures refused { IfErr result (RefusedBy (NotClosed (brackets_of kind) due) self.old) }
+    pub(crate) fn close(&mut self, kind: BracketKind, comma_due: bool) -> Result<()>
+        ensures closed { OnOk result (Closed (brackets_of kind) comma_due self.old self.new) }
+        ensures refused { IfErr result (RefusedBy (NotClosed (brackets_of kind) comma_due) self.old) }
         ensures same_text { SameText self.old self.new }
-        ensures complete { (r : List ℕ) → self.old.failed ≡ false → IsEnd (brackets_of kind).closing due self.old.unread r → IsOk result }
+        ensures complete { (r : List ℕ) → self.old.failed ≡ false → IsEnd (brackets_of kind).closing comma_due self.old.unread r → IsOk result }
         ensures before { AnswersFailed self.old result }
     {
         self.skip_blank()?;
-        if !due {
+        if !comma_due {
             return self.bracket(kind);
         }
         if !self.eat(',') {

@@ -4,7 +4,7 @@ ghost use Rattle.std.specs.Prelude.{◌≡◌, ◌≤◌, ◌<◌, ◌+◌, ◌-
 ghost use Rattle.std.specs.Str.{chars};
 ghost use Rattle.json5_text.specs.Errors.{FaultKind, kind_of};
 ghost use Rattle.json5_text.specs.Cursor.{IsPlaced, Locates};
-ghost use Rattle.json5_grammar.specs.Documents.{max_depth};
+ghost use Rattle.json5_grammar.specs.Language.Documents.{max_depth};
 ghost use Rattle.json5_grammar.specs.declared.code.ErrorCode.TheVariants as codes;
 ghost use Rattle.json5_value.specs.Keeping.{OwnsKey, ReadsDatum};
 ghost use Rattle.json5_value.specs.Kinds.{word_of, ends_of, differs_of};
@@ -57,7 +57,7 @@ use std::marker::Model;
 /// ```
 pub trait Deserialize<I: Input>: Sized + Drop {
     ghost use Rattle.std.specs.Prelude.{Bool, false, Option, ⊤};
-    ghost use Rattle.json5_grammar.specs.Trees.{Tree};
+    ghost use Rattle.json5_grammar.specs.Language.Trees.{Tree};
     ghost use Rattle.json5_text.specs.declared.error.Error.{Error};
     ghost use Rattle.json5_de.specs.State.{State};
 
@@ -140,7 +140,7 @@ pub struct Deserializer<I: Input> {
 
 impl<I: Input> Model for Deserializer<I> {
     ghost use Rattle.std.specs.Prelude.{◌≤◌};
-    ghost use Rattle.json5_grammar.specs.Documents.{max_depth};
+    ghost use Rattle.json5_grammar.specs.Language.Documents.{max_depth};
     ghost use Rattle.json5_de.specs.State.{State};
 
     ghost Value = { State };

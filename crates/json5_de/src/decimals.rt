@@ -1,7 +1,7 @@
 //! The decimal of a whole number.
 
 ghost use Rattle.std.specs.Prelude.{◌≡◌, nat_abs, IfOk, IfErr};
-ghost use Rattle.json5_grammar.specs.Numbers as numbers;
+ghost use Rattle.json5_grammar.specs.Language.Numbers as numbers;
 ghost use Rattle.json5_text.specs.Errors.{LacksMemory};
 ghost use Rattle.json5_de.specs.Convert.{same_decimal};
 

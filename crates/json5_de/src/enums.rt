@@ -103,10 +103,10 @@ impl<I: Input> Deserializer<I> {
     }
 
     /// Takes a closing bracket, and before it the comma that may be there; a refusal is for good.
-    pub(crate) fn close_or_fail(&mut self, kind: BracketKind, due: bool) -> Result<()>
-        ensures { ClosesLast (brackets_of kind) due self.old self.new result }
+    pub(crate) fn close_or_fail(&mut self, kind: BracketKind, comma_due: bool) -> Result<()>
+        ensures { ClosesLast (brackets_of kind) comma_due self.old self.new result }
     {
-        match self.close(kind, due) {
+        match self.close(kind, comma_due) {
             Ok(()) => Ok(()),
             Err(e) => self.refuse(e),
         }
@@ -114,10 +114,10 @@ impl<I: Input> Deserializer<I> {
 
     /// Takes the closing bracket of a variant's content, and then the variant's brace, which begins at this offset. A fault of
     /// the bracket without a position gets that of the brace.
-    pub(crate) fn close_content(&mut self, kind: BracketKind, due: bool, brace: usize) -> Result<()>
-        ensures { ClosesContent (brackets_of kind) due brace self.old self.new result }
+    pub(crate) fn close_content(&mut self, kind: BracketKind, comma_due: bool, brace: usize) -> Result<()>
+        ensures { ClosesContent (brackets_of kind) comma_due brace self.old self.new result }
     {
-        match self.close_or_fail(kind, due) {
+        match self.close_or_fail(kind, comma_due) {
             Ok(()) => self.close_or_fail(BracketKind::Object, true),
             Err(e) => Err(self.place_at(brace, e)),
         }
@@ -126,7 +126,7 @@ impl<I: Input> Deserializer<I> {
     /// Opens the content of a variant, which is an array or an object. A fault without a position gets that of the variant's brace;
     /// a string has no content.
     fn open_content(&mut self, kind: BracketKind, name: &Named, expected: &str) -> Result<usize>
-        ensures opens { OpensContent (brackets_of kind) (λ start. record { reader = self.new; start = start; due = false }) (named_state_of self.old name.now) result }
+        ensures opens { OpensContent (brackets_of kind) (λ start. record { reader = self.new; start = start; comma_due = false }) (named_state_of self.old name.now) result }
         ensures failed { GivesUpIfErr self.old self.new result }
     {
         if !name.has_content {

@@ -93,10 +93,10 @@ impl<I: Input> Deserializer<I> {
     }
 
     /// The next key of an object as a text, as `pair_key::<String>` gives it, in the memory of a spare one.
-    fn pair_name(&mut self, due: bool, spare: String) -> Result<Option<String>>
-        ensures { ReadsKeyOfPair string_bytes every_text (RefusedAsKey string_key) due self.old self.new result }
+    fn pair_name(&mut self, comma_due: bool, spare: String) -> Result<Option<String>>
+        ensures { ReadsKeyOfPair string_bytes every_text (RefusedAsKey string_key) comma_due self.old self.new result }
     {
-        if !self.advance_to_key(due)? {
+        if !self.advance_to_key(comma_due)? {
             return Ok(None);
         }
         let start = self.offset();

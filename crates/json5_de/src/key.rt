@@ -11,7 +11,7 @@ ghost use Rattle.json5_de.specs.Options.{RefusesLive};
 ghost use Rattle.json5_de.specs.TokenKinds.{bool_kind, natural_kind, integer_kind, decimal_kind};
 ghost use Rattle.json5_de.specs.Convert.{spelled};
 ghost use Rattle.json5_de.specs.Keys.{GivesKey, CompletesKey, ReadsKeyOf, ReadsOneKey};
-ghost use Rattle.json5_de.specs.KeyKinds.{ReadsKeyAs, string_key, char_key, plain_key, cow_key, variant_key, ignored_key, bytes_key, document_key, some_of};
+ghost use Rattle.json5_de.specs.KeyKinds.{ReadsKeyAs, string_key, char_key, escape_free_key, cow_key, variant_key, ignored_key, bytes_key, document_key, some_of};
 ghost use Rattle.json5_de.specs.KeySteps.{IsTextFault, is_out_of_memory};
 
 use crate::de::Deserializer;
@@ -393,7 +393,7 @@ impl<'de, I: Borrows<'de>> MapKey<'_, I> {
     /// - A custom fault at a key that has an escape.
     /// - The codes of every call: see [`MapKey`].
     pub fn deserialize_str(&mut self) -> Result<&'de str>
-        ensures { KeyReads plain_key (λ t. t.now) self.old self.new result }
+        ensures { KeyReads escape_free_key (λ t. t.now) self.old self.new result }
     {
         self.de.key_str()
     }
@@ -530,7 +530,7 @@ impl<'de, I: Borrows<'de>> Deserializer<I> {
     /// Reads a key without an escape.
     #[inline(never)]
     pub(crate) fn key_str_slowly(&mut self) -> Result<&'de str>
-        ensures { ReadsKeyAs plain_key (λ t. t.now) self.old self.new result }
+        ensures { ReadsKeyAs escape_free_key (λ t. t.now) self.old self.new result }
     {
         let key = self.found_key()?;
         match self.borrowed_key_text(key.token) {

@@ -4,7 +4,7 @@ ghost use Rattle.std.specs.Prelude.{string_bytes};
 ghost use Rattle.json5_text.specs.Cows.{cow_bytes, is_borrowed};
 ghost use Rattle.json5_de.specs.ConvertLists.{if_some};
 ghost use Rattle.json5_de.specs.Options.{RefusesLive};
-ghost use Rattle.json5_de.specs.KeyKinds.{string_key, char_key, plain_key, cow_key, some_of};
+ghost use Rattle.json5_de.specs.KeyKinds.{string_key, char_key, escape_free_key, cow_key, some_of};
 
 use crate::any::IgnoredAny;
 use crate::key::{DeserializeKey, MapKey};
@@ -73,16 +73,16 @@ impl<I: Input> DeserializeKey<I> for ByteBuf {
 
 impl<'de, I: Borrows<'de>> DeserializeKey<I> for &'de str {
     ghost use Rattle.std.specs.Prelude.{ℕ, List};
-    ghost use Rattle.json5_de.specs.Convert.{if_plain};
-    ghost use Rattle.json5_de.specs.KeyKinds.{plain_key, RefusedAsKey};
+    ghost use Rattle.json5_de.specs.Convert.{if_escape_free};
+    ghost use Rattle.json5_de.specs.KeyKinds.{escape_free_key, RefusedAsKey};
 
     ghost Content = { List ℕ };
 
     ghost content = { λ t. t.now };
 
-    ghost convert = { if_plain };
+    ghost convert = { if_escape_free };
 
-    ghost refuses = { RefusedAsKey plain_key };
+    ghost refuses = { RefusedAsKey escape_free_key };
 
     fn deserialize_key(key: &mut MapKey<'_, I>) -> Result<&'de str> {
         key.deserialize_str()
@@ -148,7 +148,7 @@ impl<I: Input, K: DeserializeKey<I>> DeserializeKey<I> for Option<K> {
 /// A type that a whole text is read as: one value of its kind, with blanks and comments round it.
 pub trait FromText: Sized + Drop {
     ghost use Rattle.std.specs.Str.{chars};
-    ghost use Rattle.json5_grammar.specs.Documents.{max_depth};
+    ghost use Rattle.json5_grammar.specs.Language.Documents.{max_depth};
     ghost use Rattle.json5_de.specs.TokenKinds.{Kind, RefusedAs};
     ghost use Rattle.json5_de.specs.Texts.{ReadsWholeText};
 
@@ -362,7 +362,7 @@ impl FromText for i128 {
 }
 
 impl FromText for Decimal {
-    ghost use Rattle.json5_grammar.specs.Numbers as numbers;
+    ghost use Rattle.json5_grammar.specs.Language.Numbers as numbers;
     ghost use Rattle.json5_de.specs.TokenKinds.{decimal_kind};
 
     ghost Content = { numbers.Decimal };

@@ -10,7 +10,7 @@ ghost use Rattle.json5_de.specs.Law.{OneAnswer};
 ghost use Rattle.json5_de.specs.Keys.{OneKeyAnswer};
 ghost use Rattle.json5_de.specs.KeyKinds.{ConvertsDocuments};
 ghost use Rattle.json5_de.specs.Maps.{HoldsInOrder, HoldsInTurn, HoldsAtKeys};
-ghost use Rattle.json5_de.specs.TokenKinds.{TellsApart, no_tree, null_kind, bool_kind, natural_kind, integer_kind, decimal_kind, string_kind, char_kind, plain_kind, variant_kind, cow_kind, bytes_kind, text_bytes, slice_bytes};
+ghost use Rattle.json5_de.specs.TokenKinds.{TellsApart, no_tree, null_kind, bool_kind, natural_kind, integer_kind, decimal_kind, string_kind, char_kind, escape_free_kind, variant_kind, cow_kind, bytes_kind, text_bytes, slice_bytes};
 
 use crate::de::Deserialize;
 use crate::key::DeserializeKey;
@@ -28,7 +28,7 @@ pub fn value_codes()
     ensures decimal { TellsApart decimal_kind (λ d. d) }
     ensures string { TellsApart string_kind text_bytes }
     ensures character { TellsApart char_kind (λ c. c) }
-    ensures plain { TellsApart plain_kind slice_bytes }
+    ensures escape_free { TellsApart escape_free_kind slice_bytes }
     ensures variant { (names : List (List ℕ)) → TellsApart (variant_kind names) (λ n. n) }
     ensures cow { TellsApart cow_kind (λ t. (cow_bytes t, is_borrowed t)) }
     ensures bytes { TellsApart bytes_kind bytes_of }

@@ -257,10 +257,10 @@ impl<'a, I: Input> MapAccess<'a, I> {
             brace,
         } = self;
         de.set_failed(failed);
-        let due = stage.is_comma_due();
+        let comma_due = stage.is_comma_due();
         match brace {
-            None => de.close_or_fail(BracketKind::Object, due),
-            Some(brace) => de.close_content(BracketKind::Object, due, brace),
+            None => de.close_or_fail(BracketKind::Object, comma_due),
+            Some(brace) => de.close_content(BracketKind::Object, comma_due, brace),
         }
     }
 }

@@ -1,8 +1,8 @@
 //! Reading of the keys of an object's pairs.
 
 ghost use Rattle.std.specs.Prelude.{◌≡◌, true, false, IfOk, IfErr, OnErr};
-ghost use Rattle.json5_grammar.specs.Characters.{NotBegun};
-ghost use Rattle.json5_grammar.specs.Members.{NoPairGoes};
+ghost use Rattle.json5_grammar.specs.Language.Characters.{NotBegun};
+ghost use Rattle.json5_grammar.specs.Model.Collections.{NoPairGoes};
 ghost use Rattle.json5_text.specs.Errors.{kind_of};
 ghost use Rattle.json5_value.specs.Places.{StartsAfter};
 ghost use Rattle.json5_de.specs.Law.{Steady};
@@ -62,13 +62,13 @@ impl<I: Input> Deserializer<I> {
     }
 
     /// Goes to the next key and says true, or to the closing brace and says false.
-    pub(crate) fn advance_to_key(&mut self, due: bool) -> Result<bool>
-        ensures sound { IfOk result (λ more. GoesToKey due self.old self.new more) }
-        ensures refused { IfErr result (RefusedBy (NoKey due) self.old) }
-        ensures nowhere { OnErr result (self.old.failed ≡ false → NoPairGoes due self.old.unread) }
+    pub(crate) fn advance_to_key(&mut self, comma_due: bool) -> Result<bool>
+        ensures sound { IfOk result (λ more. GoesToKey comma_due self.old self.new more) }
+        ensures refused { IfErr result (RefusedBy (NoKey comma_due) self.old) }
+        ensures nowhere { OnErr result (self.old.failed ≡ false → NoPairGoes comma_due self.old.unread) }
         ensures steady { Steady self.old self.new result }
     {
-        if !self.advance_to_entry(BracketKind::Object, due)? {
+        if !self.advance_to_entry(BracketKind::Object, comma_due)? {
             return Ok(false);
         }
         if !self.at_key() {
@@ -92,10 +92,10 @@ impl<I: Input> Deserializer<I> {
     }
 
     /// The next key of an object, or none where the closing brace is next.
-    pub(crate) fn pair_key<K: DeserializeKey<I>>(&mut self, due: bool) -> Result<Option<K>>
-        ensures { ReadsKeyOfPair K.content K.convert K.refuses due self.old self.new result }
+    pub(crate) fn pair_key<K: DeserializeKey<I>>(&mut self, comma_due: bool) -> Result<Option<K>>
+        ensures { ReadsKeyOfPair K.content K.convert K.refuses comma_due self.old self.new result }
     {
-        if !self.advance_to_key(due)? {
+        if !self.advance_to_key(comma_due)? {
             return Ok(None);
         }
         let start = self.offset();

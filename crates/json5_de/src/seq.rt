@@ -3,7 +3,7 @@
 ghost use Rattle.std.specs.Prelude.{◌≡◌, ◌||◌, false, ℕ, List, None, Some, is_some, IfOk, IfErr};
 ghost use Rattle.std.specs.Borrow.{sem};
 ghost use Rattle.json5_grammar.specs.declared.code.ErrorCode.TheVariants as codes;
-ghost use Rattle.json5_grammar.specs.Trees.{Trees};
+ghost use Rattle.json5_grammar.specs.Language.Trees.{Trees};
 ghost use Rattle.json5_text.specs.Cursor.{Locates};
 ghost use Rattle.json5_value.specs.Brackets.{square};
 ghost use Rattle.json5_de.specs.Law.{Steady, Unprompted};
@@ -71,14 +71,14 @@ impl<I: Input> Deserializer<I> {
 
     /// Reads the next element of an array, or returns none where the closing bracket is next.
     #[inline(always)]
-    fn element<T: Deserialize<I>>(&mut self, due: bool) -> Result<Option<T>>
-        ensures sound { IfOk result (λ o. GivesElement T.content T.convert (bare self.old due) (bare self.new (due || is_some o)) o) }
-        ensures complete { CompletesElement T.convert (bare self.old due) result }
-        ensures closing { CompletesClose square (bare self.old due) result }
-        ensures cause { IfErr result (λ e. RefusesElement T.refuses due self.old e self.new) }
+    fn element<T: Deserialize<I>>(&mut self, comma_due: bool) -> Result<Option<T>>
+        ensures sound { IfOk result (λ o. GivesElement T.content T.convert (bare self.old comma_due) (bare self.new (comma_due || is_some o)) o) }
+        ensures complete { CompletesElement T.convert (bare self.old comma_due) result }
+        ensures closing { CompletesClose square (bare self.old comma_due) result }
+        ensures cause { IfErr result (λ e. RefusesElement T.refuses comma_due self.old e self.new) }
         ensures steady { Steady self.old self.new result }
     {
-        if self.advance_to_entry(BracketKind::Array, due)? {
+        if self.advance_to_entry(BracketKind::Array, comma_due)? {
             Ok(Some(T::deserialize(self)?))
         } else {
             Ok(None)
@@ -263,10 +263,10 @@ impl<'a, I: Input> SeqAccess<'a, I> {
             brace,
         } = self;
         de.set_failed(failed);
-        let due = stage.is_comma_due();
+        let comma_due = stage.is_comma_due();
         match brace {
-            None => de.close_or_fail(BracketKind::Array, due),
-            Some(brace) => de.close_content(BracketKind::Array, due, brace),
+            None => de.close_or_fail(BracketKind::Array, comma_due),
+            Some(brace) => de.close_content(BracketKind::Array, comma_due, brace),
         }
     }
 }

@@ -7,8 +7,8 @@ ghost use Rattle.json5_de.specs.Convert.{IsUpTo, IsWithin};
 ghost use Rattle.json5_de.specs.TokenKinds.{natural_kind, integer_kind};
 ghost use Rattle.json5_text.specs.Cows.{cow_bytes, is_borrowed};
 ghost use Rattle.json5_text.specs.ShortTexts.{IsTextAt};
-ghost use Rattle.json5_de.specs.KeyKinds.{ReadsKeyAs, plain_key, cow_key, string_key};
-ghost use Rattle.json5_de.specs.Short.{ReadsShort, StepsShort, ReadsShortText, ReadsShortKey, ReadsPlainText, ReadsPlainKey, PassesShortColon, OwnsTextAt};
+ghost use Rattle.json5_de.specs.KeyKinds.{ReadsKeyAs, escape_free_key, cow_key, string_key};
+ghost use Rattle.json5_de.specs.Short.{ReadsShort, StepsShort, ReadsShortText, ReadsShortKey, ReadsEscapeFreeText, ReadsEscapeFreeKey, PassesShortColon, OwnsTextAt};
 
 use crate::de::Deserializer;
 use json5_text::ErrorCode;
@@ -48,13 +48,13 @@ impl<I: Input> Deserializer<I> {
 
     /// Goes to the next member or to the closing bracket, or nowhere.
     #[inline(always)]
-    pub(crate) fn short_step(&mut self, kind: BracketKind, due: bool) -> ShortStep
-        ensures { StepsShort (brackets_of kind) due self.old self.new result }
+    pub(crate) fn short_step(&mut self, kind: BracketKind, comma_due: bool) -> ShortStep
+        ensures { StepsShort (brackets_of kind) comma_due self.old self.new result }
     {
         if self.failed {
             return ShortStep::Other;
         }
-        self.scanner.short_step(kind.brackets().closing as u8, due)
+        self.scanner.short_step(kind.brackets().closing as u8, comma_due)
     }
 
     /// Reads a text without an escape, and answers where it stands, or nothing.
@@ -133,7 +133,7 @@ impl<'de, I: Borrows<'de>> Deserializer<I> {
     /// Reads a text without an escape, or nothing.
     #[inline(always)]
     pub(crate) fn short_str(&mut self) -> Option<&'de str>
-        ensures { ReadsPlainText self.old self.new result }
+        ensures { ReadsEscapeFreeText self.old self.new result }
     {
         let span = self.short_string()?;
         Some(self.borrowed_text_at(span))
@@ -142,7 +142,7 @@ impl<'de, I: Borrows<'de>> Deserializer<I> {
     /// Takes a key without an escape, or nothing.
     #[inline(always)]
     fn short_key_str(&mut self) -> Option<&'de str>
-        ensures { ReadsPlainKey self.old self.new result }
+        ensures { ReadsEscapeFreeKey self.old self.new result }
     {
         let span = self.short_key()?;
         Some(self.borrowed_text_at(span))
@@ -162,7 +162,7 @@ impl<'de, I: Borrows<'de>> Deserializer<I> {
     /// Reads a key without an escape.
     #[inline(always)]
     pub(crate) fn key_str(&mut self) -> Result<&'de str>
-        ensures { ReadsKeyAs plain_key (λ t. t.now) self.old self.new result }
+        ensures { ReadsKeyAs escape_free_key (λ t. t.now) self.old self.new result }
     {
         match self.short_key_str() {
             Some(text) => Ok(text),

@@ -2,8 +2,8 @@
 
 ghost use Rattle.std.specs.Prelude.{◌≡◌, Some, true, IfOk, IfErr, IsOk};
 ghost use Rattle.std.specs.Str.{chars};
-ghost use Rattle.json5_grammar.specs.Documents.{Doc, max_depth};
-ghost use Rattle.json5_grammar.specs.Trees.{Tree};
+ghost use Rattle.json5_grammar.specs.Language.Documents.{Doc, max_depth};
+ghost use Rattle.json5_grammar.specs.Language.Trees.{Tree};
 ghost use Rattle.json5_de.specs.Law.{IsUnprompted};
 ghost use Rattle.json5_de.specs.Texts.{ReadsDocument, RefusesReading, BlamesRest};
 

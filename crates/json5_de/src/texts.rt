@@ -5,7 +5,7 @@ ghost use Rattle.std.specs.Str.{chars};
 ghost use Rattle.json5_text.specs.Cows.{cow_bytes, is_borrowed};
 ghost use Rattle.json5_de.specs.Convert.{one_character};
 ghost use Rattle.json5_de.specs.FoundTexts.{Judges};
-ghost use Rattle.json5_de.specs.TokenKinds.{ReadsAs, string_kind, char_kind, plain_kind, cow_kind};
+ghost use Rattle.json5_de.specs.TokenKinds.{ReadsAs, string_kind, char_kind, escape_free_kind, cow_kind};
 
 use crate::de::Deserializer;
 use crate::found_text::FoundText;
@@ -125,7 +125,7 @@ impl<'de, I: Borrows<'de>> Deserializer<I> {
     /// - The codes of every call that reads a string: see [`Deserializer`].
     #[inline(always)]
     pub fn deserialize_str(&mut self) -> Result<&'de str>
-        ensures { ReadsAs plain_kind (λ t. t.now) self.old self.new result }
+        ensures { ReadsAs escape_free_kind (λ t. t.now) self.old self.new result }
     {
         match self.short_str() {
             Some(text) => Ok(text),
@@ -136,7 +136,7 @@ impl<'de, I: Borrows<'de>> Deserializer<I> {
     /// The same for any text.
     #[inline(never)]
     fn str_slowly(&mut self) -> Result<&'de str>
-        ensures { ReadsAs plain_kind (λ t. t.now) self.old self.new result }
+        ensures { ReadsAs escape_free_kind (λ t. t.now) self.old self.new result }
     {
         self.skip_blank()?;
         let start = self.offset();

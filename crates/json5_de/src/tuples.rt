@@ -6,7 +6,7 @@ use json5_text::input::Input;
 
 /// Reads an array of one element. The faults are those of a tuple of two.
 impl<I: Input, A: Deserialize<I>> Deserialize<I> for (A,) {
-    ghost use Rattle.json5_grammar.specs.Members.{array_of};
+    ghost use Rattle.json5_grammar.specs.Model.Collections.{array_of};
     ghost use Rattle.json5_de.specs.Lists.{element, every, tuple_of_size, RefusesList};
     ghost use Rattle.json5_de.specs.ConvertLists.{last_of};
 
@@ -35,9 +35,9 @@ impl<I: Input, A: Deserialize<I>> Deserialize<I> for (A,) {
 /// let (name, port): (String, u16) = read(de)?;    // ['http', 80]
 /// ```
 impl<I: Input, A: Deserialize<I>, B: Deserialize<I>> Deserialize<I> for (A, B) {
-    ghost use Rattle.json5_grammar.specs.Members.{array_of};
     ghost use Rattle.json5_de.specs.Lists.{element, every, first_then, tuple_of_size, RefusesList};
     ghost use Rattle.json5_de.specs.ConvertLists.{first_of, last_of};
+    ghost use Rattle.json5_grammar.specs.Model.Collections.{array_of};
 
     ghost Content = { A.Content × B.Content };
 
@@ -60,9 +60,9 @@ impl<I: Input, A: Deserialize<I>, B: Deserialize<I>> Deserialize<I> for (A, B) {
 /// Reads an array of three elements. The faults are those of a tuple of two.
 impl<I: Input, A: Deserialize<I>, B: Deserialize<I>, C: Deserialize<I>> Deserialize<I>
     for (A, B, C) {
-    ghost use Rattle.json5_grammar.specs.Members.{array_of};
     ghost use Rattle.json5_de.specs.Lists.{element, every, first_then, tuple_of_size, RefusesList};
     ghost use Rattle.json5_de.specs.ConvertLists.{first_of, last_of};
+    ghost use Rattle.json5_grammar.specs.Model.Collections.{array_of};
 
     ghost Content = { A.Content × (B.Content × C.Content) };
 
@@ -91,9 +91,9 @@ impl<
     C: Deserialize<I>,
     D: Deserialize<I>,
 > Deserialize<I> for (A, B, C, D) {
-    ghost use Rattle.json5_grammar.specs.Members.{array_of};
     ghost use Rattle.json5_de.specs.Lists.{element, every, first_then, tuple_of_size, RefusesList};
     ghost use Rattle.json5_de.specs.ConvertLists.{first_of, last_of};
+    ghost use Rattle.json5_grammar.specs.Model.Collections.{array_of};
 
     ghost Content = { A.Content × (B.Content × (C.Content × D.Content)) };
 

@@ -4,7 +4,7 @@ ghost use Rattle.std.specs.Prelude.{string_bytes};
 ghost use Rattle.json5_text.specs.Bytes.{bytes_of};
 ghost use Rattle.json5_text.specs.Cows.{cow_bytes, is_borrowed};
 ghost use Rattle.json5_text.specs.ValueViews.{value_of};
-ghost use Rattle.json5_de.specs.TokenKinds.{ReadsAs, null_kind, bool_kind, decimal_kind, string_kind, char_kind, plain_kind, cow_kind, bytes_kind};
+ghost use Rattle.json5_de.specs.TokenKinds.{ReadsAs, null_kind, bool_kind, decimal_kind, string_kind, char_kind, escape_free_kind, cow_kind, bytes_kind};
 
 use crate::de::{Deserialize, Deserializer};
 use json5_text::byte_buf::ByteBuf;
@@ -61,7 +61,7 @@ impl<I: Input> Deserialize<I> for bool {
 
 /// Reads a number of any kind, as `deserialize_decimal`.
 impl<I: Input> Deserialize<I> for Decimal {
-    ghost use Rattle.json5_grammar.specs.Numbers as numbers;
+    ghost use Rattle.json5_grammar.specs.Language.Numbers as numbers;
     ghost use Rattle.json5_de.specs.Convert.{decimal_of};
     ghost use Rattle.json5_de.specs.TokenKinds.{decimal_kind, RefusedAs};
 
@@ -84,7 +84,7 @@ impl<I: Input> Deserialize<I> for Decimal {
 impl<I: Input> Deserialize<I> for char {
     ghost use Rattle.std.specs.Prelude.{ℕ};
     ghost use Rattle.json5_de.specs.Convert.{char_of};
-    ghost use Rattle.json5_de.specs.TokenKinds.{char_kind, plain_text, RefusedAs};
+    ghost use Rattle.json5_de.specs.TokenKinds.{char_kind, escape_free_text, RefusedAs};
 
     ghost Content = { ℕ };
 
@@ -92,7 +92,7 @@ impl<I: Input> Deserialize<I> for char {
 
     ghost convert = { char_of };
 
-    ghost allocation_free = { plain_text };
+    ghost allocation_free = { escape_free_text };
 
     ghost refuses = { RefusedAs char_kind };
 
@@ -127,21 +127,21 @@ impl<I: Input> Deserialize<I> for String {
 /// Reads a string without an escape as a slice of the input, as `deserialize_str`.
 impl<'de, I: Borrows<'de>> Deserialize<I> for &'de str {
     ghost use Rattle.std.specs.Prelude.{ℕ, List};
-    ghost use Rattle.json5_de.specs.Convert.{plain_of};
-    ghost use Rattle.json5_de.specs.TokenKinds.{plain_kind, every_tree, RefusedAs};
+    ghost use Rattle.json5_de.specs.Convert.{escape_free_of};
+    ghost use Rattle.json5_de.specs.TokenKinds.{escape_free_kind, every_tree, RefusedAs};
 
     ghost Content = { List ℕ };
 
     ghost content = { λ t. t.now };
 
-    ghost convert = { plain_of };
+    ghost convert = { escape_free_of };
 
     ghost allocation_free = { every_tree };
 
-    ghost refuses = { RefusedAs plain_kind };
+    ghost refuses = { RefusedAs escape_free_kind };
 
     fn deserialize(de: &mut Deserializer<I>) -> Result<&'de str>
-        ensures { ReadsAs plain_kind (λ t. t.now) de.old de.new result }
+        ensures { ReadsAs escape_free_kind (λ t. t.now) de.old de.new result }
     {
         de.deserialize_str()
     }
@@ -152,7 +152,7 @@ impl<'de, I: Borrows<'de>> Deserialize<I> for CowStr<'de> {
     ghost use Rattle.std.specs.Prelude.{ℕ, List, Bool};
     ghost use Rattle.json5_text.specs.Cows.{cow_bytes, is_borrowed};
     ghost use Rattle.json5_de.specs.Convert.{cow_of};
-    ghost use Rattle.json5_de.specs.TokenKinds.{cow_kind, plain_text, RefusedAs};
+    ghost use Rattle.json5_de.specs.TokenKinds.{cow_kind, escape_free_text, RefusedAs};
 
     ghost Content = { List ℕ × Bool };
 
@@ -160,7 +160,7 @@ impl<'de, I: Borrows<'de>> Deserialize<I> for CowStr<'de> {
 
     ghost convert = { cow_of };
 
-    ghost allocation_free = { plain_text };
+    ghost allocation_free = { escape_free_text };
 
     ghost refuses = { RefusedAs cow_kind };
 

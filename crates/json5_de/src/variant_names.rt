@@ -1,8 +1,8 @@
 //! Reading of the name of a variant: a text, or the only key of an object.
 
 ghost use Rattle.std.specs.Prelude.{◌≡◌, true, false};
-ghost use Rattle.json5_grammar.specs.Characters.{NotBegun};
-ghost use Rattle.json5_grammar.specs.Strings.{is_quote};
+ghost use Rattle.json5_grammar.specs.Language.Characters.{NotBegun};
+ghost use Rattle.json5_grammar.specs.Language.Strings.{is_quote};
 ghost use Rattle.json5_de.specs.Convert.{spelled};
 ghost use Rattle.json5_de.specs.Enums.{Begins, NamesVariant, ReadsOnlyKey, ReadsKeyed, is_left_brace};
 ghost use Rattle.json5_de.specs.Lending.{named_state_of};

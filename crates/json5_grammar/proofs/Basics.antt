@@ -3,10 +3,10 @@ use Rattle.std.proofs.Common.{◌≡◌, ℕ, ◌<◌, ◌≤◌, Bool, true, fa
 use Rattle.std.specs.Prelude.{◌==◌, ◌&&◌, ⊤, nat_lt}
 use Rattle.std.specs.Char.{digit_value}
 use Rattle.std.proofs.lemmas.Bool.Decides.{nat_tests}
-use Rattle.json5_grammar.specs.Characters.{NotBegun, is_digit, is_hex_digit}
-use Rattle.json5_grammar.specs.Strings.{Items, no_item, raw, escape, Escape, short, nul, byte, unicode, line_end, cr_lf, lone_cr, itself}
-use Rattle.json5_grammar.specs.Codes.{after_text}
-use Rattle.json5_grammar.specs.Reading.{Place, here, inner, IsAt}
+use Rattle.json5_grammar.specs.Language.Characters.{NotBegun, is_digit, is_hex_digit}
+use Rattle.json5_grammar.specs.Language.Strings.{Items, no_item, raw, escape, Escape, short, nul, byte, unicode, line_end, cr_lf, lone_cr, itself}
+use Rattle.json5_grammar.specs.Faults.Codes.{after_text}
+use Rattle.json5_grammar.specs.Model.Reading.{Place, here, inner, IsAt}
 
 -- a test that a `cond` makes
 pub by_test : {A : Type 0} (P : A → Type 0) (b : Bool) (x y : A) → (b ≡ true → P x) → (b ≡ false → P y) → P (cond b x y)
@@ -108,7 +108,7 @@ same_escape r h cr_lf = cr_lf
 same_escape r h (lone_cr {r = q} n) = lone_cr (same_not (λ c. c == 10) q r h n)
 same_escape r h (itself k) = itself k
 
-pub same_items : {c : ℕ} {q s u : List ℕ} {plain : Bool} (r : List ℕ) → SameHead q r → Items c q s u plain → Items c r s u plain
+pub same_items : {c : ℕ} {q s u : List ℕ} {escape_free : Bool} (r : List ℕ) → SameHead q r → Items c q s u escape_free → Items c r s u escape_free
 same_items r h no_item = no_item
 same_items r h (raw k i) = raw k (same_items r h i)
 same_items {q = q} r h (escape {s = s} x i) = escape (same_escape (s ++ r) (same_append s q r h) x) (same_items r h i)

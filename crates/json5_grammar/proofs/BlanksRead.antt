@@ -7,10 +7,10 @@ use Rattle.std.proofs.lemmas.List.{append-nil}
 use Rattle.ucd_category.specs.GeneralCategory.{general_category}
 use Rattle.ucd_table.specs.Rows.{value_in}
 use Rattle.ucd_category.specs.GeneralCategoryRows.{general_category_rows}
-use Rattle.json5_grammar.specs.Characters.{is_in, is_terminator, is_space_separator, is_blank, NotBegun, Each, no_char, char}
-use Rattle.json5_grammar.specs.Blanks.{Inside, ends, star, other, Blanks, empty, blank, line, block, LastBlanks, open_line, Gap, at_end, is_solid, Solid}
-use Rattle.json5_grammar.specs.Reading.{got}
-use Rattle.json5_grammar.specs.ReadBlanks.{Mode, between, slash, skip}
+use Rattle.json5_grammar.specs.Language.Characters.{is_in, is_terminator, is_space_separator, is_blank, NotBegun, Each, no_char, char}
+use Rattle.json5_grammar.specs.Language.Blanks.{Inside, ends, star, other, Blanks, empty, blank, line, block, LastBlanks, open_line, Gap, at_end, is_solid, Solid}
+use Rattle.json5_grammar.specs.Model.Reading.{got}
+use Rattle.json5_grammar.specs.Model.ReadBlanks.{Mode, between, slash, skip}
 use Rattle.json5_grammar.proofs.Basics.{eq_from, neq_from, not_eq}
 
 -- ---- printable characters are no blanks

@@ -2,12 +2,13 @@
 use Rattle.std.proofs.Common.{◌≡◌, ℕ, Bool, true, false, cond, ◌||◌, not, List, [], ◌∷◌, ◌++◌, refl, ap, sym, ◌∙◌, append_assoc, ◌≢◌, ◌⊎◌, inl, inr, subst, Option, Some, None}
 use Rattle.std.specs.Prelude.{◌==◌}
 use Rattle.std.proofs.lemmas.List.{append-nil}
-use Rattle.json5_grammar.specs.Characters.{is_terminator, is_blank, NotBegun, Each, no_char, char}
-use Rattle.json5_grammar.specs.Codes.{ErrorCode, ExpectedComment, EofParsingComment, Shown, by_char, by_end, after_text}
-use Rattle.json5_grammar.specs.Blanks.{Inside, ends, star, other, Blanks, empty, blank, line, block, LastBlanks, open_line, Gap, at_end, is_solid, Solid, CommentFault, no_comment, slash_ends, block_ends, BlankFault, in_comment}
-use Rattle.json5_grammar.specs.Blames.{BlankBlame, HasGap, IsBlamed}
-use Rattle.json5_grammar.specs.Reading.{Place, here, inner, Read, got, bad, IsAt}
-use Rattle.json5_grammar.specs.ReadBlanks.{Mode, between, slash, skip}
+use Rattle.json5_grammar.specs.Language.Characters.{is_terminator, is_blank, NotBegun, Each, no_char, char}
+use Rattle.json5_grammar.specs.Faults.Codes.{ErrorCode, ExpectedComment, EofParsingComment, Shown, by_char, by_end, after_text}
+use Rattle.json5_grammar.specs.Language.Blanks.{Inside, ends, star, other, Blanks, empty, blank, line, block, LastBlanks, open_line, Gap, at_end, is_solid, Solid}
+use Rattle.json5_grammar.specs.Faults.Tokens.{CommentFault, no_comment, slash_ends, block_ends, BlankFault, in_comment}
+use Rattle.json5_grammar.specs.Faults.Blames.{BlankBlame, HasGap, IsBlamed}
+use Rattle.json5_grammar.specs.Model.Reading.{Place, here, inner, Read, got, bad, IsAt}
+use Rattle.json5_grammar.specs.Model.ReadBlanks.{Mode, between, slash, skip}
 use Rattle.json5_grammar.proofs.Basics.{by_test, eq_from, neq_from, not_eq, at_after}
 use Rattle.json5_grammar.proofs.Refusals.{Refuses, one_refusal, not_both, refuses_after, one_answer}
 use Rattle.json5_grammar.proofs.BlanksRead.{skip_slash, skip_blanks, skip_gap, skip_rest, solid_from, begins_solid}

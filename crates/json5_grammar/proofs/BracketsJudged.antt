@@ -2,16 +2,16 @@
 use Rattle.std.proofs.Common.{◌≡◌, ℕ, zero, suc, ◌+◌, ◌<◌, ◌≤◌, Bool, true, false, cond, List, [], ◌∷◌, ◌++◌, length, refl, ap, arith, length-append, subst, Some}
 use Rattle.std.specs.Prelude.{◌==◌}
 use Rattle.std.proofs.lemmas.Bool.{not-false, or_from}
-use Rattle.json5_grammar.specs.Characters.{NotBegun}
-use Rattle.json5_grammar.specs.Codes.{EofParsingArray, EofParsingObject, ExpectedColon, ExpectedComma}
-use Rattle.json5_grammar.specs.Blanks.{Solid, is_solid}
-use Rattle.json5_grammar.specs.Trees.{Tree, Trees, Pairs, no_more, more, no_pair, pair}
-use Rattle.json5_grammar.specs.Fronts.{BracketKind, of_array, of_object, closing, Bracket, Expects, takes_value, member_of, value, element, key, colon, comma}
+use Rattle.json5_grammar.specs.Language.Characters.{NotBegun}
+use Rattle.json5_grammar.specs.Faults.Codes.{EofParsingArray, EofParsingObject, ExpectedColon, ExpectedComma}
+use Rattle.json5_grammar.specs.Language.Blanks.{Solid, is_solid}
+use Rattle.json5_grammar.specs.Language.Trees.{Tree, Trees, Pairs, no_more, more, no_pair, pair}
+use Rattle.json5_grammar.specs.Faults.Fronts.{BracketKind, of_array, of_object, closing, Bracket, Expects, takes_value, member_of, value, element, key, colon, comma}
 use Rattle.json5_grammar.specs.Faults.{is_allowed_close, no_comma, comma_missing, key_missing, no_colon, colon_missing}
-use Rattle.json5_grammar.specs.Reading.{here, Read, got, bad, and_then}
-use Rattle.json5_grammar.specs.ReadBlanks.{skip, between}
-use Rattle.json5_grammar.specs.ReadTexts as texts
-use Rattle.json5_grammar.specs.ReadValues.{items, entries, after_member, close_or, member, after_pair, colon_at, value_after, pair_at, key_or, read}
+use Rattle.json5_grammar.specs.Model.Reading.{here, Read, got, bad, and_then}
+use Rattle.json5_grammar.specs.Model.ReadBlanks.{skip, between}
+use Rattle.json5_grammar.specs.Model.ReadTexts as texts
+use Rattle.json5_grammar.specs.Model.ReadValues.{items, entries, after_member, close_or, member, after_pair, colon_at, value_after, pair_at, key_or, read}
 use Rattle.json5_grammar.proofs.Basics.{by_test, eq_from, neq_from}
 use Rattle.json5_grammar.proofs.ValueTurns.{gap_no_longer}
 use Rattle.json5_grammar.proofs.ValuesSound.{IsGap, IsValue, IsKeyAt, IsValueAfter, gap_found, key_found, read_found, value_found, before_rest}

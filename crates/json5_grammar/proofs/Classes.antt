@@ -8,12 +8,11 @@ use Rattle.ucd_category.specs.declared.GeneralCategory.{GeneralCategory}
 use Rattle.ucd_category.specs.declared.GeneralCategory.TheVariants as category
 use Rattle.ucd_table.specs.Rows.{value_in}
 use Rattle.ucd_category.specs.GeneralCategoryRows.{general_category_rows}
-use Rattle.json5_grammar.specs.Characters.{is_in, is_space_category, is_start_category, is_part_category, is_space_separator, is_blank, is_hex_digit, is_identifier_start, is_identifier_part}
-use Rattle.json5_grammar.specs.Names.{goes_on_name}
-use Rattle.json5_grammar.specs.Numbers.{hex_start}
-use Rattle.json5_grammar.specs.Stops.{in_run, after_zero, begins_run, lengthens_body, lengthens}
-use Rattle.json5_grammar.specs.NumberFaults.{is_sign, begins_number}
-use Rattle.json5_grammar.specs.Strings.{is_quote}
+use Rattle.json5_grammar.specs.Language.Characters.{is_in, is_space_category, is_start_category, is_part_category, is_space_separator, is_blank, is_hex_digit, is_identifier_start, is_identifier_part}
+use Rattle.json5_grammar.specs.Language.Names.{goes_on_name}
+use Rattle.json5_grammar.specs.Language.Numbers.{hex_start, in_run, after_zero, begins_run, lengthens_body, lengthens}
+use Rattle.json5_grammar.specs.Faults.Tokens.{is_sign, begins_number}
+use Rattle.json5_grammar.specs.Language.Strings.{is_quote}
 use Rattle.json5_grammar.specs.Faults.{begins_value}
 use Rattle.json5_grammar.proofs.Basics.{eq_from}
 use Rattle.json5_grammar.proofs.BlanksRead.{printable_no_space, printable_no_blank}

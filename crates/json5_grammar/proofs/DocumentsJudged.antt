@@ -1,17 +1,17 @@
 -- A text is a document, or it has a fault of the table, and not both.
 use Rattle.std.proofs.Common.{◌≡◌, ℕ, List, [], ◌∷◌, ◌++◌, refl, ap, sym, ◌∙◌, subst, ◌⊎◌, inl, inr, Option, Some, None}
 use Rattle.std.proofs.lemmas.List.{append-nil}
-use Rattle.json5_grammar.specs.Blames.{IsBlamed, TextBlame, ValueBlame, IsDocument, HasValue}
-use Rattle.json5_grammar.specs.Blanks.{LastBlanks, Gap}
-use Rattle.json5_grammar.specs.Codes.{ErrorCode, Shown}
-use Rattle.json5_grammar.specs.Documents.{Doc}
+use Rattle.json5_grammar.specs.Faults.Blames.{IsBlamed, TextBlame, ValueBlame, IsDocument, HasValue}
+use Rattle.json5_grammar.specs.Language.Blanks.{LastBlanks, Gap}
+use Rattle.json5_grammar.specs.Faults.Codes.{ErrorCode, Shown}
+use Rattle.json5_grammar.specs.Language.Documents.{Doc}
 use Rattle.json5_grammar.specs.Faults.{FaultWhere, Fault, ValueFault, fault, Anywhere, InValue}
-use Rattle.json5_grammar.specs.Fronts.{Expects}
-use Rattle.json5_grammar.specs.Reading.{Place, here, inner, Read, got, bad, and_then, IsAt}
-use Rattle.json5_grammar.specs.ReadBlanks.{skip, between}
-use Rattle.json5_grammar.specs.ReadValues.{read, at_end, document}
-use Rattle.json5_grammar.specs.Trees.{Tree}
-use Rattle.json5_grammar.specs.Values.{Reads}
+use Rattle.json5_grammar.specs.Faults.Fronts.{Expects}
+use Rattle.json5_grammar.specs.Model.Reading.{Place, here, inner, Read, got, bad, and_then, IsAt}
+use Rattle.json5_grammar.specs.Model.ReadBlanks.{skip, between}
+use Rattle.json5_grammar.specs.Model.ReadValues.{read, at_end, document}
+use Rattle.json5_grammar.specs.Language.Trees.{Tree}
+use Rattle.json5_grammar.specs.Language.Values.{Reads}
 use Rattle.json5_grammar.proofs.BlanksSound.{gap_blanks, gap_end}
 use Rattle.json5_grammar.proofs.Found.{Found}
 use Rattle.json5_grammar.proofs.Refusals.{Refuses, same_place, one_refusal, not_both}

@@ -1,15 +1,15 @@
 -- A whole text: a document is read as its tree, and each part of another text that is refused refuses the whole.
 use Rattle.std.proofs.Common.{◌≡◌, ℕ, ◌≤◌, List, [], ◌∷◌, ◌++◌, refl, ap, sym, ◌∙◌, append_assoc, subst, Option, Some}
-use Rattle.json5_grammar.specs.Blanks.{Gap, Solid}
-use Rattle.json5_grammar.specs.Codes.{after_text}
+use Rattle.json5_grammar.specs.Language.Blanks.{Gap, Solid}
+use Rattle.json5_grammar.specs.Faults.Codes.{after_text}
 use Rattle.json5_grammar.specs.declared.code.ErrorCode.{ErrorCode}
 use Rattle.json5_grammar.specs.declared.code.ErrorCode.TheVariants.{TrailingCharacters}
-use Rattle.json5_grammar.specs.Documents.{Doc}
-use Rattle.json5_grammar.specs.Reading.{Read, here, got, and_then}
-use Rattle.json5_grammar.specs.ReadBlanks.{skip, between}
-use Rattle.json5_grammar.specs.ReadValues.{read, at_end, document}
-use Rattle.json5_grammar.specs.Trees.{Tree, depth}
-use Rattle.json5_grammar.specs.Values.{Reads}
+use Rattle.json5_grammar.specs.Language.Documents.{Doc}
+use Rattle.json5_grammar.specs.Model.Reading.{Read, here, got, and_then}
+use Rattle.json5_grammar.specs.Model.ReadBlanks.{skip, between}
+use Rattle.json5_grammar.specs.Model.ReadValues.{read, at_end, document}
+use Rattle.json5_grammar.specs.Language.Trees.{Tree, depth}
+use Rattle.json5_grammar.specs.Language.Values.{Reads}
 use Rattle.json5_grammar.proofs.BlanksRead.{skip_last}
 use Rattle.json5_grammar.proofs.BlanksSound.{gap_read}
 use Rattle.json5_grammar.proofs.Found.{then_then}

@@ -3,12 +3,12 @@ use Rattle.std.proofs.Common.{◌≡◌, ℕ, Bool, true, false, ◌&&◌, List,
 use Rattle.std.specs.Prelude.{◌==◌}
 use Rattle.std.proofs.lemmas.Bool.Decides.{nat_tests}
 use Rattle.std.proofs.lemmas.List.{append-nil}
-use Rattle.json5_grammar.specs.Characters.{is_digit, is_in, is_terminator}
-use Rattle.json5_grammar.specs.Strings.{short_escape, stands_for_itself, Hex4, is_high, is_low, Unicode, single, surrogates, Escape, short, nul, byte, unicode, line_end, cr_lf, lone_cr, itself}
-use Rattle.json5_grammar.specs.Codes.{ErrorCode, InvalidEscapeSequence, Shown, by_char, by_end}
-use Rattle.json5_grammar.specs.StringFaults.{is_surrogate, in_byte, in_first, in_second, no_backslash, no_u, lone_backslash, digits_missing, second_missing, EscapeFault, digit_after_nul, escaped_digit, no_escape_digit, no_second_escape, unpaired, escape_ends}
-use Rattle.json5_grammar.specs.Reading.{Place, here, Read, got, bad, and_then, IsAt}
-use Rattle.json5_grammar.specs.ReadTexts.{hex, paired, second, second_u, first, unicode_at, one_char, after_nul, after_cr, escape_at, not_short}
+use Rattle.json5_grammar.specs.Language.Characters.{is_digit, is_in, is_terminator}
+use Rattle.json5_grammar.specs.Language.Strings.{short_escape, stands_for_itself, Hex4, is_high, is_low, Unicode, single, surrogates, Escape, short, nul, byte, unicode, line_end, cr_lf, lone_cr, itself}
+use Rattle.json5_grammar.specs.Faults.Codes.{ErrorCode, InvalidEscapeSequence, Shown, by_char, by_end}
+use Rattle.json5_grammar.specs.Faults.Tokens.{is_surrogate, in_byte, in_first, in_second, no_backslash, no_u, lone_backslash, digits_missing, second_missing, EscapeFault, digit_after_nul, escaped_digit, no_escape_digit, no_second_escape, unpaired, escape_ends}
+use Rattle.json5_grammar.specs.Model.Reading.{Place, here, Read, got, bad, and_then, IsAt}
+use Rattle.json5_grammar.specs.Model.ReadTexts.{hex, paired, second, second_u, first, unicode_at, one_char, after_nul, after_cr, escape_at, not_short}
 use Rattle.json5_grammar.proofs.Basics.{by_test, eq_from, neq_from}
 use Rattle.json5_grammar.proofs.Hexes.{wrong, cut, Hex4Sound, hex4_sound, Hex2Sound, hex2_sound}
 

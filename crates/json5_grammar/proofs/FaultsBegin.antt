@@ -1,15 +1,14 @@
 -- What stands before a fault's part begins a document.
 use Rattle.std.proofs.Common.{◌≡◌, ℕ, ◌≤◌, Bool, true, List, [], ◌∷◌, ◌++◌, length, refl, ap, sym, ◌∙◌, append_assoc, arith, subst, ◌⊎◌, inl, inr, Option}
 use Rattle.std.proofs.lemmas.List.{append-nil}
-use Rattle.json5_grammar.specs.Codes.{ErrorCode, Shown}
-use Rattle.json5_grammar.specs.Blames.{StandsIn}
-use Rattle.json5_grammar.specs.Documents.{Doc, Begins}
-use Rattle.json5_grammar.specs.Names.{Ident, Key, IsName}
-use Rattle.json5_grammar.specs.NameFaults.{NameFault}
-use Rattle.json5_grammar.specs.Strings.{Str, IsOpenString}
-use Rattle.json5_grammar.specs.StringFaults.{StringFault}
-use Rattle.json5_grammar.specs.Values.{is_text}
-use Rattle.json5_grammar.specs.Fronts.{Bracket, Expects, takes_value, Front, start, after_value, after_bracket, after_comma, after_key, after_colon, key}
+use Rattle.json5_grammar.specs.Faults.Codes.{ErrorCode, Shown}
+use Rattle.json5_grammar.specs.Faults.Blames.{StandsIn}
+use Rattle.json5_grammar.specs.Language.Documents.{Doc, Begins}
+use Rattle.json5_grammar.specs.Language.Names.{Ident, Key, IsName}
+use Rattle.json5_grammar.specs.Faults.Tokens.{NameFault, StringFault}
+use Rattle.json5_grammar.specs.Language.Strings.{Str, IsOpenString}
+use Rattle.json5_grammar.specs.Language.Values.{is_text}
+use Rattle.json5_grammar.specs.Faults.Fronts.{Bracket, Expects, takes_value, Front, start, after_value, after_bracket, after_comma, after_key, after_colon, key}
 use Rattle.json5_grammar.specs.Faults.{FaultAt, in_comment, no_value, value_missing, nested_too_deep, no_comma, comma_missing, no_key, key_missing, no_colon, colon_missing, trailing, in_word, in_number, in_a_string, in_a_name, FaultWhere, fault}
 use Rattle.json5_grammar.proofs.Classes.{colon_no_name}
 use Rattle.json5_grammar.proofs.TextContinues.{string_before, name_before}
@@ -38,9 +37,9 @@ module _ (limit : ℕ) (f : List ℕ) (o : List Bracket) (a : Expects) where
   before_nothing h b e = subst (Begins limit) (sym (append-nil f) ∙ ap (λ z. f ++ z) (sym e)) (front_begins h)
 
   -- whole items of a string, where a value is expected
-  text_begins : (b u : List ℕ) (q : ℕ) (plain : Bool) → Front limit f (b ++ q ∷ []) o a → takes_value a ≡ true → Str (b ++ q ∷ []) u plain
+  text_begins : (b u : List ℕ) (q : ℕ) (escape_free : Bool) → Front limit f (b ++ q ∷ []) o a → takes_value a ≡ true → Str (b ++ q ∷ []) u escape_free
       → Begins limit (f ++ b)
-  text_begins b u q plain h t s =
+  text_begins b u q escape_free h t s =
       let there =
       after_value {w = []} {r = []} (subst (λ z. Front limit f z o a) (sym (append-nil (b ++ q ∷ []))) h) t (is_text s) (text_stops [] s)
       (let l = front_room h in omega (arith, l)) (no_gap []) in
@@ -48,16 +47,16 @@ module _ (limit : ℕ) (f : List ℕ) (o : List Bracket) (a : Expects) where
       (subst (Begins limit) (ap (λ z. f ++ z) (append-nil (b ++ q ∷ [])) ∙ sym (append_assoc f b (q ∷ []))) (front_begins there))
 
   -- whole items of a string, where a key is expected
-  quoted_key_begins : (b u : List ℕ) (q : ℕ) (plain : Bool) → Front limit f (b ++ q ∷ []) o key → Str (b ++ q ∷ []) u plain → Begins limit (f ++ b)
-  quoted_key_begins b u q plain h s =
+  quoted_key_begins : (b u : List ℕ) (q : ℕ) (escape_free : Bool) → Front limit f (b ++ q ∷ []) o key → Str (b ++ q ∷ []) u escape_free → Begins limit (f ++ b)
+  quoted_key_begins b u q escape_free h s =
       let there =
       after_key {w = []} {r = []} (subst (λ z. Front limit f z o key) (sym (append-nil (b ++ q ∷ []))) h) (Key.string_key s) (no_gap []) in
       begins_before limit (f ++ b) (q ∷ [])
       (subst (Begins limit) (ap (λ z. f ++ z) (append-nil (b ++ q ∷ [])) ∙ sym (append_assoc f b (q ∷ []))) (front_begins there))
 
   -- whole items of a name
-  name_begins : (b u : List ℕ) (plain : Bool) → Front limit f (b ++ 58 ∷ []) o key → Ident b u plain → Begins limit (f ++ b)
-  name_begins b u plain h i =
+  name_begins : (b u : List ℕ) (escape_free : Bool) → Front limit f (b ++ 58 ∷ []) o key → Ident b u escape_free → Begins limit (f ++ b)
+  name_begins b u escape_free h i =
       let there = after_key {w = []} {r = 58 ∷ []} h (Key.name_key i colon_no_name) (no_gap (58 ∷ [])) in
       subst (Begins limit) (ap (λ z. f ++ z) (append-nil b)) (front_begins there)
 
@@ -67,15 +66,15 @@ module _ (limit : ℕ) (f : List ℕ) (o : List Bracket) (a : Expects) where
 pub string_continues : (limit : ℕ) (f s r : List ℕ) (o : List Bracket) (a : Expects) → Front limit f (s ++ r) o a
     → (takes_value a ≡ true) ⊎ (a ≡ key) → IsOpenString s → Begins limit (f ++ s)
 string_continues limit f [] r o a h t k = before_nothing limit f o a h [] refl
-string_continues limit f (c ∷ m) r o a h (inl t) (q, u, plain, s) =
-    text_begins limit f o a (c ∷ m) u q plain (front_same (c ∷ m ++ q ∷ []) refl h) t s
-string_continues limit f (c ∷ m) r o a h (inr t) (q, u, plain, s) =
-    quoted_key_begins limit f o a (c ∷ m) u q plain (subst (Front limit f (c ∷ m ++ q ∷ []) o) t (front_same (c ∷ m ++ q ∷ []) refl h)) s
+string_continues limit f (c ∷ m) r o a h (inl t) (q, u, escape_free, s) =
+    text_begins limit f o a (c ∷ m) u q escape_free (front_same (c ∷ m ++ q ∷ []) refl h) t s
+string_continues limit f (c ∷ m) r o a h (inr t) (q, u, escape_free, s) =
+    quoted_key_begins limit f o a (c ∷ m) u q escape_free (subst (Front limit f (c ∷ m ++ q ∷ []) o) t (front_same (c ∷ m ++ q ∷ []) refl h)) s
 
 -- a name, where a key is expected
 pub name_continues : (limit : ℕ) (f s r : List ℕ) (o : List Bracket) → Front limit f (s ++ r) o key → IsName s → Begins limit (f ++ s)
 name_continues limit f [] r o h k = before_nothing limit f o key h [] refl
-name_continues limit f (c ∷ m) r o h (u, plain, i) = name_begins limit f o key (c ∷ m) u plain (front_same (c ∷ m ++ 58 ∷ []) refl h) i
+name_continues limit f (c ∷ m) r o h (u, escape_free, i) = name_begins limit f o key (c ∷ m) u escape_free (front_same (c ∷ m ++ 58 ∷ []) refl h) i
 
 -- ---- what stands before each fault
 

@@ -1,12 +1,11 @@
 -- A fault that a character shows stands, whatever follows that character; so no document goes through it.
 use Rattle.std.proofs.Common.{◌≡◌, ℕ, List, [], ◌∷◌, ◌++◌, refl, ap, sym, ◌∙◌, append_assoc, subst, Option, Some}
-use Rattle.json5_grammar.specs.Codes.{ErrorCode, by_char}
-use Rattle.json5_grammar.specs.Blames.{StandsIn, Shows}
-use Rattle.json5_grammar.specs.Blanks.{CommentFault, no_comment}
-use Rattle.json5_grammar.specs.Documents.{Begins}
-use Rattle.json5_grammar.specs.Fronts.{Bracket, Expects}
+use Rattle.json5_grammar.specs.Faults.Codes.{ErrorCode, by_char}
+use Rattle.json5_grammar.specs.Faults.Blames.{StandsIn, Shows}
+use Rattle.json5_grammar.specs.Faults.Tokens.{CommentFault, no_comment, WordFault, word_differs}
+use Rattle.json5_grammar.specs.Language.Documents.{Begins}
+use Rattle.json5_grammar.specs.Faults.Fronts.{Bracket, Expects}
 use Rattle.json5_grammar.specs.Faults.{lifted, FaultAt, in_comment, no_value, nested_too_deep, no_comma, no_key, no_colon, trailing, in_word, in_number, in_a_string, in_a_name, FaultWhere, Fault, fault}
-use Rattle.json5_grammar.specs.WordFaults.{WordFault, word_differs}
 use Rattle.json5_grammar.proofs.Basics.{SameHead}
 use Rattle.json5_grammar.proofs.NumberFollows.{whatever_follows}
 use Rattle.json5_grammar.proofs.TextFollows.{string_follows, name_follows}

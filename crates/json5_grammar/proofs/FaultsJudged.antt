@@ -2,19 +2,20 @@
 use Rattle.std.proofs.Common.{◌≡◌, ℕ, Bool, true, false, ◌||◌, List, [], ◌∷◌, ◌++◌, refl, ap, sym, ◌∙◌, append_assoc, subst, inl, inr, Option, Some, None, ◌≢◌}
 use Rattle.std.specs.Prelude.{◌==◌}
 use Rattle.std.proofs.lemmas.List.{append_cancel_left}
-use Rattle.json5_grammar.specs.Characters.{is_identifier_start}
-use Rattle.json5_grammar.specs.Codes.{ErrorCode, ExpectedIdentifier, Shown, by_char, by_end, after_text}
-use Rattle.json5_grammar.specs.Blanks.{is_solid, BlankFault}
-use Rattle.json5_grammar.specs.Blanks as blanks
-use Rattle.json5_grammar.specs.Numbers.{Number}
-use Rattle.json5_grammar.specs.Strings.{is_quote}
-use Rattle.json5_grammar.specs.Trees.{Tree, text}
-use Rattle.json5_grammar.specs.Fronts.{Bracket, Expects, takes_value, value, element, key, colon, comma, end}
+use Rattle.json5_grammar.specs.Language.Characters.{is_identifier_start}
+use Rattle.json5_grammar.specs.Faults.Codes.{ErrorCode, ExpectedIdentifier, Shown, by_char, by_end, after_text}
+use Rattle.json5_grammar.specs.Language.Blanks.{is_solid}
+use Rattle.json5_grammar.specs.Faults.Tokens.{BlankFault}
+use Rattle.json5_grammar.specs.Faults.Tokens as tokens
+use Rattle.json5_grammar.specs.Language.Numbers.{Number}
+use Rattle.json5_grammar.specs.Language.Strings.{is_quote}
+use Rattle.json5_grammar.specs.Language.Trees.{Tree, text}
+use Rattle.json5_grammar.specs.Faults.Fronts.{Bracket, Expects, takes_value, value, element, key, colon, comma, end}
 use Rattle.json5_grammar.specs.Faults.{innermost, lifted, FaultAt, in_comment, no_key, in_word, in_number, in_a_string, in_a_name, FaultWhere, fault}
-use Rattle.json5_grammar.specs.Reading.{Place, here, inner, Read, got, bad, and_then, placed, IsAt}
-use Rattle.json5_grammar.specs.ReadBlanks.{skip, between}
-use Rattle.json5_grammar.specs.ReadTexts as texts
-use Rattle.json5_grammar.specs.ReadValues.{as_leaf}
+use Rattle.json5_grammar.specs.Model.Reading.{Place, here, inner, Read, got, bad, and_then, placed, IsAt}
+use Rattle.json5_grammar.specs.Model.ReadBlanks.{skip, between}
+use Rattle.json5_grammar.specs.Model.ReadTexts as texts
+use Rattle.json5_grammar.specs.Model.ReadValues.{as_leaf}
 use Rattle.json5_grammar.proofs.BlanksSound.{BlanksSound, skip_sound}
 use Rattle.json5_grammar.proofs.Found.{Found}
 use Rattle.json5_grammar.proofs.WordsRead.{WordSound}
@@ -137,7 +138,7 @@ module _ (s : Scope) where
   after_blanks : {y before part : List ℕ} {o : List Bracket} {a : Expects} {code : Option ErrorCode} {place : Option (List ℕ)}
       (shown : Shown) (p : Place)
       → At limit x y o a → Where a → BlankFault y code place before part shown → IsAt y place p → Blamed s o code p
-  after_blanks shown p h k (blanks.in_comment {w = w} {x = z} {place = place} b c) i =
+  after_blanks shown p h k (tokens.in_comment {w = w} {x = z} {place = place} b c) i =
       blame z place shown p (at_blanks limit x (w ++ z) w z h refl b) k (in_comment c) (without w z place p i)
     where
       without : (w z : List ℕ) (place : Option (List ℕ)) (p : Place) → IsAt (w ++ z) (after_text w place) p → IsAt z place p

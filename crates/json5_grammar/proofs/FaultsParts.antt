@@ -1,16 +1,12 @@
 -- Where a fault's part stands in the text, and that it has the form of a part.
 use Rattle.std.proofs.Common.{◌≡◌, ℕ, Bool, List, [], ◌∷◌, ◌++◌, refl, ap, sym, ◌∙◌, append_assoc, Option}
 use Rattle.std.proofs.lemmas.List.{append-nil}
-use Rattle.json5_grammar.specs.Codes.{ErrorCode, Shown, by_char, by_end}
-use Rattle.json5_grammar.specs.Blames.{IsRest, StandsIn}
-use Rattle.json5_grammar.specs.Blanks.{CommentFault, no_comment, slash_ends, block_ends}
-use Rattle.json5_grammar.specs.Fronts.{Bracket, Expects}
+use Rattle.json5_grammar.specs.Faults.Codes.{ErrorCode, Shown, by_char, by_end}
+use Rattle.json5_grammar.specs.Faults.Blames.{IsRest, StandsIn}
+use Rattle.json5_grammar.specs.Faults.Tokens.{CommentFault, no_comment, slash_ends, block_ends, RunEnd, run_at_end, run_at_char, NumberFault, number_word_differs, number_word_ends, sign_without_number, sign_ends, no_hexadecimal_digit, hexadecimal_ends, hexadecimal_overflows, negative_too_large, not_a_literal, literal_overflows, leading_zero, NameFault, no_unicode_escape, escaped_no_start, escaped_no_part, name_ends, backslash_ends, EscapeFault, digit_after_nul, escaped_digit, no_escape_digit, no_second_escape, unpaired, escape_ends, StringFault, raw_terminator, string_ends, WordFault, word_differs, word_ends}
+use Rattle.json5_grammar.specs.Faults.Fronts.{Bracket, Expects}
 use Rattle.json5_grammar.specs.Faults.{FaultAt, in_comment, no_value, value_missing, nested_too_deep, no_comma, comma_missing, no_key, key_missing, no_colon, colon_missing, trailing, in_word, in_number, in_a_string, in_a_name, FaultWhere, fault}
-use Rattle.json5_grammar.specs.NumberFaults.{RunEnd, run_at_end, run_at_char, NumberFault, number_word_differs, number_word_ends, sign_without_number, sign_ends, no_hexadecimal_digit, hexadecimal_ends, hexadecimal_overflows, negative_too_large, not_a_literal, literal_overflows, leading_zero}
-use Rattle.json5_grammar.specs.NameFaults.{NameFault, no_unicode_escape, escaped_no_start, escaped_no_part, name_ends, backslash_ends}
-use Rattle.json5_grammar.specs.StringFaults.{EscapeFault, digit_after_nul, escaped_digit, no_escape_digit, no_second_escape, unpaired, escape_ends, StringFault, raw_terminator, string_ends}
-use Rattle.json5_grammar.specs.WordFaults.{WordFault, word_differs, word_ends}
-use Rattle.json5_grammar.specs.Parts.{Part, one, just, one_more}
+use Rattle.json5_grammar.specs.Faults.Parts.{Part, one, just, one_more}
 use Rattle.json5_grammar.proofs.NumberPartOf.{part_of}
 use Rattle.json5_grammar.proofs.TextPartOf.{string_part, name_part}
 
@@ -68,10 +64,10 @@ in_later t p how (q, e, k) = (q, ap (λ z. t ++ z) e ∙ sym (append_assoc t p q
 pub string_in : {x b p : List ℕ} {e : Option ErrorCode} {pl : Option (List ℕ)} {how : Shown} → StringFault x e pl b p how → StandsIn x b p how
 string_in (raw_terminator {q = q} {c = c} {s = s} r k i h) = (r, sym (append_assoc (q ∷ s) (c ∷ []) r), tt)
 string_in (string_ends {q = q} {s = s} k i) = to_the_end (q ∷ s) by_end
-string_in (StringFault.in_escape {q = q} {s = s} {part = p} {shown = how} k i f) = in_later (q ∷ s) p how (escape_in f)
+string_in (StringFault.in_string_escape {q = q} {s = s} {part = p} {shown = how} k i f) = in_later (q ∷ s) p how (escape_in f)
 
 pub name_in : {x b p : List ℕ} {e : Option ErrorCode} {pl : Option (List ℕ)} {how : Shown} → NameFault x e pl b p how → StandsIn x b p how
-name_in (NameFault.in_escape {t = t} {part = p} {shown = how} k f) = in_later t p how (escape_in f)
+name_in (NameFault.in_name_escape {t = t} {part = p} {shown = how} k f) = in_later t p how (escape_in f)
 name_in (no_unicode_escape {t = t} c r k n) = (r, sym (append_assoc t (92 ∷ c ∷ []) r), tt)
 name_in (escaped_no_start r u n) = (r, refl, tt)
 name_in (escaped_no_part {t = t} {e = e} r i u n) = (r, sym (append_assoc t e r), tt)

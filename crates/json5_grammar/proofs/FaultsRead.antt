@@ -2,21 +2,20 @@
 use Rattle.std.proofs.Common.{◌≡◌, ℕ, zero, suc, ◌+◌, true, false, ◌||◌, List, [], ◌∷◌, length, refl, sym, arith, subst, Some}
 use Rattle.std.specs.Prelude.{◌==◌}
 use Rattle.std.proofs.lemmas.Bool.Decides.{nat_tests}
-use Rattle.json5_grammar.specs.Characters.{NotBegun}
-use Rattle.json5_grammar.specs.Codes.{EofParsingValue, ExpectedValue, TrailingCharacters, TooDeep}
-use Rattle.json5_grammar.specs.Blanks.{Solid, is_solid}
-use Rattle.json5_grammar.specs.NumberFaults.{is_sign, begins_number}
-use Rattle.json5_grammar.specs.Strings.{is_quote}
-use Rattle.json5_grammar.specs.Trees.{Tree, null, boolean, array, object}
-use Rattle.json5_grammar.specs.Values.{null_text, true_text, false_text}
-use Rattle.json5_grammar.specs.WordFaults.{null_word, true_word, false_word}
-use Rattle.json5_grammar.specs.Fronts.{of_array, of_object, Bracket, Expects, takes_value, value, end}
+use Rattle.json5_grammar.specs.Language.Characters.{NotBegun}
+use Rattle.json5_grammar.specs.Faults.Codes.{EofParsingValue, ExpectedValue, TrailingCharacters, TooDeep}
+use Rattle.json5_grammar.specs.Language.Blanks.{Solid, is_solid}
+use Rattle.json5_grammar.specs.Faults.Tokens.{is_sign, begins_number, null_word, true_word, false_word}
+use Rattle.json5_grammar.specs.Language.Strings.{is_quote}
+use Rattle.json5_grammar.specs.Language.Trees.{Tree, null, boolean, array, object}
+use Rattle.json5_grammar.specs.Language.Values.{null_text, true_text, false_text}
+use Rattle.json5_grammar.specs.Faults.Fronts.{of_array, of_object, Bracket, Expects, takes_value, value, end}
 use Rattle.json5_grammar.specs.Faults.{begins_value, is_allowed_close, no_value, value_missing, nested_too_deep, trailing, Anywhere, InValue}
-use Rattle.json5_grammar.specs.Reading.{here, Read, bad}
-use Rattle.json5_grammar.specs.ReadBlanks.{skip, between}
-use Rattle.json5_grammar.specs.ReadNumbers as numbers
-use Rattle.json5_grammar.specs.ReadTexts.{string}
-use Rattle.json5_grammar.specs.ReadValues.{items, entries, value_with, too_deep, read, at_end, document}
+use Rattle.json5_grammar.specs.Model.Reading.{here, Read, bad}
+use Rattle.json5_grammar.specs.Model.ReadBlanks.{skip, between}
+use Rattle.json5_grammar.specs.Model.ReadNumbers as numbers
+use Rattle.json5_grammar.specs.Model.ReadTexts.{string}
+use Rattle.json5_grammar.specs.Model.ReadValues.{items, entries, value_with, too_deep, read, at_end, document}
 use Rattle.json5_grammar.proofs.Basics.{by_test, eq_from}
 use Rattle.json5_grammar.proofs.Unique.{phrase_reader}
 use Rattle.json5_grammar.proofs.WordsRead.{word_sound}

@@ -3,17 +3,17 @@ use Rattle.std.proofs.Common.{◌≡◌, ℕ, suc, ◌-◌, Bool, true, false, c
 use Rattle.std.specs.Prelude.{◌==◌}
 use Rattle.std.proofs.lemmas.Bool.{or_parts}
 use Rattle.std.proofs.lemmas.Bool.Decides.{nat_tests}
-use Rattle.json5_grammar.specs.Characters.{is_identifier_start}
-use Rattle.json5_grammar.specs.Codes.{ErrorCode, EofParsingObject, EofParsingValue, ExpectedIdentifier, ExpectedColon, ExpectedComma, ExpectedValue, TrailingCharacters, TooDeep, Shown}
-use Rattle.json5_grammar.specs.Blanks.{is_solid}
-use Rattle.json5_grammar.specs.Strings.{is_quote}
-use Rattle.json5_grammar.specs.Trees.{Tree}
-use Rattle.json5_grammar.specs.Fronts.{BracketKind, of_array, of_object, Bracket, Expects, takes_value, closing, value, element, key, colon, comma, end}
+use Rattle.json5_grammar.specs.Language.Characters.{is_identifier_start}
+use Rattle.json5_grammar.specs.Faults.Codes.{ErrorCode, EofParsingObject, EofParsingValue, ExpectedIdentifier, ExpectedColon, ExpectedComma, ExpectedValue, TrailingCharacters, TooDeep, Shown}
+use Rattle.json5_grammar.specs.Language.Blanks.{is_solid}
+use Rattle.json5_grammar.specs.Language.Strings.{is_quote}
+use Rattle.json5_grammar.specs.Language.Trees.{Tree}
+use Rattle.json5_grammar.specs.Faults.Fronts.{BracketKind, of_array, of_object, Bracket, Expects, takes_value, closing, value, element, key, colon, comma, end}
 use Rattle.json5_grammar.specs.Faults.{begins_value, IsIn, eof_in, FaultAt, in_comment, no_value, value_missing, nested_too_deep, no_comma, comma_missing, no_key, key_missing, no_colon, colon_missing, trailing, in_word, in_number, in_a_string, in_a_name, FaultWhere, Fault, ValueFault, fault}
-use Rattle.json5_grammar.specs.Reading.{Place, here, inner, Read, got, bad, and_then}
-use Rattle.json5_grammar.specs.ReadBlanks.{skip, between}
-use Rattle.json5_grammar.specs.ReadValues.{read, at_end, document}
-use Rattle.json5_grammar.specs.ReadSteps.{forget, member_at, comma_at, separator, rest_of}
+use Rattle.json5_grammar.specs.Model.Reading.{Place, here, inner, Read, got, bad, and_then}
+use Rattle.json5_grammar.specs.Model.ReadBlanks.{skip, between}
+use Rattle.json5_grammar.specs.Model.ReadValues.{read, at_end, document}
+use Rattle.json5_grammar.specs.Model.ReadSteps.{forget, member_at, comma_at, separator, rest_of}
 use Rattle.json5_grammar.proofs.Basics.{not_eq}
 use Rattle.json5_grammar.proofs.BlanksRead.{skip_rest, begins_solid, skip_end}
 use Rattle.json5_grammar.proofs.BlanksSound.{comment_refused}

@@ -1,16 +1,12 @@
 -- The part of a fault that a character shows ends with that character, and the place is there or before it, within the part.
 use Rattle.std.proofs.Common.{◌≡◌, ℕ, Bool, List, [], ◌∷◌, ◌++◌, refl, ap, sym, ◌∙◌, append_assoc, subst, Option, Some}
 use Rattle.std.proofs.lemmas.List.{append-nil}
-use Rattle.json5_grammar.specs.Codes.{ErrorCode, by_char, after_text}
-use Rattle.json5_grammar.specs.Blames.{Shows}
-use Rattle.json5_grammar.specs.Blanks.{CommentFault, no_comment}
-use Rattle.json5_grammar.specs.Fronts.{Bracket, Expects}
+use Rattle.json5_grammar.specs.Faults.Codes.{ErrorCode, by_char, after_text}
+use Rattle.json5_grammar.specs.Faults.Blames.{Shows}
+use Rattle.json5_grammar.specs.Faults.Tokens.{CommentFault, no_comment, RunEnd, run_at_char, NumberFault, number_word_differs, sign_without_number, no_hexadecimal_digit, hexadecimal_overflows, negative_too_large, not_a_literal, literal_overflows, leading_zero, NameFault, no_unicode_escape, escaped_no_start, escaped_no_part, EscapeFault, digit_after_nul, escaped_digit, no_escape_digit, no_second_escape, unpaired, StringFault, raw_terminator, WordFault, word_differs}
+use Rattle.json5_grammar.specs.Faults.Fronts.{Bracket, Expects}
 use Rattle.json5_grammar.specs.Faults.{lifted, FaultAt, in_comment, no_value, nested_too_deep, no_comma, no_key, no_colon, trailing, in_word, in_number, in_a_string, in_a_name, FaultWhere, fault}
-use Rattle.json5_grammar.specs.NumberFaults.{RunEnd, run_at_char, NumberFault, number_word_differs, sign_without_number, no_hexadecimal_digit, hexadecimal_overflows, negative_too_large, not_a_literal, literal_overflows, leading_zero}
-use Rattle.json5_grammar.specs.NameFaults.{NameFault, no_unicode_escape, escaped_no_start, escaped_no_part}
-use Rattle.json5_grammar.specs.Strings.{Hex4, hex4, Unicode, single, surrogates}
-use Rattle.json5_grammar.specs.StringFaults.{EscapeFault, digit_after_nul, escaped_digit, no_escape_digit, no_second_escape, unpaired, StringFault, raw_terminator}
-use Rattle.json5_grammar.specs.WordFaults.{WordFault, word_differs}
+use Rattle.json5_grammar.specs.Language.Strings.{Hex4, hex4, Unicode, single, surrogates}
 
 -- ---- the character that shows the fault
 
@@ -72,10 +68,10 @@ shows_later t h =
 
 string_shows : {x b p : List ℕ} {e : Option ErrorCode} {pl : Option (List ℕ)} → StringFault x e pl b p by_char → Shows b p pl
 string_shows (raw_terminator {q = q} {c = c} {s = s} r k i h) = shows_from (q ∷ s) [] (c ∷ []) c refl
-string_shows (StringFault.in_escape {q = q} {s = s} k i f) = shows_later (q ∷ s) (escape_shows f)
+string_shows (StringFault.in_string_escape {q = q} {s = s} k i f) = shows_later (q ∷ s) (escape_shows f)
 
 name_shows : {x b p : List ℕ} {e : Option ErrorCode} {pl : Option (List ℕ)} → NameFault x e pl b p by_char → Shows b p pl
-name_shows (NameFault.in_escape {t = t} k f) = shows_later t (escape_shows f)
+name_shows (NameFault.in_name_escape {t = t} k f) = shows_later t (escape_shows f)
 name_shows (no_unicode_escape {t = t} c r k n) = shows_at t (92 ∷ []) c
 name_shows (escaped_no_start {e = e} r u n) = let (w, c, k) = unicode_last u in shows_from [] w e c k
 name_shows (escaped_no_part {t = t} {e = e} r i u n) = let (w, c, k) = unicode_last u in shows_from t w e c k

@@ -1,6 +1,6 @@
 -- What is found at the front, and a fault's place in the text: steps one after another.
 use Rattle.std.proofs.Common.{◌≡◌, ℕ, List, [], ◌++◌, refl, ap, sym, ◌∙◌, append_assoc, Option, Some, None}
-use Rattle.json5_grammar.specs.Reading.{Place, here, inner, Read, got, bad, and_then, placed, IsAt}
+use Rattle.json5_grammar.specs.Model.Reading.{Place, here, inner, Read, got, bad, and_then, placed, IsAt}
 
 -- the place is in the text
 abbrev pub IsIn : List ℕ → Place → Type 0

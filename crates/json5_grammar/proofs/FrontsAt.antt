@@ -1,11 +1,11 @@
 -- Where reading stands in a text: what was read is a front, and each step leads to the next front.
 use Rattle.std.proofs.Common.{◌≡◌, ℕ, ◌+◌, ◌<◌, Bool, true, List, [], ◌∷◌, ◌++◌, length, refl, ap, sym, ◌∙◌, append_assoc, arith, subst}
 use Rattle.std.proofs.lemmas.List.{append-nil}
-use Rattle.json5_grammar.specs.Blanks.{Blanks, Gap, at_end}
-use Rattle.json5_grammar.specs.Names.{Key}
-use Rattle.json5_grammar.specs.Trees.{Tree}
-use Rattle.json5_grammar.specs.Values.{Stops}
-use Rattle.json5_grammar.specs.Fronts.{BracketKind, Bracket, Expects, takes_value, after, member_of, opening, Front, start, after_value, after_bracket, after_comma, after_key, after_colon, value, key, colon, comma}
+use Rattle.json5_grammar.specs.Language.Blanks.{Blanks, Gap, at_end}
+use Rattle.json5_grammar.specs.Language.Names.{Key}
+use Rattle.json5_grammar.specs.Language.Trees.{Tree}
+use Rattle.json5_grammar.specs.Language.Values.{Stops}
+use Rattle.json5_grammar.specs.Faults.Fronts.{BracketKind, Bracket, Expects, takes_value, after, member_of, opening, Front, start, after_value, after_bracket, after_comma, after_key, after_colon, value, key, colon, comma}
 use Rattle.json5_grammar.proofs.Basics.{append_after_two}
 use Rattle.json5_grammar.proofs.BlanksSound.{Gap-append}
 use Rattle.json5_grammar.proofs.ValuesSound.{IsGap, IsValue, IsKeyAt, IsValueAfter}
@@ -45,10 +45,10 @@ front_gap {limit = limit} w y (after_comma {g = g} {w = v} {r = r} {b = bracket}
     let same : 44 ∷ (v ++ r) ≡ 44 ∷ ((v ++ w) ++ y) = ap (λ z. 44 ∷ (v ++ z)) e ∙ ap (λ z. 44 ∷ z) (sym (append_assoc v w y)) in
     subst (λ z. Front limit z y (bracket ∷ o) (member_of bracket.kind)) (sym (append_assoc g (44 ∷ v) w))
     (after_comma (subst (λ z. Front limit g z (bracket ∷ o) comma) same f) (gap_more w y b e k))
-front_gap {limit = limit} w y (after_key {g = g} {k = s} {w = v} {r = r} {u = u} {o = o} {plain = plain} f is b) e k =
+front_gap {limit = limit} w y (after_key {g = g} {k = s} {w = v} {r = r} {u = u} {o = o} {escape_free = escape_free} f is b) e k =
     let same : s ++ (v ++ r) ≡ s ++ ((v ++ w) ++ y) = ap (λ z. s ++ (v ++ z)) e ∙ ap (λ z. s ++ z) (sym (append_assoc v w y)) in
     subst (λ z. Front limit z y o colon) (sym (append_after_two g s v w))
-    (after_key (subst (λ z. Front limit g z o key) same f) (subst (λ z. Key s z u plain) (ap (λ z. v ++ z) e ∙ sym (append_assoc v w y)) is)
+    (after_key (subst (λ z. Front limit g z o key) same f) (subst (λ z. Key s z u escape_free) (ap (λ z. v ++ z) e ∙ sym (append_assoc v w y)) is)
     (gap_more w y b e k))
 front_gap {limit = limit} w y (after_colon {g = g} {w = v} {r = r} {o = o} f b) e k =
     let same : 58 ∷ (v ++ r) ≡ 58 ∷ ((v ++ w) ++ y) = ap (λ z. 58 ∷ (v ++ z)) e ∙ ap (λ z. 58 ∷ z) (sym (append_assoc v w y)) in

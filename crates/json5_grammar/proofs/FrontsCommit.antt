@@ -1,21 +1,21 @@
 -- A document that begins with a front goes on with what is expected there.
 use Rattle.std.proofs.Common.{◌≡◌, ℕ, suc, ◌-◌, List, [], ◌∷◌, ◌++◌, length, refl, ap, sym, ◌∙◌, ◌⊎◌, inl, inr, Option, subst, true, false}
 use Rattle.std.proofs.lemmas.List.{append-nil}
-use Rattle.json5_grammar.specs.Codes.{ErrorCode}
-use Rattle.json5_grammar.specs.Blanks.{LastBlanks}
-use Rattle.json5_grammar.specs.Commits.{GoesOn}
-use Rattle.json5_grammar.specs.Documents.{Doc}
-use Rattle.json5_grammar.specs.Fronts.{BracketKind, of_array, of_object, Bracket, Expects, closing, Front, value, element, key, colon, comma, end}
-use Rattle.json5_grammar.specs.Members.{IsSign, Tail, PairsTail}
-use Rattle.json5_grammar.specs.Reading.{Place, here, inner, Read, got, bad, and_then}
-use Rattle.json5_grammar.specs.ReadBlanks.{skip, between}
-use Rattle.json5_grammar.specs.ReadSteps.{forget, rest_of}
-use Rattle.json5_grammar.specs.ReadValues.{colon_at, items, entries, after_member, after_pair, read, at_end}
-use Rattle.json5_grammar.specs.Trees.{Tree, Trees, Pairs, no_more, more, no_pair, pair}
-use Rattle.json5_grammar.specs.Values.{Reads}
+use Rattle.json5_grammar.specs.Faults.Codes.{ErrorCode}
+use Rattle.json5_grammar.specs.Language.Blanks.{LastBlanks}
+use Rattle.json5_grammar.specs.Faults.Commits.{GoesOn}
+use Rattle.json5_grammar.specs.Language.Documents.{Doc}
+use Rattle.json5_grammar.specs.Faults.Fronts.{BracketKind, of_array, of_object, Bracket, Expects, closing, Front, value, element, key, colon, comma, end}
+use Rattle.json5_grammar.specs.Model.Collections.{IsSign, Tail, PairsTail}
+use Rattle.json5_grammar.specs.Model.Reading.{Place, here, inner, Read, got, bad, and_then}
+use Rattle.json5_grammar.specs.Model.ReadBlanks.{skip, between}
+use Rattle.json5_grammar.specs.Model.ReadSteps.{forget, rest_of}
+use Rattle.json5_grammar.specs.Model.ReadValues.{colon_at, items, entries, after_member, after_pair, read, at_end}
+use Rattle.json5_grammar.specs.Language.Trees.{Tree, Trees, Pairs, no_more, more, no_pair, pair}
+use Rattle.json5_grammar.specs.Language.Values.{Reads}
 use Rattle.json5_grammar.proofs.BlanksSound.{gap_end}
 use Rattle.json5_grammar.proofs.Found.{Found, found_then, found_after}
-use Rattle.json5_grammar.proofs.MembersPassed.{tail_goes}
+use Rattle.json5_grammar.proofs.CollectionsPassed.{tail_goes}
 use Rattle.json5_grammar.proofs.ValuesSound.{IsGap, IsValue, AreMembers, ArePairs, gap_found, read_found, items_found, entries_found, after_found, after_pair_found, colon_found, tail_gap, pairs_gap, sign_gap, phrase_of}
 use Rattle.json5_grammar.proofs.DocumentsRead.{document_complete}
 use Rattle.json5_grammar.proofs.FrontsContinue.{front_same}
@@ -55,7 +55,7 @@ array_goes o y r ts h = by_tail (tail_goes ts false y r h)
 
 object_goes : (o : List Bracket) (y r : List ℕ) (ps : Pairs) → PairsTail ps false y r → GoesOn o key y
 object_goes o y r no_pair s = inr (r, s)
-object_goes o y r (pair u plain t ps) (k, z, a, v, tl) = inl (u, plain, k, a)
+object_goes o y r (pair u escape_free t ps) (k, z, a, v, tl) = inl (u, escape_free, k, a)
 
 array_comma : (b : Bracket) (o : List Bracket) (y r : List ℕ) (ts : Trees) → b.kind ≡ of_array → Tail ts true y r → GoesOn (b ∷ o) comma y
 array_comma b o y r no_more e (inl s) = inr (r, subst (λ k. IsSign (closing k) y r) (sym e) s)
@@ -65,7 +65,7 @@ array_comma b o y r (more t ts) e (z, (q, s, p), tl) = inl (q, s)
 object_comma : (b : Bracket) (o : List Bracket) (y r : List ℕ) (ps : Pairs) → b.kind ≡ of_object → PairsTail ps true y r → GoesOn (b ∷ o) comma y
 object_comma b o y r no_pair e (inl s) = inr (r, subst (λ k. IsSign (closing k) y r) (sym e) s)
 object_comma b o y r no_pair e (inr (z, s, c)) = inl (z, s)
-object_comma b o y r (pair u plain t ps) e (k, z, (q, s, a), v, tl) = inl (q, s)
+object_comma b o y r (pair u escape_free t ps) e (k, z, (q, s, a), v, tl) = inl (q, s)
 
 module _ (limit : ℕ) where
   -- a value, a colon and its value, the end

@@ -1,16 +1,16 @@
 -- Each front begins a document: a line feed, what is expected and the closing brackets go on from it.
 use Rattle.std.proofs.Common.{◌≡◌, ℕ, Bool, true, false, cond, List, [], ◌∷◌, ◌++◌, refl, ap, sym, ◌∙◌, append_assoc, subst}
-use Rattle.json5_grammar.specs.Blanks.{Blanks, LastBlanks, Gap, empty, blank, line, open_line}
-use Rattle.json5_grammar.specs.Documents.{Doc, Begins}
-use Rattle.json5_grammar.specs.Names.{Key, goes_on_name}
-use Rattle.json5_grammar.specs.Stops.{lengthens}
-use Rattle.json5_grammar.specs.Trees.{Tree}
-use Rattle.json5_grammar.specs.Values.{Stops, null_text}
-use Rattle.json5_grammar.specs.Fronts.{BracketKind, of_array, of_object, Bracket, Expects, after, member_of, opening, closing, Front, start, after_value, after_bracket, after_comma, after_key, after_colon, value, element, key, colon, comma, end}
-use Rattle.json5_grammar.specs.Reading.{Read, got, bad, and_then}
-use Rattle.json5_grammar.specs.ReadBlanks.{skip, between}
-use Rattle.json5_grammar.specs.ReadValues.{at_end, document}
-use Rattle.json5_grammar.specs.ReadSteps.{forget, member_head, member_at, comma_at, separator, rest_of}
+use Rattle.json5_grammar.specs.Language.Blanks.{Blanks, LastBlanks, Gap, empty, blank, line, open_line}
+use Rattle.json5_grammar.specs.Language.Documents.{Doc, Begins}
+use Rattle.json5_grammar.specs.Language.Names.{Key, goes_on_name}
+use Rattle.json5_grammar.specs.Language.Numbers.{lengthens}
+use Rattle.json5_grammar.specs.Language.Trees.{Tree}
+use Rattle.json5_grammar.specs.Language.Values.{Stops, null_text}
+use Rattle.json5_grammar.specs.Faults.Fronts.{BracketKind, of_array, of_object, Bracket, Expects, after, member_of, opening, closing, Front, start, after_value, after_bracket, after_comma, after_key, after_colon, value, element, key, colon, comma, end}
+use Rattle.json5_grammar.specs.Model.Reading.{Read, got, bad, and_then}
+use Rattle.json5_grammar.specs.Model.ReadBlanks.{skip, between}
+use Rattle.json5_grammar.specs.Model.ReadValues.{at_end, document}
+use Rattle.json5_grammar.specs.Model.ReadSteps.{forget, member_head, member_at, comma_at, separator, rest_of}
 use Rattle.json5_grammar.proofs.Basics.{append_after_two, SameHead, same_append, same_not}
 use Rattle.json5_grammar.proofs.BlanksRead.{skip_rest, skip_end, begins_solid, printable_solid}
 use Rattle.json5_grammar.proofs.BlanksSound.{Blanks-append}
@@ -30,7 +30,7 @@ gap_same z h (Gap.blanks b) = Gap.blanks b
 gap_same [] h (Gap.at_end l) = Gap.at_end l
 gap_same (c ∷ z) h (Gap.at_end l) = absurd h
 
-key_same : {k q u : List ℕ} {plain : Bool} (y : List ℕ) → SameHead q y → Key k q u plain → Key k y u plain
+key_same : {k q u : List ℕ} {escape_free : Bool} (y : List ℕ) → SameHead q y → Key k q u escape_free → Key k y u escape_free
 key_same y h (Key.string_key s) = Key.string_key s
 key_same [] h (Key.name_key i g) = absurd h
 key_same (d ∷ y) h (Key.name_key i g) = Key.name_key i (subst (λ z. goes_on_name z ≡ false) h g)
@@ -66,7 +66,7 @@ stops_line : (s w r z : List ℕ) → Stops s (w ++ r) → Stops s ((w ++ 10 ∷
 stops_line s [] r z h = blank_ends_values 10 refl s
 stops_line s (c ∷ w) r z h = h
 
-key_line : {k u : List ℕ} {plain : Bool} (w r z : List ℕ) → Key k (w ++ r) u plain → Key k ((w ++ 10 ∷ []) ++ z) u plain
+key_line : {k u : List ℕ} {escape_free : Bool} (w r z : List ℕ) → Key k (w ++ r) u escape_free → Key k ((w ++ 10 ∷ []) ++ z) u escape_free
 key_line [] r z k = key_before 10 z (key_spelling k) (blank_no_name 10 refl)
 key_line (c ∷ w) r z k = key_same (c ∷ (w ++ 10 ∷ []) ++ z) refl k
 
@@ -74,7 +74,7 @@ key_line (c ∷ w) r z k = key_same (c ∷ (w ++ 10 ∷ []) ++ z) refl k
 same_nonempty : (s p q c m : _) → s ≡ c ∷ m → SameHead (s ++ p) (s ++ q)
 same_nonempty s p q c m e = rw e refl
 
-key_nonempty : {k q u : List ℕ} {plain : Bool} (p r : List ℕ) → Key k q u plain → SameHead (k ++ p) (k ++ r)
+key_nonempty : {k q u : List ℕ} {escape_free : Bool} (p r : List ℕ) → Key k q u escape_free → SameHead (k ++ p) (k ++ r)
 key_nonempty {k = k} p r is = let h = key_head is in same_nonempty k p r h.char h.more h.is
 
 -- a line feed may follow each front, and then anything

@@ -1,13 +1,13 @@
 -- What is left to read where a front ends: in its innermost bracket, and then in those round it.
 use Rattle.std.proofs.Common.{◌≡◌, ℕ, ◌-◌, Bool, true, false, cond, List, [], ◌∷◌, ◌++◌, length, refl, ap, sym, ◌∙◌}
 use Rattle.std.specs.Prelude.{drop}
-use Rattle.json5_grammar.specs.Blanks.{Gap}
-use Rattle.json5_grammar.specs.Trees.{Tree}
-use Rattle.json5_grammar.specs.Fronts.{BracketKind, of_array, of_object, Bracket, Expects, after, member_of, Front, start, after_value, after_bracket, after_comma, after_key, after_colon, value, element, key, colon, comma, end}
-use Rattle.json5_grammar.specs.Reading.{Read, got, bad, and_then, placed}
-use Rattle.json5_grammar.specs.ReadBlanks.{skip, between}
-use Rattle.json5_grammar.specs.ReadValues.{colon_at, read, at_end, document}
-use Rattle.json5_grammar.specs.ReadSteps.{forget, colon_after, member_head, member_at, comma_at, separator, next_value, rest_of}
+use Rattle.json5_grammar.specs.Language.Blanks.{Gap}
+use Rattle.json5_grammar.specs.Language.Trees.{Tree}
+use Rattle.json5_grammar.specs.Faults.Fronts.{BracketKind, of_array, of_object, Bracket, Expects, after, member_of, Front, start, after_value, after_bracket, after_comma, after_key, after_colon, value, element, key, colon, comma, end}
+use Rattle.json5_grammar.specs.Model.Reading.{Read, got, bad, and_then, placed}
+use Rattle.json5_grammar.specs.Model.ReadBlanks.{skip, between}
+use Rattle.json5_grammar.specs.Model.ReadValues.{colon_at, read, at_end, document}
+use Rattle.json5_grammar.specs.Model.ReadSteps.{forget, colon_after, member_head, member_at, comma_at, separator, next_value, rest_of}
 use Rattle.json5_grammar.proofs.BlanksRead.{skip_gap}
 use Rattle.json5_grammar.proofs.Unique.{phrase_reader}
 use Rattle.json5_grammar.proofs.ValueSteps.{turn, rest_step}
@@ -80,12 +80,12 @@ gap_separator : (k : BracketKind) (w r : List ℕ) → Gap w r → separator k (
 unfolding separator
 gap_separator k w r g = ap (λ m. and_then m (λ u y. comma_at k y)) (skip_gap g)
 
-gap_next : (k : BracketKind) (due : Bool) (w r : List ℕ) → Gap w r → next_value k due (w ++ r) ≡ next_value k due r
+gap_next : (k : BracketKind) (comma_due : Bool) (w r : List ℕ) → Gap w r → next_value k comma_due (w ++ r) ≡ next_value k comma_due r
 gap_next k false w r g = gap_member k w r g
 gap_next k true w r g = ap (λ m. and_then m (λ more y. cond more (member_at k y) (got false y))) (gap_separator k w r g)
 
-pub gap_rest : (k : BracketKind) (due : Bool) (d : ℕ) (w r : List ℕ) → Gap w r → rest_of k due d (w ++ r) ≡ rest_of k due d r
-gap_rest k due d w r g = rest_step k due d (w ++ r) ∙ ap (λ m. and_then m (turn k d)) (gap_next k due w r g) ∙ sym (rest_step k due d r)
+pub gap_rest : (k : BracketKind) (comma_due : Bool) (d : ℕ) (w r : List ℕ) → Gap w r → rest_of k comma_due d (w ++ r) ≡ rest_of k comma_due d r
+gap_rest k comma_due d w r g = rest_step k comma_due d (w ++ r) ∙ ap (λ m. and_then m (turn k d)) (gap_next k comma_due w r g) ∙ sym (rest_step k comma_due d r)
 
 -- after a value, and where a member may begin
 pub gap_after : (finish : Finish) (limit : ℕ) (o : List Bracket) (w r : List ℕ) → Gap w r

@@ -2,16 +2,16 @@
 use Rattle.std.proofs.Common.{◌≡◌, ℕ, suc, ◌+◌, ◌-◌, ◌<◌, ◌≤◌, Bool, true, false, cond, List, [], ◌∷◌, ◌++◌, length, refl, ap, sym, ◌∙◌, append_assoc, arith}
 use Rattle.std.specs.Prelude.{◌==◌, drop}
 use Rattle.std.proofs.lemmas.List.{drop_at}
-use Rattle.json5_grammar.specs.Blanks.{Gap, is_solid}
-use Rattle.json5_grammar.specs.Names.{Key}
-use Rattle.json5_grammar.specs.Trees.{Tree, depth}
-use Rattle.json5_grammar.specs.Values.{Val, Stops}
-use Rattle.json5_grammar.specs.Fronts.{BracketKind, of_array, of_object, Bracket, Expects, takes_value, after, member_of, opening, Front, start, after_value, after_bracket, after_comma, after_key, after_colon, value, element, key, colon, comma, end}
+use Rattle.json5_grammar.specs.Language.Blanks.{Gap, is_solid}
+use Rattle.json5_grammar.specs.Language.Names.{Key}
+use Rattle.json5_grammar.specs.Language.Trees.{Tree, depth}
+use Rattle.json5_grammar.specs.Language.Values.{Val, Stops}
+use Rattle.json5_grammar.specs.Faults.Fronts.{BracketKind, of_array, of_object, Bracket, Expects, takes_value, after, member_of, opening, Front, start, after_value, after_bracket, after_comma, after_key, after_colon, value, element, key, colon, comma, end}
 use Rattle.json5_grammar.specs.Faults.{is_allowed_close}
-use Rattle.json5_grammar.specs.Reading.{Read, got, bad, and_then, placed}
-use Rattle.json5_grammar.specs.ReadBlanks.{skip, between}
-use Rattle.json5_grammar.specs.ReadValues.{colon_at, read}
-use Rattle.json5_grammar.specs.ReadSteps.{forget, colon_after, pair_head, member_head, member_at, separator, rest_of, value_and_rest}
+use Rattle.json5_grammar.specs.Model.Reading.{Read, got, bad, and_then, placed}
+use Rattle.json5_grammar.specs.Model.ReadBlanks.{skip, between}
+use Rattle.json5_grammar.specs.Model.ReadValues.{colon_at, read}
+use Rattle.json5_grammar.specs.Model.ReadSteps.{forget, colon_after, pair_head, member_head, member_at, separator, rest_of, value_and_rest}
 use Rattle.json5_grammar.proofs.Basics.{append_after_two}
 use Rattle.json5_grammar.proofs.BlanksRead.{skip_gap, skip_rest, printable_solid, begins_solid}
 use Rattle.json5_grammar.proofs.Classes.{begins_others}
@@ -111,10 +111,10 @@ comma_step finish limit b o w r g =
     by_kind of_object = refl
 
 -- over a key
-key_step : (finish : Finish) (limit : ℕ) (b : Bracket) (o : List Bracket) (k w r u : List ℕ) (plain : Bool) → b.kind ≡ of_object
-    → Key k (w ++ r) u plain → Gap w r → left_at finish limit (b ∷ o) key (k ++ (w ++ r)) ≡ left_at finish limit (b ∷ o) colon r
+key_step : (finish : Finish) (limit : ℕ) (b : Bracket) (o : List Bracket) (k w r u : List ℕ) (escape_free : Bool) → b.kind ≡ of_object
+    → Key k (w ++ r) u escape_free → Gap w r → left_at finish limit (b ∷ o) key (k ++ (w ++ r)) ≡ left_at finish limit (b ∷ o) colon r
 unfolding member_at
-key_step finish limit b o k w r u plain f is g =
+key_step finish limit b o k w r u escape_free f is g =
     let h = key_head is in
     let e : k ++ (w ++ r) ≡ h.char ∷ (h.more ++ (w ++ r)) = ap (λ z. z ++ (w ++ r)) h.is in
     let d : ℕ = room limit (b ∷ o) in
@@ -171,13 +171,13 @@ front_reached {limit = limit} finish x (after_bracket {g = g} {w = w} {r = r} {o
 front_reached {limit = limit} finish x (after_comma {g = g} {w = w} {r = r} {b = b} {o = o} f gap) e =
     front_reached finish x f (e ∙ append_assoc g (44 ∷ w) r)
     ∙ ap (whole_of finish limit x (b ∷ o)) (comma_step finish limit b o w r gap)
-front_reached {limit = limit} finish x (after_key {g = g} {k = k} {w = w} {r = r} {u = u} {o = o} {plain = plain} f is gap) e =
+front_reached {limit = limit} finish x (after_key {g = g} {k = k} {w = w} {r = r} {u = u} {o = o} {escape_free = escape_free} f is gap) e =
     front_reached finish x f (e ∙ append_after_two g k w r)
     ∙ ap (whole_of finish limit x o) (by_object o (front_fits f))
   where
     by_object : (o : List Bracket) → Fits o key → left_at finish limit o key (k ++ (w ++ r)) ≡ left_at finish limit o colon r
     by_object [] h = absurd h
-    by_object (b ∷ o) h = key_step finish limit b o k w r u plain h is gap
+    by_object (b ∷ o) h = key_step finish limit b o k w r u escape_free h is gap
 front_reached {limit = limit} finish x (after_colon {g = g} {w = w} {r = r} {o = o} f gap) e =
     front_reached finish x f (e ∙ append_assoc g (58 ∷ w) r)
     ∙ ap (whole_of finish limit x o) (colon_step finish limit o w r gap)

@@ -2,10 +2,10 @@
 use Rattle.std.proofs.Common.{◌≡◌, ℕ, List, [], ◌∷◌, ◌++◌, length, refl, ap, sym, ◌∙◌, append_assoc, Option, Some, None}
 use Rattle.std.specs.Prelude.{drop}
 use Rattle.std.proofs.lemmas.List.{drop_at}
-use Rattle.json5_grammar.specs.Codes.{ErrorCode}
-use Rattle.json5_grammar.specs.Fronts.{Bracket, Expects, opening, Front, start, after_value, after_bracket, after_comma, after_key, after_colon, end}
+use Rattle.json5_grammar.specs.Faults.Codes.{ErrorCode}
+use Rattle.json5_grammar.specs.Faults.Fronts.{Bracket, Expects, opening, Front, start, after_value, after_bracket, after_comma, after_key, after_colon, end}
 use Rattle.json5_grammar.specs.Faults.{innermost, lifted}
-use Rattle.json5_grammar.specs.Reading.{Place, here, inner, bad, IsAt}
+use Rattle.json5_grammar.specs.Model.Reading.{Place, here, inner, bad, IsAt}
 use Rattle.json5_grammar.proofs.Refusals.{Refuses}
 use Rattle.json5_grammar.proofs.FrontsLeft.{Finish, ending, phrase_then, left_at, whole_of}
 use Rattle.json5_grammar.proofs.FrontsReached.{front_reached}

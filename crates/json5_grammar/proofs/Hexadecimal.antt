@@ -3,10 +3,10 @@ use Rattle.std.proofs.Common.{◌≡◌, ℕ, ◌+◌, ◌*◌, ◌^◌, ◌<◌
 use Rattle.std.specs.Prelude.{nat_lt}
 use Rattle.std.specs.Char.{digit_value}
 use Rattle.std.proofs.lemmas.Bool.Decides.{nat_tests}
-use Rattle.json5_grammar.specs.Characters.{is_hex_digit, NotBegun, Each, no_char, char}
-use Rattle.json5_grammar.specs.Numbers.{spelled}
-use Rattle.json5_grammar.specs.Reading.{got}
-use Rattle.json5_grammar.specs.ReadNumbers.{hex_digits}
+use Rattle.json5_grammar.specs.Language.Characters.{is_hex_digit, NotBegun, Each, no_char, char}
+use Rattle.json5_grammar.specs.Language.Numbers.{spelled}
+use Rattle.json5_grammar.specs.Model.Reading.{got}
+use Rattle.json5_grammar.specs.Model.ReadNumbers.{hex_digits}
 
 pub spelled_grows : (n : ℕ) (h : List ℕ) → n ≤ spelled 16 n h
 spelled_grows n [] = omega arith

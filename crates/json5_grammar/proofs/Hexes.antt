@@ -1,11 +1,11 @@
 -- Hexadecimal digits are read as they are spelled.
 use Rattle.std.proofs.Common.{◌≡◌, ℕ, zero, suc, ◌+◌, ◌*◌, ◌<◌, true, false, List, [], ◌∷◌, ◌++◌, length, refl, ap, sym, ◌∙◌, arith, subst, Option, Some}
 use Rattle.std.specs.Char.{digit_value}
-use Rattle.json5_grammar.specs.Characters.{is_hex_digit, Each, no_char, char}
-use Rattle.json5_grammar.specs.Strings.{Hex4, hex4}
-use Rattle.json5_grammar.specs.Codes.{ErrorCode, EofParsingEscapeSequence, InvalidEscapeSequence}
-use Rattle.json5_grammar.specs.Reading.{Place, here, inner, Read, got, bad}
-use Rattle.json5_grammar.specs.ReadTexts.{hex}
+use Rattle.json5_grammar.specs.Language.Characters.{is_hex_digit, Each, no_char, char}
+use Rattle.json5_grammar.specs.Language.Strings.{Hex4, hex4}
+use Rattle.json5_grammar.specs.Faults.Codes.{ErrorCode, EofParsingEscapeSequence, InvalidEscapeSequence}
+use Rattle.json5_grammar.specs.Model.Reading.{Place, here, inner, Read, got, bad}
+use Rattle.json5_grammar.specs.Model.ReadTexts.{hex}
 use Rattle.json5_grammar.proofs.Basics.{by_test}
 
 -- the value of digits after those of n

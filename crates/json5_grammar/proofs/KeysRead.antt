@@ -5,14 +5,13 @@ use Rattle.std.proofs.lemmas.Bool.Decides.{nat_tests}
 use Rattle.ucd_category.specs.GeneralCategory.{general_category}
 use Rattle.ucd_table.specs.Rows.{value_in}
 use Rattle.ucd_category.specs.GeneralCategoryRows.{general_category_rows}
-use Rattle.json5_grammar.specs.Characters.{is_identifier_start}
-use Rattle.json5_grammar.specs.Strings.{Str, quoted, is_quote}
-use Rattle.json5_grammar.specs.Names.{Ident, name, raw_name, escaped_name, Key, string_key, name_key}
-use Rattle.json5_grammar.specs.Codes.{ErrorCode, Shown}
-use Rattle.json5_grammar.specs.StringFaults.{StringFault, raw_terminator, string_ends}
-use Rattle.json5_grammar.specs.NameFaults.{NameFault, no_unicode_escape, escaped_no_start, escaped_no_part, name_ends, backslash_ends, Named, no_item_yet, some_items}
-use Rattle.json5_grammar.specs.Reading.{Read, got, bad}
-use Rattle.json5_grammar.specs.ReadTexts.{string, identifier, key}
+use Rattle.json5_grammar.specs.Language.Characters.{is_identifier_start}
+use Rattle.json5_grammar.specs.Language.Strings.{Str, quoted, is_quote}
+use Rattle.json5_grammar.specs.Language.Names.{Ident, name, raw_name, escaped_name, Key, string_key, name_key}
+use Rattle.json5_grammar.specs.Faults.Codes.{ErrorCode, Shown}
+use Rattle.json5_grammar.specs.Faults.Tokens.{StringFault, raw_terminator, string_ends, NameFault, no_unicode_escape, escaped_no_start, escaped_no_part, name_ends, backslash_ends, Named, no_item_yet, some_items}
+use Rattle.json5_grammar.specs.Model.Reading.{Read, got, bad}
+use Rattle.json5_grammar.specs.Model.ReadTexts.{string, identifier, key}
 use Rattle.json5_grammar.proofs.Basics.{by_test, or_right}
 use Rattle.json5_grammar.proofs.Refusals.{Refuses, one_answer}
 use Rattle.json5_grammar.proofs.StringsRead.{string_complete, string_refused, fault_head}
@@ -66,21 +65,21 @@ str_head (quoted {q = q} {s = s} h i) = (q, s ++ q ∷ [], refl, h)
 pub string_fault_head : {x b p : List ℕ} {e : Option ErrorCode} {pl : Option (List ℕ)} {how : Shown} → StringFault x e pl b p how → QuoteHead true x
 string_fault_head (raw_terminator {q = q} {c = c} {s = s} r h i l) = (q, s ++ c ∷ r, refl, h)
 string_fault_head (string_ends {q = q} {s = s} h i) = (q, s, refl, h)
-string_fault_head (StringFault.in_escape {q = q} {s = s} {x = x} h i f) = (q, s ++ x, refl, h)
+string_fault_head (StringFault.in_string_escape {q = q} {s = s} {x = x} h i f) = (q, s ++ x, refl, h)
 
 named_head : {t : List ℕ} (x : List ℕ) → Named t → QuoteHead false x → QuoteHead false (t ++ x)
 named_head x no_item_yet h = h
 named_head x (some_items i) h = heads_more x (ident_head i)
 
 pub name_fault_head : {x b p : List ℕ} {e : Option ErrorCode} {pl : Option (List ℕ)} {how : Shown} → NameFault x e pl b p how → QuoteHead false x
-name_fault_head (NameFault.in_escape {x = x} k f) = named_head x k (backslash_head x (fault_head f))
+name_fault_head (NameFault.in_name_escape {x = x} k f) = named_head x k (backslash_head x (fault_head f))
 name_fault_head (no_unicode_escape c r k n) = named_head (92 ∷ c ∷ r) k (92, c ∷ r, refl, refl)
 name_fault_head (escaped_no_start {e = e} r u n) = heads_more r (backslash_head e (unicode_head u))
 name_fault_head (escaped_no_part {e = e} r i u n) = heads_more (e ++ r) (ident_head i)
 name_fault_head (name_ends i) = ident_head i
 name_fault_head (backslash_ends k) = named_head (92 ∷ []) k (92, [], refl, refl)
 
-pub key_complete : {k r u : List ℕ} {plain : Bool} → Key k r u plain → key (k ++ r) ≡ got (u, plain) r
+pub key_complete : {k r u : List ℕ} {escape_free : Bool} → Key k r u escape_free → key (k ++ r) ≡ got (u, escape_free) r
 key_complete (string_key {k = k} {r = r} s) = key_string (k ++ r) (heads_more r (str_head s)) ∙ string_complete r s
 key_complete (name_key {k = k} {r = r} {c = c} i h) = key_name (k ++ c ∷ r) (heads_more (c ∷ r) (ident_head i)) ∙ name_complete c r i h
 

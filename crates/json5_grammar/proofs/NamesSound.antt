@@ -2,13 +2,13 @@
 use Rattle.std.proofs.Common.{◌≡◌, ℕ, zero, suc, ◌<◌, Bool, true, false, ◌&&◌, ◌||◌, List, [], ◌∷◌, ◌++◌, length, refl, ap, sym, ◌∙◌, append_assoc, arith, ◌≢◌, subst, Option, Some, None}
 use Rattle.std.specs.Prelude.{◌==◌}
 use Rattle.std.proofs.lemmas.List.{append-nil}
-use Rattle.json5_grammar.specs.Characters.{is_identifier_start, is_identifier_part}
-use Rattle.json5_grammar.specs.Strings.{Unicode}
-use Rattle.json5_grammar.specs.Names.{NameItem, raw_name, escaped_name, NameParts, no_part, part, Ident, name, goes_on_name}
-use Rattle.json5_grammar.specs.Codes.{ErrorCode, EofParsingIdentifier, ExpectedIdentifier, InvalidEscapeSequence, Shown, by_char, by_end, after_text}
-use Rattle.json5_grammar.specs.NameFaults.{NameFault, no_unicode_escape, escaped_no_start, escaped_no_part, name_ends, backslash_ends, no_item_yet, some_items}
-use Rattle.json5_grammar.specs.Reading.{Place, here, inner, Read, got, bad, and_then, IsAt}
-use Rattle.json5_grammar.specs.ReadTexts.{name_escape, unicode_at, fit, escaped_item, put, parts, identifier}
+use Rattle.json5_grammar.specs.Language.Characters.{is_identifier_start, is_identifier_part}
+use Rattle.json5_grammar.specs.Language.Strings.{Unicode}
+use Rattle.json5_grammar.specs.Language.Names.{NameItem, raw_name, escaped_name, NameParts, no_part, part, Ident, name, goes_on_name}
+use Rattle.json5_grammar.specs.Faults.Codes.{ErrorCode, EofParsingIdentifier, ExpectedIdentifier, InvalidEscapeSequence, Shown, by_char, by_end, after_text}
+use Rattle.json5_grammar.specs.Faults.Tokens.{NameFault, no_unicode_escape, escaped_no_start, escaped_no_part, name_ends, backslash_ends, no_item_yet, some_items}
+use Rattle.json5_grammar.specs.Model.Reading.{Place, here, inner, Read, got, bad, and_then, IsAt}
+use Rattle.json5_grammar.specs.Model.ReadTexts.{name_escape, unicode_at, fit, escaped_item, put, parts, identifier}
 use Rattle.json5_grammar.proofs.Basics.{by_test, eq_from, neq_from, at_after}
 use Rattle.json5_grammar.proofs.EscapesSound.{Blamed, UnicodeSound, unicode_sound}
 use Rattle.json5_grammar.proofs.NamesRead.{unicode_head}
@@ -50,11 +50,11 @@ Stopped r = (c : ℕ) × (z : List ℕ) × (r ≡ c ∷ z) × (goes_on_name c �
 
 abbrev pub PartsSound : List ℕ → Read (List ℕ × Bool) → Type 0
 PartsSound y (got a r) = (s : List ℕ) × (y ≡ s ++ r) × NameParts s a.0 a.1 × Stopped r
-PartsSound y (bad code p) = (s : List ℕ) × (t : List ℕ) × (u : List ℕ) × (plain : Bool) × (y ≡ s ++ t) × NameParts s u plain × PartFault t code p
+PartsSound y (bad code p) = (s : List ℕ) × (t : List ℕ) × (u : List ℕ) × (escape_free : Bool) × (y ≡ s ++ t) × NameParts s u escape_free × PartFault t code p
 
 after_item : {v : List ℕ} {c : ℕ} {p : Bool} (x y : List ℕ) (res : Read (List ℕ × Bool)) → x ≡ v ++ y → NameItem v c p → is_identifier_part c ≡ true → PartsSound y res → PartsSound x (put (c ∷ []) p res)
 after_item {v = v} x y (got a r) e i h (s, g, k, st) = (v ++ s, e ∙ ap (λ z. v ++ z) g ∙ sym (append_assoc v s r), part i h k, st)
-after_item {v = v} {c = c} {p = b} x y (bad code p) e i h (s, t, u, plain, g, k, f) = (v ++ s, t, c ∷ u, b && plain, e ∙ ap (λ z. v ++ z) g ∙ sym (append_assoc v s t), part i h k, f)
+after_item {v = v} {c = c} {p = b} x y (bad code p) e i h (s, t, u, escape_free, g, k, f) = (v ++ s, t, c ∷ u, b && escape_free, e ∙ ap (λ z. v ++ z) g ∙ sym (append_assoc v s t), part i h k, f)
 
 escape_more : (x : List ℕ) (res : Read ℕ) (k : List ℕ → Read (List ℕ × Bool)) → EscapedSound is_identifier_part x res → ((y : List ℕ) → length y < length x → PartsSound y (k y)) → PartsSound x (and_then res (λ n y. put (n ∷ []) false (k y)))
 escape_more x (got n y) k (e, f, u, h) i = after_item x y (k y) f (escaped_name u) h (i y (shorter x e y f (unicode_head u)))
@@ -95,21 +95,21 @@ blame_first : {x : List ℕ} {code : Option ErrorCode} {p : Place} → NameItemF
 blame_first backslash = record { place = None; before = []; part = 92 ∷ []; shown = by_end; fault = backslash_ends no_item_yet; is_at = tt }
 blame_first (no_u {c = c} {r = r} n) = record { place = Some (92 ∷ []); before = []; part = 92 ∷ c ∷ []; shown = by_char; fault = no_unicode_escape c r no_item_yet n; is_at = refl }
 blame_first (misfit {e = e} r u n) = record { place = Some []; before = []; part = e; shown = by_char; fault = escaped_no_start r u n; is_at = refl }
-blame_first {x = x} {p = p} (faulty b) = record { place = after_text [] b.place; before = []; part = b.part; shown = b.shown; fault = NameFault.in_escape no_item_yet b.fault; is_at = at_after [] x b.place p b.is_at }
+blame_first {x = x} {p = p} (faulty b) = record { place = after_text [] b.place; before = []; part = b.part; shown = b.shown; fault = NameFault.in_name_escape no_item_yet b.fault; is_at = at_after [] x b.place p b.is_at }
 
-blame_item : {s t u : List ℕ} {plain : Bool} {code : Option ErrorCode} {p : Place} → Ident s u plain → NameItemFault is_identifier_part t code p → NameBlamed (s ++ t) code p
+blame_item : {s t u : List ℕ} {escape_free : Bool} {code : Option ErrorCode} {p : Place} → Ident s u escape_free → NameItemFault is_identifier_part t code p → NameBlamed (s ++ t) code p
 blame_item {s = s} i backslash = record { place = None; before = []; part = s ++ 92 ∷ []; shown = by_end; fault = backslash_ends (some_items i); is_at = tt }
 blame_item {s = s} i (no_u {c = c} {r = r} n) = record { place = Some (s ++ 92 ∷ []); before = s; part = 92 ∷ c ∷ []; shown = by_char; fault = no_unicode_escape c r (some_items i) n; is_at = sym (append_assoc s (92 ∷ []) (c ∷ r)) }
 blame_item {s = s} i (misfit {e = e} r u n) = record { place = Some s; before = s; part = e; shown = by_char; fault = escaped_no_part r i u n; is_at = refl }
-blame_item {s = s} {t = t} {p = p} i (faulty b) = record { place = after_text s b.place; before = s; part = b.part; shown = b.shown; fault = NameFault.in_escape (some_items i) b.fault; is_at = at_after s t b.place p b.is_at }
+blame_item {s = s} {t = t} {p = p} i (faulty b) = record { place = after_text s b.place; before = s; part = b.part; shown = b.shown; fault = NameFault.in_name_escape (some_items i) b.fault; is_at = at_after s t b.place p b.is_at }
 
-blame_part : {s t u : List ℕ} {plain : Bool} {code : Option ErrorCode} {p : Place} → Ident s u plain → PartFault t code p → NameBlamed (s ++ t) code p
+blame_part : {s t u : List ℕ} {escape_free : Bool} {code : Option ErrorCode} {p : Place} → Ident s u escape_free → PartFault t code p → NameBlamed (s ++ t) code p
 blame_part {s = s} i end = subst (λ z. NameBlamed z (Some EofParsingIdentifier) inner) (sym (append-nil s)) (record { place = None; before = []; part = s; shown = by_end; fault = name_ends i; is_at = tt })
 blame_part i (item f) = blame_item i f
 
 from_start : {v : List ℕ} {c : ℕ} {p : Bool} (x y : List ℕ) (res : Read (List ℕ × Bool)) → x ≡ v ++ y → NameItem v c p → is_identifier_start c ≡ true → PartsSound y res → NameSound x (put (c ∷ []) p res)
 from_start {v = v} x y (got a r) e i h (s, g, k, st) = (v ++ s, e ∙ ap (λ z. v ++ z) g ∙ sym (append_assoc v s r), name i h k, st)
-from_start {v = v} x y (bad code p) e i h (s, t, u, plain, g, k, f) =
+from_start {v = v} x y (bad code p) e i h (s, t, u, escape_free, g, k, f) =
     subst (λ z. NameBlamed z code p) (append_assoc v s t ∙ ap (λ z. v ++ z) (sym g) ∙ sym e) (blame_part (name i h k) f)
 
 start_escape : (x : List ℕ) (res : Read ℕ) (k : List ℕ → Read (List ℕ × Bool)) → EscapedSound is_identifier_start x res → ((y : List ℕ) → length y < length x → PartsSound y (k y)) → NameSound x (and_then res (λ n y. put (n ∷ []) false (k y)))

@@ -2,11 +2,11 @@
 use Rattle.std.proofs.Common.{◌≡◌, ◌^◌, ◌-◌, true, false, [], refl, Some, None}
 use Rattle.std.specs.Prelude.{pos, negsuc, neg_ℤ}
 use lib.Chars.{codes}
-use Rattle.json5_grammar.specs.Numbers.{whole, decimal, finite}
-use Rattle.json5_grammar.specs.Codes.{ExpectedNumber, EofParsingNumber, OverflowParsingNumber, LeadingZero}
-use Rattle.json5_grammar.specs.Reading.{got, bad, here, inner}
-use Rattle.json5_grammar.specs.ReadNumbers.{number, unsigned, word, hex_digits, front_of, rest_of, literal_at, judged}
-use Rattle.json5_grammar.specs.NumberText.{decimal_text}
+use Rattle.json5_grammar.specs.Language.Numbers.{whole, decimal, finite}
+use Rattle.json5_grammar.specs.Faults.Codes.{ExpectedNumber, EofParsingNumber, OverflowParsingNumber, LeadingZero}
+use Rattle.json5_grammar.specs.Model.Reading.{got, bad, here, inner}
+use Rattle.json5_grammar.specs.Model.ReadNumbers.{number, unsigned, word, hex_digits, front_of, rest_of, literal_at, judged}
+use Rattle.json5_grammar.specs.Written.NumberText.{decimal_text}
 
 minus_zero : number (codes "-0") ≡ got (whole (pos 0)) []
 unfolding number unsigned

@@ -1,8 +1,8 @@
 -- A number's fault that a character shows stands whatever follows it.
 use Rattle.std.proofs.Common.{◌≡◌, ℕ, Bool, List, [], ◌∷◌, ◌++◌, refl, ap, sym, ◌∙◌, append_assoc, Option}
 use Rattle.std.proofs.lemmas.List.{append-nil}
-use Rattle.json5_grammar.specs.Codes.{ErrorCode, Shown, by_char}
-use Rattle.json5_grammar.specs.NumberFaults.{RunEnd, run_at_end, run_at_char, NumberFault, number_word_differs, number_word_ends, sign_without_number, sign_ends, no_hexadecimal_digit, hexadecimal_ends, hexadecimal_overflows, negative_too_large, not_a_literal, literal_overflows, leading_zero}
+use Rattle.json5_grammar.specs.Faults.Codes.{ErrorCode, Shown, by_char}
+use Rattle.json5_grammar.specs.Faults.Tokens.{RunEnd, run_at_end, run_at_char, NumberFault, number_word_differs, number_word_ends, sign_without_number, sign_ends, no_hexadecimal_digit, hexadecimal_ends, hexadecimal_overflows, negative_too_large, not_a_literal, literal_overflows, leading_zero}
 use Rattle.json5_grammar.proofs.Basics.{append_after_two}
 
 after_rest : {p : ℕ → Bool} {r c : List ℕ} {shown : Shown} → RunEnd p r c shown → (q : List ℕ) × (r ≡ c ++ q)

@@ -3,11 +3,11 @@ use Rattle.std.proofs.Common.{◌≡◌, ℕ, Bool, true, false, List, [], ◌�
 use lib.Chars.{codes}
 use Rattle.std.proofs.lemmas.Bool.Decides.{nat_tests}
 use Rattle.std.proofs.lemmas.List.{append-nil}
-use Rattle.json5_grammar.specs.Parts.{NumberPart, one_char, number_word, hexadecimal, lone_zero_part, decimal_run, Nearly, just, one_more, IsPrefix}
-use Rattle.json5_grammar.specs.Codes.{ErrorCode, Shown}
-use Rattle.json5_grammar.specs.NumberFaults.{NumberWord, Cut, RunEnd, run_at_end, run_at_char, is_sign, NumberFault, number_word_differs, number_word_ends, sign_without_number, sign_ends, no_hexadecimal_digit, hexadecimal_ends, hexadecimal_overflows, negative_too_large, not_a_literal, literal_overflows, leading_zero}
-use Rattle.json5_grammar.specs.Numbers.{Sign, plus, minus}
-use Rattle.json5_grammar.specs.Characters.{no_char}
+use Rattle.json5_grammar.specs.Faults.Parts.{NumberPart, one_char, number_word, hexadecimal, lone_zero_part, decimal_run, Nearly, just, one_more, IsPrefix}
+use Rattle.json5_grammar.specs.Faults.Codes.{ErrorCode, Shown}
+use Rattle.json5_grammar.specs.Faults.Tokens.{NumberWord, Cut, RunEnd, run_at_end, run_at_char, is_sign, NumberFault, number_word_differs, number_word_ends, sign_without_number, sign_ends, no_hexadecimal_digit, hexadecimal_ends, hexadecimal_overflows, negative_too_large, not_a_literal, literal_overflows, leading_zero}
+use Rattle.json5_grammar.specs.Language.Numbers.{Sign, plus, minus}
+use Rattle.json5_grammar.specs.Language.Characters.{no_char}
 
 cut_prefix : (w p : List ℕ) (d : ℕ) → Cut w p d → IsPrefix p w
 cut_prefix w p d (q, e) = (d ∷ q, e)

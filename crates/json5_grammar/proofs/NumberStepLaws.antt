@@ -5,9 +5,9 @@ use Rattle.std.specs.Char.{digit_value}
 use Rattle.std.specs.List.{prefix_len}
 use Rattle.std.proofs.lemmas.Bool.Decides.{nat_tests}
 use Rattle.std.proofs.lemmas.Int.{ints}
-use Rattle.json5_grammar.specs.Numbers.{spelled, signed}
-use Rattle.json5_grammar.specs.ReadNumbers.{front_of, in_exponents}
-use Rattle.json5_grammar.specs.NumberSteps.{capped, checked}
+use Rattle.json5_grammar.specs.Language.Numbers.{spelled, signed}
+use Rattle.json5_grammar.specs.Model.ReadNumbers.{front_of, in_exponents}
+use Rattle.json5_grammar.specs.Model.NumberSteps.{capped, checked}
 use Rattle.json5_grammar.proofs.Basics.{by_test, lt_from, le_from}
 
 -- in std's words

@@ -3,11 +3,10 @@ use Rattle.std.proofs.Common.{◌≡◌, ℕ, ◌^◌, ◌<◌, Bool, true, fals
 use Rattle.std.specs.Prelude.{◌==◌, ℤ, pos, negsuc}
 use Rattle.std.proofs.lemmas.Bool.Decides.{nat_tests}
 use Rattle.std.proofs.lemmas.Int.{ints}
-use Rattle.json5_grammar.specs.Characters.{is_digit, is_in, NotBegun, Each, no_char, char}
-use Rattle.json5_grammar.specs.Numbers.{hex_start, InWhole, InExponents, is_empty}
-use Rattle.json5_grammar.specs.Stops.{in_run, begins_run}
-use Rattle.json5_grammar.specs.NumberFaults.{is_sign}
-use Rattle.json5_grammar.specs.ReadNumbers.{front_of, rest_of, in_whole, in_exponents}
+use Rattle.json5_grammar.specs.Language.Characters.{is_digit, is_in, NotBegun, Each, no_char, char}
+use Rattle.json5_grammar.specs.Language.Numbers.{hex_start, InWhole, InExponents, is_empty, in_run, begins_run}
+use Rattle.json5_grammar.specs.Faults.Tokens.{is_sign}
+use Rattle.json5_grammar.specs.Model.ReadNumbers.{front_of, rest_of, in_whole, in_exponents}
 pub use Rattle.json5_grammar.proofs.Basics.{by_test}
 
 -- ---- characters

@@ -1,11 +1,11 @@
 -- A text that begins as a number does has a number in front or a fault.
 use Rattle.std.proofs.Common.{ℕ, ◌||◌, List, [], refl, ◌⊎◌, inl, inr}
-use Rattle.json5_grammar.specs.Characters.{Begun}
-use Rattle.json5_grammar.specs.Numbers.{Number}
-use Rattle.json5_grammar.specs.NumberFaults.{is_sign, begins_number}
-use Rattle.json5_grammar.specs.Blames.{NumberBlame, HasNumber, IsBlamed}
-use Rattle.json5_grammar.specs.Reading.{Read, got, bad}
-use Rattle.json5_grammar.specs.ReadNumbers.{number}
+use Rattle.json5_grammar.specs.Language.Characters.{Begun}
+use Rattle.json5_grammar.specs.Language.Numbers.{Number}
+use Rattle.json5_grammar.specs.Faults.Tokens.{is_sign, begins_number}
+use Rattle.json5_grammar.specs.Faults.Blames.{NumberBlame, HasNumber, IsBlamed}
+use Rattle.json5_grammar.specs.Model.Reading.{Read, got, bad}
+use Rattle.json5_grammar.specs.Model.ReadNumbers.{number}
 use Rattle.json5_grammar.proofs.NumbersSound.{SoundNumber, sound}
 
 abbrev pub Judged : List ℕ → Type 0

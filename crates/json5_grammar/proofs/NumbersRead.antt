@@ -3,12 +3,11 @@ use Rattle.std.proofs.Common.{◌≡◌, ℕ, ◌^◌, ◌<◌, ◌≤◌, Bool,
 use Rattle.std.specs.Prelude.{◌==◌, ℤ, pos, nat_le}
 use Rattle.std.proofs.lemmas.Bool.Decides.{nat_tests}
 use Rattle.std.proofs.lemmas.Int.{ints}
-use Rattle.json5_grammar.specs.Characters.{is_digit, is_hex_digit, NotBegun, Each, char}
-use Rattle.json5_grammar.specs.Numbers.{Sign, no_sign, plus, minus, signed, spelled, Literal, Number, whole, decimal, finite, Num, is_infinite, is_nan, is_hexadecimal, is_integer, is_decimal, hex_start, InWhole, InExponents, IsWholeLiteral, all_digits, without_zeros, exponent_of}
-use Rattle.json5_grammar.specs.Stops.{in_run, begins_run, after_zero, lengthens_body, lengthens}
-use Rattle.json5_grammar.specs.NumberFaults.{is_sign}
-use Rattle.json5_grammar.specs.Reading.{got}
-use Rattle.json5_grammar.specs.ReadNumbers.{Parts, front_of, rest_of, literal_at, in_whole, is_whole, judged, if_literal, hex_judged, hexadecimal, hex_digits, word, unsigned, number}
+use Rattle.json5_grammar.specs.Language.Characters.{is_digit, is_hex_digit, NotBegun, Each, char}
+use Rattle.json5_grammar.specs.Language.Numbers.{Sign, no_sign, plus, minus, signed, spelled, Literal, Number, whole, decimal, finite, Num, is_infinite, is_nan, is_hexadecimal, is_integer, is_decimal, hex_start, InWhole, InExponents, IsWholeLiteral, all_digits, without_zeros, exponent_of, in_run, begins_run, after_zero, lengthens_body, lengthens}
+use Rattle.json5_grammar.specs.Faults.Tokens.{is_sign}
+use Rattle.json5_grammar.specs.Model.Reading.{got}
+use Rattle.json5_grammar.specs.Model.ReadNumbers.{Parts, front_of, rest_of, literal_at, in_whole, is_whole, judged, if_literal, hex_judged, hexadecimal, hex_digits, word, unsigned, number}
 use Rattle.json5_grammar.proofs.NumberTests.{in_whole_yes, in_whole_true, in_exponents_true, begins_run_others, dot_or_e_others, hex_start_no_digit, front_all, rest_all}
 use Rattle.json5_grammar.proofs.Hexadecimal.{hex_over, hex_stop}
 use Rattle.json5_grammar.proofs.Literals.{literal_found, literal_run, literal_head, Head, alone, longer, Longer, zero_more, begun}

@@ -5,13 +5,12 @@ use Rattle.std.specs.Char.{digit_value}
 use Rattle.std.proofs.lemmas.Bool.Decides.{nat_tests}
 use Rattle.std.proofs.lemmas.List.{append_cancel_right}
 use lib.Chars.{codes}
-use Rattle.json5_grammar.specs.Characters.{is_digit, is_hex_digit, NotBegun, Each, no_char, char}
-use Rattle.json5_grammar.specs.Numbers.{Sign, minus, spelled, Literal, Number, decimal, infinite, nan, Num, is_decimal, exponent_of}
-use Rattle.json5_grammar.specs.Stops.{in_run, lengthens}
-use Rattle.json5_grammar.specs.Codes.{ErrorCode, Shown, ExpectedNumber, EofParsingNumber, OverflowParsingNumber}
-use Rattle.json5_grammar.specs.NumberFaults.{is_sign, NumberWord, Cut, Run, run, zero_run, RunEnd, run_at_end, run_at_char, NumberFault, number_word_differs, number_word_ends, sign_without_number, sign_ends, no_hexadecimal_digit, hexadecimal_ends, hexadecimal_overflows, negative_too_large, not_a_literal, literal_overflows, leading_zero}
-use Rattle.json5_grammar.specs.Reading.{Place, got, bad, here, inner}
-use Rattle.json5_grammar.specs.ReadNumbers.{Parts, literal_at, in_exponents, is_whole, if_literal, hex_judged, hexadecimal, hex_digits, word, unsigned, number}
+use Rattle.json5_grammar.specs.Language.Characters.{is_digit, is_hex_digit, NotBegun, Each, no_char, char}
+use Rattle.json5_grammar.specs.Language.Numbers.{Sign, minus, spelled, Literal, Number, decimal, infinite, nan, Num, is_decimal, exponent_of, in_run, lengthens}
+use Rattle.json5_grammar.specs.Faults.Codes.{ErrorCode, Shown, ExpectedNumber, EofParsingNumber, OverflowParsingNumber}
+use Rattle.json5_grammar.specs.Faults.Tokens.{is_sign, NumberWord, Cut, Run, run, zero_run, RunEnd, run_at_end, run_at_char, NumberFault, number_word_differs, number_word_ends, sign_without_number, sign_ends, no_hexadecimal_digit, hexadecimal_ends, hexadecimal_overflows, negative_too_large, not_a_literal, literal_overflows, leading_zero}
+use Rattle.json5_grammar.specs.Model.Reading.{Place, got, bad, here, inner}
+use Rattle.json5_grammar.specs.Model.ReadNumbers.{Parts, literal_at, in_exponents, is_whole, if_literal, hex_judged, hexadecimal, hex_digits, word, unsigned, number}
 use Rattle.json5_grammar.proofs.Basics.{not_eq, same_char}
 use Rattle.json5_grammar.proofs.NumberTests.{in_exponents_yes, begins_run_in_run, dot_or_e_in_run}
 use Rattle.json5_grammar.proofs.Hexadecimal.{spelled-append, hex_stop, hex_over}

@@ -3,9 +3,9 @@ use Rattle.std.proofs.Common.{◌≡◌, ◌≤◌, ℕ, suc, ◌+◌, Bool, tru
 use Rattle.std.specs.Prelude.{◌==◌, not}
 use Rattle.std.specs.List.{list_any}
 use Rattle.std.proofs.lemmas.Bool.Decides.{nat_tests}
-use Rattle.json5_grammar.specs.Characters.{is_terminator}
-use Rattle.json5_grammar.specs.Positions.{begins_line_feed, line_of, column_of, position_after}
-use Rattle.json5_grammar.specs.PositionSteps.{position_step, position_from}
+use Rattle.json5_grammar.specs.Language.Characters.{is_terminator}
+use Rattle.json5_grammar.specs.Faults.Positions.{begins_line_feed, line_of, column_of, position_after}
+use Rattle.json5_grammar.specs.Model.PositionSteps.{position_step, position_from}
 use Rattle.json5_grammar.specs.declared.position.Position.{Position}
 
 -- ---- what one character does; a: an LF after a CR, t: a terminator, r: a CR, f: an LF follows

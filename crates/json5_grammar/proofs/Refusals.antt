@@ -1,8 +1,8 @@
 -- A refusal has one code and one place.
 use Rattle.std.proofs.Common.{◌≡◌, ℕ, List, ◌++◌, refl, ap, sym, ◌∙◌, subst, Option, Some, None}
 use Rattle.std.proofs.lemmas.List.{append_cancel_right}
-use Rattle.json5_grammar.specs.Codes.{ErrorCode, after_text}
-use Rattle.json5_grammar.specs.Reading.{Place, here, inner, Read, got, bad, IsAt}
+use Rattle.json5_grammar.specs.Faults.Codes.{ErrorCode, after_text}
+use Rattle.json5_grammar.specs.Model.Reading.{Place, here, inner, Read, got, bad, IsAt}
 use Rattle.json5_grammar.proofs.Basics.{at_after}
 
 -- the reader's answer res on x is this code at this place

@@ -2,14 +2,14 @@
 use Rattle.std.proofs.Common.{ℕ, ◌≤◌, Bool, true, false, not, List, [], sym, arith}
 use Rattle.std.specs.Prelude.{if◌then◌else◌}
 use Rattle.std.proofs.lemmas.List.{append-nil}
-use Rattle.json5_grammar.specs.Blanks.{empty, LastBlanks}
-use Rattle.json5_grammar.specs.Numbers.{Number, whole, decimal}
-use Rattle.json5_grammar.specs.NumberText.{IsNumber, number_text}
-use Rattle.json5_grammar.specs.Quoting.{quoted_text}
-use Rattle.json5_grammar.specs.Strings.{holds_backslash}
-use Rattle.json5_grammar.specs.Trees.{Tree, null, boolean, number, text, depth}
-use Rattle.json5_grammar.specs.Values.{Val, is_null, is_true, is_false, is_number, is_text, null_text, true_text, false_text}
-use Rattle.json5_grammar.specs.Documents.{Doc}
+use Rattle.json5_grammar.specs.Language.Blanks.{empty, LastBlanks}
+use Rattle.json5_grammar.specs.Language.Numbers.{Number, whole, decimal}
+use Rattle.json5_grammar.specs.Written.NumberText.{IsNumber, number_text}
+use Rattle.json5_grammar.specs.Written.Quoting.{quoted_text}
+use Rattle.json5_grammar.specs.Language.Strings.{holds_backslash}
+use Rattle.json5_grammar.specs.Language.Trees.{Tree, null, boolean, number, text, depth}
+use Rattle.json5_grammar.specs.Language.Values.{Val, is_null, is_true, is_false, is_number, is_text, null_text, true_text, false_text}
+use Rattle.json5_grammar.specs.Language.Documents.{Doc}
 use Rattle.json5_grammar.proofs.WholesWritten.{whole_text}
 use Rattle.json5_grammar.proofs.DecimalsWritten.{printed_decimal}
 use Rattle.json5_grammar.proofs.TextsWritten.{quoted_is}

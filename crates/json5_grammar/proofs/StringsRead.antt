@@ -3,11 +3,11 @@ use Rattle.std.proofs.Common.{◌≡◌, ℕ, zero, suc, ◌<◌, Bool, true, fa
 use Rattle.std.specs.Prelude.{◌==◌}
 use Rattle.std.proofs.lemmas.Bool.Decides.{nat_tests}
 use Rattle.std.proofs.lemmas.List.{append-nil}
-use Rattle.json5_grammar.specs.Strings.{Items, no_item, raw, escape, is_raw, is_quote, Str, quoted, Escape, short, nul, byte, unicode, line_end, cr_lf, lone_cr, itself, single, surrogates}
-use Rattle.json5_grammar.specs.Codes.{ErrorCode, EofParsingString, LineTerminatorInString, Shown}
-use Rattle.json5_grammar.specs.StringFaults.{InDigits, in_byte, in_first, in_second, AfterSurrogate, no_backslash, no_u, lone_backslash, digits_missing, second_missing, EscapeFault, digit_after_nul, escaped_digit, no_escape_digit, no_second_escape, unpaired, escape_ends, StringFault, raw_terminator, string_ends}
-use Rattle.json5_grammar.specs.Reading.{Place, here, inner, Read, got, bad, and_then}
-use Rattle.json5_grammar.specs.ReadTexts.{put, items, string}
+use Rattle.json5_grammar.specs.Language.Strings.{Items, no_item, raw, escape, is_raw, is_quote, Str, quoted, Escape, short, nul, byte, unicode, line_end, cr_lf, lone_cr, itself, single, surrogates}
+use Rattle.json5_grammar.specs.Faults.Codes.{ErrorCode, EofParsingString, LineTerminatorInString, Shown}
+use Rattle.json5_grammar.specs.Faults.Tokens.{InDigits, in_byte, in_first, in_second, AfterSurrogate, no_backslash, no_u, lone_backslash, digits_missing, second_missing, EscapeFault, digit_after_nul, escaped_digit, no_escape_digit, no_second_escape, unpaired, escape_ends, StringFault, raw_terminator, string_ends}
+use Rattle.json5_grammar.specs.Model.Reading.{Place, here, inner, Read, got, bad, and_then}
+use Rattle.json5_grammar.specs.Model.ReadTexts.{put, items, string}
 use Rattle.json5_grammar.proofs.Basics.{same_char, same_items}
 use Rattle.json5_grammar.proofs.Refusals.{Refuses, one_refusal, not_both, one_answer, refuses_after}
 use Rattle.json5_grammar.proofs.EscapesRead.{escape_from, escape_read, escape_refused}
@@ -76,12 +76,12 @@ pub items_through : {q : ℕ} (y : List ℕ) {s u : List ℕ} {p : Bool} → is_
 unfolding items
 items_through {q = q} y k no_item n l = (n, l, put_none (items n q y))
 items_through y k (raw {c = c} {s = s} h i) zero l = absurd (omega arith)
-items_through {q = q} y k (raw {c = c} {s = s} {u = u} {plain = p} h i) (suc n) l =
+items_through {q = q} y k (raw {c = c} {s = s} {u = u} {escape_free = p} h i) (suc n) l =
     let f = raw_fails q c h in
     let j = items_through y k i n (omega arith) in
     (j.0, j.1, rw (f.0, f.1, f.2) (ap (put (c ∷ []) true) j.2 ∙ put_raw c u p (items j.0 q y)))
 items_through y k (escape {e = e} {v = v} {s = s} x i) zero l = absurd (omega arith)
-items_through {q = q} y k (escape {e = e} {v = v} {s = s} {u = u} {plain = p} x i) (suc n) l =
+items_through {q = q} y k (escape {e = e} {v = v} {s = s} {u = u} {escape_free = p} x i) (suc n) l =
     let h = escape_head x in
     let a : (e ++ s) ++ y ≡ 92 ∷ (h.0 ++ (s ++ y)) = append_assoc e s y ∙ ap (λ z. z ++ (s ++ y)) h.1 in
     let b : escape_from true (92 ∷ h.0 ++ (s ++ y)) ≡ got v (s ++ y) = ap (λ z. escape_from true (z ++ (s ++ y))) (sym h.1) ∙ escape_read x in
@@ -93,11 +93,11 @@ unfolding items
 at_quote zero q r l = absurd (omega arith)
 at_quote (suc m) q r l = rw (same_char q) refl
 
-pub string_complete : {s u : List ℕ} {plain : Bool} (r : List ℕ) → Str s u plain → string (s ++ r) ≡ got (u, plain) r
+pub string_complete : {s u : List ℕ} {escape_free : Bool} (r : List ℕ) → Str s u escape_free → string (s ++ r) ≡ got (u, escape_free) r
 unfolding string
-string_complete r (quoted {q = q} {s = s} {u = u} {plain = plain} k i) =
+string_complete r (quoted {q = q} {s = s} {u = u} {escape_free = escape_free} k i) =
     let j = items_through (q ∷ r) k (same_items (q ∷ r) refl i) (suc (length (s ++ q ∷ r))) (omega arith) in
-    ap string (append_assoc (q ∷ s) (q ∷ []) r) ∙ j.2 ∙ ap (put u plain) (at_quote j.0 q r j.1) ∙ put_end u plain r
+    ap string (append_assoc (q ∷ s) (q ∷ []) r) ∙ j.2 ∙ ap (put u escape_free) (at_quote j.0 q r j.1) ∙ put_end u escape_free r
 
 -- ---- refusals
 
@@ -123,13 +123,13 @@ unfolding string
 string_through {s = s} y k i = items_through y k i (suc (length (s ++ y))) (omega arith)
 
 pub string_refused : {x b part : List ℕ} {code : Option ErrorCode} {place : Option (List ℕ)} {shown : Shown} → StringFault x code place b part shown → Refuses (string x) x code place
-string_refused (raw_terminator {q = q} {c = c} {u = u} {plain = p} r k i h) =
+string_refused (raw_terminator {q = q} {c = c} {u = u} {escape_free = p} r k i h) =
     let j = string_through (c ∷ r) k i in
     (here (c ∷ r), j.2 ∙ ap (put u p) (at_line j.0 q c r j.1 k h), refl)
-string_refused (string_ends {q = q} {s = s} {u = u} {plain = p} k i) =
+string_refused (string_ends {q = q} {s = s} {u = u} {escape_free = p} k i) =
     let j = string_through [] k i in
     (inner, ap string (sym (append-nil (q ∷ s))) ∙ j.2 ∙ ap (put u p) (at_end j.0 q), tt)
-string_refused (StringFault.in_escape {q = q} {s = s} {u = u} {x = x} {plain = pl} {code = code} {place = place} k i f) =
+string_refused (StringFault.in_string_escape {q = q} {s = s} {u = u} {x = x} {escape_free = pl} {code = code} {place = place} k i f) =
     let j = string_through x k i in
     refuses_after (q ∷ s) x (escape_from true x) (string (q ∷ s ++ x)) code place (λ p e. j.2 ∙ ap (put u pl) (at_escape j.0 q x code p j.1 k (fault_head f) e)) (escape_refused f)
 
@@ -138,8 +138,8 @@ pub one_string_fault : {x b c p q : List ℕ} {e f : Option ErrorCode} {pl pm : 
 one_string_fault {x = x} {e = e} {f = f} {pl = pl} {pm = pm} a b = one_refusal (string x) x e f pl pm (string_refused a) (string_refused b)
 
 -- a whole string at the front has no fault
-pub no_string_fault : {s u b p : List ℕ} {plain : Bool} {e : Option ErrorCode} {pl : Option (List ℕ)} {h : Shown} (r : List ℕ) → Str s u plain → StringFault (s ++ r) e pl b p h → ⊥
-no_string_fault {s = s} {u = u} {plain = plain} {e = e} {pl = pl} r a f = not_both (string (s ++ r)) (s ++ r) r (u, plain) e pl (string_complete r a) (string_refused f)
+pub no_string_fault : {s u b p : List ℕ} {escape_free : Bool} {e : Option ErrorCode} {pl : Option (List ℕ)} {h : Shown} (r : List ℕ) → Str s u escape_free → StringFault (s ++ r) e pl b p h → ⊥
+no_string_fault {s = s} {u = u} {escape_free = escape_free} {e = e} {pl = pl} r a f = not_both (string (s ++ r)) (s ++ r) r (u, escape_free) e pl (string_complete r a) (string_refused f)
 
 -- one string at the front
 pub one_string : {s u t v : List ℕ} {p q : Bool} (r y : List ℕ) → Str s u p → Str t v q → s ++ r ≡ t ++ y → (s ≡ t) × (u ≡ v) × (p ≡ q) × (r ≡ y)

@@ -3,11 +3,11 @@ use Rattle.std.proofs.Common.{◌≡◌, ℕ, zero, suc, ◌<◌, Bool, true, fa
 use Rattle.std.specs.Prelude.{◌==◌}
 use Rattle.std.proofs.lemmas.Bool.Decides.{nat_tests}
 use Rattle.std.proofs.lemmas.List.{append-nil}
-use Rattle.json5_grammar.specs.Strings.{Items, no_item, raw, escape, is_raw, is_quote, Str, quoted, Escape}
-use Rattle.json5_grammar.specs.Codes.{ErrorCode, EofParsingString, LineTerminatorInString, Shown, by_char, by_end, after_text}
-use Rattle.json5_grammar.specs.StringFaults.{StringFault, raw_terminator, string_ends}
-use Rattle.json5_grammar.specs.Reading.{Place, here, inner, Read, got, bad, and_then, IsAt}
-use Rattle.json5_grammar.specs.ReadTexts.{escape_at, put, items, string}
+use Rattle.json5_grammar.specs.Language.Strings.{Items, no_item, raw, escape, is_raw, is_quote, Str, quoted, Escape}
+use Rattle.json5_grammar.specs.Faults.Codes.{ErrorCode, EofParsingString, LineTerminatorInString, Shown, by_char, by_end, after_text}
+use Rattle.json5_grammar.specs.Faults.Tokens.{StringFault, raw_terminator, string_ends}
+use Rattle.json5_grammar.specs.Model.Reading.{Place, here, inner, Read, got, bad, and_then, IsAt}
+use Rattle.json5_grammar.specs.Model.ReadTexts.{escape_at, put, items, string}
 use Rattle.json5_grammar.proofs.Basics.{by_test, eq_from, at_after, same_items}
 use Rattle.json5_grammar.proofs.EscapesSound.{Blamed, EscapeSound, escape_sound}
 use Rattle.json5_grammar.proofs.StringsRead.{escape_head}
@@ -20,19 +20,19 @@ pub data ItemFault : List ℕ → Option ErrorCode → Place → Type 0 where
 
 abbrev pub ItemsSound : ℕ → List ℕ → Read (List ℕ × Bool) → Type 0
 ItemsSound q y (got a r) = (s : List ℕ) × (y ≡ s ++ q ∷ r) × Items q (q ∷ r) s a.0 a.1
-ItemsSound q y (bad code p) = (s : List ℕ) × (t : List ℕ) × (u : List ℕ) × (plain : Bool) × (y ≡ s ++ t) × Items q t s u plain × ItemFault t code p
+ItemsSound q y (bad code p) = (s : List ℕ) × (t : List ℕ) × (u : List ℕ) × (escape_free : Bool) × (y ≡ s ++ t) × Items q t s u escape_free × ItemFault t code p
 
 raw_from : (q c : ℕ) → (c == q) ≡ false → (c == 92) ≡ false → ((c == 10) || (c == 13)) ≡ false → is_raw q c ≡ true
 raw_from q c a b d = grind (arith, nat_tests)
 
 raw_more : (q c : ℕ) (y : List ℕ) (res : Read (List ℕ × Bool)) → is_raw q c ≡ true → ItemsSound q y res → ItemsSound q (c ∷ y) (put (c ∷ []) true res)
 raw_more q c y (got a r) h (s, e, i) = (c ∷ s, ap (λ z. c ∷ z) e, raw h i)
-raw_more q c y (bad code p) h (s, t, u, plain, e, i, f) = (c ∷ s, t, c ∷ u, plain, ap (λ z. c ∷ z) e, raw h i, f)
+raw_more q c y (bad code p) h (s, t, u, escape_free, e, i, f) = (c ∷ s, t, c ∷ u, escape_free, ap (λ z. c ∷ z) e, raw h i, f)
 
 after_escape : (q : ℕ) (x y e v : List ℕ) (res : Read (List ℕ × Bool)) → x ≡ e ++ y → Escape e v y → ItemsSound q y res → ItemsSound q x (put v false res)
 after_escape q x y e v (got a r) f k (s, g, i) =
     (e ++ s, f ∙ ap (λ z. e ++ z) g ∙ sym (append_assoc e s (q ∷ r)), escape (subst (Escape e v) g k) i)
-after_escape q x y e v (bad code p) f k (s, t, u, plain, g, i, h) =
+after_escape q x y e v (bad code p) f k (s, t, u, escape_free, g, i, h) =
     (e ++ s, t, v ++ u, false, f ∙ ap (λ z. e ++ z) g ∙ sym (append_assoc e s t), escape (subst (Escape e v) g k) i, h)
 
 pub shorter : (x e y : List ℕ) → x ≡ e ++ y → (t : List ℕ) × (e ≡ 92 ∷ t) → length y < length x
@@ -68,14 +68,14 @@ StringSound x (got a r) = (s : List ℕ) × (x ≡ s ++ r) × Str s a.0 a.1
 StringSound x (bad code p) = StringBlamed x code p
 
 -- a string whose items t end at its fault
-blame : {q : ℕ} {s t u : List ℕ} {plain : Bool} {code : Option ErrorCode} {p : Place} → is_quote q ≡ true → Items q t s u plain → ItemFault t code p → StringBlamed (q ∷ s ++ t) code p
+blame : {q : ℕ} {s t u : List ℕ} {escape_free : Bool} {code : Option ErrorCode} {p : Place} → is_quote q ≡ true → Items q t s u escape_free → ItemFault t code p → StringBlamed (q ∷ s ++ t) code p
 blame {q = q} {s = s} k i (line {c = c} {r = r} h) = record { place = Some (q ∷ s); before = q ∷ s; part = c ∷ []; shown = by_char; fault = raw_terminator r k i h; is_at = refl }
 blame {q = q} {s = s} k i end = subst (λ z. StringBlamed z (Some EofParsingString) inner) (sym (append-nil (q ∷ s))) (record { place = None; before = []; part = q ∷ s; shown = by_end; fault = string_ends k i; is_at = tt })
-blame {q = q} {s = s} k i (faulty {t = t} {p = p} b) = record { place = after_text (q ∷ s) b.place; before = q ∷ s; part = b.part; shown = b.shown; fault = StringFault.in_escape k i b.fault; is_at = at_after (q ∷ s) t b.place p b.is_at }
+blame {q = q} {s = s} k i (faulty {t = t} {p = p} b) = record { place = after_text (q ∷ s) b.place; before = q ∷ s; part = b.part; shown = b.shown; fault = StringFault.in_string_escape k i b.fault; is_at = at_after (q ∷ s) t b.place p b.is_at }
 
 from_items : (q : ℕ) (y : List ℕ) (res : Read (List ℕ × Bool)) → is_quote q ≡ true → ItemsSound q y res → StringSound (q ∷ y) res
 from_items q y (got a r) k (s, e, i) = (q ∷ s ++ q ∷ [], ap (λ z. q ∷ z) e ∙ sym (append_assoc (q ∷ s) (q ∷ []) r), quoted k (same_items (q ∷ []) refl i))
-from_items q y (bad code p) k (s, t, u, plain, e, i, f) = subst (λ z. StringBlamed (q ∷ z) code p) (sym e) (blame k i f)
+from_items q y (bad code p) k (s, t, u, escape_free, e, i, f) = subst (λ z. StringBlamed (q ∷ z) code p) (sym e) (blame k i f)
 
 pub string_sound : (q : ℕ) (y : List ℕ) → is_quote q ≡ true → StringSound (q ∷ y) (string (q ∷ y))
 unfolding string

@@ -2,12 +2,11 @@
 use Rattle.std.proofs.Common.{◌≡◌, ℕ, Bool, true, false, List, [], ◌∷◌, ◌++◌, refl, ◌⊎◌, inl, inr, arith, subst, Option}
 use Rattle.std.specs.Prelude.{◌==◌}
 use Rattle.std.proofs.lemmas.Bool.Decides.{nat_tests}
-use Rattle.json5_grammar.specs.Characters.{NotBegun, is_digit}
-use Rattle.json5_grammar.specs.Strings.{Items, no_item, raw, escape, is_quote, Str, quoted, Escape, short, nul, byte, unicode, line_end, cr_lf, lone_cr, itself}
-use Rattle.json5_grammar.specs.Names.{Ident, goes_on_name}
-use Rattle.json5_grammar.specs.Codes.{ErrorCode, Shown, by_char}
-use Rattle.json5_grammar.specs.StringFaults.{StringFault, raw_terminator, string_ends}
-use Rattle.json5_grammar.specs.NameFaults.{NameFault, no_unicode_escape, escaped_no_start, escaped_no_part, name_ends, backslash_ends, Named, no_item_yet, some_items}
+use Rattle.json5_grammar.specs.Language.Characters.{NotBegun, is_digit}
+use Rattle.json5_grammar.specs.Language.Strings.{Items, no_item, raw, escape, is_quote, Str, quoted, Escape, short, nul, byte, unicode, line_end, cr_lf, lone_cr, itself}
+use Rattle.json5_grammar.specs.Language.Names.{Ident, goes_on_name}
+use Rattle.json5_grammar.specs.Faults.Codes.{ErrorCode, Shown, by_char}
+use Rattle.json5_grammar.specs.Faults.Tokens.{StringFault, raw_terminator, string_ends, NameFault, no_unicode_escape, escaped_no_start, escaped_no_part, name_ends, backslash_ends, Named, no_item_yet, some_items}
 use Rattle.json5_grammar.proofs.StringsRead.{no_string_fault}
 use Rattle.json5_grammar.proofs.NamesRead.{no_name_fault}
 use Rattle.json5_grammar.proofs.TextFollows.{string_follows, name_follows, string_moved, name_moved}
@@ -38,25 +37,25 @@ items_closed h no_item = no_item
 items_closed h (raw k i) = raw k (items_closed h i)
 items_closed {q = q} {r = r} h (escape {s = s} x i) = escape (closed_escape q s r h refl x) (items_closed h i)
 
-pub string_before : {x b p : List ℕ} {e : Option ErrorCode} {pl : Option (List ℕ)} {how : Shown} → StringFault x e pl b p how → (b ≡ []) ⊎ ((q : ℕ) × (u : List ℕ) × (plain : Bool) × Str (b ++ q ∷ []) u plain)
-string_before (raw_terminator {q = q} {u = u} {plain = plain} r h i l) = inr (q, u, plain, quoted h (items_closed h i))
+pub string_before : {x b p : List ℕ} {e : Option ErrorCode} {pl : Option (List ℕ)} {how : Shown} → StringFault x e pl b p how → (b ≡ []) ⊎ ((q : ℕ) × (u : List ℕ) × (escape_free : Bool) × Str (b ++ q ∷ []) u escape_free)
+string_before (raw_terminator {q = q} {u = u} {escape_free = escape_free} r h i l) = inr (q, u, escape_free, quoted h (items_closed h i))
 string_before (string_ends h i) = inl refl
-string_before (StringFault.in_escape {q = q} {u = u} {plain = plain} h i f) = inr (q, u, plain, quoted h (items_closed h i))
+string_before (StringFault.in_string_escape {q = q} {u = u} {escape_free = escape_free} h i f) = inr (q, u, escape_free, quoted h (items_closed h i))
 
-named_before : {t : List ℕ} → Named t → (t ≡ []) ⊎ ((u : List ℕ) × (plain : Bool) × Ident t u plain)
+named_before : {t : List ℕ} → Named t → (t ≡ []) ⊎ ((u : List ℕ) × (escape_free : Bool) × Ident t u escape_free)
 named_before no_item_yet = inl refl
-named_before (some_items {u = u} {plain = plain} i) = inr (u, plain, i)
+named_before (some_items {u = u} {escape_free = escape_free} i) = inr (u, escape_free, i)
 
-pub name_before : {x b p : List ℕ} {e : Option ErrorCode} {pl : Option (List ℕ)} {how : Shown} → NameFault x e pl b p how → (b ≡ []) ⊎ ((u : List ℕ) × (plain : Bool) × Ident b u plain)
-name_before (NameFault.in_escape k f) = named_before k
+pub name_before : {x b p : List ℕ} {e : Option ErrorCode} {pl : Option (List ℕ)} {how : Shown} → NameFault x e pl b p how → (b ≡ []) ⊎ ((u : List ℕ) × (escape_free : Bool) × Ident b u escape_free)
+name_before (NameFault.in_name_escape k f) = named_before k
 name_before (no_unicode_escape c r k n) = named_before k
 name_before (escaped_no_start r u n) = inl refl
-name_before (escaped_no_part {u = u} {plain = plain} r i v n) = inr (u, plain, i)
+name_before (escaped_no_part {u = u} {escape_free = escape_free} r i v n) = inr (u, escape_free, i)
 name_before (name_ends i) = inl refl
 name_before (backslash_ends k) = inl refl
 
-pub string_hopeless : {x b p s u : List ℕ} {plain : Bool} {e : Option ErrorCode} {pl : Option (List ℕ)} (z r : List ℕ) → StringFault x e pl b p by_char → Str s u plain → (b ++ p) ++ z ≡ s ++ r → ⊥
+pub string_hopeless : {x b p s u : List ℕ} {escape_free : Bool} {e : Option ErrorCode} {pl : Option (List ℕ)} (z r : List ℕ) → StringFault x e pl b p by_char → Str s u escape_free → (b ++ p) ++ z ≡ s ++ r → ⊥
 string_hopeless z r f a e = no_string_fault r a (string_moved _ (string_follows z f) e)
 
-pub name_hopeless : {x b p s u : List ℕ} {plain : Bool} {e : Option ErrorCode} {pl : Option (List ℕ)} (z : List ℕ) (c : ℕ) (r : List ℕ) → NameFault x e pl b p by_char → Ident s u plain → goes_on_name c ≡ false → (b ++ p) ++ z ≡ s ++ c ∷ r → ⊥
+pub name_hopeless : {x b p s u : List ℕ} {escape_free : Bool} {e : Option ErrorCode} {pl : Option (List ℕ)} (z : List ℕ) (c : ℕ) (r : List ℕ) → NameFault x e pl b p by_char → Ident s u escape_free → goes_on_name c ≡ false → (b ++ p) ++ z ≡ s ++ c ∷ r → ⊥
 name_hopeless z c r f a g e = no_name_fault c r a g (name_moved _ (name_follows z f) e)

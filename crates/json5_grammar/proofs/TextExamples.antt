@@ -4,15 +4,15 @@ use lib.Chars.{codes}
 use Rattle.ucd_category.specs.GeneralCategory.{general_category}
 use Rattle.ucd_table.specs.Rows.{value_in}
 use Rattle.ucd_category.specs.GeneralCategoryRows.{general_category_rows}
-use Rattle.json5_grammar.specs.Characters.{is_identifier_start, is_identifier_part}
-use Rattle.json5_grammar.specs.Codes.{EofParsingEscapeSequence, EofParsingString, EofParsingIdentifier, ExpectedIdentifier, InvalidEscapeSequence, LineTerminatorInString}
-use Rattle.json5_grammar.specs.Quoting.{quoted_text}
-use Rattle.json5_grammar.specs.Reading.{got, bad, here, inner}
-use Rattle.json5_grammar.specs.ReadTexts.{string, items, escape_at, unicode_at, hex, identifier, parts, name_escape}
+use Rattle.json5_grammar.specs.Language.Characters.{is_identifier_start, is_identifier_part}
+use Rattle.json5_grammar.specs.Faults.Codes.{EofParsingEscapeSequence, EofParsingString, EofParsingIdentifier, ExpectedIdentifier, InvalidEscapeSequence, LineTerminatorInString}
+use Rattle.json5_grammar.specs.Written.Quoting.{quoted_text}
+use Rattle.json5_grammar.specs.Model.Reading.{got, bad, here, inner}
+use Rattle.json5_grammar.specs.Model.ReadTexts.{string, items, escape_at, unicode_at, hex, identifier, parts, name_escape}
 
-plain_string : string (codes "'a\"b' x") ≡ got (codes "a\"b", true) (codes " x")
+escape_free_string : string (codes "'a\"b' x") ≡ got (codes "a\"b", true) (codes " x")
 unfolding string items escape_at
-plain_string = refl
+escape_free_string = refl
 
 escapes : string (codes "\"\\n\\x41\\u0042\\0\\q\\ud83D\\uDe00\"") ≡ got (10 ∷ 65 ∷ 66 ∷ 0 ∷ 113 ∷ 0x1F600 ∷ [], false) []
 unfolding string items escape_at unicode_at hex

@@ -1,12 +1,11 @@
 -- The part of a string's or name's fault has the form of a part.
 use Rattle.std.proofs.Common.{◌≡◌, ℕ, Bool, true, List, [], ◌∷◌, ◌++◌, append_assoc, arith, Option, subst}
 use Rattle.std.proofs.lemmas.Bool.Decides.{nat_tests}
-use Rattle.json5_grammar.specs.Parts.{Part, one, an_escape, nul_escape, in_string, in_name, in_name_backslash, Nearly, just, one_more}
-use Rattle.json5_grammar.specs.Codes.{ErrorCode, Shown}
-use Rattle.json5_grammar.specs.StringFaults.{in_first, in_second, lone_backslash, digits_missing, second_missing, EscapeFault, digit_after_nul, escaped_digit, no_escape_digit, no_second_escape, unpaired, escape_ends, StringFault, raw_terminator, string_ends}
-use Rattle.json5_grammar.specs.NameFaults.{NameFault, no_unicode_escape, escaped_no_start, escaped_no_part, name_ends, backslash_ends, Named, no_item_yet, some_items}
-use Rattle.json5_grammar.specs.Strings.{Hex4, hex4, Unicode, single, surrogates}
-use Rattle.json5_grammar.specs.Characters.{is_in, no_char, char}
+use Rattle.json5_grammar.specs.Faults.Parts.{Part, one, an_escape, nul_escape, in_string, in_name, in_name_backslash, Nearly, just, one_more}
+use Rattle.json5_grammar.specs.Faults.Codes.{ErrorCode, Shown}
+use Rattle.json5_grammar.specs.Faults.Tokens.{in_first, in_second, lone_backslash, digits_missing, second_missing, EscapeFault, digit_after_nul, escaped_digit, no_escape_digit, no_second_escape, unpaired, escape_ends, StringFault, raw_terminator, string_ends, NameFault, no_unicode_escape, escaped_no_start, escaped_no_part, name_ends, backslash_ends, Named, no_item_yet, some_items}
+use Rattle.json5_grammar.specs.Language.Strings.{Hex4, hex4, Unicode, single, surrogates}
+use Rattle.json5_grammar.specs.Language.Characters.{is_in, no_char, char}
 
 -- four digits are three and one more
 four_digits : {h : List ℕ} {n : ℕ} → Hex4 h n → Part (92 ∷ 117 ∷ h)
@@ -35,14 +34,14 @@ escape_part (escape_ends {e = e} i) = an_escape e e i just
 pub string_part : {x b p : List ℕ} {e : Option ErrorCode} {pl : Option (List ℕ)} {how : Shown} → StringFault x e pl b p how → Part p
 string_part (raw_terminator r k i h) = one
 string_part (string_ends k i) = in_string k i
-string_part (StringFault.in_escape k i f) = escape_part f
+string_part (StringFault.in_string_escape k i f) = escape_part f
 
 name_backslash : {t : List ℕ} → Named t → Part (t ++ 92 ∷ [])
 name_backslash no_item_yet = one
 name_backslash (some_items i) = in_name_backslash i
 
 pub name_part : {x b p : List ℕ} {e : Option ErrorCode} {pl : Option (List ℕ)} {how : Shown} → NameFault x e pl b p how → Part p
-name_part (NameFault.in_escape k f) = escape_part f
+name_part (NameFault.in_name_escape k f) = escape_part f
 name_part (no_unicode_escape c r k n) = an_escape (92 ∷ []) (92 ∷ c ∷ []) lone_backslash (one_more c)
 name_part (escaped_no_start r u n) = whole_escape u
 name_part (escaped_no_part r i u n) = whole_escape u

@@ -1,12 +1,12 @@
 -- What reading refuses with is the text's one fault, with all that is said of it.
 use Rattle.std.proofs.Common.{ℕ, List, subst, Option}
-use Rattle.json5_grammar.specs.Codes.{ErrorCode}
-use Rattle.json5_grammar.specs.Documents.{Doc}
+use Rattle.json5_grammar.specs.Faults.Codes.{ErrorCode}
+use Rattle.json5_grammar.specs.Language.Documents.{Doc}
 use Rattle.json5_grammar.specs.Faults.{FaultWhere, Anywhere, InValue}
-use Rattle.json5_grammar.specs.Fronts.{Expects}
-use Rattle.json5_grammar.specs.ReadValues.{document}
-use Rattle.json5_grammar.specs.Refusals.{Blames, BlamesText, BlamesValue}
-use Rattle.json5_grammar.specs.Trees.{Tree}
+use Rattle.json5_grammar.specs.Faults.Fronts.{Expects}
+use Rattle.json5_grammar.specs.Model.ReadValues.{document}
+use Rattle.json5_grammar.specs.Faults.Refusals.{Blames, BlamesText, BlamesValue}
+use Rattle.json5_grammar.specs.Language.Trees.{Tree}
 use Rattle.json5_grammar.proofs.Refusals.{Refuses}
 use Rattle.json5_grammar.proofs.Unique.{phrase_reader}
 use Rattle.json5_grammar.proofs.DocumentsJudged.{Faulty, refused_faulty, value_faulty, no_fault, one_fault, anywhere}

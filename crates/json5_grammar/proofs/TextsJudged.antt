@@ -1,11 +1,11 @@
 -- A text that begins as a string or a name does begins with one or has a fault of one.
 use Rattle.std.proofs.Common.{◌≡◌, ℕ, Bool, true, ◌||◌, List, ◌∷◌, ◌++◌, ap, ◌∙◌, ◌⊎◌, inl, inr}
 use Rattle.std.specs.Prelude.{◌==◌}
-use Rattle.json5_grammar.specs.Characters.{is_identifier_start}
-use Rattle.json5_grammar.specs.Strings.{is_quote}
-use Rattle.json5_grammar.specs.Blames.{StringBlame, NameBlame, HasString, HasName, IsBlamed}
-use Rattle.json5_grammar.specs.Reading.{Read, got, bad}
-use Rattle.json5_grammar.specs.ReadTexts.{string, identifier}
+use Rattle.json5_grammar.specs.Language.Characters.{is_identifier_start}
+use Rattle.json5_grammar.specs.Language.Strings.{is_quote}
+use Rattle.json5_grammar.specs.Faults.Blames.{StringBlame, NameBlame, HasString, HasName, IsBlamed}
+use Rattle.json5_grammar.specs.Model.Reading.{Read, got, bad}
+use Rattle.json5_grammar.specs.Model.ReadTexts.{string, identifier}
 use Rattle.json5_grammar.proofs.StringsSound.{StringSound, string_sound}
 use Rattle.json5_grammar.proofs.NamesSound.{NameSound, name_sound}
 

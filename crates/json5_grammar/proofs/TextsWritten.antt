@@ -6,15 +6,15 @@ use Rattle.std.proofs.lemmas.Bool.Decides.{nat_tests}
 use Rattle.ucd_category.specs.GeneralCategory.{general_category}
 use Rattle.ucd_table.specs.Rows.{value_in}
 use Rattle.ucd_category.specs.GeneralCategoryRows.{general_category_rows}
-use Rattle.json5_grammar.specs.Characters.{is_identifier_start, is_identifier_part, no_char, char}
-use Rattle.json5_grammar.specs.Strings.{Items, no_item, raw, escape, is_raw, is_quote, stands_for_itself, Str, quoted, Escape, short, unicode, itself, single, hex4, holds_backslash}
-use Rattle.json5_grammar.specs.Names.{raw_name, escaped_name, NameParts, no_part, part, Ident, name, Key, string_key, name_key, goes_on_name}
-use Rattle.json5_grammar.specs.Quoting.{escaped, escaped_all, quote_for, is_name, key_text, quoted_text}
+use Rattle.json5_grammar.specs.Language.Characters.{is_identifier_start, is_identifier_part, no_char, char}
+use Rattle.json5_grammar.specs.Language.Strings.{Items, no_item, raw, escape, is_raw, is_quote, stands_for_itself, Str, quoted, Escape, short, unicode, itself, single, hex4, holds_backslash}
+use Rattle.json5_grammar.specs.Language.Names.{raw_name, escaped_name, NameParts, no_part, part, Ident, name, Key, string_key, name_key, goes_on_name}
+use Rattle.json5_grammar.specs.Written.Quoting.{escaped, escaped_all, quote_for, is_name, key_text, quoted_text}
 use Rattle.json5_grammar.proofs.Basics.{by_test, eq_from, not_eq, and_left, and_right, same_char}
 use Rattle.json5_grammar.proofs.StringsRead.{escape_head}
 use Rattle.json5_grammar.proofs.NamesRead.{unicode_head}
 
--- ---- plain: no backslash
+-- ---- escape-free: no backslash
 
 no_backslash_raw : (q c : ℕ) → is_raw q c ≡ true → (c == 92) ≡ false
 no_backslash_raw q c h = grind (arith, nat_tests)
@@ -25,20 +25,20 @@ no_backslash_quote q h = grind (arith, nat_tests)
 begun_by_backslash : (e s : List ℕ) → (t : List ℕ) × (e ≡ 92 ∷ t) → holds_backslash (e ++ s) ≡ true
 begun_by_backslash e s (t, h) = ap (λ z. holds_backslash (z ++ s)) h
 
-pub items_plain : {q : ℕ} {r s u : List ℕ} {p : Bool} (z : List ℕ) → holds_backslash z ≡ false → Items q r s u p → p ≡ not (holds_backslash (s ++ z))
-items_plain z h no_item = rw h refl
-items_plain {q = q} z h (raw {c = c} k i) = rw (no_backslash_raw q c k) (items_plain z h i)
-items_plain z h (escape {e = e} {s = s} x i) = ap not (sym (begun_by_backslash (e ++ s) z (both e s (escape_head x))))
+pub items_escape_free : {q : ℕ} {r s u : List ℕ} {p : Bool} (z : List ℕ) → holds_backslash z ≡ false → Items q r s u p → p ≡ not (holds_backslash (s ++ z))
+items_escape_free z h no_item = rw h refl
+items_escape_free {q = q} z h (raw {c = c} k i) = rw (no_backslash_raw q c k) (items_escape_free z h i)
+items_escape_free z h (escape {e = e} {s = s} x i) = ap not (sym (begun_by_backslash (e ++ s) z (both e s (escape_head x))))
   where
     both : (e s : List ℕ) → (t : List ℕ) × (e ≡ 92 ∷ t) → (t : List ℕ) × (e ++ s ≡ 92 ∷ t)
     both e s (t, h) = (t ++ s, ap (λ z. z ++ s) h)
 
--- a string is plain where it holds no backslash
-pub string_plain : {s u : List ℕ} {p : Bool} → Str s u p → p ≡ not (holds_backslash s)
-string_plain (quoted {q = q} {s = s} k i) =
+-- a string is escape-free where it holds no backslash
+pub string_escape_free : {s u : List ℕ} {p : Bool} → Str s u p → p ≡ not (holds_backslash s)
+string_escape_free (quoted {q = q} {s = s} k i) =
     let f : (q == 92) ≡ false = no_backslash_quote q k in
     let z : holds_backslash (q ∷ []) ≡ false = rw f refl in
-    rw f (items_plain (q ∷ []) z i)
+    rw f (items_escape_free (q ∷ []) z i)
 
 -- ---- quoted texts
 
@@ -75,12 +75,12 @@ written_all q r (c ∷ u) k = written_char q c r u (escaped_all q u) k (written_
 pub quote_is : (u : List ℕ) → is_quote (quote_for u) ≡ true
 quote_is u = by_test (λ q. is_quote q ≡ true) (list_any (λ c. c == 34) u && not (list_any (λ c. c == 39) u)) 39 34 (λ h. refl) (λ h. refl)
 
--- a written text is a string of that text, plain where it holds no backslash
+-- a written text is a string of that text, escape-free where it holds no backslash
 pub quoted_is : (u : List ℕ) → Str (quoted_text u) u (not (holds_backslash (quoted_text u)))
 quoted_is u =
     let w = written_all (quote_for u) (quote_for u ∷ []) u (quote_is u) in
     let s : Str (quoted_text u) u w.0 = quoted (quote_is u) w.1 in
-    subst (Str (quoted_text u) u) (string_plain s) s
+    subst (Str (quoted_text u) u) (string_escape_free s) s
 
 -- ---- names
 
@@ -113,23 +113,23 @@ name_is (c ∷ u) h =
     name (raw_name (not_backslash is_identifier_start c backslash_no_start k)) k (written_parts u (and_right (is_identifier_start c) (list_all is_identifier_part u) h))
 
 -- a written key is a key of that text, before a colon
-pub key_is : (u r : List ℕ) → (plain : Bool) × Key (key_text u) (58 ∷ r) u plain
+pub key_is : (u r : List ℕ) → (escape_free : Bool) × Key (key_text u) (58 ∷ r) u escape_free
 key_is u r =
-    by_test (λ k. (plain : Bool) × Key k (58 ∷ r) u plain) (is_name u) u (quoted_text u)
+    by_test (λ k. (escape_free : Bool) × Key k (58 ∷ r) u escape_free) (is_name u) u (quoted_text u)
     (λ h. (true, name_key (name_is u h) colon_stops))
     (λ h. (not (holds_backslash (quoted_text u)), string_key (quoted_is u)))
 
-name_parts_plain : {s u : List ℕ} {p : Bool} → NameParts s u p → p ≡ not (holds_backslash s)
-name_parts_plain no_part = refl
-name_parts_plain (part {s = s} (raw_name {c = c} n) h i) = rw (not_eq c 92 n) (name_parts_plain i)
-name_parts_plain (part {s = s} (escaped_name {e = e} u) h i) = ap not (sym (begun_by_backslash e s (unicode_head u)))
+name_parts_escape_free : {s u : List ℕ} {p : Bool} → NameParts s u p → p ≡ not (holds_backslash s)
+name_parts_escape_free no_part = refl
+name_parts_escape_free (part {s = s} (raw_name {c = c} n) h i) = rw (not_eq c 92 n) (name_parts_escape_free i)
+name_parts_escape_free (part {s = s} (escaped_name {e = e} u) h i) = ap not (sym (begun_by_backslash e s (unicode_head u)))
 
--- a name is plain where it holds no backslash
-pub name_plain : {s u : List ℕ} {p : Bool} → Ident s u p → p ≡ not (holds_backslash s)
-name_plain (name {s = s} (raw_name {c = c} n) h i) = rw (not_eq c 92 n) (name_parts_plain i)
-name_plain (name {s = s} (escaped_name {e = e} u) h i) = ap not (sym (begun_by_backslash e s (unicode_head u)))
+-- a name is escape-free where it holds no backslash
+pub name_escape_free : {s u : List ℕ} {p : Bool} → Ident s u p → p ≡ not (holds_backslash s)
+name_escape_free (name {s = s} (raw_name {c = c} n) h i) = rw (not_eq c 92 n) (name_parts_escape_free i)
+name_escape_free (name {s = s} (escaped_name {e = e} u) h i) = ap not (sym (begun_by_backslash e s (unicode_head u)))
 
--- ---- a plain text is a slice of the input
+-- ---- an escape-free text is a slice of the input
 
 items_same : {q : ℕ} {r s u : List ℕ} {p : Bool} → Items q r s u p → p ≡ true → s ≡ u
 items_same no_item h = refl

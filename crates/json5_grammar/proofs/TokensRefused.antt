@@ -3,23 +3,19 @@ use Rattle.std.proofs.Common.{◌≡◌, ℕ, Bool, true, false, cond, ◌||◌,
 use Rattle.std.specs.Prelude.{◌==◌}
 use Rattle.std.proofs.lemmas.Bool.Decides.{nat_tests}
 use Rattle.std.proofs.lemmas.List.{append-nil}
-use Rattle.json5_grammar.specs.Characters.{Begun}
-use Rattle.json5_grammar.specs.Codes.{ErrorCode, Shown}
-use Rattle.json5_grammar.specs.Blanks.{is_solid}
-use Rattle.json5_grammar.specs.NumberFaults.{is_sign, begins_number, NumberWord, Cut, Run, run, zero_run, NumberFault, number_word_differs, number_word_ends, sign_without_number, sign_ends, no_hexadecimal_digit, hexadecimal_ends, hexadecimal_overflows, negative_too_large, not_a_literal, literal_overflows, leading_zero}
-use Rattle.json5_grammar.specs.Stops.{begins_run}
-use Rattle.json5_grammar.specs.Numbers.{Sign, no_sign, plus, minus}
-use Rattle.json5_grammar.specs.Strings.{is_quote}
-use Rattle.json5_grammar.specs.WordFaults.{Word, null_word, true_word, false_word, WordFault}
-use Rattle.json5_grammar.specs.Fronts.{of_object, Bracket, Expects, takes_value, key}
+use Rattle.json5_grammar.specs.Language.Characters.{Begun}
+use Rattle.json5_grammar.specs.Faults.Codes.{ErrorCode, Shown}
+use Rattle.json5_grammar.specs.Language.Blanks.{is_solid}
+use Rattle.json5_grammar.specs.Faults.Tokens.{is_sign, begins_number, NumberWord, Cut, Run, run, zero_run, NumberFault, number_word_differs, number_word_ends, sign_without_number, sign_ends, no_hexadecimal_digit, hexadecimal_ends, hexadecimal_overflows, negative_too_large, not_a_literal, literal_overflows, leading_zero, Word, null_word, true_word, false_word, WordFault, StringFault, Named, no_item_yet, some_items, NameFault, no_unicode_escape, escaped_no_start, escaped_no_part, name_ends, backslash_ends}
+use Rattle.json5_grammar.specs.Language.Numbers.{begins_run, Sign, no_sign, plus, minus}
+use Rattle.json5_grammar.specs.Language.Strings.{is_quote}
+use Rattle.json5_grammar.specs.Faults.Fronts.{of_object, Bracket, Expects, takes_value, key}
 use Rattle.json5_grammar.specs.Faults.{begins_value, is_allowed_close}
-use Rattle.json5_grammar.specs.StringFaults.{StringFault}
-use Rattle.json5_grammar.specs.NameFaults.{Named, no_item_yet, some_items, NameFault, no_unicode_escape, escaped_no_start, escaped_no_part, name_ends, backslash_ends}
-use Rattle.json5_grammar.specs.Values.{KeyText}
-use Rattle.json5_grammar.specs.Reading.{Place, got, bad, and_then, IsAt}
-use Rattle.json5_grammar.specs.ReadTexts as texts
-use Rattle.json5_grammar.specs.ReadValues.{word_at, read}
-use Rattle.json5_grammar.specs.ReadSteps.{forget, colon_after, pair_head, member_at, rest_of}
+use Rattle.json5_grammar.specs.Language.Values.{KeyText}
+use Rattle.json5_grammar.specs.Model.Reading.{Place, got, bad, and_then, IsAt}
+use Rattle.json5_grammar.specs.Model.ReadTexts as texts
+use Rattle.json5_grammar.specs.Model.ReadValues.{word_at, read}
+use Rattle.json5_grammar.specs.Model.ReadSteps.{forget, colon_after, pair_head, member_at, rest_of}
 use Rattle.json5_grammar.proofs.BlanksRead.{skip_rest, solid_from, begins_solid}
 use Rattle.json5_grammar.proofs.Classes.{number_begins, quote_begins, begins_others}
 use Rattle.json5_grammar.proofs.KeysRead.{string_fault_head}
@@ -170,7 +166,7 @@ named_key y (some_items i) h = heads_after y (key_text_head (KeyText.name_key i)
 
 -- a faulty name and a faulty string begin as keys
 pub name_key_head : {x b part : List ℕ} {e : Option ErrorCode} {pl : Option (List ℕ)} {shown : Shown} → NameFault x e pl b part shown → KeyHead x
-name_key_head (NameFault.in_escape {x = x} k f) = let h = fault_head f in named_key x k (backslash_key h.0 h.1)
+name_key_head (NameFault.in_name_escape {x = x} k f) = let h = fault_head f in named_key x k (backslash_key h.0 h.1)
 name_key_head (no_unicode_escape c r k n) = named_key (92 ∷ c ∷ r) k (backslash_key (c ∷ r) refl)
 name_key_head (escaped_no_start r u n) = let h = unicode_head u in heads_after r (backslash_key h.0 h.1)
 name_key_head (escaped_no_part {e = e} r i u n) = heads_after (e ++ r) (key_text_head (KeyText.name_key i))

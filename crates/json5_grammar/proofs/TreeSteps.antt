@@ -1,14 +1,14 @@
 -- What is read of a value and of what is left of a bracket, step by step, with its trees.
 use Rattle.std.proofs.Common.{◌≡◌, ℕ, suc, ◌≤◌, Bool, true, false, cond, List, [], ◌∷◌, length, refl, ap, sym, ◌∙◌, arith, Option, Some, None}
 use Rattle.std.specs.Prelude.{◌==◌}
-use Rattle.json5_grammar.specs.Codes.{ExpectedComma}
-use Rattle.json5_grammar.specs.Fronts.{of_array, of_object}
-use Rattle.json5_grammar.specs.Trees.{Tree, Pairs, array, object, no_more, more, no_pair, pair}
-use Rattle.json5_grammar.specs.Reading.{Read, got, bad, here, and_then, placed}
-use Rattle.json5_grammar.specs.ReadBlanks.{skip, between}
-use Rattle.json5_grammar.specs.ReadTexts.{key}
-use Rattle.json5_grammar.specs.ReadValues.{read, items, entries, close_or, member, after_member, value_after, pair_at, key_or, after_pair}
-use Rattle.json5_grammar.specs.ReadSteps.{colon_after, member_head, member_at, comma_at, separator, trees_of, trees_after, pairs_of, pairs_after, key_head, key_at, first_of_trees, goes_on_with, pair_or_end}
+use Rattle.json5_grammar.specs.Faults.Codes.{ExpectedComma}
+use Rattle.json5_grammar.specs.Faults.Fronts.{of_array, of_object}
+use Rattle.json5_grammar.specs.Language.Trees.{Tree, Pairs, array, object, no_more, more, no_pair, pair}
+use Rattle.json5_grammar.specs.Model.Reading.{Read, got, bad, here, and_then, placed}
+use Rattle.json5_grammar.specs.Model.ReadBlanks.{skip, between}
+use Rattle.json5_grammar.specs.Model.ReadTexts.{key}
+use Rattle.json5_grammar.specs.Model.ReadValues.{read, items, entries, close_or, member, after_member, value_after, pair_at, key_or, after_pair}
+use Rattle.json5_grammar.specs.Model.ReadSteps.{colon_after, member_head, member_at, comma_at, separator, trees_of, trees_after, pairs_of, pairs_after, key_head, key_at, first_of_trees, goes_on_with, pair_or_end}
 use Rattle.json5_grammar.proofs.Found.{Found, then_then}
 use Rattle.json5_grammar.proofs.ValueHeads.{read_step}
 use Rattle.json5_grammar.proofs.ValuesSound.{IsGap, gap_found}

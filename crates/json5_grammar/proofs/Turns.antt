@@ -1,10 +1,10 @@
 -- The number of turns doesn't matter where it is enough; so a reader's rest is read by equations without it, as a loop needs.
 use Rattle.std.proofs.Common.{◌≡◌, ℕ, zero, suc, ◌<◌, Bool, true, false, cond, ◌||◌, List, [], ◌∷◌, length, refl, ap, sym, ◌∙◌, arith, subst, Option, Some}
 use Rattle.std.specs.Prelude.{◌==◌}
-use Rattle.json5_grammar.specs.Characters.{is_identifier_start, is_identifier_part}
-use Rattle.json5_grammar.specs.Codes.{ErrorCode, EofParsingString, EofParsingIdentifier, LineTerminatorInString}
-use Rattle.json5_grammar.specs.Reading.{Place, here, inner, Read, got, bad, and_then}
-use Rattle.json5_grammar.specs.ReadTexts.{escape_at, put, items, string, name_escape, fit, parts, identifier}
+use Rattle.json5_grammar.specs.Language.Characters.{is_identifier_start, is_identifier_part}
+use Rattle.json5_grammar.specs.Faults.Codes.{ErrorCode, EofParsingString, EofParsingIdentifier, LineTerminatorInString}
+use Rattle.json5_grammar.specs.Model.Reading.{Place, here, inner, Read, got, bad, and_then}
+use Rattle.json5_grammar.specs.Model.ReadTexts.{escape_at, put, items, string, name_escape, fit, parts, identifier}
 use Rattle.json5_grammar.proofs.Basics.{eq_from}
 use Rattle.json5_grammar.proofs.EscapesSound.{EscapeSound, escape_sound}
 use Rattle.json5_grammar.proofs.StringsRead.{escape_head}

@@ -1,12 +1,12 @@
 -- A text has at most one tree, and at most one front that is a value.
 use Rattle.std.proofs.Common.{◌≡◌, ℕ, ◌≤◌, max, List, ◌++◌, ap, sym, ◌∙◌, arith}
-use Rattle.json5_grammar.specs.Blanks.{LastBlanks}
-use Rattle.json5_grammar.specs.Trees.{Tree, depth}
-use Rattle.json5_grammar.specs.Values.{Val, Stops, Reads}
-use Rattle.json5_grammar.specs.Documents.{Doc}
-use Rattle.json5_grammar.specs.Reading.{Read, got, and_then}
-use Rattle.json5_grammar.specs.ReadBlanks.{skip, between}
-use Rattle.json5_grammar.specs.ReadValues.{read}
+use Rattle.json5_grammar.specs.Language.Blanks.{LastBlanks}
+use Rattle.json5_grammar.specs.Language.Trees.{Tree, depth}
+use Rattle.json5_grammar.specs.Language.Values.{Val, Stops, Reads}
+use Rattle.json5_grammar.specs.Language.Documents.{Doc}
+use Rattle.json5_grammar.specs.Model.Reading.{Read, got, and_then}
+use Rattle.json5_grammar.specs.Model.ReadBlanks.{skip, between}
+use Rattle.json5_grammar.specs.Model.ReadValues.{read}
 use Rattle.json5_grammar.proofs.Refusals.{got_same, one_answer}
 use Rattle.json5_grammar.proofs.BlanksRead.{skip_blanks}
 use Rattle.json5_grammar.proofs.ValueHeads.{val_head, skip_value, stops_last}

@@ -4,21 +4,21 @@ use Rattle.std.specs.Prelude.{◌==◌, Some}
 use lib.Chars.{codes}
 use Rattle.std.proofs.lemmas.Bool.Decides.{nat_tests}
 use Rattle.std.proofs.lemmas.List.{append-nil}
-use Rattle.json5_grammar.specs.Characters.{is_in, is_blank, is_identifier_start}
-use Rattle.json5_grammar.specs.Codes.{EofParsingNumber}
-use Rattle.json5_grammar.specs.Blanks.{is_solid, Blanks, empty, blank, line, block, LastBlanks, open_line, Solid}
-use Rattle.json5_grammar.specs.NumberFaults.{is_sign, begins_number}
-use Rattle.json5_grammar.specs.Numbers.{Num, Number, no_sign}
-use Rattle.json5_grammar.specs.Strings.{Str, quoted, is_quote}
-use Rattle.json5_grammar.specs.Names.{Ident, name, raw_name, escaped_name, Key, goes_on_name}
+use Rattle.json5_grammar.specs.Language.Characters.{is_in, is_blank, is_identifier_start}
+use Rattle.json5_grammar.specs.Faults.Codes.{EofParsingNumber}
+use Rattle.json5_grammar.specs.Language.Blanks.{is_solid, Blanks, empty, blank, line, block, LastBlanks, open_line, Solid}
+use Rattle.json5_grammar.specs.Faults.Tokens.{is_sign, begins_number}
+use Rattle.json5_grammar.specs.Language.Numbers.{Num, Number, no_sign}
+use Rattle.json5_grammar.specs.Language.Strings.{Str, quoted, is_quote}
+use Rattle.json5_grammar.specs.Language.Names.{Ident, name, raw_name, escaped_name, Key, goes_on_name}
 use Rattle.json5_grammar.specs.Faults.{begins_value}
-use Rattle.json5_grammar.specs.Trees.{Tree, text, array, object}
-use Rattle.json5_grammar.specs.Values.{Val, is_null, is_true, is_false, is_number, is_text, is_empty_array, is_array, is_empty_object, is_object, KeyText, Stops}
-use Rattle.json5_grammar.specs.Reading.{Read, got, bad, inner, and_then, placed}
-use Rattle.json5_grammar.specs.ReadBlanks.{skip, between}
-use Rattle.json5_grammar.specs.ReadNumbers as numbers
-use Rattle.json5_grammar.specs.ReadTexts.{string}
-use Rattle.json5_grammar.specs.ReadValues.{items, entries, as_leaf, value_with, too_deep, read}
+use Rattle.json5_grammar.specs.Language.Trees.{Tree, text, array, object}
+use Rattle.json5_grammar.specs.Language.Values.{Val, is_null, is_true, is_false, is_number, is_text, is_empty_array, is_array, is_empty_object, is_object, KeyText, Stops}
+use Rattle.json5_grammar.specs.Model.Reading.{Read, got, bad, inner, and_then, placed}
+use Rattle.json5_grammar.specs.Model.ReadBlanks.{skip, between}
+use Rattle.json5_grammar.specs.Model.ReadNumbers as numbers
+use Rattle.json5_grammar.specs.Model.ReadTexts.{string}
+use Rattle.json5_grammar.specs.Model.ReadValues.{items, entries, as_leaf, value_with, too_deep, read}
 use Rattle.json5_grammar.proofs.BlanksRead.{printable_no_blank, printable_solid, skip_rest, solid_from, begins_solid}
 use Rattle.json5_grammar.proofs.Classes.{EndsValues, blank_ends_values, slash_ends_values, blank_no_name, slash_no_name, start_no_blank, start_no_slash, start_no_brace, begins_printable, begins_others, number_begins, quote_begins, number_others, quote_others}
 use Rattle.json5_grammar.proofs.NamesRead.{unicode_head}
@@ -104,12 +104,12 @@ ident_head (name {s = s} (escaped_name {e = e} u) h i) =
     record { char = 92; more = w.0 ++ s; is = ap (λ z. z ++ s) w.1; begins = slash_key (is_quote 92) (is_identifier_start 92) }
 
 -- a key's text begins with a character that begins a key
-pub key_text_head : {k u : List ℕ} {plain : Bool} → KeyText k u plain → KeyHead k
+pub key_text_head : {k u : List ℕ} {escape_free : Bool} → KeyText k u escape_free → KeyHead k
 key_text_head (KeyText.string_key s) = str_head s
 key_text_head (KeyText.name_key i) = ident_head i
 
 -- so does a key
-pub key_head : {k r u : List ℕ} {plain : Bool} → Key k r u plain → KeyHead k
+pub key_head : {k r u : List ℕ} {escape_free : Bool} → Key k r u escape_free → KeyHead k
 key_head (Key.string_key s) = str_head s
 key_head (Key.name_key i h) = ident_head i
 
@@ -140,19 +140,19 @@ skip_key {k = k} r h = skip_rest (k ++ r) (key_solid r h)
 -- ---- keys before what follows them
 
 -- a key's text before a character that goes on no name is a key
-pub key_before : {k u : List ℕ} {plain : Bool} (c : ℕ) (r : List ℕ) → KeyText k u plain → goes_on_name c ≡ false → Key k (c ∷ r) u plain
+pub key_before : {k u : List ℕ} {escape_free : Bool} (c : ℕ) (r : List ℕ) → KeyText k u escape_free → goes_on_name c ≡ false → Key k (c ∷ r) u escape_free
 key_before c r (KeyText.string_key s) h = Key.string_key s
 key_before c r (KeyText.name_key i) h = Key.name_key i h
 
 -- a key's text before blanks and a character that goes on no name
-pub key_before_blanks : {k b u : List ℕ} {plain : Bool} (c : ℕ) (r : List ℕ) → Blanks b → KeyText k u plain → goes_on_name c ≡ false → Key k (b ++ c ∷ r) u plain
+pub key_before_blanks : {k b u : List ℕ} {escape_free : Bool} (c : ℕ) (r : List ℕ) → Blanks b → KeyText k u escape_free → goes_on_name c ≡ false → Key k (b ++ c ∷ r) u escape_free
 key_before_blanks c r empty k h = key_before c r k h
 key_before_blanks c r (blank {c = d} {s = s} g b) k h = key_before d (s ++ c ∷ r) k (blank_no_name d g)
 key_before_blanks c r (line {x = x} d {s = s} n g b) k h = key_before 47 (47 ∷ (x ++ d ∷ s) ++ c ∷ r) k slash_no_name
 key_before_blanks c r (block {x = x} {s = s} i b) k h = key_before 47 (42 ∷ (x ++ 42 ∷ 47 ∷ s) ++ c ∷ r) k slash_no_name
 
 -- a key's spelling, whatever follows it
-pub key_spelling : {k r u : List ℕ} {plain : Bool} → Key k r u plain → KeyText k u plain
+pub key_spelling : {k r u : List ℕ} {escape_free : Bool} → Key k r u escape_free → KeyText k u escape_free
 key_spelling (Key.string_key s) = KeyText.string_key s
 key_spelling (Key.name_key i h) = KeyText.name_key i
 

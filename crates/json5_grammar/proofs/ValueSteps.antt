@@ -1,18 +1,18 @@
 -- What is read of a value and of what is left of a bracket, step by step, the trees forgotten.
 use Rattle.std.proofs.Common.{◌≡◌, ℕ, suc, ◌≤◌, Bool, true, false, cond, ◌||◌, List, [], ◌∷◌, length, refl, ap, ◌∙◌, arith, Some}
 use Rattle.std.specs.Prelude.{◌==◌}
-use Rattle.json5_grammar.specs.Codes.{EofParsingBool, EofParsingNull, EofParsingValue, ExpectedBool, ExpectedNull, ExpectedValue, ExpectedComma, TooDeep}
-use Rattle.json5_grammar.specs.Fronts.{BracketKind, of_array, of_object, opening}
-use Rattle.json5_grammar.specs.NumberFaults.{is_sign, begins_number}
-use Rattle.json5_grammar.specs.Strings.{is_quote}
-use Rattle.json5_grammar.specs.Trees.{Tree, Trees, Pairs, null, boolean, text, array, object, no_more, more, no_pair, pair}
-use Rattle.json5_grammar.specs.Values.{null_text, true_text, false_text}
-use Rattle.json5_grammar.specs.Reading.{Read, got, bad, here, inner, and_then, placed}
-use Rattle.json5_grammar.specs.ReadBlanks.{skip, between}
-use Rattle.json5_grammar.specs.ReadNumbers as numbers
-use Rattle.json5_grammar.specs.ReadTexts.{key, string}
-use Rattle.json5_grammar.specs.ReadValues.{word_at, items, entries, close_or, member, after_member, colon_at, value_after, pair_at, key_or, after_pair, as_leaf, value_with, read}
-use Rattle.json5_grammar.specs.ReadSteps.{forget, colon_after, pair_head, member_head, member_at, comma_at, separator, next_value, rest_of, value_and_rest}
+use Rattle.json5_grammar.specs.Faults.Codes.{EofParsingBool, EofParsingNull, EofParsingValue, ExpectedBool, ExpectedNull, ExpectedValue, ExpectedComma, TooDeep}
+use Rattle.json5_grammar.specs.Faults.Fronts.{BracketKind, of_array, of_object, opening}
+use Rattle.json5_grammar.specs.Faults.Tokens.{is_sign, begins_number}
+use Rattle.json5_grammar.specs.Language.Strings.{is_quote}
+use Rattle.json5_grammar.specs.Language.Trees.{Tree, Trees, Pairs, null, boolean, text, array, object, no_more, more, no_pair, pair}
+use Rattle.json5_grammar.specs.Language.Values.{null_text, true_text, false_text}
+use Rattle.json5_grammar.specs.Model.Reading.{Read, got, bad, here, inner, and_then, placed}
+use Rattle.json5_grammar.specs.Model.ReadBlanks.{skip, between}
+use Rattle.json5_grammar.specs.Model.ReadNumbers as numbers
+use Rattle.json5_grammar.specs.Model.ReadTexts.{key, string}
+use Rattle.json5_grammar.specs.Model.ReadValues.{word_at, items, entries, close_or, member, after_member, colon_at, value_after, pair_at, key_or, after_pair, as_leaf, value_with, read}
+use Rattle.json5_grammar.specs.Model.ReadSteps.{forget, colon_after, pair_head, member_head, member_at, comma_at, separator, next_value, rest_of, value_and_rest}
 use Rattle.json5_grammar.proofs.ValueHeads.{array_reader, object_reader, read_step, value_text, value_number}
 use Rattle.json5_grammar.proofs.ValuesSound.{IsGap, gap_found}
 use Rattle.json5_grammar.proofs.Found.{Found}
@@ -51,9 +51,9 @@ array_member d n y l =
 
 -- ---- one pair
 
-forget_last_pair : (u : List ℕ) (plain : Bool) (t : Tree) (m : Read Pairs) → forget (and_then m (λ ps z. got (pair u plain t ps) z)) ≡ forget m
-forget_last_pair u plain t (got ps z) = refl
-forget_last_pair u plain t (bad e p) = refl
+forget_last_pair : (u : List ℕ) (escape_free : Bool) (t : Tree) (m : Read Pairs) → forget (and_then m (λ ps z. got (pair u escape_free t ps) z)) ≡ forget m
+forget_last_pair u escape_free t (got ps z) = refl
+forget_last_pair u escape_free t (bad e p) = refl
 
 forget_after_pair : (k : List ℕ → Read Pairs) (a : List ℕ × Bool) (t : Tree) (m : Read (Unit {0})) → forget (and_then m (λ u y. and_then (after_pair k y) (λ ps z. got (pair a.0 a.1 t ps) z))) ≡ forget (and_then m (λ u y. after_pair k y))
 forget_after_pair k a t (got u y) = forget_last_pair a.0 a.1 t (after_pair k y)
@@ -164,7 +164,7 @@ later_step of_object d x =
     ∙ grouped of_object d (skip between x)
 
 -- what is left of a bracket is a value and then the rest, or the closing sign
-pub rest_step : (k : BracketKind) (due : Bool) (d : ℕ) (x : List ℕ) → rest_of k due d x ≡ and_then (next_value k due x) (turn k d)
+pub rest_step : (k : BracketKind) (comma_due : Bool) (d : ℕ) (x : List ℕ) → rest_of k comma_due d x ≡ and_then (next_value k comma_due x) (turn k d)
 rest_step k false d x = first_step k d x
 rest_step k true d x = later_step k d x
 

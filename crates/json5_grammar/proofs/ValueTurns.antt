@@ -1,10 +1,10 @@
 -- The number of turns doesn't matter where it is enough, for the members of arrays and objects.
 use Rattle.std.proofs.Common.{◌≡◌, ℕ, zero, suc, ◌<◌, ◌≤◌, Bool, List, [], ◌∷◌, ◌++◌, length, refl, ap, arith, length-append}
-use Rattle.json5_grammar.specs.Trees.{Trees, Pairs, more, pair}
-use Rattle.json5_grammar.specs.Reading.{Read, got, bad, and_then}
-use Rattle.json5_grammar.specs.ReadBlanks.{skip, between}
-use Rattle.json5_grammar.specs.ReadTexts.{key}
-use Rattle.json5_grammar.specs.ReadValues.{read, items, entries, member, close_or, after_member, value_after, pair_at, key_or, after_pair}
+use Rattle.json5_grammar.specs.Language.Trees.{Trees, Pairs, more, pair}
+use Rattle.json5_grammar.specs.Model.Reading.{Read, got, bad, and_then}
+use Rattle.json5_grammar.specs.Model.ReadBlanks.{skip, between}
+use Rattle.json5_grammar.specs.Model.ReadTexts.{key}
+use Rattle.json5_grammar.specs.Model.ReadValues.{read, items, entries, member, close_or, after_member, value_after, pair_at, key_or, after_pair}
 use Rattle.json5_grammar.proofs.Found.{Found}
 use Rattle.json5_grammar.proofs.ValuesSound.{IsGap, IsValue, IsKeyAt, IsValueAfter, gap_found, key_found, value_found, before_rest, read_found}
 

@@ -1,15 +1,15 @@
 -- What is in the grammar is read.
 use Rattle.std.proofs.Common.{◌≡◌, ℕ, zero, suc, ◌<◌, ◌≤◌, Bool, true, false, List, [], ◌∷◌, ◌++◌, length, refl, ap, sym, ◌∙◌, append_assoc, arith, length-append}
-use Rattle.json5_grammar.specs.Codes.{EofParsingBool, EofParsingNull, ExpectedBool, ExpectedNull}
-use Rattle.json5_grammar.specs.Blanks.{Blanks}
-use Rattle.json5_grammar.specs.Numbers.{Num, Number}
-use Rattle.json5_grammar.specs.Strings.{Str, quoted}
-use Rattle.json5_grammar.specs.Trees.{Tree, Trees, Pairs, null, boolean, number, text, array, object, no_more, more, no_pair, pair, depth, depths, pair_depths}
-use Rattle.json5_grammar.specs.Values.{no_last_comma, last_comma, KeyText, Val, is_null, is_true, is_false, is_number, is_text, is_empty_array, is_array, is_empty_object, is_object, ElementList, last, next, MemberList, last_pair, next_pair, Member, entry, null_text, true_text, false_text, Stops}
-use Rattle.json5_grammar.specs.Reading.{Read, got, and_then, placed}
-use Rattle.json5_grammar.specs.ReadBlanks.{skip, between}
-use Rattle.json5_grammar.specs.ReadNumbers as numbers
-use Rattle.json5_grammar.specs.ReadValues.{items, entries, close_or, after_member, after_pair, key_or, value_after, as_leaf, value_with, read}
+use Rattle.json5_grammar.specs.Faults.Codes.{EofParsingBool, EofParsingNull, ExpectedBool, ExpectedNull}
+use Rattle.json5_grammar.specs.Language.Blanks.{Blanks}
+use Rattle.json5_grammar.specs.Language.Numbers.{Num, Number}
+use Rattle.json5_grammar.specs.Language.Strings.{Str, quoted}
+use Rattle.json5_grammar.specs.Language.Trees.{Tree, Trees, Pairs, null, boolean, number, text, array, object, no_more, more, no_pair, pair, depth, depths, pair_depths}
+use Rattle.json5_grammar.specs.Language.Values.{no_last_comma, last_comma, KeyText, Val, is_null, is_true, is_false, is_number, is_text, is_empty_array, is_array, is_empty_object, is_object, ElementList, last, next, MemberList, last_pair, next_pair, Member, entry, null_text, true_text, false_text, Stops}
+use Rattle.json5_grammar.specs.Model.Reading.{Read, got, and_then, placed}
+use Rattle.json5_grammar.specs.Model.ReadBlanks.{skip, between}
+use Rattle.json5_grammar.specs.Model.ReadNumbers as numbers
+use Rattle.json5_grammar.specs.Model.ReadValues.{items, entries, close_or, after_member, after_pair, key_or, value_after, as_leaf, value_with, read}
 use Rattle.json5_grammar.proofs.BlanksRead.{skip_blanks, skip_solid, printable_no_blank}
 use Rattle.json5_grammar.proofs.Classes.{EndsValues, comma_ends_values, bracket_ends_values, brace_ends_values, begins_others, colon_no_name}
 use Rattle.json5_grammar.proofs.WordsRead.{word_complete}
@@ -41,7 +41,7 @@ read_number {s = s} d r a st =
     ∙ ap (as_leaf number) (ap numbers.number (sym e) ∙ complete a r st)
 
 -- a string is read
-pub read_text : {s u : List ℕ} {plain : Bool} (d : ℕ) (r : List ℕ) → Str s u plain → read d (s ++ r) ≡ got (text u plain) r
+pub read_text : {s u : List ℕ} {escape_free : Bool} (d : ℕ) (r : List ℕ) → Str s u escape_free → read d (s ++ r) ≡ got (text u escape_free) r
 read_text d r (quoted {q = q} {s = s} h i) =
     read_step d ((q ∷ s ++ q ∷ []) ++ r) ∙ value_text (array_reader d) (object_reader d) q ((s ++ q ∷ []) ++ r) h
     ∙ ap (as_leaf (λ a. text a.0 a.1)) (string_complete r (quoted h i))
@@ -121,15 +121,15 @@ key_or_head m r h = rw h.is (rw (key_begins h.char h.begins).2 refl)
 
 -- what is read after a pair
 abbrev pub after_pair_blanks : (List ℕ → Read Pairs) → List ℕ → Bool → Tree → List ℕ → Read Pairs
-after_pair_blanks k u plain t y = and_then (skip between y) (λ w z. and_then (after_pair k z) (λ ps q. got (pair u plain t ps) q))
+after_pair_blanks k u escape_free t y = and_then (skip between y) (λ w z. and_then (after_pair k z) (λ ps q. got (pair u escape_free t ps) q))
 
 -- blanks, the colon, blanks and the value
 pub colon_and_value : {b w s : List ℕ} {t : Tree} (val : List ℕ → Read Tree) (y : List ℕ) → Blanks b → Blanks w → ValueHead s → val (s ++ y) ≡ got t y → value_after val (b ++ 58 ∷ (w ++ (s ++ y))) ≡ got t y
 colon_and_value {w = w} {s = s} val y bb bw h e = rw (skip_blanks (58 ∷ (w ++ (s ++ y))) bb, skip_colon (w ++ (s ++ y))) (rw (skip_blanks (s ++ y) bw, skip_value y h) e)
 
 -- one pair, and what follows it
-pub entries_pair : {a k b w s v u : List ℕ} {plain : Bool} {t : Tree} (d n : ℕ) (y : List ℕ) → Blanks a → KeyText k u plain → Blanks b → Blanks w → ValueHead s → Blanks v → read d (s ++ (v ++ y)) ≡ got t (v ++ y)
-    → entries (read d) (suc n) (a ++ (k ++ (b ++ 58 ∷ (w ++ (s ++ (v ++ y)))))) ≡ after_pair_blanks (entries (read d) n) u plain t y
+pub entries_pair : {a k b w s v u : List ℕ} {escape_free : Bool} {t : Tree} (d n : ℕ) (y : List ℕ) → Blanks a → KeyText k u escape_free → Blanks b → Blanks w → ValueHead s → Blanks v → read d (s ++ (v ++ y)) ≡ got t (v ++ y)
+    → entries (read d) (suc n) (a ++ (k ++ (b ++ 58 ∷ (w ++ (s ++ (v ++ y)))))) ≡ after_pair_blanks (entries (read d) n) u escape_free t y
 unfolding entries
 entries_pair {k = k} {b = b} {w = w} {s = s} {v = v} d n y ba kt bb bw h bv e =
     let z = b ++ 58 ∷ (w ++ (s ++ (v ++ y))) in
@@ -137,11 +137,11 @@ entries_pair {k = k} {b = b} {w = w} {s = s} {v = v} d n y ba kt bb bw h bv e =
     rw (skip_blanks (k ++ z) ba, skip_key z head)
     (key_or_head _ z head ∙ rw (key_complete (key_before_blanks 58 (w ++ (s ++ (v ++ y))) bb kt colon_no_name), colon_and_value (read d) (v ++ y) bb bw h e, skip_blanks y bv) refl)
 
-after_pair_comma : (u : List ℕ) (plain : Bool) (t : Tree) (ps : Pairs) (d k : ℕ) (x r : List ℕ) → entries (read d) k x ≡ got ps r → after_pair_blanks (entries (read d) k) u plain t (44 ∷ x) ≡ got (pair u plain t ps) r
-after_pair_comma u plain t ps d k x r e = rw (skip_comma x) (ap (λ q. and_then q (λ ps x. got (pair u plain t ps) x)) e)
+after_pair_comma : (u : List ℕ) (escape_free : Bool) (t : Tree) (ps : Pairs) (d k : ℕ) (x r : List ℕ) → entries (read d) k x ≡ got ps r → after_pair_blanks (entries (read d) k) u escape_free t (44 ∷ x) ≡ got (pair u escape_free t ps) r
+after_pair_comma u escape_free t ps d k x r e = rw (skip_comma x) (ap (λ q. and_then q (λ ps x. got (pair u escape_free t ps) x)) e)
 
-at_brace : (u : List ℕ) (plain : Bool) (t : Tree) (d k : ℕ) (r : List ℕ) → after_pair_blanks (entries (read d) k) u plain t (125 ∷ r) ≡ got (pair u plain t no_pair) r
-at_brace u plain t d k r = rw (skip_brace r) refl
+at_brace : (u : List ℕ) (escape_free : Bool) (t : Tree) (d k : ℕ) (r : List ℕ) → after_pair_blanks (entries (read d) k) u escape_free t (125 ∷ r) ≡ got (pair u escape_free t no_pair) r
+at_brace u escape_free t d k r = rw (skip_brace r) refl
 
 pub regroup_pair : (a k b w s v y : List ℕ) → (a ++ (k ++ (b ++ 58 ∷ (w ++ (s ++ v))))) ++ y ≡ a ++ (k ++ (b ++ 58 ∷ (w ++ (s ++ (v ++ y)))))
 regroup_pair a k b w s v y = simp append_assoc
@@ -188,23 +188,23 @@ mutual
   -- pairs and the closing brace are read
   pub entries_complete : {m : List ℕ} {ps : Pairs} → MemberList m ps → (r : List ℕ) → (d : ℕ) → pair_depths ps ≤ d → (n : ℕ) → length (m ++ 125 ∷ r) < n → entries (read d) n (m ++ 125 ∷ r) ≡ got ps r
   entries_complete (last_pair e lc) r d l zero h = absurd (omega arith)
-  entries_complete (last_pair {p = p} {u = u} {plain = plain} {t = t} e no_last_comma) r d l (suc k) h =
+  entries_complete (last_pair {p = p} {u = u} {escape_free = escape_free} {t = t} e no_last_comma) r d l (suc k) h =
       ap (entries (read d) (suc k)) (append_assoc p [] (125 ∷ r))
       ∙ entry_complete e 125 r brace_ends_values d (omega arith) k
-      ∙ at_brace u plain t d k r
-  entries_complete (last_pair {p = p} {u = u} {plain = plain} {t = t} e (last_comma {w = w} bw)) r d l (suc k) h =
+      ∙ at_brace u escape_free t d k r
+  entries_complete (last_pair {p = p} {u = u} {escape_free = escape_free} {t = t} e (last_comma {w = w} bw)) r d l (suc k) h =
       ap (entries (read d) (suc k)) (append_assoc p (44 ∷ w) (125 ∷ r))
       ∙ entry_complete e 44 (w ++ 125 ∷ r) comma_ends_values d (omega arith) k
-      ∙ after_pair_comma u plain t no_pair d k (w ++ 125 ∷ r) r (entries_close (read d) k r (shorter_pair p w (125 ∷ r) k h) bw)
+      ∙ after_pair_comma u escape_free t no_pair d k (w ++ 125 ∷ r) r (entries_close (read d) k r (shorter_pair p w (125 ∷ r) k h) bw)
   entries_complete (next_pair e ps) r d l zero h = absurd (omega arith)
-  entries_complete (next_pair {p = p} {m = m} {u = u} {plain = plain} {t = t} {ps = qs} e ps) r d l (suc k) h =
+  entries_complete (next_pair {p = p} {m = m} {u = u} {escape_free = escape_free} {t = t} {ps = qs} e ps) r d l (suc k) h =
       ap (entries (read d) (suc k)) (append_assoc p (44 ∷ m) (125 ∷ r))
       ∙ entry_complete e 44 (m ++ 125 ∷ r) comma_ends_values d (omega arith) k
-      ∙ after_pair_comma u plain t qs d k (m ++ 125 ∷ r) r (entries_complete ps r d (omega arith) k (shorter_pair p m (125 ∷ r) k h))
+      ∙ after_pair_comma u escape_free t qs d k (m ++ 125 ∷ r) r (entries_complete ps r d (omega arith) k (shorter_pair p m (125 ∷ r) k h))
 
   -- a pair is read, up to the character after it
-  pub entry_complete : {p u : List ℕ} {plain : Bool} {t : Tree} → Member p u plain t → (c : ℕ) (y : List ℕ) → EndsValues c → (d : ℕ) → depth t ≤ d → (n : ℕ)
-      → entries (read d) (suc n) (p ++ c ∷ y) ≡ after_pair_blanks (entries (read d) n) u plain t (c ∷ y)
+  pub entry_complete : {p u : List ℕ} {escape_free : Bool} {t : Tree} → Member p u escape_free t → (c : ℕ) (y : List ℕ) → EndsValues c → (d : ℕ) → depth t ≤ d → (n : ℕ)
+      → entries (read d) (suc n) (p ++ c ∷ y) ≡ after_pair_blanks (entries (read d) n) u escape_free t (c ∷ y)
   entry_complete (entry {a = a} {k = k} {b = b} {w = w} {s = s} {v = v} ba kt bb bw vs bv) c y ends d l n =
       ap (entries (read d) (suc n)) (regroup_pair a k b w s v (c ∷ y))
       ∙ entries_pair d n (c ∷ y) ba kt bb bw (val_head vs) bv (read_complete vs (v ++ c ∷ y) (stops_blanks s c y bv ends) d l)

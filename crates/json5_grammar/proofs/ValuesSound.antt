@@ -2,22 +2,21 @@
 use Rattle.std.proofs.Common.{◌≡◌, ℕ, zero, suc, ◌≤◌, Bool, true, false, cond, ◌||◌, List, [], ◌∷◌, ◌++◌, length, refl, ap, sym, ◌∙◌, append_assoc, arith, subst, inl, inr, ◌⊎◌, Option, Some}
 use Rattle.std.specs.Prelude.{◌==◌}
 use Rattle.std.proofs.lemmas.Bool.Decides.{nat_tests}
-use Rattle.json5_grammar.specs.Characters.{is_identifier_start}
-use Rattle.json5_grammar.specs.Codes.{ExpectedValue, ExpectedIdentifier, ErrorCode}
-use Rattle.json5_grammar.specs.Blanks.{Blanks, Gap, at_end, Solid, is_solid}
-use Rattle.json5_grammar.specs.NumberFaults.{is_sign, begins_number}
-use Rattle.json5_grammar.specs.Numbers.{Number}
-use Rattle.json5_grammar.specs.Strings.{Str, quoted, is_quote}
-use Rattle.json5_grammar.specs.Names.{Key}
-use Rattle.json5_grammar.specs.Trees.{Tree, Trees, Pairs, null, boolean, text, array, object, no_more, more, no_pair, pair, depth, depths, pair_depths}
-use Rattle.json5_grammar.specs.Values.{Val, is_null, is_true, is_false, is_number, is_text, null_text, true_text, false_text, Stops, Reads}
-use Rattle.json5_grammar.specs.Members.{IsSign, ReadsKey, IsKeyValue, Tail, PairsTail}
-use Rattle.json5_grammar.specs.WordFaults.{null_word, true_word, false_word}
-use Rattle.json5_grammar.specs.Reading.{Place, here, inner, Read, got, bad, and_then, placed}
-use Rattle.json5_grammar.specs.ReadBlanks.{skip, between}
-use Rattle.json5_grammar.specs.ReadNumbers as numbers
-use Rattle.json5_grammar.specs.ReadTexts.{key, string, identifier}
-use Rattle.json5_grammar.specs.ReadValues.{items, entries, after_member, close_or, member, after_pair, colon_at, value_after, pair_at, key_or, as_leaf, value_with, too_deep, read}
+use Rattle.json5_grammar.specs.Language.Characters.{is_identifier_start}
+use Rattle.json5_grammar.specs.Faults.Codes.{ExpectedValue, ExpectedIdentifier, ErrorCode}
+use Rattle.json5_grammar.specs.Language.Blanks.{Blanks, Gap, at_end, Solid, is_solid}
+use Rattle.json5_grammar.specs.Faults.Tokens.{is_sign, begins_number, null_word, true_word, false_word}
+use Rattle.json5_grammar.specs.Language.Numbers.{Number}
+use Rattle.json5_grammar.specs.Language.Strings.{Str, quoted, is_quote}
+use Rattle.json5_grammar.specs.Language.Names.{Key}
+use Rattle.json5_grammar.specs.Language.Trees.{Tree, Trees, Pairs, null, boolean, text, array, object, no_more, more, no_pair, pair, depth, depths, pair_depths}
+use Rattle.json5_grammar.specs.Language.Values.{Val, is_null, is_true, is_false, is_number, is_text, null_text, true_text, false_text, Stops, Reads}
+use Rattle.json5_grammar.specs.Model.Collections.{IsSign, ReadsKey, IsKeyValue, Tail, PairsTail}
+use Rattle.json5_grammar.specs.Model.Reading.{Place, here, inner, Read, got, bad, and_then, placed}
+use Rattle.json5_grammar.specs.Model.ReadBlanks.{skip, between}
+use Rattle.json5_grammar.specs.Model.ReadNumbers as numbers
+use Rattle.json5_grammar.specs.Model.ReadTexts.{key, string, identifier}
+use Rattle.json5_grammar.specs.Model.ReadValues.{items, entries, after_member, close_or, member, after_pair, colon_at, value_after, pair_at, key_or, as_leaf, value_with, too_deep, read}
 use Rattle.json5_grammar.proofs.Basics.{by_test, eq_from}
 use Rattle.json5_grammar.proofs.BlanksRead.{begins_solid}
 use Rattle.json5_grammar.proofs.BlanksSound.{BlanksSound, skip_sound, Blanks-append}
@@ -27,8 +26,8 @@ use Rattle.json5_grammar.proofs.NumbersSound.{PlaceIs, SoundNumber, sound}
 use Rattle.json5_grammar.proofs.StringsSound.{StringSound, string_sound}
 use Rattle.json5_grammar.proofs.KeysRead.{KeySound, key_sound}
 use Rattle.json5_grammar.proofs.ValueHeads.{val_head, key_head, array_reader, object_reader, read_step}
-use Rattle.json5_grammar.proofs.MembersRead.{opening_solid, sign_after, reads_after, phrase_found, tail_comma, array_reads}
-use Rattle.json5_grammar.proofs.MembersPairs.{opening_brace_solid, pairs_comma, object_reads}
+use Rattle.json5_grammar.proofs.CollectionsRead.{opening_solid, sign_after, reads_after, phrase_found, tail_comma, array_reads}
+use Rattle.json5_grammar.proofs.CollectionsPairs.{opening_brace_solid, pairs_comma, object_reads}
 
 -- ---- what each step finds
 
@@ -45,10 +44,10 @@ IsPhrase d x t r = Reads x t r × (depth t ≤ d)
 
 -- members and the closing bracket, after a comma where one is due
 abbrev pub AreMembers : ℕ → Bool → List ℕ → Trees → List ℕ → Type 0
-AreMembers d due x ts r = Tail ts due x r × (depths ts ≤ d)
+AreMembers d comma_due x ts r = Tail ts comma_due x r × (depths ts ≤ d)
 
 abbrev pub ArePairs : ℕ → Bool → List ℕ → Pairs → List ℕ → Type 0
-ArePairs d due x ps r = PairsTail ps due x r × (pair_depths ps ≤ d)
+ArePairs d comma_due x ps r = PairsTail ps comma_due x r × (pair_depths ps ≤ d)
 
 abbrev pub IsKeyAt : List ℕ → List ℕ × Bool → List ℕ → Type 0
 IsKeyAt x a r = (k : List ℕ) × (x ≡ k ++ r) × Key k r a.0 a.1
@@ -101,7 +100,7 @@ which_quote : (q : ℕ) → is_quote q ≡ true → (q ≡ 34) ⊎ (q ≡ 39)
 which_quote q h = grind (arith, nat_tests)
 
 -- nothing lengthens a string
-pub text_stops : {s u : List ℕ} {plain : Bool} (r : List ℕ) → Str s u plain → Stops s r
+pub text_stops : {s u : List ℕ} {escape_free : Bool} (r : List ℕ) → Str s u escape_free → Stops s r
 text_stops r (quoted {q = q} {s = s} k i) = quote_stops q (s ++ q ∷ []) r (which_quote q k)
 
 leaf_text : (d : ℕ) (x : List ℕ) (m : Read (List ℕ × Bool)) → StringSound x m → Found (IsValue d x) x (as_leaf (λ a. text a.0 a.1) m)
@@ -150,17 +149,17 @@ reads_gap w x y r t e g p = rw e (by_gap g p)
     by_gap {w = w} {y = y} (Gap.blanks b) p = reads_after w y r t b p
     by_gap (at_end l) p = let h = val_head p.value in absurd (no_text p.front h.char h.more r (p.split ∙ ap (λ z. p.front ++ (z ++ r)) h.is))
 
-pub tail_gap : (ts : Trees) (due : Bool) (w x y r : List ℕ) → x ≡ w ++ y → Gap w y → Tail ts due y r → Tail ts due x r
+pub tail_gap : (ts : Trees) (comma_due : Bool) (w x y r : List ℕ) → x ≡ w ++ y → Gap w y → Tail ts comma_due y r → Tail ts comma_due x r
 tail_gap no_more false w x y r e g s = sign_gap 93 w x y r e g s
 tail_gap no_more true w x y r e g (inl s) = inl (sign_gap 93 w x y r e g s)
 tail_gap no_more true w x y r e g (inr (z, c, s)) = inr (z, sign_gap 44 w x y z e g c, s)
 tail_gap (more t ts) false w x y r e g (z, p, tl) = (z, reads_gap w x y z t e g p, tl)
 tail_gap (more t ts) true w x y r e g (z, (q, c, p), tl) = (z, (q, sign_gap 44 w x y q e g c, p), tl)
 
-key_gap : (w x y u r : List ℕ) (plain : Bool) → x ≡ w ++ y → Gap w y → ReadsKey y u plain r → ReadsKey x u plain r
-key_gap w x y u r plain e g k = rw e (by_gap g k)
+key_gap : (w x y u r : List ℕ) (escape_free : Bool) → x ≡ w ++ y → Gap w y → ReadsKey y u escape_free r → ReadsKey x u escape_free r
+key_gap w x y u r escape_free e g k = rw e (by_gap g k)
   where
-    by_gap : {w y : List ℕ} → Gap w y → ReadsKey y u plain r → ReadsKey (w ++ y) u plain r
+    by_gap : {w y : List ℕ} → Gap w y → ReadsKey y u escape_free r → ReadsKey (w ++ y) u escape_free r
     by_gap {w = w} {y = y} (Gap.blanks b) k = record {
       front = w ++ k.front;
       spelling = k.spelling;
@@ -170,12 +169,12 @@ key_gap w x y u r plain e g k = rw e (by_gap g k)
     }
     by_gap (at_end l) k = let h = key_head k.key in absurd (no_text k.front h.char h.more r (k.split ∙ ap (λ z. k.front ++ (z ++ r)) h.is))
 
-pub pairs_gap : (ps : Pairs) (due : Bool) (w x y r : List ℕ) → x ≡ w ++ y → Gap w y → PairsTail ps due y r → PairsTail ps due x r
+pub pairs_gap : (ps : Pairs) (comma_due : Bool) (w x y r : List ℕ) → x ≡ w ++ y → Gap w y → PairsTail ps comma_due y r → PairsTail ps comma_due x r
 pairs_gap no_pair false w x y r e g s = sign_gap 125 w x y r e g s
 pairs_gap no_pair true w x y r e g (inl s) = inl (sign_gap 125 w x y r e g s)
 pairs_gap no_pair true w x y r e g (inr (z, c, s)) = inr (z, sign_gap 44 w x y z e g c, s)
-pairs_gap (pair u plain t ps) false w x y r e g (k, z, a, v, tl) = (k, z, key_gap w x y u k plain e g a, v, tl)
-pairs_gap (pair u plain t ps) true w x y r e g (k, z, (q, c, a), v, tl) = (k, z, (q, sign_gap 44 w x y q e g c, a), v, tl)
+pairs_gap (pair u escape_free t ps) false w x y r e g (k, z, a, v, tl) = (k, z, key_gap w x y u k escape_free e g a, v, tl)
+pairs_gap (pair u escape_free t ps) true w x y r e g (k, z, (q, c, a), v, tl) = (k, z, (q, sign_gap 44 w x y q e g c, a), v, tl)
 
 -- ---- steps between members
 

@@ -8,8 +8,8 @@ use Rattle.std.proofs.lemmas.Str.{digit_value_digit}
 use Rattle.std.proofs.lemmas.Bool.Decides.{nat_tests}
 use Rattle.std.proofs.lemmas.Int.{ints}
 use Rattle.std.proofs.lemmas.List.{append-nil}
-use Rattle.json5_grammar.specs.Characters.{is_digit, is_in, no_char, char}
-use Rattle.json5_grammar.specs.Numbers.{whole, no_sign, minus, spelled, Integer, lone_zero, nonzero, Mantissa, integer, no_exponent, Literal, literal, Num, is_integer, InWhole}
+use Rattle.json5_grammar.specs.Language.Characters.{is_digit, is_in, no_char, char}
+use Rattle.json5_grammar.specs.Language.Numbers.{whole, no_sign, minus, spelled, Integer, lone_zero, nonzero, Mantissa, integer, no_exponent, Literal, literal, Num, is_integer, InWhole}
 use Rattle.json5_grammar.proofs.NumberTests.{Each-append}
 use Rattle.json5_grammar.proofs.Hexadecimal.{spelled-append}
 

@@ -2,13 +2,13 @@
 use Rattle.std.proofs.Common.{◌≡◌, ℕ, true, cond, List, [], ◌∷◌, ◌++◌, refl, ap, sym, ◌∙◌, ◌≢◌, ◌⊎◌, inl, inr, subst, Option, Some, None}
 use Rattle.std.specs.Prelude.{◌==◌}
 use Rattle.std.proofs.lemmas.List.{append-nil}
-use Rattle.json5_grammar.specs.Codes.{ErrorCode, EofParsingBool, EofParsingNull, ExpectedBool, ExpectedNull, Shown, by_char, by_end}
-use Rattle.json5_grammar.specs.WordFaults.{Word, null_word, true_word, false_word, WordFault, word_differs, word_ends}
-use Rattle.json5_grammar.specs.Blames.{WordBlame, IsBlamed}
-use Rattle.json5_grammar.specs.Parts.{IsPrefix}
-use Rattle.json5_grammar.specs.Reading.{Place, here, inner, Read, got, bad, IsAt}
-use Rattle.json5_grammar.specs.Values.{null_text, true_text, false_text}
-use Rattle.json5_grammar.specs.ReadValues.{word_at}
+use Rattle.json5_grammar.specs.Faults.Codes.{ErrorCode, EofParsingBool, EofParsingNull, ExpectedBool, ExpectedNull, Shown, by_char, by_end}
+use Rattle.json5_grammar.specs.Faults.Tokens.{Word, null_word, true_word, false_word, WordFault, word_differs, word_ends}
+use Rattle.json5_grammar.specs.Faults.Blames.{WordBlame, IsBlamed}
+use Rattle.json5_grammar.specs.Faults.Parts.{IsPrefix}
+use Rattle.json5_grammar.specs.Model.Reading.{Place, here, inner, Read, got, bad, IsAt}
+use Rattle.json5_grammar.specs.Language.Values.{null_text, true_text, false_text}
+use Rattle.json5_grammar.specs.Model.ReadValues.{word_at}
 use Rattle.json5_grammar.proofs.Basics.{by_test, eq_from, neq_from, not_eq, same_char, cons_not_nil}
 use Rattle.json5_grammar.proofs.Refusals.{Refuses, one_refusal, not_both}
 

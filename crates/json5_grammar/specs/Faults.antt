@@ -1,14 +1,20 @@
 -- The fault table: the faults of a text, each with its code, its place, the part that is blamed, and what shows it.
+pub mod Codes
+pub mod CodeTexts
+pub mod Positions
+pub mod Tokens
+pub mod Fronts
+pub mod Blames
+pub mod Parts
+pub mod Refusals
+pub mod Commits
 use Rattle.std.specs.Prelude.{◌≡◌, ◌≢◌, ℕ, Bool, true, false, ◌||◌, ◌==◌, List, [], ◌∷◌, ◌++◌, length, Option, Some, None, ◌⊎◌, ⊤}
-use Rattle.json5_grammar.specs.Characters.{letter_f, letter_n, letter_t, double_quote, single_quote, plus_sign, comma_sign, minus_sign, colon_sign, left_bracket, backslash, right_bracket, left_brace, right_brace, is_identifier_start}
-use Rattle.json5_grammar.specs.Codes.{ErrorCode, EofParsingArray, EofParsingObject, EofParsingValue, ExpectedColon, ExpectedComma, ExpectedIdentifier, ExpectedValue, TrailingCharacters, TooDeep, Shown, by_char, by_end}
-use Rattle.json5_grammar.specs.Blanks.{is_solid, CommentFault}
-use Rattle.json5_grammar.specs.NumberFaults.{begins_number, NumberFault}
-use Rattle.json5_grammar.specs.Strings.{is_quote}
-use Rattle.json5_grammar.specs.StringFaults.{StringFault}
-use Rattle.json5_grammar.specs.NameFaults.{NameFault}
-use Rattle.json5_grammar.specs.Fronts.{BracketKind, Bracket, Expects, takes_value, closing, Front, of_array, of_object, value, element, key, colon, comma, end}
-use Rattle.json5_grammar.specs.WordFaults.{WordFault}
+use Rattle.json5_grammar.specs.Language.Characters.{letter_f, letter_n, letter_t, double_quote, single_quote, plus_sign, comma_sign, minus_sign, colon_sign, left_bracket, backslash, right_bracket, left_brace, right_brace, is_identifier_start}
+use Rattle.json5_grammar.specs.Faults.Codes.{ErrorCode, EofParsingArray, EofParsingObject, EofParsingValue, ExpectedColon, ExpectedComma, ExpectedIdentifier, ExpectedValue, TrailingCharacters, TooDeep, Shown, by_char, by_end}
+use Rattle.json5_grammar.specs.Language.Blanks.{is_solid}
+use Rattle.json5_grammar.specs.Faults.Tokens.{CommentFault, begins_number, NumberFault, StringFault, NameFault, WordFault}
+use Rattle.json5_grammar.specs.Language.Strings.{is_quote}
+use Rattle.json5_grammar.specs.Faults.Fronts.{BracketKind, Bracket, Expects, takes_value, closing, Front, of_array, of_object, value, element, key, colon, comma, end}
 
 -- the place of an Eof code
 abbrev pub innermost : List Bracket → Option (List ℕ)

@@ -88,7 +88,7 @@ pub enum ErrorCode {
 }
 
 impl ErrorCode {
-    ghost use Rattle.json5_grammar.specs.CodeText.{code_text};
+    ghost use Rattle.json5_grammar.specs.Faults.CodeTexts.{code_text};
 
     /// Returns the code in words, such as `expected comma`.
     pub fn as_str(self) -> &'static str
@@ -135,9 +135,9 @@ impl ErrorCode {
 
 /// Prints the code in words, such as `expected comma`.
 impl fmt::Display for ErrorCode {
+    ghost use Rattle.json5_grammar.specs.Faults.CodeTexts.{code_text};
     ghost output = { λ c. Some (code_text c) };
 
-    ghost use Rattle.json5_grammar.specs.CodeText.{code_text};
 
     fn fmt<W: fmt::Write>(&self, f: &mut fmt::Formatter<W>) -> fmt::Result {
         f.write_str(self.as_str())

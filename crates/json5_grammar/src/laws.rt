@@ -2,6 +2,6 @@
 
 pub mod documents;
 pub mod faults;
-pub mod members;
+pub mod collections;
 pub mod numbers;
 pub mod texts;

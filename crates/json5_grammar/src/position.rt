@@ -2,8 +2,8 @@
 ghost use Rattle.std.specs.Prelude.{◌≡◌, ◌+◌, ◌<◌, ◌++◌, Some, take, decimal};
 ghost use Rattle.std.specs.Str.{IsCharBoundary, chars};
 ghost use lib.Chars.{codes};
-ghost use Rattle.json5_grammar.specs.Positions.{position_after};
-ghost use Rattle.json5_grammar.specs.PositionSteps.{position_step};
+ghost use Rattle.json5_grammar.specs.Faults.Positions.{position_after};
+ghost use Rattle.json5_grammar.specs.Model.PositionSteps.{position_step};
 
 use std::fmt;
 

@@ -43,7 +43,7 @@ impl<I: Input> Fields<I> for Found {
 
 /// An object of the three fields; one that isn't known is passed over, and one that stands twice is refused.
 impl<I: Input> Deserialize<I> for Sample {
-    ghost use Rattle.json5.specs.Members.{object_of};
+    ghost use Rattle.json5.specs.Collections.{object_of};
     ghost use Rattle.json5_memory.specs.Sample.{sample};
 
     ghost Content = { ⟦<Vec<u8> as Deserialize<I>>⟧.Content × (⟦<String as Deserialize<I>>⟧.Content × ⟦<BTreeMap<String, Decimal> as Deserialize<I>>⟧.Content) };

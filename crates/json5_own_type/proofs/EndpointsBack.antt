@@ -2,7 +2,7 @@
 use Rattle.std.proofs.Common.{◌≡◌, ◌<◌, ◌^◌, ℕ, Some, refl, arith}
 use Rattle.std.proofs.lemmas.Bool.Decides.{nat_tests}
 use Rattle.json5.specs.ReadsBack.{ReadsBack}
-use Rattle.json5.specs.Members.{array_of}
+use Rattle.json5.specs.Collections.{array_of}
 use Rattle.json5.specs.Convert.{text_of, unsigned_below}
 use Rattle.json5.specs.ConvertLists.{first_of, last_of}
 use Rattle.json5.specs.Refinement.{and_then}

@@ -2,7 +2,7 @@
 use Rattle.std.specs.Prelude.{◌==◌, ℕ, if◌then◌else◌, nat_lt, length, List, [], ◌∷◌, Option, Some, None, codes}
 use Rattle.std.specs.Str.{bytes_eq}
 use Rattle.json5.specs.Trees.{Tree, Trees}
-use Rattle.json5.specs.Members.{contents}
+use Rattle.json5.specs.Collections.{contents}
 use Rattle.json5.specs.Refinement.{if_more}
 use Rattle.json5_own_type.specs.declared.levels.Level.{Level}
 use Rattle.json5_own_type.specs.declared.levels.Level.TheVariants.{Low, Middle, High}

@@ -16,7 +16,7 @@ color_at k = Some (if k == 0 then Red else if k == 1 then Green else Blue)
 
 -- the color of this name
 abbrev pub color_named : List ℕ → Bool → Option Color
-color_named u plain = if_more color_at (index_of color_names u plain)
+color_named u escape_free = if_more color_at (index_of color_names u escape_free)
 
 -- the key that is written of a color
 abbrev pub color_key : Color → Key

@@ -4,7 +4,7 @@ use Rattle.std.specs.declared.alloc.Global.{Global}
 use Rattle.std.specs.Str.{chars}
 use Rattle.json5.specs.WrittenTrees.{Written, Elements, element, no_element, Fields, field, no_field, named, text, natural, newtype_variant, tuple_variant, struct_variant}
 use Rattle.json5.specs.Trees.{Tree}
-use Rattle.json5.specs.Members.{array_of, object_of}
+use Rattle.json5.specs.Collections.{array_of, object_of}
 use Rattle.json5.specs.Convert.{text_of, unsigned_below}
 use Rattle.json5.specs.ConvertLists.{first_of, last_of}
 use Rattle.json5.specs.Plans.{Plan, required, and_field}

@@ -12,7 +12,7 @@ pub struct AtMost<T, const N: usize> {
 /// A list; the first value that is too many is refused where it stands, before any other is read.
 impl<I: Input, T: Deserialize<I>, const N: usize> Deserialize<I> for AtMost<T, N> {
     ghost use Rattle.std.specs.Prelude.{List, map};
-    ghost use Rattle.json5.specs.Members.{array_of};
+    ghost use Rattle.json5.specs.Collections.{array_of};
     ghost use Rattle.json5_own_type.specs.Accepted.{at_most};
 
     ghost Content = { List T.Content };

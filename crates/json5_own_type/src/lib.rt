@@ -51,7 +51,7 @@ fn missing<I: Input>(seq: &SeqAccess<'_, I>, alloc: Global, field: &str) -> Erro
 }
 
 impl<I: Input, T: Deserialize<I>> Deserialize<I> for Bounds<T> {
-    ghost use Rattle.json5.specs.Members.{array_of};
+    ghost use Rattle.json5.specs.Collections.{array_of};
     ghost use Rattle.json5.specs.ConvertLists.{first_of, last_of};
 
     ghost Content = { T.Content × T.Content };
@@ -107,7 +107,7 @@ pub struct Point<T> {
 }
 
 impl<I: Input, T: Deserialize<I>> Deserialize<I> for Point<T> {
-    ghost use Rattle.json5.specs.Members.{array_of};
+    ghost use Rattle.json5.specs.Collections.{array_of};
     ghost use Rattle.json5.specs.ConvertLists.{first_of, last_of};
 
     ghost Content = { T.Content × T.Content };

@@ -66,7 +66,7 @@ pub struct Endpoint {
 /// A list of a text and a port, with the faults of both.
 impl<I: Input> Deserialize<I> for Endpoint {
     ghost use Rattle.std.specs.Prelude.{ℕ, List, ◌^◌, string_bytes};
-    ghost use Rattle.json5.specs.Members.{array_of};
+    ghost use Rattle.json5.specs.Collections.{array_of};
     ghost use Rattle.json5.specs.Convert.{text_of, unsigned_below};
     ghost use Rattle.json5.specs.ConvertLists.{first_of, last_of};
     ghost use Rattle.json5.specs.Refinement.{and_then};
@@ -120,7 +120,7 @@ pub struct PortRange {
 /// A list of two numbers; where the second is below the first it is refused where the second stands.
 impl<I: Input> Deserialize<I> for PortRange {
     ghost use Rattle.std.specs.Prelude.{ℕ, ◌^◌};
-    ghost use Rattle.json5.specs.Members.{array_of};
+    ghost use Rattle.json5.specs.Collections.{array_of};
     ghost use Rattle.json5.specs.Convert.{unsigned_below};
     ghost use Rattle.json5.specs.ConvertLists.{first_of, last_of};
     ghost use Rattle.json5.specs.Refinement.{and_then};

@@ -49,7 +49,7 @@ impl<I: Input> Fields<I> for Found {
 /// An object; a field that isn't known is passed over, and one that stands twice is refused.
 impl<I: Input> Deserialize<I> for Settings {
     ghost use Rattle.std.specs.Prelude.{ℕ, List, Option, string_bytes};
-    ghost use Rattle.json5.specs.Members.{object_of};
+    ghost use Rattle.json5.specs.Collections.{object_of};
     ghost use Rattle.json5.specs.ConvertLists.{if_some};
     ghost use Rattle.json5.specs.StructFaults.{RefusesStruct};
     ghost use Rattle.json5_own_type.specs.Settings.{settings};

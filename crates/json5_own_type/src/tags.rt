@@ -12,7 +12,7 @@ pub struct Labels {
 /// A list of texts; an empty one is refused at its bracket.
 impl<I: Input> Deserialize<I> for Labels {
     ghost use Rattle.std.specs.Prelude.{ℕ, List, map, string_bytes};
-    ghost use Rattle.json5.specs.Members.{array_of, contents};
+    ghost use Rattle.json5.specs.Collections.{array_of, contents};
     ghost use Rattle.json5.specs.Convert.{text_of};
     ghost use Rattle.json5.specs.Refinement.{and_then, RefusesOwn};
     ghost use Rattle.json5_own_type.specs.Accepted.{not_empty};

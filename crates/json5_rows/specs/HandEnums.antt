@@ -3,7 +3,7 @@ use Rattle.std.specs.Prelude.{◌==◌, ◌^◌, ℕ, ℤ, Bool, if◌then◌els
 use Rattle.std.specs.Str.{chars}
 use Rattle.json5.specs.WrittenTrees.{Written, Elements, element, no_element, Fields, field, no_field, text, null, integer, newtype_variant, tuple_variant, struct_variant, Key, named, bad}
 use Rattle.json5.specs.Trees.{Tree}
-use Rattle.json5.specs.Members.{array_of, object_of}
+use Rattle.json5.specs.Collections.{array_of, object_of}
 use Rattle.json5.specs.Convert.{unit_of, signed_below, index_of}
 use Rattle.json5.specs.ConvertLists.{first_of, last_of}
 use Rattle.json5.specs.Plans.{Plan, required, and_field}
@@ -53,7 +53,7 @@ f_at k = if k == 0 then Some an_a else if k == 1 then Some a_b else None
 
 -- what the text of a key names
 abbrev pub f_named : List ℕ → Bool → Option OfF
-f_named u plain = if_more f_at (index_of f_names u plain)
+f_named u escape_free = if_more f_at (index_of f_names u escape_free)
 
 -- what is written of it as a key
 abbrev pub f_key : F → Key

@@ -1,7 +1,7 @@
 -- What the structs of the rows take of an object, a field a line, and what is written of one.
 use Rattle.std.specs.Prelude.{ℕ, ◌^◌, List, Option, codes}
 use Rattle.std.specs.Str.{chars}
-use Rattle.json5.specs.Convert.{text_of, plain_of, unsigned_below}
+use Rattle.json5.specs.Convert.{text_of, escape_free_of, unsigned_below}
 use Rattle.json5.specs.Plans.{Plan, required, and_field}
 use Rattle.json5.specs.WrittenTrees.{Fields, field, no_field, named, text, natural}
 use Rattle.json5_rows.specs.declared.hand_structs.Config.{Config}
@@ -19,7 +19,7 @@ letters =
 abbrev pub config : Plan (Option ℕ × Option (List ℕ)) (ℕ × List ℕ)
 config =
     and_field (required (codes "foo") (unsigned_below (2 ^ 32)))
-    (required (codes "bar") plain_of)
+    (required (codes "bar") escape_free_of)
 
 abbrev pub config_fields : Config → Fields
 config_fields c =

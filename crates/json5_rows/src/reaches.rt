@@ -135,12 +135,12 @@ const ESCAPES: &[(&str, &str)] = &[
 ];
 
 fn strings(alloc: Global, run: &Run, tally: &mut Tally) -> Result<()> {
-    plain_strings(alloc, run, tally)?;
+    escape_free_strings(alloc, run, tally)?;
     escaped_strings(alloc, run, tally)?;
     broken_strings(alloc, run, tally)
 }
 
-fn plain_strings(alloc: Global, run: &Run, tally: &mut Tally) -> Result<()> {
+fn escape_free_strings(alloc: Global, run: &Run, tally: &mut Tally) -> Result<()> {
     let Run { before, after, .. } = run;
     for mark in PLAIN {
         let content = format!(in alloc; "{before}{mark}{after}")?;
@@ -253,13 +253,13 @@ fn is_unended(alloc: Global, text: &str) -> bool {
 }
 
 fn names(alloc: Global, run: &Run, tally: &mut Tally) -> Result<()> {
-    plain_names(alloc, run, tally)?;
+    escape_free_names(alloc, run, tally)?;
     escaped_names(alloc, run, tally)?;
     broken_names(alloc, run, tally)
 }
 
 /// A name goes to the first character that can't be of one.
-fn plain_names(alloc: Global, run: &Run, tally: &mut Tally) -> Result<()> {
+fn escape_free_names(alloc: Global, run: &Run, tally: &mut Tally) -> Result<()> {
     let Run { before, after, .. } = run;
     for end in [
         ":",

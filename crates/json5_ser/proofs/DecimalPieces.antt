@@ -7,9 +7,9 @@ use Rattle.std.specs.Fmt.{sign_text}
 use Rattle.std.proofs.KnownBytes.{Appends-nil}
 use Rattle.std.proofs.lemmas.Str.{chars-IsAscii}
 use lib.Chars.{codes}
-use Rattle.json5_grammar.specs.Characters.{is_digit, Each, no_char, char}
-use Rattle.json5_grammar.specs.Numbers.{Decimal, infinite, nan, finite}
-use Rattle.json5_grammar.specs.NumberText.{zeros, pointed, digits_text, decimal_text, Normal}
+use Rattle.json5_grammar.specs.Language.Characters.{is_digit, Each, no_char, char}
+use Rattle.json5_grammar.specs.Language.Numbers.{Decimal, infinite, nan, finite}
+use Rattle.json5_grammar.specs.Written.NumberText.{zeros, pointed, digits_text, decimal_text, Normal}
 use Rattle.json5_text.specs.NumberPieces.{IsFront}
 use Rattle.json5_ser.specs.Out.{piece, ◌then◌}
 use Rattle.std.specs.Result.{IsErrAnd}
@@ -138,15 +138,15 @@ pub left_all : (d : Decimal) (o : SerializerState) (all : List ℕ) → Normal d
 left_all d o all n e = rw e (record { reaches = Reaches-none (piece (decimal_text d)) o; ascii = ascii_decimal d n; started = λ h. absurd (omega (arith, h)) })
 
 -- a piece that consists of its characters
-piece_plain : (rest p after : List ℕ) → is_spelled rest ≡ true → IsFront rest p after → chars p ≡ p
-piece_plain rest p after a f = ascii_chars p (ascii_front p after (subst (λ t. is_spelled t ≡ true) f.parts a))
+piece_escape_free : (rest p after : List ℕ) → is_spelled rest ≡ true → IsFront rest p after → chars p ≡ p
+piece_escape_free rest p after a f = ascii_chars p (ascii_front p after (subst (λ t. is_spelled t ≡ true) f.parts a))
 
 parted : (d : Decimal) (o m : SerializerState) (rest p after : List ℕ) → IsLeft d o m rest → IsFront rest p after → Reaches (piece (decimal_text d)) o m (piece p then piece after)
 parted d o m rest p after h f = subst (λ t. Reaches (piece (decimal_text d)) o m (piece t)) f.parts h.reaches
 
 pub left_next : (d : Decimal) (o m n : SerializerState) (rest p after : List ℕ) → IsLeft d o m rest → IsFront rest p after → Wrote (piece (chars p)) m n → IsLeft d o n after
 left_next d o m n rest p after h f w =
-    let wrote : Wrote (piece p) m n = subst (λ t. Wrote (piece t) m n) (piece_plain rest p after h.ascii f) w in
+    let wrote : Wrote (piece p) m n = subst (λ t. Wrote (piece t) m n) (piece_escape_free rest p after h.ascii f) w in
     record {
       reaches = Reaches-next (piece (decimal_text d)) (piece p) (piece after) o m n (parted d o m rest p after h f) wrote;
       ascii = ascii_back p after (subst (λ t. is_spelled t ≡ true) f.parts h.ascii);
@@ -155,7 +155,7 @@ left_next d o m n rest p after h f w =
 
 pub left_exit : {A : Type 0} (d : Decimal) (o m n : SerializerState) (rest p after : List ℕ) (e : Error) (r : Result A Error) → IsLeft d o m rest → IsFront rest p after → IsErrAnd r (λ y. y ≡ e) → Refuses (piece (chars p)) m e n → Writes (piece (decimal_text d)) o r n
 left_exit d o m n rest p after e r h f q w =
-    Reaches-exit (piece (decimal_text d)) (piece p) (piece after) o m n e r (parted d o m rest p after h f) q (subst (λ t. Refuses (piece t) m e n) (piece_plain rest p after h.ascii f) w)
+    Reaches-exit (piece (decimal_text d)) (piece p) (piece after) o m n e r (parted d o m rest p after h f) q (subst (λ t. Refuses (piece t) m e n) (piece_escape_free rest p after h.ascii f) w)
 
 pub left_none : (d : Decimal) (o m : SerializerState) (rest : List ℕ) → IsLeft d o m rest → rest ≡ [] → Wrote (piece (decimal_text d)) o m
 left_none d o m rest h e =

@@ -2,10 +2,10 @@
 use Rattle.std.proofs.Common.{◌≡◌, ◌≤◌, ◌<◌, ◌⊎◌, ◌↔◌, inl, inr, ℕ, ◌+◌, List, [], ◌∷◌, Bool, true, false, cond, nat_lt, refl, sym, ap, ◌∙◌, subst, arith}
 use Rattle.std.proofs.lemmas.Bool.Decides.{nat_tests}
 use Rattle.std.specs.Str.{chars}
-use Rattle.json5_grammar.specs.Characters.{left_bracket, left_brace}
+use Rattle.json5_grammar.specs.Language.Characters.{left_bracket, left_brace}
 use Rattle.json5_grammar.proofs.Basics.{lt_from}
-use Rattle.json5_grammar.specs.Trees.{depth, depths, pair_depths}
-use Rattle.json5_grammar.specs.Documents.{Doc}
+use Rattle.json5_grammar.specs.Language.Trees.{depth, depths, pair_depths}
+use Rattle.json5_grammar.specs.Language.Documents.{Doc}
 use Rattle.json5_grammar.proofs.ScalarsWritten.{alone}
 use Rattle.json5_ser.specs.WrittenTrees.{Written, null, boolean, number, text, array, object, Elements, no_element, element, Fields, no_field, field, named, bad}
 use Rattle.json5_ser.specs.Out.{Out, Stop, whole, invalid_key, too_deep, piece, stopped, after, ◌then◌, out, text_within, elements_out, fields_out, opening, closing, element_out, key_part, value_part}

@@ -6,18 +6,18 @@ use Rattle.std.proofs.lemmas.Bool.Decides.{nat_tests}
 use Rattle.std.proofs.lemmas.Str.{chars-nil, chars-encodes, chars-append, chars_past_char, IsUtf8-encode, IsCharBoundary-at_seam, length-encode, len_utf8_bounds, encodes-append, encodes-chars}
 use Rattle.std.specs.Prelude.{◌==◌, false}
 use Rattle.std.specs.List.{list_any}
-use Rattle.json5_grammar.specs.Quoting.{escaped, escaped_all, quoted_text}
-use Rattle.json5_grammar.specs.Strings.{is_quote}
+use Rattle.json5_grammar.specs.Written.Quoting.{escaped, escaped_all, quoted_text}
+use Rattle.json5_grammar.specs.Language.Strings.{is_quote}
 use Rattle.json5_text.specs.Escapes.{escape_of}
 use Rattle.json5_ser.specs.declared.quoting.Quote.{Quote}
 use Rattle.json5_ser.specs.declared.quoting.Quote.TheVariants as quote
 use Rattle.json5_ser.specs.Quotes.{delimiter}
 use Rattle.json5_ser.specs.Escaping.{StartsWithScalar, SplitsAtEscape, StandsBefore}
 use Rattle.json5_ser.proofs.Joins.{scalars-append}
-use Rattle.json5_grammar.specs.Characters.{Each, no_char, char}
+use Rattle.json5_grammar.specs.Language.Characters.{Each, no_char, char}
 use Rattle.json5_text.specs.Scan.{SkipsAll}
 use Rattle.json5_text.proofs.ScanBytes.{Halves, one_scalar, parts_scalar}
-use Rattle.json5_ser.specs.Plain.{is_unmarked, is_plain}
+use Rattle.json5_ser.specs.EscapeFree.{is_unmarked, is_escape_free}
 use Rattle.json5_ser.proofs.QuotesFound.{double_quotes}
 
 escaped-append : (q : ℕ) (s t : List ℕ) → escaped_all q (s ++ t) ≡ escaped_all q s ++ escaped_all q t
@@ -93,24 +93,24 @@ stands_all q t rest h e =
 
 -- ---- a run of characters that stand for themselves
 
-plain_escaped : (q : Quote) (c : ℕ) → is_plain c ≡ true → escaped (delimiter q) c ≡ c ∷ []
-plain_escaped quote.Single c h = grind (arith, nat_tests)
-plain_escaped quote.Double c h = grind (arith, nat_tests)
+escape_free_escaped : (q : Quote) (c : ℕ) → is_escape_free c ≡ true → escaped (delimiter q) c ≡ c ∷ []
+escape_free_escaped quote.Single c h = grind (arith, nat_tests)
+escape_free_escaped quote.Double c h = grind (arith, nat_tests)
 
-plain_all : (q : Quote) (s : List ℕ) → Each is_plain s → escaped_all (delimiter q) s ≡ s
-plain_all q [] no_char = refl
-plain_all q (c ∷ s) (char h e) = ap (λ l. l ++ escaped_all (delimiter q) s) (plain_escaped q c h) ∙ ap (λ l. c ∷ l) (plain_all q s e)
+escape_free_all : (q : Quote) (s : List ℕ) → Each is_escape_free s → escaped_all (delimiter q) s ≡ s
+escape_free_all q [] no_char = refl
+escape_free_all q (c ∷ s) (char h e) = ap (λ l. l ++ escaped_all (delimiter q) s) (escape_free_escaped q c h) ∙ ap (λ l. c ∷ l) (escape_free_all q s e)
 
-run_bytes : (rest after : List ℕ) → IsUtf8 rest → IsUtf8 after → (s : SkipsAll is_plain rest after) → rest ≡ encode_utf8_all s.passed ++ after
+run_bytes : (rest after : List ℕ) → IsUtf8 rest → IsUtf8 after → (s : SkipsAll is_escape_free rest after) → rest ≡ encode_utf8_all s.passed ++ after
 run_bytes rest after u v s =
     sym (encodes-chars rest u) ∙ ap encode_utf8_all s.split ∙ encodes-append s.passed (chars after) ∙ ap (λ l. encode_utf8_all s.passed ++ l) (encodes-chars after v)
 
-pub run_shorter : (rest after : List ℕ) → IsUtf8 rest → IsUtf8 after → SkipsAll is_plain rest after → length after ≤ length rest
+pub run_shorter : (rest after : List ℕ) → IsUtf8 rest → IsUtf8 after → SkipsAll is_escape_free rest after → length after ≤ length rest
 run_shorter rest after u v s =
     let e : length rest ≡ length (encode_utf8_all s.passed) + length after = ap length (run_bytes rest after u v s) ∙ length-append (encode_utf8_all s.passed) after in
     omega arith
 
-pub stands_run : (q : Quote) (t rest after : List ℕ) → StandsBefore (delimiter q) t rest → IsUtf8 after → SkipsAll is_plain rest after → StandsBefore (delimiter q) t after
+pub stands_run : (q : Quote) (t rest after : List ℕ) → StandsBefore (delimiter q) t rest → IsUtf8 after → SkipsAll is_escape_free rest after → StandsBefore (delimiter q) t after
 stands_run q t rest after h v s =
     let halves : Halves rest s.passed (chars after) = record { is_text = h.utf8; split = s.split } in
     record {
@@ -118,7 +118,7 @@ stands_run q t rest after h v s =
       scalars = scalars-append h.before s.passed h.scalars (parts_scalar halves).0;
       bytes = h.bytes ∙ (ap (λ l. encode_utf8_all h.before ++ l) (run_bytes rest after h.utf8 v s) ∙ (sym (append_assoc (encode_utf8_all h.before) (encode_utf8_all s.passed) after)
           ∙ ap (λ l. l ++ after) (sym (encodes-append h.before s.passed))));
-      same = escaped-append (delimiter q) h.before s.passed ∙ (ap (λ l. l ++ escaped_all (delimiter q) s.passed) h.same ∙ ap (λ l. h.before ++ l) (plain_all q s.passed s.each));
+      same = escaped-append (delimiter q) h.before s.passed ∙ (ap (λ l. l ++ escaped_all (delimiter q) s.passed) h.same ∙ ap (λ l. h.before ++ l) (escape_free_all q s.passed s.each));
       utf8 = v;
     }
 
@@ -127,13 +127,13 @@ stands_first q t u = record { before = []; scalars = refl; bytes = refl; same = 
 
 -- ---- a text of such characters alone
 
-differs : (q c : ℕ) → is_unmarked q ≡ false → is_plain c ≡ true → (c == q) ≡ false
+differs : (q c : ℕ) → is_unmarked q ≡ false → is_escape_free c ≡ true → (c == q) ≡ false
 differs q c n h = grind (arith, nat_tests)
 
-no_quote : (q : ℕ) (s : List ℕ) → is_unmarked q ≡ false → Each is_plain s → list_any (λ c. c == q) s ≡ false
+no_quote : (q : ℕ) (s : List ℕ) → is_unmarked q ≡ false → Each is_escape_free s → list_any (λ c. c == q) s ≡ false
 no_quote q [] n no_char = refl
 no_quote q (c ∷ s) n (char h e) = let k : (c == q) ≡ false = differs q c n h in rw k (no_quote q s n e)
 
-pub quoted_plain : (u : List ℕ) → Each is_plain u → quoted_text u ≡ 34 ∷ u ++ 34 ∷ []
-quoted_plain u e =
-    ap (λ q. q ∷ escaped_all q u ++ q ∷ []) (sym (double_quotes u (no_quote 34 u refl e))) ∙ ap (λ l. 34 ∷ l ++ 34 ∷ []) (plain_all quote.Double u e)
+pub quoted_escape_free : (u : List ℕ) → Each is_escape_free u → quoted_text u ≡ 34 ∷ u ++ 34 ∷ []
+quoted_escape_free u e =
+    ap (λ q. q ∷ escaped_all q u ++ q ∷ []) (sym (double_quotes u (no_quote 34 u refl e))) ∙ ap (λ l. 34 ∷ l ++ 34 ∷ []) (escape_free_all quote.Double u e)

@@ -13,8 +13,8 @@ use Rattle.ucd_table.specs.Rows.{value_in}
 use Rattle.ucd_category.specs.GeneralCategoryRows.{general_category_rows}
 use Rattle.hex.specs.Hex.{IsBytes, encode_with, encode_lower, lower_digits}
 use Rattle.hex.proofs.HexLemmas.{IsAscii-encode_with}
-use Rattle.json5_grammar.specs.Characters.{is_identifier_start, is_identifier_part}
-use Rattle.json5_grammar.specs.Quoting.{quoted_text, is_name}
+use Rattle.json5_grammar.specs.Language.Characters.{is_identifier_start, is_identifier_part}
+use Rattle.json5_grammar.specs.Written.Quoting.{quoted_text, is_name}
 use Rattle.json5_text.specs.declared.error.Error.{Error}
 use Rattle.json5_ser.specs.Out.{Out, piece, ◌then◌}
 use Rattle.json5_ser.specs.Writes.{SerializerState, Wrote, Refuses, Writes}

@@ -3,7 +3,7 @@ pub mod PiecesWritten
 pub mod TextsWhole
 pub mod QuotesFound
 pub mod EscapesSplit
-pub mod PlainRuns
+pub mod EscapeFreeRuns
 pub mod DecimalPieces
 pub mod Unmarked
 pub mod ReadBack

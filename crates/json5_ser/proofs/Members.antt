@@ -4,7 +4,7 @@ use Rattle.std.specs.Prelude.{⊤}
 use Rattle.std.specs.Result.{IsErrAnd}
 use Rattle.std.specs.Borrow.{GName, MutBor}
 use Rattle.json5_text.specs.declared.error.Error.{Error}
-use Rattle.json5_grammar.specs.Characters.{comma_sign, colon_sign, space, left_bracket, right_bracket, left_brace, right_brace}
+use Rattle.json5_grammar.specs.Language.Characters.{comma_sign, colon_sign, space, left_bracket, right_bracket, left_brace, right_brace}
 use Rattle.json5_ser.specs.WrittenTrees.{Written, array, object, tuple_variant, struct_variant, Elements, no_element, element, elements_of, Fields, no_field, field, fields_of, Key, named}
 use Rattle.json5_ser.specs.Out.{Out, piece, ◌then◌, opening, closing, out, elements_out, fields_out, element_out, key_part, value_part, entry_out, variant_opening}
 use Rattle.json5_ser.specs.Writes.{SerializerState, Refuses, Writes, WritesTree}

@@ -6,12 +6,12 @@ use Rattle.std.proofs.lemmas.Bool.{and_parts}
 use Rattle.std.proofs.lemmas.Bool.Decides.{nat_tests}
 use Rattle.std.specs.Str.{chars, IsUtf8}
 use Rattle.std.proofs.lemmas.Str.{chars-nil, chars_past_char}
-use Rattle.json5_grammar.specs.Characters.{is_identifier_start, is_identifier_part, Each, no_char, char}
-use Rattle.json5_grammar.specs.ReadNumbers.{rest_of}
+use Rattle.json5_grammar.specs.Language.Characters.{is_identifier_start, is_identifier_part, Each, no_char, char}
+use Rattle.json5_grammar.specs.Model.ReadNumbers.{rest_of}
 use Rattle.json5_grammar.proofs.NumberTests.{front_each}
 use Rattle.json5_text.proofs.NumberRuns.{PassesAscii, chars_split, rest_cut}
 use Rattle.json5_ser.specs.NameBytes.{is_name_byte}
-use Rattle.json5_grammar.specs.Quoting.{is_name}
+use Rattle.json5_grammar.specs.Written.Quoting.{is_name}
 use Rattle.json5_ser.specs.Escaping.{StartsWithScalar}
 
 -- the characters begin with c

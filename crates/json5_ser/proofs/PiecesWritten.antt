@@ -3,8 +3,8 @@ use Rattle.std.proofs.Common.{◌≡◌, ℕ, List, [], ◌∷◌, ◌++◌, tru
 use Rattle.std.specs.Str.{IsUtf8, IsAscii, chars}
 use Rattle.std.proofs.lemmas.Str.{encodes-chars, scalars-chars, chars-IsAscii}
 use Rattle.std.specs.Io.KnownBytes.{Appends}
-use Rattle.json5_grammar.specs.Values.{null_text, true_text, false_text}
-use Rattle.json5_grammar.specs.Quoting.{quote_for, escaped_all, quoted_text}
+use Rattle.json5_grammar.specs.Language.Values.{null_text, true_text, false_text}
+use Rattle.json5_grammar.specs.Written.Quoting.{quote_for, escaped_all, quoted_text}
 use Rattle.json5_ser.specs.Out.{piece, ◌then◌}
 use Rattle.json5_ser.specs.Pieces.{AppendsFront}
 use Rattle.json5_ser.specs.Writes.{SerializerState, Wrote, Broke}

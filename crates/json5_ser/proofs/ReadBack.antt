@@ -1,15 +1,15 @@
 -- What is written whole is a value of the grammar, whose tree is the marked one.
 use Rattle.std.proofs.Common.{◌≡◌, ℕ, ◌+◌, ◌*◌, zero, suc, List, [], ◌∷◌, ◌++◌, Bool, true, false, cond, ◌||◌, replicate, nat_lt, refl, sym, ap, ◌∙◌, subst, append_assoc, append-nil}
-use Rattle.json5_grammar.specs.Blanks.{Blanks, empty, blank}
-use Rattle.json5_grammar.specs.Quoting.{quoted_text, is_name, key_text}
-use Rattle.json5_grammar.specs.Trees as marked
-use Rattle.json5_grammar.specs.Trees.{Tree, Trees, Pairs, no_more, more, no_pair, pair}
-use Rattle.json5_grammar.specs.Values.{Val, is_null, is_true, is_false, is_empty_array, is_array, is_empty_object, is_object, ElementList, last, next, MemberList, last_pair, next_pair, Member, entry, KeyText, string_key, name_key, last_comma}
+use Rattle.json5_grammar.specs.Language.Blanks.{Blanks, empty, blank}
+use Rattle.json5_grammar.specs.Written.Quoting.{quoted_text, is_name, key_text}
+use Rattle.json5_grammar.specs.Language.Trees as marked
+use Rattle.json5_grammar.specs.Language.Trees.{Tree, Trees, Pairs, no_more, more, no_pair, pair}
+use Rattle.json5_grammar.specs.Language.Values.{Val, is_null, is_true, is_false, is_empty_array, is_array, is_empty_object, is_object, ElementList, last, next, MemberList, last_pair, next_pair, Member, entry, KeyText, string_key, name_key, last_comma}
 use Rattle.json5_grammar.proofs.ScalarsWritten.{number_value, text_value}
 use Rattle.json5_grammar.proofs.TextsWritten.{quoted_is, name_is}
 use Rattle.json5_ser.specs.WrittenTrees.{Written, null, boolean, number, text, array, object, Elements, no_element, element, Fields, no_field, field, named, bad}
 use Rattle.json5_ser.specs.Out.{Out, whole, invalid_key, piece, stopped, too_deep, ◌then◌, line, out, elements_out, fields_out, opening, element_out, key_part, value_part}
-use Rattle.json5_ser.specs.Marks.{marks, element_marks, field_marks, unmarked, is_plain, is_plain_key}
+use Rattle.json5_ser.specs.Marks.{marks, element_marks, field_marks, unmarked, is_escape_free, is_escape_free_key}
 use Rattle.json5_ser.proofs.Writables.{number_piece, number_whole}
 use Rattle.json5_ser.proofs.Unmarked.{parts, tree_again}
 use Rattle.json5_grammar.proofs.Unique.{one_front}
@@ -69,25 +69,25 @@ next_member l o r t ts b v h = record {
   members = next b v empty h.members;
 }
 
-last_entry : (p w u : List ℕ) (plain : Bool) (t : Tree) → Member p u plain t → Blanks w → HasEntries ((p ++ 44 ∷ []) ++ (w ++ 125 ∷ [])) (pair u plain t no_pair)
-last_entry p w u plain t e c = record { inside = p ++ 44 ∷ w; split = shift p _ w 125 refl; entries = last_pair e (last_comma c) }
+last_entry : (p w u : List ℕ) (escape_free : Bool) (t : Tree) → Member p u escape_free t → Blanks w → HasEntries ((p ++ 44 ∷ []) ++ (w ++ 125 ∷ [])) (pair u escape_free t no_pair)
+last_entry p w u escape_free t e c = record { inside = p ++ 44 ∷ w; split = shift p _ w 125 refl; entries = last_pair e (last_comma c) }
 
-next_entry : (p r u : List ℕ) (plain : Bool) (t : Tree) (ps : Pairs) → Member p u plain t → HasEntries r ps → HasEntries ((p ++ 44 ∷ []) ++ r) (pair u plain t ps)
-next_entry p r u plain t ps e h = record { inside = p ++ 44 ∷ h.inside; split = shift p r h.inside 125 h.split; entries = next_pair e h.entries }
+next_entry : (p r u : List ℕ) (escape_free : Bool) (t : Tree) (ps : Pairs) → Member p u escape_free t → HasEntries r ps → HasEntries ((p ++ 44 ∷ []) ++ r) (pair u escape_free t ps)
+next_entry p r u escape_free t ps e h = record { inside = p ++ 44 ∷ h.inside; split = shift p r h.inside 125 h.split; entries = next_pair e h.entries }
 
 -- a key as it is written
-key_by : (u : List ℕ) (b : Bool) → is_name u ≡ b → KeyText (cond b u (quoted_text u)) u (b || is_plain u)
+key_by : (u : List ℕ) (b : Bool) → is_name u ≡ b → KeyText (cond b u (quoted_text u)) u (b || is_escape_free u)
 key_by u true h = name_key (name_is u h)
 key_by u false h = string_key (quoted_is u)
 
-pub written_key : (u : List ℕ) → KeyText (key_text u) u (is_plain_key u)
+pub written_key : (u : List ℕ) → KeyText (key_text u) u (is_escape_free_key u)
 written_key u = key_by u (is_name u) refl
 
 -- a field without its comma
 abbrev entry_text : ℕ → List ℕ → List ℕ → List ℕ
 entry_text d u o = line d ++ (key_text u ++ 58 ∷ 32 ∷ (o ++ []))
 
-written_entry : (d : ℕ) (u o : List ℕ) (t : Tree) → Val o t → Member (entry_text d u o) u (is_plain_key u) t
+written_entry : (d : ℕ) (u o : List ℕ) (t : Tree) → Val o t → Member (entry_text d u o) u (is_escape_free_key u) t
 written_entry d u o t v = entry (line_blanks d) (written_key u) empty (blank refl empty) v empty
 
 -- a field with its comma
@@ -135,7 +135,7 @@ mutual
   read_back limit (object (field (named u) t fs)) d h =
       let p = parts (opening limit d 123) (fields_out limit (field (named u) t fs) d false) h in
       let e = first_field (d + 1) u (out limit t (d + 1)) (fields_out limit fs d true) p.second in
-      let m = fields_read limit fs d _ u (is_plain_key u) (marks t) (written_entry (d + 1) u _ (marks t) (read_back limit t (d + 1) e.value)) e.others in
+      let m = fields_read limit fs d _ u (is_escape_free_key u) (marks t) (written_entry (d + 1) u _ (marks t) (read_back limit t (d + 1) e.value)) e.others in
       subst (λ l. Val l (marks (object (field (named u) t fs)))) (sym (opened limit d 123 (fields_out limit (field (named u) t fs) d false) h ∙ ap (λ l. 123 ∷ l) e.text)) (object_value _ _ m)
   read_back limit (object (field bad t fs)) d h =
       let p = parts (opening limit d 123) (fields_out limit (field bad t fs) d false) h in
@@ -149,13 +149,13 @@ mutual
       let m = elements_read limit us d (out limit u (d + 1)).text (marks u) (read_back limit u (d + 1) e.first) e.others in
       next_member (line (d + 1)) o _ t _ (line_blanks (d + 1)) v (subst (λ l. HasMembers l (element_marks (element u us))) (sym e.text) m)
 
-  fields_read : (limit : ℕ) (fs : Fields) (d : ℕ) (p u : List ℕ) (plain : Bool) (t : Tree) → Member p u plain t → (fields_out limit fs d true).stop ≡ whole → HasEntries ((p ++ 44 ∷ []) ++ (fields_out limit fs d true).text) (pair u plain t (field_marks fs))
-  fields_read limit no_field d p u plain t v h = last_entry p (line d) u plain t v (line_blanks d)
-  fields_read limit (field (named k) s fs) d p u plain t v h =
+  fields_read : (limit : ℕ) (fs : Fields) (d : ℕ) (p u : List ℕ) (escape_free : Bool) (t : Tree) → Member p u escape_free t → (fields_out limit fs d true).stop ≡ whole → HasEntries ((p ++ 44 ∷ []) ++ (fields_out limit fs d true).text) (pair u escape_free t (field_marks fs))
+  fields_read limit no_field d p u escape_free t v h = last_entry p (line d) u escape_free t v (line_blanks d)
+  fields_read limit (field (named k) s fs) d p u escape_free t v h =
       let e = first_field (d + 1) k (out limit s (d + 1)) (fields_out limit fs d true) h in
-      let m = fields_read limit fs d _ k (is_plain_key k) (marks s) (written_entry (d + 1) k _ (marks s) (read_back limit s (d + 1) e.value)) e.others in
-      next_entry p _ u plain t _ v (subst (λ l. HasEntries l (field_marks (field (named k) s fs))) (sym e.text) m)
-  fields_read limit (field bad s fs) d p u plain t v h = absurd (let f : invalid_key ≡ whole = h in cc)
+      let m = fields_read limit fs d _ k (is_escape_free_key k) (marks s) (written_entry (d + 1) k _ (marks s) (read_back limit s (d + 1) e.value)) e.others in
+      next_entry p _ u escape_free t _ v (subst (λ l. HasEntries l (field_marks (field (named k) s fs))) (sym e.text) m)
+  fields_read limit (field bad s fs) d p u escape_free t v h = absurd (let f : invalid_key ≡ whole = h in cc)
 
 -- ---- whole texts
 

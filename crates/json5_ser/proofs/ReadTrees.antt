@@ -1,10 +1,10 @@
 -- A tree that was read can be written.
 use Rattle.std.proofs.Common.{◌≡◌, ℕ, suc, Bool, List, refl, ap, arith}
-use Rattle.json5_grammar.specs.Numbers.{Number, Num, whole, decimal}
-use Rattle.json5_grammar.specs.NumberText.{IsNumber}
-use Rattle.json5_grammar.specs.Trees.{Tree, Trees, Pairs, null, boolean, number, text, array, object, no_more, more, no_pair, pair, depth, depths, pair_depths}
-use Rattle.json5_grammar.specs.Values.{Val, is_null, is_true, is_false, is_number, is_text, is_empty_array, is_array, is_empty_object, is_object, ElementList, last, next, MemberList, last_pair, next_pair, Member, entry}
-use Rattle.json5_grammar.specs.Documents.{Doc}
+use Rattle.json5_grammar.specs.Language.Numbers.{Number, Num, whole, decimal}
+use Rattle.json5_grammar.specs.Written.NumberText.{IsNumber}
+use Rattle.json5_grammar.specs.Language.Trees.{Tree, Trees, Pairs, null, boolean, number, text, array, object, no_more, more, no_pair, pair, depth, depths, pair_depths}
+use Rattle.json5_grammar.specs.Language.Values.{Val, is_null, is_true, is_false, is_number, is_text, is_empty_array, is_array, is_empty_object, is_object, ElementList, last, next, MemberList, last_pair, next_pair, Member, entry}
+use Rattle.json5_grammar.specs.Language.Documents.{Doc}
 use Rattle.json5_grammar.proofs.NormalForms.{num_normal}
 use Rattle.json5_ser.specs.Out as written
 use Rattle.json5_ser.specs.Out.{out}
@@ -35,7 +35,7 @@ mutual
   entries_spelled (last_pair e c) = (entry_spelled e, tt)
   entries_spelled (next_pair e m) = (entry_spelled e, entries_spelled m)
 
-  entry_spelled : {s u : List ℕ} {plain : Bool} {t : Tree} → Member s u plain t → IsSpelled (unmarked t)
+  entry_spelled : {s u : List ℕ} {escape_free : Bool} {t : Tree} → Member s u escape_free t → IsSpelled (unmarked t)
   entry_spelled (entry a k b w v c) = value_spelled v
 
 mutual
@@ -43,7 +43,7 @@ mutual
   same_depth null = refl
   same_depth (boolean b) = refl
   same_depth (number n) = refl
-  same_depth (text u plain) = refl
+  same_depth (text u escape_free) = refl
   same_depth (array ts) = ap suc (same_depths ts)
   same_depth (object ps) = ap suc (same_pair_depths ps)
 
@@ -53,7 +53,7 @@ mutual
 
   same_pair_depths : (ps : Pairs) → pair_depths (field_marks (unmarked_fields ps)) ≡ pair_depths ps
   same_pair_depths no_pair = refl
-  same_pair_depths (pair u plain t ps) = rw (same_depth t, same_pair_depths ps) refl
+  same_pair_depths (pair u escape_free t ps) = rw (same_depth t, same_pair_depths ps) refl
 
 pub read_written : (limit : ℕ) (x : List ℕ) (t : Tree) → Doc limit x t → (out limit (unmarked t) 0).stop ≡ written.whole
 read_written limit x t d = whole_from limit (unmarked t) 0 (value_spelled d.value) (let same = same_depth t in let l = d.shallow in omega (arith, same, l))

@@ -4,7 +4,7 @@ use Rattle.std.specs.Prelude.{⊤}
 use Rattle.std.specs.Result.{IsErrAnd}
 use Rattle.std.specs.Borrow.{GName, MutBor}
 use Rattle.json5_text.specs.declared.error.Error.{Error}
-use Rattle.json5_grammar.specs.Characters.{comma_sign, right_bracket, right_brace}
+use Rattle.json5_grammar.specs.Language.Characters.{comma_sign, right_bracket, right_brace}
 use Rattle.json5_ser.specs.WrittenTrees.{Written, Elements, Fields}
 use Rattle.json5_ser.specs.Out.{Out, Stop, whole, invalid_key, too_deep, no_number, after, piece, ◌then◌, closing, out, elements_out, fields_out, value_part}
 use Rattle.json5_ser.specs.Writes.{SerializerState, Wrote, Refusal, by_key, by_depth, by_writer, by_refusal, by_none, refusal_of, RefusesBy, Refuses, Writes, WritesTree, at_depth}

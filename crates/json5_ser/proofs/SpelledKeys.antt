@@ -9,10 +9,10 @@ use Rattle.ucd_category.specs.GeneralCategory.{general_category}
 use Rattle.ucd_table.specs.Rows.{value_in}
 use Rattle.ucd_category.specs.GeneralCategoryRows.{general_category_rows}
 use lib.Chars.{codes}
-use Rattle.json5_grammar.specs.Characters.{is_digit, is_identifier_start, is_identifier_part, Each, char}
-use Rattle.json5_grammar.specs.Numbers.{Decimal, infinite, nan, finite}
-use Rattle.json5_grammar.specs.NumberText.{zeros, digits_text, decimal_text, Normal}
-use Rattle.json5_grammar.specs.Quoting.{escaped, escaped_all, quote_for, quoted_text, is_name, key_text}
+use Rattle.json5_grammar.specs.Language.Characters.{is_digit, is_identifier_start, is_identifier_part, Each, char}
+use Rattle.json5_grammar.specs.Language.Numbers.{Decimal, infinite, nan, finite}
+use Rattle.json5_grammar.specs.Written.NumberText.{zeros, digits_text, decimal_text, Normal}
+use Rattle.json5_grammar.specs.Written.Quoting.{escaped, escaped_all, quote_for, quoted_text, is_name, key_text}
 use Rattle.json5_text.specs.NumberDecimals.{is_minus, is_infinity, is_not_a_number}
 use Rattle.json5_ser.proofs.DecimalPieces.{is_spelling, is_spelled, ascii_decimal}
 

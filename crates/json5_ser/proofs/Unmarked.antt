@@ -1,6 +1,6 @@
 -- A whole tree is itself again once its marks are gone.
 use Rattle.std.proofs.Common.{◌≡◌, ℕ, ◌+◌, List, [], ◌∷◌, ◌++◌, Bool, true, false, refl, ap, ◌∙◌}
-use Rattle.json5_grammar.specs.Characters.{left_bracket, left_brace}
+use Rattle.json5_grammar.specs.Language.Characters.{left_bracket, left_brace}
 use Rattle.json5_ser.specs.WrittenTrees.{Written, null, boolean, number, text, array, object, Elements, no_element, element, Fields, no_field, field, named, bad}
 use Rattle.json5_ser.specs.Out.{Out, Stop, whole, invalid_key, too_deep, no_number, piece, after, ◌then◌, out, elements_out, fields_out, opening, element_out, key_part, value_part}
 use Rattle.json5_ser.specs.Marks.{marks, element_marks, field_marks, unmarked, unmarked_elements, unmarked_fields}

@@ -2,7 +2,7 @@
 use Rattle.std.proofs.Common.{◌≡◌, ℕ, ◌+◌, List, [], ◌∷◌, Result, refl, ◌∙◌, subst}
 use Rattle.std.specs.Result.{IsErrAnd}
 use Rattle.json5_text.specs.declared.error.Error.{Error}
-use Rattle.json5_grammar.specs.Characters.{colon_sign, space, left_brace}
+use Rattle.json5_grammar.specs.Language.Characters.{colon_sign, space, left_brace}
 use Rattle.json5_ser.specs.WrittenTrees.{named}
 use Rattle.json5_ser.specs.Out.{piece, ◌then◌, opening, key_part, variant_opening}
 use Rattle.json5_ser.specs.Writes.{SerializerState, Wrote, Refuses, Writes, at_depth}

@@ -7,9 +7,9 @@ use Rattle.std.specs.Cmp.{signed_Decides}
 use Rattle.std.specs.Cmp.Lexicographic.{bytes_decides}
 use Rattle.std.proofs.lemmas.Int.{ints}
 use lib.Signed.{le_z, mag}
-use Rattle.json5_grammar.specs.Characters.{is_digit, Each, no_char, char}
-use Rattle.json5_grammar.specs.Numbers.{Number, infinite, nan, finite, whole, decimal, without_zeros, is_empty, InWhole}
-use Rattle.json5_grammar.specs.NumberText.{IsNumber, IsNormal, number_text}
+use Rattle.json5_grammar.specs.Language.Characters.{is_digit, Each, no_char, char}
+use Rattle.json5_grammar.specs.Language.Numbers.{Number, infinite, nan, finite, whole, decimal, without_zeros, is_empty, InWhole}
+use Rattle.json5_grammar.specs.Written.NumberText.{IsNumber, IsNormal, number_text}
 use Rattle.json5_text.specs.declared.error.Error.{Error}
 use Rattle.json5_ser.specs.Writable.{is_within, is_normal, is_writable}
 use Rattle.json5_ser.specs.Out.{Out, whole as ended_whole, no_number, piece, stopped, number_out}

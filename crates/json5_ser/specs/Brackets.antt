@@ -1,6 +1,6 @@
 -- The brackets as characters.
 use Rattle.std.specs.Prelude.{ℕ, Bool, true, false}
-use Rattle.json5_grammar.specs.Characters.{left_bracket, right_bracket, left_brace, right_brace}
+use Rattle.json5_grammar.specs.Language.Characters.{left_bracket, right_bracket, left_brace, right_brace}
 use Rattle.json5_ser.specs.declared.brackets.Brackets.{Brackets}
 use Rattle.json5_ser.specs.declared.brackets.Brackets.TheVariants as brackets
 

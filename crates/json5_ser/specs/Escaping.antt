@@ -2,7 +2,7 @@
 use Rattle.std.specs.Prelude.{◌≡◌, ◌<◌, ℕ, List, ◌++◌, true, length}
 use Rattle.std.specs.Char.{encode_utf8, IsScalar}
 use Rattle.std.specs.Str.{chars, encode_utf8_all, all_scalars, IsUtf8}
-use Rattle.json5_grammar.specs.Quoting.{escaped_all}
+use Rattle.json5_grammar.specs.Written.Quoting.{escaped_all}
 
 -- the bytes begin with the character c, and rest follows it
 pub record StartsWithScalar (t : List ℕ) (c : ℕ) (rest : List ℕ) : Type 0 where

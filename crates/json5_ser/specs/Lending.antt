@@ -2,7 +2,7 @@
 use Rattle.std.specs.Prelude.{◌≡◌, ℕ, ◌+◌, ◌-◌, List, [], ◌∷◌, Bool, true, false, Result, OnOk, OnErr, IfErr, MatchResult, ⊤}
 use Rattle.std.specs.Borrow.{Fml, GName, RattleType, MutBor, RestsIfErr}
 use Rattle.std.specs.declared.io.Write as write
-use Rattle.json5_grammar.specs.Characters.{comma_sign, left_bracket, left_brace, right_brace}
+use Rattle.json5_grammar.specs.Language.Characters.{comma_sign, left_bracket, left_brace, right_brace}
 use Rattle.json5_text.specs.declared.error.Error.{Error}
 use Rattle.json5_ser.specs.Out.{Out, piece, ◌then◌, opening, closing, variant_opening}
 use Rattle.json5_ser.specs.Writes.{SerializerState, Wrote, Refuses, Writes, at_depth}

@@ -13,6 +13,6 @@ pub mod Lending
 pub mod Keys
 pub mod Waiting
 pub mod Escaping
-pub mod Plain
+pub mod EscapeFree
 pub mod NameBytes
 pub mod ValueTrees

@@ -1,20 +1,20 @@
--- Which texts of a written tree are plain, and the tree without these marks.
+-- Which texts of a written tree are escape-free, and the tree without these marks.
 use Rattle.std.specs.Prelude.{ℕ, List, Bool, ◌||◌, not, ⊤}
-use Rattle.json5_grammar.specs.Strings.{holds_backslash}
-use Rattle.json5_grammar.specs.NumberText.{IsNumber}
-use Rattle.json5_grammar.specs.Quoting.{quoted_text, is_name}
-use Rattle.json5_grammar.specs.Trees as marked
-use Rattle.json5_grammar.specs.Trees.{Tree, Trees, Pairs, no_more, more, no_pair, pair}
+use Rattle.json5_grammar.specs.Language.Strings.{holds_backslash}
+use Rattle.json5_grammar.specs.Written.NumberText.{IsNumber}
+use Rattle.json5_grammar.specs.Written.Quoting.{quoted_text, is_name}
+use Rattle.json5_grammar.specs.Language.Trees as marked
+use Rattle.json5_grammar.specs.Language.Trees.{Tree, Trees, Pairs, no_more, more, no_pair, pair}
 use Rattle.json5_ser.specs.WrittenTrees as written
 use Rattle.json5_ser.specs.WrittenTrees.{Written, Elements, no_element, element, Fields, no_field, field, named, bad}
 
 -- the written text holds no backslash
-abbrev pub is_plain : List ℕ → Bool
-is_plain u = not (holds_backslash (quoted_text u))
+abbrev pub is_escape_free : List ℕ → Bool
+is_escape_free u = not (holds_backslash (quoted_text u))
 
 -- the key is written bare, or its text holds no backslash
-abbrev pub is_plain_key : List ℕ → Bool
-is_plain_key u = is_name u || is_plain u
+abbrev pub is_escape_free_key : List ℕ → Bool
+is_escape_free_key u = is_name u || is_escape_free u
 
 -- of a tree without a bad key
 abbrev mutual
@@ -22,7 +22,7 @@ abbrev mutual
   marks written.null = marked.null
   marks (written.boolean b) = marked.boolean b
   marks (written.number n) = marked.number n
-  marks (written.text u) = marked.text u (is_plain u)
+  marks (written.text u) = marked.text u (is_escape_free u)
   marks (written.array ts) = marked.array (element_marks ts)
   marks (written.object fs) = marked.object (field_marks fs)
 
@@ -32,7 +32,7 @@ abbrev mutual
 
   pub field_marks : Fields → Pairs
   field_marks no_field = no_pair
-  field_marks (field (named u) t fs) = pair u (is_plain_key u) (marks t) (field_marks fs)
+  field_marks (field (named u) t fs) = pair u (is_escape_free_key u) (marks t) (field_marks fs)
   field_marks (field bad t fs) = field_marks fs
 
 abbrev mutual
@@ -40,7 +40,7 @@ abbrev mutual
   unmarked marked.null = written.null
   unmarked (marked.boolean b) = written.boolean b
   unmarked (marked.number n) = written.number n
-  unmarked (marked.text u plain) = written.text u
+  unmarked (marked.text u escape_free) = written.text u
   unmarked (marked.array ts) = written.array (unmarked_elements ts)
   unmarked (marked.object ps) = written.object (unmarked_fields ps)
 
@@ -50,7 +50,7 @@ abbrev mutual
 
   pub unmarked_fields : Pairs → Fields
   unmarked_fields no_pair = no_field
-  unmarked_fields (pair u plain t ps) = field (named u) (unmarked t) (unmarked_fields ps)
+  unmarked_fields (pair u escape_free t ps) = field (named u) (unmarked t) (unmarked_fields ps)
 
 -- each number has a text, and each key is one
 abbrev mutual

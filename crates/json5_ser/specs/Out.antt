@@ -1,12 +1,12 @@
 -- The written text of a tree, and where it stops.
 -- Each member of a collection stands on a line of its own, two spaces a level, and a comma follows it.
 use Rattle.std.specs.Prelude.{ℕ, ◌+◌, ◌*◌, List, [], ◌∷◌, ◌++◌, Bool, true, false, replicate, nat_lt, cond}
-use Rattle.json5_grammar.specs.Characters.{line_feed, space, comma_sign, colon_sign, left_bracket, right_bracket, left_brace, right_brace}
-use Rattle.json5_grammar.specs.Numbers.{Number}
-use Rattle.json5_grammar.specs.NumberText.{number_text}
-use Rattle.json5_grammar.specs.Quoting.{quoted_text, key_text}
-use Rattle.json5_grammar.specs.Documents.{max_depth}
-use Rattle.json5_grammar.specs.Values.{null_text, true_text, false_text}
+use Rattle.json5_grammar.specs.Language.Characters.{line_feed, space, comma_sign, colon_sign, left_bracket, right_bracket, left_brace, right_brace}
+use Rattle.json5_grammar.specs.Language.Numbers.{Number}
+use Rattle.json5_grammar.specs.Written.NumberText.{number_text}
+use Rattle.json5_grammar.specs.Written.Quoting.{quoted_text, key_text}
+use Rattle.json5_grammar.specs.Language.Documents.{max_depth}
+use Rattle.json5_grammar.specs.Language.Values.{null_text, true_text, false_text}
 use Rattle.json5_ser.specs.Writable.{is_writable}
 use Rattle.json5_ser.specs.WrittenTrees as written
 use Rattle.json5_ser.specs.WrittenTrees.{Key, named, bad, Written, Elements, no_element, element, Fields, no_field, field}

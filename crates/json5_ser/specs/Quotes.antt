@@ -1,6 +1,6 @@
 -- The quotes as characters.
 use Rattle.std.specs.Prelude.{ℕ}
-use Rattle.json5_grammar.specs.Characters.{double_quote, single_quote}
+use Rattle.json5_grammar.specs.Language.Characters.{double_quote, single_quote}
 use Rattle.json5_ser.specs.declared.quoting.Quote.{Quote}
 use Rattle.json5_ser.specs.declared.quoting.Quote.TheVariants as quote
 

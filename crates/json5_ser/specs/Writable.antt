@@ -4,8 +4,8 @@ use Rattle.std.specs.List.{list_all}
 use Rattle.std.specs.Ordering.{int_eq}
 use Rattle.std.specs.Cmp.Lexicographic.{pointwise}
 use lib.Signed.{le_z}
-use Rattle.json5_grammar.specs.Characters.{is_digit}
-use Rattle.json5_grammar.specs.Numbers.{Number, infinite, nan, finite, whole, decimal, without_zeros, is_empty}
+use Rattle.json5_grammar.specs.Language.Characters.{is_digit}
+use Rattle.json5_grammar.specs.Language.Numbers.{Number, infinite, nan, finite, whole, decimal, without_zeros, is_empty}
 
 abbrev pub is_within : ℤ → ℤ → ℤ → Bool
 is_within low high z = le_z low z && le_z z high

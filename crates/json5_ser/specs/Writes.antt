@@ -5,7 +5,7 @@ use Rattle.std.specs.Io.KnownBytes.{Appends, Keeps}
 use Rattle.json5_grammar.specs.declared.code.ErrorCode.TheVariants as codes
 use Rattle.json5_text.specs.declared.error.Error.{Error}
 use Rattle.json5_text.specs.Errors.{FaultKind, code, custom, failed_write, kind_of, place_of}
-use Rattle.json5_grammar.specs.Documents.{max_depth}
+use Rattle.json5_grammar.specs.Language.Documents.{max_depth}
 use Rattle.json5_ser.specs.WrittenTrees.{Written}
 use Rattle.json5_ser.specs.Out.{Out, Stop, whole, invalid_key, too_deep, out}
 

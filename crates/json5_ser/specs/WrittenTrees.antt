@@ -1,7 +1,7 @@
 -- What is written: a tree, with the keys of an object in order.
 use Rattle.std.specs.Prelude.{ℕ, List, [], ◌∷◌, Bool, ℤ, pos, Option, None, Some}
-use Rattle.json5_grammar.specs.Numbers.{Number, whole}
-use Rattle.json5_grammar.specs.NumberText.{number_text}
+use Rattle.json5_grammar.specs.Language.Numbers.{Number, whole}
+use Rattle.json5_grammar.specs.Written.NumberText.{number_text}
 
 -- a key is a text, or what can't be a key
 pub data Key : Type 0 where

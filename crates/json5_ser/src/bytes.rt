@@ -2,7 +2,7 @@
 
 ghost use Rattle.std.specs.Prelude.{◌≡◌};
 ghost use Rattle.hex.specs.Hex.{encode_lower};
-ghost use Rattle.json5_grammar.specs.Quoting.{is_name};
+ghost use Rattle.json5_grammar.specs.Written.Quoting.{is_name};
 ghost use Rattle.json5_ser.specs.WrittenTrees.{text, named};
 ghost use Rattle.json5_ser.specs.Writes.{Writes, WritesTree};
 ghost use Rattle.json5_ser.specs.Keys.{WritesKey};

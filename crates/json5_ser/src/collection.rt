@@ -3,7 +3,7 @@
 ghost use Rattle.std.specs.Prelude.{◌≡◌, true, false, IfOk};
 ghost use Rattle.std.specs.Borrow.{sem};
 ghost use Rattle.std.specs.Str.{chars};
-ghost use Rattle.json5_grammar.specs.Characters.{left_bracket, left_brace};
+ghost use Rattle.json5_grammar.specs.Language.Characters.{left_bracket, left_brace};
 ghost use Rattle.json5_ser.specs.Brackets.{opening_sign};
 ghost use Rattle.json5_ser.specs.WrittenTrees.{named};
 ghost use Rattle.json5_ser.specs.Out.{out, element_out, key_part, value_part, entry_out};

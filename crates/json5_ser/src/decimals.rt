@@ -1,9 +1,9 @@
 //! Decimals in plain notation.
 
 ghost use Rattle.std.specs.Prelude.{◌≡◌};
-ghost use Rattle.json5_grammar.specs.Numbers as numbers;
-ghost use Rattle.json5_grammar.specs.NumberText.{decimal_text, Normal};
-ghost use Rattle.json5_grammar.specs.Quoting.{is_name};
+ghost use Rattle.json5_grammar.specs.Language.Numbers as numbers;
+ghost use Rattle.json5_grammar.specs.Written.NumberText.{decimal_text, Normal};
+ghost use Rattle.json5_grammar.specs.Written.Quoting.{is_name};
 ghost use Rattle.json5_ser.specs.WrittenTrees.{number, named};
 ghost use Rattle.json5_ser.specs.Writes.{Writes, WritesTree};
 ghost use Rattle.json5_ser.specs.Keys.{WritesKey};

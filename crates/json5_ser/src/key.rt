@@ -3,7 +3,7 @@
 ghost use Rattle.std.specs.Prelude.{◌≡◌, ◌+◌, [], ◌∷◌, Some, OnOk};
 ghost use Rattle.std.specs.Str.{chars};
 ghost use Rattle.hex.specs.Hex.{encode_lower};
-ghost use Rattle.json5_grammar.specs.NumberText.{decimal_text};
+ghost use Rattle.json5_grammar.specs.Written.NumberText.{decimal_text};
 ghost use Rattle.json5_ser.specs.WrittenTrees.{Key, named, option_key};
 ghost use Rattle.json5_ser.specs.Out.{out, key_part, value_part, entry_out, variant_opening, bool_text};
 ghost use Rattle.json5_ser.specs.Brackets.{opening_sign};

@@ -2,8 +2,8 @@
 
 ghost use Rattle.std.specs.Prelude.{[], ◌∷◌, string_bytes};
 ghost use Rattle.std.specs.Str.{chars};
-ghost use Rattle.json5_grammar.specs.Values.{null_text};
-ghost use Rattle.json5_grammar.specs.NumberText.{decimal_text};
+ghost use Rattle.json5_grammar.specs.Language.Values.{null_text};
+ghost use Rattle.json5_grammar.specs.Written.NumberText.{decimal_text};
 ghost use Rattle.hex.specs.Hex.{encode_lower};
 ghost use Rattle.json5_text.specs.Bytes.{bytes_of};
 ghost use Rattle.json5_text.specs.Cows.{cow_bytes};

@@ -1,18 +1,18 @@
 //! The laws of written text, each the contract of a function that does nothing.
 
 ghost use Rattle.std.specs.Prelude.{◌≡◌, ◌≢◌, ◌↔◌, ◌≤◌, ◌<◌, ◌+◌, ℕ, List};
-ghost use Rattle.json5_grammar.specs.Numbers.{Number};
-ghost use Rattle.json5_grammar.specs.NumberText.{IsNumber, number_text};
-ghost use Rattle.json5_grammar.specs.Quoting.{key_text};
-ghost use Rattle.json5_grammar.specs.Trees.{Tree, depth};
-ghost use Rattle.json5_grammar.specs.Values.{Val, KeyText};
-ghost use Rattle.json5_grammar.specs.Documents.{Doc};
+ghost use Rattle.json5_grammar.specs.Language.Numbers.{Number};
+ghost use Rattle.json5_grammar.specs.Written.NumberText.{IsNumber, number_text};
+ghost use Rattle.json5_grammar.specs.Written.Quoting.{key_text};
+ghost use Rattle.json5_grammar.specs.Language.Trees.{Tree, depth};
+ghost use Rattle.json5_grammar.specs.Language.Values.{Val, KeyText};
+ghost use Rattle.json5_grammar.specs.Language.Documents.{Doc};
 ghost use Rattle.json5_text.specs.declared.value.Value.{Value};
 ghost use Rattle.json5_text.specs.ValueViews.{value_of};
 ghost use Rattle.json5_ser.specs.ValueTrees.{value_text};
 ghost use Rattle.json5_ser.specs.WrittenTrees.{Written, number};
 ghost use Rattle.json5_ser.specs.Out.{out, piece, whole, invalid_key, too_deep};
-ghost use Rattle.json5_ser.specs.Marks.{marks, unmarked, is_plain_key, IsSpelled};
+ghost use Rattle.json5_ser.specs.Marks.{marks, unmarked, is_escape_free_key, IsSpelled};
 
 /// A number's text is whole exactly when it is a whole number in range, or a decimal in normal form.
 pub fn written_numbers()
@@ -32,7 +32,7 @@ pub fn whole_texts()
 pub fn written_reads_back()
     ensures value { (limit d : ℕ) (t : Written) (s : List ℕ) → out limit t d ≡ piece s → Val s (marks t) }
     ensures document { (limit d : ℕ) (t : Written) (s : List ℕ) → out limit t d ≡ piece s → Doc limit s (marks t) }
-    ensures key { (u : List ℕ) → KeyText (key_text u) u (is_plain_key u) }
+    ensures key { (u : List ℕ) → KeyText (key_text u) u (is_escape_free_key u) }
 {}
 
 /// Each key of a value of any kind has a text, so that the value is written unless it is too deep.

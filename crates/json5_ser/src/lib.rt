@@ -15,7 +15,7 @@ mod lists;
 mod maps;
 mod names;
 pub mod output;
-mod plain;
+mod escape_free;
 mod quoting;
 mod serialize;
 mod serializer;

@@ -3,8 +3,8 @@
 ghost use Rattle.std.specs.Prelude.{◌≡◌};
 ghost use Rattle.std.specs.List.{list_all, prefix_len};
 ghost use Rattle.std.specs.Str.{IsUtf8, chars};
-ghost use Rattle.json5_grammar.specs.Characters.{is_identifier_part};
-ghost use Rattle.json5_grammar.specs.Quoting.{is_name};
+ghost use Rattle.json5_grammar.specs.Language.Characters.{is_identifier_part};
+ghost use Rattle.json5_grammar.specs.Written.Quoting.{is_name};
 ghost use Rattle.json5_ser.specs.NameBytes.{is_name_byte};
 
 use crate::quoting::front;

@@ -2,11 +2,11 @@
 
 ghost use Rattle.std.specs.Prelude.{◌≡◌, [], ◌∷◌, MatchOption};
 ghost use Rattle.std.specs.Str.{chars};
-ghost use Rattle.json5_grammar.specs.Quoting.{quote_for};
+ghost use Rattle.json5_grammar.specs.Written.Quoting.{quote_for};
 ghost use Rattle.json5_ser.specs.Quotes.{delimiter};
 ghost use Rattle.json5_ser.specs.Escaping.{NeedsNoEscape, SplitsAtEscape, StartsWithScalar};
 
-use crate::plain::skip_plain;
+use crate::escape_free::skip_escape_free;
 use json5_text::char::escape;
 
 /// The quotes round a text.
@@ -64,13 +64,13 @@ pub(crate) fn front(text: &str) -> Option<(char, &str)>
 pub(crate) fn split_at_escape(quote: Quote, text: &str) -> Option<(&str, &'static str, &str)>
     ensures { MatchOption result (NeedsNoEscape (delimiter quote) text.now) (λ p. SplitsAtEscape (delimiter quote) text.now p.0.now p.1.now p.2.now) }
 {
-    let mut rest = skip_plain(text);
+    let mut rest = skip_escape_free(text);
     while let Some((c, after)) = front(rest) {
         if let Some(escaped) = escape(quote.delimiter(), c) {
             let (raw, _) = text.split_at(text.len() - rest.len());
             return Some((raw, escaped, after));
         }
-        rest = skip_plain(after);
+        rest = skip_escape_free(after);
     }
     None
 }

@@ -3,13 +3,13 @@
 ghost use Rattle.std.specs.Prelude.{◌≡◌, ◌≤◌, ◌+◌, ◌-◌, [], ◌∷◌, ◌++◌, true, false, None, IsErr, IfErr, OnOk};
 ghost use Rattle.std.specs.Str.{chars};
 ghost use Rattle.json5_ser.specs.Quotes.{delimiter};
-ghost use Rattle.json5_grammar.specs.Quoting.{escaped_all, quoted_text};
+ghost use Rattle.json5_grammar.specs.Written.Quoting.{escaped_all, quoted_text};
 ghost use Rattle.json5_ser.specs.WrittenTrees.{null, boolean, text};
-ghost use Rattle.json5_grammar.specs.Documents.{max_depth};
+ghost use Rattle.json5_grammar.specs.Language.Documents.{max_depth};
 ghost use Rattle.json5_ser.specs.Out.{piece, ◌then◌, stopped, line, opening, closing, invalid_key, too_deep};
 ghost use Rattle.json5_grammar.specs.declared.code.ErrorCode.TheVariants as codes;
 ghost use Rattle.json5_text.specs.Errors.{code, kind_of, place_of};
-ghost use Rattle.json5_grammar.specs.Characters.{comma_sign, right_brace, double_quote};
+ghost use Rattle.json5_grammar.specs.Language.Characters.{comma_sign, right_brace, double_quote};
 ghost use Rattle.json5_ser.specs.Brackets.{opening_sign, closing_sign};
 ghost use Rattle.json5_ser.specs.Stages.{is_started};
 ghost use Rattle.json5_ser.specs.Writes.{SerializerState, Writes, WritesTree, fresh, fresh_within, at_depth};
@@ -18,7 +18,7 @@ use crate::Serialize;
 use crate::brackets::Brackets;
 use crate::lines::line;
 use crate::output::write_whole;
-use crate::plain::is_plain;
+use crate::escape_free::is_escape_free;
 use crate::quoting::{Quote, split_at_escape};
 use crate::stage::Stage;
 use itoa::{Buffer, Integer};
@@ -309,7 +309,7 @@ impl<W: Write + Drop> Serializer<W> {
     }
 
     /// Writes the text between `"`.
-    fn put_plain(&mut self, text: &str) -> Result<()>
+    fn put_escape_free(&mut self, text: &str) -> Result<()>
         ensures { Writes (piece (double_quote ∷ chars text.now ++ double_quote ∷ [])) self.old result self.new }
     {
         self.put("\"")?;
@@ -343,8 +343,8 @@ impl<W: Write + Drop> Serializer<W> {
     pub fn serialize_str(&mut self, value: &str) -> Result<()>
         ensures { WritesTree (text (chars value.now)) self.old result self.new }
     {
-        if is_plain(value) {
-            return self.put_plain(value);
+        if is_escape_free(value) {
+            return self.put_escape_free(value);
         }
         self.put_quoted(value)
     }

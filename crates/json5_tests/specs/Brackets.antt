@@ -1,7 +1,7 @@
 -- What values within brackets convert to.
 use Rattle.std.specs.Prelude.{Option}
-use Rattle.json5_grammar.specs.Trees.{Tree}
-use Rattle.json5_grammar.specs.Members.{array_of}
+use Rattle.json5_grammar.specs.Language.Trees.{Tree}
+use Rattle.json5_grammar.specs.Model.Collections.{array_of}
 use Rattle.json5_de.specs.ConvertLists.{last_of}
 
 -- an array of one member

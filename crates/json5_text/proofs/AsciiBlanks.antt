@@ -4,14 +4,14 @@ use Rattle.std.specs.List.{prefix_len, take_while}
 use Rattle.std.specs.Prelude.{◌==◌, slice_index}
 use Rattle.std.specs.Str.{chars, IsUtf8}
 use Rattle.std.proofs.lemmas.Str.{chars_past_char, encode_ascii}
-use Rattle.json5_grammar.specs.Blanks.{Solid}
-use Rattle.json5_grammar.specs.Reading.{got}
+use Rattle.json5_grammar.specs.Language.Blanks.{Solid}
+use Rattle.json5_grammar.specs.Model.Reading.{got}
 use Rattle.json5_grammar.proofs.BlanksRead.{skip_rest, begins_solid, printable_solid}
 use Rattle.std.proofs.lemmas.List.{length-drop}
 use Rattle.std.proofs.lemmas.Bool.Decides.{nat_tests}
-use Rattle.json5_grammar.specs.Characters.{is_in, is_blank, is_terminator, NotBegun, Each, no_char, char}
-use Rattle.json5_grammar.specs.ReadBlanks.{skip, between, Mode}
-use Rattle.json5_grammar.specs.ReadNumbers.{front_of, rest_of}
+use Rattle.json5_grammar.specs.Language.Characters.{is_in, is_blank, is_terminator, NotBegun, Each, no_char, char}
+use Rattle.json5_grammar.specs.Model.ReadBlanks.{skip, between, Mode}
+use Rattle.json5_grammar.specs.Model.ReadNumbers.{front_of, rest_of}
 use Rattle.json5_grammar.proofs.NumberTests.{front_each}
 use Rattle.json5_text.specs.ByteRuns.{is_ascii_blank, is_in_line, is_line_part, is_no_star, BeginsSolid}
 use Rattle.json5_text.proofs.NumberRuns.{PassesAscii, chars_split, rest_cut, rest_shorter}

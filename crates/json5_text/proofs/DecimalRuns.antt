@@ -3,10 +3,9 @@ use Rattle.std.proofs.Common.{◌≡◌, ℕ, Bool, true, false, ◌||◌, List,
 use Rattle.std.specs.Prelude.{◌==◌}
 use Rattle.std.specs.Str.{chars}
 use Rattle.std.proofs.lemmas.Bool.Decides.{nat_tests}
-use Rattle.json5_grammar.specs.Characters.{is_digit, NotBegun}
-use Rattle.json5_grammar.specs.Numbers.{is_empty}
-use Rattle.json5_grammar.specs.Stops.{in_run}
-use Rattle.json5_grammar.specs.ReadNumbers.{Parts, front_of, rest_of, exponent_digits, exponent_sign, exponent_at, no_point, at_point, literal_at}
+use Rattle.json5_grammar.specs.Language.Characters.{is_digit, NotBegun}
+use Rattle.json5_grammar.specs.Language.Numbers.{is_empty, in_run}
+use Rattle.json5_grammar.specs.Model.ReadNumbers.{Parts, front_of, rest_of, exponent_digits, exponent_sign, exponent_at, no_point, at_point, literal_at}
 use Rattle.json5_grammar.proofs.NumberTests.{by_test, digit_in_run, e_in_run, rest_none, front_none}
 use Rattle.json5_text.specs.declared.literals.Literal.{Literal}
 use Rattle.json5_text.specs.declared.literals.Tail.{Tail}
@@ -144,11 +143,11 @@ past_minus d z h = let k : d ∷ z ≡ 45 ∷ z = ap (λ n. n ∷ z) h in (ap ex
 past_none : (d : ℕ) (z : List ℕ) → (d == 43) ≡ false → (d == 45) ≡ false → PastSign (d ∷ z) (false, d ∷ z)
 past_none d z a b = (by (in_run d) refl, refl)
   where
-    plain : exponent_sign (d ∷ run_of z) ≡ exponent_digits false (d ∷ run_of z)
-    plain = rw (a, b) refl
+    escape_free : exponent_sign (d ∷ run_of z) ≡ exponent_digits false (d ∷ run_of z)
+    escape_free = rw (a, b) refl
 
     by : (t : Bool) → in_run d ≡ t → exponent_sign (run_of (d ∷ z)) ≡ exponent_digits false (run_of (d ∷ z))
-    by true h = let k = run_more (d ∷ z) z d refl h in ap exponent_sign k ∙ plain ∙ ap (exponent_digits false) (sym k)
+    by true h = let k = run_more (d ∷ z) z d refl h in ap exponent_sign k ∙ escape_free ∙ ap (exponent_digits false) (sym k)
     by false h = let k = no_run (d ∷ z) h in ap exponent_sign k ∙ ap (exponent_digits false) (sym k)
 
 past_sign_at : (y : List ℕ) → PastSign y (after_sign y)
@@ -172,10 +171,10 @@ signed_tail x y z c m (Some t) e k s h = record {
 
 -- ---- a literal
 
-pub run_plain : (x i s : List ℕ) → i ≡ front_of is_digit x → s ≡ rest_of is_digit x → NotBegun (λ c. c == 46) s → literal_at (run_of x) ≡ no_point i (run_of s)
+pub run_escape_free : (x i s : List ℕ) → i ≡ front_of is_digit x → s ≡ rest_of is_digit x → NotBegun (λ c. c == 46) s → literal_at (run_of x) ≡ no_point i (run_of s)
 unfolding front_of
-run_plain x i [] e h n = literal_ends (run_of x) i (run_of []) (front_is x i e) (rest_is x [] h) refl
-run_plain x i (c ∷ t) e h n = by (in_run c) refl
+run_escape_free x i [] e h n = literal_ends (run_of x) i (run_of []) (front_is x i e) (rest_is x [] h) refl
+run_escape_free x i (c ∷ t) e h n = by (in_run c) refl
   where
     by : (b : Bool) → in_run c ≡ b → literal_at (run_of x) ≡ no_point i (run_of (c ∷ t))
     by true l = literal_plain (run_of x) i (run_of (c ∷ t)) (run_of t) c (front_is x i e) (rest_is x (c ∷ t) h) (run_more (c ∷ t) t c refl l) n

@@ -4,9 +4,9 @@ use Rattle.std.specs.Prelude.{◌==◌, slice_index}
 use Rattle.std.specs.List.{prefix_len}
 use Rattle.std.specs.Char.{digit_value}
 use Rattle.std.proofs.lemmas.Bool.Decides.{nat_tests}
-use Rattle.json5_grammar.specs.Characters.{is_digit, NotBegun}
-use Rattle.json5_grammar.specs.Numbers.{spelled, is_empty}
-use Rattle.json5_grammar.specs.ReadNumbers.{front_of, is_integer}
+use Rattle.json5_grammar.specs.Language.Characters.{is_digit, NotBegun}
+use Rattle.json5_grammar.specs.Language.Numbers.{spelled, is_empty}
+use Rattle.json5_grammar.specs.Model.ReadNumbers.{front_of, is_integer}
 use Rattle.json5_grammar.proofs.NumberTests.{by_test}
 use Rattle.json5_text.specs.declared.bytes.FewDigits.{FewDigits}
 use Rattle.json5_text.specs.ByteRuns.{lengthens_digits, SpellsFront, IsUnpadded, IsFewDigits}

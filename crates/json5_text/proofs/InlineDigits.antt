@@ -4,7 +4,7 @@ use Rattle.std.proofs.lemmas.List.{length-append}
 use Rattle.std.proofs.lemmas.Slice.{take-put_mid}
 use Rattle.std.proofs.Math.Seq.{take-append_seam}
 use borrow.Rule.Slice.PartMut.{put_mid}
-use Rattle.json5_grammar.specs.Characters.{Each, no_char, char}
+use Rattle.json5_grammar.specs.Language.Characters.{Each, no_char, char}
 
 pub copied : (a b x y z : List ℕ) → x ≡ a → y ≡ b → take (length a + length b) (put_mid (length a) (length a + length b - length a) (x ++ z) y) ≡ a ++ b
 copied a b x y z e f =

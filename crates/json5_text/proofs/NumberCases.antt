@@ -4,15 +4,14 @@ use Rattle.std.proofs.lemmas.Bool.Decides.{nat_tests}
 use Rattle.std.specs.Prelude.{◌==◌}
 use lib.Chars.{codes}
 use Rattle.json5_grammar.specs.declared.code.ErrorCode.TheVariants.{EofParsingNumber, ExpectedNumber, LeadingZero}
-use Rattle.json5_grammar.specs.Characters.{is_digit}
-use Rattle.json5_grammar.specs.Numbers.{decimal, infinite, nan}
-use Rattle.json5_grammar.specs.Stops.{in_run, begins_run}
-use Rattle.json5_grammar.specs.Reading.{bad, here, inner}
+use Rattle.json5_grammar.specs.Language.Characters.{is_digit}
+use Rattle.json5_grammar.specs.Language.Numbers.{decimal, infinite, nan, in_run, begins_run}
+use Rattle.json5_grammar.specs.Model.Reading.{bad, here, inner}
 use Rattle.std.specs.Str.{chars}
 use Rattle.json5_grammar.proofs.Basics.{not_eq}
 use Rattle.json5_text.proofs.NumberSteps.{infinity_rest, nan_rest}
 use Rattle.json5_text.specs.NumberParts.{after_sign}
-use Rattle.json5_grammar.specs.ReadNumbers.{word, front_of, rest_of, literal_at, if_literal, decimal_run, at_zero, unsigned, number}
+use Rattle.json5_grammar.specs.Model.ReadNumbers.{word, front_of, rest_of, literal_at, if_literal, decimal_run, at_zero, unsigned, number}
 
 -- ---- decimal runs
 

@@ -2,15 +2,15 @@
 use Rattle.std.proofs.Common.{◌≡◌, ℕ, zero, suc, ◌+◌, ◌-◌, ◌^◌, ◌<◌, ◌≤◌, min, Bool, true, false, cond, List, ◌++◌, length, refl, ap, sym, subst, ◌∙◌, arith, Option, Some, None}
 use Rattle.std.specs.Prelude.{[], IfSome, ℤ, pos, ◌+ℤ◌, ◌-ℤ◌}
 use denote.Ref.{Bor}
-use Rattle.json5_grammar.specs.Characters.{is_digit, Each, no_char}
+use Rattle.json5_grammar.specs.Language.Characters.{is_digit, Each, no_char}
 use Rattle.std.specs.Option.{is_some, option_map, unwrap_or}
 use Rattle.std.proofs.lemmas.Bool.Decides.{nat_tests}
 use Rattle.std.proofs.lemmas.List.{length-append}
 use Rattle.json5_grammar.specs.declared.code.ErrorCode.TheVariants.{OverflowParsingNumber}
-use Rattle.json5_grammar.specs.Numbers.{Decimal, finite, whole, decimal, signed, spelled, InExponents, is_empty, without_front_zeros, without_zeros, normal_exponent, digits_after, written, all_digits, exponent_of}
-use Rattle.json5_grammar.specs.NumberSteps.{checked}
-use Rattle.json5_grammar.specs.Reading.{got, bad, here}
-use Rattle.json5_grammar.specs.ReadNumbers.{is_whole, in_whole, in_exponents, judged, if_literal}
+use Rattle.json5_grammar.specs.Language.Numbers.{Decimal, finite, whole, decimal, signed, spelled, InExponents, is_empty, without_front_zeros, without_zeros, normal_exponent, digits_after, written, all_digits, exponent_of}
+use Rattle.json5_grammar.specs.Model.NumberSteps.{checked}
+use Rattle.json5_grammar.specs.Model.Reading.{got, bad, here}
+use Rattle.json5_grammar.specs.Model.ReadNumbers.{is_whole, in_whole, in_exponents, judged, if_literal}
 use Rattle.json5_grammar.proofs.NumberTests.{in_exponents_yes, in_exponents_true}
 use Rattle.json5_grammar.proofs.NumberStepLaws.{IsChecked, checked_is, capped_range, capped_same}
 use Rattle.json5_text.specs.declared.literals.Exponent.{Exponent}

@@ -2,9 +2,9 @@
 use Rattle.std.proofs.Common.{◌≡◌, ℕ, ◌<◌, Bool, true, false, ◌&&◌, ◌||◌, List, [], ◌∷◌, ◌++◌, length, refl, ap, sym, ◌∙◌, arith, Option, Some, None}
 use Rattle.std.specs.Prelude.{◌==◌, not, ℤ}
 use Rattle.std.proofs.lemmas.List.{append-nil}
-use Rattle.json5_grammar.specs.Characters.{is_digit}
-use Rattle.json5_grammar.specs.Numbers.{is_empty, signed, spelled}
-use Rattle.json5_grammar.specs.ReadNumbers.{front_of, rest_of, exponent_digits, exponent_at, is_integer, no_point, at_point, point_or, literal_at}
+use Rattle.json5_grammar.specs.Language.Characters.{is_digit}
+use Rattle.json5_grammar.specs.Language.Numbers.{is_empty, signed, spelled}
+use Rattle.json5_grammar.specs.Model.ReadNumbers.{front_of, rest_of, exponent_digits, exponent_at, is_integer, no_point, at_point, point_or, literal_at}
 use Rattle.json5_grammar.proofs.NumberTests.{front_rest}
 
 -- ---- the digits of an exponent

@@ -1,7 +1,7 @@
 -- The front of a text that stands in parts.
 use Rattle.std.proofs.Common.{◌≡◌, ℕ, ◌+◌, ◌-◌, ◌<◌, ◌≤◌, List, [], ◌∷◌, ◌++◌, length, ap, sym, ◌∙◌, arith, append_assoc}
 use Rattle.std.proofs.lemmas.List.{replicate-append-replicate, length-replicate}
-use Rattle.json5_grammar.specs.NumberText.{zeros}
+use Rattle.json5_grammar.specs.Written.NumberText.{zeros}
 use Rattle.json5_text.specs.NumberPieces.{IsFront}
 
 -- after a part that is empty

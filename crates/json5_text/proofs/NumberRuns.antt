@@ -9,9 +9,9 @@ use Rattle.std.proofs.lemmas.List.{length-take}
 use Rattle.std.proofs.lemmas.List.Sums.{prefix_len-le-length}
 use Rattle.std.proofs.lemmas.Bool.Decides.{nat_tests}
 use Rattle.std.proofs.lemmas.Str.{chars-IsAscii, chars-append, chars_from_encodes, encode_ascii, IsUtf8-drop, IsUtf8-from_ascii, IsCharBoundary-after_ascii, IsCharBoundary-at_seam}
-use Rattle.json5_grammar.specs.Characters.{is_digit, NotBegun, Each, no_char, char}
-use Rattle.json5_grammar.specs.Numbers.{without_front_zeros}
-use Rattle.json5_grammar.specs.ReadNumbers.{front_of, rest_of}
+use Rattle.json5_grammar.specs.Language.Characters.{is_digit, NotBegun, Each, no_char, char}
+use Rattle.json5_grammar.specs.Language.Numbers.{without_front_zeros}
+use Rattle.json5_grammar.specs.Model.ReadNumbers.{front_of, rest_of}
 use Rattle.json5_grammar.proofs.NumberTests.{by_test, front_each, front_rest, front_all, rest_each, rest_all, rest_stops}
 use Rattle.json5_grammar.proofs.NumberStepLaws.{front_is}
 

@@ -8,10 +8,10 @@ use Rattle.std.proofs.lemmas.Int.{ints}
 use Rattle.std.proofs.lemmas.Str.{encodes-chars}
 use Rattle.json5_grammar.specs.declared.code.ErrorCode.{ErrorCode}
 use Rattle.json5_grammar.specs.declared.code.ErrorCode.TheVariants.{EofParsingNumber, ExpectedNumber, OverflowParsingNumber}
-use Rattle.json5_grammar.specs.Numbers.{Number, signed, whole, InWhole}
-use Rattle.json5_grammar.specs.Reading.{Read, Place, got, bad, here}
-use Rattle.json5_grammar.specs.ReadNumbers.{word, hex_digits, hex_judged, hexadecimal}
-use Rattle.json5_grammar.specs.ReadValues.{word_at}
+use Rattle.json5_grammar.specs.Language.Numbers.{Number, signed, whole, InWhole}
+use Rattle.json5_grammar.specs.Model.Reading.{Read, Place, got, bad, here}
+use Rattle.json5_grammar.specs.Model.ReadNumbers.{word, hex_digits, hex_judged, hexadecimal}
+use Rattle.json5_grammar.specs.Model.ReadValues.{word_at}
 use Rattle.json5_grammar.proofs.Basics.{hex_value, no_hex}
 use Rattle.json5_text.specs.declared.refusal.Refusal.{Refusal}
 use Rattle.json5_text.specs.declared.refusal.Refusal.TheVariants as refusal
@@ -99,7 +99,7 @@ word_read n ks x r e = word_is n ks x ∙ ap (with_number n) e
 
 -- what is refused stays so where only what was read changes
 pub refuses_still : {A B : Type 0} (f : Outcome A → Outcome B) → ((e : Option ErrorCode) (l : Option ℕ) → f (failed e l) ≡ failed e l) → (e : Refusal) (m : Outcome A) → Refuses e m → Refuses e (f m)
-refuses_still f k (refusal.Code c left) m h = ap f h ∙ k (Some c) left
+refuses_still f k (refusal.TokenError c left) m h = ap f h ∙ k (Some c) left
 refuses_still f k (refusal.InvalidNumber left) m h = ap f h ∙ k None (Some left)
 refuses_still f k (refusal.TooLarge left) m h = ap f h ∙ k None (Some left)
 refuses_still f k (refusal.UnpairedSurrogate u left) m h = ap f h ∙ k None (Some left)
@@ -126,7 +126,7 @@ nan_rest = refl
 
 -- a fault doesn't say that memory ran out
 pub fault_wants : (r : Refusal) (m : Read Number) → HasFault r → WantsForDigits r m
-fault_wants (refusal.Code c left) m h = tt
+fault_wants (refusal.TokenError c left) m h = tt
 fault_wants (refusal.InvalidNumber left) m h = tt
 fault_wants (refusal.TooLarge left) m h = tt
 fault_wants (refusal.UnpairedSurrogate u left) m h = tt

@@ -3,9 +3,9 @@ use Rattle.std.proofs.Common.{◌≡◌, ℕ, ◌+◌, ◌-◌, ◌*◌, ◌^◌
 use Rattle.std.specs.Prelude.{nat_lt, slice_index_or}
 use Rattle.std.specs.Char.{digit_value}
 use Rattle.std.proofs.lemmas.Bool.Decides.{nat_tests}
-use Rattle.json5_grammar.specs.Characters.{is_digit, Each, char}
-use Rattle.json5_grammar.specs.Numbers.{spelled}
-use Rattle.json5_grammar.specs.NumberSteps.{capped, checked}
+use Rattle.json5_grammar.specs.Language.Characters.{is_digit, Each, char}
+use Rattle.json5_grammar.specs.Language.Numbers.{spelled}
+use Rattle.json5_grammar.specs.Model.NumberSteps.{capped, checked}
 use Rattle.json5_grammar.proofs.NumberStepLaws.{capped_is}
 use Rattle.std.proofs.lemmas.List.{nil_from_length}
 

@@ -4,8 +4,8 @@ use Rattle.std.specs.Str.{IsCharBoundary}
 use Rattle.std.proofs.Math.Seq.{take-append_seam}
 use Rattle.std.proofs.lemmas.List.{replicate-append-replicate, length-replicate}
 use Rattle.std.proofs.lemmas.Str.{IsCharBoundary-from_ascii}
-use Rattle.json5_grammar.specs.Characters.{is_digit, Each}
-use Rattle.json5_grammar.specs.NumberText.{zeros}
+use Rattle.json5_grammar.specs.Language.Characters.{is_digit, Each}
+use Rattle.json5_grammar.specs.Written.NumberText.{zeros}
 use Rattle.json5_text.proofs.NumberRuns.{zero_is_ascii, digit_is_ascii, each_below}
 use Rattle.json5_grammar.proofs.DecimalsWritten.{each_zero}
 

@@ -6,9 +6,9 @@ use Rattle.std.proofs.lemmas.Bool.Decides.{nat_tests}
 use Rattle.std.proofs.lemmas.Int.{ints, to_z-of_z}
 use mir.Syntax.{w16, w64, w128}
 use mir.Val.{to_z, of_z, SFits}
-use Rattle.json5_grammar.specs.Characters.{is_digit, Each, no_char, char}
-use Rattle.json5_grammar.specs.Numbers.{finite, without_front_zeros, without_zeros, normal_exponent, is_empty, InExponents}
-use Rattle.json5_grammar.specs.NumberText.{IsNormal}
+use Rattle.json5_grammar.specs.Language.Characters.{is_digit, Each, no_char, char}
+use Rattle.json5_grammar.specs.Language.Numbers.{finite, without_front_zeros, without_zeros, normal_exponent, is_empty, InExponents}
+use Rattle.json5_grammar.specs.Written.NumberText.{IsNormal}
 use Rattle.json5_text.specs.NumberSteps.{raised}
 use Rattle.json5_grammar.proofs.NumberTests.{by_test}
 use Rattle.json5_grammar.proofs.DecimalsWritten.{Each-reverse, length-front}

@@ -6,14 +6,14 @@ use Rattle.std.specs.Char.{IsScalar, digit_value}
 use Rattle.std.specs.Str.{IsUtf8, IsCharBoundary, chars, encode_utf8_all}
 use Rattle.std.proofs.lemmas.Str.{encode_ascii, encodes-chars, chars-encodes}
 use Rattle.std.proofs.lemmas.Bool.Decides.{nat_tests}
-use Rattle.json5_grammar.specs.Characters.{is_terminator, is_digit}
+use Rattle.json5_grammar.specs.Language.Characters.{is_terminator, is_digit}
 use Rattle.json5_grammar.specs.declared.code.ErrorCode.{ErrorCode}
 use Rattle.json5_grammar.specs.declared.code.ErrorCode.TheVariants.{EofParsingEscapeSequence, InvalidEscapeSequence}
-use Rattle.json5_grammar.specs.Reading.{Read, Place, got, bad, here, inner, and_then}
-use Rattle.json5_grammar.specs.Strings.{short_escape, is_high, is_low, pair_value}
-use Rattle.json5_grammar.specs.StringFaults.{is_surrogate}
-use Rattle.json5_grammar.specs.ReadTexts.{hex, paired, second_u, second, first, unicode_at, after_nul, not_short, escape_at}
-use Rattle.json5_grammar.specs.ReadValues.{word_at}
+use Rattle.json5_grammar.specs.Model.Reading.{Read, Place, got, bad, here, inner, and_then}
+use Rattle.json5_grammar.specs.Language.Strings.{short_escape, is_high, is_low, pair_value}
+use Rattle.json5_grammar.specs.Faults.Tokens.{is_surrogate}
+use Rattle.json5_grammar.specs.Model.ReadTexts.{hex, paired, second_u, second, first, unicode_at, after_nul, not_short, escape_at}
+use Rattle.json5_grammar.specs.Model.ReadValues.{word_at}
 use Rattle.json5_grammar.proofs.Basics.{hex_value, no_hex}
 use Rattle.json5_text.specs.declared.refusal.Refusal.{Refusal}
 use Rattle.json5_text.specs.declared.refusal.Refusal.TheVariants as refusal
@@ -34,7 +34,7 @@ failed_as A B (bad f p) n e l k h =
 
 -- what refuses one reading refuses another that has the same fault
 pub refuses_as : {A B : Type 0} (r : Refusal) (m : Read A) (n : Read B) → ((f : Option ErrorCode) (p : Place) → m ≡ bad f p → n ≡ bad f p) → Refuses r (outcome m) → Refuses r (outcome n)
-refuses_as {A = A} {B = B} (refusal.Code c left) m n k h = failed_as A B m n (Some c) left k h
+refuses_as {A = A} {B = B} (refusal.TokenError c left) m n k h = failed_as A B m n (Some c) left k h
 refuses_as {A = A} {B = B} (refusal.InvalidNumber left) m n k h = failed_as A B m n None (Some left) k h
 refuses_as {A = A} {B = B} (refusal.TooLarge left) m n k h = failed_as A B m n None (Some left) k h
 refuses_as {A = A} {B = B} (refusal.UnpairedSurrogate u left) m n k h = failed_as A B m n None (Some left) k h

@@ -2,7 +2,7 @@
 use Rattle.std.proofs.Common.{◌≡◌, ℕ, List, ◌++◌, refl, ap, sym, ◌∙◌, append_assoc, Option, Some, None, ◌⊎◌, inl, inr, subst}
 use Rattle.std.specs.Prelude.{⊤}
 use Rattle.json5_grammar.specs.declared.code.ErrorCode.{ErrorCode}
-use Rattle.json5_grammar.specs.Reading.{Read, got, bad, Place, here, inner, IsAt}
+use Rattle.json5_grammar.specs.Model.Reading.{Read, got, bad, Place, here, inner, IsAt}
 use Rattle.json5_text.specs.declared.error.Error.{Error}
 use Rattle.json5_text.specs.declared.refusal.Refusal.{Refusal}
 use Rattle.json5_text.specs.declared.refusal.Refusal.TheVariants as refusal
@@ -51,9 +51,9 @@ in_unread : (A : Type 0) (IsFault : List ℕ → Option ErrorCode → Option (Li
 in_unread A IsFault s reason f p left k e = leaves s k.place p left k.is_at (same_failed A reason f (left_at p) (Some left) e).1
 
 pub refusal_in : {A : Type 0} (IsFault : List ℕ → Option ErrorCode → Option (List ℕ) → Type 0) (s : Cursor) (r : Refusal) (res : Read A) → FaultyIn IsFault s.unread res → Refuses r (outcome res) → InUnread s r
-refusal_in {A = A} IsFault s (refusal.Code c None) res k e = tt
-refusal_in {A = A} IsFault s (refusal.Code c (Some left)) (got a r) k e = absurd (gave_failed A a r (Some c) (Some left) e)
-refusal_in {A = A} IsFault s (refusal.Code c (Some left)) (bad f p) k e = in_unread A IsFault s f (Some c) p left k e
+refusal_in {A = A} IsFault s (refusal.TokenError c None) res k e = tt
+refusal_in {A = A} IsFault s (refusal.TokenError c (Some left)) (got a r) k e = absurd (gave_failed A a r (Some c) (Some left) e)
+refusal_in {A = A} IsFault s (refusal.TokenError c (Some left)) (bad f p) k e = in_unread A IsFault s f (Some c) p left k e
 refusal_in {A = A} IsFault s (refusal.InvalidNumber left) (got a r) k e = absurd (gave_failed A a r None (Some left) e)
 refusal_in {A = A} IsFault s (refusal.InvalidNumber left) (bad f p) k e = in_unread A IsFault s f None p left k e
 refusal_in {A = A} IsFault s (refusal.TooLarge left) (got a r) k e = absurd (gave_failed A a r None (Some left) e)
@@ -90,14 +90,14 @@ custom_refused A IsFault s err (got a r) left k e (inr t) = absurd (gave_failed 
 custom_refused A IsFault s err (bad f p) left k e (inr t) = inr (there_refused A IsFault s err f None p left k e t.0 t.1)
 
 code_refused : (A : Type 0) (IsFault : List ℕ → Option ErrorCode → Option (List ℕ) → Type 0) (s : Cursor) (err : Error) (res : Read A) (c : ErrorCode) (left : Option ℕ)
-    → FaultyIn IsFault s.unread res → outcome res ≡ failed (Some c) left → MadeOf s (refusal.Code c left) err → Refused IsFault s err
+    → FaultyIn IsFault s.unread res → outcome res ≡ failed (Some c) left → MadeOf s (refusal.TokenError c left) err → Refused IsFault s err
 code_refused A IsFault s err (got a r) c left k e m = absurd (gave_failed A a r (Some c) left e)
 code_refused A IsFault s err (bad f p) c None k e m = end_refused A IsFault s err f (Some c) p k e m.0 m.1
 code_refused A IsFault s err (bad f p) c (Some left) k e m = there_refused A IsFault s err f (Some c) p left k e m.0 m.1
 
 pub coded : {A : Type 0} (IsFault : List ℕ → Option ErrorCode → Option (List ℕ) → Type 0) (s : Cursor) (err : Error) (r : Refusal) (res : Read A)
     → FaultyIn IsFault s.unread res → Refuses r (outcome res) → HasCode r → MadeOf s r err → Refused IsFault s err
-coded {A = A} IsFault s err (refusal.Code c left) res k e h m = code_refused A IsFault s err res c left k e m
+coded {A = A} IsFault s err (refusal.TokenError c left) res k e h m = code_refused A IsFault s err res c left k e m
 coded IsFault s err (refusal.InvalidNumber left) res k e h m = absurd h
 coded IsFault s err (refusal.TooLarge left) res k e h m = absurd h
 coded IsFault s err (refusal.UnpairedSurrogate u left) res k e h m = absurd h
@@ -105,7 +105,7 @@ coded IsFault s err refusal.OutOfMemory res k e h m = absurd h
 
 pub refused : {A : Type 0} (IsFault : List ℕ → Option ErrorCode → Option (List ℕ) → Type 0) (s : Cursor) (err : Error) (r : Refusal) (res : Read A)
     → FaultyIn IsFault s.unread res → Refuses r (outcome res) → MadeOf s r err → LacksMemory err ⊎ Refused IsFault s err
-refused {A = A} IsFault s err (refusal.Code c left) res k e m = inr (code_refused A IsFault s err res c left k e m)
+refused {A = A} IsFault s err (refusal.TokenError c left) res k e m = inr (code_refused A IsFault s err res c left k e m)
 refused {A = A} IsFault s err (refusal.InvalidNumber left) res k e m = custom_refused A IsFault s err res left k e m
 refused {A = A} IsFault s err (refusal.TooLarge left) res k e m = custom_refused A IsFault s err res left k e m
 refused {A = A} IsFault s err (refusal.UnpairedSurrogate u left) res k e m = custom_refused A IsFault s err res left k e m
@@ -113,7 +113,7 @@ refused IsFault s err refusal.OutOfMemory res k e m = inl m
 
 -- a code is a fault
 pub code_known : (r : Refusal) → HasCode r → HasFault r
-code_known (refusal.Code c left) h = tt
+code_known (refusal.TokenError c left) h = tt
 code_known (refusal.InvalidNumber left) h = tt
 code_known (refusal.TooLarge left) h = tt
 code_known (refusal.UnpairedSurrogate u left) h = tt

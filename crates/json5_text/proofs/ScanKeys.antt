@@ -1,16 +1,16 @@
 -- Keys, in the words of the scanner's contracts.
 use Rattle.std.proofs.Common.{◌≡◌, ℕ, Bool, true, false, List, [], ◌∷◌, ◌++◌, refl, ap, sym, ◌∙◌, subst, Some}
-use Rattle.json5_grammar.specs.Characters.{NotBegun}
+use Rattle.json5_grammar.specs.Language.Characters.{NotBegun}
 use Rattle.json5_grammar.specs.declared.code.ErrorCode.TheVariants.{EofParsingIdentifier}
-use Rattle.json5_grammar.specs.Names.{Key, string_key, name_key}
-use Rattle.json5_grammar.specs.Reading.{Read, inner, got, bad}
-use Rattle.json5_grammar.specs.ReadTexts.{identifier, key}
-use Rattle.json5_grammar.specs.Strings.{is_quote}
+use Rattle.json5_grammar.specs.Language.Names.{Key, string_key, name_key}
+use Rattle.json5_grammar.specs.Model.Reading.{Read, inner, got, bad}
+use Rattle.json5_grammar.specs.Model.ReadTexts.{identifier, key}
+use Rattle.json5_grammar.specs.Language.Strings.{is_quote}
 use Rattle.json5_grammar.proofs.KeysRead.{key_complete}
 use Rattle.json5_text.specs.declared.error.Error.{Error}
 use Rattle.json5_text.specs.declared.refusal.Refusal.{Refusal}
 use Rattle.json5_text.specs.declared.refusal.Refusal.TheVariants as refusal
-use Rattle.json5_text.specs.TokenResults.{SparesPlain}
+use Rattle.json5_text.specs.TokenResults.{SparesEscapeFree}
 use Rattle.json5_text.specs.Cursor.{Cursor}
 use Rattle.json5_text.specs.Errors.{LacksMemory}
 use Rattle.json5_text.specs.Outcome.{outcome}
@@ -67,13 +67,13 @@ key_at_sound (c ∷ r) = by_flag (is_quote c) refl
     by_flag true h = subst (AtKeySound (c ∷ r)) (sym (key_string c (c ∷ r) r refl h)) (from_string c r (string_at (c ∷ r)) h (at_sound (c ∷ r)))
     by_flag false h = subst (AtKeySound (c ∷ r)) (sym (key_name c (c ∷ r) r refl h)) (from_name (c ∷ r) (identifier (c ∷ r)) h (name_at_sound (c ∷ r)))
 
-pub record KeyTaken (x u r : List ℕ) (plain : Bool) : Type 0 where
+pub record KeyTaken (x u r : List ℕ) (escape_free : Bool) : Type 0 where
   pub key : List ℕ
   pub split : x ≡ key ++ r
-  pub is_key : Key key r u plain
+  pub is_key : Key key r u escape_free
 
-pub key_taken : (x y u r : List ℕ) (plain : Bool) → x ≡ y → key_at x ≡ got (u, plain) r → KeyTaken y u r plain
-key_taken x y u r plain f e =
+pub key_taken : (x y u r : List ℕ) (escape_free : Bool) → x ≡ y → key_at x ≡ got (u, escape_free) r → KeyTaken y u r escape_free
+key_taken x y u r escape_free f e =
     let k = subst (AtKeySound y) (ap key_at (sym f) ∙ e) (key_at_sound y) in
     record { key = k.0; split = k.1; is_key = k.2 }
 
@@ -85,15 +85,15 @@ pub key_faulty : (x y : List ℕ) → x ≡ y → FaultyIn FaultyKey y (key_at x
 key_faulty x y e = subst (λ z. FaultyIn FaultyKey y (key_at z)) (sym e) (faulty_key y (key_at y) (key_at_sound y))
 
 -- a key in front is read
-key_in_front : {x y s u r : List ℕ} {plain : Bool} → x ≡ y → y ≡ s ++ r → Key s r u plain → key_at x ≡ got (u, plain) r
-key_in_front {s = s} {u = u} {r = r} {plain = plain} f e k = ap key_at (f ∙ e) ∙ key_of (s ++ r) (u, plain) r (key_complete k)
+key_in_front : {x y s u r : List ℕ} {escape_free : Bool} → x ≡ y → y ≡ s ++ r → Key s r u escape_free → key_at x ≡ got (u, escape_free) r
+key_in_front {s = s} {u = u} {r = r} {escape_free = escape_free} f e k = ap key_at (f ∙ e) ∙ key_of (s ++ r) (u, escape_free) r (key_complete k)
 
 -- and refused only where memory runs out
-pub key_memory : (x y s u r : List ℕ) (plain : Bool) (e : Refusal) → x ≡ y → Refuses e (outcome (key_at x)) → y ≡ s ++ r → Key s r u plain → e ≡ refusal.OutOfMemory
-key_memory x y s u r plain e f h split k = of_memory e (u, plain) r (subst (λ z. Refuses e (outcome z)) (key_in_front f split k) h)
+pub key_memory : (x y s u r : List ℕ) (escape_free : Bool) (e : Refusal) → x ≡ y → Refuses e (outcome (key_at x)) → y ≡ s ++ r → Key s r u escape_free → e ≡ refusal.OutOfMemory
+key_memory x y s u r escape_free e f h split k = of_memory e (u, escape_free) r (subst (λ z. Refuses e (outcome z)) (key_in_front f split k) h)
 
-pub plain_key_memory : (x y s u r : List ℕ) (e : Refusal) → x ≡ y → Refuses e (outcome (key_at x)) → SparesPlain e (key_at x) → y ≡ s ++ r → Key s r u true → ⊥
-plain_key_memory x y s u r e f h spares split k = spares (key_memory x y s u r true e f h split k) u r (key_in_front f split k)
+pub escape_free_key_memory : (x y s u r : List ℕ) (e : Refusal) → x ≡ y → Refuses e (outcome (key_at x)) → SparesEscapeFree e (key_at x) → y ≡ s ++ r → Key s r u true → ⊥
+escape_free_key_memory x y s u r e f h spares split k = spares (key_memory x y s u r true e f h split k) u r (key_in_front f split k)
 
 pub made_of_memory : (s : Cursor) (r : Refusal) (e : Error) → r ≡ refusal.OutOfMemory → MadeOf s r e → LacksMemory e
 made_of_memory s r e h m = subst (λ z. MadeOf s z e) h m

@@ -3,13 +3,12 @@ use mathlib.Core.Bool.{true≢false}
 use Rattle.std.proofs.Common.{◌≡◌, ℕ, Bool, true, false, List, [], ◌∷◌, ◌++◌, refl, ap, sym, ◌∙◌, subst, arith, Option, Some, None}
 use Rattle.std.specs.Prelude.{◌==◌, ◌||◌}
 use Rattle.std.proofs.lemmas.Bool.Decides.{nat_tests}
-use Rattle.json5_grammar.specs.Characters.{NotBegun}
+use Rattle.json5_grammar.specs.Language.Characters.{NotBegun}
 use Rattle.json5_grammar.specs.declared.code.ErrorCode.TheVariants.{EofParsingNumber, ExpectedNumber}
-use Rattle.json5_grammar.specs.Numbers.{Number, Num}
-use Rattle.json5_grammar.specs.NumberFaults.{is_sign, begins_number}
-use Rattle.json5_grammar.specs.Stops.{lengthens, begins_run}
-use Rattle.json5_grammar.specs.Reading.{Read, Place, here, inner, got, bad, IsAt}
-use Rattle.json5_grammar.specs.ReadNumbers.{number, unsigned}
+use Rattle.json5_grammar.specs.Language.Numbers.{Number, Num, lengthens, begins_run}
+use Rattle.json5_grammar.specs.Faults.Tokens.{is_sign, begins_number}
+use Rattle.json5_grammar.specs.Model.Reading.{Read, Place, here, inner, got, bad, IsAt}
+use Rattle.json5_grammar.specs.Model.ReadNumbers.{number, unsigned}
 use Rattle.json5_grammar.proofs.NumbersRead.{complete}
 use Rattle.json5_grammar.proofs.NumbersSound.{PlaceIs, SoundNumber, sound}
 use Rattle.json5_text.specs.Tokens.{FaultyNumber, no_number, number_missing}

@@ -4,11 +4,11 @@ use Rattle.std.specs.Prelude.{◌==◌, ◌||◌, ◌&&◌, not}
 use Rattle.std.specs.Str.{IsUtf8, chars, encode_utf8_all}
 use Rattle.std.proofs.lemmas.Bool.Decides.{nat_tests}
 use Rattle.std.proofs.lemmas.Str.{encodes-chars}
-use Rattle.json5_grammar.specs.Characters.{NotBegun, Each, char, is_identifier_start, is_identifier_part}
+use Rattle.json5_grammar.specs.Language.Characters.{NotBegun, Each, char, is_identifier_start, is_identifier_part}
 use Rattle.json5_grammar.specs.declared.code.ErrorCode.TheVariants.{EofParsingString, ExpectedIdentifier, ExpectedString, LineTerminatorInString}
-use Rattle.json5_grammar.specs.Strings.{is_raw, is_quote}
-use Rattle.json5_grammar.specs.Reading.{Read, got, bad, here, inner}
-use Rattle.json5_grammar.specs.ReadTexts.{put, identifier}
+use Rattle.json5_grammar.specs.Language.Strings.{is_raw, is_quote}
+use Rattle.json5_grammar.specs.Model.Reading.{Read, got, bad, here, inner}
+use Rattle.json5_grammar.specs.Model.ReadTexts.{put, identifier}
 use Rattle.json5_grammar.proofs.StringsRead.{put_none, raw_fails}
 use Rattle.json5_grammar.proofs.Turns.{string_is, rest_end, rest_quote, rest_line, rest_raw, name_rest, name_end, name_stops, name_raw, start_raw}
 use Rattle.json5_text.specs.declared.texts.Kind.{Kind}

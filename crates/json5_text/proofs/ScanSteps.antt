@@ -1,13 +1,13 @@
 -- One step of passing over blanks and words.
 use Rattle.std.proofs.Common.{Some, ◌≡◌, ℕ, true, false, List, [], ◌∷◌, refl, arith}
 use Rattle.std.specs.Prelude.{◌==◌}
-use Rattle.json5_grammar.specs.Characters.{is_blank, is_terminator, NotBegun}
+use Rattle.json5_grammar.specs.Language.Characters.{is_blank, is_terminator, NotBegun}
 use Rattle.json5_grammar.specs.declared.code.ErrorCode.TheVariants.{EofParsingComment, ExpectedComment}
-use Rattle.json5_grammar.specs.ReadValues.{word_at}
+use Rattle.json5_grammar.specs.Model.ReadValues.{word_at}
 use Rattle.json5_grammar.specs.declared.code.ErrorCode.{ErrorCode}
 use Rattle.json5_grammar.proofs.BlanksRead.{skip_slash}
-use Rattle.json5_grammar.specs.Reading.{got, bad, here, inner}
-use Rattle.json5_grammar.specs.ReadBlanks.{skip, between, slash, Mode}
+use Rattle.json5_grammar.specs.Model.Reading.{got, bad, here, inner}
+use Rattle.json5_grammar.specs.Model.ReadBlanks.{skip, between, slash, Mode}
 
 pub line_end : (c : ℕ) (xs ys : List ℕ) → xs ≡ c ∷ ys → is_terminator c ≡ true → skip Mode.line xs ≡ skip between ys
 unfolding skip

@@ -6,8 +6,8 @@ use Rattle.std.proofs.lemmas.List.{length-append, append-nil}
 use Rattle.std.proofs.lemmas.Str.{encodes-append, encodes-chars}
 use Rattle.json5_grammar.specs.declared.code.ErrorCode.{ErrorCode}
 use Rattle.json5_grammar.specs.declared.code.ErrorCode.TheVariants.{EofParsingIdentifier, ExpectedIdentifier, InvalidEscapeSequence}
-use Rattle.json5_grammar.specs.Reading.{Read, Place, got, bad, here, inner, and_then}
-use Rattle.json5_grammar.specs.ReadTexts.{name_escape, unicode_at, fit, one_char, put}
+use Rattle.json5_grammar.specs.Model.Reading.{Read, Place, got, bad, here, inner, and_then}
+use Rattle.json5_grammar.specs.Model.ReadTexts.{name_escape, unicode_at, fit, one_char, put}
 use Rattle.json5_grammar.proofs.EscapesSound.{EscapeSound, escape_sound}
 use Rattle.json5_grammar.proofs.NamesRead.{unicode_head}
 use Rattle.json5_grammar.proofs.NamesSound.{EscapedSound, escaped_sound}
@@ -88,7 +88,7 @@ bytes_past front a b c r u v e f g k =
 pub both_parts : (r u : List ℕ) → IsUtf8 r → r ++ encode_utf8_all u ≡ encode_utf8_all (chars r ++ u)
 both_parts r u k = ap (λ t. t ++ encode_utf8_all u) (sym (encodes-chars r k)) ∙ sym (encodes-append (chars r) u)
 
--- ---- a text with an escape isn't plain
+-- ---- a text with an escape isn't escape-free
 
 abbrev flag : Read (List ℕ × Bool) → Bool
 flag (got a r) = a.1
@@ -100,8 +100,8 @@ plain_put v u r true (got (w, false) y) e = let h : false ≡ true = ap flag e i
 plain_put v u r false (got a y) e = let h : false ≡ true = ap flag e in absurd (cc)
 plain_put v u r p (bad c z) e = let h : false ≡ true = ap flag e in absurd (cc)
 
-pub escape_not_plain : (k : Kind) (x y u r : List ℕ) → x ≡ 92 ∷ y → text_at k x ≡ got (u, true) r → ⊥
-escape_not_plain k x y u r e f = by_item (item k x y) refl
+pub escape_not_escape_free : (k : Kind) (x y u r : List ℕ) → x ≡ 92 ∷ y → text_at k x ≡ got (u, true) r → ⊥
+escape_not_escape_free k x y u r e f = by_item (item k x y) refl
   where
     by_item : (res : Read (List ℕ)) → item k x y ≡ res → ⊥
     by_item (got v z) h = let p = (plain_put v u r false (text_at (rest_of k) z) (sym (item_read k x y v z e h).0 ∙ f)).0 in absurd (cc)
@@ -109,12 +109,12 @@ escape_not_plain k x y u r e f = by_item (item k x y) refl
         let g : text_at k x ≡ bad c p = subst (λ t. item k t y ≡ bad c p → text_at k t ≡ bad c p) (sym e) (fault_at k y c p) h in
         absurd (cc)
 
-pub never_plain : (k : Kind) (x y u r : List ℕ) (p : Bool) → x ≡ 92 ∷ y → text_at k x ≡ got (u, p) r → p ≡ false
-never_plain k x y u r true e f = absurd (escape_not_plain k x y u r e f)
-never_plain k x y u r false e f = refl
+pub never_escape_free : (k : Kind) (x y u r : List ℕ) (p : Bool) → x ≡ 92 ∷ y → text_at k x ≡ got (u, p) r → p ≡ false
+never_escape_free k x y u r true e f = absurd (escape_not_escape_free k x y u r e f)
+never_escape_free k x y u r false e f = refl
 
-pub not_plain_past : (whole next : Read (List ℕ × Bool)) (u v r : List ℕ) (p : Bool) → whole ≡ put u p next → ((w y : List ℕ) → next ≡ got (w, true) y → ⊥) → whole ≡ got (v, true) r → ⊥
-not_plain_past whole next u v r p e n f =
+pub not_escape_free_past : (whole next : Read (List ℕ × Bool)) (u v r : List ℕ) (p : Bool) → whole ≡ put u p next → ((w y : List ℕ) → next ≡ got (w, true) y → ⊥) → whole ≡ got (v, true) r → ⊥
+not_escape_free_past whole next u v r p e n f =
     let k = plain_put u v r p next (sym e ∙ f) in
     n k.1.0 k.1.1 k.1.2
 

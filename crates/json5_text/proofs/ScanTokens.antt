@@ -4,16 +4,16 @@ use Rattle.std.specs.Prelude.{◌==◌, ◌||◌}
 use Rattle.std.specs.Str.{IsUtf8, chars}
 use Rattle.std.proofs.lemmas.Str.{encodes-chars}
 use Rattle.json5_grammar.specs.declared.code.ErrorCode.{ErrorCode}
-use Rattle.json5_grammar.specs.Blanks.{Gap, Solid}
-use Rattle.json5_grammar.specs.Reading.{Read, here, inner, got, bad}
-use Rattle.json5_grammar.specs.ReadBlanks.{skip, between}
-use Rattle.json5_grammar.specs.ReadValues.{word_at}
-use Rattle.json5_grammar.specs.Characters.{is_identifier_start}
+use Rattle.json5_grammar.specs.Language.Blanks.{Gap, Solid}
+use Rattle.json5_grammar.specs.Model.Reading.{Read, here, inner, got, bad}
+use Rattle.json5_grammar.specs.Model.ReadBlanks.{skip, between}
+use Rattle.json5_grammar.specs.Model.ReadValues.{word_at}
+use Rattle.json5_grammar.specs.Language.Characters.{is_identifier_start}
 use Rattle.json5_grammar.specs.declared.code.ErrorCode.TheVariants.{EofParsingIdentifier, ExpectedIdentifier}
-use Rattle.json5_grammar.specs.Names.{Ident, goes_on_name}
+use Rattle.json5_grammar.specs.Language.Names.{Ident, goes_on_name}
 use Rattle.json5_grammar.proofs.NamesRead.{name_complete}
-use Rattle.json5_grammar.specs.ReadTexts.{string, identifier}
-use Rattle.json5_grammar.specs.Strings.{is_quote, Str, quoted}
+use Rattle.json5_grammar.specs.Model.ReadTexts.{string, identifier}
+use Rattle.json5_grammar.specs.Language.Strings.{is_quote, Str, quoted}
 use Rattle.json5_grammar.proofs.Basics.{by_test}
 use Rattle.json5_grammar.proofs.NamesSound.{Stopped, NameSound, name_sound}
 use Rattle.json5_grammar.proofs.StringsRead.{string_complete}
@@ -92,13 +92,13 @@ at_sound (c ∷ r) =
     by_test (AtSound (c ∷ r)) (is_quote c) _ _ (λ h. from_string (c ∷ r) (string (c ∷ r)) (string_sound c r h))
     (λ h. record { place = Some []; fault = no_quote c r h; is_at = refl })
 
-pub record StringTaken (x u r : List ℕ) (plain : Bool) : Type 0 where
+pub record StringTaken (x u r : List ℕ) (escape_free : Bool) : Type 0 where
   pub string : List ℕ
   pub split : x ≡ string ++ r
-  pub is_string : Str string u plain
+  pub is_string : Str string u escape_free
 
-pub string_taken : (x y u r : List ℕ) (plain : Bool) → x ≡ y → string_at x ≡ got (u, plain) r → StringTaken y u r plain
-string_taken x y u r plain f e =
+pub string_taken : (x y u r : List ℕ) (escape_free : Bool) → x ≡ y → string_at x ≡ got (u, escape_free) r → StringTaken y u r escape_free
+string_taken x y u r escape_free f e =
     let k = subst (AtSound y) (ap string_at (sym f) ∙ e) (at_sound y) in
     record { string = k.0; split = k.1; is_string = k.2 }
 
@@ -110,16 +110,16 @@ pub string_faulty : (x y : List ℕ) → x ≡ y → FaultyIn FaultyString y (st
 string_faulty x y e = subst (λ z. FaultyIn FaultyString y (string_at z)) (sym e) (faulty_string y (string_at y) (at_sound y))
 
 -- a string in front is read
-string_quoted : {s u : List ℕ} {plain : Bool} (r : List ℕ) → Str s u plain → string_at (s ++ r) ≡ string (s ++ r)
+string_quoted : {s u : List ℕ} {escape_free : Bool} (r : List ℕ) → Str s u escape_free → string_at (s ++ r) ≡ string (s ++ r)
 unfolding string_at
 string_quoted r (quoted k i) = rw k refl
 
-string_in_front : {s u : List ℕ} {plain : Bool} (r : List ℕ) → Str s u plain → string_at (s ++ r) ≡ got (u, plain) r
+string_in_front : {s u : List ℕ} {escape_free : Bool} (r : List ℕ) → Str s u escape_free → string_at (s ++ r) ≡ got (u, escape_free) r
 string_in_front r k = string_quoted r k ∙ string_complete r k
 
 -- what can be read is refused only where memory runs out
 pub of_memory : {A : Type 0} (r : Refusal) (a : A) (x : List ℕ) → Refuses {A = A} r (gave a x) → r ≡ refusal.OutOfMemory
-of_memory {A = A} (refusal.Code c left) a x h = absurd (gave_failed A a x (Some c) left h)
+of_memory {A = A} (refusal.TokenError c left) a x h = absurd (gave_failed A a x (Some c) left h)
 of_memory {A = A} (refusal.InvalidNumber left) a x h = absurd (gave_failed A a x None (Some left) h)
 of_memory {A = A} (refusal.TooLarge left) a x h = absurd (gave_failed A a x None (Some left) h)
 of_memory {A = A} (refusal.UnpairedSurrogate k left) a x h = absurd (gave_failed A a x None (Some left) h)
@@ -129,12 +129,12 @@ of_memory refusal.OutOfMemory a x h = refl
 pub never_refused : {A : Type 0} (r : Refusal) (m : Read A) (a : A) (x : List ℕ) → m ≡ got a x → Refuses r (outcome m) → HasFault r → ⊥
 never_refused r m a x e h k = no_memory r k (of_memory r a x (subst (λ z. Refuses r (outcome z)) e h))
 
-pub string_never : (x y s u t : List ℕ) (plain : Bool) (r : Refusal) → x ≡ y → Refuses r (outcome (string_at x)) → HasFault r → y ≡ s ++ t → Str s u plain → ⊥
-string_never x y s u t plain r f h k e p = never_refused r (string_at x) (u, plain) t (ap string_at (f ∙ e) ∙ string_in_front t p) h k
+pub string_never : (x y s u t : List ℕ) (escape_free : Bool) (r : Refusal) → x ≡ y → Refuses r (outcome (string_at x)) → HasFault r → y ≡ s ++ t → Str s u escape_free → ⊥
+string_never x y s u t escape_free r f h k e p = never_refused r (string_at x) (u, escape_free) t (ap string_at (f ∙ e) ∙ string_in_front t p) h k
 
--- memory doesn't run out at a plain string in front
-pub plain_memory : (x y s u t : List ℕ) (r : Refusal) → x ≡ y → Refuses r (outcome (string_at x)) → (r ≡ refusal.OutOfMemory → (u t : List ℕ) → string_at x ≡ got (u, true) t → ⊥) → y ≡ s ++ t → Str s u true → ⊥
-plain_memory x y s u t r f h k e p =
+-- memory doesn't run out at an escape-free string in front
+pub escape_free_memory : (x y s u t : List ℕ) (r : Refusal) → x ≡ y → Refuses r (outcome (string_at x)) → (r ≡ refusal.OutOfMemory → (u t : List ℕ) → string_at x ≡ got (u, true) t → ⊥) → y ≡ s ++ t → Str s u true → ⊥
+escape_free_memory x y s u t r f h k e p =
     let read : string_at x ≡ got (u, true) t = ap string_at (f ∙ e) ∙ string_in_front t p in
     k (of_memory r (u, true) t (subst (λ z. Refuses r (outcome z)) read h)) u t read
 
@@ -169,14 +169,14 @@ name_at_sound (c ∷ r) = by_flag ((c == 92) || is_identifier_start c) refl
     by_flag true h = from_name (c ∷ r) (identifier (c ∷ r)) (name_sound c r h)
     by_flag false h = subst (NameAtSound (c ∷ r)) (sym (no_name_at c r h)) (record { place = Some []; fault = no_name c r h; is_at = refl })
 
-pub record NameTaken (x u r : List ℕ) (plain : Bool) : Type 0 where
+pub record NameTaken (x u r : List ℕ) (escape_free : Bool) : Type 0 where
   pub name : List ℕ
   pub split : x ≡ name ++ r
-  pub is_name : Ident name u plain
+  pub is_name : Ident name u escape_free
   pub stops : Stopped r
 
-pub name_taken : (x y u r : List ℕ) (plain : Bool) → x ≡ y → identifier x ≡ got (u, plain) r → NameTaken y u r plain
-name_taken x y u r plain f e =
+pub name_taken : (x y u r : List ℕ) (escape_free : Bool) → x ≡ y → identifier x ≡ got (u, escape_free) r → NameTaken y u r escape_free
+name_taken x y u r escape_free f e =
     let k = subst (NameAtSound y) (ap identifier (sym f) ∙ e) (name_at_sound y) in
     record { name = k.0; split = k.1; is_name = k.2; stops = k.3 }
 
@@ -187,12 +187,12 @@ faulty_name x (bad e p) k = k
 pub name_faulty : (x y : List ℕ) → x ≡ y → FaultyIn FaultyName y (identifier x)
 name_faulty x y e = subst (λ z. FaultyIn FaultyName y (identifier z)) (sym e) (faulty_name y (identifier y) (name_at_sound y))
 
--- memory doesn't run out at a plain name in front
-pub plain_name_memory : (x y s u t : List ℕ) (c : ℕ) (r : Refusal) → x ≡ y → Refuses r (outcome (identifier x)) → (r ≡ refusal.OutOfMemory → (u t : List ℕ) → identifier x ≡ got (u, true) t → ⊥) → y ≡ s ++ c ∷ t → Ident s u true
+-- memory doesn't run out at an escape-free name in front
+pub escape_free_name_memory : (x y s u t : List ℕ) (c : ℕ) (r : Refusal) → x ≡ y → Refuses r (outcome (identifier x)) → (r ≡ refusal.OutOfMemory → (u t : List ℕ) → identifier x ≡ got (u, true) t → ⊥) → y ≡ s ++ c ∷ t → Ident s u true
     → goes_on_name c ≡ false → ⊥
-plain_name_memory x y s u t c r f h k e p stops =
+escape_free_name_memory x y s u t c r f h k e p stops =
     let read : identifier x ≡ got (u, true) (c ∷ t) = ap identifier (f ∙ e) ∙ name_complete c t p stops in
     k (of_memory r (u, true) (c ∷ t) (subst (λ z. Refuses r (outcome z)) read h)) u (c ∷ t) read
 
-pub name_never : (x y s u t : List ℕ) (c : ℕ) (plain : Bool) (r : Refusal) → x ≡ y → Refuses r (outcome (identifier x)) → HasFault r → y ≡ s ++ c ∷ t → Ident s u plain → goes_on_name c ≡ false → ⊥
-name_never x y s u t c plain r f h k e p stops = never_refused r (identifier x) (u, plain) (c ∷ t) (ap identifier (f ∙ e) ∙ name_complete c t p stops) h k
+pub name_never : (x y s u t : List ℕ) (c : ℕ) (escape_free : Bool) (r : Refusal) → x ≡ y → Refuses r (outcome (identifier x)) → HasFault r → y ≡ s ++ c ∷ t → Ident s u escape_free → goes_on_name c ≡ false → ⊥
+name_never x y s u t c escape_free r f h k e p stops = never_refused r (identifier x) (u, escape_free) (c ∷ t) (ap identifier (f ∙ e) ∙ name_complete c t p stops) h k

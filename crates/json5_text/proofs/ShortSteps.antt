@@ -6,10 +6,10 @@ use Rattle.std.specs.Str.{IsUtf8, chars}
 use Rattle.std.proofs.lemmas.Bool.Decides.{nat_tests}
 use Rattle.std.proofs.lemmas.List.{append_assoc, length-drop}
 use Rattle.std.proofs.lemmas.Str.{IsUtf8-drop, chars_past_char, encode_ascii, IsCharBoundary-after_ascii}
-use Rattle.json5_grammar.specs.Blanks.{Gap}
-use Rattle.json5_grammar.specs.Characters.{comma_sign}
-use Rattle.json5_grammar.specs.Members.{IsSign}
-use Rattle.json5_grammar.specs.ReadBlanks.{skip, between}
+use Rattle.json5_grammar.specs.Language.Blanks.{Gap}
+use Rattle.json5_grammar.specs.Language.Characters.{comma_sign}
+use Rattle.json5_grammar.specs.Model.Collections.{IsSign}
+use Rattle.json5_grammar.specs.Model.ReadBlanks.{skip, between}
 use Rattle.json5_grammar.proofs.Basics.{eq_from}
 use Rattle.json5_grammar.proofs.BlanksSound.{gap_blanks}
 use Rattle.json5_text.specs.TokenResults.{Gives}
@@ -77,10 +77,10 @@ if_comma text rest next closing None g f n k = tt
 if_comma text rest next closing (Some found) g f n k = comma_found text rest next closing found g f n k
 
 -- what was found in front was taken
-pub stepped : {closing : ℕ} {due : Bool} {text : List ℕ} {found : Step} (old new : Cursor) (b : Bool) → FindsStep closing due text found → chars text ≡ old.unread → LeavesAt old found.left new → found.at_closing ≡ b → Stepped closing due b old new
-stepped {closing = closing} {due = due} old new b k e left is =
+pub stepped : {closing : ℕ} {comma_due : Bool} {text : List ℕ} {found : Step} (old new : Cursor) (b : Bool) → FindsStep closing comma_due text found → chars text ≡ old.unread → LeavesAt old found.left new → found.at_closing ≡ b → Stepped closing comma_due b old new
+stepped {closing = closing} {comma_due = comma_due} old new b k e left is =
     let l = left k.passed (chars k.rest) (sym e ∙ k.split) (k.counted ∙ left_counted k.rest k.text_rest) in
-    let step : IsStep closing due b old.unread new.unread = rw (e, is, sym l.1) at k.step in
+    let step : IsStep closing comma_due b old.unread new.unread = rw (e, is, sym l.1) at k.step in
     record { step = step; same = l.0.same }
 
 -- ---- a sign alone

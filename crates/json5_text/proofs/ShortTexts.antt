@@ -5,14 +5,14 @@ use Rattle.std.specs.Str.{IsUtf8, chars}
 use Rattle.std.proofs.lemmas.Bool.Decides.{nat_tests}
 use Rattle.std.proofs.lemmas.List.{length-drop}
 use Rattle.std.proofs.lemmas.Str.{IsUtf8-drop, chars_past_char, encode_ascii}
-use Rattle.json5_grammar.specs.Blanks.{Blanks, Gap, Solid, is_solid}
-use Rattle.json5_grammar.specs.Characters.{NotBegun, Each, no_char, char, is_in, is_identifier_part}
-use Rattle.json5_grammar.specs.Names.{Ident, name, NameParts, no_part, part, raw_name, Key, string_key, name_key, goes_on_name}
-use Rattle.json5_grammar.specs.ReadBlanks.{skip, between}
-use Rattle.json5_grammar.specs.Reading.{got}
-use Rattle.json5_grammar.specs.ReadNumbers.{front_of, rest_of}
-use Rattle.json5_grammar.specs.Strings.{quoted, Items, no_item, raw, is_raw}
-use Rattle.json5_grammar.specs.Values.{is_text}
+use Rattle.json5_grammar.specs.Language.Blanks.{Blanks, Gap, Solid, is_solid}
+use Rattle.json5_grammar.specs.Language.Characters.{NotBegun, Each, no_char, char, is_in, is_identifier_part}
+use Rattle.json5_grammar.specs.Language.Names.{Ident, name, NameParts, no_part, part, raw_name, Key, string_key, name_key, goes_on_name}
+use Rattle.json5_grammar.specs.Model.ReadBlanks.{skip, between}
+use Rattle.json5_grammar.specs.Model.Reading.{got}
+use Rattle.json5_grammar.specs.Model.ReadNumbers.{front_of, rest_of}
+use Rattle.json5_grammar.specs.Language.Strings.{quoted, Items, no_item, raw, is_raw}
+use Rattle.json5_grammar.specs.Language.Values.{is_text}
 use Rattle.json5_grammar.proofs.BlanksRead.{skip_rest, begins_solid, printable_solid}
 use Rattle.json5_grammar.proofs.BlanksSound.{gap_blanks}
 use Rattle.json5_grammar.proofs.NumberTests.{front_each, rest_stops}
@@ -24,7 +24,7 @@ use Rattle.json5_text.specs.Outcome.{bytes_in}
 use Rattle.json5_text.specs.Scan.{InText, Leaves, LeavesAt, SkipsAll}
 use Rattle.json5_text.specs.ScanTexts.{quote_of}
 use Rattle.json5_text.specs.Short.{IsInFront}
-use Rattle.json5_text.specs.ShortTexts.{ReadsPlainString, ReadsPlainKey, IsPlainString, IsPlainKey, TookPlain, StandsBefore, FindsPlain, HasSolid, FindsFirst}
+use Rattle.json5_text.specs.ShortTexts.{ReadsEscapeFreeString, ReadsEscapeFreeKey, IsEscapeFreeString, IsEscapeFreeKey, TookEscapeFree, StandsBefore, FindsEscapeFree, HasSolid, FindsFirst}
 use Rattle.json5_text.specs.declared.short_texts.FoundText.{FoundText}
 use Rattle.json5_text.specs.declared.texts.Quote.{Quote}
 use Rattle.json5_text.specs.declared.texts.Quote.TheVariants as quotes
@@ -45,7 +45,7 @@ quote_solid quotes.Double = printable_solid 34 refl refl
 quote_solid quotes.Single = printable_solid 39 refl refl
 
 pub quoted_found : (q : Quote) (body rest : List ℕ) → IsUtf8 body → IsUtf8 rest → SkipsAll (is_raw (quote_of q)) body rest → IsInFront (quote_of q) rest true
-    → FindsPlain IsPlainString (quote_of q ∷ chars body) (record { from = length body; to = length rest; left = length rest - 1 })
+    → FindsEscapeFree IsEscapeFreeString (quote_of q ∷ chars body) (record { from = length body; to = length rest; left = length rest - 1 })
 quoted_found q body rest u v s f =
     let e : chars body ≡ s.passed ++ (quote_of q ∷ chars (drop 1 rest)) = s.split ∙ ap (λ z. s.passed ++ z) f.1 in
     record {
@@ -69,16 +69,16 @@ quote_first : (q : Quote) (text body : List ℕ) → IsInFront (quote_of q) text
 quote_first q text body f e = f.1 ∙ ap (λ z. quote_of q ∷ chars z) (sym e)
 
 pub string_first : (q : Quote) (text body : List ℕ) (o : Option FoundText) → IsInFront (quote_of q) text true → body ≡ drop 1 text
-    → IfSome o (FindsPlain IsPlainString (quote_of q ∷ chars body)) → IfSome o (FindsFirst IsPlainString (chars text))
+    → IfSome o (FindsEscapeFree IsEscapeFreeString (quote_of q ∷ chars body)) → IfSome o (FindsFirst IsEscapeFreeString (chars text))
 string_first q text body None f e k = tt
 string_first q text body (Some found) f e k =
     let same = quote_first q text body f e in
-    (subst (λ z. FindsPlain IsPlainString z found) (sym same) k, (quote_of q, chars body, same, quote_solid q))
+    (subst (λ z. FindsEscapeFree IsEscapeFreeString z found) (sym same) k, (quote_of q, chars body, same, quote_solid q))
 
-as_key : (x : List ℕ) (found : FoundText) → FindsFirst IsPlainString x found → FindsFirst IsPlainKey x found
+as_key : (x : List ℕ) (found : FoundText) → FindsFirst IsEscapeFreeString x found → FindsFirst IsEscapeFreeKey x found
 as_key x found (k, solid) = (record { token = k.token; spelled = k.spelled; rest = k.rest; split = k.split; is_token = string_key k.is_token; place = k.place; counted = k.counted }, solid)
 
-pub key_first : (x : List ℕ) (o : Option FoundText) → IfSome o (FindsFirst IsPlainString x) → IfSome o (FindsFirst IsPlainKey x)
+pub key_first : (x : List ℕ) (o : Option FoundText) → IfSome o (FindsFirst IsEscapeFreeString x) → IfSome o (FindsFirst IsEscapeFreeKey x)
 key_first x None k = tt
 key_first x (Some found) k = as_key x found k
 
@@ -87,17 +87,17 @@ key_first x (Some found) k = as_key x found k
 no_backslash : (c : ℕ) → is_ascii_part c ≡ true → c ≡ 92 → ⊥
 no_backslash c h e = grind (arith, nat_tests)
 
-parts_plain : (s : List ℕ) → Each is_ascii_part s → NameParts s s true
-parts_plain [] no_char = no_part
-parts_plain (c ∷ s) (char h e) = part (raw_name (no_backslash c h)) (ascii_part c (parts_ascii c h) ∙ h) (parts_plain s e)
+parts_escape_free : (s : List ℕ) → Each is_ascii_part s → NameParts s s true
+parts_escape_free [] no_char = no_part
+parts_escape_free (c ∷ s) (char h e) = part (raw_name (no_backslash c h)) (ascii_part c (parts_ascii c h) ∙ h) (parts_escape_free s e)
 
 start_is_part : (c : ℕ) → is_ascii_start c ≡ true → is_ascii_part c ≡ true
 start_is_part c h = rw h refl
 
-name_plain : (c : ℕ) (s : List ℕ) → is_ascii_start c ≡ true → Each is_ascii_part s → Ident (c ∷ s) (c ∷ s) true
-name_plain c s h e =
+name_escape_free : (c : ℕ) (s : List ℕ) → is_ascii_start c ≡ true → Each is_ascii_part s → Ident (c ∷ s) (c ∷ s) true
+name_escape_free c s h e =
     let p = start_is_part c h in
-    name (raw_name (no_backslash c p)) (ascii_start c (parts_ascii c p) ∙ h) (parts_plain s e)
+    name (raw_name (no_backslash c p)) (ascii_start c (parts_ascii c p) ∙ h) (parts_escape_free s e)
 
 front_begins : (p : ℕ → Bool) (c : ℕ) (s : List ℕ) → p c ≡ true → front_of p (c ∷ s) ≡ c ∷ front_of p s
 unfolding front_of
@@ -129,8 +129,8 @@ record After (rest : List ℕ) : Type 0 where
 after_name : (rest : List ℕ) (c : ℕ) → IsUtf8 rest → 0 < length rest → slice_index rest 0 ≡ c → is_plain_ascii c ≡ true → NotBegun is_ascii_part rest → After rest
 after_name [] c u l e h n = absurd (omega arith)
 after_name (d ∷ rest) c u l e h n =
-    let plain : is_plain_ascii d ≡ true = ap is_plain_ascii e ∙ h in
-    record { first = d; more = chars rest; split = chars_past_char (d ∷ rest) rest d u (ap (λ z. z ++ rest) (sym (encode_ascii d (ends_low d plain)))); ends = stops_name d plain n }
+    let escape_free : is_plain_ascii d ≡ true = ap is_plain_ascii e ∙ h in
+    record { first = d; more = chars rest; split = chars_past_char (d ∷ rest) rest d u (ap (λ z. z ++ rest) (sym (encode_ascii d (ends_low d escape_free)))); ends = stops_name d escape_free n }
 
 index_after : (s : List ℕ) (n : ℕ) → slice_index (drop n s) 0 ≡ slice_index s n
 index_after [] zero = refl
@@ -141,10 +141,10 @@ index_after (x ∷ s) (suc n) = index_after s n
 name_token : (s r : List ℕ) (c : ℕ) → is_ascii_start c ≡ true → Each is_ascii_part (front_of is_ascii_part (c ∷ s)) → After r → Key (front_of is_ascii_part (c ∷ s)) (chars r) (front_of is_ascii_part (c ∷ s)) true
 name_token s r c h e a =
     let same = front_begins is_ascii_part c s (start_is_part c h) in
-    let i : Ident (front_of is_ascii_part (c ∷ s)) (front_of is_ascii_part (c ∷ s)) true = subst (λ z. Ident z z true) (sym same) (name_plain c (front_of is_ascii_part s) h (front_each is_ascii_part s)) in
+    let i : Ident (front_of is_ascii_part (c ∷ s)) (front_of is_ascii_part (c ∷ s)) true = subst (λ z. Ident z z true) (sym same) (name_escape_free c (front_of is_ascii_part s) h (front_each is_ascii_part s)) in
     subst (λ z. Key (front_of is_ascii_part (c ∷ s)) z (front_of is_ascii_part (c ∷ s)) true) (sym a.split) (name_key i a.ends)
 
-pub name_found : (text : List ℕ) (len : ℕ) → IsUtf8 text → IsAsciiName text len → FindsFirst IsPlainKey (chars text) (record { from = length text; to = length text - len; left = length text - len })
+pub name_found : (text : List ℕ) (len : ℕ) → IsUtf8 text → IsAsciiName text len → FindsFirst IsEscapeFreeKey (chars text) (record { from = length text; to = length text - len; left = length text - len })
 name_found [] len u k = absurd (let l = k.some in omega arith)
 name_found (c ∷ s) len u k =
     let text = c ∷ s in
@@ -187,10 +187,10 @@ blanks_before x y e (c, r, f, h) =
 abbrev pub ReadsToken : (List ℕ → List ℕ → List ℕ → Type 0) → (List ℕ → List ℕ → List ℕ → Type 0) → Type 0
 ReadsToken IsToken IsRead = (x w s u r : List ℕ) → x ≡ w ++ (s ++ r) → Blanks w → IsToken s u r → IsRead x u r
 
-pub string_read : ReadsToken IsPlainString ReadsPlainString
+pub string_read : ReadsToken IsEscapeFreeString ReadsEscapeFreeString
 string_read x w s u r e b k = record { front = w; phrase = s; split = e; blank = b; value = is_text k; stops = text_stops r k }
 
-pub key_read : ReadsToken IsPlainKey ReadsPlainKey
+pub key_read : ReadsToken IsEscapeFreeKey ReadsEscapeFreeKey
 key_read x w s u r e b k = record { front = w; spelling = s; split = e; blank = b; key = k }
 
 -- blanks and a token are in front of x
@@ -250,8 +250,8 @@ stands_at {text = text} {u = u} {offset = offset} {end = end} {from = from} {to 
 pub found_leaves : {IsRead : List ℕ → List ℕ → List ℕ → Type 0} {found : FoundText} (s : Cursor) → Found IsRead s.unread found → Leaves s found.left
 found_leaves s k = record { passed = k.taken; rest = k.rest; split = k.split; counted = k.counted }
 
-pub took_plain : {IsRead : List ℕ → List ℕ → List ℕ → Type 0} {text : List ℕ} {offset end : ℕ} {found : FoundText} (old new : Cursor) → InText text offset end → chars text ≡ old.input → chars (drop offset text) ≡ old.unread → Found IsRead old.unread found
-    → LeavesAt old found.left new → TookPlain IsRead old new (record { start = end - found.from; end = end - found.to })
-took_plain {IsRead = IsRead} old new k i e f left =
+pub took_escape_free : {IsRead : List ℕ → List ℕ → List ℕ → Type 0} {text : List ℕ} {offset end : ℕ} {found : FoundText} (old new : Cursor) → InText text offset end → chars text ≡ old.input → chars (drop offset text) ≡ old.unread → Found IsRead old.unread found
+    → LeavesAt old found.left new → TookEscapeFree IsRead old new (record { start = end - found.from; end = end - found.to })
+took_escape_free {IsRead = IsRead} old new k i e f left =
     let l = left f.taken f.rest f.split f.counted in
     record { spelled = f.spelled; read = subst (IsRead old.unread f.spelled) (sym l.1) f.read; stands = stands_at old k i e f.place; same = l.0.same }

@@ -5,14 +5,13 @@ use Rattle.std.proofs.lemmas.Int.{ints, to_z-of_z}
 use mir.Syntax.{w128}
 use mir.Val.{to_z, of_z, SFits}
 use Rattle.std.specs.Int.Signed.{lt_z, lt_z_no}
-use Rattle.json5_grammar.specs.Blanks.{Gap}
-use Rattle.json5_grammar.specs.Characters.{NotBegun}
-use Rattle.json5_grammar.specs.Numbers.{Num, whole}
-use Rattle.json5_grammar.specs.Reading.{got}
-use Rattle.json5_grammar.specs.ReadBlanks.{skip, between}
-use Rattle.json5_grammar.specs.ReadNumbers.{number}
-use Rattle.json5_grammar.specs.Stops.{lengthens}
-use Rattle.json5_grammar.specs.Values.{is_number}
+use Rattle.json5_grammar.specs.Language.Blanks.{Gap}
+use Rattle.json5_grammar.specs.Language.Characters.{NotBegun}
+use Rattle.json5_grammar.specs.Language.Numbers.{Num, whole, lengthens}
+use Rattle.json5_grammar.specs.Model.Reading.{got}
+use Rattle.json5_grammar.specs.Model.ReadBlanks.{skip, between}
+use Rattle.json5_grammar.specs.Model.ReadNumbers.{number}
+use Rattle.json5_grammar.specs.Language.Values.{is_number}
 use Rattle.json5_grammar.proofs.ValueHeads.{val_head, skip_value}
 use Rattle.json5_text.specs.ByteRuns.{IsShort}
 use Rattle.json5_text.specs.Cursor.{Cursor}

@@ -8,16 +8,15 @@ use Rattle.std.proofs.lemmas.List.{length-take}
 use Rattle.std.proofs.lemmas.List.Sums.{prefix_len-le-length}
 use Rattle.std.proofs.lemmas.Bool.Decides.{nat_tests}
 use Rattle.std.proofs.lemmas.Str.{chars_from_encodes, chars_past_char, encode_ascii, IsCharBoundary-after_ascii}
-use Rattle.json5_grammar.specs.Characters.{is_digit, NotBegun, Each, char}
-use Rattle.json5_grammar.specs.Numbers.{spelled, is_empty, Integer, lone_zero, nonzero, Num, is_integer, no_sign, minus, integer, whole}
-use Rattle.json5_grammar.specs.Stops.{in_run, after_zero, begins_run, lengthens, lengthens_body}
-use Rattle.json5_grammar.specs.Reading.{got}
-use Rattle.json5_grammar.specs.ReadNumbers as model
+use Rattle.json5_grammar.specs.Language.Characters.{is_digit, NotBegun, Each, char}
+use Rattle.json5_grammar.specs.Language.Numbers.{spelled, is_empty, Integer, lone_zero, nonzero, Num, is_integer, no_sign, minus, integer, whole, in_run, after_zero, begins_run, lengthens, lengthens_body}
+use Rattle.json5_grammar.specs.Model.Reading.{got}
+use Rattle.json5_grammar.specs.Model.ReadNumbers as model
 use Rattle.json5_grammar.proofs.NumbersRead.{complete}
 use Rattle.json5_grammar.proofs.WholesWritten.{literal_alone}
 use Rattle.std.proofs.lemmas.Int.{ints}
 use Rattle.json5_text.specs.TokenResults.{Gives}
-use Rattle.json5_grammar.specs.ReadNumbers.{front_of, rest_of}
+use Rattle.json5_grammar.specs.Model.ReadNumbers.{front_of, rest_of}
 use Rattle.json5_grammar.proofs.NumberTests.{front_each, digit_nonzero, nonzero_not_48, nonzero_digit, digit_no_sign}
 use Rattle.json5_grammar.proofs.Basics.{eq_from}
 use Rattle.json5_text.specs.declared.bytes.FewDigits.{FewDigits}

@@ -8,10 +8,10 @@ use Rattle.std.proofs.Math.Seq.{drop-append_seam}
 use Rattle.std.proofs.lemmas.List.{length-append}
 use Rattle.std.proofs.lemmas.Str.{encode_ascii, encodes-chars, encodes-append, chars-encodes}
 use Rattle.std.proofs.lemmas.Bool.Decides.{nat_tests}
-use Rattle.json5_grammar.specs.Characters.{NotBegun, Each, no_char, char}
-use Rattle.json5_grammar.specs.ReadNumbers.{front_of, rest_of}
+use Rattle.json5_grammar.specs.Language.Characters.{NotBegun, Each, no_char, char}
+use Rattle.json5_grammar.specs.Model.ReadNumbers.{front_of, rest_of}
 use Rattle.json5_grammar.proofs.NumberTests.{by_test, front_each, front_rest, rest_stops}
-use Rattle.json5_grammar.specs.Strings.{is_raw, is_quote}
+use Rattle.json5_grammar.specs.Language.Strings.{is_raw, is_quote}
 use Rattle.json5_text.specs.ByteRuns.{is_in_line, is_line_part, is_no_star}
 use Rattle.json5_text.specs.Outcome.{bytes_in}
 use Rattle.json5_text.specs.Scan.{SkipsAll}

@@ -6,9 +6,9 @@ use Rattle.std.specs.Str.{all_scalars, chars, encode_utf8_all}
 use Rattle.std.proofs.lemmas.Bool.{and_parts}
 use Rattle.std.proofs.lemmas.Bool.Decides.{nat_tests}
 use Rattle.std.proofs.lemmas.Str.{chars-encodes}
-use Rattle.json5_grammar.specs.Characters.{is_in, is_hex_digit, char, no_char}
-use Rattle.json5_grammar.specs.Strings.{short_escape, Hex4, hex4, is_high, is_low, pair_value, Unicode, single, surrogates, Escape, short, nul, byte, unicode, line_end, cr_lf, lone_cr, itself, Items, no_item, raw, escape, Str, quoted}
-use Rattle.json5_grammar.specs.Names.{NameItem, raw_name, escaped_name, NameParts, no_part, part, Ident, name, Key, string_key, name_key}
+use Rattle.json5_grammar.specs.Language.Characters.{is_in, is_hex_digit, char, no_char}
+use Rattle.json5_grammar.specs.Language.Strings.{short_escape, Hex4, hex4, is_high, is_low, pair_value, Unicode, single, surrogates, Escape, short, nul, byte, unicode, line_end, cr_lf, lone_cr, itself, Items, no_item, raw, escape, Str, quoted}
+use Rattle.json5_grammar.specs.Language.Names.{NameItem, raw_name, escaped_name, NameParts, no_part, part, Ident, name, Key, string_key, name_key}
 use Rattle.json5_grammar.proofs.Basics.{by_test}
 use Rattle.json5_text.proofs.ScanBytes.{scalar_halves, one_scalar}
 
@@ -88,12 +88,12 @@ escape_scalars cr_lf k = refl
 escape_scalars (lone_cr h) k = refl
 escape_scalars (itself {c = c} h) k = (one_more 92 (c ∷ []) k).1
 
-items_scalars : {q : ℕ} {r s u : List ℕ} {plain : Bool} → Items q r s u plain → all_scalars s ≡ true → all_scalars u ≡ true
+items_scalars : {q : ℕ} {r s u : List ℕ} {escape_free : Bool} → Items q r s u escape_free → all_scalars s ≡ true → all_scalars u ≡ true
 items_scalars no_item k = refl
 items_scalars (raw {c = c} {s = s} {u = u} h i) k = let l = one_more c s k in more_scalars c u l.0 (items_scalars i l.1)
 items_scalars (escape {e = e} {v = v} {s = s} {u = u} x i) k = let l = scalar_halves e s k in append_scalars v u (escape_scalars x l.0) (items_scalars i l.1)
 
-pub text_scalars : {s u : List ℕ} {plain : Bool} → Str s u plain → all_scalars s ≡ true → all_scalars u ≡ true
+pub text_scalars : {s u : List ℕ} {escape_free : Bool} → Str s u escape_free → all_scalars s ≡ true → all_scalars u ≡ true
 text_scalars (quoted {q = q} {s = s} h i) k = items_scalars i (scalar_halves s (q ∷ []) (one_more q (s ++ q ∷ []) k).1).0
 
 -- ---- keys
@@ -102,25 +102,25 @@ item_scalar : {v : List ℕ} {c : ℕ} {p : Bool} → NameItem v c p → all_sca
 item_scalar (raw_name {c = c} n) k = (one_more c [] k).0
 item_scalar (escaped_name u) k = unicode_scalar u
 
-parts_scalars : {s u : List ℕ} {plain : Bool} → NameParts s u plain → all_scalars s ≡ true → all_scalars u ≡ true
+parts_scalars : {s u : List ℕ} {escape_free : Bool} → NameParts s u escape_free → all_scalars s ≡ true → all_scalars u ≡ true
 parts_scalars no_part k = refl
 parts_scalars (part {s = s} {v = v} {u = u} {c = c} i h n) k = let l = scalar_halves v s k in more_scalars c u (item_scalar i l.0) (parts_scalars n l.1)
 
-name_scalars : {s u : List ℕ} {plain : Bool} → Ident s u plain → all_scalars s ≡ true → all_scalars u ≡ true
+name_scalars : {s u : List ℕ} {escape_free : Bool} → Ident s u escape_free → all_scalars s ≡ true → all_scalars u ≡ true
 name_scalars (name {v = v} {s = s} {u = u} {c = c} i h n) k = let l = scalar_halves v s k in more_scalars c u (item_scalar i l.0) (parts_scalars n l.1)
 
-key_spelled : {s r u : List ℕ} {plain : Bool} → Key s r u plain → all_scalars s ≡ true → all_scalars u ≡ true
+key_spelled : {s r u : List ℕ} {escape_free : Bool} → Key s r u escape_free → all_scalars s ≡ true → all_scalars u ≡ true
 key_spelled (string_key k) h = text_scalars k h
 key_spelled (name_key i e) h = name_scalars i h
 
 -- a key in front has a text of scalar values
-pub key_scalars : {s u : List ℕ} {plain : Bool} (x r : List ℕ) → x ≡ s ++ r → all_scalars x ≡ true → Key s r u plain → all_scalars u ≡ true
+pub key_scalars : {s u : List ℕ} {escape_free : Bool} (x r : List ℕ) → x ≡ s ++ r → all_scalars x ≡ true → Key s r u escape_free → all_scalars u ≡ true
 key_scalars {s = s} x r split h k = key_spelled k (scalar_halves s r (subst (λ z. all_scalars z ≡ true) split h)).0
 
 -- a string in front has a text of scalar values
-pub string_scalars : {s u : List ℕ} {plain : Bool} (x r : List ℕ) → x ≡ s ++ r → all_scalars x ≡ true → Str s u plain → all_scalars u ≡ true
+pub string_scalars : {s u : List ℕ} {escape_free : Bool} (x r : List ℕ) → x ≡ s ++ r → all_scalars x ≡ true → Str s u escape_free → all_scalars u ≡ true
 string_scalars {s = s} x r split h k = text_scalars k (scalar_halves s r (subst (λ z. all_scalars z ≡ true) split h)).0
 
 -- the characters of the bytes of a text in front
-pub text_characters : {s u : List ℕ} {plain : Bool} (x r bytes : List ℕ) → x ≡ s ++ r → all_scalars x ≡ true → Str s u plain → bytes ≡ encode_utf8_all u → chars bytes ≡ u
+pub text_characters : {s u : List ℕ} {escape_free : Bool} (x r bytes : List ℕ) → x ≡ s ++ r → all_scalars x ≡ true → Str s u escape_free → bytes ≡ encode_utf8_all u → chars bytes ≡ u
 text_characters {u = u} x r bytes split k str same = ap chars same ∙ chars-encodes u (string_scalars x r split k str)

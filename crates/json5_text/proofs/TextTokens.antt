@@ -4,8 +4,8 @@ use Rattle.std.specs.Option.{unwrap_or}
 use Rattle.std.specs.Str.{IsUtf8, IsCharBoundary, chars, encode_utf8_all}
 use Rattle.std.specs.Str.Pattern.{GetsRange}
 use denote.Ref.{Bor}
-use Rattle.json5_grammar.specs.Reading.{Read, got}
-use Rattle.json5_grammar.specs.ReadTexts.{identifier}
+use Rattle.json5_grammar.specs.Model.Reading.{Read, got}
+use Rattle.json5_grammar.specs.Model.ReadTexts.{identifier}
 use Rattle.json5_grammar.proofs.TextsWritten.{string_slice, name_slice}
 use Rattle.json5_text.specs.declared.cow_str.CowStr.{CowStr}
 use Rattle.json5_text.specs.declared.cow_str.CowStr.TheVariants as cow
@@ -21,39 +21,39 @@ use Rattle.json5_text.specs.ScanTexts.{string_at}
 use Rattle.json5_text.proofs.ScanBytes.{Halves, halves_in, fits_left, bytes_append, cut_at, part_between, halves_after}
 use Rattle.json5_text.proofs.ScanTokens.{string_taken, name_taken, left_counted}
 
--- a plain string's text begins its body
-pub string_body : (q : ℕ) (x body u r : List ℕ) (plain : Bool) → x ≡ q ∷ body → string_at x ≡ got (u, plain) r → plain ≡ true → (rest : List ℕ) × (body ≡ u ++ rest)
-string_body q x body u r plain e read h =
-    let k = string_taken x x u r plain refl read in
+-- an escape-free string's text begins its body
+pub string_body : (q : ℕ) (x body u r : List ℕ) (escape_free : Bool) → x ≡ q ∷ body → string_at x ≡ got (u, escape_free) r → escape_free ≡ true → (rest : List ℕ) × (body ≡ u ++ rest)
+string_body q x body u r escape_free e read h =
+    let k = string_taken x x u r escape_free refl read in
     let s = string_slice k.is_string h in
     (s.0 ∷ [] ++ r, tails (sym e ∙ k.split ∙ ap (λ z. z ++ r) s.2 ∙ ap (λ z. s.0 ∷ z) (append_assoc u (s.0 ∷ []) r)))
   where
     tails : {a b : ℕ} {y z : List ℕ} → a ∷ y ≡ b ∷ z → y ≡ z
     tails f = cc
 
--- a plain name is its text
-pub name_body : (x u r : List ℕ) (plain : Bool) → identifier x ≡ got (u, plain) r → plain ≡ true → (rest : List ℕ) × (x ≡ u ++ rest)
-name_body x u r plain read h =
-    let k = name_taken x x u r plain refl read in
+-- an escape-free name is its text
+pub name_body : (x u r : List ℕ) (escape_free : Bool) → identifier x ≡ got (u, escape_free) r → escape_free ≡ true → (rest : List ℕ) × (x ≡ u ++ rest)
+name_body x u r escape_free read h =
+    let k = name_taken x x u r escape_free refl read in
     (r, k.split ∙ ap (λ z. z ++ r) (name_slice k.is_name h))
 
 -- ---- where the text stands
 
 -- a borrowed text is no longer than what begins with it
-pub borrowed_fits : {u : List ℕ} {plain : Bool} (text : CowStr) (y : List ℕ) → IsUtf8 y → IsCow text u plain → (plain ≡ true → (rest : List ℕ) × (chars y ≡ u ++ rest)) → is_borrowed text ≡ true → length (cow_bytes text) ≤ length y
+pub borrowed_fits : {u : List ℕ} {escape_free : Bool} (text : CowStr) (y : List ℕ) → IsUtf8 y → IsCow text u escape_free → (escape_free ≡ true → (rest : List ℕ) × (chars y ≡ u ++ rest)) → is_borrowed text ≡ true → length (cow_bytes text) ≤ length y
 borrowed_fits {u = u} text y utf8 is begins h =
     let k = begins (sym is.borrowed ∙ h) in
     let whole = left_counted y utf8 ∙ ap bytes_in k.1 ∙ bytes_append u k.0 in
     let part = ap length is.bytes in
     omega arith
 
-pub token_in : {x u : List ℕ} {plain : Bool} (end left : ℕ) (t : TextToken) (text : CowStr) (front y : List ℕ) → x ≡ front ++ y → IsCow text u plain → (plain ≡ true → (rest : List ℕ) × (y ≡ u ++ rest)) → left ≡ bytes_in y → IsTokenOf (end - left) text t
-    → IsTokenIn end x t u plain
-token_in {x = x} {u = u} {plain = plain} end left t (cow.Borrowed text) front y split is begins counted made = λ before whole.
+pub token_in : {x u : List ℕ} {escape_free : Bool} (end left : ℕ) (t : TextToken) (text : CowStr) (front y : List ℕ) → x ≡ front ++ y → IsCow text u escape_free → (escape_free ≡ true → (rest : List ℕ) × (y ≡ u ++ rest)) → left ≡ bytes_in y → IsTokenOf (end - left) text t
+    → IsTokenIn end x t u escape_free
+token_in {x = x} {u = u} {escape_free = escape_free} end left t (cow.Borrowed text) front y split is begins counted made = λ before whole.
     let more = begins (sym is.borrowed) in
     let cut : before ++ x ≡ (before ++ front) ++ y = ap (λ z. before ++ z) split ∙ sym (append_assoc before front y) in
     let bytes = whole ∙ ap bytes_in cut ∙ bytes_append (before ++ front) y in
-    subst (Spells (before ++ x) u plain) (sym made) (
+    subst (Spells (before ++ x) u escape_free) (sym made) (
       sym is.borrowed,
       record {
         before = before ++ front;
@@ -63,8 +63,8 @@ token_in {x = x} {u = u} {plain = plain} end left t (cow.Borrowed text) front y 
         ends = ap (λ z. (end - left) + length z) is.bytes;
       },
     )
-token_in {x = x} {u = u} {plain = plain} end left t (cow.Owned text) front y split is begins counted made = λ before whole.
-    subst (Spells (before ++ x) u plain) (sym made) (sym is.borrowed, is.bytes)
+token_in {x = x} {u = u} {escape_free = escape_free} end left t (cow.Owned text) front y split is begins counted made = λ before whole.
+    subst (Spells (before ++ x) u escape_free) (sym made) (sym is.borrowed, is.bytes)
 
 -- what follows the first character is no longer
 pub body_fits : (c end : ℕ) (x y : List ℕ) → IsUtf8 x → IsUtf8 y → chars x ≡ c ∷ chars y → length x ≤ end → length y ≤ end
@@ -75,10 +75,10 @@ body_fits c end x y is_x is_y split fits =
 
 -- the token of a text that is borrowed from y on
 pub gives_token : {reading other : Read (List ℕ × Bool)} (end left : ℕ) (t : TextToken) (text : CowStr) (front x y rest : List ℕ) → x ≡ front ++ y → reading ≡ other → (given : GivesText IsCow other text rest)
-    → (given.plain ≡ true → (r : List ℕ) × (y ≡ given.spelled ++ r)) → left ≡ bytes_in y → IsTokenOf (end - left) text t → GivesText (IsTokenIn end x) reading t rest
+    → (given.escape_free ≡ true → (r : List ℕ) × (y ≡ given.spelled ++ r)) → left ≡ bytes_in y → IsTokenOf (end - left) text t → GivesText (IsTokenIn end x) reading t rest
 gives_token end left t text front x y rest split same given begins counted made = record {
   spelled = given.spelled;
-  plain = given.plain;
+  escape_free = given.escape_free;
   read = same ∙ given.read;
   is_text = token_in end left t text front y split given.is_text begins counted made;
   text = given.text;
@@ -89,11 +89,11 @@ pub unread_fits : {text : List ℕ} {offset end : ℕ} (s : Cursor) (part : List
 unread_fits s part k utf8 e f = fits_left _ _ k (halves_in k).split (left_counted part utf8 ∙ ap bytes_in (e ∙ sym f))
 
 -- the token in front of what is unread has its text in the whole one
-pub token_inside : {text : List ℕ} {offset end : ℕ} (s : Cursor) (x u : List ℕ) (plain : Bool) (t : TextToken) → InText text offset end → chars text ≡ s.input → chars (drop offset text) ≡ s.unread → x ≡ s.unread → IsTokenIn end x t u plain → Spells s.input u plain t
-token_inside {text = text} {offset = offset} s x u plain t inside e f g is =
+pub token_inside : {text : List ℕ} {offset end : ℕ} (s : Cursor) (x u : List ℕ) (escape_free : Bool) (t : TextToken) → InText text offset end → chars text ≡ s.input → chars (drop offset text) ≡ s.unread → x ≡ s.unread → IsTokenIn end x t u escape_free → Spells s.input u escape_free t
+token_inside {text = text} {offset = offset} s x u escape_free t inside e f g is =
     let before = chars (take offset text) in
     let whole : before ++ x ≡ chars text = ap (λ z. before ++ z) (g ∙ sym f) ∙ sym (halves_in inside).split in
-    subst (λ z. Spells z u plain t) (whole ∙ e) (is before (inside.counted ∙ left_counted text inside.is_text ∙ sym (ap bytes_in whole)))
+    subst (λ z. Spells z u escape_free t) (whole ∙ e) (is before (inside.counted ∙ left_counted text inside.is_text ∙ sym (ap bytes_in whole)))
 
 -- the part of a text where u stands
 pub stands_between : (text u : List ℕ) (start end : ℕ) (part : Option (Bor (List ℕ))) (other : Bor (List ℕ)) → IsUtf8 text → GetsRange text start end part → StandsAt (chars text) u start end → (unwrap_or part other).now ≡ encode_utf8_all u

@@ -3,10 +3,9 @@ use Rattle.std.specs.Prelude.{◌≡◌, ◌<◌, ◌≤◌, ◌+◌, ◌^◌, �
 use Rattle.std.specs.List.{prefix_len}
 use Rattle.std.specs.Prelude.{◌++◌}
 use Rattle.std.specs.Str.{IsUtf8, chars}
-use Rattle.json5_grammar.specs.Characters.{is_in, is_digit, NotBegun}
-use Rattle.json5_grammar.specs.Numbers.{spelled, hex_start, Integer}
-use Rattle.json5_grammar.specs.ReadNumbers.{is_integer, front_of}
-use Rattle.json5_grammar.specs.Stops.{in_run}
+use Rattle.json5_grammar.specs.Language.Characters.{is_in, is_digit, NotBegun}
+use Rattle.json5_grammar.specs.Language.Numbers.{spelled, hex_start, Integer, in_run}
+use Rattle.json5_grammar.specs.Model.ReadNumbers.{is_integer, front_of}
 use Rattle.json5_text.specs.declared.bytes.FewDigits.{FewDigits}
 
 -- a byte at which a run of a string in the quotes q ends

@@ -3,7 +3,7 @@ use Rattle.std.specs.Prelude.{◌≡◌, ◌++◌, ◌+◌, ℕ, List, Option, S
 use lib.Chars.{codes}
 use Rattle.json5_grammar.specs.declared.code.ErrorCode.{ErrorCode}
 use Rattle.json5_grammar.specs.declared.code.ErrorCode.TheVariants.{OutOfMemory}
-use Rattle.json5_grammar.specs.CodeText.{code_text}
+use Rattle.json5_grammar.specs.Faults.CodeTexts.{code_text}
 use Rattle.json5_grammar.specs.declared.position.Position.{Position}
 use Rattle.json5_text.specs.declared.error.Error.{Error}
 use Rattle.json5_text.specs.declared.error.Content.{Content}

@@ -1,8 +1,8 @@
 -- What is written for a character between two delimiters.
 use Rattle.std.specs.Prelude.{ℕ, if◌then◌else◌, List}
-use Rattle.json5_grammar.specs.Characters.{backslash}
-use Rattle.json5_grammar.specs.Strings.{is_quote}
-use Rattle.json5_grammar.specs.Quoting.{escaped}
+use Rattle.json5_grammar.specs.Language.Characters.{backslash}
+use Rattle.json5_grammar.specs.Language.Strings.{is_quote}
+use Rattle.json5_grammar.specs.Written.Quoting.{escaped}
 
 -- a delimiter that is no quote is itself no character to be escaped: the backslash, which always is, stands in for it
 abbrev pub escape_of : ℕ → ℕ → List ℕ

@@ -4,9 +4,9 @@ use Rattle.std.specs.Bool.{beq}
 use Rattle.std.specs.Ordering.{int_eq}
 use Rattle.std.specs.Cmp.Lexicographic.{pointwise}
 use Rattle.std.specs.Hash as fed
-use Rattle.json5_grammar.specs.Characters.{is_digit, Each}
-use Rattle.json5_grammar.specs.Numbers.{Decimal, infinite, nan, finite, without_zeros, normal_exponent, InExponents}
-use Rattle.json5_grammar.specs.NumberText.{Normal}
+use Rattle.json5_grammar.specs.Language.Characters.{is_digit, Each}
+use Rattle.json5_grammar.specs.Language.Numbers.{Decimal, infinite, nan, finite, without_zeros, normal_exponent, InExponents}
+use Rattle.json5_grammar.specs.Written.NumberText.{Normal}
 use Rattle.json5_text.specs.declared.decimal.Kept.{Kept}
 use Rattle.json5_text.specs.declared.decimal.Kept.TheVariants as kept
 use Rattle.json5_text.specs.declared.decimal.Size.{Size}

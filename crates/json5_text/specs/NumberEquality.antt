@@ -7,7 +7,7 @@ use Rattle.std.specs.Ordering.{int_eq}
 use Rattle.std.specs.Cmp.{IsEquivalence, IsPartialEquivalence, partial_equiv_from_equiv, decided, booleans_Decides, signed_Decides, unsigned_Decides, first_so, second_so}
 use Rattle.std.specs.Cmp.Derive.{both_true}
 use Rattle.std.specs.Cmp.Lexicographic.{pointwise, pointwise_decides}
-use Rattle.json5_grammar.specs.Numbers.{Decimal, infinite, nan, finite}
+use Rattle.json5_grammar.specs.Language.Numbers.{Decimal, infinite, nan, finite}
 use Rattle.json5_text.specs.NumberDecimals.{decimal_eq, decimal_hashed}
 
 digits_Decides : (ds fs : List ℕ) → Decides (pointwise nat_eq ds fs) (ds ≡ fs)

@@ -2,11 +2,10 @@
 use Rattle.std.specs.Prelude.{◌≡◌, ◌==◌, ℕ, min, Bool, true, false, cond, List, [], ◌∷◌, ℤ, pos, Option, Some, None, IfSome}
 use Rattle.std.specs.Option.{option_map}
 use Rattle.std.specs.Str.{IsUtf8, chars}
-use Rattle.json5_grammar.specs.Characters.{plus_sign, minus_sign, is_digit, Each}
-use Rattle.json5_grammar.specs.Numbers as numbers
-use Rattle.json5_grammar.specs.Numbers.{signed, spelled}
-use Rattle.json5_grammar.specs.ReadNumbers.{Parts, is_whole, front_of, rest_of}
-use Rattle.json5_grammar.specs.Stops.{in_run}
+use Rattle.json5_grammar.specs.Language.Characters.{plus_sign, minus_sign, is_digit, Each}
+use Rattle.json5_grammar.specs.Language.Numbers as numbers
+use Rattle.json5_grammar.specs.Language.Numbers.{signed, spelled, in_run}
+use Rattle.json5_grammar.specs.Model.ReadNumbers.{Parts, is_whole, front_of, rest_of}
 use Rattle.json5_text.specs.declared.literals.Exponent.{Exponent}
 use Rattle.json5_text.specs.declared.literals.Literal.{Literal}
 use Rattle.json5_text.specs.declared.scanned.Scanned.{Scanned}

@@ -1,6 +1,6 @@
 -- A number as the grammar has it.
 use Rattle.std.specs.Prelude.{Bool, true, false, ℤ, Option, Some, None}
-use Rattle.json5_grammar.specs.Numbers as numbers
+use Rattle.json5_grammar.specs.Language.Numbers as numbers
 use Rattle.json5_text.specs.declared.number.Number.{Number}
 use Rattle.json5_text.specs.declared.number.Number.TheVariants.{Whole, Decimal}
 

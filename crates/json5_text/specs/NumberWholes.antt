@@ -1,6 +1,6 @@
 -- What contracts see of a whole number.
 use Rattle.std.specs.Prelude.{◌≡◌, ◌↔◌, ℕ, suc, ◌^◌, ◌<◌, ◌≤◌, Bool, true, false, ℤ, pos, negsuc, Option, IsSome, IfSome}
-use Rattle.json5_grammar.specs.Numbers.{InWhole}
+use Rattle.json5_grammar.specs.Language.Numbers.{InWhole}
 
 abbrev pub is_below_zero : ℤ → Bool
 is_below_zero (pos n) = false

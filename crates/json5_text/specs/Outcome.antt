@@ -2,7 +2,7 @@
 use Rattle.std.specs.Prelude.{ℕ, List, length, Option, Some, None}
 use Rattle.std.specs.Str.{encode_utf8_all}
 use Rattle.json5_grammar.specs.declared.code.ErrorCode.{ErrorCode}
-use Rattle.json5_grammar.specs.Reading.{Read, got, bad, Place, here, inner}
+use Rattle.json5_grammar.specs.Model.Reading.{Read, got, bad, Place, here, inner}
 
 pub data Outcome (A : Type 0) : Type 0 where
   gave : A → List ℕ → Outcome A

@@ -1,7 +1,7 @@
 -- What a function below the scanner refused with, beside what reading on lists gives.
 use Rattle.std.specs.Prelude.{◌≡◌, true, Some, None, ⊤}
-use Rattle.json5_grammar.specs.Numbers.{Number}
-use Rattle.json5_grammar.specs.Reading.{Read, got, bad}
+use Rattle.json5_grammar.specs.Language.Numbers.{Number}
+use Rattle.json5_grammar.specs.Model.Reading.{Read, got, bad}
 use Rattle.json5_text.specs.Outcome.{Outcome, failed}
 use Rattle.json5_text.specs.declared.refusal.Refusal.{Refusal}
 use Rattle.json5_text.specs.declared.refusal.Refusal.TheVariants as refusal
@@ -9,7 +9,7 @@ use Rattle.json5_text.specs.NumberViews.{keeps_digits}
 
 -- that memory ran out says nothing of the text
 abbrev pub Refuses : {A : Type 0} → Refusal → Outcome A → Type 0
-Refuses (refusal.Code c left) m = m ≡ failed (Some c) left
+Refuses (refusal.TokenError c left) m = m ≡ failed (Some c) left
 Refuses (refusal.InvalidNumber left) m = m ≡ failed None (Some left)
 Refuses (refusal.TooLarge left) m = m ≡ failed None (Some left)
 Refuses (refusal.UnpairedSurrogate escape left) m = m ≡ failed None (Some left)
@@ -22,7 +22,7 @@ KeepsDigits (bad e p) = ⊥
 
 -- memory is taken for a number's digits alone
 abbrev pub WantsForDigits : Refusal → Read Number → Type 0
-WantsForDigits (refusal.Code c left) m = ⊤
+WantsForDigits (refusal.TokenError c left) m = ⊤
 WantsForDigits (refusal.InvalidNumber left) m = ⊤
 WantsForDigits (refusal.TooLarge left) m = ⊤
 WantsForDigits (refusal.UnpairedSurrogate escape left) m = ⊤

@@ -2,9 +2,9 @@
 use Rattle.std.specs.Prelude.{◌≡◌, ◌<◌, ◌≤◌, ℕ, Bool, List, [], ◌∷◌, ◌++◌, length, Option, Some, None, ◌⊎◌, ⊤}
 use denote.Ref.{Bor}
 use Rattle.std.specs.Str.{IsUtf8, IsCharBoundary, chars}
-use Rattle.json5_grammar.specs.Characters.{backslash, NotBegun, Each}
+use Rattle.json5_grammar.specs.Language.Characters.{backslash, NotBegun, Each}
 use Rattle.json5_grammar.specs.declared.position.Position.{Position}
-use Rattle.json5_grammar.specs.Positions.{position_after}
+use Rattle.json5_grammar.specs.Faults.Positions.{position_after}
 use Rattle.json5_text.specs.declared.error.Error.{Error}
 use Rattle.json5_text.specs.declared.refusal.Refusal.{Refusal}
 use Rattle.json5_text.specs.declared.refusal.Refusal.TheVariants as refusal
@@ -20,7 +20,7 @@ pub record InText (text : List ℕ) (offset end : ℕ) : Type 0 where
 
 -- a code, and neither a text of its own nor that memory ran out
 abbrev pub HasCode : Refusal → Type 0
-HasCode (refusal.Code c left) = ⊤
+HasCode (refusal.TokenError c left) = ⊤
 HasCode (refusal.InvalidNumber left) = ⊥
 HasCode (refusal.TooLarge left) = ⊥
 HasCode (refusal.UnpairedSurrogate escape left) = ⊥
@@ -28,7 +28,7 @@ HasCode refusal.OutOfMemory = ⊥
 
 -- a fault of the text, and not that memory ran out
 abbrev pub HasFault : Refusal → Type 0
-HasFault (refusal.Code c left) = ⊤
+HasFault (refusal.TokenError c left) = ⊤
 HasFault (refusal.InvalidNumber left) = ⊤
 HasFault (refusal.TooLarge left) = ⊤
 HasFault (refusal.UnpairedSurrogate escape left) = ⊤
@@ -47,8 +47,8 @@ LeavesAt old left new = (taken rest : List ℕ) → old.unread ≡ taken ++ rest
 
 -- the place with so many bytes left is within what is unread
 abbrev pub InUnread : Cursor → Refusal → Type 0
-InUnread s (refusal.Code c None) = ⊤
-InUnread s (refusal.Code c (Some left)) = Leaves s left
+InUnread s (refusal.TokenError c None) = ⊤
+InUnread s (refusal.TokenError c (Some left)) = Leaves s left
 InUnread s (refusal.InvalidNumber left) = Leaves s left
 InUnread s (refusal.TooLarge left) = Leaves s left
 InUnread s (refusal.UnpairedSurrogate escape left) = Leaves s left
@@ -63,8 +63,8 @@ IsThere s left e = (p : Position) × (place_of e ≡ Some p) × IsWhere s left p
 
 -- the fault that is made of a refusal
 abbrev pub MadeOf : Cursor → Refusal → Error → Type 0
-MadeOf s (refusal.Code c None) e = (kind_of e ≡ code c) × (place_of e ≡ None)
-MadeOf s (refusal.Code c (Some left)) e = (kind_of e ≡ code c) × IsThere s left e
+MadeOf s (refusal.TokenError c None) e = (kind_of e ≡ code c) × (place_of e ≡ None)
+MadeOf s (refusal.TokenError c (Some left)) e = (kind_of e ≡ code c) × IsThere s left e
 MadeOf s (refusal.InvalidNumber left) e = LacksMemory e ⊎ (Says None e × IsThere s left e)
 MadeOf s (refusal.TooLarge left) e = LacksMemory e ⊎ (Says None e × IsThere s left e)
 MadeOf s (refusal.UnpairedSurrogate escape left) e = LacksMemory e ⊎ (Says None e × IsThere s left e)

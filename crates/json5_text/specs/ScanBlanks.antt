@@ -2,8 +2,8 @@
 use Rattle.std.specs.Prelude.{◌≡◌, ◌≤◌, List, ℕ, length, Some}
 use Rattle.std.specs.Str.{chars}
 use Rattle.json5_grammar.specs.declared.code.ErrorCode.TheVariants.{EofParsingComment}
-use Rattle.json5_grammar.specs.Reading.{bad, inner}
-use Rattle.json5_grammar.specs.ReadBlanks.{Mode, skip, between}
+use Rattle.json5_grammar.specs.Model.Reading.{bad, inner}
+use Rattle.json5_grammar.specs.Model.ReadBlanks.{Mode, skip, between}
 
 -- the comment ends in the text, before the rest
 pub record Continues (mode : Mode) (text rest : List ℕ) : Type 0 where

@@ -1,7 +1,7 @@
 -- What private clauses say of keys.
 use Rattle.std.specs.Prelude.{Bool, ℕ, List, [], ◌∷◌}
-use Rattle.json5_grammar.specs.Reading.{Read}
-use Rattle.json5_grammar.specs.ReadTexts.{identifier, key}
+use Rattle.json5_grammar.specs.Model.Reading.{Read}
+use Rattle.json5_grammar.specs.Model.ReadTexts.{identifier, key}
 
 -- a key, where one is expected
 unfoldable pub key_at : List ℕ → Read (List ℕ × Bool)

@@ -2,8 +2,8 @@
 use Rattle.std.specs.Prelude.{◌≡◌, ◌<◌, ◌^◌, ℕ, List, Some}
 use Rattle.std.specs.Str.{IsUtf8, chars}
 use Rattle.json5_grammar.specs.declared.code.ErrorCode.TheVariants.{OverflowParsingNumber}
-use Rattle.json5_grammar.specs.Reading.{got, bad, here}
-use Rattle.json5_grammar.specs.ReadNumbers.{hex_digits}
+use Rattle.json5_grammar.specs.Model.Reading.{got, bad, here}
+use Rattle.json5_grammar.specs.Model.ReadNumbers.{hex_digits}
 
 -- a first digit and those of x have this value, within 128 bits, and the rest follows them
 pub record GivesHex (first : ℕ) (x : List ℕ) (value : ℕ) (rest : List ℕ) : Type 0 where

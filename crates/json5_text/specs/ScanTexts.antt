@@ -2,12 +2,12 @@
 use Rattle.std.specs.Prelude.{◌≡◌, ◌≤◌, ℕ, zero, suc, Bool, true, false, cond, not, ◌&&◌, ◌==◌, List, [], ◌∷◌, ◌++◌, length, Some, Result, Ok, Err, ⊤}
 use denote.Ref.{Bor}
 use Rattle.std.specs.Str.{IsUtf8, chars}
-use Rattle.json5_grammar.specs.Characters.{backslash, double_quote, single_quote, NotBegun, Each, is_identifier_start, is_identifier_part}
+use Rattle.json5_grammar.specs.Language.Characters.{backslash, double_quote, single_quote, NotBegun, Each, is_identifier_start, is_identifier_part}
 use Rattle.json5_grammar.specs.declared.code.ErrorCode.{ErrorCode}
 use Rattle.json5_grammar.specs.declared.code.ErrorCode.TheVariants.{EofParsingIdentifier, EofParsingString, ExpectedString}
-use Rattle.json5_grammar.specs.Strings.{is_quote, is_raw}
-use Rattle.json5_grammar.specs.Reading.{Read, and_then, here, inner, bad}
-use Rattle.json5_grammar.specs.ReadTexts.{escape_at, name_escape, fit, one_char, put, string, identifier, parts}
+use Rattle.json5_grammar.specs.Language.Strings.{is_quote, is_raw}
+use Rattle.json5_grammar.specs.Model.Reading.{Read, and_then, here, inner, bad}
+use Rattle.json5_grammar.specs.Model.ReadTexts.{escape_at, name_escape, fit, one_char, put, string, identifier, parts}
 use Rattle.json5_text.specs.declared.refusal.Refusal.{Refusal}
 use Rattle.json5_text.specs.declared.texts.Quote.{Quote}
 use Rattle.json5_text.specs.declared.texts.Quote.TheVariants as quotes
@@ -106,8 +106,8 @@ item (kind.String q) x y = escape_at x y
 
 -- reading gives u up to there
 abbrev pub GoesOn : Read (List ℕ × Bool) → List ℕ → Bool → Stop → Type 0
-GoesOn reading u plain (stop.End rest) = Gives reading (u, plain) rest.now
-GoesOn reading u plain (stop.Escape k escape after) = (reading ≡ put u plain (text_at k (chars escape.now))) × AtEscape escape.now after.now
+GoesOn reading u escape_free (stop.End rest) = Gives reading (u, escape_free) rest.now
+GoesOn reading u escape_free (stop.Escape k escape after) = (reading ≡ put u escape_free (text_at k (chars escape.now))) × AtEscape escape.now after.now
 
 -- how many characters are left to be read there
 abbrev pub left_in : Stop → ℕ

@@ -1,13 +1,12 @@
 -- What the short ways promise: a token is taken with the ASCII blanks before it, or nothing is.
 use Rattle.std.specs.Prelude.{◌≡◌, ℕ, ◌^◌, Bool, true, false, ◌==◌, List, ◌∷◌, ◌++◌, length, drop, ℤ, pos, neg_ℤ, ◌≤ℤ◌, Option, MatchOption}
 use Rattle.std.specs.Str.{IsUtf8, IsCharBoundary, chars}
-use Rattle.json5_grammar.specs.Characters.{NotBegun, comma_sign}
-use Rattle.json5_grammar.specs.Blanks.{Gap, Solid}
-use Rattle.json5_grammar.specs.Members.{IsSign, IsEnd}
-use Rattle.json5_grammar.specs.Numbers.{Num, whole}
-use Rattle.json5_grammar.specs.Stops.{lengthens}
-use Rattle.json5_grammar.specs.ReadBlanks.{skip, between}
-use Rattle.json5_grammar.specs.ReadNumbers as model
+use Rattle.json5_grammar.specs.Language.Characters.{NotBegun, comma_sign}
+use Rattle.json5_grammar.specs.Language.Blanks.{Gap, Solid}
+use Rattle.json5_grammar.specs.Model.Collections.{IsSign, IsEnd}
+use Rattle.json5_grammar.specs.Language.Numbers.{Num, whole, lengthens}
+use Rattle.json5_grammar.specs.Model.ReadBlanks.{skip, between}
+use Rattle.json5_grammar.specs.Model.ReadNumbers as model
 use Rattle.json5_text.specs.declared.short.ShortStep.{ShortStep}
 use Rattle.json5_text.specs.declared.short.ShortStep.TheVariants as short
 use Rattle.json5_text.specs.declared.short.ShortWhole.{ShortWhole}
@@ -66,25 +65,25 @@ StepsTo true x y = (z : List ℕ) × IsSign comma_sign x z × AfterGap z y
 
 -- the closing sign is next in y, after the comma that may stand there; or a member may begin in y
 abbrev pub IsStep : ℕ → Bool → Bool → List ℕ → List ℕ → Type 0
-IsStep closing due true x y = (r : List ℕ) × IsEnd closing due x r × (y ≡ closing ∷ r)
-IsStep closing due false x y = StepsTo due x y × NotBegun (λ c. c == closing) y
+IsStep closing comma_due true x y = (r : List ℕ) × IsEnd closing comma_due x r × (y ≡ closing ∷ r)
+IsStep closing comma_due false x y = StepsTo comma_due x y × NotBegun (λ c. c == closing) y
 
-pub record Stepped (closing : ℕ) (due at_closing : Bool) (old new : Cursor) : Type 0 where
-  pub step : IsStep closing due at_closing old.unread new.unread
+pub record Stepped (closing : ℕ) (comma_due at_closing : Bool) (old new : Cursor) : Type 0 where
+  pub step : IsStep closing comma_due at_closing old.unread new.unread
   pub same : new.input ≡ old.input
 
 -- a step to a member or to the closing sign is taken, or nothing
 abbrev pub TakesShortStep : ℕ → Bool → Cursor → Cursor → ShortStep → Type 0
-TakesShortStep closing due old new short.Member = Stepped closing due false old new
-TakesShortStep closing due old new short.Closing = Stepped closing due true old new
-TakesShortStep closing due old new short.Other = new ≡ old
+TakesShortStep closing comma_due old new short.Member = Stepped closing comma_due false old new
+TakesShortStep closing comma_due old new short.Closing = Stepped closing comma_due true old new
+TakesShortStep closing comma_due old new short.Other = new ≡ old
 
 -- a step is found in front, and so many bytes are left after it
-pub record FindsStep (closing : ℕ) (due : Bool) (text : List ℕ) (found : Step) : Type 0 where
+pub record FindsStep (closing : ℕ) (comma_due : Bool) (text : List ℕ) (found : Step) : Type 0 where
   pub passed : List ℕ
   pub rest : List ℕ
   pub split : chars text ≡ passed ++ chars rest
-  pub step : IsStep closing due found.at_closing (chars text) (chars rest)
+  pub step : IsStep closing comma_due found.at_closing (chars text) (chars rest)
   pub counted : found.left ≡ length rest
   pub text_rest : IsUtf8 rest
 

@@ -1,12 +1,12 @@
 -- What the short ways of strings and keys promise: one without an escape is taken with the ASCII blanks before it, or nothing is.
 use Rattle.std.specs.Prelude.{◌≡◌, ℕ, true, List, ◌∷◌, ◌++◌, Option, MatchOption}
 use Rattle.std.specs.Str.{encode_utf8_all}
-use Rattle.json5_grammar.specs.Blanks.{is_solid}
-use Rattle.json5_grammar.specs.Members.{ReadsKey}
-use Rattle.json5_grammar.specs.Names.{Key}
-use Rattle.json5_grammar.specs.Strings.{Str}
-use Rattle.json5_grammar.specs.Trees.{text}
-use Rattle.json5_grammar.specs.Values.{Reads}
+use Rattle.json5_grammar.specs.Language.Blanks.{is_solid}
+use Rattle.json5_grammar.specs.Model.Collections.{ReadsKey}
+use Rattle.json5_grammar.specs.Language.Names.{Key}
+use Rattle.json5_grammar.specs.Language.Strings.{Str}
+use Rattle.json5_grammar.specs.Language.Trees.{text}
+use Rattle.json5_grammar.specs.Language.Values.{Reads}
 use Rattle.json5_text.specs.declared.short_texts.Span.{Span}
 use Rattle.json5_text.specs.declared.short_texts.FoundText.{FoundText}
 use Rattle.json5_text.specs.Cursor.{Cursor}
@@ -14,15 +14,15 @@ use Rattle.json5_text.specs.TextTokens.{StandsAt}
 use Rattle.json5_text.specs.Outcome.{bytes_in}
 
 -- x begins with blanks and a string with the text u, which holds no escape, and r is left
-abbrev pub ReadsPlainString : List ℕ → List ℕ → List ℕ → Type 0
-ReadsPlainString x u r = Reads x (text u true) r
+abbrev pub ReadsEscapeFreeString : List ℕ → List ℕ → List ℕ → Type 0
+ReadsEscapeFreeString x u r = Reads x (text u true) r
 
 -- the same of a key
-abbrev pub ReadsPlainKey : List ℕ → List ℕ → List ℕ → Type 0
-ReadsPlainKey x u r = ReadsKey x u true r
+abbrev pub ReadsEscapeFreeKey : List ℕ → List ℕ → List ℕ → Type 0
+ReadsEscapeFreeKey x u r = ReadsKey x u true r
 
 -- such a text was taken, and stands there
-pub record TookPlain (IsRead : List ℕ → List ℕ → List ℕ → Type 0) (old new : Cursor) (span : Span) : Type 0 where
+pub record TookEscapeFree (IsRead : List ℕ → List ℕ → List ℕ → Type 0) (old new : Cursor) (span : Span) : Type 0 where
   pub spelled : List ℕ
   pub read : IsRead old.unread spelled new.unread
   pub stands : StandsAt old.input spelled span.start span.end
@@ -30,11 +30,11 @@ pub record TookPlain (IsRead : List ℕ → List ℕ → List ℕ → Type 0) (o
 
 -- a string without an escape is taken, or nothing
 abbrev pub TakesShortString : Cursor → Cursor → Option Span → Type 0
-TakesShortString old new result = MatchOption result (new ≡ old) (λ span. TookPlain ReadsPlainString old new span)
+TakesShortString old new result = MatchOption result (new ≡ old) (λ span. TookEscapeFree ReadsEscapeFreeString old new span)
 
 -- a key without an escape is taken, or nothing
 abbrev pub TakesShortKey : Cursor → Cursor → Option Span → Type 0
-TakesShortKey old new result = MatchOption result (new ≡ old) (λ span. TookPlain ReadsPlainKey old new span)
+TakesShortKey old new result = MatchOption result (new ≡ old) (λ span. TookEscapeFree ReadsEscapeFreeKey old new span)
 
 -- these are the bytes of the text that stands there
 abbrev pub IsTextAt : List ℕ → Span → List ℕ → Type 0
@@ -51,14 +51,14 @@ pub record StandsBefore (x u : List ℕ) (from to : ℕ) : Type 0 where
   pub ends : to ≡ bytes_in rest
 
 -- the token s has the text u and holds no escape; r follows it
-abbrev pub IsPlainString : List ℕ → List ℕ → List ℕ → Type 0
-IsPlainString s u r = Str s u true
+abbrev pub IsEscapeFreeString : List ℕ → List ℕ → List ℕ → Type 0
+IsEscapeFreeString s u r = Str s u true
 
-abbrev pub IsPlainKey : List ℕ → List ℕ → List ℕ → Type 0
-IsPlainKey s u r = Key s r u true
+abbrev pub IsEscapeFreeKey : List ℕ → List ℕ → List ℕ → Type 0
+IsEscapeFreeKey s u r = Key s r u true
 
 -- such a token is in front of x, and so many bytes follow it
-pub record FindsPlain (IsToken : List ℕ → List ℕ → List ℕ → Type 0) (x : List ℕ) (found : FoundText) : Type 0 where
+pub record FindsEscapeFree (IsToken : List ℕ → List ℕ → List ℕ → Type 0) (x : List ℕ) (found : FoundText) : Type 0 where
   pub token : List ℕ
   pub spelled : List ℕ
   pub rest : List ℕ
@@ -73,4 +73,4 @@ HasSolid x = (c : ℕ) × (r : List ℕ) × (x ≡ c ∷ r) × (is_solid c ≡ t
 
 -- such a token is in front, which begins with no blank
 abbrev pub FindsFirst : (List ℕ → List ℕ → List ℕ → Type 0) → List ℕ → FoundText → Type 0
-FindsFirst IsToken x found = FindsPlain IsToken x found × HasSolid x
+FindsFirst IsToken x found = FindsEscapeFree IsToken x found × HasSolid x

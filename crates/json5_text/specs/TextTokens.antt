@@ -14,15 +14,15 @@ pub record StandsAt (input u : List ℕ) (start end : ℕ) : Type 0 where
   pub starts : start ≡ length (encode_utf8_all before)
   pub ends : end ≡ start + length (encode_utf8_all u)
 
--- the token spells the text u, which stands so in the input where it is plain, else in memory of its own
+-- the token spells the text u, which stands so in the input where it is escape-free, else in memory of its own
 abbrev pub Spells : List ℕ → List ℕ → Bool → TextToken → Type 0
-Spells input u plain (token.Plain start end) = (plain ≡ true) × StandsAt input u start end
-Spells input u plain (token.Escaped text) = (plain ≡ false) × (string_bytes text ≡ encode_utf8_all u)
+Spells input u escape_free (token.EscapeFree start end) = (escape_free ≡ true) × StandsAt input u start end
+Spells input u escape_free (token.Escaped text) = (escape_free ≡ false) × (string_bytes text ≡ encode_utf8_all u)
 
 -- these are the bytes of the text that the token spells
 abbrev pub IsTextOf : List ℕ → TextToken → List ℕ → Type 0
-IsTextOf input t bytes = (u : List ℕ) (plain : Bool) → Spells input u plain t → bytes ≡ encode_utf8_all u
+IsTextOf input t bytes = (u : List ℕ) (escape_free : Bool) → Spells input u escape_free t → bytes ≡ encode_utf8_all u
 
--- the same, borrowed where it is plain
+-- the same, borrowed where it is escape-free
 abbrev pub IsCowOf : List ℕ → TextToken → CowStr → Type 0
-IsCowOf input t text = (u : List ℕ) (plain : Bool) → Spells input u plain t → (is_borrowed text ≡ plain) × (cow_bytes text ≡ encode_utf8_all u)
+IsCowOf input t text = (u : List ℕ) (escape_free : Bool) → Spells input u escape_free t → (is_borrowed text ≡ escape_free) × (cow_bytes text ≡ encode_utf8_all u)

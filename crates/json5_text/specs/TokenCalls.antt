@@ -2,13 +2,12 @@
 use Rattle.std.specs.Prelude.{◌≡◌, ℕ, Bool, true, false, List, ◌∷◌, ◌++◌, ◌⊎◌, ℤ, Option, Result, String, string_bytes, IfOk, IfErr, OnOk, OnErr, IsOk}
 use Rattle.std.specs.Str.{encode_utf8_all}
 use Rattle.json5_grammar.specs.declared.code.ErrorCode.{ErrorCode}
-use Rattle.json5_grammar.specs.Characters.{NotBegun}
-use Rattle.json5_grammar.specs.Blanks.{Gap, Solid}
-use Rattle.json5_grammar.specs.Names.{Ident, Key, goes_on_name}
-use Rattle.json5_grammar.specs.Numbers as numbers
-use Rattle.json5_grammar.specs.Numbers.{Num}
-use Rattle.json5_grammar.specs.Stops.{lengthens}
-use Rattle.json5_grammar.specs.Strings.{Str}
+use Rattle.json5_grammar.specs.Language.Characters.{NotBegun}
+use Rattle.json5_grammar.specs.Language.Blanks.{Gap, Solid}
+use Rattle.json5_grammar.specs.Language.Names.{Ident, Key, goes_on_name}
+use Rattle.json5_grammar.specs.Language.Numbers as numbers
+use Rattle.json5_grammar.specs.Language.Numbers.{Num, lengthens}
+use Rattle.json5_grammar.specs.Language.Strings.{Str}
 use Rattle.json5_text.specs.declared.cow_str.CowStr.{CowStr}
 use Rattle.json5_text.specs.declared.error.Error.{Error}
 use Rattle.json5_text.specs.declared.text_token.TextToken.{TextToken}
@@ -41,57 +40,57 @@ pub record TakesNumber (old new : Cursor) (result : Result Number Error) : Type 
 
 -- a string is taken, its text in memory of its own
 pub record TakesOwned {A : Type 0} (old new : Cursor) (result : Result (String A) Error) : Type 0 where
-  pub taken : IfOk result (λ t. (s u : List ℕ) × (plain : Bool) × Took old s new × Str s u plain × (string_bytes t ≡ encode_utf8_all u))
+  pub taken : IfOk result (λ t. (s u : List ℕ) × (escape_free : Bool) × Took old s new × Str s u escape_free × (string_bytes t ≡ encode_utf8_all u))
   pub refused : IfErr result (λ e. LacksMemory e ⊎ Refused FaultyString old e)
   pub kept : OnErr result (new ≡ old)
 
--- a string is taken, whose text this is; memory is taken where it isn't plain, and at a refusal
+-- a string is taken, whose text this is; memory is taken where it isn't escape-free, and at a refusal
 pub record TakesText {T : Type 0} (IsText : T → List ℕ → Bool → Type 0) (old new : Cursor) (result : Result T Error) : Type 0 where
-  pub taken : IfOk result (λ t. (s u : List ℕ) × (plain : Bool) × Took old s new × Str s u plain × IsText t u plain)
+  pub taken : IfOk result (λ t. (s u : List ℕ) × (escape_free : Bool) × Took old s new × Str s u escape_free × IsText t u escape_free)
   pub refused : IfErr result (λ e. LacksMemory e ⊎ Refused FaultyString old e)
   pub kept : OnErr result (new ≡ old)
-  pub plain : (s u r : List ℕ) → old.unread ≡ s ++ r → Str s u true → IsOk result
+  pub escape_free : (s u r : List ℕ) → old.unread ≡ s ++ r → Str s u true → IsOk result
 
--- a string is taken, its text borrowed where it is plain
+-- a string is taken, its text borrowed where it is escape-free
 abbrev pub TakesString : Cursor → Cursor → Result CowStr Error → Type 0
-TakesString old new result = TakesText (λ t u plain. (is_borrowed t ≡ plain) × (cow_bytes t ≡ encode_utf8_all u)) old new result
+TakesString old new result = TakesText (λ t u escape_free. (is_borrowed t ≡ escape_free) × (cow_bytes t ≡ encode_utf8_all u)) old new result
 
 -- a string is taken to its token
 abbrev pub TakesStringToken : Cursor → Cursor → Result TextToken Error → Type 0
-TakesStringToken old new result = TakesText (λ t u plain. Spells old.input u plain t) old new result
+TakesStringToken old new result = TakesText (λ t u escape_free. Spells old.input u escape_free t) old new result
 
--- a name is taken as far as it goes, its text borrowed where it is plain; memory is taken where it isn't, and at a refusal
+-- a name is taken as far as it goes, its text borrowed where it is escape-free; memory is taken where it isn't, and at a refusal
 pub record TakesName (old new : Cursor) (result : Result CowStr Error) : Type 0 where
-  pub taken : IfOk result (λ t. (s u : List ℕ) × (plain : Bool) × Took old s new × Ident s u plain × (is_borrowed t ≡ plain) × (cow_bytes t ≡ encode_utf8_all u))
+  pub taken : IfOk result (λ t. (s u : List ℕ) × (escape_free : Bool) × Took old s new × Ident s u escape_free × (is_borrowed t ≡ escape_free) × (cow_bytes t ≡ encode_utf8_all u))
   pub stops : OnOk result ((c : ℕ) × (r : List ℕ) × (new.unread ≡ c ∷ r) × (goes_on_name c ≡ false))
   pub refused : IfErr result (λ e. LacksMemory e ⊎ Refused FaultyName old e)
   pub kept : OnErr result (new ≡ old)
-  pub plain : (s u r : List ℕ) (c : ℕ) → old.unread ≡ s ++ c ∷ r → Ident s u true → goes_on_name c ≡ false → IsOk result
+  pub escape_free : (s u r : List ℕ) (c : ℕ) → old.unread ≡ s ++ c ∷ r → Ident s u true → goes_on_name c ≡ false → IsOk result
 
--- a key is taken; memory is taken where its text isn't plain, and at a refusal
+-- a key is taken; memory is taken where its text isn't escape-free, and at a refusal
 pub record TakesKey (old new : Cursor) (result : Result TextToken Error) : Type 0 where
-  pub taken : IfOk result (λ k. (s u : List ℕ) × (plain : Bool) × Took old s new × Key s new.unread u plain × Spells old.input u plain k)
+  pub taken : IfOk result (λ k. (s u : List ℕ) × (escape_free : Bool) × Took old s new × Key s new.unread u escape_free × Spells old.input u escape_free k)
   pub refused : IfErr result (λ e. LacksMemory e ⊎ Refused FaultyKey old e)
   pub kept : OnErr result (new ≡ old)
-  pub complete : (s u r : List ℕ) (plain : Bool) → old.unread ≡ s ++ r → Key s r u plain → IfErr result LacksMemory
-  pub plain : (s u r : List ℕ) → old.unread ≡ s ++ r → Key s r u true → IsOk result
+  pub complete : (s u r : List ℕ) (escape_free : Bool) → old.unread ≡ s ++ r → Key s r u escape_free → IfErr result LacksMemory
+  pub escape_free : (s u r : List ℕ) → old.unread ≡ s ++ r → Key s r u true → IsOk result
 
 -- ---- tokens that are passed over; memory is taken at a refusal alone
 
 -- a string is passed over
 pub record PassesString (old new : Cursor) (result : Result (Unit {0}) Error) : Type 0 where
-  pub taken : OnOk result ((s u : List ℕ) × (plain : Bool) × Took old s new × Str s u plain)
+  pub taken : OnOk result ((s u : List ℕ) × (escape_free : Bool) × Took old s new × Str s u escape_free)
   pub refused : IfErr result (λ e. LacksMemory e ⊎ Refused FaultyString old e)
   pub kept : OnErr result (new ≡ old)
-  pub memory : (s u r : List ℕ) (plain : Bool) → old.unread ≡ s ++ r → Str s u plain → IsOk result
+  pub memory : (s u r : List ℕ) (escape_free : Bool) → old.unread ≡ s ++ r → Str s u escape_free → IsOk result
 
 -- a name is passed over as far as it goes
 pub record PassesName (old new : Cursor) (result : Result (Unit {0}) Error) : Type 0 where
-  pub taken : OnOk result ((s u : List ℕ) × (plain : Bool) × Took old s new × Ident s u plain)
+  pub taken : OnOk result ((s u : List ℕ) × (escape_free : Bool) × Took old s new × Ident s u escape_free)
   pub stops : OnOk result ((c : ℕ) × (r : List ℕ) × (new.unread ≡ c ∷ r) × (goes_on_name c ≡ false))
   pub refused : IfErr result (λ e. LacksMemory e ⊎ Refused FaultyName old e)
   pub kept : OnErr result (new ≡ old)
-  pub memory : (s u r : List ℕ) (c : ℕ) (plain : Bool) → old.unread ≡ s ++ c ∷ r → Ident s u plain → goes_on_name c ≡ false → IsOk result
+  pub memory : (s u r : List ℕ) (c : ℕ) (escape_free : Bool) → old.unread ≡ s ++ c ∷ r → Ident s u escape_free → goes_on_name c ≡ false → IsOk result
 
 -- a number is passed over, and the answer is the number if it is whole
 pub record PassesNumber (old new : Cursor) (result : Result (Option ℤ) Error) : Type 0 where

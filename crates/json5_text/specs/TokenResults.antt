@@ -2,8 +2,8 @@
 use Rattle.std.specs.Prelude.{◌≡◌, ℕ, Bool, true, false, List, ◌++◌, ℤ, Option, Result, Ok, Err, String, string_bytes}
 use denote.Ref.{Bor}
 use Rattle.std.specs.Str.{IsUtf8, chars, encode_utf8_all}
-use Rattle.json5_grammar.specs.Numbers.{Number}
-use Rattle.json5_grammar.specs.Reading.{Read, got}
+use Rattle.json5_grammar.specs.Language.Numbers.{Number}
+use Rattle.json5_grammar.specs.Model.Reading.{Read, got}
 use Rattle.json5_text.specs.declared.cow_str.CowStr.{CowStr}
 use Rattle.json5_text.specs.declared.scanned.Scanned.{Scanned}
 use Rattle.json5_text.specs.declared.refusal.Refusal.{Refusal}
@@ -92,28 +92,28 @@ AnswersWhole reading (Err e) = RefusesByFault e reading
 -- reading gives a text that this value is, and leaves this rest
 pub record GivesText {T : Type 0} (IsText : T → List ℕ → Bool → Type 0) (reading : Read (List ℕ × Bool)) (value : T) (rest : List ℕ) : Type 0 where
   pub spelled : List ℕ
-  pub plain : Bool
-  pub read : reading ≡ got (spelled, plain) (chars rest)
-  pub is_text : IsText value spelled plain
+  pub escape_free : Bool
+  pub read : reading ≡ got (spelled, escape_free) (chars rest)
+  pub is_text : IsText value spelled escape_free
   pub text : IsUtf8 rest
 
--- the text, borrowed where it is plain
-pub record IsCow (value : CowStr) (spelled : List ℕ) (plain : Bool) : Type 0 where
-  pub borrowed : is_borrowed value ≡ plain
+-- the text, borrowed where it is escape-free
+pub record IsCow (value : CowStr) (spelled : List ℕ) (escape_free : Bool) : Type 0 where
+  pub borrowed : is_borrowed value ≡ escape_free
   pub bytes : cow_bytes value ≡ encode_utf8_all spelled
 
 abbrev pub IsOwned : {A : Type 0} → String A → List ℕ → Bool → Type 0
-IsOwned value spelled plain = string_bytes value ≡ encode_utf8_all spelled
+IsOwned value spelled escape_free = string_bytes value ≡ encode_utf8_all spelled
 
--- memory doesn't run out at a plain text
-abbrev pub SparesPlain : Refusal → Read (List ℕ × Bool) → Type 0
-SparesPlain e reading = e ≡ refusal.OutOfMemory → (spelled rest : List ℕ) → reading ≡ got (spelled, true) rest → ⊥
+-- memory doesn't run out at an escape-free text
+abbrev pub SparesEscapeFree : Refusal → Read (List ℕ × Bool) → Type 0
+SparesEscapeFree e reading = e ≡ refusal.OutOfMemory → (spelled rest : List ℕ) → reading ≡ got (spelled, true) rest → ⊥
 
 pub record RefusesText (e : Refusal) (reading : Read (List ℕ × Bool)) : Type 0 where
   pub refused : Refuses e (outcome reading)
-  pub memory : SparesPlain e reading
+  pub memory : SparesEscapeFree e reading
 
--- the text in front, borrowed where it is plain, and what follows it; or the fault
+-- the text in front, borrowed where it is escape-free, and what follows it; or the fault
 abbrev pub AnswersCow : Read (List ℕ × Bool) → Result (CowStr × Bor (List ℕ)) Refusal → Type 0
 AnswersCow reading (Ok p) = GivesText IsCow reading p.0 p.1.now
 AnswersCow reading (Err e) = RefusesText e reading

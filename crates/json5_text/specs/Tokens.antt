@@ -2,13 +2,10 @@
 use Rattle.std.specs.Prelude.{◌≡◌, ◌≢◌, ℕ, true, false, ◌||◌, ◌==◌, List, [], ◌∷◌, ◌++◌, Option, Some, None}
 use Rattle.json5_grammar.specs.declared.code.ErrorCode.{ErrorCode}
 use Rattle.json5_grammar.specs.declared.code.ErrorCode.TheVariants.{EofParsingIdentifier, EofParsingNumber, EofParsingString, ExpectedIdentifier, ExpectedNumber, ExpectedString}
-use Rattle.json5_grammar.specs.Characters.{backslash, is_identifier_start, NotBegun}
-use Rattle.json5_grammar.specs.Codes.{Shown}
-use Rattle.json5_grammar.specs.Blanks.{BlankFault}
-use Rattle.json5_grammar.specs.NumberFaults.{NumberFault, is_sign, begins_number}
-use Rattle.json5_grammar.specs.Strings.{is_quote}
-use Rattle.json5_grammar.specs.StringFaults.{StringFault}
-use Rattle.json5_grammar.specs.NameFaults.{NameFault}
+use Rattle.json5_grammar.specs.Language.Characters.{backslash, is_identifier_start, NotBegun}
+use Rattle.json5_grammar.specs.Faults.Codes.{Shown}
+use Rattle.json5_grammar.specs.Faults.Tokens.{BlankFault, NumberFault, is_sign, begins_number, StringFault, NameFault}
+use Rattle.json5_grammar.specs.Language.Strings.{is_quote}
 
 -- blanks with a faulty comment after them
 abbrev pub FaultyBlanks : List ℕ → Option ErrorCode → Option (List ℕ) → Type 0

@@ -9,7 +9,7 @@ use Rattle.std.specs.Str.{chars}
 use Rattle.std.specs.Cmp.{IsEquivalence, decided, booleans_Decides, signed_Decides, first_so, second_so}
 use Rattle.std.specs.Cmp.Derive.{both_true}
 use Rattle.std.specs.Cmp.Lexicographic.{pointwise, bytes_decides}
-use Rattle.json5_grammar.specs.Numbers.{Number, whole, decimal}
+use Rattle.json5_grammar.specs.Language.Numbers.{Number, whole, decimal}
 use Rattle.json5_text.specs.NumberDecimals.{decimal_eq}
 use Rattle.json5_text.specs.NumberEquality.{decimal_Decides}
 use Rattle.json5_text.specs.declared.value.Value.{Value, fold-Value}

@@ -2,7 +2,7 @@
 
 ghost use Rattle.std.specs.Prelude.{MatchOption, MatchResult};
 ghost use Rattle.std.specs.Str.{chars};
-ghost use Rattle.json5_grammar.specs.ReadBlanks.{Mode, skip, between, slash};
+ghost use Rattle.json5_grammar.specs.Model.ReadBlanks.{Mode, skip, between, slash};
 ghost use Rattle.json5_text.specs.TokenResults.{Skips, RefusesByCode};
 ghost use Rattle.json5_text.specs.ScanBlanks.{Continues, IsUnclosed};
 
@@ -48,7 +48,7 @@ fn skip_block(text: &str) -> Option<&str>
 fn skip_comment(text: &str) -> Result<&str, Refusal>
     ensures { MatchResult result (λ rest. Continues slash text.now rest.now) (λ e. RefusesByCode e (skip slash (chars text.now))) }
 {
-    let missing = Refusal::Code(ErrorCode::EofParsingComment, None);
+    let missing = Refusal::TokenError { code: ErrorCode::EofParsingComment, remaining: None };
     let Some((c, next)) = front(text) else {
         return Err(missing);
     };
@@ -60,7 +60,7 @@ fn skip_comment(text: &str) -> Result<&str, Refusal>
         };
         Ok(rest)
     } else {
-        Err(Refusal::Code(ErrorCode::ExpectedComment, Some(text.len())))
+        Err(Refusal::TokenError { code: ErrorCode::ExpectedComment, remaining: Some(text.len()) })
     }
 }
 

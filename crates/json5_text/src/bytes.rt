@@ -1,10 +1,10 @@
 //! Runs of bytes.
 
 ghost use Rattle.std.specs.Prelude.{◌≡◌, ◌≤◌, ◌+◌, ◌<◌, length, drop, map, true, false, slice_index, IfSome};
-ghost use Rattle.json5_grammar.specs.Characters.{is_digit, NotBegun};
+ghost use Rattle.json5_grammar.specs.Language.Characters.{is_digit, NotBegun};
 ghost use Rattle.std.specs.List.{prefix_len};
 ghost use Rattle.std.specs.Simd.Lanes.{mask_l};
-ghost use Rattle.json5_grammar.specs.Strings.{is_raw};
+ghost use Rattle.json5_grammar.specs.Language.Strings.{is_raw};
 ghost use Rattle.json5_text.specs.ByteRuns.{ends_raw, is_ascii_blank, is_ascii_start, is_ascii_part, is_plain_ascii, IsAsciiName, is_in_line, is_no_star, lengthens_digits, SpellsFront, IsUnpadded, IsShort, BeginsSolid};
 
 use memchr::{memchr, memchr3};

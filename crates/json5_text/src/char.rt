@@ -2,7 +2,7 @@
 
 ghost use Rattle.std.specs.Prelude.{◌≡◌, ◌↔◌, [], ◌∷◌, IsNone, IfSome};
 ghost use Rattle.std.specs.Str.{chars};
-ghost use Rattle.json5_grammar.specs.Characters.{is_blank, is_terminator, is_identifier_start, is_identifier_part, is_start_category, is_part_category};
+ghost use Rattle.json5_grammar.specs.Language.Characters.{is_blank, is_terminator, is_identifier_start, is_identifier_part, is_start_category, is_part_category};
 ghost use Rattle.json5_text.specs.Escapes.{escape_of};
 
 use crate::bytes::{is_ascii_part, is_ascii_start};

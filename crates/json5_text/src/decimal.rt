@@ -2,9 +2,9 @@
 
 ghost use Rattle.std.specs.Prelude.{◌≡◌, ◌≤◌, ◌-◌, string_bytes, ◌++◌, ◌↔◌, pos, ◌+ℤ◌, reverse, length, IsSome, IfSome, IfOk, MatchResult, Some, true, FitsSigned};
 ghost use Rattle.std.specs.Int.{w128};
-ghost use Rattle.json5_grammar.specs.Characters.{is_digit, Each};
-ghost use Rattle.json5_grammar.specs.Numbers as numbers;
-ghost use Rattle.json5_grammar.specs.NumberText.{decimal_text, IsNormal};
+ghost use Rattle.json5_grammar.specs.Language.Characters.{is_digit, Each};
+ghost use Rattle.json5_grammar.specs.Language.Numbers as numbers;
+ghost use Rattle.json5_grammar.specs.Written.NumberText.{decimal_text, IsNormal};
 ghost use Rattle.json5_text.specs.Errors.{LacksMemory};
 ghost use Rattle.json5_text.specs.NumberDecimals.{is_minus, is_infinity, is_not_a_number, digits_in, exponent_in, sized, Shows, IsFiniteIfInRange, IsFiniteOf};
 ghost use Rattle.json5_text.specs.NumberSteps.{raised, IsSmallExponent};
@@ -57,8 +57,8 @@ pub struct Decimal {
 }
 
 impl Model for Decimal {
-    ghost use Rattle.json5_grammar.specs.Numbers as numbers;
-    ghost use Rattle.json5_grammar.specs.NumberText.{Normal};
+    ghost use Rattle.json5_grammar.specs.Language.Numbers as numbers;
+    ghost use Rattle.json5_grammar.specs.Written.NumberText.{Normal};
 
     ghost Value = { numbers.Decimal };
 
@@ -150,8 +150,8 @@ pub(crate) struct DecimalRef<'a> {
 
 impl<'a> Model for DecimalRef<'a> {
     ghost use Rattle.std.specs.Prelude.{◌++◌};
-    ghost use Rattle.json5_grammar.specs.Numbers as numbers;
-    ghost use Rattle.json5_grammar.specs.NumberText.{IsNormal};
+    ghost use Rattle.json5_grammar.specs.Language.Numbers as numbers;
+    ghost use Rattle.json5_grammar.specs.Written.NumberText.{IsNormal};
 
     ghost Value = { numbers.Decimal };
 

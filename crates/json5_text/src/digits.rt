@@ -1,9 +1,9 @@
 //! Values of digits.
 
 ghost use Rattle.std.specs.Prelude.{◌≡◌, ◌^◌, ◌+◌, ◌*◌, ◌≤◌, ◌<◌, min, MatchOption, IfSome};
-ghost use Rattle.json5_grammar.specs.Characters.{is_digit, Each};
-ghost use Rattle.json5_grammar.specs.Numbers.{spelled};
-ghost use Rattle.json5_grammar.specs.NumberSteps.{checked};
+ghost use Rattle.json5_grammar.specs.Language.Characters.{is_digit, Each};
+ghost use Rattle.json5_grammar.specs.Language.Numbers.{spelled};
+ghost use Rattle.json5_grammar.specs.Model.NumberSteps.{checked};
 
 /// An exponent past this is out of range, however many digits a text may have.
 pub(crate) const EXPONENT_LIMIT: u128 = 1 << 100;

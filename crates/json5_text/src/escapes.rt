@@ -2,9 +2,9 @@
 
 ghost use Rattle.std.specs.Prelude.{◌≡◌, ◌≤◌, ◌<◌, ◌^◌, [], ◌&&◌, true, false, Some, None, length, MatchOption, IfOk};
 ghost use Rattle.std.specs.Str.{chars};
-ghost use Rattle.json5_grammar.specs.Reading.{and_then};
-ghost use Rattle.json5_grammar.specs.Strings.{short_escape, is_high, is_low, pair_value};
-ghost use Rattle.json5_grammar.specs.ReadTexts.{hex, second, unicode_at, one_char, after_nul, after_cr, not_short, escape_at};
+ghost use Rattle.json5_grammar.specs.Model.Reading.{and_then};
+ghost use Rattle.json5_grammar.specs.Language.Strings.{short_escape, is_high, is_low, pair_value};
+ghost use Rattle.json5_grammar.specs.Model.ReadTexts.{hex, second, unicode_at, one_char, after_nul, after_cr, not_short, escape_at};
 ghost use Rattle.json5_text.specs.declared.refusal.Refusal.{Refusal};
 ghost use Rattle.json5_text.specs.TokenResults.{Gives, Answers, AnswersAs};
 ghost use Rattle.json5_text.specs.Scan.{in_list};
@@ -16,9 +16,9 @@ use json5_grammar::code::ErrorCode;
 
 /// The fault at an escape's backslash, with which `escape` begins.
 fn invalid(escape: &str) -> Refusal
-    ensures { result ≡ Refusal.Code ErrorCode.InvalidEscapeSequence (Some (length escape.now)) }
+    ensures { result ≡ Refusal.TokenError ErrorCode.InvalidEscapeSequence (Some (length escape.now)) }
 {
-    Refusal::Code(ErrorCode::InvalidEscapeSequence, Some(escape.len()))
+    Refusal::TokenError { code: ErrorCode::InvalidEscapeSequence, remaining: Some(escape.len()) }
 }
 
 /// The character that a string's escape spells, None where it spells none, and what follows it: `escape` begins with the
@@ -30,7 +30,7 @@ pub(crate) fn read_escape<'t>(
     ensures { AnswersAs in_list (escape_at (chars escape.now) (chars text.now)) result }
 {
     let Some((c, rest)) = front(text) else {
-        return Err(Refusal::Code(ErrorCode::EofParsingEscapeSequence, None));
+        return Err(Refusal::TokenError { code: ErrorCode::EofParsingEscapeSequence, remaining: None });
     };
     match short_escape(c) {
         Some(spelled) => Ok((Some(spelled), rest)),
@@ -147,7 +147,7 @@ fn hexadecimal<'t>(count: u32, escape: &str, text: &'t str) -> Result<(u32, &'t 
     let mut rest = text;
     while wanted > 0 {
         let Some(byte) = rest.as_bytes().first() else {
-            return Err(Refusal::Code(ErrorCode::EofParsingEscapeSequence, None));
+            return Err(Refusal::TokenError { code: ErrorCode::EofParsingEscapeSequence, remaining: None });
         };
         let Some(digit) = char::from(*byte).to_digit(16) else {
             return Err(invalid(escape));

@@ -2,7 +2,7 @@
 
 ghost use Rattle.std.specs.Prelude.{MatchResult};
 ghost use Rattle.std.specs.Str.{chars};
-ghost use Rattle.json5_grammar.specs.ReadNumbers as model;
+ghost use Rattle.json5_grammar.specs.Model.ReadNumbers as model;
 ghost use Rattle.json5_text.specs.TokenResults.{AnswersAs};
 ghost use Rattle.json5_text.specs.NumberParts.{scanned_of};
 ghost use Rattle.json5_text.specs.ScanNumbers.{GivesHex, Overflows};
@@ -43,16 +43,16 @@ pub(crate) fn hexadecimal<'t>(
     ensures { AnswersAs scanned_of (model.hexadecimal (chars start.now) negative (chars text.now)) result }
 {
     let Some((first, digits)) = front(text) else {
-        return Err(Refusal::Code(ErrorCode::EofParsingNumber, None));
+        return Err(Refusal::TokenError { code: ErrorCode::EofParsingNumber, remaining: None });
     };
     let Some(digit) = first.to_digit(16) else {
-        return Err(Refusal::Code(ErrorCode::ExpectedNumber, Some(text.len())));
+        return Err(Refusal::TokenError { code: ErrorCode::ExpectedNumber, remaining: Some(text.len()) });
     };
     match hexadecimal_digits(digit, digits) {
         Ok((magnitude, rest)) => match Whole::from_parts(negative, magnitude) {
             Some(whole) => Ok((Scanned::Whole(whole), rest)),
             None => Err(Refusal::TooLarge(start.len())),
         },
-        Err(rest) => Err(Refusal::Code(ErrorCode::OverflowParsingNumber, Some(rest.len()))),
+        Err(rest) => Err(Refusal::TokenError { code: ErrorCode::OverflowParsingNumber, remaining: Some(rest.len()) }),
     }
 }

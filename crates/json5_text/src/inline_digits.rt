@@ -1,7 +1,7 @@
 //! Decimal digits that are kept in the value itself.
 
 ghost use Rattle.std.specs.Prelude.{◌≡◌, ◌<◌, ◌+◌, ◌++◌, length, MatchOption};
-ghost use Rattle.json5_grammar.specs.Characters.{is_digit, Each};
+ghost use Rattle.json5_grammar.specs.Language.Characters.{is_digit, Each};
 
 use std::marker::Model;
 use std::str;
@@ -18,7 +18,7 @@ pub(crate) struct InlineDigits {
 
 impl Model for InlineDigits {
     ghost use Rattle.std.specs.Prelude.{ℕ, List, ◌≤◌, take, length};
-    ghost use Rattle.json5_grammar.specs.Characters.{is_digit, Each};
+    ghost use Rattle.json5_grammar.specs.Language.Characters.{is_digit, Each};
 
     ghost Value = { List ℕ };
 

@@ -2,10 +2,9 @@
 
 ghost use Rattle.std.specs.Prelude.{◌≡◌, ◌||◌, ◌&&◌, not};
 ghost use Rattle.std.specs.Str.{IsUtf8, chars};
-ghost use Rattle.json5_grammar.specs.Characters.{is_digit, Each};
-ghost use Rattle.json5_grammar.specs.Numbers as numbers;
-ghost use Rattle.json5_grammar.specs.Stops as stops;
-ghost use Rattle.json5_grammar.specs.ReadNumbers as model;
+ghost use Rattle.json5_grammar.specs.Language.Characters.{is_digit, Each};
+ghost use Rattle.json5_grammar.specs.Language.Numbers as numbers;
+ghost use Rattle.json5_grammar.specs.Model.ReadNumbers as model;
 ghost use Rattle.json5_text.specs.NumberParts.{begun, run_of, after_sign, ReadsTail, ReadsLiteral};
 
 use crate::front::front;
@@ -48,7 +47,7 @@ pub(crate) fn after_sign(text: &str) -> (bool, &str)
 
 /// Whether a decimal run is in front, or goes on there.
 fn goes_on(text: &str) -> bool
-    ensures { result ≡ begun stops.in_run (chars text.now) }
+    ensures { result ≡ begun numbers.in_run (chars text.now) }
 {
     matches!(
         front(text),

@@ -2,7 +2,7 @@
 
 ghost use Rattle.std.specs.Prelude.{◌≡◌};
 ghost use Rattle.std.specs.Str.{chars};
-ghost use Rattle.json5_grammar.specs.ReadTexts.{name_escape, identifier};
+ghost use Rattle.json5_grammar.specs.Model.ReadTexts.{name_escape, identifier};
 ghost use Rattle.json5_text.specs.TokenResults.{Answers, AnswersAs, AnswersCow, Passes};
 ghost use Rattle.json5_text.specs.Scan.{SkipsAll, SkipsSome, in_list};
 ghost use Rattle.json5_text.specs.ScanTexts.{fits, is_raw_part, item_of_name, SkipsRaw};
@@ -41,7 +41,7 @@ pub(crate) fn read_item<'t>(
 {
     let (c, rest) = read_escape(escape, after)?;
     if !fits(is_first, c) {
-        return Err(Refusal::Code(ErrorCode::ExpectedIdentifier, Some(escape.len())));
+        return Err(Refusal::TokenError { code: ErrorCode::ExpectedIdentifier, remaining: Some(escape.len()) });
     }
     Ok((Some(c), rest))
 }
@@ -61,10 +61,10 @@ fn read_escape<'t>(escape: &str, after: &'t str) -> Result<(char, &'t str), Refu
     ensures { Answers (name_escape (chars escape.now) (chars after.now)) result }
 {
     let Some((c, digits)) = front(after) else {
-        return Err(Refusal::Code(ErrorCode::EofParsingIdentifier, None));
+        return Err(Refusal::TokenError { code: ErrorCode::EofParsingIdentifier, remaining: None });
     };
     if c != 'u' {
-        return Err(Refusal::Code(ErrorCode::InvalidEscapeSequence, Some(after.len())));
+        return Err(Refusal::TokenError { code: ErrorCode::InvalidEscapeSequence, remaining: Some(after.len()) });
     }
     unicode_escape(escape, digits)
 }

@@ -1,7 +1,7 @@
 //! How deep values are nested.
 
 ghost use Rattle.std.specs.Prelude.{◌≡◌, ◌≤◌, ◌<◌, suc, nat_le, MatchOption};
-ghost use Rattle.json5_grammar.specs.Documents.{max_depth};
+ghost use Rattle.json5_grammar.specs.Language.Documents.{max_depth};
 ghost use Rattle.json5_text.specs.ValueViews.{value_of, items_view, fields_view};
 ghost use Rattle.json5_text.specs.ValueLookups.{datum_depth, items_depth, fields_depth, fits, fits_within};
 
@@ -21,7 +21,7 @@ pub struct Limit {
 
 impl Model for Limit {
     ghost use Rattle.std.specs.Prelude.{ℕ, ◌≤◌};
-    ghost use Rattle.json5_grammar.specs.Documents.{max_depth};
+    ghost use Rattle.json5_grammar.specs.Language.Documents.{max_depth};
 
     ghost Value = { ℕ };
 

@@ -2,9 +2,9 @@
 
 ghost use Rattle.std.specs.Prelude.{◌≡◌, ◌∷◌, IfSome};
 ghost use Rattle.std.specs.Str.{IsUtf8, chars};
-ghost use Rattle.json5_grammar.specs.Characters.{digit_zero};
-ghost use Rattle.json5_grammar.specs.Numbers as numbers;
-ghost use Rattle.json5_grammar.specs.ReadNumbers as model;
+ghost use Rattle.json5_grammar.specs.Language.Characters.{digit_zero};
+ghost use Rattle.json5_grammar.specs.Language.Numbers as numbers;
+ghost use Rattle.json5_grammar.specs.Model.ReadNumbers as model;
 ghost use Rattle.json5_text.specs.TokenResults.{Gives, AnswersAs, AnswersNumber, AnswersWhole};
 ghost use Rattle.json5_text.specs.NumberViews.{number_of};
 ghost use Rattle.json5_text.specs.NumberParts.{scanned_of};
@@ -51,7 +51,7 @@ fn after_zero<'t>(
         return Ok((Scanned::Whole(Whole::from_u128(0)), rest));
     };
     match c {
-        '0'..='9' => Err(Refusal::Code(ErrorCode::LeadingZero, Some(start.len()))),
+        '0'..='9' => Err(Refusal::TokenError { code: ErrorCode::LeadingZero, remaining: Some(start.len()) }),
         'x' | 'X' => hexadecimal(start, negative, after),
         '.' | 'e' | 'E' => decimal_run(start, negative, text),
         _ => Ok((Scanned::Whole(Whole::from_u128(0)), rest)),
@@ -84,14 +84,14 @@ fn unsigned<'t>(
     ensures { AnswersAs scanned_of (model.unsigned (chars start.now) negative (chars text.now)) result }
 {
     let Some((first, rest)) = front(text) else {
-        return Err(Refusal::Code(ErrorCode::EofParsingNumber, None));
+        return Err(Refusal::TokenError { code: ErrorCode::EofParsingNumber, remaining: None });
     };
     match first {
         'I' => word(Scanned::Infinite(negative), "nfinity", rest),
         'N' => word(Scanned::NotANumber(negative), "aN", rest),
         '0' => after_zero(start, negative, text, rest),
         '1'..='9' | '.' => decimal_run(start, negative, text),
-        _ => Err(Refusal::Code(ErrorCode::ExpectedNumber, Some(text.len()))),
+        _ => Err(Refusal::TokenError { code: ErrorCode::ExpectedNumber, remaining: Some(text.len()) }),
     }
 }
 

@@ -1,8 +1,8 @@
 //! The text of a decimal, in pieces.
 
 ghost use Rattle.std.specs.Prelude.{◌≡◌, ◌≤◌, ◌++◌, [], MatchOption};
-ghost use Rattle.json5_grammar.specs.Characters.{is_digit, Each};
-ghost use Rattle.json5_grammar.specs.NumberText.{zeros, digits_text};
+ghost use Rattle.json5_grammar.specs.Language.Characters.{is_digit, Each};
+ghost use Rattle.json5_grammar.specs.Written.NumberText.{zeros, digits_text};
 ghost use Rattle.json5_text.specs.NumberPieces.{IsFront};
 
 use std::marker::Model;
@@ -27,7 +27,7 @@ pub struct Pieces<'a> {
 
 impl<'a> Model for Pieces<'a> {
     ghost use Rattle.std.specs.Prelude.{ℕ, List, ◌++◌};
-    ghost use Rattle.json5_grammar.specs.NumberText.{zeros};
+    ghost use Rattle.json5_grammar.specs.Written.NumberText.{zeros};
 
     ghost Value = { List ℕ };
 

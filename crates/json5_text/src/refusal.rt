@@ -9,7 +9,10 @@ use std::alloc::AllocError;
 #[derive(Clone, Copy)]
 pub(crate) enum Refusal {
     /// A fault with a code; without a position where the end of the text shows it.
-    Code(ErrorCode, Option<usize>),
+    TokenError {
+        code: ErrorCode,
+        remaining: Option<usize>,
+    },
     /// A decimal run that is no literal.
     InvalidNumber(usize),
     /// A hexadecimal number after a minus past -2^127.

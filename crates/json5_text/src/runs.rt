@@ -2,8 +2,8 @@
 
 ghost use Rattle.std.specs.Prelude.{◌≡◌, reverse};
 ghost use Rattle.std.specs.List.{prefix_len};
-ghost use Rattle.json5_grammar.specs.Characters.{is_digit};
-ghost use Rattle.json5_grammar.specs.Numbers as numbers;
+ghost use Rattle.json5_grammar.specs.Language.Characters.{is_digit};
+ghost use Rattle.json5_grammar.specs.Language.Numbers as numbers;
 ghost use Rattle.json5_text.specs.NumberParts.{SplitsDigits};
 
 use crate::bytes::is_digit;

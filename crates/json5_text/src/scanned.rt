@@ -2,9 +2,9 @@
 
 ghost use Rattle.std.specs.Prelude.{◌≡◌, MatchResult, IfSome, IsSome, Some, ℕ, List, true, pos, ◌-ℤ◌, ◌↔◌};
 ghost use Rattle.std.specs.Str.{chars};
-ghost use Rattle.json5_grammar.specs.Characters.{is_digit, Each};
-ghost use Rattle.json5_grammar.specs.Numbers as numbers;
-ghost use Rattle.json5_grammar.specs.ReadNumbers as model;
+ghost use Rattle.json5_grammar.specs.Language.Characters.{is_digit, Each};
+ghost use Rattle.json5_grammar.specs.Language.Numbers as numbers;
+ghost use Rattle.json5_grammar.specs.Model.ReadNumbers as model;
 ghost use Rattle.json5_text.specs.TokenResults.{Judges};
 ghost use Rattle.json5_text.specs.NumberViews.{number_of, keeps_digits, whole_in};
 ghost use Rattle.json5_text.specs.NumberParts.{scanned_of, parts_of, signed_limited, limited_exponent, is_whole_literal, HasExponentDigits, HasDigits};
@@ -104,7 +104,7 @@ pub(crate) fn judge<'t>(
     let after = literal.after.unwrap_or("");
     let exponent = lowered_exponent(literal, after.len());
     let Some(decimal) = DecimalRef::new(negative, literal.before, after, exponent) else {
-        return Err(Refusal::Code(ErrorCode::OverflowParsingNumber, Some(start.len())));
+        return Err(Refusal::TokenError { code: ErrorCode::OverflowParsingNumber, remaining: Some(start.len()) });
     };
     Ok(Scanned::Finite(decimal))
 }

@@ -2,7 +2,7 @@
 
 ghost use Rattle.std.specs.Prelude.{◌≡◌, ℕ, List, [], ◌∷◌, ◌++◌, true, false, ◌==◌, drop, slice_get, IsTrue};
 ghost use Rattle.std.specs.Str.{all_scalars, chars};
-ghost use Rattle.json5_grammar.specs.Characters.{NotBegun};
+ghost use Rattle.json5_grammar.specs.Language.Characters.{NotBegun};
 ghost use Rattle.json5_text.specs.Cursor.{Cursor, offset_of, Took};
 ghost use Rattle.json5_text.specs.Scan.{InText, Leaves, LeavesAt};
 ghost use Rattle.json5_text.specs.TokenCalls.{PassesBlanks, TakesWord, TakesNumber, TakesOwned, TakesStringToken, TakesKey, PassesString, PassesName, PassesNumber};

@@ -3,7 +3,7 @@
 
 ghost use Rattle.std.specs.Prelude.{◌<◌, true, false, IfSome};
 ghost use Rattle.std.specs.Str.{chars};
-ghost use Rattle.json5_grammar.specs.ReadBlanks.{skip, between};
+ghost use Rattle.json5_grammar.specs.Model.ReadBlanks.{skip, between};
 ghost use Rattle.json5_text.specs.TokenResults.{Gives};
 ghost use Rattle.json5_text.specs.Short.{IsShortWhole, GivesSpaced, TakesShortWhole, IsInFront, FindsStep, TakesShortStep, FindsSign, TakesShortSign};
 
@@ -119,13 +119,13 @@ fn comma_step(closing: u8, text: &str) -> Option<Step>
 
 /// A step, where the closing sign is an ASCII character.
 #[inline(always)]
-fn find_step(closing: u8, due: bool, text: &str) -> Option<Step>
-    ensures { IfSome result (FindsStep closing due text.now) }
+fn find_step(closing: u8, comma_due: bool, text: &str) -> Option<Step>
+    ensures { IfSome result (FindsStep closing comma_due text.now) }
 {
     if closing >= 128 {
         return None;
     }
-    if due {
+    if comma_due {
         comma_step(closing, text)
     } else {
         member_step(closing, text)
@@ -165,10 +165,10 @@ impl<I: Input> Scanner<I> {
     /// Takes ASCII blanks up to the next member of an array or an object, and before it the comma where one is due. The closing
     /// bracket stays unread. Returns `Other` where anything else is in front, and takes nothing then.
     #[inline(always)]
-    pub fn short_step(&mut self, closing: u8, due: bool) -> ShortStep
-        ensures { TakesShortStep closing due self.old self.new result }
+    pub fn short_step(&mut self, closing: u8, comma_due: bool) -> ShortStep
+        ensures { TakesShortStep closing comma_due self.old self.new result }
     {
-        let Some(step) = find_step(closing, due, self.rest(self.input.as_text())) else {
+        let Some(step) = find_step(closing, comma_due, self.rest(self.input.as_text())) else {
             return ShortStep::Other;
         };
         self.set_remaining(step.left);

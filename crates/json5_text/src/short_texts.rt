@@ -5,7 +5,7 @@ ghost use Rattle.std.specs.Prelude.{◌≡◌, ◌∷◌, true, IfSome};
 ghost use Rattle.std.specs.Str.{chars};
 ghost use Rattle.json5_text.specs.ScanTexts.{quote_of};
 ghost use Rattle.json5_text.specs.Short.{IsInFront};
-ghost use Rattle.json5_text.specs.ShortTexts.{IsPlainString, IsPlainKey, FindsPlain, FindsFirst, TakesShortString, TakesShortKey, IsTextAt};
+ghost use Rattle.json5_text.specs.ShortTexts.{IsEscapeFreeString, IsEscapeFreeKey, FindsEscapeFree, FindsFirst, TakesShortString, TakesShortKey, IsTextAt};
 
 use crate::blanks::skip_ascii;
 use crate::bytes::ascii_name_len;
@@ -47,7 +47,7 @@ fn front_quote(text: &str) -> Option<Quote>
 /// The string without an escape whose first quote the body follows.
 #[inline(always)]
 fn quoted(quote: Quote, body: &str) -> Option<FoundText>
-    ensures { IfSome result (FindsPlain IsPlainString (quote_of quote ∷ chars body.now)) }
+    ensures { IfSome result (FindsEscapeFree IsEscapeFreeString (quote_of quote ∷ chars body.now)) }
 {
     let rest = skip_raw(quote, body);
     if !is_in_front(quote.byte(), rest) {
@@ -63,7 +63,7 @@ fn quoted(quote: Quote, body: &str) -> Option<FoundText>
 /// The string without an escape in front.
 #[inline(always)]
 fn front_string(text: &str) -> Option<FoundText>
-    ensures { IfSome result (FindsFirst IsPlainString (chars text.now)) }
+    ensures { IfSome result (FindsFirst IsEscapeFreeString (chars text.now)) }
 {
     let quote = front_quote(text)?;
     quoted(quote, text.split_at(1).1)
@@ -72,7 +72,7 @@ fn front_string(text: &str) -> Option<FoundText>
 /// The name of ASCII characters in front, after which an ASCII character follows.
 #[inline(always)]
 fn front_name(text: &str) -> Option<FoundText>
-    ensures { IfSome result (FindsFirst IsPlainKey (chars text.now)) }
+    ensures { IfSome result (FindsFirst IsEscapeFreeKey (chars text.now)) }
 {
     let len = ascii_name_len(text.as_bytes())?;
     let left = text.len() - len;
@@ -86,7 +86,7 @@ fn front_name(text: &str) -> Option<FoundText>
 /// The key without an escape in front.
 #[inline(always)]
 fn front_key(text: &str) -> Option<FoundText>
-    ensures { IfSome result (FindsFirst IsPlainKey (chars text.now)) }
+    ensures { IfSome result (FindsFirst IsEscapeFreeKey (chars text.now)) }
 {
     match front_quote(text) {
         Some(quote) => quoted(quote, text.split_at(1).1),

@@ -2,7 +2,7 @@
 
 ghost use Rattle.std.specs.Prelude.{◌≡◌, ◌≤◌, length};
 ghost use Rattle.std.specs.Str.{chars};
-ghost use Rattle.json5_grammar.specs.Strings.{is_quote, is_raw};
+ghost use Rattle.json5_grammar.specs.Language.Strings.{is_quote, is_raw};
 ghost use Rattle.json5_text.specs.TokenResults.{AnswersCow, AnswersOwned, Passes};
 ghost use Rattle.json5_text.specs.Scan.{SkipsAll};
 ghost use Rattle.json5_text.specs.ScanTextTokens.{AnswersToken};
@@ -67,12 +67,12 @@ fn read_quote(text: &str) -> Result<(Quote, &str), Refusal>
     ensures { AnswersQuote (chars text.now) result }
 {
     let Some((c, body)) = front(text) else {
-        return Err(Refusal::Code(ErrorCode::EofParsingString, None));
+        return Err(Refusal::TokenError { code: ErrorCode::EofParsingString, remaining: None });
     };
     match c {
         '"' => Ok((Quote::Double, body)),
         '\'' => Ok((Quote::Single, body)),
-        _ => Err(Refusal::Code(ErrorCode::ExpectedString, Some(text.len()))),
+        _ => Err(Refusal::TokenError { code: ErrorCode::ExpectedString, remaining: Some(text.len()) }),
     }
 }
 

@@ -10,7 +10,7 @@ use crate::cow_str::CowStr;
 #[derive(Debug, Drop)]
 pub enum TextToken {
     /// The text stands so in what is read, from `start` up to `end`, in bytes.
-    Plain { start: usize, end: usize },
+    EscapeFree { start: usize, end: usize },
     /// A text in memory of its own: an escape spells a part of it.
     Escaped(String),
 }
@@ -24,7 +24,7 @@ impl TextToken {
     {
         let start = end - left;
         match text {
-            CowStr::Borrowed(text) => TextToken::Plain {
+            CowStr::Borrowed(text) => TextToken::EscapeFree {
                 start,
                 end: start + text.len(),
             },

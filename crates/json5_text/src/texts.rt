@@ -2,7 +2,7 @@
 
 ghost use Rattle.std.specs.Prelude.{◌≡◌, ◌++◌, OnOk, string_bytes};
 ghost use Rattle.std.specs.Str.{chars, encode_utf8_all};
-ghost use Rattle.json5_grammar.specs.Characters.{NotBegun};
+ghost use Rattle.json5_grammar.specs.Language.Characters.{NotBegun};
 ghost use Rattle.json5_text.specs.TokenResults.{AnswersAs, AnswersCow, AnswersMore, Passes};
 ghost use Rattle.json5_text.specs.Scan.{AtEscape, in_list};
 ghost use Rattle.json5_text.specs.ScanTexts.{quote_of, rest_of, past, ends_early, text_at, item, is_raw_in, SkipsRaw, AnswersStop, AnswersRun, AnswersStep};
@@ -228,19 +228,19 @@ fn read_stop(kind: Kind, text: &str) -> Result<Stop<'_>, Refusal>
     ensures { AnswersStop kind text.now result }
 {
     let Some((c, next)) = front(text) else {
-        return Err(Refusal::Code(kind.ends_early(), None));
+        return Err(Refusal::TokenError { code: kind.ends_early(), remaining: None });
     };
     if c == '\\' {
         return Ok(Stop::Escape(kind, text, next));
     }
     match kind {
-        Kind::Name => Err(Refusal::Code(ErrorCode::ExpectedIdentifier, Some(text.len()))),
+        Kind::Name => Err(Refusal::TokenError { code: ErrorCode::ExpectedIdentifier, remaining: Some(text.len()) }),
         Kind::NameRest => Ok(Stop::End(text)),
         Kind::String(quote) => {
             if c == quote.char() {
                 Ok(Stop::End(next))
             } else {
-                Err(Refusal::Code(ErrorCode::LineTerminatorInString, Some(text.len())))
+                Err(Refusal::TokenError { code: ErrorCode::LineTerminatorInString, remaining: Some(text.len()) })
             }
         }
     }

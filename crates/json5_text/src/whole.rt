@@ -2,7 +2,7 @@
 
 ghost use Rattle.std.specs.Prelude.{◌≡◌, ◌^◌, ◌≤◌, ◌↔◌, ℤ, pos, ◌≤ℤ◌, ◌<ℤ◌, IsSome, IfSome, Some};
 ghost use Rattle.std.specs.Fmt.{signed_decimal};
-ghost use Rattle.json5_grammar.specs.Numbers.{signed, InWhole};
+ghost use Rattle.json5_grammar.specs.Language.Numbers.{signed, InWhole};
 ghost use Rattle.json5_text.specs.NumberWholes.{Converts};
 
 use crate::wide::Wide;
@@ -23,7 +23,7 @@ pub struct Whole {
 
 impl Model for Whole {
     ghost use Rattle.std.specs.Prelude.{ℤ};
-    ghost use Rattle.json5_grammar.specs.Numbers.{signed};
+    ghost use Rattle.json5_grammar.specs.Language.Numbers.{signed};
     ghost use Rattle.json5_text.specs.NumberWholes.{is_below_zero, distance, IsSignedWhole};
 
     ghost Value = { ℤ };

@@ -1,7 +1,7 @@
 //! Words, such as the literals `null`, `true` and `false` (JSON5 section 2, ECMAScript 5.1 sections 7.8.1 and 7.8.2).
 
 ghost use Rattle.std.specs.Str.{chars};
-ghost use Rattle.json5_grammar.specs.ReadValues.{word_at};
+ghost use Rattle.json5_grammar.specs.Model.ReadValues.{word_at};
 ghost use Rattle.json5_text.specs.TokenResults.{Skips};
 
 use crate::front::front;
@@ -23,10 +23,10 @@ pub(crate) fn skip_word<'t>(
     let mut rest = text;
     while let Some((letter, letters)) = front(wanted) {
         let Some((c, next)) = front(rest) else {
-            return Err(Refusal::Code(ends, None));
+            return Err(Refusal::TokenError { code: ends, remaining: None });
         };
         if c != letter {
-            return Err(Refusal::Code(differs, Some(rest.len())));
+            return Err(Refusal::TokenError { code: differs, remaining: Some(rest.len()) });
         }
         wanted = letters;
         rest = next;

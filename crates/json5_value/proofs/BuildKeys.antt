@@ -6,13 +6,13 @@ use Rattle.std.specs.Str.{all_scalars, chars}
 use Rattle.std.proofs.lemmas.Str.{chars-encodes}
 use Rattle.json5_grammar.specs.declared.code.ErrorCode.{ErrorCode}
 use Rattle.json5_grammar.specs.declared.code.ErrorCode.TheVariants as codes
-use Rattle.json5_grammar.specs.Characters.{NotBegun}
-use Rattle.json5_grammar.specs.Fronts.{of_object, closing}
-use Rattle.json5_grammar.specs.Reading.{Read, inner, got, bad, and_then}
-use Rattle.json5_grammar.specs.ReadBlanks.{skip, between}
-use Rattle.json5_grammar.specs.ReadSteps.{colon_after, key_head, key_at, member_head, member_at, next_value, separator}
-use Rattle.json5_grammar.specs.ReadTexts.{key, string, identifier}
-use Rattle.json5_grammar.specs.Strings.{is_quote}
+use Rattle.json5_grammar.specs.Language.Characters.{NotBegun}
+use Rattle.json5_grammar.specs.Faults.Fronts.{of_object, closing}
+use Rattle.json5_grammar.specs.Model.Reading.{Read, inner, got, bad, and_then}
+use Rattle.json5_grammar.specs.Model.ReadBlanks.{skip, between}
+use Rattle.json5_grammar.specs.Model.ReadSteps.{colon_after, key_head, key_at, member_head, member_at, next_value, separator}
+use Rattle.json5_grammar.specs.Model.ReadTexts.{key, string, identifier}
+use Rattle.json5_grammar.specs.Language.Strings.{is_quote}
 use Rattle.json5_grammar.proofs.KeysRead.{key_complete}
 use Rattle.json5_grammar.proofs.Refusals.{Refuses}
 use Rattle.json5_text.specs.declared.error.Error.{Error}
@@ -60,8 +60,8 @@ key_refuses c r x reason place e (at_name h f) =
 pub key_taken : (old new : Cursor) (next : Option ℕ) (none : Bool) (result : Result TextToken Error) → next ≡ slice_get old.unread 0 → is_some next ≡ not none → none ≡ false → IsInside old → all_scalars old.unread ≡ true → TakesKey old new result
     → Keeps (IsFoundKey old.input) (key old.unread) old new result
 key_taken old new next none (Ok k) peeked test is ready scalars t =
-    let (s, u, plain, took, spelled, same_text) = t.taken in
-    takes old new (key old.unread) (u, plain) k (same_text, chars-encodes u (key_scalars old.unread new.unread took.split scalars spelled)) (gave_text old new (key old.unread) (u, plain) s (ap key took.split ∙ key_complete spelled) took)
+    let (s, u, escape_free, took, spelled, same_text) = t.taken in
+    takes old new (key old.unread) (u, escape_free) k (same_text, chars-encodes u (key_scalars old.unread new.unread took.split scalars spelled)) (gave_text old new (key old.unread) (u, escape_free) s (ap key took.split ∙ key_complete spelled) took)
 key_taken old new next none (Err e) peeked test is ready scalars t = not_taken old new (key old.unread) e (by_cause t.refused) (same_of t.kept)
   where
     by_cause : RefusesToken FaultyKey old e → BlamesOrMemory old.input (key old.unread) e
@@ -104,7 +104,7 @@ key_at_is : (x : List ℕ) → key_at x ≡ and_then (entry_start of_object x) k
 unfolding key_at
 key_at_is x = start_is (skip between x)
 
-next_is : (due : Bool) (x : List ℕ) → next_key due x ≡ and_then (next_entry of_object due x) key_or_end
+next_is : (comma_due : Bool) (x : List ℕ) → next_key comma_due x ≡ and_then (next_entry of_object comma_due x) key_or_end
 next_is false x = key_at_is x
 next_is true x = by_comma (separator of_object x)
   where
@@ -113,29 +113,29 @@ next_is true x = by_comma (separator of_object x)
     by_comma (got false y) = refl
     by_comma (bad c p) = refl
 
-pub entry_refused : (due : Bool) (old new : Cursor) (e : Error) → Blames old.input (next_entry of_object due old.unread) e → SameText old new → Keeps IsNextKey (next_key due old.unread) old new (Err e)
-entry_refused due old new e b g = taken_as old new (next_key due old.unread) (and_then (next_entry of_object due old.unread) key_or_end) (Err e) (next_is due old.unread) (first_not_taken old new (next_entry of_object due old.unread) key_or_end e (inr b) g)
+pub entry_refused : (comma_due : Bool) (old new : Cursor) (e : Error) → Blames old.input (next_entry of_object comma_due old.unread) e → SameText old new → Keeps IsNextKey (next_key comma_due old.unread) old new (Err e)
+entry_refused comma_due old new e b g = taken_as old new (next_key comma_due old.unread) (and_then (next_entry of_object comma_due old.unread) key_or_end) (Err e) (next_is comma_due old.unread) (first_not_taken old new (next_entry of_object comma_due old.unread) key_or_end e (inr b) g)
 
-pub brace_closed : (due goes : Bool) (old new : Cursor) → goes ≡ false → Gave (next_entry of_object due old.unread) goes old new → Keeps IsNextKey (next_key due old.unread) old new (Ok None)
-brace_closed due goes old new e g =
-    takes old new (next_key due old.unread) None None tt
-    (gave_text old new (next_key due old.unread) None g.taken (next_is due old.unread ∙ ap (λ m. and_then m key_or_end) (g.reads ∙ ap (λ b. got b new.unread) e)) g.took)
+pub brace_closed : (comma_due goes : Bool) (old new : Cursor) → goes ≡ false → Gave (next_entry of_object comma_due old.unread) goes old new → Keeps IsNextKey (next_key comma_due old.unread) old new (Ok None)
+brace_closed comma_due goes old new e g =
+    takes old new (next_key comma_due old.unread) None None tt
+    (gave_text old new (next_key comma_due old.unread) None g.taken (next_is comma_due old.unread ∙ ap (λ m. and_then m key_or_end) (g.reads ∙ ap (λ b. got b new.unread) e)) g.took)
 
-module _ (due goes : Bool) (old mid : Cursor) (is : goes ≡ true) (g : Gave (next_entry of_object due old.unread) goes old mid) where
-  key_next : (new : Cursor) (result : Result (Option (String Global)) Error) → Keeps IsNextKey (and_then (key mid.unread) key_and_colon) mid new result → Keeps IsNextKey (next_key due old.unread) old new result
+module _ (comma_due goes : Bool) (old mid : Cursor) (is : goes ≡ true) (g : Gave (next_entry of_object comma_due old.unread) goes old mid) where
+  key_next : (new : Cursor) (result : Result (Option (String Global)) Error) → Keeps IsNextKey (and_then (key mid.unread) key_and_colon) mid new result → Keeps IsNextKey (next_key comma_due old.unread) old new result
   key_next new result k =
-      taken_as old new (next_key due old.unread) (and_then (next_entry of_object due old.unread) key_or_end) result (next_is due old.unread)
-      (takes_then old mid new (next_entry of_object due old.unread) goes key_or_end result g (taken_as mid new (key_or_end goes mid.unread) (and_then (key mid.unread) key_and_colon) result (ap (λ b. key_or_end b mid.unread) is) k))
+      taken_as old new (next_key comma_due old.unread) (and_then (next_entry of_object comma_due old.unread) key_or_end) result (next_is comma_due old.unread)
+      (takes_then old mid new (next_entry of_object comma_due old.unread) goes key_or_end result g (taken_as mid new (key_or_end goes mid.unread) (and_then (key mid.unread) key_and_colon) result (ap (λ b. key_or_end b mid.unread) is) k))
 
   -- the key is refused, or its colon is
-  pub next_key_refused : (new : Cursor) (e : Error) → BlamesOrMemory mid.input (key mid.unread) e → SameText mid new → Keeps IsNextKey (next_key due old.unread) old new (Err e)
+  pub next_key_refused : (new : Cursor) (e : Error) → BlamesOrMemory mid.input (key mid.unread) e → SameText mid new → Keeps IsNextKey (next_key comma_due old.unread) old new (Err e)
   next_key_refused new e b f = key_next new (Err e) (first_not_taken mid new (key mid.unread) key_and_colon e b f)
 
-  pub next_colon_refused : (last new : Cursor) (t : String Global) (e : Error) → (a : List ℕ × Bool) × IsKeyText t a × Gave (key mid.unread) a mid last → Blames last.input (colon_after last.unread) e → SameText last new → Keeps IsNextKey (next_key due old.unread) old new (Err e)
+  pub next_colon_refused : (last new : Cursor) (t : String Global) (e : Error) → (a : List ℕ × Bool) × IsKeyText t a × Gave (key mid.unread) a mid last → Blames last.input (colon_after last.unread) e → SameText last new → Keeps IsNextKey (next_key comma_due old.unread) old new (Err e)
   next_colon_refused last new t e (a, same, k) b f =
       key_next new (Err e) (takes_then mid last new (key mid.unread) a key_and_colon (Err e) k (first_not_taken last new (colon_after last.unread) (λ u y. got (Some a) y) e (inr b) f))
 
-  pub next_key_taken : (last new : Cursor) (v : Unit {0}) (t : String Global) → (a : List ℕ × Bool) × IsKeyText t a × Gave (key mid.unread) a mid last → Gave (colon_after last.unread) v last new → Keeps IsNextKey (next_key due old.unread) old new (Ok (Some t))
+  pub next_key_taken : (last new : Cursor) (v : Unit {0}) (t : String Global) → (a : List ℕ × Bool) × IsKeyText t a × Gave (key mid.unread) a mid last → Gave (colon_after last.unread) v last new → Keeps IsNextKey (next_key comma_due old.unread) old new (Ok (Some t))
   next_key_taken last new v t (a, same, k) c =
       key_next new (Ok (Some t))
       (takes_then mid last new (key mid.unread) a key_and_colon (Ok (Some t)) k
@@ -171,7 +171,7 @@ member_or_key x = by_gap (skip between x)
     by_gap (got u y) = head_or_value y
     by_gap (bad e p) = refl
 
-value_or_key : (due : Bool) (x : List ℕ) → next_value of_object due x ≡ and_then (next_key due x) has_key
+value_or_key : (comma_due : Bool) (x : List ℕ) → next_value of_object comma_due x ≡ and_then (next_key comma_due x) has_key
 value_or_key false x = member_or_key x
 value_or_key true x = by_comma (separator of_object x)
   where
@@ -180,5 +180,5 @@ value_or_key true x = by_comma (separator of_object x)
     by_comma (got false y) = refl
     by_comma (bad e p) = refl
 
-pub key_shorter : (due : Bool) (o : Option (List ℕ × Bool)) (x r : List ℕ) → next_key due x ≡ got o r → due ≡ true → length r < length x
-key_shorter due o x r e is = next_shorter of_object due (is_some o) x r (value_or_key due x ∙ ap (λ m. and_then m has_key) e) is
+pub key_shorter : (comma_due : Bool) (o : Option (List ℕ × Bool)) (x r : List ℕ) → next_key comma_due x ≡ got o r → comma_due ≡ true → length r < length x
+key_shorter comma_due o x r e is = next_shorter of_object comma_due (is_some o) x r (value_or_key comma_due x ∙ ap (λ m. and_then m has_key) e) is

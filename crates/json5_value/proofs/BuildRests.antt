@@ -2,11 +2,11 @@
 use Rattle.std.proofs.Common.{◌≡◌, ℕ, suc, Bool, true, false, cond, List, [], ◌∷◌, ◌++◌, refl, ap, ◌∙◌, Option, Some, None, String, string_bytes}
 use Rattle.std.specs.declared.alloc.Global.{Global}
 use Rattle.std.specs.Str.{chars}
-use Rattle.json5_grammar.specs.Fronts.{of_array, of_object}
-use Rattle.json5_grammar.specs.Reading.{Read, here, inner, got, bad, and_then, placed}
-use Rattle.json5_grammar.specs.ReadSteps.{member_at, separator, next_value, trees_of, trees_after, pairs_of, pairs_after, key_at, first_of_trees, goes_on_with, pair_or_end}
-use Rattle.json5_grammar.specs.ReadValues.{read}
-use Rattle.json5_grammar.specs.Trees.{Tree, Trees, Pairs, array, object, no_more, more, no_pair, pair}
+use Rattle.json5_grammar.specs.Faults.Fronts.{of_array, of_object}
+use Rattle.json5_grammar.specs.Model.Reading.{Read, here, inner, got, bad, and_then, placed}
+use Rattle.json5_grammar.specs.Model.ReadSteps.{member_at, separator, next_value, trees_of, trees_after, pairs_of, pairs_after, key_at, first_of_trees, goes_on_with, pair_or_end}
+use Rattle.json5_grammar.specs.Model.ReadValues.{read}
+use Rattle.json5_grammar.specs.Language.Trees.{Tree, Trees, Pairs, array, object, no_more, more, no_pair, pair}
 use Rattle.json5_grammar.proofs.TreeSteps.{trees_step, trees_later, pairs_step, pairs_later, read_array, read_object}
 use Rattle.json5_text.specs.declared.value.Value.{Value}
 use Rattle.json5_text.specs.ValueViews as views
@@ -49,7 +49,7 @@ element_after_comma before d (got false y) = refl
 element_after_comma before d (bad e p) = refl
 
 -- what is left of an array is an element and then the rest, or the closing bracket
-pub array_step : (vs : List Value) (due : Bool) (d : ℕ) (x : List ℕ) → rest_of_array vs due d x ≡ and_then (next_value of_array due x) (array_turn (elements_before vs) d)
+pub array_step : (vs : List Value) (comma_due : Bool) (d : ℕ) (x : List ℕ) → rest_of_array vs comma_due d x ≡ and_then (next_value of_array comma_due x) (array_turn (elements_before vs) d)
 array_step vs false d x = first_element (elements_before vs) d x
 array_step vs true d x = ap (array_with (elements_before vs)) (trees_later d x) ∙ element_after_comma (elements_before vs) d (separator of_array x)
 
@@ -112,7 +112,7 @@ member_after_comma before d (got false y) = refl
 member_after_comma before d (bad e p) = refl
 
 -- what is left of an object is a member and then the rest, or the closing brace
-pub object_step : (fs : List (String Global × Value)) (due : Bool) (d : ℕ) (x : List ℕ) → rest_of_object fs due d x ≡ and_then (next_key due x) (object_turn (members_before fs) d)
+pub object_step : (fs : List (String Global × Value)) (comma_due : Bool) (d : ℕ) (x : List ℕ) → rest_of_object fs comma_due d x ≡ and_then (next_key comma_due x) (object_turn (members_before fs) d)
 object_step fs false d x = first_member (members_before fs) d x
 object_step fs true d x = ap (object_with (members_before fs)) (pairs_later d x) ∙ member_after_comma (members_before fs) d (separator of_object x)
 

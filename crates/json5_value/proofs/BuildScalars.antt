@@ -5,15 +5,15 @@ use Rattle.std.specs.declared.alloc.Global.{Global}
 use Rattle.std.specs.Str.{all_scalars, encode_utf8_all}
 use Rattle.json5_grammar.specs.declared.code.ErrorCode.{ErrorCode}
 use Rattle.json5_grammar.specs.declared.code.ErrorCode.TheVariants as codes
-use Rattle.json5_grammar.specs.NumberFaults.{is_sign, begins_number}
-use Rattle.json5_grammar.specs.Reading.{Read, Place, inner, got, bad}
-use Rattle.json5_grammar.specs.ReadNumbers as reading
-use Rattle.json5_grammar.specs.ReadSteps.{forget}
-use Rattle.json5_grammar.specs.ReadTexts.{string}
-use Rattle.json5_grammar.specs.ReadValues.{read}
-use Rattle.json5_grammar.specs.Strings.{Str, is_quote}
-use Rattle.json5_grammar.specs.Trees.{Tree, null, boolean, text, depth}
-use Rattle.json5_grammar.specs.Values.{Val, Stops, is_null, is_true, is_false, is_text, null_text, true_text, false_text}
+use Rattle.json5_grammar.specs.Faults.Tokens.{is_sign, begins_number}
+use Rattle.json5_grammar.specs.Model.Reading.{Read, Place, inner, got, bad}
+use Rattle.json5_grammar.specs.Model.ReadNumbers as reading
+use Rattle.json5_grammar.specs.Model.ReadSteps.{forget}
+use Rattle.json5_grammar.specs.Model.ReadTexts.{string}
+use Rattle.json5_grammar.specs.Model.ReadValues.{read}
+use Rattle.json5_grammar.specs.Language.Strings.{Str, is_quote}
+use Rattle.json5_grammar.specs.Language.Trees.{Tree, null, boolean, text, depth}
+use Rattle.json5_grammar.specs.Language.Values.{Val, Stops, is_null, is_true, is_false, is_text, null_text, true_text, false_text}
 use Rattle.json5_grammar.proofs.Refusals.{Refuses}
 use Rattle.json5_grammar.proofs.ValuesRead.{read_complete}
 use Rattle.json5_grammar.proofs.ValuesSound.{text_stops}
@@ -84,9 +84,9 @@ literal_taken room old new literal.Null v took is = scalar_taken room old new nu
 literal_taken room old new literal.True v took is = scalar_taken room old new true_text (boolean true) v refl took is_true (true_stops new.unread) is
 literal_taken room old new literal.False v took is = scalar_taken room old new false_text (boolean false) v refl took is_false (false_stops new.unread) is
 
-pub text_taken : (room : ℕ) (old new : Cursor) (t : String Global) → all_scalars old.unread ≡ true → (s u : List ℕ) × (plain : Bool) × Took old s new × Str s u plain × (string_bytes t ≡ encode_utf8_all u) → Keeps IsOfTree (tree_at room old) old new (Ok (value.String t))
-text_taken room old new t scalars (s, u, plain, took, str, bytes) =
-    scalar_taken room old new s (text u plain) (value.String t) refl took (is_text str) (text_stops new.unread str) (view-String t ∙ ap datum.text (text_characters old.unread new.unread (string_bytes t) took.split scalars str bytes))
+pub text_taken : (room : ℕ) (old new : Cursor) (t : String Global) → all_scalars old.unread ≡ true → (s u : List ℕ) × (escape_free : Bool) × Took old s new × Str s u escape_free × (string_bytes t ≡ encode_utf8_all u) → Keeps IsOfTree (tree_at room old) old new (Ok (value.String t))
+text_taken room old new t scalars (s, u, escape_free, took, str, bytes) =
+    scalar_taken room old new s (text u escape_free) (value.String t) refl took (is_text str) (text_stops new.unread str) (view-String t ∙ ap datum.text (text_characters old.unread new.unread (string_bytes t) took.split scalars str bytes))
 
 -- a step that passes over it is refused
 pub scalar_refused : (room : ℕ) (old new : Cursor) (e : Error) → Steps (value_at room old) old new (Err e) → Keeps IsOfTree (tree_at room old) old new (Err e)

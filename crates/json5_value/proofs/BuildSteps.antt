@@ -1,7 +1,7 @@
 -- One step that keeps what it reads after another.
 use Rattle.std.proofs.Common.{◌≡◌, ℕ, List, ap, sym, ◌∙◌, subst, inl, inr}
 use Rattle.std.specs.Prelude.{Result, Ok, Err}
-use Rattle.json5_grammar.specs.Reading.{Read, got, and_then}
+use Rattle.json5_grammar.specs.Model.Reading.{Read, got, and_then}
 use Rattle.json5_text.specs.declared.error.Error.{Error}
 use Rattle.json5_text.specs.Cursor.{Cursor, Took}
 use Rattle.json5_value.specs.Keeping.{BlamesOrMemory, Keeps}

@@ -2,9 +2,9 @@
 use Rattle.std.proofs.Common.{◌≡◌, ℕ, ◌-◌, ◌<◌, Bool, true, false, List, [], ◌∷◌, ◌++◌, length, refl, ap, sym, ◌∙◌, subst, arith, length-append, ◌⊎◌, inl, inr, Option, Some, None, Vec, String}
 use Rattle.std.specs.Prelude.{Result, Ok, Err}
 use Rattle.std.specs.declared.alloc.Global.{Global}
-use Rattle.json5_grammar.specs.Fronts.{of_array}
-use Rattle.json5_grammar.specs.Reading.{Read, got, and_then}
-use Rattle.json5_grammar.specs.ReadSteps.{next_value, pairs_after}
+use Rattle.json5_grammar.specs.Faults.Fronts.{of_array}
+use Rattle.json5_grammar.specs.Model.Reading.{Read, got, and_then}
+use Rattle.json5_grammar.specs.Model.ReadSteps.{next_value, pairs_after}
 use Rattle.json5_text.specs.declared.error.Error.{Error}
 use Rattle.json5_text.specs.Cursor.{Cursor, Took, IsOutOfMemory}
 use Rattle.json5_text.specs.declared.value.Value.{Value}
@@ -31,10 +31,10 @@ use Rattle.json5_value.proofs.BuildKeys.{key_shorter}
 room_within : (room : ℕ) (fs : List Unfinished) (f : Unfinished) → room - length (fs ++ f ∷ []) ≡ room - length fs - 1
 room_within room fs f = omega (arith, length-append fs (f ∷ []))
 
-module _ (m : ℕ → Read Datum) (at : ℕ) (due : Bool) (fs : List Unfinished) (old : Cursor) where
+module _ (m : ℕ → Read Datum) (at : ℕ) (comma_due : Bool) (fs : List Unfinished) (old : Cursor) where
   -- a value of it comes next
-  turn_goes : (after : List Unfinished) (f : Unfinished) (new : Cursor) (s : List ℕ) → at ≡ start_of f → Took old s new → ((d : ℕ) → m d ≡ and_then (datum_at d new) (value_in f d)) → after ≡ fs ++ f ∷ [] → (due ≡ true → length new.unread < length old.unread)
-      → TurnsInside m at due fs after old new (Ok None)
+  turn_goes : (after : List Unfinished) (f : Unfinished) (new : Cursor) (s : List ℕ) → at ≡ start_of f → Took old s new → ((d : ℕ) → m d ≡ and_then (datum_at d new) (value_in f d)) → after ≡ fs ++ f ∷ [] → (comma_due ≡ true → length new.unread < length old.unread)
+      → TurnsInside m at comma_due fs after old new (Ok None)
   turn_goes after f new s is took reads grown less = record {
     goes = λ room w q h. subst (λ z. Building room w z None new) (sym grown)
         (subst (λ d. Within start_of value_in room w (fs ++ f ∷ []) (datum_at d new) new) (sym (room_within room fs f))
@@ -46,7 +46,7 @@ module _ (m : ℕ → Read Datum) (at : ℕ) (due : Bool) (fs : List Unfinished)
   }
 
   -- it ended
-  turn_closed : (new : Cursor) (v : Value) (s : List ℕ) → Took old s new → ((d : ℕ) → m d ≡ got (value_of v) new.unread) → (due ≡ true → length new.unread < length old.unread) → TurnsInside m at due fs fs old new (Ok (Some v))
+  turn_closed : (new : Cursor) (v : Value) (s : List ℕ) → Took old s new → ((d : ℕ) → m d ≡ got (value_of v) new.unread) → (comma_due ≡ true → length new.unread < length old.unread) → TurnsInside m at comma_due fs fs old new (Ok (Some v))
   turn_closed new v s took reads less = record {
     goes = λ room w q h. closed start_of value_in room old w (m (room - length fs - 1)) fs at q h new (value_of v) s took (reads (room - length fs - 1));
     refused = tt;
@@ -55,7 +55,7 @@ module _ (m : ℕ → Read Datum) (at : ℕ) (due : Bool) (fs : List Unfinished)
     no_longer = no_more_left old new s took;
   }
 
-  turn_refused : (after : List Unfinished) (new : Cursor) (own e : Error) → IsOutOfMemory own ⊎ ((d : ℕ) → Blames old.input (m d) own) → SameText old new → PlacedAt (StartsAfter new.input at) own e → TurnsInside m at due fs after old new (Err e)
+  turn_refused : (after : List Unfinished) (new : Cursor) (own e : Error) → IsOutOfMemory own ⊎ ((d : ℕ) → Blames old.input (m d) own) → SameText old new → PlacedAt (StartsAfter new.input at) own e → TurnsInside m at comma_due fs after old new (Err e)
   turn_refused after new own e (inl memory) g k = record { goes = tt; refused = inl (k.kind ∙ memory); same_text = g; shorter = tt; no_longer = tt }
   turn_refused after new own e (inr b) g k = record {
     goes = tt;
@@ -66,77 +66,77 @@ module _ (m : ℕ → Read Datum) (at : ℕ) (due : Bool) (fs : List Unfinished)
   }
 
   -- memory ran out
-  pub turn_lacks_memory : (after : List Unfinished) (new : Cursor) (e : Error) → IsOutOfMemory e → SameText old new → TurnsInside m at due fs after old new (Err e)
+  pub turn_lacks_memory : (after : List Unfinished) (new : Cursor) (e : Error) → IsOutOfMemory e → SameText old new → TurnsInside m at comma_due fs after old new (Err e)
   turn_lacks_memory after new e memory g = record { goes = tt; refused = inl memory; same_text = g; shorter = tt; no_longer = tt }
 
 -- ---- arrays
 
-module _ (elements : Vec Value Global) (at : ℕ) (due : Bool) (fs : List Unfinished) (old : Cursor) where
+module _ (elements : Vec Value Global) (at : ℕ) (comma_due : Bool) (fs : List Unfinished) (old : Cursor) where
   -- what is left of it, by what comes next
-  array_is : (goes : Bool) (mid : Cursor) (d : ℕ) → Gave (next_value of_array due old.unread) goes old mid → array_at elements.items due old d ≡ array_turn (elements_before elements.items) d goes mid.unread
-  array_is goes mid d g = array_step elements.items due d old.unread ∙ ap (λ m. and_then m (array_turn (elements_before elements.items) d)) g.reads
+  array_is : (goes : Bool) (mid : Cursor) (d : ℕ) → Gave (next_value of_array comma_due old.unread) goes old mid → array_at elements.items comma_due old d ≡ array_turn (elements_before elements.items) d goes mid.unread
+  array_is goes mid d g = array_step elements.items comma_due d old.unread ∙ ap (λ m. and_then m (array_turn (elements_before elements.items) d)) g.reads
 
-  pub array_goes_on : (goes : Bool) (after : List Unfinished) (new : Cursor) → goes ≡ true → Gave (next_value of_array due old.unread) goes old new → after ≡ fs ++ unfinished.Array at elements ∷ [] → TurnsInside (array_at elements.items due old) at due fs after old new (Ok None)
+  pub array_goes_on : (goes : Bool) (after : List Unfinished) (new : Cursor) → goes ≡ true → Gave (next_value of_array comma_due old.unread) goes old new → after ≡ fs ++ unfinished.Array at elements ∷ [] → TurnsInside (array_at elements.items comma_due old) at comma_due fs after old new (Ok None)
   array_goes_on goes after new is g grown =
-      turn_goes (array_at elements.items due old) at due fs old after (unfinished.Array at elements) new g.taken refl g.took
-      (λ d. array_is goes new d g ∙ ap (λ b. array_turn (elements_before elements.items) d b new.unread) is) grown (λ d. next_shorter of_array due goes old.unread new.unread g.reads d)
+      turn_goes (array_at elements.items comma_due old) at comma_due fs old after (unfinished.Array at elements) new g.taken refl g.took
+      (λ d. array_is goes new d g ∙ ap (λ b. array_turn (elements_before elements.items) d b new.unread) is) grown (λ d. next_shorter of_array comma_due goes old.unread new.unread g.reads d)
 
-  pub array_closed : (goes : Bool) (new : Cursor) → goes ≡ false → Gave (next_value of_array due old.unread) goes old new → TurnsInside (array_at elements.items due old) at due fs fs old new (Ok (Some (value.Array elements)))
+  pub array_closed : (goes : Bool) (new : Cursor) → goes ≡ false → Gave (next_value of_array comma_due old.unread) goes old new → TurnsInside (array_at elements.items comma_due old) at comma_due fs fs old new (Ok (Some (value.Array elements)))
   array_closed goes new is g =
-      turn_closed (array_at elements.items due old) at due fs old new (value.Array elements) g.taken g.took
+      turn_closed (array_at elements.items comma_due old) at comma_due fs old new (value.Array elements) g.taken g.took
       (λ d. array_is goes new d g ∙ ap (λ b. array_turn (elements_before elements.items) d b new.unread) is
       ∙ ap (λ xs. got (views.array xs) new.unread) (no_more_elements elements.items) ∙ ap (λ x. got x new.unread) (sym (view-Array elements)))
-      (λ d. next_shorter of_array due goes old.unread new.unread g.reads d)
+      (λ d. next_shorter of_array comma_due goes old.unread new.unread g.reads d)
 
-  pub array_refused : (after : List Unfinished) (new : Cursor) (own e : Error) → Blames old.input (next_value of_array due old.unread) own → SameText old new → PlacedAt (StartsAfter new.input at) own e → TurnsInside (array_at elements.items due old) at due fs after old new (Err e)
+  pub array_refused : (after : List Unfinished) (new : Cursor) (own e : Error) → Blames old.input (next_value of_array comma_due old.unread) own → SameText old new → PlacedAt (StartsAfter new.input at) own e → TurnsInside (array_at elements.items comma_due old) at comma_due fs after old new (Err e)
   array_refused after new own e b g k =
-      turn_refused (array_at elements.items due old) at due fs old after new own e
-      (inr (λ d. blames_as old.input old.input (next_value of_array due old.unread) (array_at elements.items due old d) own refl
-      (λ c p is. array_step elements.items due d old.unread ∙ ap (λ m. and_then m (array_turn (elements_before elements.items) d)) is) b))
+      turn_refused (array_at elements.items comma_due old) at comma_due fs old after new own e
+      (inr (λ d. blames_as old.input old.input (next_value of_array comma_due old.unread) (array_at elements.items comma_due old d) own refl
+      (λ c p is. array_step elements.items comma_due d old.unread ∙ ap (λ m. and_then m (array_turn (elements_before elements.items) d)) is) b))
       g k
 
 -- ---- objects
 
-module _ (members : Vec (String Global × Value) Global) (at : ℕ) (due : Bool) (fs : List Unfinished) (old : Cursor) where
-  object_is : (o : Option (List ℕ × Bool)) (mid : Cursor) (d : ℕ) → Gave (next_key due old.unread) o old mid → object_at members.items due old d ≡ object_turn (members_before members.items) d o mid.unread
-  object_is o mid d g = object_step members.items due d old.unread ∙ ap (λ m. and_then m (object_turn (members_before members.items) d)) g.reads
+module _ (members : Vec (String Global × Value) Global) (at : ℕ) (comma_due : Bool) (fs : List Unfinished) (old : Cursor) where
+  object_is : (o : Option (List ℕ × Bool)) (mid : Cursor) (d : ℕ) → Gave (next_key comma_due old.unread) o old mid → object_at members.items comma_due old d ≡ object_turn (members_before members.items) d o mid.unread
+  object_is o mid d g = object_step members.items comma_due d old.unread ∙ ap (λ m. and_then m (object_turn (members_before members.items) d)) g.reads
 
   pub object_goes_on : (next : Option (String Global)) (key : String Global) (after : List Unfinished) (new : Cursor) → next ≡ Some key
-      → (o : Option (List ℕ × Bool)) × IsNextKey next o × Gave (next_key due old.unread) o old new → after ≡ fs ++ unfinished.Object at members key ∷ [] → TurnsInside (object_at members.items due old) at due fs after old new (Ok None)
+      → (o : Option (List ℕ × Bool)) × IsNextKey next o × Gave (next_key comma_due old.unread) o old new → after ≡ fs ++ unfinished.Object at members key ∷ [] → TurnsInside (object_at members.items comma_due old) at comma_due fs after old new (Ok None)
   object_goes_on next key after new is (o, found, g) grown = by_key o g (subst (λ z. IsNextKey z o) is found)
     where
-      by_key : (o : Option (List ℕ × Bool)) → Gave (next_key due old.unread) o old new → IsNextKey (Some key) o → TurnsInside (object_at members.items due old) at due fs after old new (Ok None)
+      by_key : (o : Option (List ℕ × Bool)) → Gave (next_key comma_due old.unread) o old new → IsNextKey (Some key) o → TurnsInside (object_at members.items comma_due old) at comma_due fs after old new (Ok None)
       by_key None g k = absurd k
       by_key (Some a) g k =
-          turn_goes (object_at members.items due old) at due fs old after (unfinished.Object at members key) new g.taken refl g.took
+          turn_goes (object_at members.items comma_due old) at comma_due fs old after (unfinished.Object at members key) new g.taken refl g.took
           (λ d. object_is (Some a) new d g ∙ ap (λ u. and_then (datum_at d new) (λ x z. object_with (λ xs. members_before members.items (views.field u x xs)) (pairs_after d z))) (sym k))
-          grown (λ d. key_shorter due (Some a) old.unread new.unread g.reads d)
+          grown (λ d. key_shorter comma_due (Some a) old.unread new.unread g.reads d)
 
-  pub object_closed : (next : Option (String Global)) (new : Cursor) → next ≡ None → (o : Option (List ℕ × Bool)) × IsNextKey next o × Gave (next_key due old.unread) o old new
-      → TurnsInside (object_at members.items due old) at due fs fs old new (Ok (Some (value.Object members)))
+  pub object_closed : (next : Option (String Global)) (new : Cursor) → next ≡ None → (o : Option (List ℕ × Bool)) × IsNextKey next o × Gave (next_key comma_due old.unread) o old new
+      → TurnsInside (object_at members.items comma_due old) at comma_due fs fs old new (Ok (Some (value.Object members)))
   object_closed next new is (o, found, g) = by_key o g (subst (λ z. IsNextKey z o) is found)
     where
-      by_key : (o : Option (List ℕ × Bool)) → Gave (next_key due old.unread) o old new → IsNextKey None o → TurnsInside (object_at members.items due old) at due fs fs old new (Ok (Some (value.Object members)))
+      by_key : (o : Option (List ℕ × Bool)) → Gave (next_key comma_due old.unread) o old new → IsNextKey None o → TurnsInside (object_at members.items comma_due old) at comma_due fs fs old new (Ok (Some (value.Object members)))
       by_key (Some a) g k = absurd k
       by_key None g k =
-          turn_closed (object_at members.items due old) at due fs old new (value.Object members) g.taken g.took
+          turn_closed (object_at members.items comma_due old) at comma_due fs old new (value.Object members) g.taken g.took
           (λ d. object_is None new d g ∙ ap (λ xs. got (views.object xs) new.unread) (no_more_members members.items) ∙ ap (λ x. got x new.unread) (sym (view-Object members)))
-          (λ d. key_shorter due None old.unread new.unread g.reads d)
+          (λ d. key_shorter comma_due None old.unread new.unread g.reads d)
 
-  pub object_refused : (after : List Unfinished) (new : Cursor) (own e : Error) → BlamesOrMemory old.input (next_key due old.unread) own → SameText old new → PlacedAt (StartsAfter new.input at) own e
-      → TurnsInside (object_at members.items due old) at due fs after old new (Err e)
-  object_refused after new own e b g k = turn_refused (object_at members.items due old) at due fs old after new own e (by_cause b) g k
+  pub object_refused : (after : List Unfinished) (new : Cursor) (own e : Error) → BlamesOrMemory old.input (next_key comma_due old.unread) own → SameText old new → PlacedAt (StartsAfter new.input at) own e
+      → TurnsInside (object_at members.items comma_due old) at comma_due fs after old new (Err e)
+  object_refused after new own e b g k = turn_refused (object_at members.items comma_due old) at comma_due fs old after new own e (by_cause b) g k
     where
-      by_cause : BlamesOrMemory old.input (next_key due old.unread) own → IsOutOfMemory own ⊎ ((d : ℕ) → Blames old.input (object_at members.items due old d) own)
+      by_cause : BlamesOrMemory old.input (next_key comma_due old.unread) own → IsOutOfMemory own ⊎ ((d : ℕ) → Blames old.input (object_at members.items comma_due old d) own)
       by_cause (inl memory) = inl memory
-      by_cause (inr b) = inr (λ d. blames_as old.input old.input (next_key due old.unread) (object_at members.items due old d) own refl
-          (λ c p is. object_step members.items due d old.unread ∙ ap (λ m. and_then m (object_turn (members_before members.items) d)) is) b)
+      by_cause (inr b) = inr (λ d. blames_as old.input old.input (next_key comma_due old.unread) (object_at members.items comma_due old d) own refl
+          (λ c p is. object_step members.items comma_due d old.unread ∙ ap (λ m. and_then m (object_turn (members_before members.items) d)) is) b)
 
 -- ---- a value in an array or an object that is unfinished
 
 -- the same of a reading that is equal at each depth
-pub turns_as : (m n : ℕ → Read Datum) (at : ℕ) (due : Bool) (fs after : List Unfinished) (old new : Cursor) (result : Result (Option Value) Error) → ((d : ℕ) → m d ≡ n d) → TurnsInside n at due fs after old new result → TurnsInside m at due fs after old new result
-turns_as m n at due fs after old new (Ok ended) same k = record {
+pub turns_as : (m n : ℕ → Read Datum) (at : ℕ) (comma_due : Bool) (fs after : List Unfinished) (old new : Cursor) (result : Result (Option Value) Error) → ((d : ℕ) → m d ≡ n d) → TurnsInside n at comma_due fs after old new result → TurnsInside m at comma_due fs after old new result
+turns_as m n at comma_due fs after old new (Ok ended) same k = record {
   goes = λ room w q h. k.goes room w q (subst (λ z. InsideOf room w q z) (same (room - length fs - 1)) h);
   refused = tt;
   same_text = k.same_text;
@@ -146,7 +146,7 @@ turns_as m n at due fs after old new (Ok ended) same k = record {
   where
     InsideOf : ℕ → Read Datum → List ℕ → Read Datum → Type 0
     InsideOf room w q z = BuildingInside room w fs at (λ d. z) q old
-turns_as m n at due fs after old new (Err e) same k = record { goes = tt; refused = by_cause k.refused; same_text = k.same_text; shorter = tt; no_longer = tt }
+turns_as m n at comma_due fs after old new (Err e) same k = record { goes = tt; refused = by_cause k.refused; same_text = k.same_text; shorter = tt; no_longer = tt }
   where
     by_cause : IsOutOfMemory e ⊎ ((room : ℕ) (w : Read Datum) (q : List ℕ) → BuildingInside room w fs at n q old → Blames old.input w e) → IsOutOfMemory e ⊎ ((room : ℕ) (w : Read Datum) (q : List ℕ) → BuildingInside room w fs at m q old → Blames old.input w e)
     by_cause (inl memory) = inl memory

@@ -3,9 +3,9 @@ use Rattle.std.proofs.Common.{◌≡◌, ℕ, suc, ◌-◌, ◌<◌, false, List
 use Rattle.std.specs.Prelude.{Result, Ok, Err}
 use Rattle.std.specs.declared.alloc.Global.{Global}
 use Rattle.std.specs.Vec.{vec_len}
-use Rattle.json5_grammar.specs.Fronts.{opening}
-use Rattle.json5_grammar.specs.Reading.{Read, got, placed}
-use Rattle.json5_grammar.specs.ReadValues.{read}
+use Rattle.json5_grammar.specs.Faults.Fronts.{opening}
+use Rattle.json5_grammar.specs.Model.Reading.{Read, got, placed}
+use Rattle.json5_grammar.specs.Model.ReadValues.{read}
 use Rattle.json5_grammar.proofs.ValuesSound.{read_sound}
 use Rattle.json5_text.specs.declared.error.Error.{Error}
 use Rattle.json5_text.specs.Cursor.{Cursor, IsOutOfMemory}

@@ -2,12 +2,12 @@
 use Rattle.std.proofs.Common.{◌≡◌, ℕ, Bool, true, false, cond, List, [], ◌∷◌, refl, ap, ◌∙◌, subst}
 use Rattle.std.specs.Prelude.{◌==◌, Result, Ok, Err, not}
 use Rattle.json5_grammar.specs.declared.code.ErrorCode.TheVariants as codes
-use Rattle.json5_grammar.specs.Characters.{NotBegun}
-use Rattle.json5_grammar.specs.Fronts.{BracketKind, of_array, of_object, closing}
-use Rattle.json5_grammar.specs.Reading.{Read, got, and_then}
-use Rattle.json5_grammar.specs.ReadBlanks.{skip, between}
-use Rattle.json5_grammar.specs.ReadSteps.{eof_in, colon_after, comma_at, separator}
-use Rattle.json5_grammar.specs.ReadValues.{colon_at}
+use Rattle.json5_grammar.specs.Language.Characters.{NotBegun}
+use Rattle.json5_grammar.specs.Faults.Fronts.{BracketKind, of_array, of_object, closing}
+use Rattle.json5_grammar.specs.Model.Reading.{Read, got, and_then}
+use Rattle.json5_grammar.specs.Model.ReadBlanks.{skip, between}
+use Rattle.json5_grammar.specs.Model.ReadSteps.{eof_in, colon_after, comma_at, separator}
+use Rattle.json5_grammar.specs.Model.ReadValues.{colon_at}
 use Rattle.json5_text.specs.declared.error.Error.{Error}
 use Rattle.json5_text.specs.Cursor.{Cursor, Took, Refused}
 use Rattle.json5_value.specs.Entries.{entry_front, entry_start, due_comma, next_entry}
@@ -68,11 +68,11 @@ comma_missing k old mid at last u c ends e r g same n same2 is n2 eof f =
     (refused_step mid last (comma_at k mid.unread) e (no_comma k mid e (ready_next old mid r g) n no_close (subst (λ z. Refused (Unexpected z codes.ExpectedComma) mid e) eof (refused_there mid last e there f))) (same_of there))
 
 -- where one is due
-pub comma_due : (k : BracketKind) (due : Bool) (old new : Cursor) (result : Result Bool Error) → due ≡ true → Steps (separator k old.unread) old new result → Steps (due_comma k due old.unread) old new result
-comma_due k due old new result is s = same_step old new (due_comma k due old.unread) (separator k old.unread) result (ap (λ b. due_comma k b old.unread) is) s
+pub after_comma_due : (k : BracketKind) (comma_due : Bool) (old new : Cursor) (result : Result Bool Error) → comma_due ≡ true → Steps (separator k old.unread) old new result → Steps (due_comma k comma_due old.unread) old new result
+after_comma_due k comma_due old new result is s = same_step old new (due_comma k comma_due old.unread) (separator k old.unread) result (ap (λ b. due_comma k b old.unread) is) s
 
-pub none_due : (k : BracketKind) (due : Bool) (old : Cursor) → due ≡ false → Steps (due_comma k due old.unread) old old (Ok true)
-none_due k due old is = took_step old old (due_comma k due old.unread) true [] (ap (λ b. due_comma k b old.unread) is) (took_nothing old old refl)
+pub none_due : (k : BracketKind) (comma_due : Bool) (old : Cursor) → comma_due ≡ false → Steps (due_comma k comma_due old.unread) old old (Ok true)
+none_due k comma_due old is = took_step old old (due_comma k comma_due old.unread) true [] (ap (λ b. due_comma k b old.unread) is) (took_nothing old old refl)
 
 -- ---- entries
 
@@ -88,30 +88,30 @@ abbrev pub start_or_end : BracketKind → Bool → List ℕ → Read Bool
 start_or_end k more y = cond more (entry_start k y) (got false y)
 
 -- the comma is refused, or the bracket was closed in its place
-pub comma_refused : (k : BracketKind) (due : Bool) (old new : Cursor) (e : Error) → Blames old.input (due_comma k due old.unread) e → SameText old new → Steps (next_entry k due old.unread) old new (Err e)
-comma_refused k due old new e b g = first_step_refused old new (due_comma k due old.unread) (start_or_end k) e b g
+pub comma_refused : (k : BracketKind) (comma_due : Bool) (old new : Cursor) (e : Error) → Blames old.input (due_comma k comma_due old.unread) e → SameText old new → Steps (next_entry k comma_due old.unread) old new (Err e)
+comma_refused k comma_due old new e b g = first_step_refused old new (due_comma k comma_due old.unread) (start_or_end k) e b g
 
-pub closed_for_comma : (k : BracketKind) (due more : Bool) (old new : Cursor) → more ≡ false → Gave (due_comma k due old.unread) more old new → Steps (next_entry k due old.unread) old new (Ok false)
-closed_for_comma k due more old new is g = took_step old new (next_entry k due old.unread) false g.taken (ap (λ m. and_then m (start_or_end k)) (g.reads ∙ ap (λ b. got b new.unread) is)) g.took
+pub closed_for_comma : (k : BracketKind) (comma_due more : Bool) (old new : Cursor) → more ≡ false → Gave (due_comma k comma_due old.unread) more old new → Steps (next_entry k comma_due old.unread) old new (Ok false)
+closed_for_comma k comma_due more old new is g = took_step old new (next_entry k comma_due old.unread) false g.taken (ap (λ m. and_then m (start_or_end k)) (g.reads ∙ ap (λ b. got b new.unread) is)) g.took
 
-after_comma : (k : BracketKind) (due more : Bool) (old mid new : Cursor) (result : Result Bool Error) → more ≡ true → Gave (due_comma k due old.unread) more old mid → Steps (entry_start k mid.unread) mid new result → Steps (next_entry k due old.unread) old new result
-after_comma k due more old mid new result is g s =
-    then_step old mid new (due_comma k due old.unread) more (start_or_end k) result g (same_step mid new (start_or_end k more mid.unread) (entry_start k mid.unread) result (ap (λ b. start_or_end k b mid.unread) is) s)
+after_comma : (k : BracketKind) (comma_due more : Bool) (old mid new : Cursor) (result : Result Bool Error) → more ≡ true → Gave (due_comma k comma_due old.unread) more old mid → Steps (entry_start k mid.unread) mid new result → Steps (next_entry k comma_due old.unread) old new result
+after_comma k comma_due more old mid new result is g s =
+    then_step old mid new (due_comma k comma_due old.unread) more (start_or_end k) result g (same_step mid new (start_or_end k more mid.unread) (entry_start k mid.unread) result (ap (λ b. start_or_end k b mid.unread) is) s)
 
 -- the blanks are refused
-pub entry_blanks : (k : BracketKind) (due more : Bool) (old mid new : Cursor) (e : Error) → more ≡ true → Gave (due_comma k due old.unread) more old mid → Blames mid.input (skip between mid.unread) e → SameText mid new → Steps (next_entry k due old.unread) old new (Err e)
-entry_blanks k due more old mid new e is g b f = after_comma k due more old mid new (Err e) is g (first_step_refused mid new (skip between mid.unread) (λ u y. entry_front k y) e b f)
+pub entry_blanks : (k : BracketKind) (comma_due more : Bool) (old mid new : Cursor) (e : Error) → more ≡ true → Gave (due_comma k comma_due old.unread) more old mid → Blames mid.input (skip between mid.unread) e → SameText mid new → Steps (next_entry k comma_due old.unread) old new (Err e)
+entry_blanks k comma_due more old mid new e is g b f = after_comma k comma_due more old mid new (Err e) is g (first_step_refused mid new (skip between mid.unread) (λ u y. entry_front k y) e b f)
 
 -- the bracket was closed, or not
-pub entry_found : (k : BracketKind) (due more : Bool) (old mid next new : Cursor) (u : Unit {0}) (c : ℕ) (ate : Bool) → more ≡ true → Gave (due_comma k due old.unread) more old mid → Gave (skip between mid.unread) u mid next → c ≡ closing k
-    → (ate ≡ true → Took next (c ∷ []) new) → (ate ≡ false → (new ≡ next) × NotBegun (λ d. d == c) next.unread) → Steps (next_entry k due old.unread) old new (Ok (not ate))
-entry_found k due more old mid next new u c true is g h at took kept =
-    after_comma k due more old mid new (Ok false) is g
+pub entry_found : (k : BracketKind) (comma_due more : Bool) (old mid next new : Cursor) (u : Unit {0}) (c : ℕ) (ate : Bool) → more ≡ true → Gave (due_comma k comma_due old.unread) more old mid → Gave (skip between mid.unread) u mid next → c ≡ closing k
+    → (ate ≡ true → Took next (c ∷ []) new) → (ate ≡ false → (new ≡ next) × NotBegun (λ d. d == c) next.unread) → Steps (next_entry k comma_due old.unread) old new (Ok (not ate))
+entry_found k comma_due more old mid next new u c true is g h at took kept =
+    after_comma k comma_due more old mid new (Ok false) is g
     (then_step mid next new (skip between mid.unread) u (λ u y. entry_front k y) (Ok false) h
     (let t = took refl in took_step next new (entry_front k next.unread) false (c ∷ []) (ap (entry_front k) (t.split ∙ ap (λ z. z ∷ new.unread) at) ∙ front_closes k new.unread) t))
-entry_found k due more old mid next new u c false is g h at took kept =
+entry_found k comma_due more old mid next new u c false is g h at took kept =
     let (same, n) = kept refl in
     let t = took_nothing next new same in
-    after_comma k due more old mid new (Ok true) is g
+    after_comma k comma_due more old mid new (Ok true) is g
     (then_step mid next new (skip between mid.unread) u (λ u y. entry_front k y) (Ok true) h
     (took_step next new (entry_front k next.unread) true [] (front_goes k next.unread (subst (λ z. NotBegun (λ d. d == z) next.unread) at n) ∙ ap (got true) t.split) t))

@@ -2,12 +2,12 @@
 use Rattle.std.proofs.Common.{◌≡◌, ℕ, Bool, true, false, cond, List, [], ◌∷◌, refl, ap, sym, ◌∙◌, Option, Some, None}
 use Rattle.std.specs.Prelude.{◌==◌, slice_get, Result, Ok, Err}
 use Rattle.json5_grammar.specs.declared.code.ErrorCode.TheVariants as codes
-use Rattle.json5_grammar.specs.Fronts.{BracketKind, of_array, of_object, closing}
-use Rattle.json5_grammar.specs.Reading.{Read, inner, got, bad, and_then}
-use Rattle.json5_grammar.specs.ReadBlanks.{skip, between}
-use Rattle.json5_grammar.specs.ReadSteps.{forget, colon_after, pair_head, member_head, member_at, separator, next_value}
-use Rattle.json5_grammar.specs.ReadTexts.{key, string, identifier}
-use Rattle.json5_grammar.specs.Strings.{is_quote}
+use Rattle.json5_grammar.specs.Faults.Fronts.{BracketKind, of_array, of_object, closing}
+use Rattle.json5_grammar.specs.Model.Reading.{Read, inner, got, bad, and_then}
+use Rattle.json5_grammar.specs.Model.ReadBlanks.{skip, between}
+use Rattle.json5_grammar.specs.Model.ReadSteps.{forget, colon_after, pair_head, member_head, member_at, separator, next_value}
+use Rattle.json5_grammar.specs.Model.ReadTexts.{key, string, identifier}
+use Rattle.json5_grammar.specs.Language.Strings.{is_quote}
 use Rattle.json5_text.specs.declared.error.Error.{Error}
 use Rattle.json5_text.specs.Errors.{code, kind_of, place_of}
 use Rattle.json5_text.specs.Cursor.{Cursor}
@@ -52,7 +52,7 @@ entry_is : (k : BracketKind) (x : List ℕ) → member_at k x ≡ and_then (entr
 unfolding member_at
 entry_is k x = start_is k (skip between x)
 
-pub next_is : (k : BracketKind) (due : Bool) (x : List ℕ) → next_value k due x ≡ and_then (next_entry k due x) (head_or_end k)
+pub next_is : (k : BracketKind) (comma_due : Bool) (x : List ℕ) → next_value k comma_due x ≡ and_then (next_entry k comma_due x) (head_or_end k)
 next_is k false x = entry_is k x
 next_is k true x = by_comma (separator k x)
   where
@@ -61,22 +61,22 @@ next_is k true x = by_comma (separator k x)
     by_comma (got false y) = refl
     by_comma (bad c p) = refl
 
-pub next_refused : (k : BracketKind) (due : Bool) (old new : Cursor) (e : Error) → Blames old.input (next_entry k due old.unread) e → SameText old new → Steps (next_value k due old.unread) old new (Err e)
-next_refused k due old new e b g = same_step old new (next_value k due old.unread) _ (Err e) (next_is k due old.unread) (first_step_refused old new (next_entry k due old.unread) (head_or_end k) e b g)
+pub next_refused : (k : BracketKind) (comma_due : Bool) (old new : Cursor) (e : Error) → Blames old.input (next_entry k comma_due old.unread) e → SameText old new → Steps (next_value k comma_due old.unread) old new (Err e)
+next_refused k comma_due old new e b g = same_step old new (next_value k comma_due old.unread) _ (Err e) (next_is k comma_due old.unread) (first_step_refused old new (next_entry k comma_due old.unread) (head_or_end k) e b g)
 
-pub next_closed : (k : BracketKind) (due goes : Bool) (old new : Cursor) → goes ≡ false → Gave (next_entry k due old.unread) goes old new → Steps (next_value k due old.unread) old new (Ok false)
-next_closed k due goes old new e g =
-    took_step old new (next_value k due old.unread) false g.taken (next_is k due old.unread ∙ ap (λ m. and_then m (head_or_end k)) (g.reads ∙ ap (λ b. got b new.unread) e)) g.took
+pub next_closed : (k : BracketKind) (comma_due goes : Bool) (old new : Cursor) → goes ≡ false → Gave (next_entry k comma_due old.unread) goes old new → Steps (next_value k comma_due old.unread) old new (Ok false)
+next_closed k comma_due goes old new e g =
+    took_step old new (next_value k comma_due old.unread) false g.taken (next_is k comma_due old.unread ∙ ap (λ m. and_then m (head_or_end k)) (g.reads ∙ ap (λ b. got b new.unread) e)) g.took
 
-next_found : (k l : BracketKind) (due goes : Bool) (old mid new : Cursor) (result : Result Bool Error) → k ≡ l → goes ≡ true → Gave (next_entry k due old.unread) goes old mid → Steps (head_of l mid.unread) mid new result → Steps (next_value k due old.unread) old new result
-next_found k l due goes old mid new result e is g s =
-    same_step old new (next_value k due old.unread) _ result (next_is k due old.unread)
-    (then_step old mid new (next_entry k due old.unread) goes (head_or_end k) result g
+next_found : (k l : BracketKind) (comma_due goes : Bool) (old mid new : Cursor) (result : Result Bool Error) → k ≡ l → goes ≡ true → Gave (next_entry k comma_due old.unread) goes old mid → Steps (head_of l mid.unread) mid new result → Steps (next_value k comma_due old.unread) old new result
+next_found k l comma_due goes old mid new result e is g s =
+    same_step old new (next_value k comma_due old.unread) _ result (next_is k comma_due old.unread)
+    (then_step old mid new (next_entry k comma_due old.unread) goes (head_or_end k) result g
     (same_step mid new (head_or_end k goes mid.unread) (head_of l mid.unread) result (ap (λ b. head_or_end k b mid.unread) is ∙ ap (λ z. head_of z mid.unread) e) s))
 
 -- an element is its value
-pub element_reached : (k : BracketKind) (due goes : Bool) (old mid : Cursor) → k ≡ of_array → goes ≡ true → Gave (next_entry k due old.unread) goes old mid → Steps (next_value k due old.unread) old mid (Ok true)
-element_reached k due goes old mid e is g = next_found k of_array due goes old mid mid (Ok true) e is g (took_step mid mid (got true mid.unread) true [] refl (took_nothing mid mid refl))
+pub element_reached : (k : BracketKind) (comma_due goes : Bool) (old mid : Cursor) → k ≡ of_array → goes ≡ true → Gave (next_entry k comma_due old.unread) goes old mid → Steps (next_value k comma_due old.unread) old mid (Ok true)
+element_reached k comma_due goes old mid e is g = next_found k of_array comma_due goes old mid mid (Ok true) e is g (took_step mid mid (got true mid.unread) true [] refl (took_nothing mid mid refl))
 
 forget_then : {A B : Type 0} (m : Read A) (f : List ℕ → Read B) → and_then m (λ a r. f r) ≡ and_then (forget m) (λ u r. f r)
 forget_then (got a r) f = refl
@@ -85,21 +85,21 @@ forget_then (bad e p) f = refl
 abbrev after_key : List ℕ → Read Bool
 after_key r = and_then (colon_after r) (λ u y. got true y)
 
-module _ (k : BracketKind) (due goes : Bool) (old mid : Cursor) (e : k ≡ of_object) (is : goes ≡ true) (g : Gave (next_entry k due old.unread) goes old mid) where
-  of_member : (new : Cursor) (result : Result Bool Error) → Steps (and_then (forget (key mid.unread)) (λ v r. after_key r)) mid new result → Steps (next_value k due old.unread) old new result
-  of_member new result s = next_found k of_object due goes old mid new result e is g (same_step mid new (pair_head mid.unread) _ result (forget_then (key mid.unread) after_key) s)
+module _ (k : BracketKind) (comma_due goes : Bool) (old mid : Cursor) (e : k ≡ of_object) (is : goes ≡ true) (g : Gave (next_entry k comma_due old.unread) goes old mid) where
+  of_member : (new : Cursor) (result : Result Bool Error) → Steps (and_then (forget (key mid.unread)) (λ v r. after_key r)) mid new result → Steps (next_value k comma_due old.unread) old new result
+  of_member new result s = next_found k of_object comma_due goes old mid new result e is g (same_step mid new (pair_head mid.unread) _ result (forget_then (key mid.unread) after_key) s)
 
   -- its key is refused
-  pub key_refused : (new : Cursor) (own : Error) → Blames mid.input (forget (key mid.unread)) own → SameText mid new → Steps (next_value k due old.unread) old new (Err own)
+  pub key_refused : (new : Cursor) (own : Error) → Blames mid.input (forget (key mid.unread)) own → SameText mid new → Steps (next_value k comma_due old.unread) old new (Err own)
   key_refused new own b f = of_member new (Err own) (first_step_refused mid new (forget (key mid.unread)) (λ v r. after_key r) own b f)
 
   -- its colon is refused
-  pub colon_refused : (last new : Cursor) (v : Unit {0}) (own : Error) → Gave (forget (key mid.unread)) v mid last → Blames last.input (colon_after last.unread) own → SameText last new → Steps (next_value k due old.unread) old new (Err own)
+  pub colon_refused : (last new : Cursor) (v : Unit {0}) (own : Error) → Gave (forget (key mid.unread)) v mid last → Blames last.input (colon_after last.unread) own → SameText last new → Steps (next_value k comma_due old.unread) old new (Err own)
   colon_refused last new v own name b f =
       of_member new (Err own) (then_step mid last new (forget (key mid.unread)) v (λ v r. after_key r) (Err own) name (first_step_refused last new (colon_after last.unread) (λ u y. got true y) own b f))
 
   -- its value is next
-  pub member_reached : (last new : Cursor) (v w : Unit {0}) → Gave (forget (key mid.unread)) v mid last → Gave (colon_after last.unread) w last new → Steps (next_value k due old.unread) old new (Ok true)
+  pub member_reached : (last new : Cursor) (v w : Unit {0}) → Gave (forget (key mid.unread)) v mid last → Gave (colon_after last.unread) w last new → Steps (next_value k comma_due old.unread) old new (Ok true)
   member_reached last new v w name colon =
       of_member new (Ok true) (then_step mid last new (forget (key mid.unread)) v (λ v r. after_key r) (Ok true) name
       (took_step last new (after_key last.unread) true colon.taken (ap (λ m. and_then m (λ u y. got true y)) colon.reads) colon.took))

@@ -1,7 +1,7 @@
 -- The characters of the words.
 use Rattle.std.proofs.Common.{◌≡◌, refl}
 use Rattle.std.specs.Str.{chars}
-use Rattle.json5_grammar.specs.Values.{null_text, true_text, false_text}
+use Rattle.json5_grammar.specs.Language.Values.{null_text, true_text, false_text}
 
 pub chars_null : chars null_text ≡ null_text
 unfolding chars

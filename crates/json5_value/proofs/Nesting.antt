@@ -1,7 +1,7 @@
 -- What stands open round a value, and what it makes of what is read within.
 use Rattle.std.proofs.Common.{◌≡◌, ℕ, ◌-◌, ◌<◌, List, [], ◌∷◌, ◌++◌, length, refl, ap, sym, ◌∙◌, subst, arith, length-append, ◌⊎◌, inl, inr, Option, Some, None}
 use Rattle.json5_grammar.specs.declared.code.ErrorCode.{ErrorCode}
-use Rattle.json5_grammar.specs.Reading.{Read, Place, here, inner, got, bad, and_then, placed}
+use Rattle.json5_grammar.specs.Model.Reading.{Read, Place, here, inner, got, bad, and_then, placed}
 use Rattle.json5_text.specs.declared.error.Error.{Error}
 use Rattle.json5_text.specs.Errors.{kind_of, or_place}
 use Rattle.json5_text.specs.Cursor.{Cursor, Took, Says, IsOutOfMemory}

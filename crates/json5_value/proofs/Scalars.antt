@@ -4,17 +4,17 @@ use Rattle.std.specs.Prelude.{◌==◌, ℤ, slice_get, Result, Ok, Err}
 use Rattle.std.specs.Str.{encode_utf8_all}
 use Rattle.json5_grammar.specs.declared.code.ErrorCode.TheVariants as codes
 use Rattle.json5_grammar.specs.declared.position.Position.{Position}
-use Rattle.json5_grammar.specs.Characters.{NotBegun}
-use Rattle.json5_grammar.specs.Fronts.{BracketKind, opening}
-use Rattle.json5_grammar.specs.NumberFaults.{is_sign, begins_number}
-use Rattle.json5_grammar.specs.Positions.{position_after}
-use Rattle.json5_grammar.specs.Reading.{here, inner, got, bad}
-use Rattle.json5_grammar.specs.ReadNumbers as reading
-use Rattle.json5_grammar.specs.ReadSteps.{forget}
-use Rattle.json5_grammar.specs.ReadTexts.{string}
-use Rattle.json5_grammar.specs.ReadValues.{read, word_at}
-use Rattle.json5_grammar.specs.Strings.{is_quote}
-use Rattle.json5_grammar.specs.Trees.{Tree}
+use Rattle.json5_grammar.specs.Language.Characters.{NotBegun}
+use Rattle.json5_grammar.specs.Faults.Fronts.{BracketKind, opening}
+use Rattle.json5_grammar.specs.Faults.Tokens.{is_sign, begins_number}
+use Rattle.json5_grammar.specs.Faults.Positions.{position_after}
+use Rattle.json5_grammar.specs.Model.Reading.{here, inner, got, bad}
+use Rattle.json5_grammar.specs.Model.ReadNumbers as reading
+use Rattle.json5_grammar.specs.Model.ReadSteps.{forget}
+use Rattle.json5_grammar.specs.Model.ReadTexts.{string}
+use Rattle.json5_grammar.specs.Model.ReadValues.{read, word_at}
+use Rattle.json5_grammar.specs.Language.Strings.{is_quote}
+use Rattle.json5_grammar.specs.Language.Trees.{Tree}
 use Rattle.json5_grammar.proofs.Basics.{eq_from, same_char}
 use Rattle.json5_grammar.proofs.ValueHeads.{val_head}
 use Rattle.json5_grammar.proofs.ValuesSound.{IsValue, read_sound}

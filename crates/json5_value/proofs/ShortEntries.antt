@@ -2,23 +2,23 @@
 use Rattle.std.proofs.Common.{◌≡◌, ℕ, Bool, true, false, List, [], ◌∷◌, ◌++◌, refl, ap, sym, ◌∙◌, subst, append_assoc, inl, inr, Option, Some, None}
 use Rattle.std.specs.Prelude.{◌==◌, ℤ, Ok, Result, is_some}
 use Rattle.std.proofs.lemmas.Bool.{both_ways}
-use Rattle.json5_grammar.specs.Blanks as blanks
-use Rattle.json5_grammar.specs.Blanks.{is_solid, Gap, Solid}
-use Rattle.json5_grammar.specs.Characters.{NotBegun}
-use Rattle.json5_grammar.specs.Fronts.{BracketKind, of_array, of_object, closing}
-use Rattle.json5_grammar.specs.Members.{IsSign, IsEnd}
-use Rattle.json5_grammar.specs.Numbers.{whole}
-use Rattle.json5_grammar.specs.Reading.{Read, got, and_then}
-use Rattle.json5_grammar.specs.ReadBlanks.{skip, between}
-use Rattle.json5_grammar.specs.ReadSteps.{separator, comma_at}
-use Rattle.json5_grammar.specs.Trees as trees
-use Rattle.json5_grammar.specs.Values.{is_number}
+use Rattle.json5_grammar.specs.Language.Blanks as blanks
+use Rattle.json5_grammar.specs.Language.Blanks.{is_solid, Gap, Solid}
+use Rattle.json5_grammar.specs.Language.Characters.{NotBegun}
+use Rattle.json5_grammar.specs.Faults.Fronts.{BracketKind, of_array, of_object, closing}
+use Rattle.json5_grammar.specs.Model.Collections.{IsSign, IsEnd}
+use Rattle.json5_grammar.specs.Language.Numbers.{whole}
+use Rattle.json5_grammar.specs.Model.Reading.{Read, got, and_then}
+use Rattle.json5_grammar.specs.Model.ReadBlanks.{skip, between}
+use Rattle.json5_grammar.specs.Model.ReadSteps.{separator, comma_at}
+use Rattle.json5_grammar.specs.Language.Trees as trees
+use Rattle.json5_grammar.specs.Language.Values.{is_number}
 use Rattle.json5_grammar.proofs.Basics.{same_char}
 use Rattle.json5_grammar.proofs.BlanksRead.{begins_solid}
 use Rattle.json5_grammar.proofs.BlanksSound.{gap_read, gap_before}
 use Rattle.json5_grammar.proofs.Classes.{number_begins}
-use Rattle.json5_grammar.proofs.MembersPairs.{brace_solid}
-use Rattle.json5_grammar.proofs.MembersRead.{comma_solid, bracket_solid}
+use Rattle.json5_grammar.proofs.CollectionsPairs.{brace_solid}
+use Rattle.json5_grammar.proofs.CollectionsRead.{comma_solid, bracket_solid}
 use Rattle.json5_grammar.proofs.ValueHeads.{val_head, value_solid, begins_value_solid}
 use Rattle.json5_text.specs.declared.value.Value.{Value}
 use Rattle.json5_text.specs.ValueViews.{value_of}
@@ -73,12 +73,12 @@ sign_taken : (c : ℕ) (x y r : List ℕ) → IsSign c x y → Taken y r → Tak
 sign_taken c x y r s (t, is) = (s.front ++ c ∷ t, s.split ∙ ap (λ z. s.front ++ c ∷ z) is ∙ sym (append_assoc s.front (c ∷ t) r))
 
 -- an entry begins
-goes_read : (k : BracketKind) (due : Bool) (x y : List ℕ) → StepsTo due x y → NotBegun (λ d. d == closing k) y → (next_entry k due x ≡ got true y) × Taken x y
+goes_read : (k : BracketKind) (comma_due : Bool) (x y : List ℕ) → StepsTo comma_due x y → NotBegun (λ d. d == closing k) y → (next_entry k comma_due x ≡ got true y) × Taken x y
 goes_read k false x y g n = (start_goes k x y g n, (g.gap, g.split))
 goes_read k true x y (z, comma, g) n = (ap (λ m. and_then m (start_or_end k)) (comma_read k x z comma) ∙ start_goes k z y g n, sign_taken 44 x z y comma (g.gap, g.split))
 
 -- the bracket is closed
-ends_read : (k : BracketKind) (due : Bool) (x r : List ℕ) → IsEnd (closing k) due x r → (next_entry k due x ≡ got false r) × Taken x r
+ends_read : (k : BracketKind) (comma_due : Bool) (x r : List ℕ) → IsEnd (closing k) comma_due x r → (next_entry k comma_due x ≡ got false r) × Taken x r
 ends_read k false x r s = (start_closes k x r s, sign_taken (closing k) x r r s ([], refl))
 ends_read k true x r (inl s) =
     (ap (λ m. and_then m (start_or_end k)) (separator_is k x ∙ ap (λ m. and_then m (λ u y. comma_at k y)) (sign_read (closing k) x r (closing_solid k) s) ∙ closes_here k r), sign_taken (closing k) x r r s ([], refl))
@@ -86,43 +86,43 @@ ends_read k true x r (inr (y, comma, s)) = (ap (λ m. and_then m (start_or_end k
 
 -- ---- entries
 
-entry_gave : (k : OwnKind) (b : Brackets) (due : Bool) (old new : Cursor) → b ≡ brackets_of k → Stepped b.closing due false old new → Gave (next_entry (bracket_of k) due old.unread) true old new
-entry_gave k b due old new e s =
-    let (reads, (taken, split)) = goes_read (bracket_of k) due old.unread new.unread s.step.0 (subst (λ c. NotBegun (λ d. d == c) new.unread) (closing_is k b e) s.step.1) in
+entry_gave : (k : OwnKind) (b : Brackets) (comma_due : Bool) (old new : Cursor) → b ≡ brackets_of k → Stepped b.closing comma_due false old new → Gave (next_entry (bracket_of k) comma_due old.unread) true old new
+entry_gave k b comma_due old new e s =
+    let (reads, (taken, split)) = goes_read (bracket_of k) comma_due old.unread new.unread s.step.0 (subst (λ c. NotBegun (λ d. d == c) new.unread) (closing_is k b e) s.step.1) in
     record { reads = reads; taken = taken; took = record { split = split; same = s.same } }
 
-pub element_entered : (k : OwnKind) (b : Brackets) (due : Bool) (old new : Cursor) → b ≡ brackets_of k → k ≡ kind.Array → Stepped b.closing due false old new → EntersShort k due old new entry.Value
-element_entered k b due old new e is s = (element_reached (bracket_of k) due true old new (ap bracket_of is) refl (entry_gave k b due old new e s)).given
+pub element_entered : (k : OwnKind) (b : Brackets) (comma_due : Bool) (old new : Cursor) → b ≡ brackets_of k → k ≡ kind.Array → Stepped b.closing comma_due false old new → EntersShort k comma_due old new entry.Value
+element_entered k b comma_due old new e is s = (element_reached (bracket_of k) comma_due true old new (ap bracket_of is) refl (entry_gave k b comma_due old new e s)).given
 
-pub member_entered : (k : OwnKind) (b : Brackets) (due : Bool) (old new : Cursor) → b ≡ brackets_of k → k ≡ kind.Object → Stepped b.closing due false old new → EntersShort k due old new entry.Key
-member_entered k b due old new e is s = (is, entry_gave k b due old new e s)
+pub member_entered : (k : OwnKind) (b : Brackets) (comma_due : Bool) (old new : Cursor) → b ≡ brackets_of k → k ≡ kind.Object → Stepped b.closing comma_due false old new → EntersShort k comma_due old new entry.Key
+member_entered k b comma_due old new e is s = (is, entry_gave k b comma_due old new e s)
 
 -- the sign is next, so it is taken
 pub sign_eaten : (c : ℕ) (r : List ℕ) (mid new : Cursor) (b : Bool) → mid.unread ≡ c ∷ r → (b ≡ true → Took mid (c ∷ []) new) → (b ≡ false → (new ≡ mid) × NotBegun (λ d. d == c) mid.unread) → Took mid (c ∷ []) new
 sign_eaten c r mid new true at taken kept = taken refl
 sign_eaten c r mid new false at taken kept = absurd (both_ways (c == c) (subst (NotBegun (λ d. d == c)) at (kept refl).1) (same_char c))
 
-closing_gave : (k : OwnKind) (b : Brackets) (due : Bool) (old mid new : Cursor) (ate : Bool) → b ≡ brackets_of k → Stepped b.closing due true old mid
-    → (ate ≡ true → Took mid (b.closing ∷ []) new) → (ate ≡ false → (new ≡ mid) × NotBegun (λ d. d == b.closing) mid.unread) → Gave (next_entry (bracket_of k) due old.unread) false old new
-closing_gave k b due old mid new ate e s taken kept =
+closing_gave : (k : OwnKind) (b : Brackets) (comma_due : Bool) (old mid new : Cursor) (ate : Bool) → b ≡ brackets_of k → Stepped b.closing comma_due true old mid
+    → (ate ≡ true → Took mid (b.closing ∷ []) new) → (ate ≡ false → (new ≡ mid) × NotBegun (λ d. d == b.closing) mid.unread) → Gave (next_entry (bracket_of k) comma_due old.unread) false old new
+closing_gave k b comma_due old mid new ate e s taken kept =
     let (r, end, at) = s.step in
     let took = sign_eaten b.closing r mid new ate at taken kept in
     let same : r ≡ new.unread = cc (sym at ∙ took.split) in
-    let (reads, (text, split)) = ends_read (bracket_of k) due old.unread new.unread (subst (λ c. IsEnd c due old.unread new.unread) (closing_is k b e) (subst (IsEnd b.closing due old.unread) same end)) in
+    let (reads, (text, split)) = ends_read (bracket_of k) comma_due old.unread new.unread (subst (λ c. IsEnd c comma_due old.unread new.unread) (closing_is k b e) (subst (IsEnd b.closing comma_due old.unread) same end)) in
     record { reads = reads; taken = text; took = record { split = split; same = took.same ∙ s.same } }
 
-pub entry_closed : (k : OwnKind) (b : Brackets) (due : Bool) (old mid new : Cursor) (ate : Bool) → b ≡ brackets_of k → Stepped b.closing due true old mid
-    → (ate ≡ true → Took mid (b.closing ∷ []) new) → (ate ≡ false → (new ≡ mid) × NotBegun (λ d. d == b.closing) mid.unread) → EntersShort k due old new entry.Closed
-entry_closed k b due old mid new ate e s taken kept = (next_closed (bracket_of k) due false old new refl (closing_gave k b due old mid new ate e s taken kept)).given
+pub entry_closed : (k : OwnKind) (b : Brackets) (comma_due : Bool) (old mid new : Cursor) (ate : Bool) → b ≡ brackets_of k → Stepped b.closing comma_due true old mid
+    → (ate ≡ true → Took mid (b.closing ∷ []) new) → (ate ≡ false → (new ≡ mid) × NotBegun (λ d. d == b.closing) mid.unread) → EntersShort k comma_due old new entry.Closed
+entry_closed k b comma_due old mid new ate e s taken kept = (next_closed (bracket_of k) comma_due false old new refl (closing_gave k b comma_due old mid new ate e s taken kept)).given
 
 -- ---- entries, by the way that may refuse
 
-pub entry_step : (k : OwnKind) (b : Brackets) (due : Bool) (old new : Cursor) → b ≡ brackets_of k → Stepped b.closing due false old new → Steps (next_entry (bracket_of k) due old.unread) old new (Ok true)
-entry_step k b due old new e s = record { given = entry_gave k b due old new e s; refused = tt; same_text = tt }
+pub entry_step : (k : OwnKind) (b : Brackets) (comma_due : Bool) (old new : Cursor) → b ≡ brackets_of k → Stepped b.closing comma_due false old new → Steps (next_entry (bracket_of k) comma_due old.unread) old new (Ok true)
+entry_step k b comma_due old new e s = record { given = entry_gave k b comma_due old new e s; refused = tt; same_text = tt }
 
-pub closing_step : (k : OwnKind) (b : Brackets) (due : Bool) (old mid new : Cursor) (ate : Bool) → b ≡ brackets_of k → Stepped b.closing due true old mid
-    → (ate ≡ true → Took mid (b.closing ∷ []) new) → (ate ≡ false → (new ≡ mid) × NotBegun (λ d. d == b.closing) mid.unread) → Steps (next_entry (bracket_of k) due old.unread) old new (Ok false)
-closing_step k b due old mid new ate e s taken kept = record { given = closing_gave k b due old mid new ate e s taken kept; refused = tt; same_text = tt }
+pub closing_step : (k : OwnKind) (b : Brackets) (comma_due : Bool) (old mid new : Cursor) (ate : Bool) → b ≡ brackets_of k → Stepped b.closing comma_due true old mid
+    → (ate ≡ true → Took mid (b.closing ∷ []) new) → (ate ≡ false → (new ≡ mid) × NotBegun (λ d. d == b.closing) mid.unread) → Steps (next_entry (bracket_of k) comma_due old.unread) old new (Ok false)
+closing_step k b comma_due old mid new ate e s taken kept = record { given = closing_gave k b comma_due old mid new ate e s taken kept; refused = tt; same_text = tt }
 
 -- nothing was taken before the longer way
 pub inside_here : (old mid : Cursor) → mid ≡ old → IsInside old → IsInside mid

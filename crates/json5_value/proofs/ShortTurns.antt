@@ -1,10 +1,10 @@
 -- Short turns leave what is next as the longer ways would find it.
 use Rattle.std.proofs.Common.{◌≡◌, ℕ, ◌-◌, ◌<◌, Bool, true, false, List, [], ◌∷◌, ◌++◌, length, refl, ap, sym, ◌∙◌, subst, arith}
 use Rattle.std.specs.Prelude.{Ok, Err}
-use Rattle.json5_grammar.specs.Fronts.{BracketKind, of_array, of_object}
-use Rattle.json5_grammar.specs.Reading.{Read, got, bad, and_then}
-use Rattle.json5_grammar.specs.ReadSteps.{forget, colon_after, pair_head, next_value, value_and_rest}
-use Rattle.json5_grammar.specs.ReadTexts.{key}
+use Rattle.json5_grammar.specs.Faults.Fronts.{BracketKind, of_array, of_object}
+use Rattle.json5_grammar.specs.Model.Reading.{Read, got, bad, and_then}
+use Rattle.json5_grammar.specs.Model.ReadSteps.{forget, colon_after, pair_head, next_value, value_and_rest}
+use Rattle.json5_grammar.specs.Model.ReadTexts.{key}
 use Rattle.json5_grammar.proofs.ValueSteps.{turn, rest_step}
 use Rattle.json5_text.specs.declared.error.Error.{Error}
 use Rattle.json5_text.specs.Cursor.{Cursor}
@@ -47,12 +47,12 @@ object_head of_object d y e = ap (λ m. and_then m (turn of_object d)) (head_nam
 
 module _ (room : ℕ) (w : Read (Unit {0})) (bs : List OpenBracket) (f : OpenBracket) (q : List ℕ) where
   -- the key of a member was reached
-  pub key_reached : (due : Bool) (old new : Cursor) → f.kind ≡ kind.Object → Gave (next_entry (bracket_of f.kind) due old.unread) true old new → SkippingInside room w bs f due q old → SkippingMember room w bs f q new
-  key_reached due old new is g h =
+  pub key_reached : (comma_due : Bool) (old new : Cursor) → f.kind ≡ kind.Object → Gave (next_entry (bracket_of f.kind) comma_due old.unread) true old new → SkippingInside room w bs f comma_due q old → SkippingMember room w bs f q new
+  key_reached comma_due old new is g h =
       let k : BracketKind = bracket_of f.kind in
       let left : ℕ = room - length bs - 1 in
-      moved start_of rest_in room old w (rest_at room bs f due old) bs f.start q h new (member_at room bs f new) g.taken g.took
-      (rest_step k due left old.unread ∙ ap (λ m. and_then m (turn k left)) (next_is k due old.unread ∙ ap (λ m. and_then m (head_or_end k)) g.reads) ∙ object_head k left new.unread (ap bracket_of is))
+      moved start_of rest_in room old w (rest_at room bs f comma_due old) bs f.start q h new (member_at room bs f new) g.taken g.took
+      (rest_step k comma_due left old.unread ∙ ap (λ m. and_then m (turn k left)) (next_is k comma_due old.unread ∙ ap (λ m. and_then m (head_or_end k)) g.reads) ∙ object_head k left new.unread (ap bracket_of is))
 
   -- its value was reached
   pub named : (old new : Cursor) → Gave (name_at old.unread) tt old new → SkippingMember room w bs f q old → Skipping room w (bs ++ f ∷ []) true new
@@ -85,26 +85,26 @@ member_refused f bs after old new own e b same k = record {
 
 -- ---- going on in a bracket
 
-pub value_resumed : (f : OpenBracket) (due : Bool) (bs after : List OpenBracket) (old new : Cursor) → Gave (next_value (bracket_of f.kind) due old.unread) true old new → after ≡ bs ++ f ∷ [] → ResumesShort f due bs after old new short.Value
-value_resumed f due bs after old new g grown =
-    let t = inside_goes due true f bs after old new refl g grown in
+pub value_resumed : (f : OpenBracket) (comma_due : Bool) (bs after : List OpenBracket) (old new : Cursor) → Gave (next_value (bracket_of f.kind) comma_due old.unread) true old new → after ≡ bs ++ f ∷ [] → ResumesShort f comma_due bs after old new short.Value
+value_resumed f comma_due bs after old new g grown =
+    let t = inside_goes comma_due true f bs after old new refl g grown in
     record { goes = t.goes; same_text = t.same_text; advanced = t.shorter; no_longer = t.no_longer }
 
-pub bracket_closed : (f : OpenBracket) (due : Bool) (bs : List OpenBracket) (old new : Cursor) → Gave (next_value (bracket_of f.kind) due old.unread) false old new → ResumesShort f due bs bs old new short.Ended
-bracket_closed f due bs old new g =
-    let t = inside_closed due false f bs old new refl g in
+pub bracket_closed : (f : OpenBracket) (comma_due : Bool) (bs : List OpenBracket) (old new : Cursor) → Gave (next_value (bracket_of f.kind) comma_due old.unread) false old new → ResumesShort f comma_due bs bs old new short.Ended
+bracket_closed f comma_due bs old new g =
+    let t = inside_closed comma_due false f bs old new refl g in
     record { goes = t.goes; same_text = t.same_text; advanced = t.shorter; no_longer = t.no_longer }
 
-pub key_resumed : (f : OpenBracket) (due : Bool) (bs : List OpenBracket) (old new : Cursor) → f.kind ≡ kind.Object → Gave (next_entry (bracket_of f.kind) due old.unread) true old new → ResumesShort f due bs bs old new (short.AtKey f)
-key_resumed f due bs old new is g = record {
-  goes = λ room w q h. (q, key_reached room w bs f q due old new is g h);
+pub key_resumed : (f : OpenBracket) (comma_due : Bool) (bs : List OpenBracket) (old new : Cursor) → f.kind ≡ kind.Object → Gave (next_entry (bracket_of f.kind) comma_due old.unread) true old new → ResumesShort f comma_due bs bs old new (short.AtKey f)
+key_resumed f comma_due bs old new is g = record {
+  goes = λ room w q h. (q, key_reached room w bs f q comma_due old new is g h);
   same_text = g.took.same;
-  advanced = λ d. entry_shorter (bracket_of f.kind) due true old.unread new.unread g.reads d;
+  advanced = λ d. entry_shorter (bracket_of f.kind) comma_due true old.unread new.unread g.reads d;
   no_longer = no_more_left old new g.taken g.took;
 }
 
-pub not_resumed : (f : OpenBracket) (due : Bool) (bs : List OpenBracket) (old new : Cursor) → new ≡ old → ResumesShort f due bs bs old new (short.Within f due)
-not_resumed f due bs old new same = subst (λ (s : Cursor). ResumesShort f due bs bs old s (short.Within f due)) (sym same) (record {
+pub not_resumed : (f : OpenBracket) (comma_due : Bool) (bs : List OpenBracket) (old new : Cursor) → new ≡ old → ResumesShort f comma_due bs bs old new (short.Within f comma_due)
+not_resumed f comma_due bs old new same = subst (λ (s : Cursor). ResumesShort f comma_due bs bs old s (short.Within f comma_due)) (sym same) (record {
   goes = λ room w q h. (q, h);
   same_text = refl;
   advanced = λ d. ((λ e. absurd (cc (sym d ∙ e))), omega arith);
@@ -117,7 +117,7 @@ strictly : (t : ShortTurn) (old new : Cursor) → length new.unread < length old
 strictly short.Value old new l = l
 strictly short.Ended old new l = l
 strictly short.Begins old new l = omega (arith, l)
-strictly (short.Within f due) old new l = ((λ e. l), omega (arith, l))
+strictly (short.Within f comma_due) old new l = ((λ e. l), omega (arith, l))
 strictly (short.AtKey f) old new l = l
 strictly short.Whole old new l = tt
 

@@ -2,12 +2,12 @@
 use Rattle.std.proofs.Common.{◌≡◌, ℕ, ◌<◌, ◌≤◌, Bool, true, false, cond, List, [], ◌∷◌, length, ap, sym, ◌∙◌, arith, length-append, Some}
 use Rattle.std.specs.Prelude.{◌==◌}
 use Rattle.json5_grammar.specs.declared.code.ErrorCode.TheVariants as codes
-use Rattle.json5_grammar.specs.Fronts as fronts
-use Rattle.json5_grammar.specs.Reading.{Read, here, got, bad, and_then}
-use Rattle.json5_grammar.specs.ReadBlanks.{skip, between}
-use Rattle.json5_grammar.specs.ReadSteps.{colon_after, pair_head, member_head, member_at, comma_at, separator, next_value}
-use Rattle.json5_grammar.specs.ReadTexts.{key}
-use Rattle.json5_grammar.specs.ReadValues.{colon_at}
+use Rattle.json5_grammar.specs.Faults.Fronts as fronts
+use Rattle.json5_grammar.specs.Model.Reading.{Read, here, got, bad, and_then}
+use Rattle.json5_grammar.specs.Model.ReadBlanks.{skip, between}
+use Rattle.json5_grammar.specs.Model.ReadSteps.{colon_after, pair_head, member_head, member_at, comma_at, separator, next_value}
+use Rattle.json5_grammar.specs.Model.ReadTexts.{key}
+use Rattle.json5_grammar.specs.Model.ReadValues.{colon_at}
 use Rattle.json5_grammar.proofs.Found.{Found}
 use Rattle.json5_grammar.proofs.ValuesSound.{IsGap, IsKeyAt, gap_found, key_found}
 use Rattle.json5_value.specs.Entries.{entry_front, entry_start, next_entry}
@@ -112,8 +112,8 @@ shorter_of n b r (got a y) h f = let same : y ≡ r = cc in omega (arith, h, ap 
 shorter_of n b r (bad c p) h f = absurd (cc)
 
 -- a comma and what follows it, or the closing sign, take something
-pub next_shorter : (k : fronts.BracketKind) (due b : Bool) (x r : List ℕ) → next_value k due x ≡ got b r → due ≡ true → length r < length x
-next_shorter k due b x r e is = shorter_of (length x) b r (next_value k true x) (shorter_next k x) (sym (ap (λ d. next_value k d x) is) ∙ e)
+pub next_shorter : (k : fronts.BracketKind) (comma_due b : Bool) (x r : List ℕ) → next_value k comma_due x ≡ got b r → comma_due ≡ true → length r < length x
+next_shorter k comma_due b x r e is = shorter_of (length x) b r (next_value k true x) (shorter_next k x) (sym (ap (λ d. next_value k d x) is) ∙ e)
 
 short_entry : (k : fronts.BracketKind) (x : List ℕ) → Short (length x) (entry_start k x)
 short_entry k x = short_then (length x) (skip between x) (λ u y. entry_front k y) (short_skip x) (λ u y l. short_within (length y) (length x) (entry_front k y) (front y) l)
@@ -134,5 +134,5 @@ shorter_entry k x = then_short (length x) (separator k x) _ (shorter_separator k
     by_test false y l = l
 
 -- the same before the key of a member
-pub entry_shorter : (k : fronts.BracketKind) (due b : Bool) (x r : List ℕ) → next_entry k due x ≡ got b r → due ≡ true → length r < length x
-entry_shorter k due b x r e is = shorter_of (length x) b r (next_entry k true x) (shorter_entry k x) (sym (ap (λ d. next_entry k d x) is) ∙ e)
+pub entry_shorter : (k : fronts.BracketKind) (comma_due b : Bool) (x r : List ℕ) → next_entry k comma_due x ≡ got b r → comma_due ≡ true → length r < length x
+entry_shorter k comma_due b x r e is = shorter_of (length x) b r (next_entry k true x) (shorter_entry k x) (sym (ap (λ d. next_entry k d x) is) ∙ e)

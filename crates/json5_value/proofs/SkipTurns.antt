@@ -1,10 +1,10 @@
 -- The open brackets round a value that is passed over, and what they make of what is read within.
 use Rattle.std.proofs.Common.{◌≡◌, ℕ, suc, ◌-◌, ◌<◌, ◌≤◌, Bool, true, false, List, [], ◌∷◌, ◌++◌, length, refl, ap, sym, ◌∙◌, subst, append_assoc, arith, length-append, inl, inr, Option, Some, None}
 use Rattle.std.specs.Prelude.{Result, Ok, Err, IsSome, ◌↔◌}
-use Rattle.json5_grammar.specs.Fronts.{opening}
-use Rattle.json5_grammar.specs.Reading.{Read, got, and_then, placed}
-use Rattle.json5_grammar.specs.ReadSteps.{forget, next_value, rest_of}
-use Rattle.json5_grammar.specs.ReadValues.{read}
+use Rattle.json5_grammar.specs.Faults.Fronts.{opening}
+use Rattle.json5_grammar.specs.Model.Reading.{Read, got, and_then, placed}
+use Rattle.json5_grammar.specs.Model.ReadSteps.{forget, next_value, rest_of}
+use Rattle.json5_grammar.specs.Model.ReadValues.{read}
 use Rattle.json5_grammar.proofs.ValuesSound.{read_sound}
 use Rattle.json5_grammar.proofs.ValueSteps.{turn, rest_step, read_opened}
 use Rattle.json5_text.specs.declared.error.Error.{Error}
@@ -22,20 +22,20 @@ use Rattle.json5_value.proofs.Steps.{blames_as, forget_got}
 
 -- ---- going on in a bracket
 
-module _ (room : ℕ) (bs : List OpenBracket) (f : OpenBracket) (due : Bool) (old : Cursor) where
+module _ (room : ℕ) (bs : List OpenBracket) (f : OpenBracket) (comma_due : Bool) (old : Cursor) where
   abbrev left : ℕ
   left = room - length bs - 1
 
   -- what is left of it, by what comes next
-  rest_is : (goes : Bool) (new : Cursor) → Gave (next_value (bracket_of f.kind) due old.unread) goes old new → rest_at room bs f due old ≡ turn (bracket_of f.kind) left goes new.unread
-  rest_is goes new g = rest_step (bracket_of f.kind) due left old.unread ∙ ap (λ m. and_then m (turn (bracket_of f.kind) left)) g.reads
+  rest_is : (goes : Bool) (new : Cursor) → Gave (next_value (bracket_of f.kind) comma_due old.unread) goes old new → rest_at room bs f comma_due old ≡ turn (bracket_of f.kind) left goes new.unread
+  rest_is goes new g = rest_step (bracket_of f.kind) comma_due left old.unread ∙ ap (λ m. and_then m (turn (bracket_of f.kind) left)) g.reads
 
-  rest_bad : (own : Error) → Blames old.input (next_value (bracket_of f.kind) due old.unread) own → Blames old.input (rest_at room bs f due old) own
-  rest_bad own b = blames_as old.input old.input (next_value (bracket_of f.kind) due old.unread) (rest_at room bs f due old) own refl
-      (λ c p is. rest_step (bracket_of f.kind) due left old.unread ∙ ap (λ m. and_then m (turn (bracket_of f.kind) left)) is) b
+  rest_bad : (own : Error) → Blames old.input (next_value (bracket_of f.kind) comma_due old.unread) own → Blames old.input (rest_at room bs f comma_due old) own
+  rest_bad own b = blames_as old.input old.input (next_value (bracket_of f.kind) comma_due old.unread) (rest_at room bs f comma_due old) own refl
+      (λ c p is. rest_step (bracket_of f.kind) comma_due left old.unread ∙ ap (λ m. and_then m (turn (bracket_of f.kind) left)) is) b
 
   -- a value comes next
-  value_is : (goes : Bool) (new : Cursor) → goes ≡ true → Gave (next_value (bracket_of f.kind) due old.unread) goes old new → rest_at room bs f due old ≡ and_then (value_at left new) (rest_in f left)
+  value_is : (goes : Bool) (new : Cursor) → goes ≡ true → Gave (next_value (bracket_of f.kind) comma_due old.unread) goes old new → rest_at room bs f comma_due old ≡ and_then (value_at left new) (rest_in f left)
   value_is goes new is g = rest_is goes new g ∙ ap (λ b. turn (bracket_of f.kind) left b new.unread) is
 
 pub room_within : (room : ℕ) (bs : List OpenBracket) (f : OpenBracket) → room - length (bs ++ f ∷ []) ≡ room - length bs - 1
@@ -44,31 +44,31 @@ room_within room bs f = omega (arith, length-append bs (f ∷ []))
 pub no_more_left : (old new : Cursor) (s : List ℕ) → Took old s new → length new.unread ≤ length old.unread
 no_more_left old new s t = omega (arith, ap length t.split, length-append s new.unread)
 
-pub inside_goes : (due goes : Bool) (f : OpenBracket) (bs after : List OpenBracket) (old new : Cursor) → goes ≡ true → Gave (next_value (bracket_of f.kind) due old.unread) goes old new → after ≡ bs ++ f ∷ [] → TurnsInside due f bs after old new (Ok true)
-inside_goes due goes f bs after old new is g grown = record {
+pub inside_goes : (comma_due goes : Bool) (f : OpenBracket) (bs after : List OpenBracket) (old new : Cursor) → goes ≡ true → Gave (next_value (bracket_of f.kind) comma_due old.unread) goes old new → after ≡ bs ++ f ∷ [] → TurnsInside comma_due f bs after old new (Ok true)
+inside_goes comma_due goes f bs after old new is g grown = record {
   goes = λ room w q h. subst (λ z. Skipping room w z true new) (sym grown)
       (subst (λ d. Within start_of rest_in room w (bs ++ f ∷ []) (value_at d new) new) (sym (room_within room bs f))
-      (value_reached start_of rest_in room old w (rest_at room bs f due old) bs f.start q h f new (value_at (room - length bs - 1) new) g.taken refl g.took (value_is room bs f due old goes new is g)));
+      (value_reached start_of rest_in room old w (rest_at room bs f comma_due old) bs f.start q h f new (value_at (room - length bs - 1) new) g.taken refl g.took (value_is room bs f comma_due old goes new is g)));
   refused = tt;
   same_text = g.took.same;
-  shorter = λ d. next_shorter (bracket_of f.kind) due goes old.unread new.unread g.reads d;
+  shorter = λ d. next_shorter (bracket_of f.kind) comma_due goes old.unread new.unread g.reads d;
   no_longer = no_more_left old new g.taken g.took;
 }
 
-pub inside_closed : (due goes : Bool) (f : OpenBracket) (bs : List OpenBracket) (old new : Cursor) → goes ≡ false → Gave (next_value (bracket_of f.kind) due old.unread) goes old new → TurnsInside due f bs bs old new (Ok false)
-inside_closed due goes f bs old new is g = record {
-  goes = λ room w q h. closed start_of rest_in room old w (rest_at room bs f due old) bs f.start q h new tt g.taken g.took (rest_is room bs f due old goes new g ∙ ap (λ b. turn (bracket_of f.kind) (room - length bs - 1) b new.unread) is);
+pub inside_closed : (comma_due goes : Bool) (f : OpenBracket) (bs : List OpenBracket) (old new : Cursor) → goes ≡ false → Gave (next_value (bracket_of f.kind) comma_due old.unread) goes old new → TurnsInside comma_due f bs bs old new (Ok false)
+inside_closed comma_due goes f bs old new is g = record {
+  goes = λ room w q h. closed start_of rest_in room old w (rest_at room bs f comma_due old) bs f.start q h new tt g.taken g.took (rest_is room bs f comma_due old goes new g ∙ ap (λ b. turn (bracket_of f.kind) (room - length bs - 1) b new.unread) is);
   refused = tt;
   same_text = g.took.same;
-  shorter = λ d. next_shorter (bracket_of f.kind) due goes old.unread new.unread g.reads d;
+  shorter = λ d. next_shorter (bracket_of f.kind) comma_due goes old.unread new.unread g.reads d;
   no_longer = no_more_left old new g.taken g.took;
 }
 
-pub inside_refused : (due : Bool) (f : OpenBracket) (bs after : List OpenBracket) (old new : Cursor) (own e : Error) → Blames old.input (next_value (bracket_of f.kind) due old.unread) own → SameText old new → PlacedAt (StartsAfter new.input f.start) own e
-    → TurnsInside due f bs after old new (Err e)
-inside_refused due f bs after old new own e b same k = record {
+pub inside_refused : (comma_due : Bool) (f : OpenBracket) (bs after : List OpenBracket) (old new : Cursor) (own e : Error) → Blames old.input (next_value (bracket_of f.kind) comma_due old.unread) own → SameText old new → PlacedAt (StartsAfter new.input f.start) own e
+    → TurnsInside comma_due f bs after old new (Err e)
+inside_refused comma_due f bs after old new own e b same k = record {
   goes = tt;
-  refused = λ room w q h. inside_blamed start_of rest_in room old w (rest_at room bs f due old) bs f.start q h new.input own e (rest_bad room bs f due old own b) k same;
+  refused = λ room w q h. inside_blamed start_of rest_in room old w (rest_at room bs f comma_due old) bs f.start q h new.input own e (rest_bad room bs f comma_due old own b) k same;
   same_text = same;
   shorter = tt;
   no_longer = tt;

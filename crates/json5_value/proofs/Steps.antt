@@ -5,8 +5,8 @@ use Rattle.std.specs.Str.{encode_utf8_all}
 use Rattle.std.proofs.lemmas.Str.{encodes-append}
 use Rattle.json5_grammar.specs.declared.code.ErrorCode.{ErrorCode}
 use Rattle.json5_grammar.specs.declared.code.ErrorCode.TheVariants as codes
-use Rattle.json5_grammar.specs.Reading.{Read, Place, here, inner, got, bad, and_then, IsAt}
-use Rattle.json5_grammar.specs.ReadSteps.{forget}
+use Rattle.json5_grammar.specs.Model.Reading.{Read, Place, here, inner, got, bad, and_then, IsAt}
+use Rattle.json5_grammar.specs.Model.ReadSteps.{forget}
 use Rattle.json5_grammar.proofs.Refusals.{Refuses}
 use Rattle.json5_text.specs.declared.error.Error.{Error}
 use Rattle.json5_text.specs.Cursor.{Cursor, Took, IsPlaced, Refused, IsOutOfMemory, Says, offset_of}

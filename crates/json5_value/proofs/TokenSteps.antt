@@ -4,19 +4,18 @@ use Rattle.std.specs.Prelude.{◌==◌, ℤ, Result, Ok, Err, IsOk, IfOk, IfErr,
 use Rattle.std.proofs.lemmas.Bool.{both_ways, false≢true}
 use Rattle.json5_grammar.specs.declared.code.ErrorCode.{ErrorCode}
 use Rattle.json5_grammar.specs.declared.code.ErrorCode.TheVariants as codes
-use Rattle.json5_grammar.specs.Characters.{NotBegun, is_identifier_start}
-use Rattle.json5_grammar.specs.Names.{Ident, goes_on_name}
-use Rattle.json5_grammar.specs.Numbers as numbers
-use Rattle.json5_grammar.specs.Numbers.{Num}
-use Rattle.json5_grammar.specs.NumberFaults.{is_sign, begins_number}
-use Rattle.json5_grammar.specs.Reading.{Read, Place, here, inner, got, bad, IsAt}
-use Rattle.json5_grammar.specs.ReadBlanks.{skip, between}
-use Rattle.json5_grammar.specs.ReadNumbers as reading
-use Rattle.json5_grammar.specs.ReadSteps.{forget}
-use Rattle.json5_grammar.specs.ReadTexts.{string, identifier}
-use Rattle.json5_grammar.specs.ReadValues.{word_at}
-use Rattle.json5_grammar.specs.Stops.{lengthens}
-use Rattle.json5_grammar.specs.Strings.{Str, is_quote}
+use Rattle.json5_grammar.specs.Language.Characters.{NotBegun, is_identifier_start}
+use Rattle.json5_grammar.specs.Language.Names.{Ident, goes_on_name}
+use Rattle.json5_grammar.specs.Language.Numbers as numbers
+use Rattle.json5_grammar.specs.Language.Numbers.{Num, lengthens}
+use Rattle.json5_grammar.specs.Faults.Tokens.{is_sign, begins_number}
+use Rattle.json5_grammar.specs.Model.Reading.{Read, Place, here, inner, got, bad, IsAt}
+use Rattle.json5_grammar.specs.Model.ReadBlanks.{skip, between}
+use Rattle.json5_grammar.specs.Model.ReadNumbers as reading
+use Rattle.json5_grammar.specs.Model.ReadSteps.{forget}
+use Rattle.json5_grammar.specs.Model.ReadTexts.{string, identifier}
+use Rattle.json5_grammar.specs.Model.ReadValues.{word_at}
+use Rattle.json5_grammar.specs.Language.Strings.{Str, is_quote}
 use Rattle.json5_grammar.proofs.BlanksSound.{gap_read, blank_refused}
 use Rattle.json5_grammar.proofs.NamesRead.{name_complete, name_refused}
 use Rattle.json5_grammar.proofs.NamesSound.{NameSound, name_sound}
@@ -83,7 +82,7 @@ string_fault_refuses c r h y reason place e string_missing = absurd (cc)
 
 pub string_step : (old new : Cursor) (result : Result (Unit {0}) Error) (c : ℕ) (r : List ℕ) → IsInside old → old.unread ≡ c ∷ r → is_quote c ≡ true → PassesString old new result → Steps (forget (string old.unread)) old new result
 string_step old new result c r ready x h k =
-    token_step (λ s r. (u : List ℕ) × (plain : Bool) × Str s u plain) (string old.unread) old new result ready faulty_string_lacks (λ reason place f. string_fault_refuses c r h old.unread reason place x f)
+    token_step (λ s r. (u : List ℕ) × (escape_free : Bool) × Str s u escape_free) (string old.unread) old new result ready faulty_string_lacks (λ reason place f. string_fault_refuses c r h old.unread reason place x f)
     (λ s y k e. ((k.0, k.1), ap string e ∙ string_complete y k.2))
     (λ a y is. let (s, split, str) = from_sound a y (subst (StringSound (c ∷ r)) (sym (ap string x) ∙ is) (string_sound c r h)) in k.memory s a.0 y a.1 (x ∙ split) str)
     (reordered result k.taken) k.refused k.kept
@@ -91,8 +90,8 @@ string_step old new result c r ready x h k =
     from_sound : (a : List ℕ × Bool) (y : List ℕ) → StringSound (c ∷ r) (got a y) → (s : List ℕ) × (c ∷ r ≡ s ++ y) × Str s a.0 a.1
     from_sound a y k = k
 
-    reordered : (result : Result (Unit {0}) Error) → OnOk result ((s u : List ℕ) × (plain : Bool) × Took old s new × Str s u plain) → OnOk result ((s : List ℕ) × Took old s new × ((u : List ℕ) × (plain : Bool) × Str s u plain))
-    reordered (Ok v) (s, u, plain, took, str) = (s, took, (u, plain, str))
+    reordered : (result : Result (Unit {0}) Error) → OnOk result ((s u : List ℕ) × (escape_free : Bool) × Took old s new × Str s u escape_free) → OnOk result ((s : List ℕ) × Took old s new × ((u : List ℕ) × (escape_free : Bool) × Str s u escape_free))
+    reordered (Ok v) (s, u, escape_free, took, str) = (s, took, (u, escape_free, str))
     reordered (Err e) k = tt
 
 -- ---- numbers
@@ -175,14 +174,14 @@ name_refuses x reason place name_missing = (inner, name_missing_read, tt)
 
 pub name_step : (old new : Cursor) (result : Result (Unit {0}) Error) → IsInside old → PassesName old new result → Steps (forget (identifier old.unread)) old new result
 name_step old new result ready k =
-    token_step (λ s r. (u : List ℕ) × (plain : Bool) × Ident s u plain × (c : ℕ) × (y : List ℕ) × (r ≡ c ∷ y) × (goes_on_name c ≡ false)) (identifier old.unread) old new result ready faulty_name_lacks (name_refuses old.unread)
+    token_step (λ s r. (u : List ℕ) × (escape_free : Bool) × Ident s u escape_free × (c : ℕ) × (y : List ℕ) × (r ≡ c ∷ y) × (goes_on_name c ≡ false)) (identifier old.unread) old new result ready faulty_name_lacks (name_refuses old.unread)
     (λ s y k e. ((k.0, k.1), ap identifier (e ∙ ap (λ q. s ++ q) k.5) ∙ name_complete k.3 k.4 k.2 k.6 ∙ ap (got (k.0, k.1)) (sym k.5)))
     (λ a y is. let (s, c, r, split, i, h) = name_read old.unread a y is in k.memory s a.0 r c a.1 split i h)
     (reordered result k.taken k.stops) k.refused k.kept
   where
-    reordered : (result : Result (Unit {0}) Error) → OnOk result ((s u : List ℕ) × (plain : Bool) × Took old s new × Ident s u plain) → OnOk result ((c : ℕ) × (r : List ℕ) × (new.unread ≡ c ∷ r) × (goes_on_name c ≡ false))
-        → OnOk result ((s : List ℕ) × Took old s new × ((u : List ℕ) × (plain : Bool) × Ident s u plain × (c : ℕ) × (y : List ℕ) × (new.unread ≡ c ∷ y) × (goes_on_name c ≡ false)))
-    reordered (Ok v) (s, u, plain, took, i) (c, y, e, h) = (s, took, (u, plain, i, c, y, e, h))
+    reordered : (result : Result (Unit {0}) Error) → OnOk result ((s u : List ℕ) × (escape_free : Bool) × Took old s new × Ident s u escape_free) → OnOk result ((c : ℕ) × (r : List ℕ) × (new.unread ≡ c ∷ r) × (goes_on_name c ≡ false))
+        → OnOk result ((s : List ℕ) × Took old s new × ((u : List ℕ) × (escape_free : Bool) × Ident s u escape_free × (c : ℕ) × (y : List ℕ) × (new.unread ≡ c ∷ y) × (goes_on_name c ≡ false)))
+    reordered (Ok v) (s, u, escape_free, took, i) (c, y, e, h) = (s, took, (u, escape_free, i, c, y, e, h))
     reordered (Err e) k l = tt
 
 -- ---- words

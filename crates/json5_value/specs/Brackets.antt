@@ -1,7 +1,7 @@
 -- The two kinds of brackets.
 use Rattle.json5_grammar.specs.declared.code.ErrorCode.TheVariants as codes
-use Rattle.json5_grammar.specs.Fronts.{of_array, of_object}
-use Rattle.json5_grammar.specs.Fronts as fronts
+use Rattle.json5_grammar.specs.Faults.Fronts.{of_array, of_object}
+use Rattle.json5_grammar.specs.Faults.Fronts as fronts
 use Rattle.json5_value.specs.declared.brackets.Brackets.{Brackets}
 use Rattle.json5_value.specs.declared.brackets.BracketKind.{BracketKind}
 use Rattle.json5_value.specs.declared.brackets.BracketKind.TheVariants as kind

@@ -2,9 +2,9 @@
 use Rattle.std.specs.Prelude.{◌≡◌, ◌⊎◌, ℕ, ◌-◌, ◌<◌, ◌≤◌, Bool, true, false, List, [], ◌∷◌, ◌++◌, length, Option, Some, None, Result, IfOk, IfErr, String, string_bytes}
 use Rattle.std.specs.declared.alloc.Global.{Global}
 use Rattle.std.specs.Str.{chars}
-use Rattle.json5_grammar.specs.Reading.{Read, got, and_then}
-use Rattle.json5_grammar.specs.ReadSteps.{trees_of, trees_after, pairs_of, pairs_after}
-use Rattle.json5_grammar.specs.Trees.{Trees, Pairs}
+use Rattle.json5_grammar.specs.Model.Reading.{Read, got, and_then}
+use Rattle.json5_grammar.specs.Model.ReadSteps.{trees_of, trees_after, pairs_of, pairs_after}
+use Rattle.json5_grammar.specs.Language.Trees.{Trees, Pairs}
 use Rattle.json5_text.specs.declared.error.Error.{Error}
 use Rattle.json5_text.specs.declared.value.Value.{Value}
 use Rattle.json5_text.specs.Cursor.{Cursor, IsOutOfMemory}
@@ -46,10 +46,10 @@ rest_of_object fs true d x = object_with (members_before fs) (pairs_after d x)
 
 -- the same of a scanner, by how many brackets may be open at once in a value
 abbrev pub array_at : List Value → Bool → Cursor → ℕ → Read Datum
-array_at vs due s d = rest_of_array vs due d s.unread
+array_at vs comma_due s d = rest_of_array vs comma_due d s.unread
 
 abbrev pub object_at : List (String Global × Value) → Bool → Cursor → ℕ → Read Datum
-object_at fs due s d = rest_of_object fs due d s.unread
+object_at fs comma_due s d = rest_of_object fs comma_due d s.unread
 
 -- ---- unfinished arrays and objects
 
@@ -92,9 +92,9 @@ pub record Turns (room : ℕ) (fs after : List Unfinished) (old new : Cursor) (r
   pub shorter : IfOk result (λ ended. length new.unread < length old.unread)
 
 -- the same within one more, of which m is left
-pub record TurnsInside (m : ℕ → Read Datum) (start : ℕ) (due : Bool) (fs after : List Unfinished) (old new : Cursor) (result : Result (Option Value) Error) : Type 0 where
+pub record TurnsInside (m : ℕ → Read Datum) (start : ℕ) (comma_due : Bool) (fs after : List Unfinished) (old new : Cursor) (result : Result (Option Value) Error) : Type 0 where
   pub goes : IfOk result (λ ended. (room : ℕ) (w : Read Datum) (q : List ℕ) → BuildingInside room w fs start m q old → Building room w after ended new)
   pub refused : IfErr result (λ e. IsOutOfMemory e ⊎ ((room : ℕ) (w : Read Datum) (q : List ℕ) → BuildingInside room w fs start m q old → Blames old.input w e))
   pub same_text : SameText old new
-  pub shorter : IfOk result (λ ended. due ≡ true → length new.unread < length old.unread)
+  pub shorter : IfOk result (λ ended. comma_due ≡ true → length new.unread < length old.unread)
   pub no_longer : IfOk result (λ ended. length new.unread ≤ length old.unread)

@@ -1,5 +1,5 @@
 -- What a tree stands for, without the marks.
-use Rattle.json5_grammar.specs.Trees.{Tree, Trees, Pairs, null, boolean, number, text, array, object, no_more, more, no_pair, pair}
+use Rattle.json5_grammar.specs.Language.Trees.{Tree, Trees, Pairs, null, boolean, number, text, array, object, no_more, more, no_pair, pair}
 use Rattle.json5_text.specs.ValueViews.{Datum, Items, Fields, no_item, item, no_field, field}
 use Rattle.json5_text.specs.ValueViews as datum
 
@@ -8,7 +8,7 @@ abbrev mutual
   datum_of null = datum.null
   datum_of (boolean b) = datum.boolean b
   datum_of (number n) = datum.number n
-  datum_of (text u plain) = datum.text u
+  datum_of (text u escape_free) = datum.text u
   datum_of (array ts) = datum.array (items_of ts)
   datum_of (object ps) = datum.object (fields_of ps)
 
@@ -18,4 +18,4 @@ abbrev mutual
 
   pub fields_of : Pairs → Fields
   fields_of no_pair = no_field
-  fields_of (pair u plain t ps) = field u (datum_of t) (fields_of ps)
+  fields_of (pair u escape_free t ps) = field u (datum_of t) (fields_of ps)

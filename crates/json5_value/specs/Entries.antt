@@ -1,9 +1,9 @@
 -- Where the entries of brackets begin: the elements of an array and the members of an object.
 use Rattle.std.specs.Prelude.{ℕ, Bool, true, false, cond, List, [], ◌∷◌, ◌==◌}
-use Rattle.json5_grammar.specs.Fronts.{BracketKind, closing}
-use Rattle.json5_grammar.specs.Reading.{Read, got, and_then}
-use Rattle.json5_grammar.specs.ReadBlanks.{skip, between}
-use Rattle.json5_grammar.specs.ReadSteps.{separator}
+use Rattle.json5_grammar.specs.Faults.Fronts.{BracketKind, closing}
+use Rattle.json5_grammar.specs.Model.Reading.{Read, got, and_then}
+use Rattle.json5_grammar.specs.Model.ReadBlanks.{skip, between}
+use Rattle.json5_grammar.specs.Model.ReadSteps.{separator}
 
 -- past the closing bracket, or an entry begins here
 abbrev pub entry_front : BracketKind → List ℕ → Read Bool
@@ -21,4 +21,4 @@ due_comma k true x = separator k x
 
 -- where the next entry begins, after a comma where one is due, or past the closing bracket
 abbrev pub next_entry : BracketKind → Bool → List ℕ → Read Bool
-next_entry k due x = and_then (due_comma k due x) (λ more y. cond more (entry_start k y) (got false y))
+next_entry k comma_due x = and_then (due_comma k comma_due x) (λ more y. cond more (entry_start k y) (got false y))

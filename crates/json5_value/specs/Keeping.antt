@@ -2,11 +2,11 @@
 use Rattle.std.specs.Prelude.{◌≡◌, ◌⊎◌, ℕ, ◌<◌, Bool, true, false, cond, List, length, Option, Some, None, Result, MatchResult, IfOk, IfErr, OnErr, String, string_bytes}
 use Rattle.std.specs.declared.alloc.Global.{Global}
 use Rattle.std.specs.Str.{chars, encode_utf8_all}
-use Rattle.json5_grammar.specs.Fronts.{of_object}
-use Rattle.json5_grammar.specs.Reading.{Read, got, and_then}
-use Rattle.json5_grammar.specs.ReadSteps.{separator, key_at}
-use Rattle.json5_grammar.specs.ReadValues.{read}
-use Rattle.json5_grammar.specs.Trees.{Tree}
+use Rattle.json5_grammar.specs.Faults.Fronts.{of_object}
+use Rattle.json5_grammar.specs.Model.Reading.{Read, got, and_then}
+use Rattle.json5_grammar.specs.Model.ReadSteps.{separator, key_at}
+use Rattle.json5_grammar.specs.Model.ReadValues.{read}
+use Rattle.json5_grammar.specs.Language.Trees.{Tree}
 use Rattle.json5_text.specs.declared.error.Error.{Error}
 use Rattle.json5_text.specs.declared.text_token.TextToken.{TextToken}
 use Rattle.json5_text.specs.declared.value.Value.{Value}
@@ -37,7 +37,7 @@ pub record Keeps {V A : Type 0} (Is : V → A → Type 0) (reading : Read A) (ol
 
 -- the text of a key in memory of its own, or memory ran out
 abbrev pub OwnsKey : List ℕ → TextToken → Result (String Global) Error → Type 0
-OwnsKey input key result = (u : List ℕ) (plain : Bool) → Spells input u plain key → MatchResult result (λ t. string_bytes t ≡ encode_utf8_all u) LacksMemory
+OwnsKey input key result = (u : List ℕ) (escape_free : Bool) → Spells input u escape_free key → MatchResult result (λ t. string_bytes t ≡ encode_utf8_all u) LacksMemory
 
 -- a key that was found, or its text
 abbrev pub IsFoundKey : List ℕ → TextToken → List ℕ × Bool → Type 0

@@ -2,10 +2,10 @@
 use Rattle.std.specs.Prelude.{ℕ, ◌==◌, ◌||◌, cond, List}
 use Rattle.json5_grammar.specs.declared.code.ErrorCode.{ErrorCode}
 use Rattle.json5_grammar.specs.declared.code.ErrorCode.TheVariants as codes
-use Rattle.json5_grammar.specs.Characters.{letter_f, letter_n, letter_t}
-use Rattle.json5_grammar.specs.NumberFaults.{is_sign, begins_number}
-use Rattle.json5_grammar.specs.Strings.{is_quote}
-use Rattle.json5_grammar.specs.Values.{null_text, true_text, false_text}
+use Rattle.json5_grammar.specs.Language.Characters.{letter_f, letter_n, letter_t}
+use Rattle.json5_grammar.specs.Faults.Tokens.{is_sign, begins_number}
+use Rattle.json5_grammar.specs.Language.Strings.{is_quote}
+use Rattle.json5_grammar.specs.Language.Values.{null_text, true_text, false_text}
 use Rattle.json5_value.specs.declared.kinds.Literal.{Literal}
 use Rattle.json5_value.specs.declared.kinds.Literal.TheVariants as literal
 use Rattle.json5_value.specs.declared.kinds.ValueKind.{ValueKind}

@@ -1,6 +1,6 @@
 -- What is open round a value, and what it makes of what is read within.
 use Rattle.std.specs.Prelude.{◌≡◌, ℕ, ◌-◌, ◌<◌, ◌≤◌, List, [], ◌∷◌, length}
-use Rattle.json5_grammar.specs.Reading.{Read, and_then, placed}
+use Rattle.json5_grammar.specs.Model.Reading.{Read, and_then, placed}
 use Rattle.json5_text.specs.Cursor.{Cursor}
 use Rattle.json5_value.specs.Places.{CountsTo}
 use Rattle.json5_value.specs.Steps.{IsInside}

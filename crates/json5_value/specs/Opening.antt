@@ -1,6 +1,6 @@
 -- How a value begins: with a character of its own, or with an opening bracket.
 use Rattle.std.specs.Prelude.{◌≡◌, ℕ, ◌<◌, false, ◌∷◌, Some, Result, IfOk, IfErr, OnErr, ◌==◌, ◌||◌, slice_get}
-use Rattle.json5_grammar.specs.Fronts.{of_array, of_object, opening}
+use Rattle.json5_grammar.specs.Faults.Fronts.{of_array, of_object, opening}
 use Rattle.json5_text.specs.declared.error.Error.{Error}
 use Rattle.json5_text.specs.Cursor.{Cursor}
 use Rattle.json5_value.specs.declared.brackets.OpenBracket.{OpenBracket}

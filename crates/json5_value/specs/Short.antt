@@ -1,8 +1,8 @@
 -- Short ways past values and to entries: what they take is what reading on lists takes, and what is left to do makes the same of the whole.
 use Rattle.std.specs.Prelude.{◌≡◌, ℕ, ◌-◌, ◌<◌, ◌≤◌, Bool, true, false, List, [], length, Result, IfOk, IfErr}
-use Rattle.json5_grammar.specs.Reading.{Read, and_then}
-use Rattle.json5_grammar.specs.ReadSteps.{forget, colon_after, next_value, value_and_rest}
-use Rattle.json5_grammar.specs.ReadTexts.{key}
+use Rattle.json5_grammar.specs.Model.Reading.{Read, and_then}
+use Rattle.json5_grammar.specs.Model.ReadSteps.{forget, colon_after, next_value, value_and_rest}
+use Rattle.json5_grammar.specs.Model.ReadTexts.{key}
 use Rattle.json5_text.specs.declared.error.Error.{Error}
 use Rattle.json5_text.specs.Cursor.{Cursor}
 use Rattle.json5_value.specs.declared.brackets.BracketKind.{BracketKind}
@@ -22,10 +22,10 @@ use Rattle.json5_value.specs.Steps.{SameText, Blames, Gave, value_at}
 
 -- the value of an entry was reached, or the key of a member, or the closing bracket was taken; or nothing was
 abbrev pub EntersShort : BracketKind → Bool → Cursor → Cursor → ShortEntry → Type 0
-EntersShort k due old new entry.Value = Gave (next_value (bracket_of k) due old.unread) true old new
-EntersShort k due old new entry.Key = (k ≡ kind.Object) × Gave (next_entry (bracket_of k) due old.unread) true old new
-EntersShort k due old new entry.Closed = Gave (next_value (bracket_of k) due old.unread) false old new
-EntersShort k due old new entry.Other = new ≡ old
+EntersShort k comma_due old new entry.Value = Gave (next_value (bracket_of k) comma_due old.unread) true old new
+EntersShort k comma_due old new entry.Key = (k ≡ kind.Object) × Gave (next_entry (bracket_of k) comma_due old.unread) true old new
+EntersShort k comma_due old new entry.Closed = Gave (next_value (bracket_of k) comma_due old.unread) false old new
+EntersShort k comma_due old new entry.Other = new ≡ old
 
 -- a value was passed over, however many brackets may be open, or nothing was
 abbrev pub PassesShort : Cursor → Cursor → Bool → Type 0
@@ -60,7 +60,7 @@ abbrev pub Reached : ℕ → Read (Unit {0}) → List OpenBracket → ShortTurn 
 Reached room w brackets turn.Value now = Skipping room w brackets true now
 Reached room w brackets turn.Ended now = Skipping room w brackets false now
 Reached room w brackets turn.Begins now = Skipping room w brackets true now
-Reached room w brackets (turn.Within bracket due) now = (q : List ℕ) × SkippingInside room w brackets bracket due q now
+Reached room w brackets (turn.Within bracket comma_due) now = (q : List ℕ) × SkippingInside room w brackets bracket comma_due q now
 Reached room w brackets (turn.AtKey bracket) now = (q : List ℕ) × SkippingMember room w brackets bracket q now
 Reached room w brackets turn.Whole now = (brackets ≡ []) × Skipping room w brackets false now
 
@@ -69,7 +69,7 @@ abbrev pub Advanced : ShortTurn → Cursor → Cursor → Type 0
 Advanced turn.Value old new = length new.unread < length old.unread
 Advanced turn.Ended old new = length new.unread < length old.unread
 Advanced turn.Begins old new = length new.unread ≤ length old.unread
-Advanced (turn.Within bracket due) old new = (due ≡ false → length new.unread < length old.unread) × (length new.unread ≤ length old.unread)
+Advanced (turn.Within bracket comma_due) old new = (comma_due ≡ false → length new.unread < length old.unread) × (length new.unread ≤ length old.unread)
 Advanced (turn.AtKey bracket) old new = length new.unread < length old.unread
 Advanced turn.Whole old new = Unit {0}
 
@@ -80,8 +80,8 @@ pub record TurnsShort (room : ℕ) (at_value : Bool) (brackets after : List Open
   pub advanced : Advanced result old new
 
 -- the same within a bracket
-pub record ResumesShort (bracket : OpenBracket) (due : Bool) (brackets after : List OpenBracket) (old new : Cursor) (result : ShortTurn) : Type 0 where
-  pub goes : (room : ℕ) (w : Read (Unit {0})) (q : List ℕ) → SkippingInside room w brackets bracket due q old → Reached room w after result new
+pub record ResumesShort (bracket : OpenBracket) (comma_due : Bool) (brackets after : List OpenBracket) (old new : Cursor) (result : ShortTurn) : Type 0 where
+  pub goes : (room : ℕ) (w : Read (Unit {0})) (q : List ℕ) → SkippingInside room w brackets bracket comma_due q old → Reached room w after result new
   pub same_text : SameText old new
-  pub advanced : due ≡ true → Advanced result old new
+  pub advanced : comma_due ≡ true → Advanced result old new
   pub no_longer : length new.unread ≤ length old.unread

@@ -1,7 +1,7 @@
 -- How a value is passed over, and what the open brackets make of what is to come.
 use Rattle.std.specs.Prelude.{◌≡◌, ◌⊎◌, ℕ, ◌-◌, ◌<◌, ◌≤◌, Bool, true, cond, List, [], ◌∷◌, ◌++◌, length, Option, Some, None, Result, IfOk, IfErr, OnErr}
-use Rattle.json5_grammar.specs.Reading.{Read, got}
-use Rattle.json5_grammar.specs.ReadSteps.{rest_of}
+use Rattle.json5_grammar.specs.Model.Reading.{Read, got}
+use Rattle.json5_grammar.specs.Model.ReadSteps.{rest_of}
 use Rattle.json5_text.specs.declared.error.Error.{Error}
 use Rattle.json5_text.specs.Cursor.{Cursor}
 use Rattle.json5_value.specs.declared.brackets.OpenBracket.{OpenBracket}
@@ -43,11 +43,11 @@ Skipping room w brackets at_value now = Within start_of rest_in room w brackets 
 
 -- what is left of a bracket within these
 abbrev pub rest_at : ℕ → List OpenBracket → OpenBracket → Bool → Cursor → Read (Unit {0})
-rest_at room brackets bracket due now = rest_of (bracket_of bracket.kind) due (room - length brackets - 1) now.unread
+rest_at room brackets bracket comma_due now = rest_of (bracket_of bracket.kind) comma_due (room - length brackets - 1) now.unread
 
 -- the same within one more, which was opened before q
 abbrev pub SkippingInside : ℕ → Read (Unit {0}) → List OpenBracket → OpenBracket → Bool → List ℕ → Cursor → Type 0
-SkippingInside room w brackets bracket due q now = Inside start_of rest_in room w brackets bracket.start (rest_at room brackets bracket due now) q now
+SkippingInside room w brackets bracket comma_due q now = Inside start_of rest_in room w brackets bracket.start (rest_at room brackets bracket comma_due now) q now
 
 -- the fault gets the innermost bracket's place where it has none and one is open
 abbrev pub PlacedWithin : List ℕ → List OpenBracket → Error → Error → Type 0
@@ -63,11 +63,11 @@ pub record Turns (room : ℕ) (brackets after : List OpenBracket) (old new : Cur
   pub shorter : IfOk result (λ at_value. length new.unread < length old.unread)
 
 -- the same within a bracket, which is open afterwards where a value is next
-pub record TurnsInside (due : Bool) (bracket : OpenBracket) (brackets after : List OpenBracket) (old new : Cursor) (result : Result Bool Error) : Type 0 where
-  pub goes : IfOk result (λ at_value. (room : ℕ) (w : Read (Unit {0})) (q : List ℕ) → SkippingInside room w brackets bracket due q old → Skipping room w after at_value new)
-  pub refused : IfErr result (λ e. (room : ℕ) (w : Read (Unit {0})) (q : List ℕ) → SkippingInside room w brackets bracket due q old → Blames old.input w e)
+pub record TurnsInside (comma_due : Bool) (bracket : OpenBracket) (brackets after : List OpenBracket) (old new : Cursor) (result : Result Bool Error) : Type 0 where
+  pub goes : IfOk result (λ at_value. (room : ℕ) (w : Read (Unit {0})) (q : List ℕ) → SkippingInside room w brackets bracket comma_due q old → Skipping room w after at_value new)
+  pub refused : IfErr result (λ e. (room : ℕ) (w : Read (Unit {0})) (q : List ℕ) → SkippingInside room w brackets bracket comma_due q old → Blames old.input w e)
   pub same_text : SameText old new
-  pub shorter : IfOk result (λ at_value. due ≡ true → length new.unread < length old.unread)
+  pub shorter : IfOk result (λ at_value. comma_due ≡ true → length new.unread < length old.unread)
   pub no_longer : IfOk result (λ at_value. length new.unread ≤ length old.unread)
 
 -- ---- the whole

@@ -1,7 +1,7 @@
 //! Brackets: their kinds, their characters and codes, and those that are open.
 
 ghost use Rattle.std.specs.Prelude.{◌≡◌, Some, slice_get};
-ghost use Rattle.json5_grammar.specs.Fronts.{opening};
+ghost use Rattle.json5_grammar.specs.Faults.Fronts.{opening};
 ghost use Rattle.json5_value.specs.Brackets.{bracket_of, brackets_of};
 ghost use Rattle.json5_value.specs.Opening.{Opens};
 ghost use Rattle.json5_value.specs.Steps.{IsInside};

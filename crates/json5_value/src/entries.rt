@@ -1,7 +1,7 @@
 //! What is round the entries of brackets, the elements of an array and the members of an object (JSON5 sections 3 and 4).
 
-ghost use Rattle.json5_grammar.specs.ReadSteps.{forget, colon_after, next_value};
-ghost use Rattle.json5_grammar.specs.ReadTexts.{key};
+ghost use Rattle.json5_grammar.specs.Model.ReadSteps.{forget, colon_after, next_value};
+ghost use Rattle.json5_grammar.specs.Model.ReadTexts.{key};
 ghost use Rattle.json5_value.specs.Brackets.{bracket_of};
 ghost use Rattle.json5_value.specs.Entries.{due_comma, next_entry};
 ghost use Rattle.json5_value.specs.Short.{name_at};
@@ -56,11 +56,11 @@ pub(crate) fn skip_name<I: Input>(scanner: &mut Scanner<I>) -> Result<()>
 }
 
 /// Where a comma is due, passes over it and says true, or over the closing bracket and says false. Says true where none is.
-fn skip_comma<I: Input>(scanner: &mut Scanner<I>, kind: BracketKind, due: bool) -> Result<bool>
+fn skip_comma<I: Input>(scanner: &mut Scanner<I>, kind: BracketKind, comma_due: bool) -> Result<bool>
     requires { IsInside scanner.old }
-    ensures { Steps (due_comma (bracket_of kind) due scanner.old.unread) scanner.old scanner.new result }
+    ensures { Steps (due_comma (bracket_of kind) comma_due scanner.old.unread) scanner.old scanner.new result }
 {
-    if !due {
+    if !comma_due {
         return Ok(true);
     }
     scanner.skip_blank()?;
@@ -78,19 +78,19 @@ fn skip_comma<I: Input>(scanner: &mut Scanner<I>, kind: BracketKind, due: bool) 
 pub(crate) fn skip_to_entry<I: Input>(
     scanner: &mut Scanner<I>,
     kind: BracketKind,
-    due: bool,
+    comma_due: bool,
 ) -> Result<bool>
     requires { IsInside scanner.old }
-    ensures { Steps (next_entry (bracket_of kind) due scanner.old.unread) scanner.old scanner.new result }
+    ensures { Steps (next_entry (bracket_of kind) comma_due scanner.old.unread) scanner.old scanner.new result }
 {
     let closing = kind.brackets().closing;
-    match scanner.short_step(closing as u8, due) {
+    match scanner.short_step(closing as u8, comma_due) {
         ShortStep::Member => Ok(true),
         ShortStep::Closing => {
             let _ = scanner.eat(closing);
             Ok(false)
         }
-        ShortStep::Other => skip_to_entry_slowly(scanner, kind, due),
+        ShortStep::Other => skip_to_entry_slowly(scanner, kind, comma_due),
     }
 }
 
@@ -99,12 +99,12 @@ pub(crate) fn skip_to_entry<I: Input>(
 fn skip_to_entry_slowly<I: Input>(
     scanner: &mut Scanner<I>,
     kind: BracketKind,
-    due: bool,
+    comma_due: bool,
 ) -> Result<bool>
     requires { IsInside scanner.old }
-    ensures { Steps (next_entry (bracket_of kind) due scanner.old.unread) scanner.old scanner.new result }
+    ensures { Steps (next_entry (bracket_of kind) comma_due scanner.old.unread) scanner.old scanner.new result }
 {
-    let more = skip_comma(scanner, kind, due)?;
+    let more = skip_comma(scanner, kind, comma_due)?;
     if !more {
         return Ok(false);
     }
@@ -116,12 +116,12 @@ fn skip_to_entry_slowly<I: Input>(
 pub(crate) fn skip_to_value<I: Input>(
     scanner: &mut Scanner<I>,
     kind: BracketKind,
-    due: bool,
+    comma_due: bool,
 ) -> Result<bool>
     requires { IsInside scanner.old }
-    ensures { Steps (next_value (bracket_of kind) due scanner.old.unread) scanner.old scanner.new result }
+    ensures { Steps (next_value (bracket_of kind) comma_due scanner.old.unread) scanner.old scanner.new result }
 {
-    let more = skip_to_entry(scanner, kind, due)?;
+    let more = skip_to_entry(scanner, kind, comma_due)?;
     if !more {
         return Ok(false);
     }

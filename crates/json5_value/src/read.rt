@@ -92,12 +92,12 @@ fn resume_array<I: Input>(
     stack: &mut Vec<Unfinished>,
     start: usize,
     elements: Vec<Value>,
-    due: bool,
+    comma_due: bool,
 ) -> Result<Option<Value>>
     requires { IsInside scanner.old }
-    ensures { TurnsInside (array_at elements.items due scanner.old) start due stack.old.items stack.new.items scanner.old scanner.new result }
+    ensures { TurnsInside (array_at elements.items comma_due scanner.old) start comma_due stack.old.items stack.new.items scanner.old scanner.new result }
 {
-    match skip_to_value(scanner, BracketKind::Array, due) {
+    match skip_to_value(scanner, BracketKind::Array, comma_due) {
         Ok(true) => {
             stack.push(Unfinished::Array { start, elements })?;
             Ok(None)
@@ -113,12 +113,12 @@ fn resume_object<I: Input>(
     stack: &mut Vec<Unfinished>,
     start: usize,
     members: Vec<(String, Value)>,
-    due: bool,
+    comma_due: bool,
 ) -> Result<Option<Value>>
     requires { IsInside scanner.old }
-    ensures { TurnsInside (object_at members.items due scanner.old) start due stack.old.items stack.new.items scanner.old scanner.new result }
+    ensures { TurnsInside (object_at members.items comma_due scanner.old) start comma_due stack.old.items stack.new.items scanner.old scanner.new result }
 {
-    match next_member_key(scanner, due) {
+    match next_member_key(scanner, comma_due) {
         Ok(Some(key)) => {
             stack.push(Unfinished::Object {
                 start,

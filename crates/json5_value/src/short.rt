@@ -28,12 +28,12 @@ pub(crate) enum ShortEntry {
 pub(crate) fn short_entry<I: Input>(
     scanner: &mut Scanner<I>,
     kind: BracketKind,
-    due: bool,
+    comma_due: bool,
 ) -> ShortEntry
-    ensures { EntersShort kind due scanner.old scanner.new result }
+    ensures { EntersShort kind comma_due scanner.old scanner.new result }
 {
     let closing = kind.brackets().closing;
-    match scanner.short_step(closing as u8, due) {
+    match scanner.short_step(closing as u8, comma_due) {
         ShortStep::Other => ShortEntry::Other,
         ShortStep::Closing => {
             let _ = scanner.eat(closing);

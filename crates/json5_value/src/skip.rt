@@ -1,8 +1,8 @@
 //! Passing over values of any kind (JSON5 sections 2 to 6).
 
 ghost use Rattle.std.specs.Prelude.{◌≡◌, ◌<◌, ◌≤◌, Some, length, slice_get, true};
-ghost use Rattle.json5_grammar.specs.Documents.{max_depth};
-ghost use Rattle.json5_grammar.specs.Fronts.{opening};
+ghost use Rattle.json5_grammar.specs.Language.Documents.{max_depth};
+ghost use Rattle.json5_grammar.specs.Faults.Fronts.{opening};
 ghost use Rattle.json5_value.specs.Brackets.{bracket_of};
 ghost use Rattle.json5_value.specs.Opening.{AtScalar};
 ghost use Rattle.json5_value.specs.Steps.{IsInside, Steps, value_at};
@@ -82,13 +82,13 @@ fn resume_bracket<I: Input>(
     scanner: &mut Scanner<I>,
     brackets: &mut OpenBrackets,
     bracket: OpenBracket,
-    due: bool,
+    comma_due: bool,
 ) -> Result<bool>
     requires ready { IsInside scanner.old }
     requires place { length brackets.old.items < 128 }
-    ensures { TurnsInside due bracket brackets.old.items brackets.new.items scanner.old scanner.new result }
+    ensures { TurnsInside comma_due bracket brackets.old.items brackets.new.items scanner.old scanner.new result }
 {
-    match skip_to_value(scanner, bracket.kind, due) {
+    match skip_to_value(scanner, bracket.kind, comma_due) {
         Ok(true) => {
             brackets.push(bracket);
             Ok(true)
@@ -151,7 +151,7 @@ enum ShortTurn {
     /// A value is next that must be begun the longer way.
     Begins,
     /// The bracket isn't among the open ones, and must be gone on with the longer way, after a comma where one is due.
-    Within { bracket: OpenBracket, due: bool },
+    Within { bracket: OpenBracket, comma_due: bool },
     /// The object isn't among the open ones, and the key of its member is next.
     AtKey(OpenBracket),
     /// The value that was to be passed over has ended.
@@ -164,19 +164,19 @@ fn short_resume<I: Input>(
     scanner: &mut Scanner<I>,
     brackets: &mut OpenBrackets,
     bracket: OpenBracket,
-    due: bool,
+    comma_due: bool,
 ) -> ShortTurn
     requires { length brackets.old.items < 128 }
-    ensures { ResumesShort bracket due brackets.old.items brackets.new.items scanner.old scanner.new result }
+    ensures { ResumesShort bracket comma_due brackets.old.items brackets.new.items scanner.old scanner.new result }
 {
-    match short_entry(scanner, bracket.kind, due) {
+    match short_entry(scanner, bracket.kind, comma_due) {
         ShortEntry::Value => {
             brackets.push(bracket);
             ShortTurn::Value
         }
         ShortEntry::Key => ShortTurn::AtKey(bracket),
         ShortEntry::Closed => ShortTurn::Ended,
-        ShortEntry::Other => ShortTurn::Within { bracket, due },
+        ShortEntry::Other => ShortTurn::Within { bracket, comma_due },
     }
 }
 
@@ -267,8 +267,8 @@ pub fn skip_value<I: Input>(scanner: &mut Scanner<I>, room: usize) -> Result<()>
             ShortTurn::Value => true,
             ShortTurn::Ended => false,
             ShortTurn::Begins => begin_value(scanner, room, &mut brackets)?,
-            ShortTurn::Within { bracket, due } => {
-                resume_bracket(scanner, &mut brackets, bracket, due)?
+            ShortTurn::Within { bracket, comma_due } => {
+                resume_bracket(scanner, &mut brackets, bracket, comma_due)?
             }
             ShortTurn::AtKey(bracket) => resume_member(scanner, &mut brackets, bracket)?,
             ShortTurn::Whole => return Ok(()),

@@ -1,7 +1,7 @@
 //! Keys and values of one token, which are kept.
 
 ghost use Rattle.std.specs.Prelude.{◌≡◌};
-ghost use Rattle.json5_grammar.specs.ReadTexts.{key};
+ghost use Rattle.json5_grammar.specs.Model.ReadTexts.{key};
 ghost use Rattle.json5_text.specs.NumberViews.{number_of};
 ghost use Rattle.json5_text.specs.ValueViews as datum;
 ghost use Rattle.json5_text.specs.ValueViews.{value_of};
@@ -53,12 +53,12 @@ fn read_key<I: Input>(scanner: &mut Scanner<I>) -> Result<String>
 /// Goes to the value of the next member, after a comma where one is due, and returns its key; or passes over the closing brace.
 pub(crate) fn next_member_key<I: Input>(
     scanner: &mut Scanner<I>,
-    due: bool,
+    comma_due: bool,
 ) -> Result<Option<String>>
     requires { IsInside scanner.old }
-    ensures { Keeps IsNextKey (next_key due scanner.old.unread) scanner.old scanner.new result }
+    ensures { Keeps IsNextKey (next_key comma_due scanner.old.unread) scanner.old scanner.new result }
 {
-    let more = skip_to_entry(scanner, BracketKind::Object, due)?;
+    let more = skip_to_entry(scanner, BracketKind::Object, comma_due)?;
     if !more {
         return Ok(None);
     }

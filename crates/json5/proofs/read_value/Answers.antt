@@ -1,6 +1,6 @@
 use Rattle.std.proofs.Common.{◌≤◌, subst}
 use Rattle.std.specs.Str.{chars}
-use Rattle.json5_grammar.specs.Documents.{max_depth}
+use Rattle.json5_grammar.specs.Language.Documents.{max_depth}
 use Rattle.json5.proofs.AnyTexts.{reads_text}
 use Rattle.json5.proofs.read_value.Goals as goal
 

@@ -1,17 +1,17 @@
 //! The laws of blanks, words, values and documents.
 ghost use Rattle.std.specs.Prelude.{◌≡◌, ◌⊎◌, ℕ, ◌≤◌, Bool, true, not, if◌then◌else◌, List, [], ◌∷◌, ◌++◌};
-ghost use Rattle.json5_grammar.specs.Codes.{ErrorCode};
-ghost use Rattle.json5_grammar.specs.Blanks.{Blanks, LastBlanks, Gap, Solid, is_solid};
-ghost use Rattle.json5_grammar.specs.WordFaults.{Word};
-ghost use Rattle.json5_grammar.specs.Parts.{IsPrefix};
-ghost use Rattle.json5_grammar.specs.Blames.{Blame, BlankBlame, WordBlame, HasGap, IsBlamed, BlamesOnce};
-ghost use Rattle.json5_grammar.specs.Numbers.{Number};
-ghost use Rattle.json5_grammar.specs.NumberText.{IsNumber, number_text};
-ghost use Rattle.json5_grammar.specs.Quoting.{quoted_text};
-ghost use Rattle.json5_grammar.specs.Strings.{holds_backslash};
-ghost use Rattle.json5_grammar.specs.Trees.{Tree, null, boolean, number, text, depth};
-ghost use Rattle.json5_grammar.specs.Values.{Val, Stops, Reads, null_text, true_text, false_text};
-ghost use Rattle.json5_grammar.specs.Documents.{Doc};
+ghost use Rattle.json5_grammar.specs.Faults.Codes.{ErrorCode};
+ghost use Rattle.json5_grammar.specs.Language.Blanks.{Blanks, LastBlanks, Gap, Solid, is_solid};
+ghost use Rattle.json5_grammar.specs.Faults.Tokens.{Word};
+ghost use Rattle.json5_grammar.specs.Faults.Parts.{IsPrefix};
+ghost use Rattle.json5_grammar.specs.Faults.Blames.{Blame, BlankBlame, WordBlame, HasGap, IsBlamed, BlamesOnce};
+ghost use Rattle.json5_grammar.specs.Language.Numbers.{Number};
+ghost use Rattle.json5_grammar.specs.Written.NumberText.{IsNumber, number_text};
+ghost use Rattle.json5_grammar.specs.Written.Quoting.{quoted_text};
+ghost use Rattle.json5_grammar.specs.Language.Strings.{holds_backslash};
+ghost use Rattle.json5_grammar.specs.Language.Trees.{Tree, null, boolean, number, text, depth};
+ghost use Rattle.json5_grammar.specs.Language.Values.{Val, Stops, Reads, null_text, true_text, false_text};
+ghost use Rattle.json5_grammar.specs.Language.Documents.{Doc};
 
 /// A text has at most one tree, whatever the nesting limits.
 pub fn one_tree()

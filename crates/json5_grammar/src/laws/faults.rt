@@ -1,9 +1,9 @@
 //! The laws of the faults of a text, each the contract of a function that does nothing.
 ghost use Rattle.std.specs.Prelude.{◌⊎◌, ℕ, List, ◌++◌};
-ghost use Rattle.json5_grammar.specs.Blames.{Blame, TextBlame, ValueBlame, IsDocument, HasValue, IsBlamed, BlamesOnce, StandsByChar, ShownByChar, StandsIn, Shows};
-ghost use Rattle.json5_grammar.specs.Commits.{FrontsCommit, FrontsContinue, StringsContinue, NamesContinue};
-ghost use Rattle.json5_grammar.specs.Documents.{Begins};
-ghost use Rattle.json5_grammar.specs.Parts.{Part};
+ghost use Rattle.json5_grammar.specs.Faults.Blames.{Blame, TextBlame, ValueBlame, IsDocument, HasValue, IsBlamed, BlamesOnce, StandsByChar, ShownByChar, StandsIn, Shows};
+ghost use Rattle.json5_grammar.specs.Faults.Commits.{FrontsCommit, FrontsContinue, StringsContinue, NamesContinue};
+ghost use Rattle.json5_grammar.specs.Language.Documents.{Begins};
+ghost use Rattle.json5_grammar.specs.Faults.Parts.{Part};
 
 /// A text is a document, or it has a fault, of one code and one position, and then it is none.
 pub fn document_or_fault()

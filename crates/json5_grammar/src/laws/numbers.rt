@@ -1,13 +1,12 @@
 //! The laws of numbers, each the contract of a function that does nothing.
 ghost use Rattle.std.specs.Prelude.{◌≡◌, ◌⊎◌, ◌||◌, ℤ, List, ℕ, ◌++◌};
 ghost use Rattle.std.specs.Fmt.{signed_decimal};
-ghost use Rattle.json5_grammar.specs.Characters.{Begun};
-ghost use Rattle.json5_grammar.specs.Blames.{Blame, NumberBlame, HasNumber, IsBlamed, BlamesOnce, StandsByChar};
-ghost use Rattle.json5_grammar.specs.Numbers.{Num, Number, whole, decimal, Decimal, InWhole};
-ghost use Rattle.json5_grammar.specs.Stops.{EndsAt};
-ghost use Rattle.json5_grammar.specs.NumberFaults.{is_sign, begins_number};
-ghost use Rattle.json5_grammar.specs.NumberText.{decimal_text, number_text, Normal, IsNumber};
-ghost use Rattle.json5_grammar.specs.Parts.{IsPrefix, NumberPart};
+ghost use Rattle.json5_grammar.specs.Language.Characters.{Begun};
+ghost use Rattle.json5_grammar.specs.Faults.Blames.{Blame, NumberBlame, HasNumber, IsBlamed, BlamesOnce, StandsByChar};
+ghost use Rattle.json5_grammar.specs.Language.Numbers.{Num, Number, whole, decimal, Decimal, InWhole, EndsAt};
+ghost use Rattle.json5_grammar.specs.Faults.Tokens.{is_sign, begins_number};
+ghost use Rattle.json5_grammar.specs.Written.NumberText.{decimal_text, number_text, Normal, IsNumber};
+ghost use Rattle.json5_grammar.specs.Faults.Parts.{IsPrefix, NumberPart};
 
 /// A text has at most one front that is a number.
 pub fn one_number()

@@ -1,14 +1,14 @@
 //! The laws of strings, names and keys, each the contract of a function that does nothing.
 ghost use Rattle.std.specs.Prelude.{◌≡◌, ◌⊎◌, ◌||◌, ◌==◌, not, ℕ, Bool, true, List, [], ◌∷◌, ◌++◌};
-ghost use Rattle.json5_grammar.specs.Characters.{backslash, colon_sign, is_identifier_start};
-ghost use Rattle.json5_grammar.specs.Blames.{Blame, StringBlame, NameBlame, HasString, HasName, IsBlamed, BlamesOnce, StandsByChar, ShownByChar};
-ghost use Rattle.json5_grammar.specs.Strings.{Str, is_quote, holds_backslash, IsOpenString};
-ghost use Rattle.json5_grammar.specs.Names.{Ident, Key, EndedName, IsName};
-ghost use Rattle.json5_grammar.specs.Parts.{Part};
-ghost use Rattle.json5_grammar.specs.Quoting.{quoted_text, is_name, key_text};
+ghost use Rattle.json5_grammar.specs.Language.Characters.{backslash, colon_sign, is_identifier_start};
+ghost use Rattle.json5_grammar.specs.Faults.Blames.{Blame, StringBlame, NameBlame, HasString, HasName, IsBlamed, BlamesOnce, StandsByChar, ShownByChar};
+ghost use Rattle.json5_grammar.specs.Language.Strings.{Str, is_quote, holds_backslash, IsOpenString};
+ghost use Rattle.json5_grammar.specs.Language.Names.{Ident, Key, EndedName, IsName};
+ghost use Rattle.json5_grammar.specs.Faults.Parts.{Part};
+ghost use Rattle.json5_grammar.specs.Written.Quoting.{quoted_text, is_name, key_text};
 
-/// A string or a name is plain where it holds no backslash, and then its text is what is written there itself.
-pub fn plain_texts()
+/// A string or a name is escape-free where it holds no backslash, and then its text is what is written there itself.
+pub fn escape_free_texts()
     ensures strings { (s u : List ℕ) (p : Bool) → Str s u p → p ≡ not (holds_backslash s) }
     ensures names { (s u : List ℕ) (p : Bool) → Ident s u p → p ≡ not (holds_backslash s) }
     ensures inside { (s u : List ℕ) → Str s u true → (q : ℕ) × (is_quote q ≡ true) × (s ≡ q ∷ u ++ q ∷ []) }
@@ -36,8 +36,8 @@ pub fn text_or_fault()
 pub fn one_text_fault()
     ensures strings { BlamesOnce StringBlame }
     ensures names { BlamesOnce NameBlame }
-    ensures no_string { (s u r : List ℕ) (plain : Bool) (b : Blame) → Str s u plain → StringBlame (s ++ r) b → ⊥ }
-    ensures no_name { (s u r : List ℕ) (plain : Bool) (b : Blame) → EndedName s u plain r → NameBlame (s ++ r) b → ⊥ }
+    ensures no_string { (s u r : List ℕ) (escape_free : Bool) (b : Blame) → Str s u escape_free → StringBlame (s ++ r) b → ⊥ }
+    ensures no_name { (s u r : List ℕ) (escape_free : Bool) (b : Blame) → EndedName s u escape_free r → NameBlame (s ++ r) b → ⊥ }
 {}
 
 /// The part that a fault blames is a begun string, name or escape, or one character.
@@ -56,7 +56,7 @@ pub fn fault_stands()
 pub fn text_written()
     ensures texts { (u : List ℕ) → Str (quoted_text u) u (not (holds_backslash (quoted_text u))) }
     ensures names { (u : List ℕ) → is_name u ≡ true → Ident u u true }
-    ensures keys { (u r : List ℕ) → (plain : Bool) × Key (key_text u) (colon_sign ∷ r) u plain }
+    ensures keys { (u r : List ℕ) → (escape_free : Bool) × Key (key_text u) (colon_sign ∷ r) u escape_free }
 {}
 
 /// What comes before a fault is nothing, or is made a whole string by a quote, or is a name; through the character that shows
@@ -64,6 +64,6 @@ pub fn text_written()
 pub fn text_beginnings()
     ensures strings { (x : List ℕ) (b : Blame) → StringBlame x b → (b.before ≡ []) ⊎ IsOpenString b.before }
     ensures names { (x : List ℕ) (b : Blame) → NameBlame x b → (b.before ≡ []) ⊎ IsName b.before }
-    ensures no_string { (x s u z r : List ℕ) (plain : Bool) (b : Blame) → ShownByChar StringBlame x b → Str s u plain → (b.before ++ b.part) ++ z ≡ s ++ r → ⊥ }
-    ensures no_name { (x s u z r : List ℕ) (plain : Bool) (b : Blame) → ShownByChar NameBlame x b → EndedName s u plain r → (b.before ++ b.part) ++ z ≡ s ++ r → ⊥ }
+    ensures no_string { (x s u z r : List ℕ) (escape_free : Bool) (b : Blame) → ShownByChar StringBlame x b → Str s u escape_free → (b.before ++ b.part) ++ z ≡ s ++ r → ⊥ }
+    ensures no_name { (x s u z r : List ℕ) (escape_free : Bool) (b : Blame) → ShownByChar NameBlame x b → EndedName s u escape_free r → (b.before ++ b.part) ++ z ≡ s ++ r → ⊥ }
 {}

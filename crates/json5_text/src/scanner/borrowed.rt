@@ -63,7 +63,7 @@ impl<'de, I: Borrows<'de>> Scanner<I> {
         ensures { IsCowOf self.now.input token result }
     {
         match token {
-            TextToken::Plain { start, end } => CowStr::Borrowed(between(
+            TextToken::EscapeFree { start, end } => CowStr::Borrowed(between(
                 self.input.as_borrowed(),
                 start,
                 end,
@@ -88,7 +88,7 @@ impl<I: Input> Scanner<I> {
         ensures { IsTextOf self.now.input token.now result.now }
     {
         match token {
-            TextToken::Plain { start, end } => between(self.input.as_text(), *start, *end),
+            TextToken::EscapeFree { start, end } => between(self.input.as_text(), *start, *end),
             TextToken::Escaped(text) => text.as_str(),
         }
     }

@@ -41,8 +41,8 @@ impl<I: Input> Scanner<I> {
         ensures { MadeOf self.now refusal result }
     {
         match refusal {
-            Refusal::Code(code, None) => Error::new(code),
-            Refusal::Code(code, Some(left)) => Error::new_at(self.position_where_left(left), code),
+            Refusal::TokenError { code, remaining: None } => Error::new(code),
+            Refusal::TokenError { code, remaining: Some(left) } => Error::new_at(self.position_where_left(left), code),
             Refusal::InvalidNumber(left) => self.custom(
                 self.position_where_left(left),
                 "invalid number",

@@ -1,7 +1,7 @@
 use Rattle.std.proofs.Common.{◌≡◌, pos, nat_abs, ap, sym, ◌∙◌, subst}
 use Rattle.std.specs.Fmt.{decimal}
-use Rattle.json5_grammar.specs.Characters.{is_digit, Each}
-use Rattle.json5_grammar.specs.Numbers.{normal_exponent, InExponents}
+use Rattle.json5_grammar.specs.Language.Characters.{is_digit, Each}
+use Rattle.json5_grammar.specs.Language.Numbers.{normal_exponent, InExponents}
 use Rattle.json5_de.proofs.WholeDecimals.{whole_digits}
 use Rattle.json5_de.proofs.decimals.same_decimal.Goals as goal
 

@@ -48,7 +48,7 @@ returns-in_err-end-clause-complete g c =
 
 pub returns-in_err-end-clause-refused : goal.returns-in_err-end-clause-refused
 returns-in_err-end-clause-refused g c =
-    let (at, due, none) = rw c.in_default.is at c.in_ok-key.ensures.sound in closes_there (map_state_of c.loop-map.map) (map_state_of c.next_key.new.self) _ _ at (c.in_err-end.ensures.alone (search rules))
+    let (at, comma_due, none) = rw c.in_default.is at c.in_ok-key.ensures.sound in closes_there (map_state_of c.loop-map.map) (map_state_of c.next_key.new.self) _ _ at (c.in_err-end.ensures.alone (search rules))
 
 pub returns-clause-sound : goal.returns-clause-sound
 returns-clause-sound g c = (

@@ -1,8 +1,8 @@
 use Rattle.json5_text.specs.Bytes.{bytes_of}
 use Rattle.json5_text.specs.Cows.{cow_bytes, is_borrowed}
 use Rattle.json5_text.specs.ValueViews.{value_of}
-use Rattle.json5_de.specs.Convert.{every_datum, natural_below, integer_below, every_text, one_character, if_plain, index_of, every_cow}
-use Rattle.json5_de.specs.TokenKinds.{every_tree, no_tree, plain_text, text_bytes, slice_bytes}
+use Rattle.json5_de.specs.Convert.{every_datum, natural_below, integer_below, every_text, one_character, if_escape_free, index_of, every_cow}
+use Rattle.json5_de.specs.TokenKinds.{every_tree, no_tree, escape_free_text, text_bytes, slice_bytes}
 use Rattle.json5_de.proofs.TokenKinds.{tells_apart, lawful_null, lawful_bool, lawful_whole, lawful_decimal, lawful_text, lawful_bytes}
 use Rattle.json5_de.proofs.TreeCodes.{tells_trees_apart}
 use Rattle.json5_de.proofs.laws.value_codes.Goals as goal
@@ -26,16 +26,16 @@ pub returns-clause-string : goal.returns-clause-string
 returns-clause-string c = tells_apart (lawful_text every_text no_tree) text_bytes
 
 pub returns-clause-character : goal.returns-clause-character
-returns-clause-character c = tells_apart (lawful_text one_character plain_text) (λ c. c)
+returns-clause-character c = tells_apart (lawful_text one_character escape_free_text) (λ c. c)
 
-pub returns-clause-plain : goal.returns-clause-plain
-returns-clause-plain c = tells_apart (lawful_text if_plain every_tree) slice_bytes
+pub returns-clause-escape_free : goal.returns-clause-escape_free
+returns-clause-escape_free c = tells_apart (lawful_text if_escape_free every_tree) slice_bytes
 
 pub returns-clause-variant : goal.returns-clause-variant
-returns-clause-variant c names = tells_apart (lawful_text (index_of names) plain_text) (λ n. n)
+returns-clause-variant c names = tells_apart (lawful_text (index_of names) escape_free_text) (λ n. n)
 
 pub returns-clause-cow : goal.returns-clause-cow
-returns-clause-cow c = tells_apart (lawful_text every_cow plain_text) (λ t. (cow_bytes t, is_borrowed t))
+returns-clause-cow c = tells_apart (lawful_text every_cow escape_free_text) (λ t. (cow_bytes t, is_borrowed t))
 
 pub returns-clause-bytes : goal.returns-clause-bytes
 returns-clause-bytes c = tells_apart lawful_bytes bytes_of

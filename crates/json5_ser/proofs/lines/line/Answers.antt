@@ -1,5 +1,5 @@
 use Rattle.std.proofs.Common.{◌∙◌}
-use Rattle.json5_grammar.specs.Documents.{max_depth}
+use Rattle.json5_grammar.specs.Language.Documents.{max_depth}
 use Rattle.json5_ser.proofs.LineStarts.{shorter_line, line_boundary, line_chars}
 use Rattle.json5_ser.proofs.lines.line.Goals as goal
 

@@ -1,7 +1,7 @@
 use Rattle.std.proofs.Common.{◌≡◌, length}
 use Rattle.std.specs.List.{list_all}
 use Rattle.std.specs.Str.{chars, IsUtf8}
-use Rattle.json5_grammar.specs.Characters.{is_identifier_part}
+use Rattle.json5_grammar.specs.Language.Characters.{is_identifier_part}
 use Rattle.json5_ser.proofs.names.are_parts.Given as goal
 
 abbrev pub invariant-loop-c : goal.invariant-loop-c

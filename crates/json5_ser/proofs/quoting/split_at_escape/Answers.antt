@@ -12,16 +12,16 @@ returns-in-Some-escape c =
 pub loop-c-smaller : goal.loop-c-smaller
 loop-c-smaller c =
     let less = shorter _ _ _ c.in-Some.ensures in
-    let same = run_shorter _ _ c.in-Some.ensures.utf8 c.skip_plain-rest-in-Some.ensures.utf8 c.skip_plain-rest-in-Some.ensures.skips in
+    let same = run_shorter _ _ c.in-Some.ensures.utf8 c.skip_escape_free-rest-in-Some.ensures.utf8 c.skip_escape_free-rest-in-Some.ensures.skips in
     omega arith
 
 pub loop-c-preserved : goal.loop-c-preserved
 loop-c-preserved c =
     let next = stands_next _ _ _ _ _ (is_delimiter c.args.quote) c.loop-c.invariant c.in-Some.ensures (rw c.delimiter.ensures at (c.in_default-escape.ensures.none.0 refl)) in
-    stands_run c.args.quote _ _ _ next c.skip_plain-rest-in-Some.ensures.utf8 c.skip_plain-rest-in-Some.ensures.skips
+    stands_run c.args.quote _ _ _ next c.skip_escape_free-rest-in-Some.ensures.utf8 c.skip_escape_free-rest-in-Some.ensures.skips
 
 pub loop-c-init : goal.loop-c-init
-loop-c-init c = stands_run c.args.quote _ _ _ (stands_first _ _ c.utf8.text) c.skip_plain-rest.ensures.utf8 c.skip_plain-rest.ensures.skips
+loop-c-init c = stands_run c.args.quote _ _ _ (stands_first _ _ c.utf8.text) c.skip_escape_free-rest.ensures.utf8 c.skip_escape_free-rest.ensures.skips
 
 pub returns : goal.returns
 returns c = stands_all _ _ _ c.loop-c.invariant c.in_default.ensures

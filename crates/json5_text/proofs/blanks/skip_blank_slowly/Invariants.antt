@@ -2,7 +2,7 @@ use Rattle.std.proofs.Common.{◌≡◌, length, ◌≤◌}
 use denote.Text.{Utf8}
 use denote.Shadow.{shadow}
 use Rattle.std.specs.Str.{chars}
-use Rattle.json5_grammar.specs.ReadBlanks.{skip, between}
+use Rattle.json5_grammar.specs.Model.ReadBlanks.{skip, between}
 use Rattle.json5_text.proofs.blanks.skip_blank_slowly.Given as goal
 
 abbrev pub invariant-loop-c : goal.invariant-loop-c

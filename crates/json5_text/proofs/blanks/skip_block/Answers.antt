@@ -1,7 +1,7 @@
 use Rattle.std.proofs.Common.{◌∙◌, ap, sym, refl, arith, rules}
 use Rattle.std.specs.Prelude.{◌==◌}
 use Rattle.std.specs.Str.{chars}
-use Rattle.json5_grammar.specs.Characters.{NotBegun}
+use Rattle.json5_grammar.specs.Language.Characters.{NotBegun}
 use Rattle.std.specs.List.{prefix_len}
 use Rattle.json5_text.specs.ByteRuns.{is_no_star}
 use Rattle.json5_text.proofs.ScanSteps.{block_none, block_end, block_star}

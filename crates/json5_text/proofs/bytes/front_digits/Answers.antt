@@ -1,6 +1,6 @@
 use Rattle.std.proofs.Common.{◌≡◌, ◌∙◌, sym, true, arith}
 use Rattle.std.specs.Prelude.{slice_index}
-use Rattle.json5_grammar.specs.Characters.{is_digit}
+use Rattle.json5_grammar.specs.Language.Characters.{is_digit}
 use Rattle.json5_text.proofs.FewDigits.{digit_here, one_digit, digit_high}
 use Rattle.json5_text.proofs.bytes.front_digits.Goals as goal
 

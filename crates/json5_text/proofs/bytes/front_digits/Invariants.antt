@@ -1,8 +1,8 @@
 use Rattle.std.proofs.Common.{◌≡◌, ◌+◌, ◌-◌, ◌<◌, ◌≤◌, ◌^◌, length, drop}
 use Rattle.std.specs.List.{prefix_len}
-use Rattle.json5_grammar.specs.Characters.{is_digit}
-use Rattle.json5_grammar.specs.Numbers.{spelled}
-use Rattle.json5_grammar.specs.ReadNumbers.{front_of}
+use Rattle.json5_grammar.specs.Language.Characters.{is_digit}
+use Rattle.json5_grammar.specs.Language.Numbers.{spelled}
+use Rattle.json5_grammar.specs.Model.ReadNumbers.{front_of}
 use Rattle.json5_text.proofs.bytes.front_digits.Given as goal
 
 abbrev pub invariant-loop-i : goal.invariant-loop-i

@@ -1,6 +1,6 @@
 use Rattle.std.proofs.Common.{refl, sym, ap, ◌∙◌, arith}
 use lib.Count.{count_trailing_zeros}
-use Rattle.json5_grammar.specs.Strings.{is_raw}
+use Rattle.json5_grammar.specs.Language.Strings.{is_raw}
 use Rattle.json5_text.specs.ByteRuns.{ends_raw}
 use Rattle.json5_text.proofs.ByteSearch.{run_bound, run_through, run_stops}
 use Rattle.json5_text.proofs.bytes.raw_end.Goals as goal

@@ -1,6 +1,6 @@
 use Rattle.std.proofs.Common.{◌≡◌, ◌+◌, ◌-◌, ◌≤◌, length, drop}
 use Rattle.std.specs.List.{prefix_len}
-use Rattle.json5_grammar.specs.Strings.{is_raw}
+use Rattle.json5_grammar.specs.Language.Strings.{is_raw}
 use Rattle.json5_text.proofs.bytes.raw_end_slowly.Given as goal
 
 abbrev pub invariant-loop-i : goal.invariant-loop-i

@@ -1,4 +1,4 @@
-use Rattle.json5_grammar.specs.Characters.{is_digit}
+use Rattle.json5_grammar.specs.Language.Characters.{is_digit}
 use Rattle.std.proofs.Common.{subst}
 use Rattle.json5_text.specs.ByteRuns.{IsFewDigits}
 use Rattle.json5_text.proofs.FewDigits.{few_found}

@@ -1,5 +1,5 @@
 use Rattle.std.proofs.Common.{sym, ap, ◌∙◌, arith}
-use Rattle.json5_grammar.specs.Characters.{is_start_category}
+use Rattle.json5_grammar.specs.Language.Characters.{is_start_category}
 use Rattle.json5_text.proofs.AsciiNames.{ascii_start, start_past}
 use Rattle.json5_text.proofs.char.is_json5_identifier_start.Goals as goal
 

@@ -1,6 +1,6 @@
 use Rattle.std.proofs.Common.{◌≡◌, ◌^◌, drop}
-use Rattle.json5_grammar.specs.Characters.{is_digit, Each}
-use Rattle.json5_grammar.specs.NumberSteps.{checked}
+use Rattle.json5_grammar.specs.Language.Characters.{is_digit, Each}
+use Rattle.json5_grammar.specs.Model.NumberSteps.{checked}
 use Rattle.json5_text.proofs.digits.decimal_value.Given as goal
 
 abbrev pub invariant-loop-byte : goal.invariant-loop-byte

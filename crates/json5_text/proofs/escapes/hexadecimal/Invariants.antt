@@ -2,7 +2,7 @@ use Rattle.std.proofs.Common.{◌≡◌, ◌-◌, ◌^◌, ◌<◌, ◌≤◌}
 use denote.Text.{Utf8}
 use denote.Shadow.{shadow}
 use Rattle.std.specs.Str.{chars}
-use Rattle.json5_grammar.specs.ReadTexts.{hex}
+use Rattle.json5_grammar.specs.Model.ReadTexts.{hex}
 use Rattle.json5_text.proofs.escapes.hexadecimal.Given as goal
 
 abbrev pub invariant-loop-wanted : goal.invariant-loop-wanted

@@ -1,8 +1,8 @@
 use Rattle.std.proofs.Common.{length, Some, None, sym, ap, ◌∙◌}
 use Rattle.std.specs.Str.{chars}
 use Rattle.std.proofs.lemmas.Str.{encodes-chars}
-use Rattle.json5_grammar.specs.Reading.{got}
-use Rattle.json5_grammar.specs.ReadTexts.{second, paired}
+use Rattle.json5_grammar.specs.Model.Reading.{got}
+use Rattle.json5_grammar.specs.Model.ReadTexts.{second, paired}
 use Rattle.json5_text.specs.Outcome.{failed, outcome}
 use Rattle.std.proofs.lemmas.Result.{err_from_is_err_and}
 use Rattle.json5_text.proofs.ScanFaults.{code_known}

@@ -1,7 +1,7 @@
 use Rattle.std.proofs.Common.{sym, ap, ◌∙◌}
 use Rattle.std.specs.Str.{chars}
-use Rattle.json5_grammar.specs.Reading.{got}
-use Rattle.json5_grammar.specs.ReadTexts.{hex, first, unicode_at}
+use Rattle.json5_grammar.specs.Model.Reading.{got}
+use Rattle.json5_grammar.specs.Model.ReadTexts.{hex, first, unicode_at}
 use Rattle.std.proofs.lemmas.Result.{err_from_is_err_and}
 use Rattle.json5_text.proofs.ScanEscapes.{then_refuses, unicode_then, unicode_single, unicode_surrogate}
 use Rattle.json5_text.proofs.escapes.unicode_escape.Goals as goal

@@ -2,9 +2,9 @@ use Rattle.std.proofs.Common.{◌≡◌, arith, refl, ap, sym, ◌∙◌}
 use mathlib.Core.Bool.{true≢false}
 use Rattle.std.specs.Char.{digit_value}
 use Rattle.std.specs.Str.{chars}
-use Rattle.json5_grammar.specs.Numbers.{whole}
-use Rattle.json5_grammar.specs.Reading.{got}
-use Rattle.json5_grammar.specs.ReadNumbers.{hex_digits}
+use Rattle.json5_grammar.specs.Language.Numbers.{whole}
+use Rattle.json5_grammar.specs.Model.Reading.{got}
+use Rattle.json5_grammar.specs.Model.ReadNumbers.{hex_digits}
 use Rattle.json5_text.proofs.NumberSteps.{failed_here, hexadecimal_other, hexadecimal_past, hexadecimal_large, hexadecimal_whole}
 use Rattle.json5_text.proofs.hexadecimal.hexadecimal.Goals as goal
 

@@ -2,7 +2,7 @@ use Rattle.std.proofs.Common.{◌≡◌, ◌<◌, ◌^◌, length}
 use denote.Text.{Utf8}
 use denote.Shadow.{shadow}
 use Rattle.std.specs.Str.{chars}
-use Rattle.json5_grammar.specs.ReadNumbers.{hex_digits}
+use Rattle.json5_grammar.specs.Model.ReadNumbers.{hex_digits}
 use Rattle.json5_text.proofs.hexadecimal.hexadecimal_digits.Given as goal
 
 abbrev pub invariant-loop-byte : goal.invariant-loop-byte

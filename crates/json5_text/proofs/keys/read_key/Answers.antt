@@ -23,12 +23,12 @@ pub new-requires-clause-fits : goal.new-requires-clause-fits
 new-requires-clause-fits c =
     let given = c.in_ok-name.ensures in
     borrowed_fits c.in_ok-name.name c.args.text.now c.utf8.text given.is_text
-    (name_body (chars c.args.text.now) given.spelled (chars c.in_ok-name.rest.now) given.plain given.read)
+    (name_body (chars c.args.text.now) given.spelled (chars c.in_ok-name.rest.now) given.escape_free given.read)
 
 pub returns : goal.returns
 returns c =
     let given = c.in_ok-name.ensures in
     gives_token c.args.end _ c.new.result c.in_ok-name.name [] (chars c.args.text.now) (chars c.args.text.now) c.in_ok-name.rest.now refl
     (key_name c.in-Some.c (chars c.args.text.now) _ c.in-Some.ensures.chars (sym c.if-is_quote.ensures)) given
-    (name_body (chars c.args.text.now) given.spelled (chars c.in_ok-name.rest.now) given.plain given.read)
+    (name_body (chars c.args.text.now) given.spelled (chars c.in_ok-name.rest.now) given.escape_free given.read)
     (left_counted c.args.text.now c.utf8.text) c.new.ensures

@@ -1,7 +1,7 @@
 use Rattle.std.proofs.Common.{◌≡◌, true, ◌||◌, ◌∙◌, sym, rules}
 use Rattle.std.specs.Prelude.{◌==◌}
 use Rattle.std.specs.Str.{chars}
-use Rattle.json5_grammar.specs.Characters.{NotBegun}
+use Rattle.json5_grammar.specs.Language.Characters.{NotBegun}
 use Rattle.json5_text.proofs.DecimalRuns.{no_exponent, rest_all, no_mark, signed_tail}
 use Rattle.json5_text.proofs.literals.read_exponent.Goals as goal
 

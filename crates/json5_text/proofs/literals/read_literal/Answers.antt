@@ -1,16 +1,16 @@
 use Rattle.std.proofs.Common.{◌∙◌, rules}
 use Rattle.std.specs.Prelude.{◌==◌}
-use Rattle.json5_grammar.specs.Characters.{NotBegun}
+use Rattle.json5_grammar.specs.Language.Characters.{NotBegun}
 use Rattle.std.specs.Str.{chars}
 use Rattle.json5_text.specs.NumberParts.{run_of}
 use Rattle.json5_text.proofs.NumberLiterals.{point_without_digits, point_without_exponent, point_found}
-use Rattle.json5_text.proofs.DecimalRuns.{run_plain, run_pointed, rest_past_digits, ends_pointed, whole_literal}
+use Rattle.json5_text.proofs.DecimalRuns.{run_escape_free, run_pointed, rest_past_digits, ends_pointed, whole_literal}
 use Rattle.json5_text.proofs.literals.read_literal.Goals as goal
 
 pub returns-in_default : goal.returns-in_default
 returns-in_default c =
     let other : NotBegun (λ c. c == 46) (chars c.split_digits.result.1.now) = search rules in
-    whole_literal c.args.text.now c.split_digits.result.1.now _ _ _ (run_plain (chars c.args.text.now) _ _ c.split_digits.ensures.front c.split_digits.ensures.rest other)
+    whole_literal c.args.text.now c.split_digits.result.1.now _ _ _ (run_escape_free (chars c.args.text.now) _ _ c.split_digits.ensures.front c.split_digits.ensures.rest other)
     (rw c.split_digits.ensures.rest (rest_past_digits (chars c.args.text.now))) c.read_without_point.ensures
 
 pub returns-then-not-has_digits : goal.returns-then-not-has_digits

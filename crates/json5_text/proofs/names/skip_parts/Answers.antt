@@ -1,5 +1,5 @@
 use Rattle.std.proofs.Common.{◌≡◌, [], ◌∷◌, true, arith}
-use Rattle.json5_grammar.specs.Characters.{no_char, char}
+use Rattle.json5_grammar.specs.Language.Characters.{no_char, char}
 use Rattle.json5_text.specs.ScanTexts.{is_raw_part}
 use Rattle.json5_text.proofs.ScanRuns.{more_of}
 use Rattle.json5_text.proofs.names.skip_parts.Goals as goal

@@ -2,7 +2,7 @@ use Rattle.std.proofs.Common.{◌≡◌, ℕ, List, ◌++◌, length}
 use denote.Text.{Utf8}
 use denote.Shadow.{shadow}
 use Rattle.std.specs.Str.{chars}
-use Rattle.json5_grammar.specs.Characters.{Each}
+use Rattle.json5_grammar.specs.Language.Characters.{Each}
 use Rattle.json5_text.specs.ScanTexts.{is_raw_part}
 use Rattle.json5_text.proofs.names.skip_parts.Given as goal
 

@@ -1,6 +1,6 @@
 use Rattle.std.proofs.Common.{◌≡◌, true, rules}
 use Rattle.std.specs.Str.{chars}
-use Rattle.json5_grammar.specs.Characters.{is_digit}
+use Rattle.json5_grammar.specs.Language.Characters.{is_digit}
 use Rattle.json5_text.proofs.NumberSteps.{failed_here}
 use Rattle.json5_text.proofs.NumberCases.{zero_leads}
 use Rattle.json5_text.proofs.numbers.after_zero.Goals as goal

@@ -1,6 +1,6 @@
 use Rattle.std.proofs.Common.{◌≡◌, ◌≢◌, true, false, ap, rules}
 use Rattle.std.specs.Str.{chars}
-use Rattle.json5_grammar.specs.Stops.{begins_run}
+use Rattle.json5_grammar.specs.Language.Numbers.{begins_run}
 use Rattle.json5_text.specs.Outcome.{outcome}
 use Rattle.json5_text.proofs.NumberSteps.{failed_here}
 use Rattle.json5_text.proofs.NumberCases.{unsigned_ends, unsigned_infinity, unsigned_nan, unsigned_zero, unsigned_run, unsigned_other}

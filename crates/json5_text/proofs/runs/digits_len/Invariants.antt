@@ -1,6 +1,6 @@
 use Rattle.std.proofs.Common.{◌≡◌, ◌+◌, ◌-◌, ◌≤◌, length, drop}
 use Rattle.std.specs.List.{prefix_len}
-use Rattle.json5_grammar.specs.Characters.{is_digit}
+use Rattle.json5_grammar.specs.Language.Characters.{is_digit}
 use Rattle.json5_text.proofs.runs.digits_len.Given as goal
 
 abbrev pub invariant-loop-i : goal.invariant-loop-i

@@ -1,7 +1,7 @@
 use Rattle.std.proofs.Common.{◌≡◌, ◌≤◌, length, take}
 use Rattle.std.specs.Prelude.{reverse}
 use Rattle.std.specs.Str.{IsCharBoundary}
-use Rattle.json5_grammar.specs.Numbers.{without_front_zeros}
+use Rattle.json5_grammar.specs.Language.Numbers.{without_front_zeros}
 use Rattle.json5_text.proofs.runs.without_back_zeros.Given as goal
 
 abbrev pub invariant-loop-end : goal.invariant-loop-end

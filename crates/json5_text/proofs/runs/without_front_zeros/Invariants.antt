@@ -1,6 +1,6 @@
 use Rattle.std.proofs.Common.{◌≡◌, ◌-◌, ◌≤◌, length, drop}
 use Rattle.std.specs.Str.{IsCharBoundary}
-use Rattle.json5_grammar.specs.Numbers.{without_front_zeros}
+use Rattle.json5_grammar.specs.Language.Numbers.{without_front_zeros}
 use Rattle.json5_text.proofs.runs.without_front_zeros.Given as goal
 
 abbrev pub invariant-loop-start : goal.invariant-loop-start

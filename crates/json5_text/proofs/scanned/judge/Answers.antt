@@ -3,8 +3,8 @@ use mathlib.Core.Bool.{true≢false}
 use Rattle.std.specs.Str.{chars}
 use Rattle.std.proofs.lemmas.Int.{ints, to_z-of_z}
 use mir.Syntax.{w128}
-use Rattle.json5_grammar.specs.Numbers.{whole}
-use Rattle.json5_grammar.specs.Reading.{got}
+use Rattle.json5_grammar.specs.Language.Numbers.{whole}
+use Rattle.json5_grammar.specs.Model.Reading.{got}
 use Rattle.json5_text.specs.NumberParts.{parts_of}
 use Rattle.json5_text.proofs.NumberSteps.{failed_here}
 use Rattle.json5_text.proofs.NumberJudged.{after_or, after_each, judged_whole, found_is, not_whole, literal_decimal, literal_past}

@@ -1,6 +1,6 @@
 use Rattle.std.proofs.Common.{◌∙◌, sym}
 use mathlib.Core.Bool.{true≢false}
-use Rattle.json5_grammar.specs.Numbers.{signed, spelled}
+use Rattle.json5_grammar.specs.Language.Numbers.{signed, spelled}
 use Rattle.json5_grammar.proofs.NumberTests.{in_whole_yes, in_whole_true}
 use Rattle.json5_text.specs.NumberParts.{raised_of}
 use Rattle.json5_text.proofs.NumberJudged.{whole_at, value_found, value_past}

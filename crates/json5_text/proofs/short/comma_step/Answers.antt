@@ -1,5 +1,5 @@
 use Rattle.std.proofs.Common.{refl, subst}
-use Rattle.json5_grammar.specs.Characters.{comma_sign}
+use Rattle.json5_grammar.specs.Language.Characters.{comma_sign}
 use Rattle.json5_text.specs.Short.{IsInFront}
 use Rattle.json5_text.proofs.ShortSteps.{closing_found, if_comma}
 use Rattle.json5_text.proofs.short.comma_step.Goals as goal

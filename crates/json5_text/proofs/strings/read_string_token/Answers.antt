@@ -15,7 +15,7 @@ new-requires-clause-fits c =
     let opened = c.in_ok-quote.ensures in
     let given = c.in_ok-string.ensures in
     borrowed_fits c.in_ok-string.string c.in_ok-quote.body.now opened.text given.is_text
-    (string_body (quote_of c.in_ok-quote.quote) (chars c.args.text.now) (chars c.in_ok-quote.body.now) given.spelled (chars c.in_ok-string.rest.now) given.plain opened.split (opened.read ∙ given.read))
+    (string_body (quote_of c.in_ok-quote.quote) (chars c.args.text.now) (chars c.in_ok-quote.body.now) given.spelled (chars c.in_ok-string.rest.now) given.escape_free opened.split (opened.read ∙ given.read))
 
 pub returns : goal.returns
 returns c =
@@ -23,5 +23,5 @@ returns c =
     let given = c.in_ok-string.ensures in
     let q = quote_of c.in_ok-quote.quote in
     gives_token c.args.end _ c.new.result c.in_ok-string.string (q ∷ []) (chars c.args.text.now) (chars c.in_ok-quote.body.now) c.in_ok-string.rest.now opened.split opened.read given
-    (string_body q (chars c.args.text.now) (chars c.in_ok-quote.body.now) given.spelled (chars c.in_ok-string.rest.now) given.plain opened.split (opened.read ∙ given.read))
+    (string_body q (chars c.args.text.now) (chars c.in_ok-quote.body.now) given.spelled (chars c.in_ok-string.rest.now) given.escape_free opened.split (opened.read ∙ given.read))
     (left_counted c.in_ok-quote.body.now opened.text) c.new.ensures

@@ -2,11 +2,11 @@ use Rattle.std.proofs.Common.{[], ◌++◌, true, false, ◌&&◌, sym, ap, ◌�
 use Rattle.std.specs.Str.{chars}
 use Rattle.std.proofs.lemmas.List.{append-nil}
 use Rattle.std.proofs.lemmas.Result.{err_from_is_err_and}
-use Rattle.json5_grammar.specs.Reading.{got}
+use Rattle.json5_grammar.specs.Model.Reading.{got}
 use Rattle.json5_grammar.proofs.StringsRead.{put_none}
 use Rattle.json5_text.specs.Scan.{in_list}
 use Rattle.json5_text.specs.ScanTexts.{text_at, GoesOn, left_in}
-use Rattle.json5_text.proofs.ScanTexts.{goes_past, refused_past, bytes_past, never_plain}
+use Rattle.json5_text.proofs.ScanTexts.{goes_past, refused_past, bytes_past, never_escape_free}
 use Rattle.json5_text.proofs.texts.read_escaped.Goals as goal
 
 pub loop-stop-init : goal.loop-stop-init
@@ -16,8 +16,8 @@ pub returns-in-End : goal.returns-in-End
 returns-in-End c =
     let at = c.loop-stop.invariant in
     let end = subst (GoesOn (text_at c.args.kind (chars c.args.escape.now)) at.0 at.1) c.in-End.is at.2 in
-    let plain = never_plain c.args.kind _ _ at.0 _ at.1 c.requires end.read in
-    record { spelled = at.0; read = end.read ∙ ap (λ p. got (at.0, p) (chars c.in-End.rest.now)) plain; whole = at.3; text = end.text }
+    let escape_free = never_escape_free c.args.kind _ _ at.0 _ at.1 c.requires end.read in
+    record { spelled = at.0; read = end.read ∙ ap (λ p. got (at.0, p) (chars c.in-End.rest.now)) escape_free; whole = at.3; text = end.text }
 
 pub read_step-requires : goal.read_step-requires
 read_step-requires c =

@@ -1,7 +1,7 @@
 use Rattle.std.proofs.Common.{true, false, ap, sym, ◌∙◌, arith}
 use Rattle.std.specs.Str.{chars}
 use Rattle.std.proofs.lemmas.Result.{err_from_is_err_and}
-use Rattle.json5_grammar.specs.ReadTexts.{put}
+use Rattle.json5_grammar.specs.Model.ReadTexts.{put}
 use Rattle.json5_text.specs.Scan.{in_list}
 use Rattle.json5_text.specs.ScanTexts.{text_at}
 use Rattle.json5_text.proofs.ScanFaults.{code_known}

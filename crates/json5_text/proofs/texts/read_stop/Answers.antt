@@ -1,6 +1,6 @@
 use Rattle.std.proofs.Common.{ap, sym, ◌∙◌, subst, arith, Some, None}
 use Rattle.std.specs.Str.{chars}
-use Rattle.json5_grammar.specs.Characters.{NotBegun}
+use Rattle.json5_grammar.specs.Language.Characters.{NotBegun}
 use Rattle.json5_grammar.specs.declared.code.ErrorCode.TheVariants.{ExpectedIdentifier, LineTerminatorInString}
 use Rattle.json5_text.specs.Outcome.{outcome, failed}
 use Rattle.json5_text.specs.ScanTexts.{is_raw_in}

@@ -2,7 +2,7 @@ use Rattle.std.proofs.Common.{◌≡◌, length}
 use denote.Text.{Utf8}
 use denote.Shadow.{shadow}
 use Rattle.std.specs.Str.{chars}
-use Rattle.json5_grammar.specs.ReadValues.{word_at}
+use Rattle.json5_grammar.specs.Model.ReadValues.{word_at}
 use Rattle.json5_text.proofs.words.skip_word.Given as goal
 
 abbrev pub invariant-loop-letter : goal.invariant-loop-letter

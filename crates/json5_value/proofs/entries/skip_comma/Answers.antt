@@ -1,29 +1,29 @@
 use Rattle.std.proofs.Common.{true, false, Ok, Err, refl}
 use Rattle.std.proofs.lemmas.Result.{err_from_is_err_and}
 use Rattle.json5_value.specs.Brackets.{bracket_of}
-use Rattle.json5_value.proofs.EntrySteps.{comma_due, none_due, comma_blanks, comma_taken, comma_closed, comma_missing}
+use Rattle.json5_value.proofs.EntrySteps.{after_comma_due, none_due, comma_blanks, comma_taken, comma_closed, comma_missing}
 use Rattle.json5_value.proofs.Signs.{closing_is, ends_is}
 use Rattle.json5_value.proofs.Steps.{same_of}
 use Rattle.json5_value.proofs.TokenSteps.{gap_given, gap_blamed}
 use Rattle.json5_value.proofs.entries.skip_comma.Goals as goal
 
-pub returns-then-not-due : goal.returns-then-not-due
-returns-then-not-due g c = none_due (bracket_of c.args.kind) c.args.due c.args.scanner.now c.if-not-due.true
+pub returns-then-not-comma_due : goal.returns-then-not-comma_due
+returns-then-not-comma_due g c = none_due (bracket_of c.args.kind) c.args.comma_due c.args.scanner.now c.if-not-comma_due.true
 
 pub returns-in_err-skip_blank : goal.returns-in_err-skip_blank
 returns-in_err-skip_blank g c =
     let (y, is, from) = err_from_is_err_and c.from_residual.result c.from_residual.ensures.1 in
-    rw (is, from) (comma_due (bracket_of c.args.kind) c.args.due c.args.scanner.now c.skip_blank.new.self (Err c.in_err-skip_blank.field-0.0) c.if-not-due.false
+    rw (is, from) (after_comma_due (bracket_of c.args.kind) c.args.comma_due c.args.scanner.now c.skip_blank.new.self (Err c.in_err-skip_blank.field-0.0) c.if-not-comma_due.false
     (comma_blanks (bracket_of c.args.kind) c.args.scanner.now c.skip_blank.new.self c.in_err-skip_blank.field-0.0 (gap_blamed c.args.scanner.now c.skip_blank.new.self (Err c.in_err-skip_blank.field-0.0) c.requires c.in_err-skip_blank.ensures) (same_of c.in_err-skip_blank.ensures.kept)))
 
 pub returns-then-eat : goal.returns-then-eat
 returns-then-eat g c =
-    comma_due (bracket_of c.args.kind) c.args.due c.args.scanner.now c.eat.new.self (Ok true) c.if-not-due.false
+    after_comma_due (bracket_of c.args.kind) c.args.comma_due c.args.scanner.now c.eat.new.self (Ok true) c.if-not-comma_due.false
     (comma_taken (bracket_of c.args.kind) c.args.scanner.now c.skip_blank.new.self c.eat.new.self tt (gap_given c.args.scanner.now c.skip_blank.new.self (Ok tt) c.in_ok-skip_blank.ensures) (c.if-eat.ensures.taken refl))
 
 pub returns-then-eat-2 : goal.returns-then-eat-2
 returns-then-eat-2 g c =
-    comma_due (bracket_of c.args.kind) c.args.due c.args.scanner.now c.eat-2.new.self (Ok false) c.if-not-due.false
+    after_comma_due (bracket_of c.args.kind) c.args.comma_due c.args.scanner.now c.eat-2.new.self (Ok false) c.if-not-comma_due.false
     (comma_closed (bracket_of c.args.kind) c.args.scanner.now c.skip_blank.new.self c.eat.new.self c.eat-2.new.self tt c.brackets-brackets.result.closing (gap_given c.args.scanner.now c.skip_blank.new.self (Ok tt) c.in_ok-skip_blank.ensures) (c.if-eat.ensures.kept refl).0
     (closing_is c.args.kind c.brackets-brackets.result c.brackets-brackets.ensures) (c.if-eat-2.ensures.taken refl))
 
@@ -31,7 +31,7 @@ pub returns : goal.returns
 returns g c =
     let kept = c.if-eat.ensures.kept refl in
     let left = c.if-eat-2.ensures.kept refl in
-    comma_due (bracket_of c.args.kind) c.args.due c.args.scanner.now c.eat-2.new.self (Err c.unexpected_here.result) c.if-not-due.false
+    after_comma_due (bracket_of c.args.kind) c.args.comma_due c.args.scanner.now c.eat-2.new.self (Err c.unexpected_here.result) c.if-not-comma_due.false
     (comma_missing (bracket_of c.args.kind) c.args.scanner.now c.skip_blank.new.self c.eat.new.self c.eat-2.new.self tt c.brackets-brackets.result.closing c.brackets-brackets.result.ends c.unexpected_here.result c.requires
     (gap_given c.args.scanner.now c.skip_blank.new.self (Ok tt) c.in_ok-skip_blank.ensures) kept.0 kept.1 left.0 (closing_is c.args.kind c.brackets-brackets.result c.brackets-brackets.ensures) left.1 (ends_is c.args.kind c.brackets-brackets.result c.brackets-brackets.ensures)
     c.unexpected_here.ensures)

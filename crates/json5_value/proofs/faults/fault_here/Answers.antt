@@ -1,6 +1,6 @@
 use Rattle.std.proofs.Common.{Some, ap, sym, ◌∙◌}
 use Rattle.std.proofs.lemmas.List.{append-nil}
-use Rattle.json5_grammar.specs.Positions.{position_after}
+use Rattle.json5_grammar.specs.Faults.Positions.{position_after}
 use Rattle.json5_value.proofs.Steps.{counted_before}
 use Rattle.json5_value.proofs.faults.fault_here.Goals as goal
 

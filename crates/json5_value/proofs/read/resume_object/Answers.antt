@@ -3,11 +3,11 @@ use Rattle.json5_value.proofs.read.resume_object.Goals as goal
 
 pub returns-in_ok-push-in-Ok-Some : goal.returns-in_ok-push-in-Ok-Some
 returns-in_ok-push-in-Ok-Some g c =
-    object_goes_on c.args.members c.args.start c.args.due c.args.stack.now.items c.args.scanner.now c.in-Ok-Some.field-0 c.in-Ok-Some.key c.push.new.self.items c.next_member_key.new.scanner c.in-Ok-Some.field-0-is c.in-Ok-Some.ensures.given c.in_ok-push-in-Ok-Some.ensures.items
+    object_goes_on c.args.members c.args.start c.args.comma_due c.args.stack.now.items c.args.scanner.now c.in-Ok-Some.field-0 c.in-Ok-Some.key c.push.new.self.items c.next_member_key.new.scanner c.in-Ok-Some.field-0-is c.in-Ok-Some.ensures.given c.in_ok-push-in-Ok-Some.ensures.items
 
 pub returns-in-Ok-None : goal.returns-in-Ok-None
 returns-in-Ok-None g c =
-    object_closed c.args.members c.args.start c.args.due c.args.stack.now.items c.args.scanner.now c.in-Ok-None.field-0 c.next_member_key.new.scanner c.in-Ok-None.field-0-is c.in-Ok-None.ensures.given
+    object_closed c.args.members c.args.start c.args.comma_due c.args.stack.now.items c.args.scanner.now c.in-Ok-None.field-0 c.next_member_key.new.scanner c.in-Ok-None.field-0-is c.in-Ok-None.ensures.given
 
 pub returns-in-Err : goal.returns-in-Err
-returns-in-Err g c = object_refused c.args.members c.args.start c.args.due c.args.stack.now.items c.args.scanner.now c.args.stack.now.items c.next_member_key.new.scanner c.in-Err.e c.place_at.result c.in-Err.ensures.refused c.in-Err.ensures.same_text c.place_at.ensures
+returns-in-Err g c = object_refused c.args.members c.args.start c.args.comma_due c.args.stack.now.items c.args.scanner.now c.args.stack.now.items c.next_member_key.new.scanner c.in-Err.e c.place_at.result c.in-Err.ensures.refused c.in-Err.ensures.same_text c.place_at.ensures

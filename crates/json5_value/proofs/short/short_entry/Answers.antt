@@ -3,10 +3,10 @@ use Rattle.json5_value.proofs.short.short_entry.Goals as goal
 
 pub returns-in-Closing : goal.returns-in-Closing
 returns-in-Closing g c =
-    entry_closed c.args.kind c.brackets-closing.result c.args.due c.args.scanner.now c.short_step.new.self c.eat.new.self c.eat.result c.brackets-closing.ensures (rw c.in-Closing.is at c.short_step.ensures) c.eat.ensures.taken c.eat.ensures.kept
+    entry_closed c.args.kind c.brackets-closing.result c.args.comma_due c.args.scanner.now c.short_step.new.self c.eat.new.self c.eat.result c.brackets-closing.ensures (rw c.in-Closing.is at c.short_step.ensures) c.eat.ensures.taken c.eat.ensures.kept
 
 pub returns-in-Array : goal.returns-in-Array
-returns-in-Array g c = element_entered c.args.kind c.brackets-closing.result c.args.due c.args.scanner.now c.short_step.new.self c.brackets-closing.ensures c.in-Array.is (rw c.in-Member.is at c.short_step.ensures)
+returns-in-Array g c = element_entered c.args.kind c.brackets-closing.result c.args.comma_due c.args.scanner.now c.short_step.new.self c.brackets-closing.ensures c.in-Array.is (rw c.in-Member.is at c.short_step.ensures)
 
 pub returns-in-Object : goal.returns-in-Object
-returns-in-Object g c = member_entered c.args.kind c.brackets-closing.result c.args.due c.args.scanner.now c.short_step.new.self c.brackets-closing.ensures c.in-Object.is (rw c.in-Member.is at c.short_step.ensures)
+returns-in-Object g c = member_entered c.args.kind c.brackets-closing.result c.args.comma_due c.args.scanner.now c.short_step.new.self c.brackets-closing.ensures c.in-Object.is (rw c.in-Member.is at c.short_step.ensures)

@@ -1,6 +1,6 @@
 use Rattle.std.proofs.Common.{Ok, Err}
 use Rattle.std.proofs.lemmas.Result.{err_from_is_err_and}
-use Rattle.json5_grammar.specs.ReadTexts.{key}
+use Rattle.json5_grammar.specs.Model.ReadTexts.{key}
 use Rattle.json5_value.proofs.BuildKeys.{no_key_left, key_taken, key_kept}
 use Rattle.json5_value.proofs.BuildSteps.{not_taken}
 use Rattle.json5_value.proofs.tokens.read_key.Goals as goal

@@ -3,9 +3,9 @@ use Rattle.std.proofs.lemmas.Int.{ints, to_z-of_z}
 use mir.Syntax.{w128}
 use mir.Val.{to_z, of_z}
 use Rattle.std.proofs.lemmas.Result.{err_from_is_err_and}
-use Rattle.json5_grammar.specs.Numbers.{whole}
-use Rattle.json5_grammar.specs.Trees as trees
-use Rattle.json5_grammar.specs.Values.{is_number}
+use Rattle.json5_grammar.specs.Language.Numbers.{whole}
+use Rattle.json5_grammar.specs.Language.Trees as trees
+use Rattle.json5_grammar.specs.Language.Values.{is_number}
 use Rattle.json5_text.specs.NumberViews.{number_of}
 use Rattle.json5_text.specs.ValueViews as datum
 use Rattle.json5_value.specs.Kinds.{kind_at}

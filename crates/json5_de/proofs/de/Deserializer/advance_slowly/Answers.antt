@@ -17,7 +17,7 @@ returns-in_err-skip_blank g c =
     rw (is, from) (record {
       sound = tt;
       refused = refused_blanks c.args.self.now c.in_err-skip_blank.field-0.0 c.in_err-skip_blank.ensures.refused;
-      nowhere = λ live. nowhere_faulty (brackets_of c.args.kind) (signs_of c.args.kind) c.args.due c.args.self.now c.in_err-skip_blank.field-0.0 (c.in_err-skip_blank.ensures.refused live);
+      nowhere = λ live. nowhere_faulty (brackets_of c.args.kind) (signs_of c.args.kind) c.args.comma_due c.args.self.now c.in_err-skip_blank.field-0.0 (c.in_err-skip_blank.ensures.refused live);
       steady = record { same_text = c.in_err-skip_blank.ensures.failed.same_text; unprompted = c.in_err-skip_blank.ensures.unprompted; before = λ h. (c.in_err-skip_blank.ensures.before h).0 };
     })
 
@@ -26,14 +26,14 @@ returns-then-not-eat g c =
     let passed = c.in_ok-skip_blank.ensures.passed in
     let kept = c.if-not-eat.ensures.kept refl in
     let refused = refused_token c.args.self.now c.skip_blank.new.self c.fail_unexpected.result passed
-    (refused_as c.eat.new.self c.skip_blank.new.self c.fail_unexpected.result kept.0 (λ reason place f. no_next (brackets_of c.args.kind) c.args.due c.skip_blank.new.self.unread reason place c.if-not-due.false kept.1 (c.if-at_closing.ensures.other refl) f) (rw c.brackets.ensures at c.fail_unexpected.ensures.fault)) in
+    (refused_as c.eat.new.self c.skip_blank.new.self c.fail_unexpected.result kept.0 (λ reason place f. no_next (brackets_of c.args.kind) c.args.comma_due c.skip_blank.new.self.unread reason place c.if-not-comma_due.false kept.1 (c.if-at_closing.ensures.other refl) f) (rw c.brackets.ensures at c.fail_unexpected.ensures.fault)) in
     record {
       sound = tt;
       refused = refused;
-      nowhere = λ live. nowhere_next (brackets_of c.args.kind) (signs_of c.args.kind) c.args.due c.args.self.now.unread c.skip_blank.new.self.unread c.if-not-due.false (after_gap_of c.args.self.now c.skip_blank.new.self passed) kept.1 (c.if-at_closing.ensures.other refl);
+      nowhere = λ live. nowhere_next (brackets_of c.args.kind) (signs_of c.args.kind) c.args.comma_due c.args.self.now.unread c.skip_blank.new.self.unread c.if-not-comma_due.false (after_gap_of c.args.self.now c.skip_blank.new.self passed) kept.1 (c.if-at_closing.ensures.other refl);
       steady = record {
         same_text = input_of c.fail_unexpected.ensures.state ∙ input_of kept.0 ∙ input_of passed.rest;
-        unprompted = refused_other (next_lacks (brackets_of c.args.kind) (signs_of c.args.kind) c.args.due) c.args.self.now c.fail_unexpected.result refused;
+        unprompted = refused_other (next_lacks (brackets_of c.args.kind) (signs_of c.args.kind) c.args.comma_due) c.args.self.now c.fail_unexpected.result refused;
         before = λ h. absurd (true_false h passed.live);
       };
     }
@@ -46,8 +46,8 @@ returns-in_err-skip_blank-2 g c =
     let fault = c.in_err-skip_blank-2.ensures.refused (failed_of took.rest ∙ failed_of passed.rest ∙ passed.live) in
     rw (is, from) (record {
       sound = tt;
-      refused = refused_token c.args.self.now c.skip_blank.new.self c.in_err-skip_blank-2.field-0.0 passed (refused_after c.skip_blank.new.self c.eat.new.self c.in_err-skip_blank-2.field-0.0 (0x2C ∷ []) took (λ reason place f. in_blanks_after c.if-not-due.false f) fault);
-      nowhere = λ live. nowhere_after (brackets_of c.args.kind) (signs_of c.args.kind) c.args.due c.args.self.now c.skip_blank.new.self c.eat.new.self c.in_err-skip_blank-2.field-0.0 c.if-not-due.false passed (c.if-at_closing.ensures.other refl) took fault;
+      refused = refused_token c.args.self.now c.skip_blank.new.self c.in_err-skip_blank-2.field-0.0 passed (refused_after c.skip_blank.new.self c.eat.new.self c.in_err-skip_blank-2.field-0.0 (0x2C ∷ []) took (λ reason place f. in_blanks_after c.if-not-comma_due.false f) fault);
+      nowhere = λ live. nowhere_after (brackets_of c.args.kind) (signs_of c.args.kind) c.args.comma_due c.args.self.now c.skip_blank.new.self c.eat.new.self c.in_err-skip_blank-2.field-0.0 c.if-not-comma_due.false passed (c.if-at_closing.ensures.other refl) took fault;
       steady = record {
         same_text = c.in_err-skip_blank-2.ensures.failed.same_text ∙ input_of took.rest ∙ input_of passed.rest;
         unprompted = λ live. c.in_err-skip_blank-2.ensures.unprompted (failed_of took.rest ∙ failed_of passed.rest ∙ live);
@@ -61,7 +61,7 @@ returns g c =
     let took = c.if-not-eat.ensures.taken refl in
     let last = c.in_ok-skip_blank-2.ensures.passed in
     record {
-      sound = goes_after (brackets_of c.args.kind) c.args.due c.at_closing-2.result c.args.self.now c.skip_blank.new.self c.eat.new.self c.skip_blank-2.new.self c.if-not-due.false passed took last c.at_closing-2.ensures.found c.at_closing-2.ensures.other;
+      sound = goes_after (brackets_of c.args.kind) c.args.comma_due c.at_closing-2.result c.args.self.now c.skip_blank.new.self c.eat.new.self c.skip_blank-2.new.self c.if-not-comma_due.false passed took last c.at_closing-2.ensures.found c.at_closing-2.ensures.other;
       refused = tt;
       nowhere = tt;
       steady = record { same_text = input_of last.rest ∙ input_of took.rest ∙ input_of passed.rest; unprompted = tt; before = λ h. absurd (true_false h passed.live) };

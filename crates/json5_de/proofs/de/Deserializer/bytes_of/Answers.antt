@@ -6,7 +6,7 @@ use Rattle.json5_de.proofs.de.Deserializer.bytes_of.Goals as goal
 
 pub returns-in-Ok : goal.returns-in-Ok
 returns-in-Ok g c = record {
-  converts = λ u plain is scalars. ap (λ b. result_ok (decode_of b)) (sym (c.token_text.ensures u plain is)) ∙ ap result_ok c.in-Ok.ensures.ok ∙ ap Some (sym c.from_vec.ensures);
+  converts = λ u escape_free is scalars. ap (λ b. result_ok (decode_of b)) (sym (c.token_text.ensures u escape_free is)) ∙ ap result_ok c.in-Ok.ensures.ok ∙ ap Some (sym c.from_vec.ensures);
   kept = refl;
   other = tt;
   refused = tt;

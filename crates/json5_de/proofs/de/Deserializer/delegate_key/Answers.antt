@@ -33,7 +33,7 @@ returns-in_err-check_not_failed g c =
     let had = c.in_err-check_not_failed.ensures.failed in
     rw (is, from) (record {
       sound = tt;
-      complete = λ u plain r c live reads converts. absurd (true_false had.0 live);
+      complete = λ u escape_free r c live reads converts. absurd (true_false had.0 live);
       refused = λ live. absurd (true_false had.0 live);
       unprompted = λ live. absurd (true_false had.0 live);
       same_text = refl;

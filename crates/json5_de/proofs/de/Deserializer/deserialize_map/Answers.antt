@@ -18,7 +18,7 @@ returns-in_err-start g c =
 pub returns : goal.returns
 returns g c =
     let opens = c.in_ok-start.ensures.opens in
-    let (opened, due) = opens.opened in (
+    let (opened, comma_due) = opens.opened in (
       (refl, λ w. refl, tt),
       record {
         lends = tt;

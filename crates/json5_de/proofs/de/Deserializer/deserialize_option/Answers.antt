@@ -1,8 +1,8 @@
 use Rattle.std.proofs.Common.{◌∙◌, sym, ap, false, refl, ◌∷◌}
 use Rattle.std.proofs.lemmas.Result.{err_from_is_err_and}
 use Rattle.json5_grammar.specs.declared.code.ErrorCode.TheVariants as codes
-use Rattle.json5_grammar.specs.Trees.{null}
-use Rattle.json5_grammar.specs.Values.{null_text, is_null}
+use Rattle.json5_grammar.specs.Language.Trees.{null}
+use Rattle.json5_grammar.specs.Language.Values.{null_text, is_null}
 use Rattle.json5_de.proofs.Expected.{end_fault, wrongly_refused}
 use Rattle.json5_de.proofs.Expects.{expects_null}
 use Rattle.json5_de.proofs.Taken.{took_leaf, refused_blanks, refused_token, null_stops}

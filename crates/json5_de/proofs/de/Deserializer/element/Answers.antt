@@ -10,25 +10,25 @@ use Rattle.json5_de.proofs.de.Deserializer.element.Goals as goal
 
 pub returns-in_err-advance_to_entry-clause-complete : goal.returns-in_err-advance_to_entry-clause-complete
 returns-in_err-advance_to_entry-clause-complete g c t r v live element shallow converts =
-    absurd (no_element_next square c.args.due c.args.self.now.unread r t (c.in_err-advance_to_entry.ensures.nowhere live) element)
+    absurd (no_element_next square c.args.comma_due c.args.self.now.unread r t (c.in_err-advance_to_entry.ensures.nowhere live) element)
 
 pub returns-in_err-deserialize-clause-complete : goal.returns-in_err-deserialize-clause-complete
 returns-in_err-deserialize-clause-complete g c t r v live element shallow converts =
     let at = rw c.if-branch.true at c.in_ok-advance_to_entry.ensures.sound in
     let (y, is, from) = err_from_is_err_and c.from_residual-in_err-deserialize.result c.from_residual-in_err-deserialize.ensures.1 in
     let level = level_of at.rest in
-    rw (is, from) (c.in_err-deserialize.ensures.complete t r v (failed_of at.rest ∙ at.live) (element_found c.args.due c.args.self.now.unread c.advance_to_entry.new.self.unread r t at.begun element) (omega (arith, shallow, level)) converts)
+    rw (is, from) (c.in_err-deserialize.ensures.complete t r v (failed_of at.rest ∙ at.live) (element_found c.args.comma_due c.args.self.now.unread c.advance_to_entry.new.self.unread r t at.begun element) (omega (arith, shallow, level)) converts)
 
 pub returns-in_err-deserialize-clause-closing : goal.returns-in_err-deserialize-clause-closing
 returns-in_err-deserialize-clause-closing g c r live close =
     let at = rw c.if-branch.true at c.in_ok-advance_to_entry.ensures.sound in
-    absurd (no_close_found square square_signs c.args.due c.args.self.now.unread c.advance_to_entry.new.self.unread r at.begun at.inside close)
+    absurd (no_close_found square square_signs c.args.comma_due c.args.self.now.unread c.advance_to_entry.new.self.unread r at.begun at.inside close)
 
 pub returns-in_ok-deserialize-clause-sound : goal.returns-in_ok-deserialize-clause-sound
 returns-in_ok-deserialize-clause-sound g c =
     let at = rw c.if-branch.true at c.in_ok-advance_to_entry.ensures.sound in
     let (t, took, is) = c.in_ok-deserialize.ensures.sound in
-    (t, took_element c.args.due c.args.self.now c.advance_to_entry.new.self c.deserialize.new.de t at took, or-true c.args.due, is)
+    (t, took_element c.args.comma_due c.args.self.now c.advance_to_entry.new.self c.deserialize.new.de t at took, or-true c.args.comma_due, is)
 
 pub returns-in_err-advance_to_entry-clause-cause : goal.returns-in_err-advance_to_entry-clause-cause
 returns-in_err-advance_to_entry-clause-cause g c =

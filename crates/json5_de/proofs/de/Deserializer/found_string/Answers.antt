@@ -7,7 +7,7 @@ use Rattle.json5_text.proofs.TextScalars.{string_scalars}
 use Rattle.json5_de.specs.Convert.{every_text}
 use Rattle.json5_de.proofs.Expected.{wrongly_refused}
 use Rattle.json5_de.proofs.ExpectsTexts.{expects_text}
-use Rattle.json5_de.proofs.FoundStrings.{plain_found}
+use Rattle.json5_de.proofs.FoundStrings.{escape_free_found}
 use Rattle.json5_de.proofs.TokenKinds.{given_up}
 use Rattle.json5_de.proofs.Taken.{input_of, refused_blanks, refused_or_memory}
 use Rattle.json5_de.proofs.de.Deserializer.found_string.Goals as goal
@@ -32,24 +32,24 @@ returns-in_err-token g c =
     rw (is, from) (record {
       taken = tt;
       refused = refused_or_memory c.args.self.now c.skip_blank.new.self e (λ x reason place f. f) passed c.in_err-token.ensures.refused;
-      complete = plain_found c.args.self.now c.skip_blank.new.self e passed c.in_err-token.ensures.complete;
+      complete = escape_free_found c.args.self.now c.skip_blank.new.self e passed c.in_err-token.ensures.complete;
       failed = given_up c.args.self.now c.skip_blank.new.self c.string_token.new.self passed c.in_err-token.ensures.failed;
       before = λ h. absurd (true_false h passed.live);
     })
 
 pub returns : goal.returns
 returns g c =
-    let (s, u, plain, took, str, is_text) = c.in_ok-token.ensures.taken in
+    let (s, u, escape_free, took, str, is_text) = c.in_ok-token.ensures.taken in
     record {
       taken = record {
         between = c.skip_blank.new.self;
         spelling = s;
         text = u;
-        plain = plain;
+        escape_free = escape_free;
         passed = c.in_ok-skip_blank.ensures.passed;
         took = took;
         is_spelling = str;
-        is_text = subst (λ x. Spells x u plain c.in_ok-token.token) (sym (input_of took.rest)) is_text;
+        is_text = subst (λ x. Spells x u escape_free c.in_ok-token.token) (sym (input_of took.rest)) is_text;
         counted = c.offset-start.ensures.counted;
         offset = subst (λ x. IsOffset x c.offset-start.result) (sym (input_of took.rest)) c.offset-start.ensures.offset;
         scalars = string_scalars c.skip_blank.new.self.unread c.string_token.new.self.unread took.split c.offset-start.ensures.scalars str;

@@ -1,24 +1,24 @@
 use Rattle.std.proofs.Common.{refl}
 use Rattle.std.proofs.lemmas.Result.{err_from_is_err_and, IfOk-weaker}
-use Rattle.json5_grammar.specs.Trees as trees
-use Rattle.json5_grammar.specs.Values.{is_text}
+use Rattle.json5_grammar.specs.Language.Trees as trees
+use Rattle.json5_grammar.specs.Language.Values.{is_text}
 use Rattle.json5_text.specs.Cows.{cow_bytes, is_borrowed}
 use Rattle.json5_de.specs.Convert.{every_cow, as_text}
-use Rattle.json5_de.specs.TokenKinds.{plain_text}
+use Rattle.json5_de.specs.TokenKinds.{escape_free_text}
 use Rattle.json5_de.proofs.Taken.{took_leaf}
 use Rattle.json5_de.proofs.ExpectsTexts.{text_stops}
-use Rattle.json5_de.proofs.TokenKinds.{lawful_text, not_begun, reads_text, plain_completes}
+use Rattle.json5_de.proofs.TokenKinds.{lawful_text, not_begun, reads_text, escape_free_completes}
 use Rattle.json5_de.proofs.de.Deserializer.identifier_slowly.Goals as goal
 
 pub returns-in_err-skip_blank : goal.returns-in_err-skip_blank
 returns-in_err-skip_blank g c =
     let (y, is, from) = err_from_is_err_and c.from_residual.result c.from_residual.ensures.1 in
-    rw (is, from) (not_begun (lawful_text every_cow plain_text) (λ t. (cow_bytes t, is_borrowed t)) c.args.self.now c.skip_blank.new.self c.in_err-skip_blank.field-0.0 c.in_err-skip_blank.ensures.refused c.in_err-skip_blank.ensures.failed c.in_err-skip_blank.ensures.before)
+    rw (is, from) (not_begun (lawful_text every_cow escape_free_text) (λ t. (cow_bytes t, is_borrowed t)) c.args.self.now c.skip_blank.new.self c.in_err-skip_blank.field-0.0 c.in_err-skip_blank.ensures.refused c.in_err-skip_blank.ensures.failed c.in_err-skip_blank.ensures.before)
 
 pub returns : goal.returns
 returns g c =
     let passed = c.in_ok-skip_blank.ensures.passed in
     let new = c.text.new.self in
-    reads_text every_cow plain_text (λ t. (cow_bytes t, is_borrowed t)) c.args.self.now c.skip_blank.new.self new c.text.result passed
-    (IfOk-weaker c.text.result _ _ (λ t (s, u, plain, took, str, borrowed, bytes). (trees.text u plain, took_leaf c.args.self.now c.skip_blank.new.self new s (trees.text u plain) refl passed took (is_text str) (text_stops new.unread str), rw (bytes, borrowed) refl)) c.text.ensures.taken)
-    c.text.ensures.refused c.text.ensures.failed (plain_completes (as_text every_cow) c.args.self.now c.skip_blank.new.self c.text.result passed c.text.ensures.complete)
+    reads_text every_cow escape_free_text (λ t. (cow_bytes t, is_borrowed t)) c.args.self.now c.skip_blank.new.self new c.text.result passed
+    (IfOk-weaker c.text.result _ _ (λ t (s, u, escape_free, took, str, borrowed, bytes). (trees.text u escape_free, took_leaf c.args.self.now c.skip_blank.new.self new s (trees.text u escape_free) refl passed took (is_text str) (text_stops new.unread str), rw (bytes, borrowed) refl)) c.text.ensures.taken)
+    c.text.ensures.refused c.text.ensures.failed (escape_free_completes (as_text every_cow) c.args.self.now c.skip_blank.new.self c.text.result passed c.text.ensures.complete)

@@ -14,5 +14,5 @@ returns-in_err-key g c =
 pub returns : goal.returns
 returns g c =
     let k = c.in_ok-key.ensures.taken in
-    let (borrowed, bytes) = c.borrowed_key_text.ensures k.text k.plain k.is_text in
+    let (borrowed, bytes) = c.borrowed_key_text.ensures k.text k.escape_free k.is_text in
     key_is_text every_cow (λ t. (cow_bytes t, is_borrowed t)) c.args.self.now c.found_key.new.self c.in_ok-key.key c.borrowed_key_text.result k (rw (bytes, borrowed) refl)

@@ -13,13 +13,13 @@ returns-in_err-key g c =
 pub returns-in-Ok : goal.returns-in-Ok
 returns-in-Ok g c =
     let k = c.in_ok-key.ensures.taken in
-    let characters = key_characters c.args.self.now c.found_key.new.self c.in_ok-key.key c.token_text.result.now k (c.token_text.ensures k.text k.plain k.is_text) in
+    let characters = key_characters c.args.self.now c.found_key.new.self c.in_ok-key.key c.token_text.result.now k (c.token_text.ensures k.text k.escape_free k.is_text) in
     key_is_document g.T.FromText.kind g.T.FromText.content c.args.self.now c.found_key.new.self c.in_ok-key.key c.in-Ok.value (chars c.token_text.result.now) k characters c.in-Ok.ensures.sound
 
 pub returns : goal.returns
 returns g c =
     let k = c.in_ok-key.ensures.taken in
     let new = c.found_key.new.self in
-    let characters = key_characters c.args.self.now new c.in_ok-key.key c.token_text.result.now k (c.token_text.ensures k.text k.plain k.is_text) in
+    let characters = key_characters c.args.self.now new c.in_ok-key.key c.token_text.result.now k (c.token_text.ensures k.text k.escape_free k.is_text) in
     rw c.refuse.ensures.result (key_no_document g.T.FromText.kind g.T.FromText.content c.args.self.now new c.refuse.new.self c.in_ok-key.key (chars c.token_text.result.now) c.in-Err.e c.text_fault-error.result k characters
     c.in-Err.ensures.complete c.in-Err.ensures.refused c.in-Err.ensures.unprompted c.text_fault-error.ensures (gives_up new c.refuse.new.self c.refuse.ensures.state))

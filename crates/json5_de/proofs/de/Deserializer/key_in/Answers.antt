@@ -14,10 +14,10 @@ returns-in_err-key g c =
 pub returns-in-Ok : goal.returns-in-Ok
 returns-in-Ok g c =
     let k = c.in_ok-key.ensures.taken in
-    key_is_text every_text string_bytes c.args.self.now c.found_key.new.self c.in_ok-key.key c.in-Ok.text k (ap Some (sym (c.in-Ok.ensures k.text k.plain k.is_text)))
+    key_is_text every_text string_bytes c.args.self.now c.found_key.new.self c.in_ok-key.key c.in-Ok.text k (ap Some (sym (c.in-Ok.ensures k.text k.escape_free k.is_text)))
 
 pub returns-in-Err : goal.returns-in-Err
 returns-in-Err g c =
     let k = c.in_ok-key.ensures.taken in
     let new = c.found_key.new.self in
-    rw c.refuse.ensures.result (key_lacks_memory string_key string_bytes c.args.self.now new c.refuse.new.self c.in_ok-key.key c.in-Err.e k (c.in-Err.ensures k.text k.plain k.is_text) (gives_up new c.refuse.new.self c.refuse.ensures.state))
+    rw c.refuse.ensures.result (key_lacks_memory string_key string_bytes c.args.self.now new c.refuse.new.self c.in_ok-key.key c.in-Err.e k (c.in-Err.ensures k.text k.escape_free k.is_text) (gives_up new c.refuse.new.self c.refuse.ensures.state))

@@ -7,5 +7,5 @@ use Rattle.json5_de.proofs.de.Deserializer.short_step.Goals as goal
 
 pub returns : goal.returns
 returns g c =
-    short_step (brackets_of c.args.kind) c.args.due c.self.inside.scanner c.short_step.new.self c.self.inside.level c.self.inside.failed c.args.self.now c.short_step.result c.self.view_is c.if-self.false
-    (subst (λ n. TakesShortStep n c.args.due c.self.inside.scanner c.short_step.new.self c.short_step.result) (ap (λ (b : Brackets). b.closing) c.brackets.ensures) c.short_step.ensures)
+    short_step (brackets_of c.args.kind) c.args.comma_due c.self.inside.scanner c.short_step.new.self c.self.inside.level c.self.inside.failed c.args.self.now c.short_step.result c.self.view_is c.if-self.false
+    (subst (λ n. TakesShortStep n c.args.comma_due c.self.inside.scanner c.short_step.new.self c.short_step.result) (ap (λ (b : Brackets). b.closing) c.brackets.ensures) c.short_step.ensures)

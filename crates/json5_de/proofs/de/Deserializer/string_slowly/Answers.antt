@@ -1,7 +1,7 @@
 use Rattle.std.proofs.Common.{refl, string_bytes}
 use Rattle.std.proofs.lemmas.Result.{err_from_is_err_and, IfOk-weaker}
-use Rattle.json5_grammar.specs.Trees as trees
-use Rattle.json5_grammar.specs.Values.{is_text}
+use Rattle.json5_grammar.specs.Language.Trees as trees
+use Rattle.json5_grammar.specs.Language.Values.{is_text}
 use Rattle.json5_de.specs.Convert.{every_text}
 use Rattle.json5_de.specs.TokenKinds.{no_tree}
 use Rattle.json5_de.proofs.Taken.{took_leaf}
@@ -19,5 +19,5 @@ returns g c =
     let passed = c.in_ok-skip_blank.ensures.passed in
     let new = c.string_owned.new.self in
     reads_text every_text no_tree string_bytes c.args.self.now c.skip_blank.new.self new c.string_owned.result passed
-    (IfOk-weaker c.string_owned.result _ _ (λ t (s, u, plain, took, str, bytes). (trees.text u plain, took_leaf c.args.self.now c.skip_blank.new.self new s (trees.text u plain) refl passed took (is_text str) (text_stops new.unread str), rw bytes refl)) c.string_owned.ensures.taken)
+    (IfOk-weaker c.string_owned.result _ _ (λ t (s, u, escape_free, took, str, bytes). (trees.text u escape_free, took_leaf c.args.self.now c.skip_blank.new.self new s (trees.text u escape_free) refl passed took (is_text str) (text_stops new.unread str), rw bytes refl)) c.string_owned.ensures.taken)
     c.string_owned.ensures.refused c.string_owned.ensures.failed (λ t r v live reads shallow is allocation_free. absurd (cc))

@@ -12,7 +12,7 @@ returns-in_default g c =
     rw c.refuse.ensures.result (record {
       converts = tt;
       kept = tt;
-      other = inr (λ u plain is scalars. ap (λ b. position (λ n. bytes_eq n b) names) (sym (c.token_text-name.ensures u plain is)) ∙ sym (c.index_of.ensures ∙ place_spelled _ c.args.variants.now) ∙ c.in_default.is);
+      other = inr (λ u escape_free is scalars. ap (λ b. position (λ n. bytes_eq n b) names) (sym (c.token_text-name.ensures u escape_free is)) ∙ sym (c.index_of.ensures ∙ place_spelled _ c.args.variants.now) ∙ c.in_default.is);
       refused = c.unknown_variant-error.ensures;
       failed = gives_up c.args.self.now c.refuse.new.self c.refuse.ensures.state;
     })
@@ -21,7 +21,7 @@ pub returns : goal.returns
 returns g c =
     let names = spelled c.args.variants.now in
     record {
-      converts = λ u plain is scalars. ap (λ b. position (λ n. bytes_eq n b) names) (sym (c.token_text-name.ensures u plain is)) ∙ sym (c.index_of.ensures ∙ place_spelled _ c.args.variants.now) ∙ c.in-Some.is;
+      converts = λ u escape_free is scalars. ap (λ b. position (λ n. bytes_eq n b) names) (sym (c.token_text-name.ensures u escape_free is)) ∙ sym (c.index_of.ensures ∙ place_spelled _ c.args.variants.now) ∙ c.in-Some.is;
       kept = refl;
       other = tt;
       refused = tt;

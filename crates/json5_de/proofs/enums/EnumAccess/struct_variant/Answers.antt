@@ -19,7 +19,7 @@ returns-in_err-start g c =
 pub returns : goal.returns
 returns g c =
     let opens = rw c.set_failed.ensures at c.in_ok-start.ensures.opens in
-    let (opened, due) = opens.opened in (
+    let (opened, comma_due) = opens.opened in (
       (refl, λ w. refl, tt),
       record {
         lends = tt;

@@ -17,5 +17,5 @@ returns-in-None-clause-left g c ts r left = left_missing g.T.Deserialize.content
 
 pub returns-in-None-clause-refused : goal.returns-in-None-clause-refused
 returns-in-None-clause-refused g c = λ live.
-    let (at, due) = rw c.in-None.is at c.in_ok-item.ensures.sound in
+    let (at, comma_due) = rw c.in-None.is at c.in_ok-item.ensures.sound in
     missing (state_of c.next_element.new.self).reader at (short_before (state_of c.args.self.now) (state_of c.next_element.new.self) c.too_short.result c.in_ok-item.ensures.access.start c.in_ok-item.ensures.access.same_text c.too_short.ensures)

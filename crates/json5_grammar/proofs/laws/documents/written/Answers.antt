@@ -1,4 +1,4 @@
-use Rattle.json5_grammar.specs.Values.{is_null}
+use Rattle.json5_grammar.specs.Language.Values.{is_null}
 use Rattle.json5_grammar.proofs.ScalarsWritten.{boolean_value, number_value, text_value}
 use Rattle.json5_grammar.proofs.laws.documents.written.Goals as goal
 

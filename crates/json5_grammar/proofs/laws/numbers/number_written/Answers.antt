@@ -1,5 +1,5 @@
-use Rattle.json5_grammar.specs.Numbers.{Number, Num, whole, decimal}
-use Rattle.json5_grammar.specs.NumberText.{IsNumber, number_text}
+use Rattle.json5_grammar.specs.Language.Numbers.{Number, Num, whole, decimal}
+use Rattle.json5_grammar.specs.Written.NumberText.{IsNumber, number_text}
 use Rattle.json5_grammar.proofs.WholesWritten.{whole_text}
 use Rattle.json5_grammar.proofs.DecimalsWritten.{printed_decimal}
 use Rattle.json5_grammar.proofs.NormalForms.{num_normal}

@@ -1,5 +1,5 @@
 use Rattle.std.proofs.Common.{◌++◌, sym, subst}
-use Rattle.json5_grammar.specs.NumberFaults.{NumberFault}
+use Rattle.json5_grammar.specs.Faults.Tokens.{NumberFault}
 use Rattle.json5_grammar.proofs.NumbersUnique.{one_fault, no_fault}
 use Rattle.json5_grammar.proofs.NumberFollows.{part_rest, whatever_follows}
 use Rattle.json5_grammar.proofs.NumberPartOf.{part_of}

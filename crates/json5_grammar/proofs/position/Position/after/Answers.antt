@@ -6,7 +6,7 @@ use Rattle.std.specs.Str.Iter.{chars_rest}
 use Rattle.std.proofs.lemmas.Str.{IsUtf8-past_char, chars_past_char, length-encode, len_utf8_bounds}
 use Rattle.std.proofs.lemmas.List.{length-append}
 use Rattle.std.proofs.StrCases.{chars_of_empty}
-use Rattle.json5_grammar.specs.PositionSteps.{position_from, position_step}
+use Rattle.json5_grammar.specs.Model.PositionSteps.{position_from, position_step}
 use Rattle.json5_grammar.proofs.PositionsCounted.{counted, step_bounded}
 use Rattle.json5_grammar.proofs.position.Position.after.Goals as goal
 

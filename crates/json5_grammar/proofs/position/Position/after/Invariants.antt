@@ -1,6 +1,6 @@
 use Rattle.std.proofs.Common.{◌≡◌, ◌≤◌, ◌+◌, false, length, IsUtf8, chars}
 use Rattle.std.specs.Str.Iter.{chars_rest}
-use Rattle.json5_grammar.specs.PositionSteps.{position_from}
+use Rattle.json5_grammar.specs.Model.PositionSteps.{position_from}
 use Rattle.json5_grammar.proofs.position.Position.after.Given as goal
 
 abbrev pub invariant-loop-c : goal.invariant-loop-c

@@ -1,7 +1,7 @@
 use Rattle.std.proofs.Common.{◌≡◌, ◌≤◌, ◌∙◌, ◌∷◌, [], ℕ, List, Option, Some, ap, length, refl, rules, arith}
 use Rattle.std.proofs.lemmas.List.{length-append, length-map}
 use Rattle.json5.specs.Trees.{Tree, Trees}
-use Rattle.json5.specs.Members.{contents}
+use Rattle.json5.specs.Collections.{contents}
 use Rattle.json5.specs.declared.Spanned.{Spanned}
 use Rattle.json5.specs.Lending.{state_of}
 use Rattle.json5.proofs.Loops.{HasContents, HasAtMost, begins, steps, stops, next_completes, past_completes, end_completes}

@@ -5,6 +5,6 @@ use Rattle.json5_own_type.specs.Colors.{color_names, color_at}
 use Rattle.json5_own_type.proofs.colors.ColorDeserializeKey.deserialize_key.Goals as goal
 
 pub returns-in_err-place-clause-complete : goal.returns-in_err-place-clause-complete
-returns-in_err-place-clause-complete g c u plain r color live reads converts =
-    let (k, is, named) = parts color_at (index_of color_names u plain) color converts in
-    search (rules, c.in_err-place.ensures.reads.complete u plain r k live reads is)
+returns-in_err-place-clause-complete g c u escape_free r color live reads converts =
+    let (k, is, named) = parts color_at (index_of color_names u escape_free) color converts in
+    search (rules, c.in_err-place.ensures.reads.complete u escape_free r k live reads is)

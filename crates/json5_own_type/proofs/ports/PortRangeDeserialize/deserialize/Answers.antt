@@ -1,5 +1,5 @@
 use Rattle.std.proofs.Common.{◌≡◌, ◌<◌, ◌^◌, ℕ, None, rules, arith}
-use Rattle.json5.specs.Members.{array_of}
+use Rattle.json5.specs.Collections.{array_of}
 use Rattle.json5.specs.Convert.{unsigned_below}
 use Rattle.json5.specs.ConvertLists.{first_of, last_of}
 use Rattle.json5.proofs.Refinement.{parts, no_content}

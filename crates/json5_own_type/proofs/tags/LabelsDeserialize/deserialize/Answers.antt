@@ -1,5 +1,5 @@
 use Rattle.std.proofs.Common.{◌≡◌, List, [], ◌∷◌, length, map, None, refl, inr, rules, arith, string_bytes}
-use Rattle.json5.specs.Members.{array_of, contents}
+use Rattle.json5.specs.Collections.{array_of, contents}
 use Rattle.json5.specs.Convert.{text_of}
 use Rattle.json5.proofs.Refinement.{parts, no_content, refused_at}
 use Rattle.json5_own_type.specs.Accepted.{not_empty}

@@ -1,5 +1,5 @@
 use Rattle.std.proofs.Common.{refl, codes, None, ◌^◌}
-use Rattle.json5.specs.Convert.{plain_of, unsigned_below}
+use Rattle.json5.specs.Convert.{escape_free_of, unsigned_below}
 use Rattle.json5.proofs.Structs.{Part, here, in_first, in_others, other, pass, not_named, takes_field, passes_pair}
 use Rattle.json5_rows.specs.HandStructs.{config}
 use Rattle.json5_rows.proofs.hand_structs.ConfigFoundFields.read.Goals as goal
@@ -7,7 +7,7 @@ use Rattle.json5_rows.proofs.hand_structs.ConfigFoundFields.read.Goals as goal
 abbrev foo : Part config.step (codes "foo") (unsigned_below (2 ^ 32))
 foo = in_first here (other _ (codes "bar") refl)
 
-abbrev bar : Part config.step (codes "bar") plain_of
+abbrev bar : Part config.step (codes "bar") escape_free_of
 bar = in_others (other _ (codes "foo") refl) here
 
 pub returns-in-foo-clause-takes : goal.returns-in-foo-clause-takes

@@ -1,5 +1,5 @@
 use Rattle.std.proofs.Common.{[], ◌∷◌, ◌-◌, true}
-use Rattle.json5_grammar.specs.Characters.{comma_sign, right_brace}
+use Rattle.json5_grammar.specs.Language.Characters.{comma_sign, right_brace}
 use Rattle.json5_ser.specs.Out.{piece, closing}
 use Rattle.json5_ser.proofs.Joins.{Writes-exit, Reaches-first, Reaches-last}
 use Rattle.json5_ser.proofs.Remains.{Wrote-at, Refuses-at}

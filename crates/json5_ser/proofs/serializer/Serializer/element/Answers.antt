@@ -1,5 +1,5 @@
 use Rattle.std.proofs.Common.{[], ◌∷◌, subst}
-use Rattle.json5_grammar.specs.Characters.{comma_sign}
+use Rattle.json5_grammar.specs.Language.Characters.{comma_sign}
 use Rattle.json5_ser.specs.Out.{out, line, piece, ◌then◌}
 use Rattle.json5_ser.specs.Writes.{Wrote, Refuses}
 use Rattle.json5_ser.proofs.Joins.{Writes-exit, Reaches-first, Reaches-next, Reaches-exit, Reaches-last}

@@ -1,5 +1,5 @@
 use Rattle.std.proofs.Common.{[], ◌∷◌, ap, ◌∙◌, sym}
-use Rattle.json5_grammar.specs.NumberText.{decimal_text}
+use Rattle.json5_grammar.specs.Written.NumberText.{decimal_text}
 use Rattle.json5_ser.specs.Out.{piece, ◌then◌}
 use Rattle.json5_ser.proofs.Joins.{Writes-as, Writes-exit, Reaches-first, Reaches-next, Reaches-exit, Reaches-last}
 use Rattle.json5_ser.proofs.PiecesWritten.{chars_double_quote}

@@ -1,6 +1,6 @@
 use Rattle.std.proofs.Common.{◌≡◌, ℕ, List, subst}
 use Rattle.std.specs.Str.{chars}
-use Rattle.json5_grammar.specs.Quoting.{escaped_all}
+use Rattle.json5_grammar.specs.Written.Quoting.{escaped_all}
 use Rattle.json5_ser.specs.Out.{Out, piece, ◌then◌}
 use Rattle.json5_ser.specs.Writes.{SerializerState}
 use Rattle.json5_ser.specs.Escaping.{SplitsAtEscape}

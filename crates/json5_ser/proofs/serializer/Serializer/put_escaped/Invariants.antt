@@ -1,6 +1,6 @@
 use Rattle.std.proofs.Common.{length}
 use Rattle.std.specs.Str.{IsUtf8, chars}
-use Rattle.json5_grammar.specs.Quoting.{escaped_all}
+use Rattle.json5_grammar.specs.Written.Quoting.{escaped_all}
 use Rattle.json5_ser.specs.Quotes.{delimiter}
 use Rattle.json5_ser.specs.Out.{piece}
 use Rattle.json5_ser.proofs.Joins.{Reaches}

@@ -1,6 +1,6 @@
 use Rattle.std.proofs.Common.{ap, ◌∙◌, subst}
 use Rattle.std.specs.Str.{chars}
-use Rattle.json5_grammar.specs.Quoting.{quoted_text}
+use Rattle.json5_grammar.specs.Written.Quoting.{quoted_text}
 use Rattle.json5_ser.specs.Out.{piece}
 use Rattle.json5_ser.specs.Writes.{Writes}
 use Rattle.json5_ser.proofs.EscapesSplit.{one_char}

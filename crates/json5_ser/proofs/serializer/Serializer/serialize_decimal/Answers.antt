@@ -1,4 +1,4 @@
-use Rattle.json5_grammar.specs.Numbers.{decimal}
+use Rattle.json5_grammar.specs.Language.Numbers.{decimal}
 use Rattle.json5_ser.proofs.Writables.{Writes-number}
 use Rattle.json5_ser.proofs.serializer.Serializer.serialize_decimal.Goals as goal
 

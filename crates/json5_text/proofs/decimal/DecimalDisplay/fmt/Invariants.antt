@@ -1,6 +1,6 @@
 use Rattle.std.proofs.Common.{◌≡◌, List, ℕ, ◌++◌, length}
 use Rattle.std.specs.Fmt.{HasWritten, IsPlainFormatter}
-use Rattle.json5_grammar.specs.NumberText.{decimal_text}
+use Rattle.json5_grammar.specs.Written.NumberText.{decimal_text}
 use Rattle.json5_text.proofs.decimal.DecimalDisplay.fmt.Given as goal
 
 -- what isn't left is written

@@ -1,7 +1,7 @@
 use Rattle.std.proofs.Common.{refl, sym, subst}
 use Rattle.std.specs.Str.{chars}
-use Rattle.json5_grammar.specs.Blanks.{Gap, Solid}
-use Rattle.json5_grammar.specs.ReadBlanks.{skip, between}
+use Rattle.json5_grammar.specs.Language.Blanks.{Gap, Solid}
+use Rattle.json5_grammar.specs.Model.ReadBlanks.{skip, between}
 use Rattle.json5_text.specs.Tokens.{FaultyBlanks}
 use Rattle.json5_text.proofs.ScanFaults.{refusal_in, coded}
 use Rattle.json5_text.proofs.ScanTokens.{left_counted, leaves_rest, blanks_passed, blanks_faulty}

@@ -1,6 +1,6 @@
 use Rattle.std.proofs.Common.{refl, ◌∙◌}
 use Rattle.std.specs.Str.{chars}
-use Rattle.json5_grammar.specs.ReadTexts.{identifier}
+use Rattle.json5_grammar.specs.Model.ReadTexts.{identifier}
 use Rattle.json5_text.specs.Tokens.{FaultyName}
 use Rattle.json5_text.proofs.ScanFaults.{refusal_in, refused}
 use Rattle.json5_text.proofs.ScanTokens.{left_counted, leaves_rest, name_taken, name_faulty, name_never}
@@ -15,7 +15,7 @@ returns-in-Err g c = record {
   stops = tt;
   refused = refused FaultyName c.args.self.now c.fault.result c.in-Err.refusal (identifier (chars c.rest.result.now)) (name_faulty _ _ c.rest.ensures) c.in-Err.ensures.refused c.fault.ensures;
   kept = refl;
-  memory = λ s u r d plain split is_name stops. absurd (name_never (chars c.rest.result.now) c.args.self.now.unread s u r d plain c.in-Err.refusal c.rest.ensures c.in-Err.ensures.refused c.in-Err.ensures.known split is_name stops);
+  memory = λ s u r d escape_free split is_name stops. absurd (name_never (chars c.rest.result.now) c.args.self.now.unread s u r d escape_free c.in-Err.refusal c.rest.ensures c.in-Err.ensures.refused c.in-Err.ensures.known split is_name stops);
 }
 
 pub set_remaining-requires : goal.set_remaining-requires
@@ -34,5 +34,5 @@ returns g c =
       stops = (k.stops.0, k.stops.1, l.1 ∙ k.stops.2, k.stops.3);
       refused = tt;
       kept = tt;
-      memory = λ s u r d plain split is_name stops. refl;
+      memory = λ s u r d escape_free split is_name stops. refl;
     }

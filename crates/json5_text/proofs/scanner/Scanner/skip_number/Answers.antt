@@ -1,8 +1,8 @@
 use Rattle.std.proofs.Common.{refl, sym, subst}
 use Rattle.std.specs.Str.{chars}
-use Rattle.json5_grammar.specs.Characters.{NotBegun}
-use Rattle.json5_grammar.specs.Stops.{lengthens}
-use Rattle.json5_grammar.specs.ReadNumbers.{number}
+use Rattle.json5_grammar.specs.Language.Characters.{NotBegun}
+use Rattle.json5_grammar.specs.Language.Numbers.{lengthens}
+use Rattle.json5_grammar.specs.Model.ReadNumbers.{number}
 use Rattle.json5_text.specs.Tokens.{FaultyNumber}
 use Rattle.json5_text.proofs.ScanFaults.{refusal_in, refused}
 use Rattle.json5_text.proofs.ScanNumbers.{number_taken, number_faulty, number_never}

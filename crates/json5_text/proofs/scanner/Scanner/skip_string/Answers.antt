@@ -14,7 +14,7 @@ returns-in-Err g c = record {
   taken = tt;
   refused = refused FaultyString c.args.self.now c.fault.result c.in-Err.refusal (string_at (chars c.rest.result.now)) (string_faulty _ _ c.rest.ensures) c.in-Err.ensures.refused c.fault.ensures;
   kept = refl;
-  memory = λ s u r plain split is_string. absurd (string_never (chars c.rest.result.now) c.args.self.now.unread s u r plain c.in-Err.refusal c.rest.ensures c.in-Err.ensures.refused c.in-Err.ensures.known split is_string);
+  memory = λ s u r escape_free split is_string. absurd (string_never (chars c.rest.result.now) c.args.self.now.unread s u r escape_free c.in-Err.refusal c.rest.ensures c.in-Err.ensures.refused c.in-Err.ensures.known split is_string);
 }
 
 pub set_remaining-requires : goal.set_remaining-requires
@@ -32,5 +32,5 @@ returns g c =
       taken = (k.string, given.value.0, given.value.1, l.0, k.is_string);
       refused = tt;
       kept = tt;
-      memory = λ s u r plain split is_string. refl;
+      memory = λ s u r escape_free split is_string. refl;
     }

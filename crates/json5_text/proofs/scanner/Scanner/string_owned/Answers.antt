@@ -19,16 +19,16 @@ returns-in-Err g c = record {
 pub set_remaining-requires : goal.set_remaining-requires
 set_remaining-requires g c =
     let given = c.in-Ok.ensures in
-    let k = string_taken (chars c.rest.result.now) c.args.self.now.unread given.spelled (chars c.in-Ok.rest.now) given.plain c.rest.ensures given.read in
+    let k = string_taken (chars c.rest.result.now) c.args.self.now.unread given.spelled (chars c.in-Ok.rest.now) given.escape_free c.rest.ensures given.read in
     leaves_rest k.string c.in-Ok.rest.now k.split given.text
 
 pub returns : goal.returns
 returns g c =
     let given = c.in-Ok.ensures in
-    let k = string_taken (chars c.rest.result.now) c.args.self.now.unread given.spelled (chars c.in-Ok.rest.now) given.plain c.rest.ensures given.read in
+    let k = string_taken (chars c.rest.result.now) c.args.self.now.unread given.spelled (chars c.in-Ok.rest.now) given.escape_free c.rest.ensures given.read in
     let l = c.set_remaining.ensures k.string (chars c.in-Ok.rest.now) k.split (left_counted c.in-Ok.rest.now given.text) in
     record {
-      taken = (k.string, given.spelled, given.plain, l.0, k.is_string, given.is_text);
+      taken = (k.string, given.spelled, given.escape_free, l.0, k.is_string, given.is_text);
       refused = tt;
       kept = tt;
     }

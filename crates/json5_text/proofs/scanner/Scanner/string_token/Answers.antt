@@ -4,7 +4,7 @@ use Rattle.json5_text.specs.Cursor.{Cursor}
 use Rattle.json5_text.specs.ScanTexts.{string_at}
 use Rattle.json5_text.specs.Tokens.{FaultyString}
 use Rattle.json5_text.proofs.ScanFaults.{refusal_in, refused}
-use Rattle.json5_text.proofs.ScanTokens.{left_counted, leaves_rest, string_taken, string_faulty, plain_memory}
+use Rattle.json5_text.proofs.ScanTokens.{left_counted, leaves_rest, string_taken, string_faulty, escape_free_memory}
 use Rattle.json5_text.proofs.TextTokens.{unread_fits, token_inside}
 use Rattle.json5_text.proofs.scanner.Scanner.string_token.Goals as goal
 
@@ -16,32 +16,32 @@ returns-in-Err g c = record {
   taken = tt;
   refused = refused FaultyString c.args.self.now c.fault.result c.in-Err.refusal (string_at (chars c.rest.result.now)) (string_faulty _ _ c.rest.ensures) c.in-Err.ensures.refused c.fault.ensures;
   kept = refl;
-  plain = λ s u r split is_string. absurd (plain_memory (chars c.rest.result.now) c.args.self.now.unread s u r c.in-Err.refusal c.rest.ensures c.in-Err.ensures.refused c.in-Err.ensures.memory split is_string);
+  escape_free = λ s u r split is_string. absurd (escape_free_memory (chars c.rest.result.now) c.args.self.now.unread s u r c.in-Err.refusal c.rest.ensures c.in-Err.ensures.refused c.in-Err.ensures.memory split is_string);
 }
 
 pub set_remaining-requires : goal.set_remaining-requires
 set_remaining-requires g c =
     let given = c.in-Ok.ensures in
-    let k = string_taken (chars c.rest.result.now) c.args.self.now.unread given.spelled (chars c.in-Ok.rest.now) given.plain c.rest.ensures given.read in
+    let k = string_taken (chars c.rest.result.now) c.args.self.now.unread given.spelled (chars c.in-Ok.rest.now) given.escape_free c.rest.ensures given.read in
     leaves_rest k.string c.in-Ok.rest.now k.split given.text
 
 pub returns : goal.returns
 returns g c =
     let given = c.in-Ok.ensures in
-    let k = string_taken (chars c.rest.result.now) c.args.self.now.unread given.spelled (chars c.in-Ok.rest.now) given.plain c.rest.ensures given.read in
+    let k = string_taken (chars c.rest.result.now) c.args.self.now.unread given.spelled (chars c.in-Ok.rest.now) given.escape_free c.rest.ensures given.read in
     let l = c.set_remaining.ensures k.string (chars c.in-Ok.rest.now) k.split (left_counted c.in-Ok.rest.now given.text) in
     record {
       taken = (
         k.string,
         given.spelled,
-        given.plain,
+        given.escape_free,
         l.0,
         k.is_string,
-        token_inside c.args.self.now (chars c.rest.result.now) given.spelled given.plain c.in-Ok.token c.self.invariant (ap (λ (s : Cursor). s.input) c.self.view_is) (ap (λ (s : Cursor). s.unread) c.self.view_is) c.rest.ensures given.is_text,
+        token_inside c.args.self.now (chars c.rest.result.now) given.spelled given.escape_free c.in-Ok.token c.self.invariant (ap (λ (s : Cursor). s.input) c.self.view_is) (ap (λ (s : Cursor). s.unread) c.self.view_is) c.rest.ensures given.is_text,
       );
       refused = tt;
       kept = tt;
-      plain = λ s u r split is_string. refl;
+      escape_free = λ s u r split is_string. refl;
     }
 
 pub read_string_token-requires : goal.read_string_token-requires

@@ -1,6 +1,6 @@
 use Rattle.std.proofs.Common.{refl}
 use Rattle.std.specs.Str.{chars}
-use Rattle.json5_grammar.specs.ReadValues.{word_at}
+use Rattle.json5_grammar.specs.Model.ReadValues.{word_at}
 use Rattle.json5_text.specs.Tokens.{FaultyWord}
 use Rattle.json5_text.proofs.ScanFaults.{refusal_in, coded}
 use Rattle.json5_text.proofs.ScanTokens.{left_counted, leaves_rest, word_passed, word_faulty}

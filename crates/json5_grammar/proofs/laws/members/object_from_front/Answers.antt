@@ -1,8 +1,0 @@
-use Rattle.json5_grammar.proofs.MembersPairs.{object_front, object_reads}
-use Rattle.json5_grammar.proofs.laws.members.object_from_front.Goals as goal
-
-pub returns-clause-apart : goal.returns-clause-apart
-returns-clause-apart c = object_front
-
-pub returns-clause-together : goal.returns-clause-together
-returns-clause-together c = object_reads

@@ -1,0 +1,11 @@
+-- Models that follow the code: reading as functions on lists, and arrays and objects from the front.
+pub mod Reading
+pub mod ReadBlanks
+pub mod ReadTexts
+pub mod ReadNumbers
+pub mod ReadValues
+pub mod ReadSteps
+pub mod NumberSteps
+pub mod PositionSteps
+pub mod Collections
+pub mod CollectionsLeft

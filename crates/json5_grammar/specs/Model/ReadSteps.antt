@@ -1,0 +1,101 @@
+-- The steps of reading a value, the trees forgotten: what stands round the members of arrays and objects.
+use Rattle.std.specs.Prelude.{ℕ, suc, Bool, true, false, cond, ◌==◌, List, [], ◌∷◌, length, Option, Some, None}
+use Rattle.json5_grammar.specs.Language.Characters.{comma_sign}
+use Rattle.json5_grammar.specs.Faults.Codes.{EofParsingObject, ExpectedComma}
+pub use Rattle.json5_grammar.specs.Faults.{eof_in}
+use Rattle.json5_grammar.specs.Faults.Fronts.{BracketKind, of_array, of_object, closing}
+use Rattle.json5_grammar.specs.Model.Reading.{Read, and_then, here, inner, got, bad}
+use Rattle.json5_grammar.specs.Model.ReadBlanks.{skip, between}
+use Rattle.json5_grammar.specs.Model.ReadTexts.{key}
+use Rattle.json5_grammar.specs.Language.Trees.{Trees, Pairs, more, no_pair, pair}
+use Rattle.json5_grammar.specs.Model.ReadValues.{read, items, entries, after_member, after_pair, colon_at}
+
+-- the answer without what was read
+abbrev pub forget : {A : Type 0} → Read A → Read (Unit {0})
+forget (got a r) = got tt r
+forget (bad e p) = bad e p
+
+-- ---- the steps: true where a value comes next, and false where the bracket was closed
+
+-- blanks, the colon and blanks
+abbrev pub colon_after : List ℕ → Read (Unit {0})
+colon_after x = and_then (skip between x) (λ u y. and_then (colon_at y) (λ v z. skip between z))
+
+-- a key and its colon
+abbrev pub pair_head : List ℕ → Read Bool
+pair_head x = and_then (key x) (λ a r. and_then (colon_after r) (λ u y. got true y))
+
+-- where a member may begin, after the blanks: what its value has before it is passed over
+abbrev pub member_head : BracketKind → List ℕ → Read Bool
+member_head of_array [] = got true []
+member_head of_object [] = bad (Some EofParsingObject) inner
+member_head of_array (c ∷ r) = cond (c == closing of_array) (got false r) (got true (c ∷ r))
+member_head of_object (c ∷ r) = cond (c == closing of_object) (got false r) (pair_head (c ∷ r))
+
+unfoldable pub member_at : BracketKind → List ℕ → Read Bool
+member_at k x = and_then (skip between x) (λ u y. member_head k y)
+
+-- after a member: true where a comma was taken
+abbrev pub comma_at : BracketKind → List ℕ → Read Bool
+comma_at k [] = bad (Some (eof_in k)) inner
+comma_at k (c ∷ r) = cond (c == comma_sign) (got true r) (cond (c == closing k) (got false r) (bad (Some ExpectedComma) (here (c ∷ r))))
+
+unfoldable pub separator : BracketKind → List ℕ → Read Bool
+separator k x = and_then (skip between x) (λ u y. comma_at k y)
+
+-- the next value, after a comma where one is due
+abbrev pub next_value : BracketKind → Bool → List ℕ → Read Bool
+next_value k false x = member_at k x
+next_value k true x = and_then (separator k x) (λ more y. cond more (member_at k y) (got false y))
+
+-- ---- what is left of a bracket of the kind, its values nested no deeper than the number
+
+unfoldable pub rest_of : BracketKind → Bool → ℕ → List ℕ → Read (Unit {0})
+rest_of of_array false d x = forget (items (read d) (suc (length x)) x)
+rest_of of_object false d x = forget (entries (read d) (suc (length x)) x)
+rest_of of_array true d x = forget (and_then (skip between x) (λ u y. after_member (λ z. items (read d) (suc (length z)) z) y))
+rest_of of_object true d x = forget (and_then (skip between x) (λ u y. after_pair (λ z. entries (read d) (suc (length z)) z) y))
+
+-- a value, and then what is left of its bracket
+abbrev pub value_and_rest : BracketKind → ℕ → List ℕ → Read (Unit {0})
+value_and_rest k d x = and_then (forget (read d x)) (λ u y. rest_of k true d y)
+
+-- ---- the same with the trees
+
+-- members and the closing bracket; and after a member
+abbrev pub trees_of : ℕ → List ℕ → Read Trees
+trees_of d x = items (read d) (suc (length x)) x
+
+abbrev pub trees_after : ℕ → List ℕ → Read Trees
+trees_after d x = and_then (skip between x) (λ u y. after_member (trees_of d) y)
+
+-- pairs and the closing brace; and after a pair
+abbrev pub pairs_of : ℕ → List ℕ → Read Pairs
+pairs_of d x = entries (read d) (suc (length x)) x
+
+abbrev pub pairs_after : ℕ → List ℕ → Read Pairs
+pairs_after d x = and_then (skip between x) (λ u y. after_pair (pairs_of d) y)
+
+-- where a pair may begin, after the blanks: its key, past the colon; None where the brace was closed
+abbrev pub key_head : List ℕ → Read (Option (List ℕ × Bool))
+key_head [] = bad (Some EofParsingObject) inner
+key_head (c ∷ r) = cond (c == closing of_object) (got None r) (and_then (key (c ∷ r)) (λ a r. and_then (colon_after r) (λ u y. got (Some a) y)))
+
+unfoldable pub key_at : List ℕ → Read (Option (List ℕ × Bool))
+key_at x = and_then (skip between x) (λ u y. key_head y)
+
+-- a value and the members after it
+abbrev pub first_of_trees : ℕ → List ℕ → Read Trees
+first_of_trees d x = and_then (read d x) (λ t y. and_then (trees_after d y) (λ ts z. got (more t ts) z))
+
+-- a value of this key and the pairs after it
+abbrev pub first_of_pairs : ℕ → List ℕ × Bool → List ℕ → Read Pairs
+first_of_pairs d a x = and_then (read d x) (λ t y. and_then (pairs_after d y) (λ ps z. got (pair a.0 a.1 t ps) z))
+
+-- a member comes next, or the array was closed
+abbrev pub goes_on_with : {A : Type 0} → A → (List ℕ → Read A) → Bool → List ℕ → Read A
+goes_on_with nothing f goes y = cond goes (f y) (got nothing y)
+
+abbrev pub pair_or_end : ℕ → Option (List ℕ × Bool) → List ℕ → Read Pairs
+pair_or_end d None y = got no_pair y
+pair_or_end d (Some a) y = first_of_pairs d a y

@@ -1,0 +1,3 @@
+-- The spellings of written numbers and texts.
+pub mod NumberText
+pub mod Quoting

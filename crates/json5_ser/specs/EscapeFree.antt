@@ -1,0 +1,18 @@
+-- Characters that are written as they stand between any quotes, and are no quotes themselves. Private clauses and proofs alone cite it.
+use Rattle.std.specs.Prelude.{ℕ, Bool, not, ◌&&◌, ◌||◌, ◌==◌}
+use Rattle.json5_text.specs.ByteRuns.{is_line_part}
+
+-- a byte at which a run of them ends
+abbrev pub ends_escape_free : ℕ → Bool
+ends_escape_free x = (x == 10) || ((x == 13) || ((x == 226) || ((x == 34) || ((x == 39) || (x == 92)))))
+
+abbrev pub is_escape_free_byte : ℕ → Bool
+is_escape_free_byte x = not (ends_escape_free x)
+
+-- neither a quote nor a backslash
+abbrev pub is_unmarked : ℕ → Bool
+is_unmarked c = not (c == 34) && (not (c == 39) && not (c == 92))
+
+-- a character of which is_escape_free_byte holds of each byte
+abbrev pub is_escape_free : ℕ → Bool
+is_escape_free c = is_line_part c && is_unmarked c

@@ -1,0 +1,76 @@
+//! Runs of a text that are written as they stand.
+
+ghost use Rattle.std.specs.Prelude.{◌≡◌, ◌≤◌, ◌+◌, length, drop, map, IsTrue};
+ghost use Rattle.std.specs.List.{prefix_len};
+ghost use Rattle.std.specs.Str.{IsUtf8, chars};
+ghost use Rattle.json5_grammar.specs.Language.Characters.{Each};
+ghost use Rattle.std.specs.Simd.Lanes.{mask_l};
+ghost use Rattle.json5_text.specs.Scan.{SkipsAll};
+ghost use Rattle.json5_ser.specs.EscapeFree.{ends_escape_free, is_escape_free_byte, is_escape_free};
+
+use std::simd::prelude::*;
+
+/// Which of the bytes end a run.
+#[inline(always)]
+fn stops(bytes: u8x16) -> u64
+    ensures { result ≡ mask_l (map ends_escape_free bytes) }
+{
+    (bytes.simd_eq(u8x16::splat(b'\n'))
+        | bytes.simd_eq(u8x16::splat(b'\r'))
+        | bytes.simd_eq(u8x16::splat(0xE2))
+        | bytes.simd_eq(u8x16::splat(b'"'))
+        | bytes.simd_eq(u8x16::splat(b'\''))
+        | bytes.simd_eq(u8x16::splat(b'\\'))).to_bitmask()
+}
+
+/// Whether a run goes on with the byte.
+#[inline(always)]
+fn is_escape_free_byte(byte: u8) -> bool
+    ensures { result ≡ is_escape_free_byte byte }
+{
+    !matches!(byte, b'\n' | b'\r' | 0xE2 | b'"' | b'\'' | b'\\')
+}
+
+/// The same as `escape_free_len` from there on, byte by byte.
+fn escape_free_len_from(bytes: &[u8], from: usize) -> usize
+    requires { from ≤ length bytes.now }
+    ensures { result ≡ from + prefix_len is_escape_free_byte (drop from bytes.now) }
+{
+    let mut i = from;
+    while i < bytes.len() && is_escape_free_byte(bytes[i]) {
+        i += 1;
+    }
+    i
+}
+
+/// Where the run in front ends.
+fn escape_free_len(bytes: &[u8]) -> usize
+    ensures value { result ≡ prefix_len is_escape_free_byte bytes.now }
+    ensures bound { result ≤ length bytes.now }
+{
+    let mut i = 0;
+    while bytes.len() - i >= 16 {
+        let found = stops(u8x16::from_slice(&bytes[i..]));
+        if found != 0 {
+            return i + found.trailing_zeros() as usize;
+        }
+        i += 16;
+    }
+    escape_free_len_from(bytes, i)
+}
+
+/// What follows the characters in front that stand for themselves between any quotes, and are no quotes themselves.
+pub(crate) fn skip_escape_free(text: &str) -> &str
+    ensures skips { SkipsAll is_escape_free text.now result.now }
+    ensures utf8 { IsUtf8 result.now }
+{
+    let end = escape_free_len(text.as_bytes());
+    text.split_at(end).1
+}
+
+/// Whether all characters stand for themselves between any quotes, and none is a quote.
+pub(crate) fn is_escape_free(text: &str) -> bool
+    ensures { IsTrue result → Each is_escape_free (chars text.now) }
+{
+    skip_escape_free(text).is_empty()
+}
