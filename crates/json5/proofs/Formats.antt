@@ -12,9 +12,9 @@ use Rattle.json5_text.specs.Errors.{FaultKind, code, custom, failed_write, kind_
 use Rattle.json5_text.specs.ValueViews.{Datum}
 use Rattle.json5_de.specs.Convert.{datum_of, items_of, fields_of}
 use Rattle.json5_ser.specs.Marks.{marks, unmarked, unmarked_elements, unmarked_fields}
-use Rattle.json5_ser.specs.Out.{Out, whole, invalid_key, too_deep, text_of, text_within}
+use Rattle.json5_ser.specs.Out.{Out, whole, invalid_key, too_deep, written_text, text_within}
 use Rattle.json5_ser.specs.Pieces.{AppendsFront, Pushes}
-use Rattle.json5_ser.specs.Texts.{IsText, RefusesText, StopsAs}
+use Rattle.json5_ser.specs.Texts.{IsText, RefusesToString, StopsAs}
 use Rattle.json5_ser.specs.ValueTrees.{datum_tree, items_tree, fields_tree}
 use Rattle.json5_ser.specs.Writes.{SerializerState, Writes, Refusal, by_key, by_depth, by_writer, by_refusal, by_none, refusal_of, RefusesBy, fresh, ended}
 use Rattle.json5_ser.proofs.Depths.{text_document}
@@ -50,7 +50,7 @@ written_tree t d e = ap datum_tree e ∙ same_tree t
 pub value_within : (limit : ℕ) (x : List ℕ) (t : Tree) (d : Datum) → Doc limit x t → d ≡ datum_of t → (text_within limit (datum_tree d)).stop ≡ whole
 value_within limit x t d doc e = subst (λ z. (text_within limit z).stop ≡ whole) (sym (written_tree t d e)) (read_written limit x t doc)
 
-pub value_whole : (x : List ℕ) (t : Tree) (d : Datum) → Doc max_depth x t → d ≡ datum_of t → (text_of (datum_tree d)).stop ≡ whole
+pub value_whole : (x : List ℕ) (t : Tree) (d : Datum) → Doc max_depth x t → d ≡ datum_of t → (written_text (datum_tree d)).stop ≡ whole
 value_whole = value_within max_depth
 
 pub formatted_within : (limit : ℕ) (x bytes : List ℕ) (t : Tree) (d : Datum) → Doc limit x t → d ≡ datum_of t → IsText (text_within limit (datum_tree d)) bytes → IsFormattedWithin limit x bytes
@@ -63,7 +63,7 @@ formatted_within limit x bytes t d doc e w = record {
   same = tree_again limit (datum_tree d) 0 w.stop ∙ written_tree t d e;
 }
 
-pub formatted : (x bytes : List ℕ) (t : Tree) (d : Datum) → Doc max_depth x t → d ≡ datum_of t → IsText (text_of (datum_tree d)) bytes → IsFormatted x bytes
+pub formatted : (x bytes : List ℕ) (t : Tree) (d : Datum) → Doc max_depth x t → d ≡ datum_of t → IsText (written_text (datum_tree d)) bytes → IsFormatted x bytes
 formatted = formatted_within max_depth
 
 -- ---- formatting twice
@@ -85,12 +85,12 @@ kind_of_whole o (code _) w h = absurd h
 kind_of_whole o failed_write w h = absurd h
 kind_of_whole o (custom _) w h = absurd h
 
-pub only_memory : (limit : ℕ) (x : List ℕ) (t : Tree) (d : Datum) (e : Error) → Doc limit x t → d ≡ datum_of t → RefusesText (text_within limit (datum_tree d)) e → IsOutOfMemory e
+pub only_memory : (limit : ℕ) (x : List ℕ) (t : Tree) (d : Datum) (e : Error) → Doc limit x t → d ≡ datum_of t → RefusesToString (text_within limit (datum_tree d)) e → IsOutOfMemory e
 only_memory limit x t d e doc is h = kind_of_whole (text_within limit (datum_tree d)) (kind_of e) (value_within limit x t d doc is) h.stops
 
 -- what is written of a document's value
 pub completed : {S : Type 0} (limit : ℕ) (bytes : S → List ℕ) (x : List ℕ) (t u : Tree) (d : Datum) (r : Result S Error) → Doc limit x t → Doc limit x u → d ≡ datum_of t
-    → IfOk r (λ s. IsText (text_within limit (datum_tree d)) (bytes s)) → IfErr r (λ e. RefusesText (text_within limit (datum_tree d)) e)
+    → IfOk r (λ s. IsText (text_within limit (datum_tree d)) (bytes s)) → IfErr r (λ e. RefusesToString (text_within limit (datum_tree d)) e)
     → MatchResult r (λ s. IsText (text_within limit (unmarked u)) (bytes s)) IsOutOfMemory
 completed limit bytes x t u d (Ok s) a b is w k = subst (λ z. IsText (text_within limit z) (bytes s)) (written_tree t d is ∙ ap unmarked (one_tree limit limit x t u a b)) w
 completed limit bytes x t u d (Err e) a b is w k = only_memory limit x t d e a is k

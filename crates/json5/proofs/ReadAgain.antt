@@ -11,10 +11,10 @@ use Rattle.json5_text.specs.Errors.{FaultKind, code, custom, failed_write, kind_
 use Rattle.json5_text.specs.Cursor.{IsOutOfMemory}
 use Rattle.json5_de.specs.Texts.{ReadsDocument}
 use Rattle.json5_ser.specs.WrittenTrees.{Written, null, boolean, number, text, array, object, Elements, no_element, element, Fields, no_field, field, named, bad}
-use Rattle.json5_ser.specs.Out.{Out, Stop, whole, invalid_key, too_deep, no_number, piece, stopped, after, ◌then◌, out, text_of, elements_out, fields_out, opening, closing, element_out, value_part}
+use Rattle.json5_ser.specs.Out.{Out, Stop, whole, invalid_key, too_deep, no_number, piece, stopped, followed_by, ◌then◌, out, written_text, elements_out, fields_out, opened_by, closed_by, element_out, value_part}
 use Rattle.json5_ser.specs.Writable.{is_writable}
 use Rattle.json5_ser.specs.Marks.{marks, element_marks, field_marks}
-use Rattle.json5_ser.specs.Texts.{RefusesText, StopsAs}
+use Rattle.json5_ser.specs.Texts.{RefusesToString, StopsAs}
 use Rattle.json5.specs.ReadsBack.{ReadsBack}
 
 -- each key has a text
@@ -40,9 +40,9 @@ abbrev mutual
 abbrev IsUnnamed : Stop → Type 0
 IsUnnamed s = (s ≡ whole) ⊎ (s ≡ no_number)
 
-both_at : (s : List ℕ) (e : Stop) (b : Out) → IsUnnamed e → IsUnnamed b.stop → IsUnnamed (after s e b).stop
-both_at s e b (inl f) k = subst (λ x. IsUnnamed (after s x b).stop) (sym f) k
-both_at s e b (inr f) k = subst (λ x. IsUnnamed (after s x b).stop) (sym f) (inr refl)
+both_at : (s : List ℕ) (e : Stop) (b : Out) → IsUnnamed e → IsUnnamed b.stop → IsUnnamed (followed_by s e b).stop
+both_at s e b (inl f) k = subst (λ x. IsUnnamed (followed_by s x b).stop) (sym f) k
+both_at s e b (inr f) k = subst (λ x. IsUnnamed (followed_by s x b).stop) (sym f) (inr refl)
 
 both : (a b : Out) → IsUnnamed a.stop → IsUnnamed b.stop → IsUnnamed (a then b).stop
 both a b h k = both_at a.text a.stop b h k
@@ -51,10 +51,10 @@ number_at : (b : Bool) (s : List ℕ) → IsUnnamed (cond b (piece s) (stopped n
 number_at true s = inl refl
 number_at false s = inr refl
 
-opens : (limit d bracket : ℕ) → d < limit → IsUnnamed (opening limit d bracket).stop
+opens : (limit d bracket : ℕ) → d < limit → IsUnnamed (opened_by limit d bracket).stop
 opens limit d bracket l = let h : nat_lt d limit ≡ true = grind (arith, nat_tests) in inl (ap (λ b. (cond b (piece (bracket ∷ [])) (stopped too_deep)).stop) h)
 
-closes : (b : Bool) (d bracket : ℕ) → IsUnnamed (closing d b bracket).stop
+closes : (b : Bool) (d bracket : ℕ) → IsUnnamed (closed_by d b bracket).stop
 closes true d bracket = inl refl
 closes false d bracket = inl refl
 
@@ -64,8 +64,8 @@ mutual
   not_refused limit (boolean b) d h l = inl refl
   not_refused limit (number n) d h l = number_at (is_writable n) (number_text n)
   not_refused limit (text u) d h l = inl refl
-  not_refused limit (array ts) d h l = both (opening limit d 91) (elements_out limit ts d false) (opens limit d 91 (omega (arith, l))) (elements_not limit ts d false h (omega (arith, l)))
-  not_refused limit (object fs) d h l = both (opening limit d 123) (fields_out limit fs d false) (opens limit d 123 (omega (arith, l))) (fields_not limit fs d false h (omega (arith, l)))
+  not_refused limit (array ts) d h l = both (opened_by limit d 91) (elements_out limit ts d false) (opens limit d 91 (omega (arith, l))) (elements_not limit ts d false h (omega (arith, l)))
+  not_refused limit (object fs) d h l = both (opened_by limit d 123) (fields_out limit fs d false) (opens limit d 123 (omega (arith, l))) (fields_not limit fs d false h (omega (arith, l)))
 
   elements_not : (limit : ℕ) (ts : Elements) (d : ℕ) (started : Bool) → ElementsHaveKeys ts → d + depths (element_marks ts) < limit → IsUnnamed (elements_out limit ts d started).stop
   elements_not limit no_element d started h l = closes started d 93
@@ -95,8 +95,8 @@ memory_by o failed_write w h = absurd h
 memory_by o (custom _) w h = absurd h
 
 -- what isn't too deep, and whose keys have texts, is refused only where memory ran out
-pub only_memory : (t : Written) (e : Error) → HasKeys t → depth (marks t) ≤ max_depth → RefusesText (text_of t) e → IsOutOfMemory e
-only_memory t e s l h = memory_by (text_of t) (kind_of e) (not_refused max_depth t 0 s (omega (arith, l))) h.stops
+pub only_memory : (t : Written) (e : Error) → HasKeys t → depth (marks t) ≤ max_depth → RefusesToString (written_text t) e → IsOutOfMemory e
+only_memory t e s l h = memory_by (written_text t) (kind_of e) (not_refused max_depth t 0 s (omega (arith, l))) h.stops
 
 -- a document that was written of a value that reads back is read as its content
 pub read_again : {V C : Type 0} (tree : V → Written) (convert : Tree → Option C) (content : V → C) (v : V) (x : List ℕ) (result : Result V Error) → ReadsBack tree convert content v → Doc max_depth x (marks (tree v)) → ReadsDocument content convert max_depth x result

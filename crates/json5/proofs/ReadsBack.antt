@@ -22,11 +22,11 @@ use Rattle.json5_de.specs.Keys.{KeyConversion}
 use Rattle.json5_de.specs.KeyKinds.{document_of}
 use Rattle.json5_de.proofs.WholeTexts.{converts_documents}
 use Rattle.json5_ser.specs.Out.{bool_text}
-use Rattle.json5_ser.specs.ValueTrees.{text_key}
+use Rattle.json5_ser.specs.ValueTrees.{key_of_string}
 use Rattle.json5_ser.proofs.Writables.{unsigned_whole}
-use Rattle.json5_ser.specs.WrittenTrees.{Key, named, natural_key, integer_key, Fields, field, fields_of}
+use Rattle.json5_ser.specs.WrittenTrees.{WrittenKey, named, natural_key, integer_key, Fields, field, fields_of}
 use Rattle.json5_ser.specs.WrittenTrees.{Written, null, boolean, number, text, array, object, natural, integer, no_element, element, elements_of}
-use Rattle.json5_ser.specs.Marks.{marks, field_marks, is_escape_free_key, element_marks, is_escape_free}
+use Rattle.json5_ser.specs.Marks.{marks, field_marks, is_escape_free_key, element_marks, is_escape_free_text}
 use Rattle.json5.specs.ReadsBack.{ReadsBack, KeyReadsBack, PairReadsBack, PairsReadBack, list_tree, list_of}
 
 pub natural_back : (bound n : ℕ) → n < bound → ReadsBack natural (unsigned_below bound) (λ n. n) n
@@ -45,8 +45,8 @@ if_escape_free_by u true = refl
 if_escape_free_by u false = refl
 
 -- a text that holds an escape is no slice
-pub slice_back : (u : List ℕ) → escape_free_of (marks (text u)) ≡ (if is_escape_free u then Some (encode_utf8_all u) else None)
-slice_back u = if_escape_free_by u (is_escape_free u)
+pub slice_back : (u : List ℕ) → escape_free_of (marks (text u)) ≡ (if is_escape_free_text u then Some (encode_utf8_all u) else None)
+slice_back u = if_escape_free_by u (is_escape_free_text u)
 
 -- ---- options
 
@@ -108,7 +108,7 @@ integer_key_back bound z low high h = number_key (signed_below bound) (whole z) 
 pub decimal_key_back : (d : Decimal) → Normal d → KeyReadsBack (λ d. named (decimal_text d)) (document_of decimal_of) (λ d. d) d
 decimal_key_back d h = number_key decimal_of (decimal d) d h refl
 
-pub string_key_back : (s : String Global) → KeyReadsBack text_key every_text string_bytes s
+pub string_key_back : (s : String Global) → KeyReadsBack key_of_string every_text string_bytes s
 string_key_back s = (chars (string_bytes s), refl, string_back s)
 
 pub character_key_back : (c : ℕ) → KeyReadsBack (λ c. named (c ∷ [])) one_character (λ c. c) c
@@ -116,11 +116,11 @@ character_key_back c = (c ∷ [], refl, refl)
 
 -- ---- objects
 
-one_pair : {C D : Type 0} (keys : KeyConversion C) (values : Tree → Option D) (key : Key) (t : Written) (fs : Fields) (c : C) (x : D) (ps : List (C × D)) → ((u : List ℕ) × (key ≡ named u) × (keys u (is_escape_free_key u) ≡ Some c)) → values (marks t) ≡ Some x
+one_pair : {C D : Type 0} (keys : KeyConversion C) (values : Tree → Option D) (key : WrittenKey) (t : Written) (fs : Fields) (c : C) (x : D) (ps : List (C × D)) → ((u : List ℕ) × (key ≡ named u) × (keys u (is_escape_free_key u) ≡ Some c)) → values (marks t) ≡ Some x
     → pair_contents keys values (field_marks fs) ≡ Some ps → pair_contents keys values (field_marks (field key t fs)) ≡ Some ((c, x) ∷ ps)
 one_pair keys values key t fs c x ps (u, is, e) f g = rw (is, e, f, g) refl
 
-pub pairs_back : {K V C D : Type 0} (key : K → Key) (keys : KeyConversion C) (as_key : K → C) (tree : V → Written) (values : Tree → Option D) (as_value : V → D) → PairsReadBack key keys as_key tree values as_value
+pub pairs_back : {K V C D : Type 0} (key : K → WrittenKey) (keys : KeyConversion C) (as_key : K → C) (tree : V → Written) (values : Tree → Option D) (as_value : V → D) → PairsReadBack key keys as_key tree values as_value
 pairs_back key keys as_key tree values as_value [] h = refl
 pairs_back key keys as_key tree values as_value (e ∷ es) h =
     let P = PairReadsBack key keys as_key tree values as_value in

@@ -8,15 +8,15 @@ use Rattle.json5_ser.specs.Marks.{unmarked}
 use Rattle.json5_ser.specs.Texts.{IsText}
 
 -- the bytes are the written text of the tree without its marks
-abbrev pub WritesTree : ℕ → Tree → List ℕ → Type 0
-WritesTree limit t bytes = IsText (text_within limit (unmarked t)) bytes
+abbrev pub WritesUnmarked : ℕ → Tree → List ℕ → Type 0
+WritesUnmarked limit t bytes = IsText (text_within limit (unmarked t)) bytes
 
 -- x is a document within the limit, the bytes are the written text of its tree without marks, and they are again a document of
 -- that tree
 pub record IsFormattedWithin (limit : ℕ) (x bytes : List ℕ) : Type 0 where
   pub tree : Tree
   pub document : Doc limit x tree
-  pub written : WritesTree limit tree bytes
+  pub written : WritesUnmarked limit tree bytes
   pub again : Tree
   pub reads_back : Doc limit (chars bytes) again
   pub same : unmarked again ≡ unmarked tree

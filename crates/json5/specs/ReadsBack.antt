@@ -8,7 +8,7 @@ use Rattle.json5_grammar.specs.Language.Trees.{Tree}
 use Rattle.json5_grammar.specs.Model.Collections.{contents, array_of}
 use Rattle.json5_de.specs.Keys.{KeyConversion}
 use Rattle.json5_de.specs.Maps.{TellsKeys, pair_content, pairs_of, in_order, in_turn}
-use Rattle.json5_ser.specs.WrittenTrees.{Written, Key, named, array, object, elements_of, fields_of}
+use Rattle.json5_ser.specs.WrittenTrees.{Written, WrittenKey, named, array, object, elements_of, fields_of}
 use Rattle.json5_ser.specs.Marks.{marks, is_escape_free_key}
 
 -- the tree that is written of the value converts, once it is read, to the value's content
@@ -23,16 +23,16 @@ abbrev pub list_of : {C : Type 0} → (Tree → Option C) → Tree → Option (L
 list_of f = array_of (contents f)
 
 -- what is written of the key is a text that converts, once it is read, to the key's content
-abbrev pub KeyReadsBack : {K C : Type 0} → (K → Key) → KeyConversion C → (K → C) → K → Type 0
+abbrev pub KeyReadsBack : {K C : Type 0} → (K → WrittenKey) → KeyConversion C → (K → C) → K → Type 0
 KeyReadsBack key convert content k = (u : List ℕ) × (key k ≡ named u) × (convert u (is_escape_free_key u) ≡ Some (content k))
 
 -- a pair's key and its value read back
-pub record PairReadsBack {K V C D : Type 0} (key : K → Key) (keys : KeyConversion C) (as_key : K → C) (tree : V → Written) (values : Tree → Option D) (as_value : V → D) (e : K × V) : Type 0 where
+pub record PairReadsBack {K V C D : Type 0} (key : K → WrittenKey) (keys : KeyConversion C) (as_key : K → C) (tree : V → Written) (values : Tree → Option D) (as_value : V → D) (e : K × V) : Type 0 where
   pub key_back : KeyReadsBack key keys as_key e.0
   pub value_back : ReadsBack tree values as_value e.1
 
 -- the pairs of an object read back, in their order, where each key and each value does
-abbrev pub PairsReadBack : {K V C D : Type 0} → (K → Key) → KeyConversion C → (K → C) → (V → Written) → (Tree → Option D) → (V → D) → Type 0
+abbrev pub PairsReadBack : {K V C D : Type 0} → (K → WrittenKey) → KeyConversion C → (K → C) → (V → Written) → (Tree → Option D) → (V → D) → Type 0
 PairsReadBack {K} {V} key keys as_key tree values as_value =
     (es : List (K × V)) → All (PairReadsBack key keys as_key tree values as_value) es → pairs_of keys values (marks (object (fields_of key tree es))) ≡ Some (map (pair_content as_key as_value) es)
 

@@ -13,7 +13,7 @@ ghost use Rattle.json5_de.specs.KeyKinds.{document_of};
 ghost use Rattle.json5_de.specs.Convert.{every_datum, unit_of, bool_of, unsigned_below, signed_below, decimal_of, text_of, escape_free_of, char_of, every_text, one_character};
 ghost use Rattle.json5_de.specs.ConvertLists.{option_of};
 ghost use Rattle.json5_ser.specs.WrittenTrees.{null, boolean, number, text, natural, integer, natural_key, integer_key};
-ghost use Rattle.json5_ser.specs.Marks.{marks, is_escape_free};
+ghost use Rattle.json5_ser.specs.Marks.{marks, is_escape_free_text};
 ghost use Rattle.json5_ser.specs.ValueTrees.{datum_tree};
 ghost use Rattle.json5.specs.AnyText.{FaultyDocument, IsOneFault, IsNoDocument, ReadsEachText};
 ghost use Rattle.json5.specs.Formatted.{IsFormattedWithin};
@@ -36,7 +36,7 @@ pub fn scalars_read_back()
     ensures decimal { (d : numbers.Decimal) → ReadsBack (λ d. number (numbers.decimal d)) decimal_of (λ d. d) d }
     ensures string { (s : String heap.Global) → ReadsBack (λ s. text (chars (string_bytes s))) text_of string_bytes s }
     ensures character { (c : ℕ) → ReadsBack (λ c. text (c ∷ [])) char_of (λ c. c) c }
-    ensures slice { (u : List ℕ) → escape_free_of (marks (text u)) ≡ (if is_escape_free u then Some (encode_utf8_all u) else None) }
+    ensures slice { (u : List ℕ) → escape_free_of (marks (text u)) ≡ (if is_escape_free_text u then Some (encode_utf8_all u) else None) }
 {}
 
 /// A list and an option, which is written as what it holds or null, read back where what they hold does. What is written as

@@ -26,7 +26,7 @@ ghost use Rattle.json5_grammar.specs.Language.Trees.{Tree};
 ghost use Rattle.json5_grammar.specs.Language.Documents.{Doc, max_depth};
 ghost use Rattle.json5_text.specs.Cursor.{IsOutOfMemory};
 ghost use Rattle.json5.specs.AnyText.{IsRefused, IsRefusedWithin, ReadsText};
-ghost use Rattle.json5.specs.Formatted.{WritesTree, IsFormatted, IsFormattedWithin};
+ghost use Rattle.json5.specs.Formatted.{WritesUnmarked, IsFormatted, IsFormattedWithin};
 
 pub use json5_de as de;
 pub use json5_de::{
@@ -66,7 +66,7 @@ use std::alloc::Global;
 /// As [`format_within`].
 pub fn format(alloc: Global, text: &str) -> Result<String>
     ensures formatted { IfOk result (λ s. IsFormatted (chars text.now) (string_bytes s)) }
-    ensures complete { (t : Tree) → Doc max_depth (chars text.now) t → MatchResult result (λ s. WritesTree max_depth t (string_bytes s)) IsOutOfMemory }
+    ensures complete { (t : Tree) → Doc max_depth (chars text.now) t → MatchResult result (λ s. WritesUnmarked max_depth t (string_bytes s)) IsOutOfMemory }
     ensures refused { IfErr result (IsRefused (chars text.now)) }
 {
     format_within(alloc, Limit::full(), text)
@@ -86,7 +86,7 @@ pub fn format(alloc: Global, text: &str) -> Result<String>
 /// - `OutOfMemory` where a request for memory was refused.
 pub fn format_within(alloc: Global, limit: Limit, text: &str) -> Result<String>
     ensures formatted { IfOk result (λ s. IsFormattedWithin limit (chars text.now) (string_bytes s)) }
-    ensures complete { (t : Tree) → Doc limit (chars text.now) t → MatchResult result (λ s. WritesTree limit t (string_bytes s)) IsOutOfMemory }
+    ensures complete { (t : Tree) → Doc limit (chars text.now) t → MatchResult result (λ s. WritesUnmarked limit t (string_bytes s)) IsOutOfMemory }
     ensures refused { IfErr result (IsRefusedWithin limit (chars text.now)) }
 {
     let value = read_value(alloc, limit, text)?;

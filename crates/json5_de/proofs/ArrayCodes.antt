@@ -15,7 +15,7 @@ use Rattle.json5_de.specs.State.{State}
 use Rattle.json5_value.specs.declared.brackets.Brackets.{Brackets}
 use Rattle.json5_de.specs.Brackets.{AreSigns}
 use Rattle.json5_de.specs.Access.{Closed, NotOpened, no_bracket, text_ends, too_deep, other_sign, bracket_missing, NotClosed, not_here, after_comma, AtFull, is_opening, is_comma_or_closing, begins_close}
-use Rattle.json5_de.specs.Seq.{GoesOn, NoNext, no_comma, comma_missing, in_blanks_after}
+use Rattle.json5_de.specs.Seq.{AdvancesToEntry, NoNext, no_comma, comma_missing, in_blanks_after}
 use Rattle.json5_de.specs.Faults.{AtEnd, AtOther, IsAfter, RefusedBy}
 use Rattle.json5_de.proofs.Expected.{Expected, other_fault}
 use Rattle.std.proofs.lemmas.Bool.{or_parts}
@@ -112,7 +112,7 @@ pub other_no_sign : {begins : ℕ → Bool} (sign : ℕ) (s : State) (w r : List
 other_no_sign sign s w r h o n k = no_sign sign s.unread w (o.char ∷ o.more) r h o.split (Gap.blanks o.blank) (begins_solid o.char o.more o.solid) n k
 
 -- what went on began with a comma or the bracket
-went_on : (b : Brackets) (comma_due more : Bool) (old new : State) → comma_due ≡ true → GoesOn b comma_due old new more → ((z : List ℕ) × IsSign 0x2C old.unread z) ⊎ ((z : List ℕ) × IsSign b.closing old.unread z)
+went_on : (b : Brackets) (comma_due more : Bool) (old new : State) → comma_due ≡ true → AdvancesToEntry b comma_due old new more → ((z : List ℕ) × IsSign 0x2C old.unread z) ⊎ ((z : List ℕ) × IsSign b.closing old.unread z)
 went_on b false more old new d at = absurd (cc)
 went_on b true true old new d at = let (z, comma, g) = at.begun in inl (z, comma)
 went_on b true false old new d at = let (r, close, e) = at.close in either r close
@@ -121,13 +121,13 @@ went_on b true false old new d at = let (r, close, e) = at.close in either r clo
     either r (inl k) = inr (r, k)
     either r (inr (y, comma, k)) = inl (y, comma)
 
-pub end_goes_nowhere : (b : Brackets) → AreSigns b → (comma_due more : Bool) (old new : State) → comma_due ≡ true → AtEnd old → GoesOn b comma_due old new more → ⊥
+pub end_goes_nowhere : (b : Brackets) → AreSigns b → (comma_due more : Bool) (old new : State) → comma_due ≡ true → AtEnd old → AdvancesToEntry b comma_due old new more → ⊥
 end_goes_nowhere b s comma_due more old new d at k = elim (went_on b comma_due more old new d k) [
   | inl w ↦ end_no_sign 0x2C old w.0 comma_solid at w.1
   | inr w ↦ end_no_sign b.closing old w.0 s.closing at w.1
 ]
 
-pub other_goes_nowhere : (b : Brackets) → AreSigns b → (comma_due more : Bool) (old new : State) (w : List ℕ) → comma_due ≡ true → AtOther (is_comma_or_closing b) old w → GoesOn b comma_due old new more → ⊥
+pub other_goes_nowhere : (b : Brackets) → AreSigns b → (comma_due more : Bool) (old new : State) (w : List ℕ) → comma_due ≡ true → AtOther (is_comma_or_closing b) old w → AdvancesToEntry b comma_due old new more → ⊥
 other_goes_nowhere b s comma_due more old new w d o k =
     let neither = or_parts (o.char == 0x2C) (o.char == b.closing) o.other in
     elim (went_on b comma_due more old new d k) [

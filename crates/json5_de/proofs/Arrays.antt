@@ -30,7 +30,7 @@ use Rattle.json5_de.specs.Brackets.{AreSigns}
 use Rattle.json5_value.specs.Brackets.{square}
 use Rattle.json5_de.specs.Access.{TookElement, NotOpened, no_bracket, text_ends, too_deep, NoBracket, other_sign, bracket_missing, NotClosed, not_here, after_comma as comma_before}
 use Rattle.json5_value.specs.Steps.{Unexpected, at_end, at_char}
-use Rattle.json5_de.specs.Seq.{IsAfterGap, Begun, AtMember, GoesOn, NothingNext, NoNext, no_comma, comma_missing}
+use Rattle.json5_de.specs.Seq.{IsAfterGap, IsMemberStart, AtMember, AdvancesToEntry, NothingNext, NoNext, no_comma, comma_missing}
 use Rattle.json5_de.specs.Faults.{AfterBlanks, in_blanks, after_gap, RefusedBy}
 use Rattle.json5_de.proofs.Taken.{refused_token}
 use Rattle.json5_de.proofs.Places.{refused_as, refused_after}
@@ -109,7 +109,7 @@ nowhere_after b k comma_due s mid next e is p n took f = subst (λ d. NothingNex
     comma : IsSign 0x2C s.unread next.unread
     comma = sign_next 0x2C s.unread mid.unread next.unread g took.split
 
-    member : (y : List ℕ) → Begun true s.unread y → ⊥
+    member : (y : List ℕ) → IsMemberStart true s.unread y → ⊥
     member y (z, other, gap) = no_gap_faulty next e y f (after_same_comma (λ q. IsAfterGap q y) s.unread next.unread z comma other gap)
 
     close : (r : List ℕ) → IsEnd b.closing true s.unread r → ⊥
@@ -121,7 +121,7 @@ only_read s t u a b = b ∙ ap (λ (m : State). record m { unread = u.unread }) 
 
 -- the bracket or an element after the comma
 pub goes_after : (b : Brackets) (comma_due is : Bool) (s mid next last : State) → comma_due ≡ true → PassedGap s mid → TookText mid (0x2C ∷ []) next → PassedGap next last
-    → (is ≡ true → slice_get last.unread 0 ≡ Some b.closing) → (is ≡ false → NotBegun (λ c. c == b.closing) last.unread) → GoesOn b comma_due s last (not is)
+    → (is ≡ true → slice_get last.unread 0 ≡ Some b.closing) → (is ≡ false → NotBegun (λ c. c == b.closing) last.unread) → AdvancesToEntry b comma_due s last (not is)
 goes_after b comma_due true s mid next last d p took q found other =
     let (r, split) = some_next last.unread b.closing (found refl) in
     let comma = sign_next 0x2C s.unread mid.unread next.unread (after_gap_of s mid p) took.split in
@@ -135,7 +135,7 @@ goes_after b comma_due false s mid next last d p took q found other =
     let comma = sign_next 0x2C s.unread mid.unread next.unread (after_gap_of s mid p) took.split in
     record {
       live = p.live;
-      begun = subst (λ w. Begun w s.unread last.unread) (sym d) (next.unread, comma, after_gap_of next last q);
+      begun = subst (λ w. IsMemberStart w s.unread last.unread) (sym d) (next.unread, comma, after_gap_of next last q);
       inside = other refl;
       rest = only_read s mid last p.rest (only_read mid next last took.rest q.rest);
     }
@@ -143,7 +143,7 @@ goes_after b comma_due false s mid next last d p took q found other =
 -- ---- an element
 
 -- what is read where it may begin
-pub element_read : (comma_due : Bool) (x y r : List ℕ) (t : Tree) → Begun comma_due x y → Reads y t r → IsElement comma_due x t r
+pub element_read : (comma_due : Bool) (x y r : List ℕ) (t : Tree) → IsMemberStart comma_due x y → Reads y t r → IsElement comma_due x t r
 element_read false x y r t g p = reads_here x g.gap y r t g.split g.is_gap p
 element_read true x y r t (z, comma, g) p = (z, comma, reads_here z g.gap y r t g.split g.is_gap p)
 
@@ -157,12 +157,12 @@ no_element_next b false x r t n e = let (y, g) = reads_gap x r t e in n.no_membe
 no_element_next b true x r t n (z, comma, e) = let (y, g) = reads_gap z r t e in n.no_member y (z, comma, g)
 
 -- and what stands there
-pub element_found : (comma_due : Bool) (x y r : List ℕ) (t : Tree) → Begun comma_due x y → IsElement comma_due x t r → Reads y t r
+pub element_found : (comma_due : Bool) (x y r : List ℕ) (t : Tree) → IsMemberStart comma_due x y → IsElement comma_due x t r → Reads y t r
 element_found false x y r t g p = reads_found x g.gap y r t g.split g.is_gap g.solid p
 element_found true x y r t (z, comma, g) (k, other, p) = reads_found z g.gap y r t g.split g.is_gap g.solid (after_same_comma (λ q. Reads q t r) x z k comma other p)
 
 -- no bracket closes there
-pub no_close_found : (b : Brackets) → AreSigns b → (comma_due : Bool) (x y r : List ℕ) → Begun comma_due x y → NotBegun (λ c. c == b.closing) y → IsEnd b.closing comma_due x r → ⊥
+pub no_close_found : (b : Brackets) → AreSigns b → (comma_due : Bool) (x y r : List ℕ) → IsMemberStart comma_due x y → NotBegun (λ c. c == b.closing) y → IsEnd b.closing comma_due x r → ⊥
 no_close_found b k false x y r g n c = no_sign_next b.closing x y r k.closing g n c
 no_close_found b k true x y r (z, comma, g) n (inl c) = no_comma_end b.closing x z r k.closing k.no_comma comma c
 no_close_found b k true x y r (z, comma, g) n (inr (w, other, c)) = no_sign_next b.closing z y r k.closing g n (after_same_comma (λ q. IsSign b.closing q r) x z w comma other c)

@@ -14,7 +14,7 @@ use Rattle.json5_de.specs.declared.found_text.FoundText.{FoundText}
 use Rattle.json5_de.specs.State.{State, GivesUp}
 use Rattle.json5_de.specs.ReaderSteps.{IsMismatchOf, IsUndecoded}
 use Rattle.json5_de.specs.Convert.{digits_bytes}
-use Rattle.json5_de.specs.FoundTexts.{SpellsText, OfFound, Judges}
+use Rattle.json5_de.specs.FoundTexts.{SpellsText, OfFound, JudgesText}
 
 undecoded : (h : FromHexError) (input : List ℕ) (offset : ℕ) (e : Error) → IsUndecoded h input offset e → IsMismatchOf (Some InvalidBytes) input offset e
 undecoded hex.OutOfMemory input offset e k = inl k
@@ -24,7 +24,7 @@ undecoded hex.InvalidStringLength input offset e k = inr k
 
 -- the bytes of a text that was found can't be decoded
 pub judged_undecoded : (old new : State) (found : FoundText) (result : Result ByteBuf Error) (h : FromHexError) (bytes : List ℕ) → SpellsText old found.token bytes → (h ≡ hex.OutOfMemory) ⊎ (decode_of bytes ≡ Err h)
-    → IsErrAnd result (IsUndecoded h old.input found.start) → GivesUp old new → Judges true (Some InvalidBytes) digits_bytes bytes_of found old new result
+    → IsErrAnd result (IsUndecoded h old.input found.start) → GivesUp old new → JudgesText true (Some InvalidBytes) digits_bytes bytes_of found old new result
 judged_undecoded old new found (Ok v) h bytes spells why is failed = absurd is
 judged_undecoded old new found (Err e) h bytes spells why is failed = record { converts = tt; kept = tt; other = by_cause why; refused = undecoded h old.input found.start e is; failed = failed }
   where

@@ -30,7 +30,7 @@ use Rattle.json5_de.specs.ConvertLists.{if_some}
 use Rattle.json5_de.specs.Faults.{AfterBlanks, in_blanks, after_gap, RefusedBy, RefusedByOrMemory}
 use Rattle.json5_de.specs.Keys.{TookKey, KeyConversion, GivesKey, CompletesKey, OneKeyAnswer, ReadsOneKey, every_key}
 use Rattle.json5_de.specs.KeyKinds.{KeyFault, KeyKind, NotKey, no_key, other_key, ReadsKeyAs, not_converted, coded_text_key, text_key, document_key, document_of, NotDocument, some_of}
-use Rattle.json5_de.specs.FoundTexts.{TookKeyAt, Judges, OfFound}
+use Rattle.json5_de.specs.FoundTexts.{TookKeyAt, JudgesText, OfFound}
 use Rattle.json5_de.specs.KeySteps.{IsTextFault, no_memory, at_key, is_out_of_memory}
 use Rattle.json5_de.specs.TokenKinds.{Kind, RefusedAs}
 use Rattle.json5_de.specs.ReaderSteps.{PassedGap, IsMismatch, IsMismatchOf}
@@ -173,7 +173,7 @@ key_not_text f content old new last key e k none is failed = key_not_coded None 
 
 -- the text is looked at where it stands
 pub key_judged : {V C : Type 0} (lacks : Bool) (of_other : Option ErrorCode) → (of_other ≡ Some codes.Failed → ⊥) → (f : KeyConversion C) (content : V → C) (old new last : State) (key : FoundText) (result : Result V Error) → TookKeyAt old new key
-    → Judges lacks of_other f content key new last result → ReadsKeyAs (coded_text_key of_other f) content old last result
+    → JudgesText lacks of_other f content key new last result → ReadsKeyAs (coded_text_key of_other f) content old last result
 key_judged lacks of_other unlike f content old new last key (Ok v) k j =
     subst (λ s. ReadsKeyAs (coded_text_key of_other f) content old s (Ok v)) (sym j.kept) (key_is_text f content old new key v k (j.converts k.text k.escape_free k.is_text k.scalars))
 key_judged {V = V} {C = C} lacks of_other unlike f content old new last key (Err e) k j = by_cause j.other

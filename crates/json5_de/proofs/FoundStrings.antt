@@ -14,7 +14,7 @@ use Rattle.json5_de.specs.declared.found_text.FoundText.{FoundText}
 use Rattle.json5_de.specs.State.{State, GivesUp}
 use Rattle.json5_de.specs.Convert.{as_text, every_text, one_character}
 use Rattle.json5_de.specs.Faults.{AfterBlanks, in_blanks, after_gap, RefusedByOrMemory, NotText, faulty_text}
-use Rattle.json5_de.specs.FoundTexts.{TookStringAt, SpellsText, OfFound, Judges}
+use Rattle.json5_de.specs.FoundTexts.{TookStringAt, SpellsText, OfFound, JudgesText}
 use Rattle.json5_de.specs.Law.{CompletesFree, StaysFailed}
 use Rattle.json5_de.specs.TokenKinds.{ReadsAs, coded_text_kind, escape_free_text}
 use Rattle.json5_de.specs.ReaderSteps.{PassedGap}
@@ -57,7 +57,7 @@ no_string other unlike f allocation_free content old new e only k complete faile
 
 -- the text is looked at where it stands
 pub string_judged : {V C : Type 0} (lacks : Bool) (other : Option ErrorCode) → other ≢ Some codes.Failed → (f : List ℕ → Bool → Option C) (allocation_free : Tree → Bool) (content : V → C) (old new last : State) (found : FoundText) (result : Result V Error)
-    → (lacks ≡ true → (t : Tree) → allocation_free t ≡ false) → TookStringAt old new found → Judges lacks other f content found new last result → ReadsAs (coded_text_kind other f allocation_free) content old last result
+    → (lacks ≡ true → (t : Tree) → allocation_free t ≡ false) → TookStringAt old new found → JudgesText lacks other f content found new last result → ReadsAs (coded_text_kind other f allocation_free) content old last result
 string_judged lacks other unlike f allocation_free content old new last found (Ok v) spare k j =
     subst (λ s. ReadsAs (coded_text_kind other f allocation_free) content old s (Ok v)) (sym j.kept) (reads_ok (coded_text_kind other f allocation_free) content old new v (
       text k.text k.escape_free,

@@ -9,7 +9,7 @@ use Rattle.json5_text.specs.declared.error.Error.{Error}
 use Rattle.json5_de.specs.State.{State}
 use Rattle.json5_value.specs.Brackets.{square}
 use Rattle.json5_de.specs.Access.{AccessState, OpensArray, ClosesArray, AtClose, ElementsRead, ReadsMore}
-use Rattle.json5_de.specs.Lists.{Element, Elements, element, every, count, Accepted, Within, Shape, HasPlace, ListFault, at_element, too_few, RefusesRequired, at_fault, missing, RefusesList}
+use Rattle.json5_de.specs.Lists.{Element, Elements, element, every, count, Accepted, ReadWithin, Shape, HasElement, ListFault, at_element, too_few, RefusesRequired, at_fault, missing, RefusesList}
 use Rattle.json5_grammar.proofs.Basics.{true_false}
 
 -- ---- elements that convert
@@ -36,7 +36,7 @@ count_values f (more t ts) vs e = let (c, rest, is, others, k) = both_parts (f t
 
 -- ---- how far it was read
 
-pub within : {A : Type 0} {Held : A → Type 0} (es : Elements) (state_of : A → AccessState) (old : State) (a : A) (now : AccessState) (ts : Trees) → OpensArray Held state_of old (Ok a) → now.start ≡ (state_of a).start → ElementsRead old ts now → Accepted es ts → Within es old now (count ts)
+pub within : {A : Type 0} {Held : A → Type 0} (es : Elements) (state_of : A → AccessState) (old : State) (a : A) (now : AccessState) (ts : Trees) → OpensArray Held state_of old (Ok a) → now.start ≡ (state_of a).start → ElementsRead old ts now → Accepted es ts → ReadWithin es old now (count ts)
 within es state_of old a now ts opens same read accepted = record {
   first = (state_of a).reader;
   opened = opens.bracket.opened.0;
@@ -48,12 +48,12 @@ within es state_of old a now ts opens same read accepted = record {
 }
 
 -- nothing of it yet
-pub begun : {A : Type 0} {Held : A → Type 0} (es : Elements) (state_of : A → AccessState) (old : State) (a : A) → OpensArray Held state_of old (Ok a) → Within es old (state_of a) 0
+pub begun : {A : Type 0} {Held : A → Type 0} (es : Elements) (state_of : A → AccessState) (old : State) (a : A) → OpensArray Held state_of old (Ok a) → ReadWithin es old (state_of a) 0
 begun es state_of old a opens = within es state_of old a (state_of a) no_more opens refl opens.read tt
 
 -- one element more
 pub one_further : {V C : Type 0} (es : Elements) (content : V → C) (convert : Tree → Option C) (refuses : State → Error → State → Type 0) (old : State) (s new : AccessState) (v : V) (n : ℕ) → es n ≡ element convert refuses
-    → Within es old s n → new.start ≡ s.start → ReadsMore content convert s new (Some v) → Within es old new (suc n)
+    → ReadWithin es old s n → new.start ≡ s.start → ReadsMore content convert s new (Some v) → ReadWithin es old new (suc n)
 one_further es content convert refuses old s new v n kind w same (t, is, on) = record {
   first = w.first;
   opened = w.opened;
@@ -65,7 +65,7 @@ one_further es content convert refuses old s new v n kind w same (t, is, on) = r
 }
 
 -- an access within a list hasn't failed
-pub reading : (es : Elements) (old : State) (now : AccessState) (n : ℕ) → Within es old now n → now.reader.failed ≡ false
+pub reading : (es : Elements) (old : State) (now : AccessState) (n : ℕ) → ReadWithin es old now n → now.reader.failed ≡ false
 reading es old now n w = ap (λ (s : State). s.failed) w.read.rest ∙ w.read.live
 
 -- ---- why it is refused
@@ -73,8 +73,8 @@ reading es old now n w = ap (λ (s : State). s.failed) w.read.rest ∙ w.read.li
 pub refuses_list : (es : Elements) (shape : Shape) (old : State) (e : Error) (new : State) → old.failed ≡ false → new.failed ≡ true → ListFault es shape old e → RefusesList es shape old e new
 refuses_list es shape old e new live failed fault = record { cause = λ l. fault; failed = failed; before = λ h. absurd (true_false h live) }
 
-pub required_fault : (es : Elements) (shape : Shape) (old : State) (e : Error) (now : AccessState) (n size : ℕ) → shape.size ≡ Some size → n < size → Within es old now n → RefusesRequired (es n).refuses now e → ListFault es shape old e
-required_fault es shape old e now n size is few w (at_fault f) = at_element now n w (subst (λ s. HasPlace s n) (sym is) few) f
+pub required_fault : (es : Elements) (shape : Shape) (old : State) (e : Error) (now : AccessState) (n size : ℕ) → shape.size ≡ Some size → n < size → ReadWithin es old now n → RefusesRequired (es n).refuses now e → ListFault es shape old e
+required_fault es shape old e now n size is few w (at_fault f) = at_element now n w (subst (λ s. HasElement s n) (sym is) few) f
 required_fault es shape old e now n size is few w (missing at close short) = too_few now n size w is few at close short
 
 -- where its bracket is next it is closed

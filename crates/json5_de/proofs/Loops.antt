@@ -17,7 +17,7 @@ use Rattle.json5_de.specs.State.{State}
 use Rattle.json5_de.specs.Law.{TookValue, Completes}
 use Rattle.json5_de.specs.Access.{AccessState, Opened, OpensArray, ClosesArray, ElementsRead, ElementsLeft, ReadsMore, LeavesFewer}
 use Rattle.json5_de.specs.Seq.{RefusedAtBracket}
-use Rattle.json5_de.specs.Lists.{element, every, count, Within, any_number, array_of_size, at_element, too_many, LeavesRequired, RefusesRequired, RefusesList}
+use Rattle.json5_de.specs.Lists.{element, every, count, ReadWithin, any_number, array_of_size, at_element, too_many, LeavesRequired, RefusesRequired, RefusesList}
 use Rattle.json5_de.proofs.ListFaults.{every_accepted, count_values, refuses_list, required_fault, reading}
 
 -- elements that convert are left, of so many in all where so many were read
@@ -175,7 +175,7 @@ module _ {U V C D : Type 0} {content : V → C} {f : Tree → Option C} (g : Tre
 
 -- ---- where it is refused
 
-in_loop : {V C : Type 0} {content : V → C} {f : Tree → Option C} (refuses : State → Error → State → Type 0) {old : State} {vs : List V} {now : AccessState} → Reading content f old vs now → Within (every (element f refuses)) old now (length vs)
+in_loop : {V C : Type 0} {content : V → C} {f : Tree → Option C} (refuses : State → Error → State → Type 0) {old : State} {vs : List V} {now : AccessState} → Reading content f old vs now → ReadWithin (every (element f refuses)) old now (length vs)
 in_loop {content = content} {f = f} refuses {vs = vs} m = record {
   first = m.first;
   opened = m.opened;

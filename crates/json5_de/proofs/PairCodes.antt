@@ -31,7 +31,7 @@ use Rattle.json5_de.specs.Faults.{AfterBlanks, in_blanks, after_gap, RefusedBy, 
 use Rattle.json5_de.specs.Access.{AtClose, PlacedAtBracket}
 use Rattle.json5_value.specs.Steps.{Unexpected, at_end, at_char}
 use Rattle.json5_value.specs.Places.{StartsAfter}
-use Rattle.json5_de.specs.Seq.{IsAfterGap, Begun, AtMember, NothingNext, NoNext, no_comma, comma_missing, in_blanks_after}
+use Rattle.json5_de.specs.Seq.{IsAfterGap, IsMemberStart, AtMember, NothingNext, NoNext, no_comma, comma_missing, in_blanks_after}
 use Rattle.json5_de.specs.Objects.{MapAccessState, bare_map, TookPairKey, AfterColon, TookPairValue, GivesPairKey, GivesPairValue, CompletesPairKey}
 use Rattle.json5_de.proofs.Offsets.{placed_where}
 use Rattle.json5_de.specs.ObjectFaults.{begins_key, AtKey, NoKeyHere, no_key, key_missing, NoKey, no_next, not_here, not_after_comma, PlacedAtKey, at_key, as_it_is, RefusesPairKey, not_reached, in_key, ReadsKeyOfPair, begins_next_key, no_key_code, RefusesNextKey, NoColon, no_colon, colon_missing, is_colon, RefusesPairValue, no_value, in_value, RefusesNextValue}
@@ -73,11 +73,11 @@ key_there x y r u p g k =
     }
 
 -- the same after the comma that is due
-pub pair_key_found : (comma_due : Bool) (x y r u : List ℕ) (p : Bool) → Begun comma_due x y → IsKey comma_due x u p r → ReadsKey y u p r
+pub pair_key_found : (comma_due : Bool) (x y r u : List ℕ) (p : Bool) → IsMemberStart comma_due x y → IsKey comma_due x u p r → ReadsKey y u p r
 pair_key_found false x y r u p g k = key_here x y r u p g k
 pair_key_found true x y r u p (z, comma, g) (w, other, k) = key_here z y r u p g (after_same_comma (λ q. ReadsKey q u p r) x z w comma other k)
 
-pair_key_read : (comma_due : Bool) (x y r u : List ℕ) (p : Bool) → Begun comma_due x y → ReadsKey y u p r → IsKey comma_due x u p r
+pair_key_read : (comma_due : Bool) (x y r u : List ℕ) (p : Bool) → IsMemberStart comma_due x y → ReadsKey y u p r → IsKey comma_due x u p r
 pair_key_read false x y r u p g k = key_there x y r u p g k
 pair_key_read true x y r u p (z, comma, g) k = (z, comma, key_there z y r u p g k)
 
@@ -88,7 +88,7 @@ took_pair_key comma_due s mid last u p at took = record {
   rest = only_read s mid last at.member.rest took.rest;
 }
 
-begun_solid : (comma_due : Bool) (x y : List ℕ) → Begun comma_due x y → Solid y
+begun_solid : (comma_due : Bool) (x y : List ℕ) → IsMemberStart comma_due x y → Solid y
 begun_solid false x y g = g.solid
 begun_solid true x y (z, comma, g) = g.solid
 
@@ -107,7 +107,7 @@ no_pair_next comma_due x n = record { no_key = λ u p r k. by comma_due u p r n 
     by true u p r n (z, comma, k) = let (y, g) = key_gap z r u p k in n.no_member y (z, comma, g)
 
 -- nor where neither a key nor the brace begins
-pub no_pair_here : (comma_due : Bool) (x y : List ℕ) → Begun comma_due x y → NotBegun (λ c. c == 125) y → NotBegun begins_key y → NoPairGoes comma_due x
+pub no_pair_here : (comma_due : Bool) (x y : List ℕ) → IsMemberStart comma_due x y → NotBegun (λ c. c == 125) y → NotBegun begins_key y → NoPairGoes comma_due x
 no_pair_here comma_due x y begun n none = record {
   no_key = λ u p r k. no_key_begun y r u p (begun_solid comma_due x y begun) none (pair_key_found comma_due x y r u p begun k);
   no_brace = λ r c. no_close_found curly curly_signs comma_due x y r begun n c;
@@ -145,7 +145,7 @@ refused_key_here comma_due s mid e at n f live = by comma_due at.begun
     here : Refused NoKeyHere (cursor_of mid) e
     here = refused_as mid mid e refl (λ reason place k. no_key_here mid.unread reason place n at.inside k) f
 
-    by : (comma_due : Bool) → Begun comma_due s.unread mid.unread → Refused (AfterBlanks (NoKey comma_due)) (cursor_of s) e
+    by : (comma_due : Bool) → IsMemberStart comma_due s.unread mid.unread → Refused (AfterBlanks (NoKey comma_due)) (cursor_of s) e
     by false g = refused_gap s mid e g (input_of at.rest) (refused_as mid mid e refl (λ reason place k. not_here refl k) here)
     by true (z, comma, g) =
         let next : State = record s { unread = z } in
@@ -222,14 +222,14 @@ other_no_brace false s w r o = let k = or_parts (begins_key o.char) (o.char == 1
 end_at_key : (comma_due : Bool) (s mid : State) → AtEnd s → AtKey comma_due s mid → ⊥
 end_at_key comma_due s mid at k = by comma_due k.member.begun
   where
-    by : (comma_due : Bool) → Begun comma_due s.unread mid.unread → ⊥
+    by : (comma_due : Bool) → IsMemberStart comma_due s.unread mid.unread → ⊥
     by true (z, comma, g) = end_no_sign 0x2C s z comma_solid at comma
     by false g = not_nil k.begins.char k.begins.more mid.unread k.begins.split (gap_last s.unread g.gap mid.unread at.1 g.is_gap g.solid g.split).1
 
 other_at_key : (comma_due : Bool) (s mid : State) (w : List ℕ) → AtOther (begins_next_key comma_due) s w → AtKey comma_due s mid → ⊥
 other_at_key comma_due s mid w o k = by comma_due k.member.begun o
   where
-    by : (comma_due : Bool) → Begun comma_due s.unread mid.unread → AtOther (begins_next_key comma_due) s w → ⊥
+    by : (comma_due : Bool) → IsMemberStart comma_due s.unread mid.unread → AtOther (begins_next_key comma_due) s w → ⊥
     by true (z, comma, g) o = other_no_sign 0x2C s w z comma_solid o (or_parts (o.char == 0x2C) (o.char == 125) o.other).0 comma
     by false g o =
         let next = (gap_before w g.gap mid.unread o.char o.more o.blank o.solid g.is_gap g.solid (sym o.split ∙ g.split)).1 in

@@ -13,7 +13,7 @@ use Rattle.json5_text.specs.Errors.{IsCustomAt}
 use Rattle.json5_de.specs.State.{State}
 use Rattle.json5_de.specs.Faults.{RefusedBy}
 use Rattle.json5_de.specs.Law.{Gives, Completes, TookValue}
-use Rattle.json5_de.specs.Refinement.{ReadsContent, if_more, and_then, NotAccepted, not_accepted}
+use Rattle.json5_de.specs.Refinement.{ReadsContent, if_more, refined, NotAccepted, not_accepted}
 use Rattle.json5_de.specs.Spans.{SpansValue}
 use Rattle.json5_de.proofs.Taken.{refused_token, input_of}
 
@@ -23,7 +23,7 @@ parts g None v e = absurd (cc)
 parts g (Some a) v e = (a, refl, e)
 
 -- what isn't accepted has no content
-pub no_content : {A B : Type 0} (f : Tree → Option A) (g : A → Option B) (t : Tree) (a : A) (v : B) → ((x : A) → f t ≡ Some x → a ≡ x) → g a ≡ None → and_then f g t ≡ Some v → ⊥
+pub no_content : {A B : Type 0} (f : Tree → Option A) (g : A → Option B) (t : Tree) (a : A) (v : B) → ((x : A) → f t ≡ Some x → a ≡ x) → g a ≡ None → refined f g t ≡ Some v → ⊥
 no_content f g t a v same none e = let (x, is, accepted) = parts g (f t) v e in let here = same x is in absurd (cc (here, none, accepted))
 
 -- one tree stands in front, so what is answered is its content

@@ -13,7 +13,7 @@ use Rattle.json5_text.specs.Cursor.{Cursor}
 use Rattle.json5_text.specs.Short.{TookWhole, TookInRange, StepsTo, TakesShortStep, TakesShortSign}
 use Rattle.json5_text.specs.ShortTexts.{ReadsEscapeFreeString, TookEscapeFree, TakesShortString, TakesShortKey}
 use Rattle.json5_text.specs.ShortTexts as texts
-use Rattle.json5_text.specs.TextTokens.{StandsAt}
+use Rattle.json5_text.specs.TextTokens.{IsSliceAt}
 use Rattle.json5_text.specs.declared.short_texts.Span.{Span}
 use Rattle.json5_text.specs.declared.short.ShortStep.{ShortStep}
 use Rattle.json5_text.specs.declared.short.ShortStep.TheVariants as short
@@ -23,7 +23,7 @@ use Rattle.json5_de.specs.KeyKinds.{ReadsKeyAs, string_key}
 use Rattle.json5_de.specs.Keys.{TookKey}
 use Rattle.json5_de.specs.Law.{TookValue}
 use Rattle.json5_de.specs.TokenKinds.{ReadsAs, whole_kind, natural_kind, integer_kind, string_kind}
-use Rattle.json5_de.specs.Seq.{Begun}
+use Rattle.json5_de.specs.Seq.{IsMemberStart}
 use Rattle.json5_de.specs.Short.{ReadsShort, StepsShort, ReadsShortText, ReadsShortKey, PassesShortColon, OwnsTextAt}
 use Rattle.json5_de.specs.State.{State}
 use Rattle.json5_de.proofs.TokenKinds.{reads_ok}
@@ -98,7 +98,7 @@ short_integer before after level failed old max (Some z) e room live fits p k =
 
 -- ---- a step to the next member
 
-begun_by : (comma_due : Bool) (x y : List ℕ) → StepsTo comma_due x y → Begun comma_due x y
+begun_by : (comma_due : Bool) (x y : List ℕ) → StepsTo comma_due x y → IsMemberStart comma_due x y
 begun_by false x y k = record { gap = k.gap; split = k.split; is_gap = k.is_gap; solid = k.solid }
 begun_by true x y (z, comma, k) = (z, comma, record { gap = k.gap; split = k.split; is_gap = k.is_gap; solid = k.solid })
 
@@ -115,11 +115,11 @@ short_step b comma_due before after level failed old short.Closing e live k =
 -- ---- texts and keys without an escape
 
 took_text : (before after : Cursor) (level : ℕ) (failed : Bool) (span : Span) → level ≤ max_depth → failed ≡ false → TookEscapeFree ReadsEscapeFreeString before after span
-    → (u : List ℕ) × TookValue (reader_at before level failed) (text u true) (reader_at after level failed) × StandsAt after.input u span.start span.end
+    → (u : List ℕ) × TookValue (reader_at before level failed) (text u true) (reader_at after level failed) × IsSliceAt after.input u span.start span.end
 took_text before after level failed span room live k = (
   k.spelled,
   record { live = live; reads = k.read; shallow = omega (arith, room); rest = ap (λ i. record { input = i; unread = after.unread; level = level; failed = failed }) k.same },
-  subst (λ i. StandsAt i k.spelled span.start span.end) (sym k.same) k.stands,
+  subst (λ i. IsSliceAt i k.spelled span.start span.end) (sym k.same) k.stands,
 )
 
 pub short_text : (before after : Cursor) (level : ℕ) (failed : Bool) (old : State) (o : Option Span) → reader_at before level failed ≡ old → level ≤ max_depth → failed ≡ false → TakesShortString before after o
@@ -128,11 +128,11 @@ short_text before after level failed old None e room live k = same_reader before
 short_text before after level failed old (Some span) e room live k = subst (λ s. ReadsShortText s (reader_at after level failed) (Some span)) e (took_text before after level failed span room live k)
 
 took_key : (before after : Cursor) (level : ℕ) (failed : Bool) (span : Span) → failed ≡ false → TookEscapeFree texts.ReadsEscapeFreeKey before after span
-    → (u : List ℕ) × TookKey (reader_at before level failed) u true (reader_at after level failed) × StandsAt after.input u span.start span.end
+    → (u : List ℕ) × TookKey (reader_at before level failed) u true (reader_at after level failed) × IsSliceAt after.input u span.start span.end
 took_key before after level failed span live k = (
   k.spelled,
   record { live = live; reads = k.read; rest = ap (λ i. record { input = i; unread = after.unread; level = level; failed = failed }) k.same },
-  subst (λ i. StandsAt i k.spelled span.start span.end) (sym k.same) k.stands,
+  subst (λ i. IsSliceAt i k.spelled span.start span.end) (sym k.same) k.stands,
 )
 
 pub short_key : (before after : Cursor) (level : ℕ) (failed : Bool) (old : State) (o : Option Span) → reader_at before level failed ≡ old → failed ≡ false → TakesShortKey before after o → ReadsShortKey old (reader_at after level failed) o
@@ -149,7 +149,7 @@ short_colon before after level failed old true e live k =
 
 -- ---- a text in memory of its own
 
-pub own_value : {A : Type 0} {span : Span} (old mid new : State) (r : Result (String A) Error) → ((u : List ℕ) × TookValue old (text u true) mid × StandsAt mid.input u span.start span.end) → OwnsTextAt span mid new r → ReadsAs string_kind string_bytes old new r
+pub own_value : {A : Type 0} {span : Span} (old mid new : State) (r : Result (String A) Error) → ((u : List ℕ) × TookValue old (text u true) mid × IsSliceAt mid.input u span.start span.end) → OwnsTextAt span mid new r → ReadsAs string_kind string_bytes old new r
 own_value old mid new (Ok t) (u, took, stands) (same, bytes) =
     subst (λ s. ReadsAs string_kind string_bytes old s (Ok t)) (sym same) (reads_ok string_kind string_bytes old mid t (text u true, took, ap Some (sym (bytes u stands))))
 own_value old mid new (Err e) (u, took, stands) (lacks, gives_up) = record {
@@ -163,7 +163,7 @@ own_value old mid new (Err e) (u, took, stands) (lacks, gives_up) = record {
   before = λ h. absurd (true_false h took.live);
 }
 
-pub own_key : {A : Type 0} {span : Span} (old mid new : State) (r : Result (String A) Error) → ((u : List ℕ) × TookKey old u true mid × StandsAt mid.input u span.start span.end) → OwnsTextAt span mid new r → ReadsKeyAs string_key string_bytes old new r
+pub own_key : {A : Type 0} {span : Span} (old mid new : State) (r : Result (String A) Error) → ((u : List ℕ) × TookKey old u true mid × IsSliceAt mid.input u span.start span.end) → OwnsTextAt span mid new r → ReadsKeyAs string_key string_bytes old new r
 own_key old mid new (Ok t) (u, took, stands) (same, bytes) =
     subst (λ s. ReadsKeyAs string_key string_bytes old s (Ok t)) (sym same) (key_ok string_bytes every_text _ old mid t (u, true, took, ap Some (sym (bytes u stands))))
 own_key old mid new (Err e) (u, took, stands) (lacks, gives_up) = record {

@@ -23,8 +23,8 @@ use Rattle.json5_de.proofs.TreeFaults.{as_fault}
 use Rattle.json5_text.specs.declared.value.Value.{Value}
 use Rattle.json5_text.specs.ValueViews.{value_of}
 use Rattle.json5_value.specs.Keeping.{ReadsDatum, BlamesOrMemory, as_datum, datum_at}
-use Rattle.json5_value.specs.SkipSteps.{Skips}
-use Rattle.json5_value.specs.Steps.{StandsAt, Blames, value_at}
+use Rattle.json5_value.specs.SkipSteps.{SkipsValue}
+use Rattle.json5_value.specs.Steps.{HasPositionAt, RefusesRead, value_at}
 use Rattle.json5_value.proofs.BuildScalars.{datum_got}
 use Rattle.json5_value.proofs.OtherCodes.{memory_other}
 use Rattle.json5_value.proofs.Steps.{blames_as, forget_got}
@@ -79,7 +79,7 @@ forget_bad {A = A} (bad d q) c p e = let a : d ≡ c = cc in let b : q ≡ p = c
     renamed m is a b = subst (λ z. m ≡ bad z p) a (subst (λ z. m ≡ bad d z) b is)
 
 -- what can be read isn't refused
-readable : (old mid : State) (e : Error) (t : Tree) (r : List ℕ) → PassedGap old mid → Reads old.unread t r → old.level + depth t ≤ max_depth → Blames mid.input (whole_at mid) e → ⊥
+readable : (old mid : State) (e : Error) (t : Tree) (r : List ℕ) → PassedGap old mid → Reads old.unread t r → old.level + depth t ≤ max_depth → RefusesRead mid.input (whole_at mid) e → ⊥
 readable old mid e t r p reads low b =
     let same = ap (λ (s : State). s.level) p.rest in
     let found = phrase_found old.unread p.gap mid.unread r t p.split p.is_gap p.solid reads in
@@ -88,7 +88,7 @@ readable old mid e t r p reads low b =
     absurd (cc)
 
 -- the place of a fault in the rest of the text
-placed_in : (mid : State) (reason : Option ErrorCode) (p : Place) (e : Error) → read (max_depth - mid.level) mid.unread ≡ bad reason p → Says reason e → StandsAt mid.input p e → IsIn mid.unread p → Refused (ReadingRefuses mid.level) (cursor_of mid) e
+placed_in : (mid : State) (reason : Option ErrorCode) (p : Place) (e : Error) → read (max_depth - mid.level) mid.unread ≡ bad reason p → Says reason e → HasPositionAt mid.input p e → IsIn mid.unread p → Refused (ReadingRefuses mid.level) (cursor_of mid) e
 placed_in mid reason (here q) e is says (front, whole, place) (b, split) = record {
   reason = reason;
   place = Some b;
@@ -98,19 +98,19 @@ placed_in mid reason (here q) e is says (front, whole, place) (b, split) = recor
 }
 placed_in mid reason inner e is says place k = record { reason = reason; place = None; fault = (inner, is, tt); says = says; placed = place }
 
-blamed : (old mid : State) (e : Error) → PassedGap old mid → Blames mid.input (whole_at mid) e → RefusedInReading old e
+blamed : (old mid : State) (e : Error) → PassedGap old mid → RefusesRead mid.input (whole_at mid) e → RefusedInReading old e
 blamed old mid e p b = by_cause b.says
   where
     is : read (max_depth - mid.level) mid.unread ≡ bad b.reason b.place
     is = forget_bad (read (max_depth - mid.level) mid.unread) b.reason b.place b.is_bad
 
-    by_cause : IsOutOfMemory e ⊎ (Says b.reason e × StandsAt mid.input b.place e) → RefusedInReading old e
+    by_cause : IsOutOfMemory e ⊎ (Says b.reason e × HasPositionAt mid.input b.place e) → RefusedInReading old e
     by_cause (inl memory) = inl memory
     by_cause (inr (says, there)) =
         inr (refused_token old mid e p (subst (λ n. Refused (ReadingRefuses n) (cursor_of mid) e) (ap (λ (s : State). s.level) p.rest) (placed_in mid b.reason b.place e is says there (read_place (max_depth - mid.level) mid.unread b.reason b.place is))))
 
 -- the value was refused
-pub tree_refused : {V C : Type 0} (content : V → C) (convert : Tree → Option C) (allocation_free : Tree → Bool) (old mid new : State) (e : Error) → PassedGap old mid → Blames mid.input (whole_at mid) e → GivesUp mid new → ReadsTree content convert allocation_free old new (Err e)
+pub tree_refused : {V C : Type 0} (content : V → C) (convert : Tree → Option C) (allocation_free : Tree → Bool) (old mid new : State) (e : Error) → PassedGap old mid → RefusesRead mid.input (whole_at mid) e → GivesUp mid new → ReadsTree content convert allocation_free old new (Err e)
 tree_refused content convert allocation_free old mid new e p b g = record {
   sound = tt;
   complete = λ t r c live reads shallow is. absurd (readable old mid e t r p reads shallow b);
@@ -164,7 +164,7 @@ refused_as content other convert allocation_free old new e k = record {
 
 -- ---- a value of any kind was passed over, or refused
 
-pub tree_result : (old mid new : State) (result : Result (Unit {0}) Error) → PassedGap old mid → Calls (Skips (max_depth - mid.level)) mid new result → ReadsTree nothing every_value every_tree old new result
+pub tree_result : (old mid new : State) (result : Result (Unit {0}) Error) → PassedGap old mid → Calls (SkipsValue (max_depth - mid.level)) mid new result → ReadsTree nothing every_value every_tree old new result
 tree_result old mid new (Ok u) p k =
     let (t, e) = forget_got (read (max_depth - mid.level) mid.unread) u new.unread k.call.given.reads in
     tree_read nothing every_value every_tree old mid new t u p e k.read refl

@@ -38,7 +38,7 @@ use Rattle.json5_de.specs.Keys.{TookKey, GivesKey}
 use Rattle.json5_de.specs.KeyKinds.{ReadsKeyAs, variant_key}
 use Rattle.json5_de.specs.Objects.{MapAccessState, PairsRead, AfterColon, bare_map}
 use Rattle.json5_de.specs.ObjectFaults.{begins_key, BeginsKey, NoColon}
-use Rattle.json5_de.specs.Enums.{named_variant, EnumAccessState, AtContent, AfterName, NameRead, ContentTail, content_depth, ContentLeft, begins_variant, NoVariant, no_variant, variant_missing, NotKeyed, not_keyed, key_missing, is_left_brace, Begins, IsNext, no_only_key, other_key, not_followed, RefusesKeyed, RefusesName, nothing_named, other_text, not_opened, in_object, NamesVariant, ReadsOnlyKey, ReadsKeyed}
+use Rattle.json5_de.specs.Enums.{named_variant, EnumAccessState, AtContent, AfterName, NameRead, ContentTail, content_depth, ContentLeft, begins_variant, NoVariant, no_variant, variant_missing, NotKeyed, not_keyed, key_missing, is_left_brace, FirstCharIs, IsNext, no_only_key, other_key, not_followed, RefusesKeyed, RefusesName, nothing_named, other_text, not_opened, in_object, NamesVariant, ReadsOnlyKey, ReadsKeyed}
 use Rattle.json5_de.proofs.Arrays.{only_read, level_of, failed_of, sign_next, after_gap_of}
 use Rattle.json5_de.proofs.Elements.{still_live, same_level}
 use Rattle.json5_de.proofs.Expected.{Expected, end_fault, other_fault}
@@ -428,15 +428,15 @@ a_text names (number n) k e = absurd (cc)
 a_text names (array ts) k e = absurd (cc)
 a_text names (object ps) k e = absurd (cc)
 
-quote_next : {old mid : State} → PassedGap old mid → Begins is_quote mid.unread → IsNext begins_variant old mid
+quote_next : {old mid : State} → PassedGap old mid → FirstCharIs is_quote mid.unread → IsNext begins_variant old mid
 quote_next p h = record { passed = p; first = record { char = h.char; more = h.more; split = h.split; is_first = or_left (is_quote h.char) (is_left_brace h.char) h.is_first } }
 
-brace_next : {old mid : State} → PassedGap old mid → Begins is_left_brace mid.unread → IsNext begins_variant old mid
+brace_next : {old mid : State} → PassedGap old mid → FirstCharIs is_left_brace mid.unread → IsNext begins_variant old mid
 brace_next p h = record { passed = p; first = record { char = h.char; more = h.more; split = h.split; is_first = or_right (is_quote h.char) (is_left_brace h.char) h.is_first } }
 
 module _ (names : List (List ℕ)) (old mid : State) (p : PassedGap old mid) (start : ℕ) (counted : (before : List ℕ) → mid.input ≡ before ++ mid.unread → start ≡ length (encode_utf8_all before)) where
   -- a text
-  pub text_named : {A : Type 0} (state_of : A → EnumAccessState) (new : State) (a : A) (k : ℕ) → Begins is_quote mid.unread → state_of a ≡ record { reader = new; start = start; variant = k; has_content = false } → ReadsAs {V = ℕ} (variant_kind names) (λ n. n) mid new (Ok k) → NamesVariant names state_of old (Ok a)
+  pub text_named : {A : Type 0} (state_of : A → EnumAccessState) (new : State) (a : A) (k : ℕ) → FirstCharIs is_quote mid.unread → state_of a ≡ record { reader = new; start = start; variant = k; has_content = false } → ReadsAs {V = ℕ} (variant_kind names) (λ n. n) mid new (Ok k) → NamesVariant names state_of old (Ok a)
   text_named state_of new a k h same reads =
       let (t, took, is) = reads.sound in
       let (u, escape_free, one, place) = a_text names t k is in
@@ -450,7 +450,7 @@ module _ (names : List (List ℕ)) (old mid : State) (p : PassedGap old mid) (st
         counted = counted;
       }))
 
-  pub text_unnamed : {A : Type 0} (state_of : A → EnumAccessState) (new : State) (e : Error) → Begins is_quote mid.unread → ReadsAs {V = ℕ} (variant_kind names) (λ n. n) mid new (Err e) → NamesVariant names state_of old (Err e)
+  pub text_unnamed : {A : Type 0} (state_of : A → EnumAccessState) (new : State) (e : Error) → FirstCharIs is_quote mid.unread → ReadsAs {V = ℕ} (variant_kind names) (λ n. n) mid new (Err e) → NamesVariant names state_of old (Err e)
   text_unnamed state_of new e h k =
       names_refused names state_of old e mid (quote_next p h) (other_text mid (record { passed = p; first = h }) k.refused) (λ live. k.unprompted (failed_of p.rest ∙ live))
       (λ t r i d reads shallow is. by t r i d (variant_next names (i, d) mid.unread h.char h.more r t p.solid h.split reads is) reads shallow is)
@@ -466,7 +466,7 @@ module _ (names : List (List ℕ)) (old mid : State) (p : PassedGap old mid) (st
       by (object (pair u escape_free w (pair v o x ps))) r i d at reads shallow is = absurd (cc)
 
   -- an object
-  pub object_named : {A : Type 0} (state_of : A → EnumAccessState) (new : State) (a : A) (k : ℕ) → Begins is_left_brace mid.unread → state_of a ≡ record { reader = new; start = start; variant = k; has_content = true } → ReadsKeyed names mid new (Ok k) → NamesVariant names state_of old (Ok a)
+  pub object_named : {A : Type 0} (state_of : A → EnumAccessState) (new : State) (a : A) (k : ℕ) → FirstCharIs is_left_brace mid.unread → state_of a ≡ record { reader = new; start = start; variant = k; has_content = true } → ReadsKeyed names mid new (Ok k) → NamesVariant names state_of old (Ok a)
   object_named state_of new a k h same reads =
       let (u, escape_free, at, place) = reads.sound in
       names_read names state_of old a mid (brace_next p h) (subst (NameRead names old) (sym same) (record {
@@ -479,7 +479,7 @@ module _ (names : List (List ℕ)) (old mid : State) (p : PassedGap old mid) (st
         counted = counted;
       }))
 
-  pub object_unnamed : {A : Type 0} (state_of : A → EnumAccessState) (new : State) (e : Error) → Begins is_left_brace mid.unread → ReadsKeyed names mid new (Err e) → NamesVariant names state_of old (Err e)
+  pub object_unnamed : {A : Type 0} (state_of : A → EnumAccessState) (new : State) (e : Error) → FirstCharIs is_left_brace mid.unread → ReadsKeyed names mid new (Err e) → NamesVariant names state_of old (Err e)
   object_unnamed state_of new e h k =
       names_refused names state_of old e mid (brace_next p h) (cause k.refused) (λ live. k.unprompted (failed_of p.rest ∙ live))
       (λ t r i d reads shallow is. by t r i d (variant_next names (i, d) mid.unread h.char h.more r t p.solid h.split reads is) reads shallow is)

@@ -135,8 +135,8 @@ IsFailedAtBracket s e = (kind_of e ≡ code codes.Failed) × IsAtBracket s e
 abbrev pub AnswersFailedAtBracket : {V : Type 0} → AccessState → Result V Error → Type 0
 AnswersFailedAtBracket s result = s.reader.failed ≡ true → IsErrAnd result (IsFailedAtBracket s)
 
-abbrev pub HasPlace : Error → Type 0
-HasPlace e = place_of e ≢ None
+abbrev pub HasPosition : Error → Type 0
+HasPosition e = place_of e ≢ None
 
 -- after the blanks w stands an opening bracket, where no more may be open
 pub record AtFull (b : Brackets) (old : State) (w : List ℕ) : Type 0 where

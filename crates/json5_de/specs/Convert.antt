@@ -107,8 +107,8 @@ one_character (c ∷ []) escape_free = Some c
 one_character (c ∷ d ∷ u) escape_free = None
 
 -- the bytes of these names
-abbrev pub spelled : List (Bor (List ℕ)) → List (List ℕ)
-spelled names = map (λ name. name.now) names
+abbrev pub names_bytes : List (Bor (List ℕ)) → List (List ℕ)
+names_bytes names = map (λ name. name.now) names
 
 -- a text that is one of these names, as its first place among them
 abbrev pub index_of : List (List ℕ) → List ℕ → Bool → Option ℕ

@@ -126,7 +126,7 @@ pub data NotKeyed : List ℕ → Option ErrorCode → Option (List ℕ) → Type
   key_missing : NotKeyed [] (Some codes.EofParsingObject) None
 
 -- x begins with such a character
-pub record Begins (begins : ℕ → Bool) (x : List ℕ) : Type 0 where
+pub record FirstCharIs (begins : ℕ → Bool) (x : List ℕ) : Type 0 where
   pub char : ℕ
   pub more : List ℕ
   pub split : x ≡ char ∷ more
@@ -135,7 +135,7 @@ pub record Begins (begins : ℕ → Bool) (x : List ℕ) : Type 0 where
 -- after a gap such a character is next
 pub record IsNext (begins : ℕ → Bool) (old start : State) : Type 0 where
   pub passed : PassedGap old start
-  pub first : Begins begins start.unread
+  pub first : FirstCharIs begins start.unread
 
 -- why the only key of an object is refused: none is next, it names no variant, or no colon is after it
 pub data RefusesOnlyKey (names : List (List ℕ)) (inside : State) (e : Error) : Type 0 where

@@ -81,7 +81,7 @@ OfFound s found P = (u : List ℕ) (escape_free : Bool) → Spells s.input u esc
 
 -- the content is what the text that was found converts to, and nothing changes; a text that doesn't convert is refused at its start with this code,
 -- None for a text of its own; one that does is only where it may lack memory
-pub record Judges {V C : Type 0} (may_lack_memory : Bool) (of_other : Option ErrorCode) (f : KeyConversion C) (content : V → C) (found : FoundText) (old new : State) (result : Result V Error) : Type 0 where
+pub record JudgesText {V C : Type 0} (may_lack_memory : Bool) (of_other : Option ErrorCode) (f : KeyConversion C) (content : V → C) (found : FoundText) (old new : State) (result : Result V Error) : Type 0 where
   pub converts : IfOk result (λ v. OfFound old found (λ u escape_free. f u escape_free ≡ Some (content v)))
   pub kept : OnOk result (new ≡ old)
   pub other : IfErr result (λ e. ((may_lack_memory ≡ true) × LacksMemory e) ⊎ OfFound old found (λ u escape_free. f u escape_free ≡ None))

@@ -65,7 +65,7 @@ LeavesRequired content convert (more t ts) r new (Err e) = LeavesFewer content c
 -- ---- a list
 
 -- the list was opened, and so many elements of it were read, each of which converts
-pub record Within (es : Elements) (old : State) (now : AccessState) (n : ℕ) : Type 0 where
+pub record ReadWithin (es : Elements) (old : State) (now : AccessState) (n : ℕ) : Type 0 where
   pub first : State
   pub opened : Opened square old first
   pub start : (before : List ℕ) → old.input ≡ before ++ left_bracket ∷ first.unread → now.start ≡ length (encode_utf8_all before)
@@ -89,16 +89,16 @@ abbrev pub tuple_of_size : ℕ → Shape
 tuple_of_size n = record { size = Some n; gathers = false }
 
 -- such a list has an element at this place
-abbrev pub HasPlace : Option ℕ → ℕ → Type 0
-HasPlace None place = Unit {0}
-HasPlace (Some n) place = place < n
+abbrev pub HasElement : Option ℕ → ℕ → Type 0
+HasElement None place = Unit {0}
+HasElement (Some n) place = place < n
 
 -- why a list is refused: its opening bracket, the first element at fault, elements that are missing or too many, or memory that ran out
 pub data ListFault (es : Elements) (shape : Shape) (old : State) (e : Error) : Type 0 where
   not_opened : RefusedBy (NotOpened square old.level) old e → ListFault es shape old e
-  at_element : (now : AccessState) (n : ℕ) → Within es old now n → HasPlace shape.size n → RefusedAtBracket (es n).refuses now e → ListFault es shape old e
-  too_few : (now : AccessState) (n size : ℕ) → Within es old now n → shape.size ≡ Some size → n < size → (at : State) → AtClose square now.comma_due now.reader at → IsTooShort now e → ListFault es shape old e
-  too_many : (now : AccessState) (n : ℕ) → Within es old now n → shape.size ≡ Some n → RefusedBy (NotClosed square now.comma_due) now.reader e → ListFault es shape old e
+  at_element : (now : AccessState) (n : ℕ) → ReadWithin es old now n → HasElement shape.size n → RefusedAtBracket (es n).refuses now e → ListFault es shape old e
+  too_few : (now : AccessState) (n size : ℕ) → ReadWithin es old now n → shape.size ≡ Some size → n < size → (at : State) → AtClose square now.comma_due now.reader at → IsTooShort now e → ListFault es shape old e
+  too_many : (now : AccessState) (n : ℕ) → ReadWithin es old now n → shape.size ≡ Some n → RefusedBy (NotClosed square now.comma_due) now.reader e → ListFault es shape old e
   no_memory : shape.gathers ≡ true → LacksMemory e → ListFault es shape old e
 
 -- how a list is refused: after it the reader has failed for good

@@ -86,16 +86,16 @@ whole None = refl
 whole (Some a) = refl
 
 -- a field that may be missing
-abbrev pub optional : {C : Type 0} → List ℕ → (Tree → Option C) → Plan (Option C) (Option C)
-optional name f = record { step = at_name f name; start = None; build = λ o. Some o; convert = spec.optional name f; says = λ ps. unfilled f name ps ∙ whole (run (at_name f name) None ps) }
+abbrev pub plan_optional : {C : Type 0} → List ℕ → (Tree → Option C) → Plan (Option C) (Option C)
+plan_optional name f = record { step = at_name f name; start = None; build = λ o. Some o; convert = spec.optional name f; says = λ ps. unfilled f name ps ∙ whole (run (at_name f name) None ps) }
 
 -- one that has to be there
-abbrev pub required : {C : Type 0} → List ℕ → (Tree → Option C) → Plan (Option C) C
-required name f = record { step = at_name f name; start = None; build = λ o. o; convert = spec.required name f; says = λ ps. ap (if_more (λ o. o)) (unfilled f name ps) }
+abbrev pub plan_required : {C : Type 0} → List ℕ → (Tree → Option C) → Plan (Option C) C
+plan_required name f = record { step = at_name f name; start = None; build = λ o. o; convert = spec.required name f; says = λ ps. ap (if_more (λ o. o)) (unfilled f name ps) }
 
 -- one that has a default
-abbrev pub with_default : {C : Type 0} → C → List ℕ → (Tree → Option C) → Plan (Option C) C
-with_default c name f = record { step = at_name f name; start = None; build = λ o. Some (or_value c o); convert = spec.with_default c name f; says = λ ps. ap (if_some (or_value c)) (unfilled f name ps) ∙ made (or_value c) (run (at_name f name) None ps) }
+abbrev pub plan_with_default : {C : Type 0} → C → List ℕ → (Tree → Option C) → Plan (Option C) C
+plan_with_default c name f = record { step = at_name f name; start = None; build = λ o. Some (or_value c o); convert = spec.with_default c name f; says = λ ps. ap (if_some (or_value c)) (unfilled f name ps) ∙ made (or_value c) (run (at_name f name) None ps) }
 
 -- ---- a field, and others
 
@@ -121,8 +121,8 @@ built_both f g None y = refl
 built_both f g (Some p) None = joint_none (f p)
 built_both f g (Some p) (Some q) = refl
 
-abbrev pub and_field : {S T A B : Type 0} → Plan S A → Plan T B → Plan (S × T) (A × B)
-and_field a b = record {
+abbrev pub plan_and : {S T A B : Type 0} → Plan S A → Plan T B → Plan (S × T) (A × B)
+plan_and a b = record {
   step = both_steps a.step b.step;
   start = (a.start, b.start);
   build = λ s. joint (a.build s.0) (b.build s.1);

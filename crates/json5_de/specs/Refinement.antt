@@ -30,8 +30,8 @@ if_more g None = None
 if_more g (Some a) = g a
 
 -- a tree that converts, to what is accepted of it
-abbrev pub and_then : {A B : Type 0} → (Tree → Option A) → (A → Option B) → Tree → Option B
-and_then f g t = if_more g (f t)
+abbrev pub refined : {A B : Type 0} → (Tree → Option A) → (A → Option B) → Tree → Option B
+refined f g t = if_more g (f t)
 
 -- a value that converts and isn't accepted: a text of its own, at the value's first character
 pub data NotAccepted {A B : Type 0} (f : Tree → Option A) (g : A → Option B) : List ℕ → Option ErrorCode → Option (List ℕ) → Type 0 where

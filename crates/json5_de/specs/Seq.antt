@@ -15,7 +15,7 @@ use Rattle.json5_value.specs.declared.brackets.Brackets.{Brackets}
 use Rattle.json5_value.specs.Brackets.{square}
 use Rattle.json5_de.specs.Law.{Unprompted, Steady}
 use Rattle.json5_de.specs.Faults.{RefusedBy, AtEnd, DiffersWith}
-use Rattle.json5_de.specs.Access.{AccessState, AtClose, HasPlace, PlacedAtBracket, IsAtBracket, is_comma_or_closing, AnswersFailedAtBracket}
+use Rattle.json5_de.specs.Access.{AccessState, AtClose, HasPosition, PlacedAtBracket, IsAtBracket, is_comma_or_closing, AnswersFailedAtBracket}
 use Rattle.json5_value.specs.Steps.{Unexpected}
 
 -- y is what stands after the gap in front of x
@@ -26,9 +26,9 @@ pub record IsAfterGap (x y : List ℕ) : Type 0 where
   pub solid : Solid y
 
 -- y is where a member of x may begin, after the comma that is due
-abbrev pub Begun : Bool → List ℕ → List ℕ → Type 0
-Begun false x y = IsAfterGap x y
-Begun true x y = (z : List ℕ) × IsSign comma_sign x z × IsAfterGap z y
+abbrev pub IsMemberStart : Bool → List ℕ → List ℕ → Type 0
+IsMemberStart false x y = IsAfterGap x y
+IsMemberStart true x y = (z : List ℕ) × IsSign comma_sign x z × IsAfterGap z y
 
 -- the closing bracket in front was taken
 abbrev pub TookClosing : Brackets → State → State → Type 0
@@ -52,17 +52,17 @@ pub record TakesClosing (b : Brackets) (old new : State) (result : Result (Unit 
 -- a member may begin here: no closing bracket is next
 pub record AtMember (b : Brackets) (comma_due : Bool) (old new : State) : Type 0 where
   pub live : old.failed ≡ false
-  pub begun : Begun comma_due old.unread new.unread
+  pub begun : IsMemberStart comma_due old.unread new.unread
   pub inside : NotBegun (λ c. c == b.closing) new.unread
   pub rest : OnlyRead old new
 
-abbrev pub GoesOn : Brackets → Bool → State → State → Bool → Type 0
-GoesOn b comma_due old new true = AtMember b comma_due old new
-GoesOn b comma_due old new false = AtClose b comma_due old new
+abbrev pub AdvancesToEntry : Brackets → Bool → State → State → Bool → Type 0
+AdvancesToEntry b comma_due old new true = AtMember b comma_due old new
+AdvancesToEntry b comma_due old new false = AtClose b comma_due old new
 
 -- x goes on with no place where a member may begin, and with no closing bracket
 pub record NothingNext (b : Brackets) (comma_due : Bool) (x : List ℕ) : Type 0 where
-  pub no_member : (y : List ℕ) → Begun comma_due x y → ⊥
+  pub no_member : (y : List ℕ) → IsMemberStart comma_due x y → ⊥
   pub no_close : (r : List ℕ) → IsEnd b.closing comma_due x r → ⊥
 
 -- what is refused where the next member is expected
@@ -73,7 +73,7 @@ pub data NoNext (b : Brackets) (comma_due : Bool) : List ℕ → Option ErrorCod
 
 -- the reader goes to the next member, or to the closing bracket
 pub record Advances (b : Brackets) (comma_due : Bool) (old new : State) (result : Result Bool Error) : Type 0 where
-  pub sound : IfOk result (λ more. GoesOn b comma_due old new more)
+  pub sound : IfOk result (λ more. AdvancesToEntry b comma_due old new more)
   pub refused : IfErr result (RefusedBy (NoNext b comma_due) old)
   pub nowhere : OnErr result (old.failed ≡ false → NothingNext b comma_due old.unread)
   pub steady : Steady old new result
@@ -95,7 +95,7 @@ pub record PlacedFault (IsCause : Cause) (old : AccessState) (e : Error) : Type 
 -- at the end, and `other_code` at a character that begins nothing of it.
 pub record RefusesCall {V : Type 0} (IsCause : Cause) (asked : Bool) (begins : ℕ → Bool) (end_code other_code : ErrorCode) (old : AccessState) (new : State) (result : Result V Error) : Type 0 where
   pub cause : IfErr result (λ e. old.reader.failed ≡ false → PlacedFault IsCause old e)
-  pub placed : IfErr result HasPlace
+  pub placed : IfErr result HasPosition
   pub ends : asked ≡ true → AtEnd old.reader → IsErrAnd result (λ e. (kind_of e ≡ code end_code) × IsAtBracket old e)
   pub differs : asked ≡ true → DiffersWith begins other_code old.reader result
   pub unprompted : Unprompted old.reader result

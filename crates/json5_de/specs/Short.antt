@@ -4,7 +4,7 @@ use Rattle.std.specs.Borrow.{Bor}
 use Rattle.std.specs.Str.{encode_utf8_all}
 use Rattle.json5_grammar.specs.Language.Trees.{text}
 use Rattle.json5_text.specs.Errors.{LacksMemory}
-use Rattle.json5_text.specs.TextTokens.{StandsAt}
+use Rattle.json5_text.specs.TextTokens.{IsSliceAt}
 use Rattle.json5_text.specs.ShortTexts.{IsTextAt}
 use Rattle.json5_text.specs.declared.error.Error.{Error}
 use Rattle.json5_text.specs.declared.short_texts.Span.{Span}
@@ -15,7 +15,7 @@ use Rattle.json5_de.specs.Keys.{TookKey}
 use Rattle.json5_de.specs.Law.{TookValue}
 use Rattle.json5_de.specs.Objects.{AfterColon}
 use Rattle.json5_de.specs.TokenKinds.{Kind, ReadsAs}
-use Rattle.json5_de.specs.Seq.{GoesOn}
+use Rattle.json5_de.specs.Seq.{AdvancesToEntry}
 use Rattle.json5_de.specs.State.{State, GivesUp}
 
 -- a value of the kind is read, or nothing
@@ -24,25 +24,25 @@ ReadsShort kind content old new result = MatchOption result (new ≡ old) (λ v.
 
 -- a step to the next member or to the closing bracket is taken, or nothing
 abbrev pub StepsShort : Brackets → Bool → State → State → ShortStep → Type 0
-StepsShort b comma_due old new short.Member = GoesOn b comma_due old new true
-StepsShort b comma_due old new short.Closing = GoesOn b comma_due old new false
+StepsShort b comma_due old new short.Member = AdvancesToEntry b comma_due old new true
+StepsShort b comma_due old new short.Closing = AdvancesToEntry b comma_due old new false
 StepsShort b comma_due old new short.Other = new ≡ old
 
 -- a text without an escape is read, which stands there, or nothing
 abbrev pub ReadsShortText : State → State → Option Span → Type 0
-ReadsShortText old new result = MatchOption result (new ≡ old) (λ span. (u : List ℕ) × TookValue old (text u true) new × StandsAt new.input u span.start span.end)
+ReadsShortText old new result = MatchOption result (new ≡ old) (λ span. (u : List ℕ) × TookValue old (text u true) new × IsSliceAt new.input u span.start span.end)
 
 -- a key without an escape is taken, whose text stands there, or nothing
 abbrev pub ReadsShortKey : State → State → Option Span → Type 0
-ReadsShortKey old new result = MatchOption result (new ≡ old) (λ span. (u : List ℕ) × TookKey old u true new × StandsAt new.input u span.start span.end)
+ReadsShortKey old new result = MatchOption result (new ≡ old) (λ span. (u : List ℕ) × TookKey old u true new × IsSliceAt new.input u span.start span.end)
 
 -- a text without an escape is read, or nothing
 abbrev pub ReadsEscapeFreeText : State → State → Option (Bor (List ℕ)) → Type 0
 ReadsEscapeFreeText old new result = MatchOption result (new ≡ old) (λ t. (u : List ℕ) × TookValue old (text u true) new × (t.now ≡ encode_utf8_all u))
 
 -- a key without an escape is taken, or nothing
-abbrev pub ReadsEscapeFreeKey : State → State → Option (Bor (List ℕ)) → Type 0
-ReadsEscapeFreeKey old new result = MatchOption result (new ≡ old) (λ t. (u : List ℕ) × TookKey old u true new × (t.now ≡ encode_utf8_all u))
+abbrev pub TakesEscapeFreeKey : State → State → Option (Bor (List ℕ)) → Type 0
+TakesEscapeFreeKey old new result = MatchOption result (new ≡ old) (λ t. (u : List ℕ) × TookKey old u true new × (t.now ≡ encode_utf8_all u))
 
 -- the colon after a key is passed, or nothing
 abbrev pub PassesShortColon : State → State → Bool → Type 0

@@ -56,8 +56,8 @@ pub record Takes {V : Type 0} (kind : Token V) (old new : State) (result : Resul
 -- ---- the kinds
 
 -- a number; memory is taken for digits that are kept
-abbrev pub number : Token token.Number
-number = record {
+abbrev pub number_token : Token token.Number
+number_token = record {
   Took = TookNumber;
   IsFault = FaultyNumber;
   Completes = λ x result. (s r : List ℕ) (n : Number) → x ≡ s ++ r → Num s n → NotBegun (lengthens s) r → keeps_digits n ≡ false → IsOk result;
@@ -68,13 +68,13 @@ abbrev pub CompletesEscapeFree : {V : Type 0} → List ℕ → Result V Error �
 CompletesEscapeFree x result = (s u r : List ℕ) → x ≡ s ++ r → Str s u true → IsOk result
 
 -- a string, its text borrowed where it is escape-free
-abbrev pub string : Token CowStr
-string = record { Took = TookCow; IsFault = FaultyString; Completes = CompletesEscapeFree }
+abbrev pub string_token : Token CowStr
+string_token = record { Took = TookCow; IsFault = FaultyString; Completes = CompletesEscapeFree }
 
 -- a string, to its token
-abbrev pub string_token : Token TextToken
-string_token = record { Took = TookToken IsString; IsFault = FaultyString; Completes = CompletesEscapeFree }
+abbrev pub text_token : Token TextToken
+text_token = record { Took = TookToken IsString; IsFault = FaultyString; Completes = CompletesEscapeFree }
 
 -- a key
-abbrev pub key : Token TextToken
-key = record { Took = TookToken Key; IsFault = FaultyKey; Completes = λ x result. (s u r : List ℕ) (escape_free : Bool) → x ≡ s ++ r → Key s r u escape_free → IfErr result LacksMemory }
+abbrev pub key_token : Token TextToken
+key_token = record { Took = TookToken Key; IsFault = FaultyKey; Completes = λ x result. (s u r : List ℕ) (escape_free : Bool) → x ≡ s ++ r → Key s r u escape_free → IfErr result LacksMemory }

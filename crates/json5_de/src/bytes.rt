@@ -4,7 +4,7 @@ ghost use Rattle.std.specs.Prelude.{true, Some};
 ghost use Rattle.json5_grammar.specs.declared.code.ErrorCode.TheVariants as codes;
 ghost use Rattle.json5_text.specs.Bytes.{bytes_of};
 ghost use Rattle.json5_de.specs.Convert.{digits_bytes};
-ghost use Rattle.json5_de.specs.FoundTexts.{Judges};
+ghost use Rattle.json5_de.specs.FoundTexts.{JudgesText};
 ghost use Rattle.json5_de.specs.TokenKinds.{ReadsBytes};
 ghost use Rattle.json5_de.specs.State.{GivesUpWith};
 ghost use Rattle.json5_de.specs.ReaderSteps.{IsFaultAt, IsUndecoded};
@@ -48,7 +48,7 @@ impl<I: Input> Deserializer<I> {
 
     /// The bytes that the hexadecimal digits of a text that was found stand for; of another text `InvalidBytes` at its start.
     pub(crate) fn bytes_of(&mut self, found: &FoundText) -> Result<ByteBuf>
-        ensures { Judges true (Some codes.InvalidBytes) digits_bytes bytes_of found.now self.old self.new result }
+        ensures { JudgesText true (Some codes.InvalidBytes) digits_bytes bytes_of found.now self.old self.new result }
     {
         match hex::decode(self.allocator(), self.token_text(&found.token)) {
             Ok(bytes) => Ok(ByteBuf::from_vec(bytes)),

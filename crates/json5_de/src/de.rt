@@ -9,7 +9,7 @@ ghost use Rattle.json5_grammar.specs.declared.code.ErrorCode.TheVariants as code
 ghost use Rattle.json5_value.specs.Keeping.{OwnsKey, ReadsDatum};
 ghost use Rattle.json5_value.specs.Kinds.{word_of, ends_of, differs_of};
 ghost use Rattle.json5_value.specs.Places.{PlacedAt, StartsAfter};
-ghost use Rattle.json5_value.specs.SkipSteps.{Skips};
+ghost use Rattle.json5_value.specs.SkipSteps.{SkipsValue};
 ghost use Rattle.json5_de.specs.State.{State, SameText, Calls, GivesUpWith, cursor_of, next, at_start};
 ghost use Rattle.json5_de.specs.Faults.{IsUnplaced};
 ghost use Rattle.json5_de.specs.Law.{Gives, Completes, CompletesFree, Unprompted};
@@ -245,7 +245,7 @@ impl<I: Input> Deserializer<I> {
 
     /// Takes the number in front.
     pub(crate) fn number(&mut self) -> Result<Number>
-        ensures { Takes tokens.number self.old self.new result }
+        ensures { Takes tokens.number_token self.old self.new result }
     {
         match self.scanner.number() {
             Ok(number) => Ok(number),
@@ -266,7 +266,7 @@ impl<I: Input> Deserializer<I> {
 
     /// Takes the string in front, to its token.
     pub(crate) fn string_token(&mut self) -> Result<TextToken>
-        ensures { Takes tokens.string_token self.old self.new result }
+        ensures { Takes tokens.text_token self.old self.new result }
     {
         match self.scanner.string_token() {
             Ok(token) => Ok(token),
@@ -276,7 +276,7 @@ impl<I: Input> Deserializer<I> {
 
     /// Passes over the value in front.
     pub(crate) fn skip_value(&mut self) -> Result<()>
-        ensures { Calls (Skips (max_depth - self.old.level)) self.old self.new result }
+        ensures { Calls (SkipsValue (max_depth - self.old.level)) self.old self.new result }
     {
         match skip_value(&mut self.scanner, 128 - self.level) {
             Ok(()) => Ok(()),
@@ -296,7 +296,7 @@ impl<I: Input> Deserializer<I> {
 
     /// Takes the key in front.
     pub(crate) fn key(&mut self) -> Result<TextToken>
-        ensures { Takes tokens.key self.old self.new result }
+        ensures { Takes tokens.key_token self.old self.new result }
     {
         match self.scanner.key() {
             Ok(key) => Ok(key),
@@ -449,7 +449,7 @@ impl<I: Input> Deserializer<I> {
 impl<'de, I: Borrows<'de>> Deserializer<I> {
     /// Takes the string in front, its text borrowed where it holds no backslash.
     pub(crate) fn text(&mut self) -> Result<CowStr<'de>>
-        ensures { Takes tokens.string self.old self.new result }
+        ensures { Takes tokens.string_token self.old self.new result }
     {
         match self.scanner.string() {
             Ok(text) => Ok(text),

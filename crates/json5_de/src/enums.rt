@@ -3,7 +3,7 @@
 ghost use Rattle.std.specs.Prelude.{◌≡◌, true, false, Some, IfOk};
 ghost use Rattle.std.specs.Borrow.{sem};
 ghost use Rattle.json5_de.specs.State.{GivesUpIfErr};
-ghost use Rattle.json5_de.specs.Convert.{spelled};
+ghost use Rattle.json5_de.specs.Convert.{names_bytes};
 ghost use Rattle.json5_value.specs.Brackets.{brackets_of};
 ghost use Rattle.json5_de.specs.TokenKinds.{RefusedAs, null_kind, every_tree};
 ghost use Rattle.json5_de.specs.Enums.{NamesVariant, ReadsVariant, ReadsInBrace, ClosesLast, ClosesContent, OpensContent, OpensTuple, OpensStruct, content_of, unit_content, content_free};
@@ -95,7 +95,7 @@ impl<I: Input> Deserializer<I> {
         ensures* lends { sem 𝓛 (lends_to_enum I.row I.Input self.entry result) }
         ensures same_reference { IfOk result (HoldsEnum self.entry) }
         ensures blocks { IfOk result BlocksEnumReader }
-        ensures names { NamesVariant (spelled variants.now) enum_state_of self.old result }
+        ensures names { NamesVariant (names_bytes variants.now) enum_state_of self.old result }
     {
         let name = self.named(variants)?;
         self.set_failed(true);

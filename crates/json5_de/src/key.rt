@@ -9,7 +9,7 @@ ghost use Rattle.json5_de.specs.ConvertLists.{if_some};
 ghost use Rattle.json5_de.specs.Law.{Unprompted};
 ghost use Rattle.json5_de.specs.Options.{RefusesLive};
 ghost use Rattle.json5_de.specs.TokenKinds.{bool_kind, natural_kind, integer_kind, decimal_kind};
-ghost use Rattle.json5_de.specs.Convert.{spelled};
+ghost use Rattle.json5_de.specs.Convert.{names_bytes};
 ghost use Rattle.json5_de.specs.Keys.{GivesKey, CompletesKey, ReadsKeyOf, ReadsOneKey};
 ghost use Rattle.json5_de.specs.KeyKinds.{ReadsKeyAs, string_key, char_key, escape_free_key, cow_key, variant_key, ignored_key, bytes_key, document_key, some_of};
 ghost use Rattle.json5_de.specs.KeySteps.{IsTextFault, is_out_of_memory};
@@ -158,7 +158,7 @@ impl<I: Input> MapKey<'_, I> {
     /// - A custom fault that lists the variants, at any other key.
     /// - The codes of every call: see [`MapKey`].
     pub fn deserialize_enum(&mut self, _name: &'static str, variants: &[&str]) -> Result<usize>
-        ensures { KeyReads (variant_key (spelled variants.now)) (λ n. n) self.old self.new result }
+        ensures { KeyReads (variant_key (names_bytes variants.now)) (λ n. n) self.old self.new result }
     {
         self.de.key_variant(variants)
     }
@@ -469,7 +469,7 @@ impl<I: Input> Deserializer<I> {
 
     /// Reads a key that is one of the variants, as its first place among them.
     pub(crate) fn key_variant(&mut self, variants: &[&str]) -> Result<usize>
-        ensures { ReadsKeyAs (variant_key (spelled variants.now)) (λ n. n) self.old self.new result }
+        ensures { ReadsKeyAs (variant_key (names_bytes variants.now)) (λ n. n) self.old self.new result }
     {
         let key = self.found_key()?;
         self.variant_of(&key, variants)

@@ -8,7 +8,7 @@ ghost use Rattle.json5_de.specs.TokenKinds.{natural_kind, integer_kind};
 ghost use Rattle.json5_text.specs.Cows.{cow_bytes, is_borrowed};
 ghost use Rattle.json5_text.specs.ShortTexts.{IsTextAt};
 ghost use Rattle.json5_de.specs.KeyKinds.{ReadsKeyAs, escape_free_key, cow_key, string_key};
-ghost use Rattle.json5_de.specs.Short.{ReadsShort, StepsShort, ReadsShortText, ReadsShortKey, ReadsEscapeFreeText, ReadsEscapeFreeKey, PassesShortColon, OwnsTextAt};
+ghost use Rattle.json5_de.specs.Short.{ReadsShort, StepsShort, ReadsShortText, ReadsShortKey, ReadsEscapeFreeText, TakesEscapeFreeKey, PassesShortColon, OwnsTextAt};
 
 use crate::de::Deserializer;
 use json5_text::ErrorCode;
@@ -142,7 +142,7 @@ impl<'de, I: Borrows<'de>> Deserializer<I> {
     /// Takes a key without an escape, or nothing.
     #[inline(always)]
     fn short_key_str(&mut self) -> Option<&'de str>
-        ensures { ReadsEscapeFreeKey self.old self.new result }
+        ensures { TakesEscapeFreeKey self.old self.new result }
     {
         let span = self.short_key()?;
         Some(self.borrowed_text_at(span))

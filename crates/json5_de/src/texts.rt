@@ -4,7 +4,7 @@ ghost use Rattle.std.specs.Prelude.{◌≡◌, string_bytes, Some, None, MatchOp
 ghost use Rattle.std.specs.Str.{chars};
 ghost use Rattle.json5_text.specs.Cows.{cow_bytes, is_borrowed};
 ghost use Rattle.json5_de.specs.Convert.{one_character};
-ghost use Rattle.json5_de.specs.FoundTexts.{Judges};
+ghost use Rattle.json5_de.specs.FoundTexts.{JudgesText};
 ghost use Rattle.json5_de.specs.TokenKinds.{ReadsAs, string_kind, char_kind, escape_free_kind, cow_kind};
 
 use crate::de::Deserializer;
@@ -70,7 +70,7 @@ impl<I: Input> Deserializer<I> {
 
     /// The character of a text that was found, which has no other; else a custom fault at its start.
     pub(crate) fn character_of(&mut self, found: &FoundText) -> Result<char>
-        ensures { Judges false None one_character (λ c. c) found.now self.old self.new result }
+        ensures { JudgesText false None one_character (λ c. c) found.now self.old self.new result }
     {
         let text = self.token_text(&found.token);
         let Some(c) = only_character(text) else {

@@ -3,8 +3,8 @@
 ghost use Rattle.std.specs.Prelude.{◌≡◌, true, false};
 ghost use Rattle.json5_grammar.specs.Language.Characters.{NotBegun};
 ghost use Rattle.json5_grammar.specs.Language.Strings.{is_quote};
-ghost use Rattle.json5_de.specs.Convert.{spelled};
-ghost use Rattle.json5_de.specs.Enums.{Begins, NamesVariant, ReadsOnlyKey, ReadsKeyed, is_left_brace};
+ghost use Rattle.json5_de.specs.Convert.{names_bytes};
+ghost use Rattle.json5_de.specs.Enums.{FirstCharIs, NamesVariant, ReadsOnlyKey, ReadsKeyed, is_left_brace};
 ghost use Rattle.json5_de.specs.Lending.{named_state_of};
 ghost use Rattle.json5_de.specs.State.{GivesUpIfErr};
 
@@ -29,7 +29,7 @@ pub(crate) struct Named {
 impl<I: Input> Deserializer<I> {
     /// Takes the only key of an object, one of the variants, and its colon.
     fn only_key(&mut self, variants: &[&str]) -> Result<usize>
-        ensures { ReadsOnlyKey (spelled variants.now) self.old self.new result }
+        ensures { ReadsOnlyKey (names_bytes variants.now) self.old self.new result }
     {
         self.skip_blank()?;
         if !self.at_key() {
@@ -45,7 +45,7 @@ impl<I: Input> Deserializer<I> {
 
     /// Opens an object and takes its only key and the colon. After the brace a fault without a position gets that of the brace.
     fn keyed_variant(&mut self, variants: &[&str]) -> Result<usize>
-        ensures { ReadsKeyed (spelled variants.now) self.old self.new result }
+        ensures { ReadsKeyed (names_bytes variants.now) self.old self.new result }
     {
         let start = self.open(BracketKind::Object)?;
         match self.only_key(variants) {
@@ -56,7 +56,7 @@ impl<I: Input> Deserializer<I> {
 
     /// Whether a string is next.
     fn at_text(&self) -> bool
-        ensures found { result ≡ true → Begins is_quote self.now.unread }
+        ensures found { result ≡ true → FirstCharIs is_quote self.now.unread }
         ensures other { result ≡ false → NotBegun is_quote self.now.unread }
     {
         match self.peek() {
@@ -67,7 +67,7 @@ impl<I: Input> Deserializer<I> {
 
     /// Whether an object is next.
     fn at_object(&self) -> bool
-        ensures found { result ≡ true → Begins is_left_brace self.now.unread }
+        ensures found { result ≡ true → FirstCharIs is_left_brace self.now.unread }
         ensures other { result ≡ false → NotBegun is_left_brace self.now.unread }
     {
         match self.peek() {
@@ -78,7 +78,7 @@ impl<I: Input> Deserializer<I> {
 
     /// Reads the name of a variant, a string or the only key of an object.
     pub(crate) fn named(&mut self, variants: &[&str]) -> Result<Named>
-        ensures names { NamesVariant (spelled variants.now) (named_state_of self.new) self.old result }
+        ensures names { NamesVariant (names_bytes variants.now) (named_state_of self.new) self.old result }
         ensures failed { GivesUpIfErr self.old self.new result }
     {
         self.skip_blank()?;

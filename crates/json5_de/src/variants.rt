@@ -3,8 +3,8 @@
 ghost use Rattle.std.specs.Prelude.{◌≡◌, false, None};
 ghost use Rattle.std.specs.List.{position};
 ghost use Rattle.std.specs.Str.{bytes_eq};
-ghost use Rattle.json5_de.specs.Convert.{spelled, index_of};
-ghost use Rattle.json5_de.specs.FoundTexts.{Judges};
+ghost use Rattle.json5_de.specs.Convert.{names_bytes, index_of};
+ghost use Rattle.json5_de.specs.FoundTexts.{JudgesText};
 ghost use Rattle.json5_de.specs.TokenKinds.{ReadsAs, variant_kind};
 ghost use Rattle.json5_de.specs.ReaderSteps.{IsMismatch};
 
@@ -35,7 +35,7 @@ impl<I: Input> Deserializer<I> {
     /// - A custom fault that lists the variants, at the opening quote of any other string.
     /// - The codes of every call that reads a string: see [`Deserializer`].
     pub fn deserialize_variant(&mut self, variants: &[&str]) -> Result<usize>
-        ensures { ReadsAs (variant_kind (spelled variants.now)) (λ n. n) self.old self.new result }
+        ensures { ReadsAs (variant_kind (names_bytes variants.now)) (λ n. n) self.old self.new result }
     {
         let string = self.found_string()?;
         self.variant_of(&string, variants)
@@ -43,7 +43,7 @@ impl<I: Input> Deserializer<I> {
 
     /// The first place among the variants of a text that was found; another text is a custom fault at its start.
     pub(crate) fn variant_of(&mut self, found: &FoundText, variants: &[&str]) -> Result<usize>
-        ensures { Judges false None (index_of (spelled variants.now)) (λ n. n) found.now self.old self.new result }
+        ensures { JudgesText false None (index_of (names_bytes variants.now)) (λ n. n) found.now self.old self.new result }
     {
         let name = self.token_text(&found.token);
         let Some(place) = index_of(variants, name) else {

@@ -4,9 +4,9 @@ use lib.Chars.{codes}
 use Rattle.json5.specs.Position.{Position}
 use Rattle.json5.specs.Error.{Error}
 use Rattle.json5.specs.Errors.{kind_of, kind_text, place_of, error_text, placed_text}
-use Rattle.json5_formatter.specs.Reports.{named, fault_line}
+use Rattle.json5_formatter.specs.Reports.{named_report, fault_line}
 
-pub line_joined : (name m l k : List ℕ) → name ++ (codes ": " ++ (m ++ (codes " at line " ++ (l ++ (codes " column " ++ (k ++ codes "\n")))))) ≡ named name (m ++ (codes " at " ++ (codes "line " ++ l ++ codes " column " ++ k)))
+pub line_joined : (name m l k : List ℕ) → name ++ (codes ": " ++ (m ++ (codes " at line " ++ (l ++ (codes " column " ++ (k ++ codes "\n")))))) ≡ named_report name (m ++ (codes " at " ++ (codes "line " ++ l ++ codes " column " ++ k)))
 line_joined name m l k = simp append_assoc
 
 pub fault_joined : (name m l k : List ℕ) (e : Error) (p : Position) → m ≡ kind_text (kind_of e) → Some p ≡ place_of e → l ≡ decimal (p.line + 1) → k ≡ decimal (p.column + 1) → name ++ (codes ": " ++ (m ++ (codes " at line " ++ (l ++ (codes " column " ++ (k ++ codes "\n")))))) ≡ fault_line name e

@@ -4,16 +4,16 @@ use Rattle.std.specs.Prelude.{IfSome}
 use Rattle.json5.specs.ErrorCode.TheVariants as codes
 use Rattle.json5.specs.Error.{Error}
 use Rattle.json5.specs.Errors.{FaultKind, code, custom, failed_write, kind_of}
-use Rattle.json5_formatter.specs.Runs.{RefusesText, ReadFailure}
+use Rattle.json5_formatter.specs.Runs.{RefusesInput, ReadFailure}
 use Rattle.json5_formatter.specs.Failures.{failure_of_kind}
 
 -- what was read is the text that is refused
-pub refused_input : (input : Option (List ℕ)) (text : List ℕ) (e : Error) → IfSome input (λ bytes. text ≡ bytes) → RefusesText e text → IfSome input (RefusesText e)
+pub refused_input : (input : Option (List ℕ)) (text : List ℕ) (e : Error) → IfSome input (λ bytes. text ≡ bytes) → RefusesInput e text → IfSome input (RefusesInput e)
 refused_input None text e is refused = tt
-refused_input (Some bytes) text e is refused = subst (RefusesText e) is refused
+refused_input (Some bytes) text e is refused = subst (RefusesInput e) is refused
 
 -- a text that is refused since memory ran out isn't blamed
-pub refused_read : (input : Option (List ℕ)) (k : FaultKind) (e : Error) → kind_of e ≡ k → IfSome input (RefusesText e) → ReadFailure input (failure_of_kind k e)
+pub refused_read : (input : Option (List ℕ)) (k : FaultKind) (e : Error) → kind_of e ≡ k → IfSome input (RefusesInput e) → ReadFailure input (failure_of_kind k e)
 refused_read input (code codes.OutOfMemory) e is refused = tt
 refused_read input (code c) e is refused = (λ m. let same : code c ≡ code codes.OutOfMemory = sym is ∙ m in absurd (cc), refused)
 refused_read input (custom text) e is refused = (λ m. let same : custom text ≡ code codes.OutOfMemory = sym is ∙ m in absurd (cc), refused)

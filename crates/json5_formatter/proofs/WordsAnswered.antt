@@ -5,7 +5,7 @@ use Rattle.std.specs.Prelude.{String, string_bytes, ◌==◌}
 use Rattle.json5_formatter.specs.declared.work.Work.{Work}
 use Rattle.json5_formatter.specs.Answers.{AnswersStream, Answers, of_stream, of_files}
 use Rattle.json5_formatter.specs.Files.{WorksThrough}
-use Rattle.json5_formatter.specs.Words.{word_of, IsRequest}
+use Rattle.json5_formatter.specs.Words.{work_word, IsRequest}
 
 pub without_words : (input output errors written said : Option (List ℕ)) (list : List (String Global)) (n : ℕ) → length list ≡ 0
     → AnswersStream input output written errors said n → Answers input output errors list written said n
@@ -13,7 +13,7 @@ without_words input output errors written said [] n h k = of_stream k
 without_words input output errors written said (x ∷ xs) n h k = absurd (omega (arith, h))
 
 pub with_files : (input output errors written said : Option (List ℕ)) (list names : List (String Global)) (word : String Global) (w : Work) (text : List ℕ) (n : ℕ)
-    → list ≡ word ∷ names → text ≡ string_bytes word → text ≡ word_of w → false ≡ (length names == 0)
+    → list ≡ word ∷ names → text ≡ string_bytes word → text ≡ work_word w → false ≡ (length names == 0)
     → WorksThrough w output errors names written said n → Answers input output errors list written said n
 with_files input output errors written said list [] word w text n is value work some k = absurd (cc)
 with_files input output errors written said list (name ∷ names) word w text n is value work some k =
@@ -21,12 +21,12 @@ with_files input output errors written said list (name ∷ names) word w text n 
 
 -- ---- words that ask for nothing
 
-no_request : (word : String Global) (names : List (String Global)) (text : List ℕ) → text ≡ string_bytes word → ((w : Work) → text ≢ word_of w) → ¬ (IsRequest (word ∷ names))
+no_request : (word : String Global) (names : List (String Global)) (text : List ℕ) → text ≡ string_bytes word → ((w : Work) → text ≢ work_word w) → ¬ (IsRequest (word ∷ names))
 no_request word [] text value other r = r
 no_request word (name ∷ names) text value other (w, is) = other w (value ∙ is)
 
 pub no_work : (list names : List (String Global)) (word : String Global) (text : List ℕ) → list ≡ word ∷ names → text ≡ string_bytes word
-    → ((w : Work) → text ≢ word_of w) → ¬ (IsRequest list)
+    → ((w : Work) → text ≢ work_word w) → ¬ (IsRequest list)
 no_work list names word text is value other = subst (λ l. ¬ (IsRequest l)) (sym is) (no_request word names text value other)
 
 file_missing : (word : String Global) (names : List (String Global)) → true ≡ (length names == 0) → ¬ (IsRequest (word ∷ names))

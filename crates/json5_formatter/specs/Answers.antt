@@ -9,7 +9,7 @@ use Rattle.json5_formatter.specs.Failures.{NamesMemory}
 use Rattle.json5_formatter.specs.Files.{WorksThrough}
 use Rattle.json5_formatter.specs.Reports.{report_line, status_of, usage_line}
 use Rattle.json5_formatter.specs.Runs.{RunFailure, WritesFormatted}
-use Rattle.json5_formatter.specs.Words.{word_of, IsRequest}
+use Rattle.json5_formatter.specs.Words.{work_word, IsRequest}
 
 -- what was read, what output and errors held before and after, and the status
 pub data AnswersStream (input output written errors : Option (List ℕ)) : Option (List ℕ) → ℕ → Type 0 where
@@ -25,7 +25,7 @@ pub data Answers (input output errors : Option (List ℕ)) : List (String Global
   of_stream : {written said : Option (List ℕ)} {status : ℕ} → AnswersStream input output written errors said status
       → Answers input output errors [] written said status
   -- there are a work and files
-  of_files : {written said : Option (List ℕ)} {status : ℕ} (w : Work) (word name : String Global) (names : List (String Global)) → string_bytes word ≡ word_of w
+  of_files : {written said : Option (List ℕ)} {status : ℕ} (w : Work) (word name : String Global) (names : List (String Global)) → string_bytes word ≡ work_word w
       → WorksThrough w output errors (name ∷ names) written said status → Answers input output errors (word ∷ name ∷ names) written said status
   -- it said how it is called
   says_usage : {list : List (String Global)} {said : Option (List ℕ)} → ¬ (IsRequest list) → AppendsFront errors said usage_line

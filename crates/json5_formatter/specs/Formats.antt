@@ -10,5 +10,5 @@ abbrev pub Formats : List ℕ → List ℕ → Type 0
 Formats text output = IsFormatted (chars text) output
 
 -- the text is refused so
-abbrev pub Refuses : List ℕ → Error → Type 0
-Refuses text e = IsRefused (chars text) e
+abbrev pub RefusesFormat : List ℕ → Error → Type 0
+RefusesFormat text e = IsRefused (chars text) e

@@ -8,18 +8,18 @@ use Rattle.json5_formatter.specs.declared.failure.Failure.{Failure}
 use Rattle.json5_formatter.specs.declared.failure.Failure.TheVariants as failure
 
 -- the input's name, what is said of it, and one LF
-abbrev pub named : List ℕ → List ℕ → List ℕ
-named name words = name ++ (codes ": " ++ (words ++ line_feed ∷ []))
+abbrev pub named_report : List ℕ → List ℕ → List ℕ
+named_report name words = name ++ (codes ": " ++ (words ++ line_feed ∷ []))
 
 abbrev pub fault_line : List ℕ → Error → List ℕ
-fault_line name e = named name (error_text e)
+fault_line name e = named_report name (error_text e)
 
 abbrev pub report_line : List ℕ → Failure → List ℕ
-report_line name failure.NotUtf8 = named name (codes "not UTF-8")
+report_line name failure.NotUtf8 = named_report name (codes "not UTF-8")
 report_line name (failure.Text e) = fault_line name e
-report_line name failure.NoMemory = named name (codes "out of memory")
-report_line name failure.Read = named name (codes "cannot be read")
-report_line name failure.Write = named (codes "output") (codes "cannot be written")
+report_line name failure.NoMemory = named_report name (codes "out of memory")
+report_line name failure.Read = named_report name (codes "cannot be read")
+report_line name failure.Write = named_report (codes "output") (codes "cannot be written")
 
 abbrev pub status_of : Failure → ℕ
 status_of failure.NotUtf8 = 1

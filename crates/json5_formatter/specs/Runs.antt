@@ -8,36 +8,36 @@ use Rattle.json5.specs.Cursor.{IsOutOfMemory}
 use Rattle.json5.specs.Documents.{Doc, max_depth}
 use Rattle.json5.specs.Error.{Error}
 use Rattle.json5.specs.Marks.{unmarked}
-use Rattle.json5.specs.Out.{whole, text_of}
+use Rattle.json5.specs.Out.{whole, written_text}
 use Rattle.json5.specs.Pieces.{AppendsFront}
 use Rattle.json5.specs.Trees.{Tree}
 use Rattle.json5.specs.Value.{Value}
 use Rattle.json5.specs.ValueViews.{value_of}
 use Rattle.json5.specs.WrittenTexts.{IsText}
 use Rattle.json5.specs.WrittenTrees.{Written}
-use Rattle.json5_formatter.specs.Formats.{Formats, Refuses}
+use Rattle.json5_formatter.specs.Formats.{Formats, RefusesFormat}
 use Rattle.json5_formatter.specs.declared.failure.Failure.{Failure}
 use Rattle.json5_formatter.specs.declared.failure.Failure.TheVariants as failure
 
-abbrev pub line : List ℕ → List ℕ
-line text = text ++ line_feed ∷ []
+abbrev pub with_line_feed : List ℕ → List ℕ
+with_line_feed text = text ++ line_feed ∷ []
 
 -- the written text of a tree, in UTF-8
 abbrev pub written_bytes : Written → List ℕ
-written_bytes t = encode_utf8_all (text_of t).text
+written_bytes t = encode_utf8_all (written_text t).text
 
 -- the bytes are a text, and what is written of it was written, and one LF
 abbrev pub WritesFormatted : Option (List ℕ) → Option (List ℕ) → List ℕ → Type 0
-WritesFormatted old new bytes = IsUtf8 bytes × ((output : List ℕ) × Formats bytes output × Appends old new (line output))
+WritesFormatted old new bytes = IsUtf8 bytes × ((output : List ℕ) × Formats bytes output × Appends old new (with_line_feed output))
 
 -- the bytes are a document, and a prefix of the written text of its tree without marks and one LF was written
 abbrev pub BeginsFormatted : Option (List ℕ) → Option (List ℕ) → List ℕ → Type 0
-BeginsFormatted old new bytes = IsUtf8 bytes × ((t : Tree) × Doc max_depth (chars bytes) t × AppendsFront old new (line (written_bytes (unmarked t))))
+BeginsFormatted old new bytes = IsUtf8 bytes × ((t : Tree) × Doc max_depth (chars bytes) t × AppendsFront old new (with_line_feed (written_bytes (unmarked t))))
 
 -- the text of a tree was written, and one LF; where the text is whole, a failed write leaves a prefix of both
 abbrev pub WritesLine : {A E : Type 0} → Written → Option (List ℕ) → Option (List ℕ) → Result A E → Type 0
-WritesLine t old new (Ok x) = IsText (text_of t) (written_bytes t) × Appends old new (line (written_bytes t))
-WritesLine t old new (Err e) = (text_of t).stop ≡ whole → AppendsFront old new (line (written_bytes t))
+WritesLine t old new (Ok x) = IsText (written_text t) (written_bytes t) × Appends old new (with_line_feed (written_bytes t))
+WritesLine t old new (Err e) = (written_text t).stop ≡ whole → AppendsFront old new (with_line_feed (written_bytes t))
 
 -- all that was read is a text, and the value stands for its tree
 pub record HoldsValue (input : Option (List ℕ)) (v : Value) : Type 0 where
@@ -49,12 +49,12 @@ pub record HoldsValue (input : Option (List ℕ)) (v : Value) : Type 0 where
   pub stands_for : value_of v ≡ datum_of tree
 
 -- the bytes are a text, and a document
-abbrev pub IsDocument : List ℕ → Type 0
-IsDocument bytes = IsUtf8 bytes × ((t : Tree) × Doc max_depth (chars bytes) t)
+abbrev pub HoldsDocument : List ℕ → Type 0
+HoldsDocument bytes = IsUtf8 bytes × ((t : Tree) × Doc max_depth (chars bytes) t)
 
 -- the bytes are a text that is refused so, and a document only where memory ran out
-abbrev pub RefusesText : Error → List ℕ → Type 0
-RefusesText e bytes = IsUtf8 bytes × Refuses bytes e × ((t : Tree) → Doc max_depth (chars bytes) t → IsOutOfMemory e)
+abbrev pub RefusesInput : Error → List ℕ → Type 0
+RefusesInput e bytes = IsUtf8 bytes × RefusesFormat bytes e × ((t : Tree) → Doc max_depth (chars bytes) t → IsOutOfMemory e)
 
 -- no text was read
 abbrev pub NoText : Option (List ℕ) → Failure → Type 0
@@ -65,7 +65,7 @@ NoText input _ = ⊥
 
 -- no document was read
 abbrev pub ReadFailure : Option (List ℕ) → Failure → Type 0
-ReadFailure input (failure.Text e) = ¬ (IsOutOfMemory e) × IfSome input (RefusesText e)
+ReadFailure input (failure.Text e) = ¬ (IsOutOfMemory e) × IfSome input (RefusesInput e)
 ReadFailure input s = NoText input s
 
 -- nothing was written, but at a failed write

@@ -5,12 +5,12 @@ use lib.Chars.{codes}
 use Rattle.json5_formatter.specs.declared.work.Work.{Work}
 use Rattle.json5_formatter.specs.declared.work.Work.TheVariants as work
 
-abbrev pub word_of : Work → List ℕ
-word_of work.Check = codes "check"
-word_of work.Print = codes "print"
+abbrev pub work_word : Work → List ℕ
+work_word work.Check = codes "check"
+work_word work.Print = codes "print"
 
 -- there are no words, or a work and at least one file
 abbrev pub IsRequest : List (String Global) → Type 0
 IsRequest [] = ⊤
 IsRequest (word ∷ []) = ⊥
-IsRequest (word ∷ name ∷ names) = (w : Work) × (string_bytes word ≡ word_of w)
+IsRequest (word ∷ name ∷ names) = (w : Work) × (string_bytes word ≡ work_word w)

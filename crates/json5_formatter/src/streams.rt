@@ -2,7 +2,7 @@
 
 ghost use Rattle.std.specs.Prelude.{◌≡◌, IfOk, IfErr, IfSome, OnOk, string_bytes};
 ghost use Rattle.json5.specs.ValueTrees.{value_tree};
-ghost use Rattle.json5_formatter.specs.Runs.{HoldsValue, IsDocument, NoText, ReadFailure, RunFailure, WritesFormatted, WritesLine};
+ghost use Rattle.json5_formatter.specs.Runs.{HoldsValue, HoldsDocument, NoText, ReadFailure, RunFailure, WritesFormatted, WritesLine};
 ghost use Rattle.json5_formatter.specs.Failures.{NamesMemory};
 
 use crate::failure::Failure;
@@ -43,7 +43,7 @@ pub fn run<R: Read, W: Write>(alloc: Global, r: &mut R, w: &mut W) -> Result<(),
 ///
 /// `NotUtf8`, `Text`, `NoMemory` and `Read`, as [`run`].
 pub fn check<R: Read>(alloc: Global, r: &mut R) -> Result<(), Failure>
-    ensures read { OnOk result (IfSome (R.remaining r.old) IsDocument) }
+    ensures read { OnOk result (IfSome (R.remaining r.old) HoldsDocument) }
     ensures stopped { IfErr result (ReadFailure (R.remaining r.old)) }
 {
     read_value(alloc, r)?;

@@ -1,7 +1,7 @@
 //! What the first word asks for.
 
 ghost use Rattle.std.specs.Prelude.{◌≡◌, ◌≢◌, MatchOption};
-ghost use Rattle.json5_formatter.specs.Words.{word_of};
+ghost use Rattle.json5_formatter.specs.Words.{work_word};
 
 /// What is done with each file.
 #[derive(Clone, Copy, Debug, Drop)]
@@ -15,7 +15,7 @@ pub enum Work {
 impl Work {
     /// Returns the work with this name, if there is one.
     pub fn named(word: &str) -> Option<Work>
-        ensures { MatchOption result ((work : Work) → word.now ≢ word_of work) (λ work. word.now ≡ word_of work) }
+        ensures { MatchOption result ((work : Work) → word.now ≢ work_word work) (λ work. word.now ≡ work_word work) }
     {
         match word {
             "check" => Some(Work::Check),

@@ -11,7 +11,7 @@ use Rattle.json5_grammar.specs.Faults.{is_allowed_close, no_comma, comma_missing
 use Rattle.json5_grammar.specs.Model.Reading.{here, Read, got, bad, and_then}
 use Rattle.json5_grammar.specs.Model.ReadBlanks.{skip, between}
 use Rattle.json5_grammar.specs.Model.ReadTexts as texts
-use Rattle.json5_grammar.specs.Model.ReadValues.{items, entries, after_member, close_or, member, after_pair, colon_at, value_after, pair_at, key_or, read}
+use Rattle.json5_grammar.specs.Model.ReadValues.{read_elements, read_members, after_member, close_or, member, after_pair, colon_at, value_after, pair_at, key_or, read}
 use Rattle.json5_grammar.proofs.Basics.{by_test, eq_from, neq_from}
 use Rattle.json5_grammar.proofs.ValueTurns.{gap_no_longer}
 use Rattle.json5_grammar.proofs.ValuesSound.{IsGap, IsValue, IsKeyAt, IsValueAfter, gap_found, key_found, read_found, value_found, before_rest}
@@ -96,12 +96,12 @@ module _ (s : Scope) where
         (λ i. member_judged f (c ∷ r) j (refl, solid, i) h)
 
     -- the members of an array, up to its closing bracket
-    pub items_judged : (n : ℕ) (y : List ℕ) → length y < n → At limit x y (within of_array) element → Judged s (within of_array) (items (read d) n y)
-    unfolding items
+    pub items_judged : (n : ℕ) (y : List ℕ) → length y < n → At limit x y (within of_array) element → Judged s (within of_array) (read_elements (read d) n y)
+    unfolding read_elements
     items_judged zero y l h = absurd (omega arith)
     items_judged (suc n) y l h =
         judged_then s (IsGap y) y (within of_array) (skip between y) _ (gap_found y) (gap_judged s y h (before_end element (λ e. cc)))
-        (λ u z q. close_judged (items (read d) n) z
+        (λ u z q. close_judged (read_elements (read d) n) z
         (λ w m i. items_judged n w (omega (arith, l, m, gap_no_longer y z u q)) i)
         q.3 (at_gap limit x y z u h q))
 
@@ -167,11 +167,11 @@ module _ (s : Scope) where
 
     -- the pairs of an object, up to its closing brace
     pub entries_judged : (n : ℕ) (y : List ℕ) → length y < n → At limit x y (within of_object) key
-        → Judged s (within of_object) (entries (read d) n y)
-    unfolding entries
+        → Judged s (within of_object) (read_members (read d) n y)
+    unfolding read_members
     entries_judged zero y l h = absurd (omega arith)
     entries_judged (suc n) y l h =
         judged_then s (IsGap y) y (within of_object) (skip between y) _ (gap_found y) (gap_judged s y h (before_end key (λ e. cc)))
-        (λ u z q. brace_judged (entries (read d) n) z
+        (λ u z q. brace_judged (read_members (read d) n) z
         (λ w m i. entries_judged n w (omega (arith, l, m, gap_no_longer y z u q)) i)
         q.3 (at_gap limit x y z u h q))

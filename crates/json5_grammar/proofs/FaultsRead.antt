@@ -15,7 +15,7 @@ use Rattle.json5_grammar.specs.Model.Reading.{here, Read, bad}
 use Rattle.json5_grammar.specs.Model.ReadBlanks.{skip, between}
 use Rattle.json5_grammar.specs.Model.ReadNumbers as numbers
 use Rattle.json5_grammar.specs.Model.ReadTexts.{string}
-use Rattle.json5_grammar.specs.Model.ReadValues.{items, entries, value_with, too_deep, read, at_end, document}
+use Rattle.json5_grammar.specs.Model.ReadValues.{read_elements, read_members, value_with, too_deep, read, at_end, document}
 use Rattle.json5_grammar.proofs.Basics.{by_test, eq_from}
 use Rattle.json5_grammar.proofs.Unique.{phrase_reader}
 use Rattle.json5_grammar.proofs.WordsRead.{word_sound}
@@ -84,14 +84,14 @@ module _ (s : Scope) where
       → At limit x (91 ∷ r) o a → Judged s o (array_reader (suc d) (91 ∷ r) r)
   array_judged d o a r j l t h =
       judged_placed s o (record { kind = of_array; before = h.front }) (91 ∷ r) _ h.split
-      (judged_last s _ (items (read d) (suc (length r)) r) array
+      (judged_last s _ (read_elements (read d) (suc (length r)) r) array
       (items_judged s d o h.front j (omega (arith, l)) (suc (length r)) r (omega arith) (at_open limit x of_array r h t (omega (arith, l)))))
 
   object_judged : (d : ℕ) (o : List Bracket) (a : Expects) (r : List ℕ) → ReadsJudged s d → length o + suc d ≡ limit → takes_value a ≡ true
       → At limit x (123 ∷ r) o a → Judged s o (object_reader (suc d) (123 ∷ r) r)
   object_judged d o a r j l t h =
       judged_placed s o (record { kind = of_object; before = h.front }) (123 ∷ r) _ h.split
-      (judged_last s _ (entries (read d) (suc (length r)) r) object
+      (judged_last s _ (read_members (read d) (suc (length r)) r) object
       (entries_judged s d o h.front j (omega (arith, l)) (suc (length r)) r (omega arith) (at_open limit x of_object r h t (omega (arith, l)))))
 
   -- what refuses a value nested no deeper than the number is a fault

@@ -13,7 +13,7 @@ use Rattle.json5_grammar.specs.Faults.{begins_value, IsIn, eof_in, FaultAt, in_c
 use Rattle.json5_grammar.specs.Model.Reading.{Place, here, inner, Read, got, bad, and_then}
 use Rattle.json5_grammar.specs.Model.ReadBlanks.{skip, between}
 use Rattle.json5_grammar.specs.Model.ReadValues.{read, at_end, document}
-use Rattle.json5_grammar.specs.Model.ReadSteps.{forget, member_at, comma_at, separator, rest_of}
+use Rattle.json5_grammar.specs.Model.ReadSteps.{forget, member_at, comma_at, separator, rest_of_bracket}
 use Rattle.json5_grammar.proofs.Basics.{not_eq}
 use Rattle.json5_grammar.proofs.BlanksRead.{skip_rest, begins_solid, skip_end}
 use Rattle.json5_grammar.proofs.BlanksSound.{comment_refused}
@@ -57,10 +57,10 @@ no_value_left finish limit o value t f = ap (gap_then finish limit o) skip_end �
 no_value_left finish limit [] element t f = absurd f
 no_value_left finish limit (b ∷ o) element t f =
     let d : ℕ = room limit (b ∷ o) in
-    ap (λ k. rest_of k false d []) f
+    ap (λ k. rest_of_bracket k false d []) f
     ∙ rest_step of_array false d []
     ∙ ap (member_turn of_array d) skip_end
-    ∙ ap (λ m. and_then m (λ u y. rest_of of_array true d y)) (read_missing d)
+    ∙ ap (λ m. and_then m (λ u y. rest_of_bracket of_array true d y)) (read_missing d)
 no_value_left finish limit o key t f = absurd (cc)
 no_value_left finish limit o colon t f = absurd (cc)
 no_value_left finish limit o comma t f = absurd (cc)
@@ -73,7 +73,7 @@ unfolding separator
 comma_left finish limit k [] y e p i s h = absurd i
 comma_left finish limit k (b ∷ o) y e p i s h =
     let d : ℕ = limit - suc (length o) in
-    ap (λ n. rest_of n true d y) i
+    ap (λ n. rest_of_bracket n true d y) i
     ∙ rest_step k true d y
     ∙ ap (comma_turn k d) s
     ∙ ap (λ m. and_then (and_then m (λ more y. cond more (member_at k y) (got false y))) (turn k d)) h
@@ -93,7 +93,7 @@ unfolding member_at
 no_key_left finish limit [] f = absurd f
 no_key_left finish limit (b ∷ o) f =
     let d : ℕ = limit - suc (length o) in
-    ap (λ n. rest_of n false d []) f
+    ap (λ n. rest_of_bracket n false d []) f
     ∙ rest_step of_object false d []
     ∙ ap (member_turn of_object d) skip_end
 

@@ -9,8 +9,8 @@ use Rattle.json5_grammar.specs.Faults.Fronts.{BracketKind, of_array, of_object, 
 use Rattle.json5_grammar.specs.Model.Collections.{IsSign, Tail, PairsTail}
 use Rattle.json5_grammar.specs.Model.Reading.{Place, here, inner, Read, got, bad, and_then}
 use Rattle.json5_grammar.specs.Model.ReadBlanks.{skip, between}
-use Rattle.json5_grammar.specs.Model.ReadSteps.{forget, rest_of}
-use Rattle.json5_grammar.specs.Model.ReadValues.{colon_at, items, entries, after_member, after_pair, read, at_end}
+use Rattle.json5_grammar.specs.Model.ReadSteps.{forget, rest_of_bracket}
+use Rattle.json5_grammar.specs.Model.ReadValues.{colon_at, read_elements, read_members, after_member, after_pair, read, at_end}
 use Rattle.json5_grammar.specs.Language.Trees.{Tree, Trees, Pairs, no_more, more, no_pair, pair}
 use Rattle.json5_grammar.specs.Language.Values.{Reads}
 use Rattle.json5_grammar.proofs.BlanksSound.{gap_end}
@@ -96,43 +96,43 @@ module _ (limit : ℕ) where
   end_goes y q (bad c p) f k = absurd (cc)
 
   -- what reading members and pairs finds, from their start and after one
-  members_found : (d : ℕ) (z : List ℕ) → Found (AreMembers d false z) z (items (read d) (suc (length z)) z)
+  members_found : (d : ℕ) (z : List ℕ) → Found (AreMembers d false z) z (read_elements (read d) (suc (length z)) z)
   members_found d z = items_found d (read d) (read_found d) (suc (length z)) z
 
-  pairs_found : (d : ℕ) (z : List ℕ) → Found (ArePairs d false z) z (entries (read d) (suc (length z)) z)
+  pairs_found : (d : ℕ) (z : List ℕ) → Found (ArePairs d false z) z (read_members (read d) (suc (length z)) z)
   pairs_found d z = entries_found d (read d) (read_found d) (suc (length z)) z
 
   members_after : (d : ℕ) (y : List ℕ)
-      → Found (AreMembers d true y) y (and_then (skip between y) (λ u z. after_member (λ q. items (read d) (suc (length q)) q) z))
+      → Found (AreMembers d true y) y (and_then (skip between y) (λ u z. after_member (λ q. read_elements (read d) (suc (length q)) q) z))
   members_after d y = found_then (IsGap y) (AreMembers d true y) y (skip between y) _ (gap_found y)
       (λ u z g.
       found_after (AreMembers d true z) (AreMembers d true y) g.0 y z _ g.1
-      (after_found d (λ q. items (read d) (suc (length q)) q) (members_found d) z)
+      (after_found d (λ q. read_elements (read d) (suc (length q)) q) (members_found d) z)
       (λ ts r m. (tail_gap ts true g.0 y z r g.1 g.2 m.0, m.1)))
 
   pairs_after : (d : ℕ) (y : List ℕ)
-      → Found (ArePairs d true y) y (and_then (skip between y) (λ u z. after_pair (λ q. entries (read d) (suc (length q)) q) z))
+      → Found (ArePairs d true y) y (and_then (skip between y) (λ u z. after_pair (λ q. read_members (read d) (suc (length q)) q) z))
   pairs_after d y = found_then (IsGap y) (ArePairs d true y) y (skip between y) _ (gap_found y)
       (λ u z g.
       found_after (ArePairs d true z) (ArePairs d true y) g.0 y z _ g.1
-      (after_pair_found d (λ q. entries (read d) (suc (length q)) q) (pairs_found d) z)
+      (after_pair_found d (λ q. read_members (read d) (suc (length q)) q) (pairs_found d) z)
       (λ ps r m. (pairs_gap ps true g.0 y z r g.1 g.2 m.0, m.1)))
 
   -- what is left and was read goes on with what is expected
   left_goes : (o : List Bracket) (a : Expects) (y q : List ℕ) → Fits o a → left_at ending limit o a y ≡ got tt q → GoesOn o a y
-  unfolding rest_of
+  unfolding rest_of_bracket
   left_goes o value y q f e = value_goes o y q (skip between y) (gap_found y) e
   left_goes [] element y q f e = absurd f
   left_goes (b ∷ o) element y q f e =
       let d : ℕ = room limit (b ∷ o) in
       let (ts, r, h) =
-      forgot (AreMembers d false y) y (items (read d) (suc (length y)) y) q (members_found d y) (ap (λ k. rest_of k false d y) (sym f) ∙ e) in
+      forgot (AreMembers d false y) y (read_elements (read d) (suc (length y)) y) q (members_found d y) (ap (λ k. rest_of_bracket k false d y) (sym f) ∙ e) in
       array_goes (b ∷ o) y r ts h.0
   left_goes [] key y q f e = absurd f
   left_goes (b ∷ o) key y q f e =
       let d : ℕ = room limit (b ∷ o) in
       let (ps, r, h) =
-      forgot (ArePairs d false y) y (entries (read d) (suc (length y)) y) q (pairs_found d y) (ap (λ k. rest_of k false d y) (sym f) ∙ e) in
+      forgot (ArePairs d false y) y (read_members (read d) (suc (length y)) y) q (pairs_found d y) (ap (λ k. rest_of_bracket k false d y) (sym f) ∙ e) in
       object_goes (b ∷ o) y r ps h.0
   left_goes o colon y q f e = colon_goes o y q (skip between y) (gap_found y) e
   left_goes [] comma y q f e = absurd f
@@ -143,10 +143,10 @@ module _ (limit : ℕ) where
 
       by_kind : (k : BracketKind) → b.kind ≡ k → GoesOn (b ∷ o) comma y
       by_kind of_array i =
-          let (ts, r, h) = forgot (AreMembers d true y) y _ q (members_after d y) (ap (λ k. rest_of k true d y) (sym i) ∙ e) in
+          let (ts, r, h) = forgot (AreMembers d true y) y _ q (members_after d y) (ap (λ k. rest_of_bracket k true d y) (sym i) ∙ e) in
           array_comma b o y r ts i h.0
       by_kind of_object i =
-          let (ps, r, h) = forgot (ArePairs d true y) y _ q (pairs_after d y) (ap (λ k. rest_of k true d y) (sym i) ∙ e) in
+          let (ps, r, h) = forgot (ArePairs d true y) y _ q (pairs_after d y) (ap (λ k. rest_of_bracket k true d y) (sym i) ∙ e) in
           object_comma b o y r ps i h.0
   left_goes [] end y q f e = end_goes y q (skip between y) (gap_found y) e
   left_goes (b ∷ o) end y q f e = absurd f

@@ -10,7 +10,7 @@ use Rattle.json5_grammar.specs.Faults.Fronts.{BracketKind, of_array, of_object, 
 use Rattle.json5_grammar.specs.Model.Reading.{Read, got, bad, and_then}
 use Rattle.json5_grammar.specs.Model.ReadBlanks.{skip, between}
 use Rattle.json5_grammar.specs.Model.ReadValues.{at_end, document}
-use Rattle.json5_grammar.specs.Model.ReadSteps.{forget, member_head, member_at, comma_at, separator, rest_of}
+use Rattle.json5_grammar.specs.Model.ReadSteps.{forget, member_head, member_at, comma_at, separator, rest_of_bracket}
 use Rattle.json5_grammar.proofs.Basics.{append_after_two, SameHead, same_append, same_not}
 use Rattle.json5_grammar.proofs.BlanksRead.{skip_rest, skip_end, begins_solid, printable_solid}
 use Rattle.json5_grammar.proofs.BlanksSound.{Blanks-append}
@@ -119,7 +119,7 @@ close_solid : (k : BracketKind) (y : List ℕ) → skip between (closing k ∷ y
 close_solid of_array y = skip_rest (93 ∷ y) (begins_solid 93 y (printable_solid 93 refl refl))
 close_solid of_object y = skip_rest (125 ∷ y) (begins_solid 125 y (printable_solid 125 refl refl))
 
-closes_later : (k : BracketKind) (d : ℕ) (y : List ℕ) → rest_of k true d (closing k ∷ y) ≡ got tt y
+closes_later : (k : BracketKind) (d : ℕ) (y : List ℕ) → rest_of_bracket k true d (closing k ∷ y) ≡ got tt y
 unfolding separator
 closes_later k d y =
     rest_step k true d (closing k ∷ y)
@@ -131,7 +131,7 @@ closes_later k d y =
     by_kind of_array = refl
     by_kind of_object = refl
 
-closes_first : (k : BracketKind) (d : ℕ) (y : List ℕ) → rest_of k false d (closing k ∷ y) ≡ got tt y
+closes_first : (k : BracketKind) (d : ℕ) (y : List ℕ) → rest_of_bracket k false d (closing k ∷ y) ≡ got tt y
 unfolding member_at
 closes_first k d y =
     rest_step k false d (closing k ∷ y)

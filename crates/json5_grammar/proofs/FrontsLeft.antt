@@ -7,7 +7,7 @@ use Rattle.json5_grammar.specs.Faults.Fronts.{BracketKind, of_array, of_object, 
 use Rattle.json5_grammar.specs.Model.Reading.{Read, got, bad, and_then, placed}
 use Rattle.json5_grammar.specs.Model.ReadBlanks.{skip, between}
 use Rattle.json5_grammar.specs.Model.ReadValues.{colon_at, read, at_end, document}
-use Rattle.json5_grammar.specs.Model.ReadSteps.{forget, colon_after, member_head, member_at, comma_at, separator, next_value, rest_of}
+use Rattle.json5_grammar.specs.Model.ReadSteps.{forget, colon_after, member_head, member_at, comma_at, separator, next_value, rest_of_bracket}
 use Rattle.json5_grammar.proofs.BlanksRead.{skip_gap}
 use Rattle.json5_grammar.proofs.Unique.{phrase_reader}
 use Rattle.json5_grammar.proofs.ValueSteps.{turn, rest_step}
@@ -26,12 +26,12 @@ room limit o = limit - length o
 -- after a value
 abbrev pub rest_after : Finish → ℕ → List Bracket → List ℕ → Read (Unit {0})
 rest_after finish limit [] y = finish.at y
-rest_after finish limit (b ∷ o) y = rest_of b.kind true (room limit (b ∷ o)) y
+rest_after finish limit (b ∷ o) y = rest_of_bracket b.kind true (room limit (b ∷ o)) y
 
 -- after an opening bracket or a comma
 abbrev pub members_at : Finish → ℕ → List Bracket → List ℕ → Read (Unit {0})
 members_at finish limit [] y = got tt y
-members_at finish limit (b ∷ o) y = rest_of b.kind false (room limit (b ∷ o)) y
+members_at finish limit (b ∷ o) y = rest_of_bracket b.kind false (room limit (b ∷ o)) y
 
 -- the same, with what is read before it
 abbrev pub rest_then : Finish → ℕ → List Bracket → Read (Unit {0}) → Read (Unit {0})
@@ -84,7 +84,7 @@ gap_next : (k : BracketKind) (comma_due : Bool) (w r : List ℕ) → Gap w r →
 gap_next k false w r g = gap_member k w r g
 gap_next k true w r g = ap (λ m. and_then m (λ more y. cond more (member_at k y) (got false y))) (gap_separator k w r g)
 
-pub gap_rest : (k : BracketKind) (comma_due : Bool) (d : ℕ) (w r : List ℕ) → Gap w r → rest_of k comma_due d (w ++ r) ≡ rest_of k comma_due d r
+pub gap_rest : (k : BracketKind) (comma_due : Bool) (d : ℕ) (w r : List ℕ) → Gap w r → rest_of_bracket k comma_due d (w ++ r) ≡ rest_of_bracket k comma_due d r
 gap_rest k comma_due d w r g = rest_step k comma_due d (w ++ r) ∙ ap (λ m. and_then m (turn k d)) (gap_next k comma_due w r g) ∙ sym (rest_step k comma_due d r)
 
 -- after a value, and where a member may begin

@@ -11,7 +11,7 @@ use Rattle.json5_grammar.specs.Faults.{is_allowed_close}
 use Rattle.json5_grammar.specs.Model.Reading.{Read, got, bad, and_then, placed}
 use Rattle.json5_grammar.specs.Model.ReadBlanks.{skip, between}
 use Rattle.json5_grammar.specs.Model.ReadValues.{colon_at, read}
-use Rattle.json5_grammar.specs.Model.ReadSteps.{forget, colon_after, pair_head, member_head, member_at, separator, rest_of, value_and_rest}
+use Rattle.json5_grammar.specs.Model.ReadSteps.{forget, colon_after, pair_head, member_head, member_at, separator, rest_of_bracket, value_and_rest}
 use Rattle.json5_grammar.proofs.Basics.{append_after_two}
 use Rattle.json5_grammar.proofs.BlanksRead.{skip_gap, skip_rest, printable_solid, begins_solid}
 use Rattle.json5_grammar.proofs.Classes.{begins_others}
@@ -91,7 +91,7 @@ bracket_step finish limit o a k before w r takes f l g =
     no_bracket of_object = refl
 
     by_kind : (k : BracketKind)
-        → rest_of k false (limit - suc (length o)) r ≡ left_at finish limit (record { kind = k; before = before } ∷ o) (member_of k) r
+        → rest_of_bracket k false (limit - suc (length o)) r ≡ left_at finish limit (record { kind = k; before = before } ∷ o) (member_of k) r
     by_kind of_array = refl
     by_kind of_object = refl
 
@@ -118,7 +118,7 @@ key_step finish limit b o k w r u escape_free f is g =
     let h = key_head is in
     let e : k ++ (w ++ r) ≡ h.char ∷ (h.more ++ (w ++ r)) = ap (λ z. z ++ (w ++ r)) h.is in
     let d : ℕ = room limit (b ∷ o) in
-    ap (λ n. rest_of n false d (k ++ (w ++ r))) f
+    ap (λ n. rest_of_bracket n false d (k ++ (w ++ r))) f
     ∙ rest_step of_object false d (k ++ (w ++ r))
     ∙ ap (member_turn of_object d) (skip_key (w ++ r) h)
     ∙ ap (λ z. and_then (member_head of_object z) (turn of_object d)) e
@@ -128,7 +128,7 @@ key_step finish limit b o k w r u escape_free f is g =
     ∙ ap (λ m. and_then (and_then m (λ a r. and_then (colon_after r) (λ u y. got true y))) (turn of_object d)) (key_complete is)
     ∙ colon_first (colon_after (w ++ r))
     ∙ ap (λ m. and_then (and_then m (λ v z. and_then (colon_at z) (λ v z. skip between z))) (λ u z. value_and_rest of_object d z)) (skip_gap g)
-    ∙ ap (λ n. and_then (colon_after r) (λ u z. and_then (forget (read d z)) (λ u y. rest_of n true d y))) (sym f)
+    ∙ ap (λ n. and_then (colon_after r) (λ u z. and_then (forget (read d z)) (λ u y. rest_of_bracket n true d y))) (sym f)
   where
     colon_first : (m : Read (Unit {0}))
         → and_then (and_then m (λ u y. got true y)) (turn of_object (room limit (b ∷ o)))

@@ -8,7 +8,7 @@ use lib.Chars.{codes}
 use Rattle.json5_grammar.specs.Language.Characters.{is_digit, is_hex_digit, NotBegun, Begun, Each, no_char, char}
 use Rattle.json5_grammar.specs.Language.Numbers.{Sign, no_sign, plus, minus, signed, spelled, integer, lone_zero, no_exponent, Literal, literal, Number, whole, decimal, infinite, nan, finite, Num, is_infinite, is_nan, is_hexadecimal, is_integer, is_decimal, hex_start, InWhole, IsWholeLiteral, all_digits, without_zeros, exponent_of, in_run, begins_run, after_zero, lengthens_body, lengthens}
 use Rattle.json5_grammar.specs.Faults.Codes.{ErrorCode, Shown, by_char, by_end, ExpectedNumber, EofParsingNumber, OverflowParsingNumber, LeadingZero}
-use Rattle.json5_grammar.specs.Faults.Tokens.{is_sign, begins_number, NumberWord, Run, run, zero_run, RunEnd, run_at_end, run_at_char, NumberFault, number_word_differs, number_word_ends, sign_without_number, sign_ends, no_hexadecimal_digit, hexadecimal_ends, hexadecimal_overflows, negative_too_large, not_a_literal, literal_overflows, leading_zero}
+use Rattle.json5_grammar.specs.Faults.Tokens.{is_sign, begins_number, NumberWord, DecimalRun, run, zero_run, RunEnd, run_at_end, run_at_char, NumberFault, number_word_differs, number_word_ends, sign_without_number, sign_ends, no_hexadecimal_digit, hexadecimal_ends, hexadecimal_overflows, negative_too_large, not_a_literal, literal_overflows, leading_zero}
 use Rattle.json5_grammar.specs.Model.Reading.{Place, Read, got, bad, here, inner}
 use Rattle.json5_grammar.specs.Model.ReadNumbers.{Parts, front_of, rest_of, literal_at, in_exponents, is_whole, judged, if_literal, decimal_run, at_zero, hex_judged, hexadecimal, hex_digits, word, unsigned, number}
 use Rattle.json5_grammar.proofs.Basics.{by_test, eq_from, neq_from, rest_same, cons_not_nil, lt_from, le_from}
@@ -186,7 +186,7 @@ tail_of (char h e) = e
 pub not_zero : (c : ℕ) → (c == 48) ≡ false → c ≢ 48
 not_zero c h = neq_from c 48 h
 
-pub longer_run : {s l : List ℕ} {m : Bool} → Sign s m → Longer l → Each in_run l → Run (s ++ l)
+pub longer_run : {s l : List ℕ} {m : Bool} → Sign s m → Longer l → Each in_run l → DecimalRun (s ++ l)
 longer_run g (zero_more {c = c} h) e = zero_run c g h (tail_of (tail_of e))
 longer_run g (begun {c = c} h z) e = run g h (not_zero c z) (tail_of e)
 

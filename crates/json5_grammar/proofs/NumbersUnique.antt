@@ -8,7 +8,7 @@ use lib.Chars.{codes}
 use Rattle.json5_grammar.specs.Language.Characters.{is_digit, is_hex_digit, NotBegun, Each, no_char, char}
 use Rattle.json5_grammar.specs.Language.Numbers.{Sign, minus, spelled, Literal, Number, decimal, infinite, nan, Num, is_decimal, exponent_of, in_run, lengthens}
 use Rattle.json5_grammar.specs.Faults.Codes.{ErrorCode, Shown, ExpectedNumber, EofParsingNumber, OverflowParsingNumber}
-use Rattle.json5_grammar.specs.Faults.Tokens.{is_sign, NumberWord, Cut, Run, run, zero_run, RunEnd, run_at_end, run_at_char, NumberFault, number_word_differs, number_word_ends, sign_without_number, sign_ends, no_hexadecimal_digit, hexadecimal_ends, hexadecimal_overflows, negative_too_large, not_a_literal, literal_overflows, leading_zero}
+use Rattle.json5_grammar.specs.Faults.Tokens.{is_sign, NumberWord, Cut, DecimalRun, run, zero_run, RunEnd, run_at_end, run_at_char, NumberFault, number_word_differs, number_word_ends, sign_without_number, sign_ends, no_hexadecimal_digit, hexadecimal_ends, hexadecimal_overflows, negative_too_large, not_a_literal, literal_overflows, leading_zero}
 use Rattle.json5_grammar.specs.Model.Reading.{Place, got, bad, here, inner}
 use Rattle.json5_grammar.specs.Model.ReadNumbers.{Parts, literal_at, in_exponents, is_whole, if_literal, hex_judged, hexadecimal, hex_digits, word, unsigned, number}
 use Rattle.json5_grammar.proofs.Basics.{not_eq, same_char}
@@ -140,7 +140,7 @@ record RunIs (n : List ℕ) : Type 0 where
   longer : Longer body
   all : Each in_run body
 
-run_is : {n : List ℕ} → Run n → RunIs n
+run_is : {n : List ℕ} → DecimalRun n → RunIs n
 run_is (run {s = s} {n = n} {m = m} {c = c} g h z e) = record { sign = s; body = c ∷ n; minus = m; is = refl; signs = g; longer = begun h (not_eq c 48 z); all = char (begins_run_in_run c h) e }
 run_is (zero_run {s = s} {n = n} {m = m} c g h e) = record { sign = s; body = 48 ∷ c ∷ n; minus = m; is = refl; signs = g; longer = zero_more h; all = char refl (char (dot_or_e_in_run c h) e) }
 
@@ -153,7 +153,7 @@ none_found : {n : List ℕ} (k : RunIs n) → ((s l i : List ℕ) (m : Bool) (d 
 none_found k f None h = refl
 none_found k f (Some p) h = absurd (f k.sign k.body p.before k.minus p.after p.raised k.signs h k.is)
 
-run_refused : {n c : List ℕ} {shown : Shown} (r : List ℕ) → Run n → ((s l i : List ℕ) (m : Bool) (d : Option (List ℕ)) (w : Option ℤ) → Sign s m → Literal l i d w → n ≡ s ++ l → ⊥) → RunEnd in_run r c shown → Refused (n ++ r) None (Some [])
+run_refused : {n c : List ℕ} {shown : Shown} (r : List ℕ) → DecimalRun n → ((s l i : List ℕ) (m : Bool) (d : Option (List ℕ)) (w : Option ℤ) → Sign s m → Literal l i d w → n ≡ s ++ l → ⊥) → RunEnd in_run r c shown → Refused (n ++ r) None (Some [])
 run_refused {n = n} r h f b =
     let k = run_is h in
     record { place = here (n ++ r); answer = run_number r k (after_stops b) ∙ ap (if_literal (n ++ r) k.minus r) (none_found k f (literal_at k.body) (literal_is k.body)); is_place = ([], refl, refl) }
@@ -169,7 +169,7 @@ not_exponent g h n k false e = refl
 longer_from : {s l : List ℕ} {m : Bool} {i : List ℕ} {f : Option (List ℕ)} {w : Option ℤ} → RunIs (s ++ l) → Sign s m → Literal l i f w → Longer l
 longer_from {l = l} k g h = subst Longer (sym (sign_split l k.body g k.signs (head_bare (literal_head h)) (longer_bare k.longer) k.is)) k.longer
 
-over_refused : {s l i c : List ℕ} {shown : Shown} {m : Bool} {f : Option (List ℕ)} {w : Option ℤ} (r : List ℕ) → Run (s ++ l) → Sign s m → Literal l i f w → ((n : Number) → Num (s ++ l) n → ⊥) → RunEnd in_run r c shown → Refused ((s ++ l) ++ r) (Some OverflowParsingNumber) (Some [])
+over_refused : {s l i c : List ℕ} {shown : Shown} {m : Bool} {f : Option (List ℕ)} {w : Option ℤ} (r : List ℕ) → DecimalRun (s ++ l) → Sign s m → Literal l i f w → ((n : Number) → Num (s ++ l) n → ⊥) → RunEnd in_run r c shown → Refused ((s ++ l) ++ r) (Some OverflowParsingNumber) (Some [])
 over_refused {s = s} {l = l} {i = i} {m = m} {f = f} {w = w} r h g k n b =
     let q = (s ++ l) ++ r in
     let x : Longer l = longer_from (run_is h) g k in

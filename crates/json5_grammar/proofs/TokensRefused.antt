@@ -6,7 +6,7 @@ use Rattle.std.proofs.lemmas.List.{append-nil}
 use Rattle.json5_grammar.specs.Language.Characters.{Begun}
 use Rattle.json5_grammar.specs.Faults.Codes.{ErrorCode, Shown}
 use Rattle.json5_grammar.specs.Language.Blanks.{is_solid}
-use Rattle.json5_grammar.specs.Faults.Tokens.{is_sign, begins_number, NumberWord, Cut, Run, run, zero_run, NumberFault, number_word_differs, number_word_ends, sign_without_number, sign_ends, no_hexadecimal_digit, hexadecimal_ends, hexadecimal_overflows, negative_too_large, not_a_literal, literal_overflows, leading_zero, Word, null_word, true_word, false_word, WordFault, StringFault, Named, no_item_yet, some_items, NameFault, no_unicode_escape, escaped_no_start, escaped_no_part, name_ends, backslash_ends}
+use Rattle.json5_grammar.specs.Faults.Tokens.{is_sign, begins_number, NumberWord, Cut, DecimalRun, run, zero_run, NumberFault, number_word_differs, number_word_ends, sign_without_number, sign_ends, no_hexadecimal_digit, hexadecimal_ends, hexadecimal_overflows, negative_too_large, not_a_literal, literal_overflows, leading_zero, Word, null_word, true_word, false_word, WordFault, StringFault, Named, no_item_yet, some_items, NameFault, no_unicode_escape, escaped_no_start, escaped_no_part, name_ends, backslash_ends}
 use Rattle.json5_grammar.specs.Language.Numbers.{begins_run, Sign, no_sign, plus, minus}
 use Rattle.json5_grammar.specs.Language.Strings.{is_quote}
 use Rattle.json5_grammar.specs.Faults.Fronts.{of_object, Bracket, Expects, takes_value, key}
@@ -15,7 +15,7 @@ use Rattle.json5_grammar.specs.Language.Values.{KeyText}
 use Rattle.json5_grammar.specs.Model.Reading.{Place, got, bad, and_then, IsAt}
 use Rattle.json5_grammar.specs.Model.ReadTexts as texts
 use Rattle.json5_grammar.specs.Model.ReadValues.{word_at, read}
-use Rattle.json5_grammar.specs.Model.ReadSteps.{forget, colon_after, pair_head, member_at, rest_of}
+use Rattle.json5_grammar.specs.Model.ReadSteps.{forget, colon_after, pair_head, member_at, rest_of_bracket}
 use Rattle.json5_grammar.proofs.BlanksRead.{skip_rest, solid_from, begins_solid}
 use Rattle.json5_grammar.proofs.Classes.{number_begins, quote_begins, begins_others}
 use Rattle.json5_grammar.proofs.KeysRead.{string_fault_head}
@@ -89,7 +89,7 @@ run_begins_number : (c : ℕ) → begins_run c ≡ true → begins_number c ≡ 
 run_begins_number c h = grind (arith, nat_tests)
 
 -- a decimal run begins so
-run_begins : {n : List ℕ} (y : List ℕ) → Run n → BeginsNumber (n ++ y)
+run_begins : {n : List ℕ} (y : List ℕ) → DecimalRun n → BeginsNumber (n ++ y)
 run_begins y (run {s = s} {n = n} {c = c} g h z e) =
     subst BeginsNumber (sym (append_assoc s (c ∷ n) y)) (signed_begins c (n ++ y) g (run_begins_number c h))
 run_begins y (zero_run {s = s} {n = n} c g h e) = subst BeginsNumber (sym (append_assoc s (48 ∷ c ∷ n) y)) (signed_begins 48 (c ∷ n ++ y) g refl)
@@ -146,7 +146,7 @@ unfolding member_at
 key_left finish limit [] c r e p f s n h = absurd f
 key_left finish limit (b ∷ o) c r e p f s n h =
     let d : ℕ = room limit (b ∷ o) in
-    ap (λ k. rest_of k false d (c ∷ r)) f
+    ap (λ k. rest_of_bracket k false d (c ∷ r)) f
     ∙ rest_step of_object false d (c ∷ r)
     ∙ ap (member_turn of_object d) (skip_rest (c ∷ r) (begins_solid c r s))
     ∙ ap (λ z. and_then (cond z (got false r) (pair_head (c ∷ r))) (turn of_object d)) n

@@ -18,7 +18,7 @@ use Rattle.json5_grammar.specs.Model.Reading.{Read, got, bad, inner, and_then, p
 use Rattle.json5_grammar.specs.Model.ReadBlanks.{skip, between}
 use Rattle.json5_grammar.specs.Model.ReadNumbers as numbers
 use Rattle.json5_grammar.specs.Model.ReadTexts.{string}
-use Rattle.json5_grammar.specs.Model.ReadValues.{items, entries, as_leaf, value_with, too_deep, read}
+use Rattle.json5_grammar.specs.Model.ReadValues.{read_elements, read_members, as_leaf, value_with, too_deep, read}
 use Rattle.json5_grammar.proofs.BlanksRead.{printable_no_blank, printable_solid, skip_rest, solid_from, begins_solid}
 use Rattle.json5_grammar.proofs.Classes.{EndsValues, blank_ends_values, slash_ends_values, blank_no_name, slash_no_name, start_no_blank, start_no_slash, start_no_brace, begins_printable, begins_others, number_begins, quote_begins, number_others, quote_others}
 use Rattle.json5_grammar.proofs.NamesRead.{unicode_head}
@@ -193,11 +193,11 @@ value_number arrays objects c r h = let k = number_others c h in rw (h, k.3, k.0
 -- what reads the arrays and the objects that are nested no deeper than the number
 abbrev pub array_reader : ℕ → Nested
 array_reader zero = too_deep
-array_reader (suc d) = λ q r. placed q (and_then (items (read d) (suc (length r)) r) (λ ts y. got (array ts) y))
+array_reader (suc d) = λ q r. placed q (and_then (read_elements (read d) (suc (length r)) r) (λ ts y. got (array ts) y))
 
 abbrev pub object_reader : ℕ → Nested
 object_reader zero = too_deep
-object_reader (suc d) = λ q r. placed q (and_then (entries (read d) (suc (length r)) r) (λ ps y. got (object ps) y))
+object_reader (suc d) = λ q r. placed q (and_then (read_members (read d) (suc (length r)) r) (λ ps y. got (object ps) y))
 
 -- one step of reading
 pub read_step : (d : ℕ) (x : List ℕ) → read d x ≡ value_with (array_reader d) (object_reader d) x

@@ -11,18 +11,18 @@ use Rattle.json5_grammar.specs.Model.Reading.{Read, got, bad, here, inner, and_t
 use Rattle.json5_grammar.specs.Model.ReadBlanks.{skip, between}
 use Rattle.json5_grammar.specs.Model.ReadNumbers as numbers
 use Rattle.json5_grammar.specs.Model.ReadTexts.{key, string}
-use Rattle.json5_grammar.specs.Model.ReadValues.{word_at, items, entries, close_or, member, after_member, colon_at, value_after, pair_at, key_or, after_pair, as_leaf, value_with, read}
-use Rattle.json5_grammar.specs.Model.ReadSteps.{forget, colon_after, pair_head, member_head, member_at, comma_at, separator, next_value, rest_of, value_and_rest}
+use Rattle.json5_grammar.specs.Model.ReadValues.{word_at, read_elements, read_members, close_or, member, after_member, colon_at, value_after, pair_at, key_or, after_pair, as_leaf, value_with, read}
+use Rattle.json5_grammar.specs.Model.ReadSteps.{forget, colon_after, pair_head, member_head, member_at, comma_at, separator, next_value, rest_of_bracket, value_and_rest}
 use Rattle.json5_grammar.proofs.ValueHeads.{array_reader, object_reader, read_step, value_text, value_number}
 use Rattle.json5_grammar.proofs.ValuesSound.{IsGap, gap_found}
 use Rattle.json5_grammar.proofs.Found.{Found}
 use Rattle.json5_grammar.proofs.ValueTurns.{gap_no_longer, member_same, pair_same, same_items, same_entries}
 
 abbrev all_items : ℕ → List ℕ → Read Trees
-all_items d z = items (read d) (suc (length z)) z
+all_items d z = read_elements (read d) (suc (length z)) z
 
 abbrev all_entries : ℕ → List ℕ → Read Pairs
-all_entries d z = entries (read d) (suc (length z)) z
+all_entries d z = read_members (read d) (suc (length z)) z
 
 -- a value comes next, or the bracket was closed
 abbrev pub turn : BracketKind → ℕ → Bool → List ℕ → Read (Unit {0})
@@ -43,10 +43,10 @@ forget_member : (k : List ℕ → Read Trees) (m : Read Tree)
 forget_member k (got t r) = forget_after k t (skip between r)
 forget_member k (bad e p) = refl
 
-array_member : (d n : ℕ) (y : List ℕ) → length y ≤ n → forget (member (read d) (items (read d) n) y) ≡ value_and_rest of_array d y
-unfolding rest_of
+array_member : (d n : ℕ) (y : List ℕ) → length y ≤ n → forget (member (read d) (read_elements (read d) n) y) ≡ value_and_rest of_array d y
+unfolding rest_of_bracket
 array_member d n y l =
-    ap forget (member_same d (items (read d) n) (all_items d) y (λ z s. same_items d n (suc (length z)) z (omega arith) (omega arith)))
+    ap forget (member_same d (read_elements (read d) n) (all_items d) y (λ z s. same_items d n (suc (length z)) z (omega arith) (omega arith)))
     ∙ forget_member (all_items d) (read d y)
 
 -- ---- one pair
@@ -79,7 +79,7 @@ value_after_colon val x = by_gap (skip between x)
 object_value : (d : ℕ) (a : List ℕ × Bool) (m : Read (Unit {0}))
     → forget (and_then (and_then m (λ u q. read d q)) (λ t r. and_then (skip between r) (λ u y. and_then (after_pair (all_entries d) y) (λ ps z. got (pair a.0 a.1 t ps) z))))
     ≡ and_then (and_then m (λ u y. got true y)) (turn of_object d)
-unfolding rest_of
+unfolding rest_of_bracket
 object_value d a (got u q) = forget_pair (all_entries d) a (read d q)
 object_value d a (bad e p) = refl
 
@@ -91,9 +91,9 @@ object_key d (got a r) =
     ∙ object_value d a (colon_after r)
 object_key d (bad e p) = refl
 
-object_member : (d n : ℕ) (c : ℕ) (r : List ℕ) → length (c ∷ r) ≤ n → forget (pair_at (read d) (entries (read d) n) (c ∷ r)) ≡ and_then (pair_head (c ∷ r)) (turn of_object d)
+object_member : (d n : ℕ) (c : ℕ) (r : List ℕ) → length (c ∷ r) ≤ n → forget (pair_at (read d) (read_members (read d) n) (c ∷ r)) ≡ and_then (pair_head (c ∷ r)) (turn of_object d)
 object_member d n c r l =
-    ap forget (pair_same d (entries (read d) n) (all_entries d) c r (λ z s. same_entries d n (suc (length z)) z (omega arith) (omega arith)))
+    ap forget (pair_same d (read_members (read d) n) (all_entries d) c r (λ z s. same_entries d n (suc (length z)) z (omega arith) (omega arith)))
     ∙ object_key d (key (c ∷ r))
 
 -- ---- a member, or the closing bracket
@@ -102,13 +102,13 @@ closes_or : {A : Type 0} (k : BracketKind) (d : ℕ) (b : Bool) (nothing : A) (r
 closes_or k d true nothing r m n e = refl
 closes_or k d false nothing r m n e = e
 
-array_head : (d n : ℕ) (y : List ℕ) → length y ≤ n → forget (close_or (member (read d) (items (read d) n) y) y) ≡ and_then (member_head of_array y) (turn of_array d)
+array_head : (d n : ℕ) (y : List ℕ) → length y ≤ n → forget (close_or (member (read d) (read_elements (read d) n) y) y) ≡ and_then (member_head of_array y) (turn of_array d)
 array_head d n [] l = array_member d n [] l
-array_head d n (c ∷ r) l = closes_or of_array d (c == 93) no_more r (member (read d) (items (read d) n) (c ∷ r)) (got true (c ∷ r)) (array_member d n (c ∷ r) l)
+array_head d n (c ∷ r) l = closes_or of_array d (c == 93) no_more r (member (read d) (read_elements (read d) n) (c ∷ r)) (got true (c ∷ r)) (array_member d n (c ∷ r) l)
 
-object_head : (d n : ℕ) (y : List ℕ) → length y ≤ n → forget (key_or (pair_at (read d) (entries (read d) n) y) y) ≡ and_then (member_head of_object y) (turn of_object d)
+object_head : (d n : ℕ) (y : List ℕ) → length y ≤ n → forget (key_or (pair_at (read d) (read_members (read d) n) y) y) ≡ and_then (member_head of_object y) (turn of_object d)
 object_head d n [] l = refl
-object_head d n (c ∷ r) l = closes_or of_object d (c == 125) no_pair r (pair_at (read d) (entries (read d) n) (c ∷ r)) (pair_head (c ∷ r)) (object_member d n c r l)
+object_head d n (c ∷ r) l = closes_or of_object d (c == 125) no_pair r (pair_at (read d) (read_members (read d) n) (c ∷ r)) (pair_head (c ∷ r)) (object_member d n c r l)
 
 after_gap : {A : Type 0} (k : BracketKind) (d : ℕ) (x : List ℕ) (f : List ℕ → Read A) (g : List ℕ → Read Bool) → ((y : List ℕ) → length y ≤ length x → forget (f y) ≡ and_then (g y) (turn k d))
     → forget (and_then (skip between x) (λ u y. f y)) ≡ and_then (and_then (skip between x) (λ u y. g y)) (turn k d)
@@ -118,26 +118,26 @@ after_gap k d x f g h = by_answer (skip between x) (gap_found x)
     by_answer (got u y) gap = h y (gap_no_longer x y u gap)
     by_answer (bad e p) gap = refl
 
-first_step : (k : BracketKind) (d : ℕ) (x : List ℕ) → rest_of k false d x ≡ and_then (member_at k x) (turn k d)
-unfolding rest_of member_at items entries
-first_step of_array d x = after_gap of_array d x (λ y. close_or (member (read d) (items (read d) (length x)) y) y) (member_head of_array) (array_head d (length x))
-first_step of_object d x = after_gap of_object d x (λ y. key_or (pair_at (read d) (entries (read d) (length x)) y) y) (member_head of_object) (object_head d (length x))
+first_step : (k : BracketKind) (d : ℕ) (x : List ℕ) → rest_of_bracket k false d x ≡ and_then (member_at k x) (turn k d)
+unfolding rest_of_bracket member_at read_elements read_members
+first_step of_array d x = after_gap of_array d x (λ y. close_or (member (read d) (read_elements (read d) (length x)) y) y) (member_head of_array) (array_head d (length x))
+first_step of_object d x = after_gap of_object d x (λ y. key_or (pair_at (read d) (read_members (read d) (length x)) y) y) (member_head of_object) (object_head d (length x))
 
 -- ---- after a member
 
-comma_or : {A : Type 0} (k : BracketKind) (d : ℕ) (a b : Bool) (nothing : A) (c : ℕ) (r : List ℕ) (m : Read A) → forget m ≡ rest_of k false d r
+comma_or : {A : Type 0} (k : BracketKind) (d : ℕ) (a b : Bool) (nothing : A) (c : ℕ) (r : List ℕ) (m : Read A) → forget m ≡ rest_of_bracket k false d r
     → forget (cond a m (cond b (got nothing r) (bad (Some ExpectedComma) (here (c ∷ r)))))
     ≡ and_then (and_then (cond a (got true r) (cond b (got false r) (bad (Some ExpectedComma) (here (c ∷ r))))) (λ goes y. cond goes (member_at k y) (got false y))) (turn k d)
 comma_or k d true b nothing c r m e = e ∙ first_step k d r
 comma_or k d false true nothing c r m e = refl
 comma_or k d false false nothing c r m e = refl
 
-array_items : (d : ℕ) (r : List ℕ) → forget (all_items d r) ≡ rest_of of_array false d r
-unfolding rest_of
+array_items : (d : ℕ) (r : List ℕ) → forget (all_items d r) ≡ rest_of_bracket of_array false d r
+unfolding rest_of_bracket
 array_items d r = refl
 
-object_entries : (d : ℕ) (r : List ℕ) → forget (all_entries d r) ≡ rest_of of_object false d r
-unfolding rest_of
+object_entries : (d : ℕ) (r : List ℕ) → forget (all_entries d r) ≡ rest_of_bracket of_object false d r
+unfolding rest_of_bracket
 object_entries d r = refl
 
 array_comma : (d : ℕ) (y : List ℕ) → forget (after_member (all_items d) y) ≡ and_then (and_then (comma_at of_array y) (λ goes y. cond goes (member_at of_array y) (got false y))) (turn of_array d)
@@ -154,8 +154,8 @@ grouped : (k : BracketKind) (d : ℕ) (m : Read (Unit {0}))
 grouped k d (got u y) = refl
 grouped k d (bad e p) = refl
 
-later_step : (k : BracketKind) (d : ℕ) (x : List ℕ) → rest_of k true d x ≡ and_then (next_value k true x) (turn k d)
-unfolding rest_of separator
+later_step : (k : BracketKind) (d : ℕ) (x : List ℕ) → rest_of_bracket k true d x ≡ and_then (next_value k true x) (turn k d)
+unfolding rest_of_bracket separator
 later_step of_array d x =
     after_gap of_array d x (after_member (all_items d)) (λ y. and_then (comma_at of_array y) (λ goes y. cond goes (member_at of_array y) (got false y))) (λ y l. array_comma d y)
     ∙ grouped of_array d (skip between x)
@@ -164,7 +164,7 @@ later_step of_object d x =
     ∙ grouped of_object d (skip between x)
 
 -- what is left of a bracket is a value and then the rest, or the closing sign
-pub rest_step : (k : BracketKind) (comma_due : Bool) (d : ℕ) (x : List ℕ) → rest_of k comma_due d x ≡ and_then (next_value k comma_due x) (turn k d)
+pub rest_step : (k : BracketKind) (comma_due : Bool) (d : ℕ) (x : List ℕ) → rest_of_bracket k comma_due d x ≡ and_then (next_value k comma_due x) (turn k d)
 rest_step k false d x = first_step k d x
 rest_step k true d x = later_step k d x
 
@@ -181,8 +181,8 @@ forget_object q (bad e (here p)) = refl
 forget_object q (bad e inner) = refl
 
 -- a bracket is opened, and what is left of it is read
-pub read_opened : (k : BracketKind) (d : ℕ) (r : List ℕ) → forget (read (suc d) (opening k ∷ r)) ≡ placed (opening k ∷ r) (rest_of k false d r)
-unfolding rest_of
+pub read_opened : (k : BracketKind) (d : ℕ) (r : List ℕ) → forget (read (suc d) (opening k ∷ r)) ≡ placed (opening k ∷ r) (rest_of_bracket k false d r)
+unfolding rest_of_bracket
 read_opened of_array d r = ap forget (read_step (suc d) (91 ∷ r)) ∙ forget_array (91 ∷ r) (all_items d r)
 read_opened of_object d r = ap forget (read_step (suc d) (123 ∷ r)) ∙ forget_object (123 ∷ r) (all_entries d r)
 

@@ -4,7 +4,7 @@ use Rattle.json5_grammar.specs.Language.Trees.{Trees, Pairs, more, pair}
 use Rattle.json5_grammar.specs.Model.Reading.{Read, got, bad, and_then}
 use Rattle.json5_grammar.specs.Model.ReadBlanks.{skip, between}
 use Rattle.json5_grammar.specs.Model.ReadTexts.{key}
-use Rattle.json5_grammar.specs.Model.ReadValues.{read, items, entries, member, close_or, after_member, value_after, pair_at, key_or, after_pair}
+use Rattle.json5_grammar.specs.Model.ReadValues.{read, read_elements, read_members, member, close_or, after_member, value_after, pair_at, key_or, after_pair}
 use Rattle.json5_grammar.proofs.Found.{Found}
 use Rattle.json5_grammar.proofs.ValuesSound.{IsGap, IsValue, IsKeyAt, IsValueAfter, gap_found, key_found, value_found, before_rest, read_found}
 
@@ -42,12 +42,12 @@ module _ (d : ℕ) where
     close_same : (x : List ℕ) → SameBelow (length x) f g → close_or (member (read d) f x) x ≡ close_or (member (read d) g x) x
     close_same x h = ap (λ m. close_or m x) (member_same x h)
 
-  pub same_items : (n m : ℕ) (x : List ℕ) → length x < n → length x < m → items (read d) n x ≡ items (read d) m x
-  unfolding items
+  pub same_items : (n m : ℕ) (x : List ℕ) → length x < n → length x < m → read_elements (read d) n x ≡ read_elements (read d) m x
+  unfolding read_elements
   same_items zero m x l k = absurd (omega arith)
   same_items (suc n) zero x l k = absurd (omega arith)
   same_items (suc n) (suc m) x l k = then_same (IsGap x) x (skip between x) _ _ (gap_found x)
-      (λ u y g. let a = gap_no_longer x y u g in close_same (items (read d) n) (items (read d) m) y (λ z s. same_items n m z (omega (arith, a)) (omega (arith, a))))
+      (λ u y g. let a = gap_no_longer x y u g in close_same (read_elements (read d) n) (read_elements (read d) m) y (λ z s. same_items n m z (omega (arith, a)) (omega (arith, a))))
 
   -- ---- pairs of objects
 
@@ -67,9 +67,9 @@ module _ (d : ℕ) where
     brace_same [] h = refl
     brace_same (c ∷ r) h = ap (λ m. key_or m (c ∷ r)) (pair_same c r h)
 
-  pub same_entries : (n m : ℕ) (x : List ℕ) → length x < n → length x < m → entries (read d) n x ≡ entries (read d) m x
-  unfolding entries
+  pub same_entries : (n m : ℕ) (x : List ℕ) → length x < n → length x < m → read_members (read d) n x ≡ read_members (read d) m x
+  unfolding read_members
   same_entries zero m x l k = absurd (omega arith)
   same_entries (suc n) zero x l k = absurd (omega arith)
   same_entries (suc n) (suc m) x l k = then_same (IsGap x) x (skip between x) _ _ (gap_found x)
-      (λ u y g. let a = gap_no_longer x y u g in brace_same (entries (read d) n) (entries (read d) m) y (λ z s. same_entries n m z (omega (arith, a)) (omega (arith, a))))
+      (λ u y g. let a = gap_no_longer x y u g in brace_same (read_members (read d) n) (read_members (read d) m) y (λ z s. same_entries n m z (omega (arith, a)) (omega (arith, a))))

@@ -9,7 +9,7 @@ use Rattle.json5_grammar.specs.Language.Values.{no_last_comma, last_comma, KeyTe
 use Rattle.json5_grammar.specs.Model.Reading.{Read, got, and_then, placed}
 use Rattle.json5_grammar.specs.Model.ReadBlanks.{skip, between}
 use Rattle.json5_grammar.specs.Model.ReadNumbers as numbers
-use Rattle.json5_grammar.specs.Model.ReadValues.{items, entries, close_or, after_member, after_pair, key_or, value_after, as_leaf, value_with, read}
+use Rattle.json5_grammar.specs.Model.ReadValues.{read_elements, read_members, close_or, after_member, after_pair, key_or, value_after, as_leaf, value_with, read}
 use Rattle.json5_grammar.proofs.BlanksRead.{skip_blanks, skip_solid, printable_no_blank}
 use Rattle.json5_grammar.proofs.Classes.{EndsValues, comma_ends_values, bracket_ends_values, brace_ends_values, begins_others, colon_no_name}
 use Rattle.json5_grammar.proofs.WordsRead.{word_complete}
@@ -48,13 +48,13 @@ read_text d r (quoted {q = q} {s = s} h i) =
 
 -- ---- brackets
 
-read_bracket : (d : ℕ) (m r : List ℕ) (ts : Trees) → ((n : ℕ) → length (m ++ 93 ∷ r) < n → items (read d) n (m ++ 93 ∷ r) ≡ got ts r)
+read_bracket : (d : ℕ) (m r : List ℕ) (ts : Trees) → ((n : ℕ) → length (m ++ 93 ∷ r) < n → read_elements (read d) n (m ++ 93 ∷ r) ≡ got ts r)
     → read (suc d) ((91 ∷ m ++ 93 ∷ []) ++ r) ≡ got (array ts) r
 read_bracket d m r ts h =
     ap (λ z. read (suc d) (91 ∷ z)) (append_assoc m (93 ∷ []) r) ∙ read_step (suc d) (91 ∷ (m ++ 93 ∷ r))
     ∙ ap (λ z. placed (91 ∷ m ++ 93 ∷ r) (and_then z (λ ts y. got (array ts) y))) (h (suc (length (m ++ 93 ∷ r))) (omega arith))
 
-read_brace : (d : ℕ) (m r : List ℕ) (ps : Pairs) → ((n : ℕ) → length (m ++ 125 ∷ r) < n → entries (read d) n (m ++ 125 ∷ r) ≡ got ps r)
+read_brace : (d : ℕ) (m r : List ℕ) (ps : Pairs) → ((n : ℕ) → length (m ++ 125 ∷ r) < n → read_members (read d) n (m ++ 125 ∷ r) ≡ got ps r)
     → read (suc d) ((123 ∷ m ++ 125 ∷ []) ++ r) ≡ got (object ps) r
 read_brace d m r ps h =
     ap (λ z. read (suc d) (123 ∷ z)) (append_assoc m (125 ∷ []) r) ∙ read_step (suc d) (123 ∷ (m ++ 125 ∷ r))
@@ -73,14 +73,14 @@ skip_colon : (r : List ℕ) → skip between (58 ∷ r) ≡ got tt (58 ∷ r)
 skip_colon r = skip_solid 58 r (printable_no_blank 58 refl) refl
 
 -- blanks and the closing bracket are read
-pub items_close : {w : List ℕ} (val : List ℕ → Read Tree) (n : ℕ) (r : List ℕ) → length (w ++ 93 ∷ r) < n → Blanks w → items val n (w ++ 93 ∷ r) ≡ got no_more r
-unfolding items
+pub items_close : {w : List ℕ} (val : List ℕ → Read Tree) (n : ℕ) (r : List ℕ) → length (w ++ 93 ∷ r) < n → Blanks w → read_elements val n (w ++ 93 ∷ r) ≡ got no_more r
+unfolding read_elements
 items_close val zero r l b = absurd (omega arith)
 items_close val (suc n) r l b = rw (skip_blanks (93 ∷ r) b, skip_bracket r) refl
 
 -- blanks and the closing brace are read
-pub entries_close : {w : List ℕ} (val : List ℕ → Read Tree) (n : ℕ) (r : List ℕ) → length (w ++ 125 ∷ r) < n → Blanks w → entries val n (w ++ 125 ∷ r) ≡ got no_pair r
-unfolding entries
+pub entries_close : {w : List ℕ} (val : List ℕ → Read Tree) (n : ℕ) (r : List ℕ) → length (w ++ 125 ∷ r) < n → Blanks w → read_members val n (w ++ 125 ∷ r) ≡ got no_pair r
+unfolding read_members
 entries_close val zero r l b = absurd (omega arith)
 entries_close val (suc n) r l b = rw (skip_blanks (125 ∷ r) b, skip_brace r) refl
 
@@ -95,16 +95,16 @@ after_member_blanks k t y = and_then (skip between y) (λ u z. and_then (after_m
 
 -- one member, and what follows it
 pub items_member : {w s v : List ℕ} {t : Tree} (d k : ℕ) (y : List ℕ) → Blanks w → ValueHead s → Blanks v → read d (s ++ (v ++ y)) ≡ got t (v ++ y)
-    → items (read d) (suc k) (w ++ (s ++ (v ++ y))) ≡ after_member_blanks (items (read d) k) t y
-unfolding items
+    → read_elements (read d) (suc k) (w ++ (s ++ (v ++ y))) ≡ after_member_blanks (read_elements (read d) k) t y
+unfolding read_elements
 items_member {s = s} {v = v} d k y bw h bv e =
     rw (skip_blanks (s ++ (v ++ y)) bw, skip_value (v ++ y) h)
     (close_head _ (v ++ y) h ∙ rw (e, skip_blanks y bv) refl)
 
-after_comma : (t : Tree) (ts : Trees) (d k : ℕ) (x r : List ℕ) → items (read d) k x ≡ got ts r → after_member_blanks (items (read d) k) t (44 ∷ x) ≡ got (more t ts) r
+after_comma : (t : Tree) (ts : Trees) (d k : ℕ) (x r : List ℕ) → read_elements (read d) k x ≡ got ts r → after_member_blanks (read_elements (read d) k) t (44 ∷ x) ≡ got (more t ts) r
 after_comma t ts d k x r e = rw (skip_comma x) (ap (λ q. and_then q (λ ts x. got (more t ts) x)) e)
 
-at_close : (t : Tree) (d k : ℕ) (r : List ℕ) → after_member_blanks (items (read d) k) t (93 ∷ r) ≡ got (more t no_more) r
+at_close : (t : Tree) (d k : ℕ) (r : List ℕ) → after_member_blanks (read_elements (read d) k) t (93 ∷ r) ≡ got (more t no_more) r
 at_close t d k r = rw (skip_bracket r) refl
 
 pub regroup : (w s v c r : List ℕ) → (w ++ (s ++ (v ++ c))) ++ r ≡ w ++ (s ++ (v ++ (c ++ r)))
@@ -129,18 +129,18 @@ colon_and_value {w = w} {s = s} val y bb bw h e = rw (skip_blanks (58 ∷ (w ++ 
 
 -- one pair, and what follows it
 pub entries_pair : {a k b w s v u : List ℕ} {escape_free : Bool} {t : Tree} (d n : ℕ) (y : List ℕ) → Blanks a → KeyText k u escape_free → Blanks b → Blanks w → ValueHead s → Blanks v → read d (s ++ (v ++ y)) ≡ got t (v ++ y)
-    → entries (read d) (suc n) (a ++ (k ++ (b ++ 58 ∷ (w ++ (s ++ (v ++ y)))))) ≡ after_pair_blanks (entries (read d) n) u escape_free t y
-unfolding entries
+    → read_members (read d) (suc n) (a ++ (k ++ (b ++ 58 ∷ (w ++ (s ++ (v ++ y)))))) ≡ after_pair_blanks (read_members (read d) n) u escape_free t y
+unfolding read_members
 entries_pair {k = k} {b = b} {w = w} {s = s} {v = v} d n y ba kt bb bw h bv e =
     let z = b ++ 58 ∷ (w ++ (s ++ (v ++ y))) in
     let head = key_text_head kt in
     rw (skip_blanks (k ++ z) ba, skip_key z head)
     (key_or_head _ z head ∙ rw (key_complete (key_before_blanks 58 (w ++ (s ++ (v ++ y))) bb kt colon_no_name), colon_and_value (read d) (v ++ y) bb bw h e, skip_blanks y bv) refl)
 
-after_pair_comma : (u : List ℕ) (escape_free : Bool) (t : Tree) (ps : Pairs) (d k : ℕ) (x r : List ℕ) → entries (read d) k x ≡ got ps r → after_pair_blanks (entries (read d) k) u escape_free t (44 ∷ x) ≡ got (pair u escape_free t ps) r
+after_pair_comma : (u : List ℕ) (escape_free : Bool) (t : Tree) (ps : Pairs) (d k : ℕ) (x r : List ℕ) → read_members (read d) k x ≡ got ps r → after_pair_blanks (read_members (read d) k) u escape_free t (44 ∷ x) ≡ got (pair u escape_free t ps) r
 after_pair_comma u escape_free t ps d k x r e = rw (skip_comma x) (ap (λ q. and_then q (λ ps x. got (pair u escape_free t ps) x)) e)
 
-at_brace : (u : List ℕ) (escape_free : Bool) (t : Tree) (d k : ℕ) (r : List ℕ) → after_pair_blanks (entries (read d) k) u escape_free t (125 ∷ r) ≡ got (pair u escape_free t no_pair) r
+at_brace : (u : List ℕ) (escape_free : Bool) (t : Tree) (d k : ℕ) (r : List ℕ) → after_pair_blanks (read_members (read d) k) u escape_free t (125 ∷ r) ≡ got (pair u escape_free t no_pair) r
 at_brace u escape_free t d k r = rw (skip_brace r) refl
 
 pub regroup_pair : (a k b w s v y : List ℕ) → (a ++ (k ++ (b ++ 58 ∷ (w ++ (s ++ v))))) ++ y ≡ a ++ (k ++ (b ++ 58 ∷ (w ++ (s ++ (v ++ y)))))
@@ -169,42 +169,42 @@ mutual
   read_complete (is_object {m = m} {ps = qs} ps) r st (suc d) l = read_brace d m r qs (λ n h. entries_complete ps r d (omega arith) n h)
 
   -- members and the closing bracket are read; more turns than characters are enough
-  pub members_complete : {m : List ℕ} {ts : Trees} → ElementList m ts → (r : List ℕ) → (d : ℕ) → depths ts ≤ d → (n : ℕ) → length (m ++ 93 ∷ r) < n → items (read d) n (m ++ 93 ∷ r) ≡ got ts r
+  pub members_complete : {m : List ℕ} {ts : Trees} → ElementList m ts → (r : List ℕ) → (d : ℕ) → depths ts ≤ d → (n : ℕ) → length (m ++ 93 ∷ r) < n → read_elements (read d) n (m ++ 93 ∷ r) ≡ got ts r
   members_complete (last bw vs bv lc) r d l zero h = absurd (omega arith)
   members_complete (last {w = w} {s = s} {v = v} {t = t} bw vs bv no_last_comma) r d l (suc k) h =
-      ap (items (read d) (suc k)) (regroup w s v [] (93 ∷ r))
+      ap (read_elements (read d) (suc k)) (regroup w s v [] (93 ∷ r))
       ∙ items_member d k (93 ∷ r) bw (val_head vs) bv (read_complete vs (v ++ 93 ∷ r) (stops_blanks s 93 r bv bracket_ends_values) d (omega arith))
       ∙ at_close t d k r
   members_complete (last {w = w} {s = s} {v = v} {t = t} bw vs bv (last_comma {w = u} bu)) r d l (suc k) h =
-      ap (items (read d) (suc k)) (regroup w s v (44 ∷ u) (93 ∷ r))
+      ap (read_elements (read d) (suc k)) (regroup w s v (44 ∷ u) (93 ∷ r))
       ∙ items_member d k (44 ∷ (u ++ 93 ∷ r)) bw (val_head vs) bv (read_complete vs (v ++ 44 ∷ (u ++ 93 ∷ r)) (stops_blanks s 44 (u ++ 93 ∷ r) bv comma_ends_values) d (omega arith))
       ∙ after_comma t no_more d k (u ++ 93 ∷ r) r (items_close (read d) k r (shorter w s v u (93 ∷ r) k h) bu)
   members_complete (next bw vs bv ms) r d l zero h = absurd (omega arith)
   members_complete (next {w = w} {s = s} {v = v} {m = m} {t = t} {ts = ts} bw vs bv ms) r d l (suc k) h =
-      ap (items (read d) (suc k)) (regroup w s v (44 ∷ m) (93 ∷ r))
+      ap (read_elements (read d) (suc k)) (regroup w s v (44 ∷ m) (93 ∷ r))
       ∙ items_member d k (44 ∷ (m ++ 93 ∷ r)) bw (val_head vs) bv (read_complete vs (v ++ 44 ∷ (m ++ 93 ∷ r)) (stops_blanks s 44 (m ++ 93 ∷ r) bv comma_ends_values) d (omega arith))
       ∙ after_comma t ts d k (m ++ 93 ∷ r) r (members_complete ms r d (omega arith) k (shorter w s v m (93 ∷ r) k h))
 
   -- pairs and the closing brace are read
-  pub entries_complete : {m : List ℕ} {ps : Pairs} → MemberList m ps → (r : List ℕ) → (d : ℕ) → pair_depths ps ≤ d → (n : ℕ) → length (m ++ 125 ∷ r) < n → entries (read d) n (m ++ 125 ∷ r) ≡ got ps r
+  pub entries_complete : {m : List ℕ} {ps : Pairs} → MemberList m ps → (r : List ℕ) → (d : ℕ) → pair_depths ps ≤ d → (n : ℕ) → length (m ++ 125 ∷ r) < n → read_members (read d) n (m ++ 125 ∷ r) ≡ got ps r
   entries_complete (last_pair e lc) r d l zero h = absurd (omega arith)
   entries_complete (last_pair {p = p} {u = u} {escape_free = escape_free} {t = t} e no_last_comma) r d l (suc k) h =
-      ap (entries (read d) (suc k)) (append_assoc p [] (125 ∷ r))
+      ap (read_members (read d) (suc k)) (append_assoc p [] (125 ∷ r))
       ∙ entry_complete e 125 r brace_ends_values d (omega arith) k
       ∙ at_brace u escape_free t d k r
   entries_complete (last_pair {p = p} {u = u} {escape_free = escape_free} {t = t} e (last_comma {w = w} bw)) r d l (suc k) h =
-      ap (entries (read d) (suc k)) (append_assoc p (44 ∷ w) (125 ∷ r))
+      ap (read_members (read d) (suc k)) (append_assoc p (44 ∷ w) (125 ∷ r))
       ∙ entry_complete e 44 (w ++ 125 ∷ r) comma_ends_values d (omega arith) k
       ∙ after_pair_comma u escape_free t no_pair d k (w ++ 125 ∷ r) r (entries_close (read d) k r (shorter_pair p w (125 ∷ r) k h) bw)
   entries_complete (next_pair e ps) r d l zero h = absurd (omega arith)
   entries_complete (next_pair {p = p} {m = m} {u = u} {escape_free = escape_free} {t = t} {ps = qs} e ps) r d l (suc k) h =
-      ap (entries (read d) (suc k)) (append_assoc p (44 ∷ m) (125 ∷ r))
+      ap (read_members (read d) (suc k)) (append_assoc p (44 ∷ m) (125 ∷ r))
       ∙ entry_complete e 44 (m ++ 125 ∷ r) comma_ends_values d (omega arith) k
       ∙ after_pair_comma u escape_free t qs d k (m ++ 125 ∷ r) r (entries_complete ps r d (omega arith) k (shorter_pair p m (125 ∷ r) k h))
 
   -- a pair is read, up to the character after it
   pub entry_complete : {p u : List ℕ} {escape_free : Bool} {t : Tree} → Member p u escape_free t → (c : ℕ) (y : List ℕ) → EndsValues c → (d : ℕ) → depth t ≤ d → (n : ℕ)
-      → entries (read d) (suc n) (p ++ c ∷ y) ≡ after_pair_blanks (entries (read d) n) u escape_free t (c ∷ y)
+      → read_members (read d) (suc n) (p ++ c ∷ y) ≡ after_pair_blanks (read_members (read d) n) u escape_free t (c ∷ y)
   entry_complete (entry {a = a} {k = k} {b = b} {w = w} {s = s} {v = v} ba kt bb bw vs bv) c y ends d l n =
-      ap (entries (read d) (suc n)) (regroup_pair a k b w s v (c ∷ y))
+      ap (read_members (read d) (suc n)) (regroup_pair a k b w s v (c ∷ y))
       ∙ entries_pair d n (c ∷ y) ba kt bb bw (val_head vs) bv (read_complete vs (v ++ c ∷ y) (stops_blanks s c y bv ends) d l)

@@ -16,7 +16,7 @@ use Rattle.json5_grammar.specs.Model.Reading.{Place, here, inner, Read, got, bad
 use Rattle.json5_grammar.specs.Model.ReadBlanks.{skip, between}
 use Rattle.json5_grammar.specs.Model.ReadNumbers as numbers
 use Rattle.json5_grammar.specs.Model.ReadTexts.{key, string, identifier}
-use Rattle.json5_grammar.specs.Model.ReadValues.{items, entries, after_member, close_or, member, after_pair, colon_at, value_after, pair_at, key_or, as_leaf, value_with, too_deep, read}
+use Rattle.json5_grammar.specs.Model.ReadValues.{read_elements, read_members, after_member, close_or, member, after_pair, colon_at, value_after, pair_at, key_or, as_leaf, value_with, too_deep, read}
 use Rattle.json5_grammar.proofs.Basics.{by_test, eq_from}
 use Rattle.json5_grammar.proofs.BlanksRead.{begins_solid}
 use Rattle.json5_grammar.proofs.BlanksSound.{BlanksSound, skip_sound, Blanks-append}
@@ -258,11 +258,11 @@ module _ (d : ℕ) (val : List ℕ → Read Tree) (val_found : (x : List ℕ) �
         (λ a. (sign_first c 93 r a, omega arith))
         (λ a. member_found (c ∷ r))
 
-  pub items_found : (n : ℕ) (x : List ℕ) → Found (AreMembers d false x) x (items val n x)
-  unfolding items
+  pub items_found : (n : ℕ) (x : List ℕ) → Found (AreMembers d false x) x (read_elements val n x)
+  unfolding read_elements
   items_found zero x = tt
   items_found (suc n) x = found_then (IsGap x) (AreMembers d false x) x (skip between x) _ (gap_found x)
-      (λ u y g. found_after (AreMembers d false y) (AreMembers d false x) g.0 x y _ g.1 (close_found (items val n) (items_found n) y) (λ ts z m. (tail_gap ts false g.0 x y z g.1 g.2 m.0, m.1)))
+      (λ u y g. found_after (AreMembers d false y) (AreMembers d false x) g.0 x y _ g.1 (close_found (read_elements val n) (items_found n) y) (λ ts z m. (tail_gap ts false g.0 x y z g.1 g.2 m.0, m.1)))
 
   -- ---- pairs
 
@@ -306,11 +306,11 @@ module _ (d : ℕ) (val : List ℕ → Read Tree) (val_found : (x : List ℕ) �
         (λ a. (sign_first c 125 r a, omega arith))
         (λ a. pair_found c r)
 
-  pub entries_found : (n : ℕ) (x : List ℕ) → Found (ArePairs d false x) x (entries val n x)
-  unfolding entries
+  pub entries_found : (n : ℕ) (x : List ℕ) → Found (ArePairs d false x) x (read_members val n x)
+  unfolding read_members
   entries_found zero x = tt
   entries_found (suc n) x = found_then (IsGap x) (ArePairs d false x) x (skip between x) _ (gap_found x)
-      (λ u y g. found_after (ArePairs d false y) (ArePairs d false x) g.0 x y _ g.1 (brace_found (entries val n) (entries_found n) y) (λ ps z m. (pairs_gap ps false g.0 x y z g.1 g.2 m.0, m.1)))
+      (λ u y g. found_after (ArePairs d false y) (ArePairs d false x) g.0 x y _ g.1 (brace_found (read_members val n) (entries_found n) y) (λ ps z m. (pairs_gap ps false g.0 x y z g.1 g.2 m.0, m.1)))
 
 -- ---- brackets
 

@@ -12,8 +12,8 @@ abbrev pub above_zero : ℕ → Option ℕ
 above_zero n = if n == 0 then None else Some n
 
 -- the second isn't below the first
-abbrev pub in_order : ℕ × ℕ → Option (ℕ × ℕ)
-in_order (first, last) = if nat_lt last first then None else Some (first, last)
+abbrev pub ascending : ℕ × ℕ → Option (ℕ × ℕ)
+ascending (first, last) = if nat_lt last first then None else Some (first, last)
 
 -- at least one
 abbrev pub not_empty : {A : Type 0} → List A → Option (List A)

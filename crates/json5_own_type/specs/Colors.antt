@@ -3,7 +3,7 @@ use Rattle.std.specs.Prelude.{◌==◌, ℕ, Bool, if◌then◌else◌, List, []
 use Rattle.std.specs.Str.{chars}
 use Rattle.json5.specs.Convert.{index_of}
 use Rattle.json5.specs.Refinement.{if_more}
-use Rattle.json5.specs.WrittenTrees.{Key, named}
+use Rattle.json5.specs.WrittenTrees.{WrittenKey, named}
 use Rattle.json5_own_type.specs.declared.colors.Color.{Color}
 use Rattle.json5_own_type.specs.declared.colors.Color.TheVariants.{Red, Green, Blue}
 
@@ -19,7 +19,7 @@ abbrev pub color_named : List ℕ → Bool → Option Color
 color_named u escape_free = if_more color_at (index_of color_names u escape_free)
 
 -- the key that is written of a color
-abbrev pub color_key : Color → Key
+abbrev pub color_key : Color → WrittenKey
 color_key Red = named (chars (codes "red"))
 color_key Green = named (chars (codes "green"))
 color_key Blue = named (chars (codes "blue"))

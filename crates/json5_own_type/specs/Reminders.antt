@@ -7,7 +7,7 @@ use Rattle.json5.specs.Trees.{Tree}
 use Rattle.json5.specs.Collections.{array_of, object_of}
 use Rattle.json5.specs.Convert.{text_of, unsigned_below}
 use Rattle.json5.specs.ConvertLists.{first_of, last_of}
-use Rattle.json5.specs.Plans.{Plan, required, and_field}
+use Rattle.json5.specs.Plans.{Plan, plan_required, plan_and}
 use Rattle.json5.specs.Variants.{Variant, unit, holding}
 use Rattle.json5_own_type.specs.declared.reminders.Reminder.{Reminder}
 use Rattle.json5_own_type.specs.declared.reminders.Reminder.TheVariants.{Off, Daily, Weekly, Once}
@@ -31,7 +31,7 @@ abbrev pub byte_of : Tree → Option ℕ
 byte_of = unsigned_below (2 ^ 8)
 
 abbrev pub once_fields_read : Plan (Option (List ℕ) × Option ℕ) (List ℕ × ℕ)
-once_fields_read = and_field (required (codes "day") text_of) (required (codes "hour") byte_of)
+once_fields_read = plan_and (plan_required (codes "day") text_of) (plan_required (codes "hour") byte_of)
 
 abbrev pub off_read : Variant Reminded
 off_read = unit (codes "off") off

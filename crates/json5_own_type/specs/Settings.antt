@@ -3,21 +3,21 @@ use Rattle.std.specs.Prelude.{ℕ, ◌^◌, List, Option, codes}
 use Rattle.json5.specs.Trees.{Tree}
 use Rattle.json5.specs.Error.{Error}
 use Rattle.json5.specs.Convert.{text_of, unsigned_below}
-use Rattle.json5.specs.Refinement.{and_then}
+use Rattle.json5.specs.Refinement.{refined}
 use Rattle.json5.specs.State.{State}
-use Rattle.json5.specs.Plans.{Plan, required, optional, with_default, and_field}
+use Rattle.json5.specs.Plans.{Plan, plan_required, plan_optional, plan_with_default, plan_and}
 use Rattle.json5.specs.StructFaults.{ValueFaults, of_field, or_of, of_any}
 use Rattle.json5_own_type.specs.Accepted.{above_zero}
 
 -- a port that isn't 0
 abbrev pub port_of : Tree → Option ℕ
-port_of = and_then (unsigned_below (2 ^ 16)) above_zero
+port_of = refined (unsigned_below (2 ^ 16)) above_zero
 
 abbrev pub settings : Plan (Option (List ℕ) × (Option ℕ × Option (List ℕ))) (List ℕ × (ℕ × Option (List ℕ)))
 settings =
-    and_field (required (codes "host") text_of)
-    (and_field (with_default 80 (codes "port") port_of)
-    (optional (codes "label") text_of))
+    plan_and (plan_required (codes "host") text_of)
+    (plan_and (plan_with_default 80 (codes "port") port_of)
+    (plan_optional (codes "label") text_of))
 
 -- how a value is refused, by its name, where texts and ports are refused so
 abbrev pub settings_faults : (text port : State → Error → State → Type 0) → ValueFaults

@@ -16,7 +16,7 @@ pub enum Level {
 /// A text that names a level; another one is refused where it stands.
 impl<I: Input> Deserialize<I> for Level {
     ghost use Rattle.json5.specs.Convert.{text_of};
-    ghost use Rattle.json5.specs.Refinement.{and_then, RefusesOwn};
+    ghost use Rattle.json5.specs.Refinement.{refined, RefusesOwn};
     ghost use Rattle.json5_own_type.specs.declared.levels.Level.{Level};
     ghost use Rattle.json5_own_type.specs.Accepted.{level_named};
 
@@ -24,7 +24,7 @@ impl<I: Input> Deserialize<I> for Level {
 
     ghost content = { λ l. l };
 
-    ghost convert = { and_then text_of level_named };
+    ghost convert = { refined text_of level_named };
 
     ghost refuses = { RefusesOwn text_of level_named ⟦<Spanned<String> as Deserialize<I>>⟧.refuses };
 

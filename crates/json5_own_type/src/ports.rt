@@ -22,14 +22,14 @@ pub struct OpenPort {
 impl<I: Input> Deserialize<I> for OpenPort {
     ghost use Rattle.std.specs.Prelude.{ℕ, ◌^◌};
     ghost use Rattle.json5.specs.Convert.{unsigned_below};
-    ghost use Rattle.json5.specs.Refinement.{and_then, RefusesOwn};
+    ghost use Rattle.json5.specs.Refinement.{refined, RefusesOwn};
     ghost use Rattle.json5_own_type.specs.Accepted.{above_zero};
 
     ghost Content = { ℕ };
 
     ghost content = { λ p. p.number };
 
-    ghost convert = { and_then (unsigned_below (2 ^ 16)) above_zero };
+    ghost convert = { refined (unsigned_below (2 ^ 16)) above_zero };
 
     ghost refuses = { RefusesOwn (unsigned_below (2 ^ 16)) above_zero ⟦<Spanned<u16> as Deserialize<I>>⟧.refuses };
 
@@ -69,14 +69,14 @@ impl<I: Input> Deserialize<I> for Endpoint {
     ghost use Rattle.json5.specs.Collections.{array_of};
     ghost use Rattle.json5.specs.Convert.{text_of, unsigned_below};
     ghost use Rattle.json5.specs.ConvertLists.{first_of, last_of};
-    ghost use Rattle.json5.specs.Refinement.{and_then};
+    ghost use Rattle.json5.specs.Refinement.{refined};
     ghost use Rattle.json5_own_type.specs.Accepted.{above_zero};
 
     ghost Content = { List ℕ × ℕ };
 
     ghost content = { λ e. (string_bytes e.host, e.port.number) };
 
-    ghost convert = { array_of (first_of text_of (last_of (and_then (unsigned_below (2 ^ 16)) above_zero))) };
+    ghost convert = { array_of (first_of text_of (last_of (refined (unsigned_below (2 ^ 16)) above_zero))) };
 
     ghost refuses = { ⟦<(String, OpenPort) as Deserialize<I>>⟧.refuses };
 
@@ -123,14 +123,14 @@ impl<I: Input> Deserialize<I> for PortRange {
     ghost use Rattle.json5.specs.Collections.{array_of};
     ghost use Rattle.json5.specs.Convert.{unsigned_below};
     ghost use Rattle.json5.specs.ConvertLists.{first_of, last_of};
-    ghost use Rattle.json5.specs.Refinement.{and_then};
-    ghost use Rattle.json5_own_type.specs.Accepted.{in_order};
+    ghost use Rattle.json5.specs.Refinement.{refined};
+    ghost use Rattle.json5_own_type.specs.Accepted.{ascending};
 
     ghost Content = { ℕ × ℕ };
 
     ghost content = { λ r. (r.first, r.last) };
 
-    ghost convert = { and_then (array_of (first_of (unsigned_below (2 ^ 16)) (last_of (unsigned_below (2 ^ 16))))) in_order };
+    ghost convert = { refined (array_of (first_of (unsigned_below (2 ^ 16)) (last_of (unsigned_below (2 ^ 16))))) ascending };
 
     fn deserialize(de: &mut Deserializer<I>) -> Result<PortRange> {
         let (first, last) = read::<I, (u16, Spanned<u16>)>(de)?;

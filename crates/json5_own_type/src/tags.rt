@@ -14,14 +14,14 @@ impl<I: Input> Deserialize<I> for Labels {
     ghost use Rattle.std.specs.Prelude.{ℕ, List, map, string_bytes};
     ghost use Rattle.json5.specs.Collections.{array_of, contents};
     ghost use Rattle.json5.specs.Convert.{text_of};
-    ghost use Rattle.json5.specs.Refinement.{and_then, RefusesOwn};
+    ghost use Rattle.json5.specs.Refinement.{refined, RefusesOwn};
     ghost use Rattle.json5_own_type.specs.Accepted.{not_empty};
 
     ghost Content = { List (List ℕ) };
 
     ghost content = { λ l. map string_bytes l.texts.items };
 
-    ghost convert = { and_then (array_of (contents text_of)) not_empty };
+    ghost convert = { refined (array_of (contents text_of)) not_empty };
 
     ghost refuses = { RefusesOwn (array_of (contents text_of)) not_empty ⟦<Spanned<Vec<String>> as Deserialize<I>>⟧.refuses };
 

@@ -1,12 +1,12 @@
 -- What the enums stand for that are written by hand.
 use Rattle.std.specs.Prelude.{◌==◌, ◌^◌, ℕ, ℤ, Bool, if◌then◌else◌, List, [], ◌∷◌, Option, Some, None, codes}
 use Rattle.std.specs.Str.{chars}
-use Rattle.json5.specs.WrittenTrees.{Written, Elements, element, no_element, Fields, field, no_field, text, null, integer, newtype_variant, tuple_variant, struct_variant, Key, named, bad}
+use Rattle.json5.specs.WrittenTrees.{Written, Elements, element, no_element, Fields, field, no_field, text, null, integer, newtype_variant, tuple_variant, struct_variant, WrittenKey, named, bad}
 use Rattle.json5.specs.Trees.{Tree}
 use Rattle.json5.specs.Collections.{array_of, object_of}
 use Rattle.json5.specs.Convert.{unit_of, signed_below, index_of}
 use Rattle.json5.specs.ConvertLists.{first_of, last_of}
-use Rattle.json5.specs.Plans.{Plan, required, and_field}
+use Rattle.json5.specs.Plans.{Plan, plan_required, plan_and}
 use Rattle.json5.specs.Refinement.{if_more}
 use Rattle.json5.specs.Variants.{Variant, unit, holding}
 use Rattle.json5_rows.specs.declared.hand_enums.F.{F}
@@ -56,7 +56,7 @@ abbrev pub f_named : List ℕ → Bool → Option OfF
 f_named u escape_free = if_more f_at (index_of f_names u escape_free)
 
 -- what is written of it as a key
-abbrev pub f_key : F → Key
+abbrev pub f_key : F → WrittenKey
 f_key A = named (chars (codes "A"))
 f_key B = named (chars (codes "B"))
 f_key (C u) = bad
@@ -79,7 +79,7 @@ abbrev pub i32_of : Tree → Option ℤ
 i32_of = signed_below (2 ^ 31)
 
 abbrev pub w_read : Plan (Option ℤ × Option ℤ) (ℤ × ℤ)
-w_read = and_field (required (codes "a") i32_of) (required (codes "b") i32_of)
+w_read = plan_and (plan_required (codes "a") i32_of) (plan_required (codes "b") i32_of)
 
 abbrev pub e_w : Variant OfE
 e_w = holding (codes "W") (object_of w_read.convert) a_w

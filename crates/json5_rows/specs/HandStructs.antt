@@ -2,24 +2,24 @@
 use Rattle.std.specs.Prelude.{ℕ, ◌^◌, List, Option, codes}
 use Rattle.std.specs.Str.{chars}
 use Rattle.json5.specs.Convert.{text_of, escape_free_of, unsigned_below}
-use Rattle.json5.specs.Plans.{Plan, required, and_field}
+use Rattle.json5.specs.Plans.{Plan, plan_required, plan_and}
 use Rattle.json5.specs.WrittenTrees.{Fields, field, no_field, named, text, natural}
 use Rattle.json5_rows.specs.declared.hand_structs.Config.{Config}
 
 abbrev pub person : Plan (Option (List ℕ) × Option ℕ) (List ℕ × ℕ)
 person =
-    and_field (required (codes "name") text_of)
-    (required (codes "age") (unsigned_below (2 ^ 32)))
+    plan_and (plan_required (codes "name") text_of)
+    (plan_required (codes "age") (unsigned_below (2 ^ 32)))
 
 abbrev pub letters : Plan (Option ℕ × Option ℕ) (ℕ × ℕ)
 letters =
-    and_field (required (codes "a") (unsigned_below (2 ^ 8)))
-    (required (codes "b") (unsigned_below (2 ^ 8)))
+    plan_and (plan_required (codes "a") (unsigned_below (2 ^ 8)))
+    (plan_required (codes "b") (unsigned_below (2 ^ 8)))
 
 abbrev pub config : Plan (Option ℕ × Option (List ℕ)) (ℕ × List ℕ)
 config =
-    and_field (required (codes "foo") (unsigned_below (2 ^ 32)))
-    (required (codes "bar") escape_free_of)
+    plan_and (plan_required (codes "foo") (unsigned_below (2 ^ 32)))
+    (plan_required (codes "bar") escape_free_of)
 
 abbrev pub config_fields : Config → Fields
 config_fields c =

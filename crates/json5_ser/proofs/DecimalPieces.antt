@@ -10,11 +10,11 @@ use lib.Chars.{codes}
 use Rattle.json5_grammar.specs.Language.Characters.{is_digit, Each, no_char, char}
 use Rattle.json5_grammar.specs.Language.Numbers.{Decimal, infinite, nan, finite}
 use Rattle.json5_grammar.specs.Written.NumberText.{zeros, pointed, digits_text, decimal_text, Normal}
-use Rattle.json5_text.specs.NumberPieces.{IsFront}
+use Rattle.json5_text.specs.NumberPieces.{BeginsWithPiece}
 use Rattle.json5_ser.specs.Out.{piece, ◌then◌}
 use Rattle.std.specs.Result.{IsErrAnd}
 use Rattle.json5_text.specs.declared.error.Error.{Error}
-use Rattle.json5_ser.specs.Writes.{SerializerState, Wrote, Refuses, Writes}
+use Rattle.json5_ser.specs.Writes.{SerializerState, Wrote, RefusesWrite, Writes}
 use Rattle.json5_ser.proofs.Joins.{Reaches, Reaches-none, Reaches-next, Reaches-exit}
 
 pub first : (a b : Bool) → (a && b) ≡ true → a ≡ true
@@ -138,13 +138,13 @@ pub left_all : (d : Decimal) (o : SerializerState) (all : List ℕ) → Normal d
 left_all d o all n e = rw e (record { reaches = Reaches-none (piece (decimal_text d)) o; ascii = ascii_decimal d n; started = λ h. absurd (omega (arith, h)) })
 
 -- a piece that consists of its characters
-piece_escape_free : (rest p after : List ℕ) → is_spelled rest ≡ true → IsFront rest p after → chars p ≡ p
+piece_escape_free : (rest p after : List ℕ) → is_spelled rest ≡ true → BeginsWithPiece rest p after → chars p ≡ p
 piece_escape_free rest p after a f = ascii_chars p (ascii_front p after (subst (λ t. is_spelled t ≡ true) f.parts a))
 
-parted : (d : Decimal) (o m : SerializerState) (rest p after : List ℕ) → IsLeft d o m rest → IsFront rest p after → Reaches (piece (decimal_text d)) o m (piece p then piece after)
+parted : (d : Decimal) (o m : SerializerState) (rest p after : List ℕ) → IsLeft d o m rest → BeginsWithPiece rest p after → Reaches (piece (decimal_text d)) o m (piece p then piece after)
 parted d o m rest p after h f = subst (λ t. Reaches (piece (decimal_text d)) o m (piece t)) f.parts h.reaches
 
-pub left_next : (d : Decimal) (o m n : SerializerState) (rest p after : List ℕ) → IsLeft d o m rest → IsFront rest p after → Wrote (piece (chars p)) m n → IsLeft d o n after
+pub left_next : (d : Decimal) (o m n : SerializerState) (rest p after : List ℕ) → IsLeft d o m rest → BeginsWithPiece rest p after → Wrote (piece (chars p)) m n → IsLeft d o n after
 left_next d o m n rest p after h f w =
     let wrote : Wrote (piece p) m n = subst (λ t. Wrote (piece t) m n) (piece_escape_free rest p after h.ascii f) w in
     record {
@@ -153,9 +153,9 @@ left_next d o m n rest p after h f w =
       started = λ _. wrote.failed;
     }
 
-pub left_exit : {A : Type 0} (d : Decimal) (o m n : SerializerState) (rest p after : List ℕ) (e : Error) (r : Result A Error) → IsLeft d o m rest → IsFront rest p after → IsErrAnd r (λ y. y ≡ e) → Refuses (piece (chars p)) m e n → Writes (piece (decimal_text d)) o r n
+pub left_exit : {A : Type 0} (d : Decimal) (o m n : SerializerState) (rest p after : List ℕ) (e : Error) (r : Result A Error) → IsLeft d o m rest → BeginsWithPiece rest p after → IsErrAnd r (λ y. y ≡ e) → RefusesWrite (piece (chars p)) m e n → Writes (piece (decimal_text d)) o r n
 left_exit d o m n rest p after e r h f q w =
-    Reaches-exit (piece (decimal_text d)) (piece p) (piece after) o m n e r (parted d o m rest p after h f) q (subst (λ t. Refuses (piece t) m e n) (piece_escape_free rest p after h.ascii f) w)
+    Reaches-exit (piece (decimal_text d)) (piece p) (piece after) o m n e r (parted d o m rest p after h f) q (subst (λ t. RefusesWrite (piece t) m e n) (piece_escape_free rest p after h.ascii f) w)
 
 pub left_none : (d : Decimal) (o m : SerializerState) (rest : List ℕ) → IsLeft d o m rest → rest ≡ [] → Wrote (piece (decimal_text d)) o m
 left_none d o m rest h e =

@@ -8,7 +8,7 @@ use Rattle.json5_grammar.specs.Language.Trees.{depth, depths, pair_depths}
 use Rattle.json5_grammar.specs.Language.Documents.{Doc}
 use Rattle.json5_grammar.proofs.ScalarsWritten.{alone}
 use Rattle.json5_ser.specs.WrittenTrees.{Written, null, boolean, number, text, array, object, Elements, no_element, element, Fields, no_field, field, named, bad}
-use Rattle.json5_ser.specs.Out.{Out, Stop, whole, invalid_key, too_deep, piece, stopped, after, ◌then◌, out, text_within, elements_out, fields_out, opening, closing, element_out, key_part, value_part}
+use Rattle.json5_ser.specs.Out.{Out, Stop, whole, invalid_key, too_deep, piece, stopped, followed_by, ◌then◌, out, text_within, elements_out, fields_out, opened_by, closed_by, element_out, key_part, value_part}
 use Rattle.json5_ser.specs.Texts.{IsText}
 use Rattle.json5_ser.specs.Marks.{marks, element_marks, field_marks, IsSpelled, AreSpelled, FieldsAreSpelled}
 use Rattle.json5_ser.proofs.Writables.{number_piece, number_whole}
@@ -23,8 +23,8 @@ mutual
   spelled limit (boolean b) d h = tt
   spelled limit (number n) d h = number_whole n h
   spelled limit (text u) d h = tt
-  spelled limit (array ts) d h = elements_spelled limit ts d false (parts (opening limit d left_bracket) (elements_out limit ts d false) h).second
-  spelled limit (object fs) d h = fields_spelled limit fs d false (parts (opening limit d left_brace) (fields_out limit fs d false) h).second
+  spelled limit (array ts) d h = elements_spelled limit ts d false (parts (opened_by limit d left_bracket) (elements_out limit ts d false) h).second
+  spelled limit (object fs) d h = fields_spelled limit fs d false (parts (opened_by limit d left_brace) (fields_out limit fs d false) h).second
 
   elements_spelled : (limit : ℕ) (ts : Elements) (d : ℕ) (started : Bool) → (elements_out limit ts d started).stop ≡ whole → AreSpelled ts
   elements_spelled limit no_element d started h = tt
@@ -48,7 +48,7 @@ opened_at : (b : Bool) (o : Out) → (cond b o (stopped too_deep)).stop ≡ whol
 opened_at true o h = refl
 opened_at false o h = absurd (cc)
 
-opened : (limit d bracket : ℕ) → (opening limit d bracket).stop ≡ whole → d < limit
+opened : (limit d bracket : ℕ) → (opened_by limit d bracket).stop ≡ whole → d < limit
 opened limit d bracket h = lt_from d limit (opened_at (nat_lt d limit) (piece (bracket ∷ [])) h)
 
 mutual
@@ -58,11 +58,11 @@ mutual
   fits limit (number n) d l h = omega (arith, l)
   fits limit (text u) d l h = omega (arith, l)
   fits limit (array ts) d l h =
-      let p = parts (opening limit d left_bracket) (elements_out limit ts d false) h in
+      let p = parts (opened_by limit d left_bracket) (elements_out limit ts d false) h in
       let k = elements_fit limit ts d false (opened limit d left_bracket p.first) p.second in
       omega (arith, k)
   fits limit (object fs) d l h =
-      let p = parts (opening limit d left_brace) (fields_out limit fs d false) h in
+      let p = parts (opened_by limit d left_brace) (fields_out limit fs d false) h in
       let k = fields_fit limit fs d false (opened limit d left_brace p.first) p.second in
       omega (arith, k)
 
@@ -87,8 +87,8 @@ mutual
   fields_fit limit (field bad t fs) d started l h = absurd (let e : invalid_key ≡ whole = h in cc)
 
 -- no bracket is opened where so many are open already
-no_bracket : (limit d bracket : ℕ) (rest : Out) → limit < d → (opening limit d bracket then rest).stop ≡ whole → ⊥
-no_bracket limit d bracket rest l h = let k = opened limit d bracket (parts (opening limit d bracket) rest h).first in absurd (omega (arith, k, l))
+no_bracket : (limit d bracket : ℕ) (rest : Out) → limit < d → (opened_by limit d bracket then rest).stop ≡ whole → ⊥
+no_bracket limit d bracket rest l h = let k = opened limit d bracket (parts (opened_by limit d bracket) rest h).first in absurd (omega (arith, k, l))
 
 flat : (limit : ℕ) (t : Written) (d : ℕ) → limit < d → (out limit t d).stop ≡ whole → depth (marks t) ≤ limit
 flat limit null d l h = omega arith
@@ -104,9 +104,9 @@ flat limit (object fs) d l h = absurd (no_bracket limit d left_brace (fields_out
 abbrev IsDeepOnly : Stop → Type 0
 IsDeepOnly s = (s ≡ whole) ⊎ (s ≡ too_deep)
 
-both_at : (s : List ℕ) (e : Stop) (b : Out) → IsDeepOnly e → IsDeepOnly b.stop → IsDeepOnly (after s e b).stop
-both_at s e b (inl f) k = subst (λ x. IsDeepOnly (after s x b).stop) (sym f) k
-both_at s e b (inr f) k = subst (λ x. IsDeepOnly (after s x b).stop) (sym f) (inr refl)
+both_at : (s : List ℕ) (e : Stop) (b : Out) → IsDeepOnly e → IsDeepOnly b.stop → IsDeepOnly (followed_by s e b).stop
+both_at s e b (inl f) k = subst (λ x. IsDeepOnly (followed_by s x b).stop) (sym f) k
+both_at s e b (inr f) k = subst (λ x. IsDeepOnly (followed_by s x b).stop) (sym f) (inr refl)
 
 both : (a b : Out) → IsDeepOnly a.stop → IsDeepOnly b.stop → IsDeepOnly (a then b).stop
 both a b h k = both_at a.text a.stop b h k
@@ -115,7 +115,7 @@ opening_at : (b : Bool) (o : Out) → o.stop ≡ whole → IsDeepOnly (cond b o 
 opening_at true o h = inl h
 opening_at false o h = inr refl
 
-closing_at : (b : Bool) (d bracket : ℕ) → IsDeepOnly (closing d b bracket).stop
+closing_at : (b : Bool) (d bracket : ℕ) → IsDeepOnly (closed_by d b bracket).stop
 closing_at true d bracket = inl refl
 closing_at false d bracket = inl refl
 
@@ -125,8 +125,8 @@ mutual
   deep_only limit (boolean b) d h = inl refl
   deep_only limit (number n) d h = inl (ap (λ o. o.stop) (number_piece n h))
   deep_only limit (text u) d h = inl refl
-  deep_only limit (array ts) d h = both (opening limit d left_bracket) (elements_out limit ts d false) (opening_at (nat_lt d limit) (piece (91 ∷ [])) refl) (elements_deep limit ts d false h)
-  deep_only limit (object fs) d h = both (opening limit d left_brace) (fields_out limit fs d false) (opening_at (nat_lt d limit) (piece (123 ∷ [])) refl) (fields_deep limit fs d false h)
+  deep_only limit (array ts) d h = both (opened_by limit d left_bracket) (elements_out limit ts d false) (opening_at (nat_lt d limit) (piece (91 ∷ [])) refl) (elements_deep limit ts d false h)
+  deep_only limit (object fs) d h = both (opened_by limit d left_brace) (fields_out limit fs d false) (opening_at (nat_lt d limit) (piece (123 ∷ [])) refl) (fields_deep limit fs d false h)
 
   elements_deep : (limit : ℕ) (ts : Elements) (d : ℕ) (started : Bool) → AreSpelled ts → IsDeepOnly (elements_out limit ts d started).stop
   elements_deep limit no_element d started h = closing_at started d 93
@@ -141,8 +141,8 @@ mutual
 
 -- ---- what is spelled and not too deep is whole
 
-whole_at : (s : List ℕ) (e : Stop) (b : Out) → e ≡ whole → b.stop ≡ whole → (after s e b).stop ≡ whole
-whole_at s e b f k = subst (λ x. (after s x b).stop ≡ whole) (sym f) k
+whole_at : (s : List ℕ) (e : Stop) (b : Out) → e ≡ whole → b.stop ≡ whole → (followed_by s e b).stop ≡ whole
+whole_at s e b f k = subst (λ x. (followed_by s x b).stop ≡ whole) (sym f) k
 
 joined : (a b : Out) → a.stop ≡ whole → b.stop ≡ whole → (a then b).stop ≡ whole
 joined a b h k = whole_at a.text a.stop b h k
@@ -150,10 +150,10 @@ joined a b h k = whole_at a.text a.stop b h k
 lt_true : (a b : ℕ) → a < b → nat_lt a b ≡ true
 lt_true a b h = grind (arith, nat_tests)
 
-opens : (limit d bracket : ℕ) → d < limit → (opening limit d bracket).stop ≡ whole
+opens : (limit d bracket : ℕ) → d < limit → (opened_by limit d bracket).stop ≡ whole
 opens limit d bracket l = ap (λ b. (cond b (piece (bracket ∷ [])) (stopped too_deep)).stop) (lt_true d limit l)
 
-closes : (b : Bool) (d bracket : ℕ) → (closing d b bracket).stop ≡ whole
+closes : (b : Bool) (d bracket : ℕ) → (closed_by d b bracket).stop ≡ whole
 closes true d bracket = refl
 closes false d bracket = refl
 
@@ -163,8 +163,8 @@ mutual
   whole_from limit (boolean b) d h l = refl
   whole_from limit (number n) d h l = ap (λ o. o.stop) (number_piece n h)
   whole_from limit (text u) d h l = refl
-  whole_from limit (array ts) d h l = joined (opening limit d left_bracket) (elements_out limit ts d false) (opens limit d left_bracket (omega (arith, l))) (elements_whole limit ts d false h (omega (arith, l)))
-  whole_from limit (object fs) d h l = joined (opening limit d left_brace) (fields_out limit fs d false) (opens limit d left_brace (omega (arith, l))) (fields_whole limit fs d false h (omega (arith, l)))
+  whole_from limit (array ts) d h l = joined (opened_by limit d left_bracket) (elements_out limit ts d false) (opens limit d left_bracket (omega (arith, l))) (elements_whole limit ts d false h (omega (arith, l)))
+  whole_from limit (object fs) d h l = joined (opened_by limit d left_brace) (fields_out limit fs d false) (opens limit d left_brace (omega (arith, l))) (fields_whole limit fs d false h (omega (arith, l)))
 
   elements_whole : (limit : ℕ) (ts : Elements) (d : ℕ) (started : Bool) → AreSpelled ts → d + depths (element_marks ts) < limit → (elements_out limit ts d started).stop ≡ whole
   elements_whole limit no_element d started h l = closes started d 93

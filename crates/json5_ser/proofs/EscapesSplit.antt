@@ -12,7 +12,7 @@ use Rattle.json5_text.specs.Escapes.{escape_of}
 use Rattle.json5_ser.specs.declared.quoting.Quote.{Quote}
 use Rattle.json5_ser.specs.declared.quoting.Quote.TheVariants as quote
 use Rattle.json5_ser.specs.Quotes.{delimiter}
-use Rattle.json5_ser.specs.Escaping.{StartsWithScalar, SplitsAtEscape, StandsBefore}
+use Rattle.json5_ser.specs.Escaping.{StartsWithScalar, SplitsAtEscape, WritesAsIs}
 use Rattle.json5_ser.proofs.Joins.{scalars-append}
 use Rattle.json5_grammar.specs.Language.Characters.{Each, no_char, char}
 use Rattle.json5_text.specs.Scan.{SkipsAll}
@@ -34,16 +34,16 @@ escape_is q c e = ap (λ b. if b then escaped q c else escaped 92 c) e
 pub one_char : (c : ℕ) → IsScalar c → chars (encode_utf8 c) ≡ c ∷ []
 one_char c s = chars_past_char (encode_utf8 c) [] c (IsUtf8-encode c s) (sym (append-nil (encode_utf8 c))) ∙ ap (λ l. c ∷ l) chars-nil
 
-chars_before : (q : ℕ) (t rest : List ℕ) → (h : StandsBefore q t rest) → chars t ≡ h.before ++ chars rest
+chars_before : (q : ℕ) (t rest : List ℕ) → (h : WritesAsIs q t rest) → chars t ≡ h.before ++ chars rest
 chars_before q t rest h =
     ap chars h.bytes ∙ (chars-append (encode_utf8_all h.before) rest (h.before, (h.scalars, refl)) ∙ ap (λ l. l ++ chars rest) (chars-encodes h.before h.scalars))
 
-seam_at : (q : ℕ) (t rest : List ℕ) → (h : StandsBefore q t rest) → length (encode_utf8_all h.before) ≡ length t - length rest
+seam_at : (q : ℕ) (t rest : List ℕ) → (h : WritesAsIs q t rest) → length (encode_utf8_all h.before) ≡ length t - length rest
 seam_at q t rest h =
     let e : length t ≡ length (encode_utf8_all h.before) + length rest = ap length h.bytes ∙ length-append (encode_utf8_all h.before) rest in
     omega arith
 
-pub seam : (q : ℕ) (t rest : List ℕ) → StandsBefore q t rest → IsCharBoundary t (length t - length rest)
+pub seam : (q : ℕ) (t rest : List ℕ) → WritesAsIs q t rest → IsCharBoundary t (length t - length rest)
 seam q t rest h = subst (IsCharBoundary t) (seam_at q t rest h) (IsCharBoundary-at_seam t (encode_utf8_all h.before) rest h.bytes h.utf8)
 
 pub shorter : (rest after : List ℕ) (c : ℕ) → StartsWithScalar rest c after → length after < length rest
@@ -57,7 +57,7 @@ take_all : (s t : List ℕ) → take (length s) (s ++ t) ≡ s
 take_all [] t = refl
 take_all (c ∷ s) t = ap (λ l. c ∷ l) (take_all s t)
 
-pub splits : (q : ℕ) (t rest raw esc after : List ℕ) (c : ℕ) → is_quote q ≡ true → StandsBefore q t rest → StartsWithScalar rest c after
+pub splits : (q : ℕ) (t rest raw esc after : List ℕ) (c : ℕ) → is_quote q ≡ true → WritesAsIs q t rest → StartsWithScalar rest c after
     → raw ≡ take (length t - length rest) t → chars esc ≡ escape_of q c → SplitsAtEscape q t raw esc after
 splits q t rest raw esc after c k h s r e =
     let front : raw ≡ encode_utf8_all h.before = r ∙ (ap (λ n. take n t) (sym (seam_at q t rest h)) ∙ (ap (take (length (encode_utf8_all h.before))) h.bytes ∙ take_all (encode_utf8_all h.before) rest)) in
@@ -75,7 +75,7 @@ splits q t rest raw esc after c k h s r e =
       utf8 = s.utf8;
     }
 
-pub stands_next : (q : ℕ) (t rest after : List ℕ) (c : ℕ) → is_quote q ≡ true → StandsBefore q t rest → StartsWithScalar rest c after → escape_of q c ≡ c ∷ [] → StandsBefore q t after
+pub stands_next : (q : ℕ) (t rest after : List ℕ) (c : ℕ) → is_quote q ≡ true → WritesAsIs q t rest → StartsWithScalar rest c after → escape_of q c ≡ c ∷ [] → WritesAsIs q t after
 stands_next q t rest after c k h s e =
     record {
       before = h.before ++ c ∷ [];
@@ -86,7 +86,7 @@ stands_next q t rest after c k h s e =
       utf8 = s.utf8;
     }
 
-pub stands_all : (q : ℕ) (t rest : List ℕ) → StandsBefore q t rest → rest ≡ [] → escaped_all q (chars t) ≡ chars t
+pub stands_all : (q : ℕ) (t rest : List ℕ) → WritesAsIs q t rest → rest ≡ [] → escaped_all q (chars t) ≡ chars t
 stands_all q t rest h e =
     let all : chars t ≡ h.before = chars_before q t rest h ∙ (ap (λ l. h.before ++ chars l) e ∙ (ap (λ l. h.before ++ l) chars-nil ∙ append-nil h.before)) in
     ap (escaped_all q) all ∙ (h.same ∙ sym all)
@@ -110,7 +110,7 @@ run_shorter rest after u v s =
     let e : length rest ≡ length (encode_utf8_all s.passed) + length after = ap length (run_bytes rest after u v s) ∙ length-append (encode_utf8_all s.passed) after in
     omega arith
 
-pub stands_run : (q : Quote) (t rest after : List ℕ) → StandsBefore (delimiter q) t rest → IsUtf8 after → SkipsAll is_escape_free rest after → StandsBefore (delimiter q) t after
+pub stands_run : (q : Quote) (t rest after : List ℕ) → WritesAsIs (delimiter q) t rest → IsUtf8 after → SkipsAll is_escape_free rest after → WritesAsIs (delimiter q) t after
 stands_run q t rest after h v s =
     let halves : Halves rest s.passed (chars after) = record { is_text = h.utf8; split = s.split } in
     record {
@@ -122,7 +122,7 @@ stands_run q t rest after h v s =
       utf8 = v;
     }
 
-pub stands_first : (q : ℕ) (t : List ℕ) → IsUtf8 t → StandsBefore q t t
+pub stands_first : (q : ℕ) (t : List ℕ) → IsUtf8 t → WritesAsIs q t t
 stands_first q t u = record { before = []; scalars = refl; bytes = refl; same = refl; utf8 = u }
 
 -- ---- a text of such characters alone

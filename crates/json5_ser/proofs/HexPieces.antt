@@ -17,7 +17,7 @@ use Rattle.json5_grammar.specs.Language.Characters.{is_identifier_start, is_iden
 use Rattle.json5_grammar.specs.Written.Quoting.{quoted_text, is_name}
 use Rattle.json5_text.specs.declared.error.Error.{Error}
 use Rattle.json5_ser.specs.Out.{Out, piece, ◌then◌}
-use Rattle.json5_ser.specs.Writes.{SerializerState, Wrote, Refuses, Writes}
+use Rattle.json5_ser.specs.Writes.{SerializerState, Wrote, RefusesWrite, Writes}
 use Rattle.json5_ser.proofs.DecimalPieces.{is_spelling, IsAscii-text, first, second, both}
 use Rattle.json5_ser.proofs.SpelledKeys.{run, not_in_run, spelled_quoted}
 use Rattle.json5_ser.proofs.Joins.{Reaches, Reaches-next, Reaches-exit}
@@ -56,7 +56,7 @@ digits_next all o m n left chunk rest t e f h w = Reaches-next all (piece (chars
 
 -- they were refused
 pub digits_exit : {A : Type 0} (all : Out) (o m n : SerializerState) (left chunk rest t : List ℕ) (e : Error) (r : Result A Error) → left ≡ chunk ++ rest → t ≡ encode_lower chunk → Reaches all o m (piece (encode_lower left))
-    → IsErrAnd r (λ y. y ≡ e) → Refuses (piece (chars t)) m e n → Writes all o r n
+    → IsErrAnd r (λ y. y ≡ e) → RefusesWrite (piece (chars t)) m e n → Writes all o r n
 digits_exit all o m n left chunk rest t e r is f h q p = Reaches-exit all (piece (chars t)) (piece (encode_lower rest)) o m n e r (parted all o m left chunk rest t is f h) q p
 
 nothing : (m : SerializerState) → m.failed ≡ false → Wrote (piece []) m m

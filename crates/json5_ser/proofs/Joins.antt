@@ -7,17 +7,17 @@ use Rattle.std.specs.Io.KnownBytes.{Appends}
 use Rattle.std.proofs.KnownBytes.{Appends-trans}
 use Rattle.json5_text.specs.declared.error.Error.{Error}
 use Rattle.json5_text.specs.Errors.{FaultKind, kind_of, place_of}
-use Rattle.json5_ser.specs.Out.{Out, Stop, whole, invalid_key, too_deep, no_number, after, ◌then◌}
-use Rattle.json5_ser.specs.Writes.{SerializerState, Wrote, Stopped, Broke, Refusal, by_key, by_depth, by_writer, by_refusal, by_none, refusal_of, RefusesBy, Refuses, Writes}
+use Rattle.json5_ser.specs.Out.{Out, Stop, whole, invalid_key, too_deep, no_number, followed_by, ◌then◌}
+use Rattle.json5_ser.specs.Writes.{SerializerState, Wrote, Stopped, Broke, Refusal, by_key, by_depth, by_writer, by_refusal, by_none, refusal_of, RefusesBy, RefusesWrite, Writes}
 
 pub after_whole : (a b : Out) → a.stop ≡ whole → a then b ≡ record { text = a.text ++ b.text; stop = b.stop }
-after_whole a b e = ap (λ s. after a.text s b) e
+after_whole a b e = ap (λ s. followed_by a.text s b) e
 
 pub after_too_deep : (a b : Out) → a.stop ≡ too_deep → a then b ≡ record { text = a.text; stop = too_deep }
-after_too_deep a b e = ap (λ s. after a.text s b) e
+after_too_deep a b e = ap (λ s. followed_by a.text s b) e
 
 pub after_invalid_key : (a b : Out) → a.stop ≡ invalid_key → a then b ≡ record { text = a.text; stop = invalid_key }
-after_invalid_key a b e = ap (λ s. after a.text s b) e
+after_invalid_key a b e = ap (λ s. followed_by a.text s b) e
 
 both_true : (a b c : Bool) → (a && b) ≡ true → (b ≡ true → c ≡ true) → (a && c) ≡ true
 both_true true b c e f = f e
@@ -35,7 +35,7 @@ Wrote-then a b o m n p q =
     subst (λ x. Wrote x o n) (sym (after_whole a b p.stop))
     (record { was = p.was; stop = q.stop; chars = scalars-append a.text b.text p.chars q.chars; bytes = encoded-append _ _ _ a.text b.text p.bytes q.bytes; depth = q.depth ∙ p.depth; limit = q.limit ∙ p.limit; failed = q.failed })
 
-Broke-after : (s : List ℕ) (e : Stop) (b : Out) (o n : SerializerState) → Broke (record { text = s; stop = e }) o n → Broke (after s e b) o n
+Broke-after : (s : List ℕ) (e : Stop) (b : Out) (o n : SerializerState) → Broke (record { text = s; stop = e }) o n → Broke (followed_by s e b) o n
 Broke-after s whole b o n p =
     record {
       was = p.was;
@@ -57,7 +57,7 @@ RefusesBy-before a b o n by_writer p = Broke-after a.text a.stop b o n p
 RefusesBy-before a b o n by_refusal p = p
 RefusesBy-before a b o n by_none p = p
 
-pub Refuses-before : (a b : Out) (o n : SerializerState) (e : Error) → Refuses a o e n → Refuses (a then b) o e n
+pub Refuses-before : (a b : Out) (o n : SerializerState) (e : Error) → RefusesWrite a o e n → RefusesWrite (a then b) o e n
 Refuses-before a b o n e p = record { leaves = RefusesBy-before a b o n (refusal_of (kind_of e)) p.leaves; no_place = p.no_place }
 
 Stopped-after : (s : Stop) (a b : Out) (o m n : SerializerState) → Wrote a o m → Stopped s b m n → Stopped s (a then b) o n
@@ -82,7 +82,7 @@ RefusesBy-after a b o m n by_writer p q =
 RefusesBy-after a b o m n by_refusal p q = let x : true ≡ false = sym q.was ∙ p.failed in cc
 RefusesBy-after a b o m n by_none p q = q
 
-pub Refuses-after : (a b : Out) (o m n : SerializerState) (e : Error) → Wrote a o m → Refuses b m e n → Refuses (a then b) o e n
+pub Refuses-after : (a b : Out) (o m n : SerializerState) (e : Error) → Wrote a o m → RefusesWrite b m e n → RefusesWrite (a then b) o e n
 Refuses-after a b o m n e p q = record { leaves = RefusesBy-after a b o m n (refusal_of (kind_of e)) p q.leaves; no_place = q.no_place }
 
 -- the same of an equal text
@@ -90,18 +90,18 @@ pub Writes-as : {A : Type 0} (all w : Out) (o n : SerializerState) (r : Result A
 Writes-as all w o n r e h = subst (λ x. Writes x o r n) (sym e) h
 
 -- a refusal that a `?` hands on as it is
-pub Writes-handed : {A : Type 0} (w : Out) (o n : SerializerState) (e : Error) (r : Result A Error) → IsErrAnd r (λ y. y ≡ e) → Refuses w o e n → Writes w o r n
+pub Writes-handed : {A : Type 0} (w : Out) (o n : SerializerState) (e : Error) (r : Result A Error) → IsErrAnd r (λ y. y ≡ e) → RefusesWrite w o e n → Writes w o r n
 Writes-handed w o n e (Ok x) q p = absurd q
-Writes-handed w o n e (Err y) q p = subst (λ x. Refuses w o x n) (sym q) p
+Writes-handed w o n e (Err y) q p = subst (λ x. RefusesWrite w o x n) (sym q) p
 
 -- what a `?` hands on of a first part
-pub Writes-exit : {A : Type 0} (a b : Out) (o n : SerializerState) (e : Error) (r : Result A Error) → IsErrAnd r (λ y. y ≡ e) → Refuses a o e n → Writes (a then b) o r n
+pub Writes-exit : {A : Type 0} (a b : Out) (o n : SerializerState) (e : Error) (r : Result A Error) → IsErrAnd r (λ y. y ≡ e) → RefusesWrite a o e n → Writes (a then b) o r n
 Writes-exit a b o n e r q p = Writes-handed (a then b) o n e r q (Refuses-before a b o n e p)
 
 -- writing the rest completes the whole
 pub record Reaches (all : Out) (o m : SerializerState) (rest : Out) : Type 0 where
   pub wrote : (n : SerializerState) → Wrote rest m n → Wrote all o n
-  pub refused : (n : SerializerState) (e : Error) → Refuses rest m e n → Refuses all o e n
+  pub refused : (n : SerializerState) (e : Error) → RefusesWrite rest m e n → RefusesWrite all o e n
 
 -- nothing is written yet
 pub Reaches-none : (all : Out) (o : SerializerState) → Reaches all o o all
@@ -115,7 +115,7 @@ pub Reaches-first : (a rest : Out) (o m : SerializerState) → Wrote a o m → R
 Reaches-first a rest o m p = Reaches-next (a then rest) a rest o o m (Reaches-none (a then rest) o) p
 
 -- what a `?` hands on after what was written
-pub Reaches-exit : {A : Type 0} (all a rest : Out) (o m n : SerializerState) (e : Error) (r : Result A Error) → Reaches all o m (a then rest) → IsErrAnd r (λ y. y ≡ e) → Refuses a m e n → Writes all o r n
+pub Reaches-exit : {A : Type 0} (all a rest : Out) (o m n : SerializerState) (e : Error) (r : Result A Error) → Reaches all o m (a then rest) → IsErrAnd r (λ y. y ≡ e) → RefusesWrite a m e n → Writes all o r n
 Reaches-exit all a rest o m n e r h q p = Writes-handed all o n e r q (h.refused n e (Refuses-before a rest m n e p))
 
 -- the last part
@@ -124,5 +124,5 @@ Reaches-last all a o m n (Ok x) h p = h.wrote n p
 Reaches-last all a o m n (Err e) h p = h.refused n e p
 
 -- a refusal with this kind
-pub refused_so : (w : Out) (o n : SerializerState) (e : Error) (k : FaultKind) → kind_of e ≡ k → place_of e ≡ Option.None → RefusesBy w o (refusal_of k) n → Refuses w o e n
+pub refused_so : (w : Out) (o n : SerializerState) (e : Error) (k : FaultKind) → kind_of e ≡ k → place_of e ≡ Option.None → RefusesBy w o (refusal_of k) n → RefusesWrite w o e n
 refused_so w o n e k h q p = record { leaves = subst (λ x. RefusesBy w o (refusal_of x) n) (sym h) p; no_place = q }

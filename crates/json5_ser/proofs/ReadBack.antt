@@ -8,8 +8,8 @@ use Rattle.json5_grammar.specs.Language.Values.{Val, is_null, is_true, is_false,
 use Rattle.json5_grammar.proofs.ScalarsWritten.{number_value, text_value}
 use Rattle.json5_grammar.proofs.TextsWritten.{quoted_is, name_is}
 use Rattle.json5_ser.specs.WrittenTrees.{Written, null, boolean, number, text, array, object, Elements, no_element, element, Fields, no_field, field, named, bad}
-use Rattle.json5_ser.specs.Out.{Out, whole, invalid_key, piece, stopped, too_deep, ◌then◌, line, out, elements_out, fields_out, opening, element_out, key_part, value_part}
-use Rattle.json5_ser.specs.Marks.{marks, element_marks, field_marks, unmarked, is_escape_free, is_escape_free_key}
+use Rattle.json5_ser.specs.Out.{Out, whole, invalid_key, piece, stopped, too_deep, ◌then◌, line, out, elements_out, fields_out, opened_by, element_out, key_part, value_part}
+use Rattle.json5_ser.specs.Marks.{marks, element_marks, field_marks, unmarked, is_escape_free_text, is_escape_free_key}
 use Rattle.json5_ser.proofs.Writables.{number_piece, number_whole}
 use Rattle.json5_ser.proofs.Unmarked.{parts, tree_again}
 use Rattle.json5_grammar.proofs.Unique.{one_front}
@@ -19,9 +19,9 @@ opened_at : (b : Bool) (bracket : ℕ) → (cond b (piece (bracket ∷ [])) (sto
 opened_at true bracket h = refl
 opened_at false bracket h = absurd (cc)
 
-opened : (limit d bracket : ℕ) (rest : Out) → (opening limit d bracket then rest).stop ≡ whole → (opening limit d bracket then rest).text ≡ bracket ∷ rest.text
+opened : (limit d bracket : ℕ) (rest : Out) → (opened_by limit d bracket then rest).stop ≡ whole → (opened_by limit d bracket then rest).text ≡ bracket ∷ rest.text
 opened limit d bracket rest h =
-    let p = parts (opening limit d bracket) rest h in
+    let p = parts (opened_by limit d bracket) rest h in
     p.text ∙ ap (λ l. l ++ rest.text) (opened_at (nat_lt d limit) bracket p.first)
 
 spaces : (n : ℕ) → Blanks (replicate n 32)
@@ -76,7 +76,7 @@ next_entry : (p r u : List ℕ) (escape_free : Bool) (t : Tree) (ps : Pairs) →
 next_entry p r u escape_free t ps e h = record { inside = p ++ 44 ∷ h.inside; split = shift p r h.inside 125 h.split; entries = next_pair e h.entries }
 
 -- a key as it is written
-key_by : (u : List ℕ) (b : Bool) → is_name u ≡ b → KeyText (cond b u (quoted_text u)) u (b || is_escape_free u)
+key_by : (u : List ℕ) (b : Bool) → is_name u ≡ b → KeyText (cond b u (quoted_text u)) u (b || is_escape_free_text u)
 key_by u true h = name_key (name_is u h)
 key_by u false h = string_key (quoted_is u)
 
@@ -127,18 +127,18 @@ mutual
   read_back limit (text u) d h = text_value u
   read_back limit (array no_element) d h = subst (λ l. Val l (marks (array no_element))) (sym (opened limit d 91 (piece (93 ∷ [])) h)) (is_empty_array empty)
   read_back limit (array (element t ts)) d h =
-      let p = parts (opening limit d 91) (elements_out limit (element t ts) d false) h in
+      let p = parts (opened_by limit d 91) (elements_out limit (element t ts) d false) h in
       let e = first_element (d + 1) (out limit t (d + 1)) (elements_out limit ts d true) p.second in
       let m = elements_read limit ts d (out limit t (d + 1)).text (marks t) (read_back limit t (d + 1) e.first) e.others in
       subst (λ l. Val l (marks (array (element t ts)))) (sym (opened limit d 91 (elements_out limit (element t ts) d false) h ∙ ap (λ l. 91 ∷ l) e.text)) (list_value _ _ m)
   read_back limit (object no_field) d h = subst (λ l. Val l (marks (object no_field))) (sym (opened limit d 123 (piece (125 ∷ [])) h)) (is_empty_object empty)
   read_back limit (object (field (named u) t fs)) d h =
-      let p = parts (opening limit d 123) (fields_out limit (field (named u) t fs) d false) h in
+      let p = parts (opened_by limit d 123) (fields_out limit (field (named u) t fs) d false) h in
       let e = first_field (d + 1) u (out limit t (d + 1)) (fields_out limit fs d true) p.second in
       let m = fields_read limit fs d _ u (is_escape_free_key u) (marks t) (written_entry (d + 1) u _ (marks t) (read_back limit t (d + 1) e.value)) e.others in
       subst (λ l. Val l (marks (object (field (named u) t fs)))) (sym (opened limit d 123 (fields_out limit (field (named u) t fs) d false) h ∙ ap (λ l. 123 ∷ l) e.text)) (object_value _ _ m)
   read_back limit (object (field bad t fs)) d h =
-      let p = parts (opening limit d 123) (fields_out limit (field bad t fs) d false) h in
+      let p = parts (opened_by limit d 123) (fields_out limit (field bad t fs) d false) h in
       absurd (let e : invalid_key ≡ whole = p.second in cc)
 
   elements_read : (limit : ℕ) (ts : Elements) (d : ℕ) (o : List ℕ) (t : Tree) → Val o t → (elements_out limit ts d true).stop ≡ whole

@@ -6,8 +6,8 @@ use Rattle.std.specs.Borrow.{GName, MutBor}
 use Rattle.json5_text.specs.declared.error.Error.{Error}
 use Rattle.json5_grammar.specs.Language.Characters.{comma_sign, right_bracket, right_brace}
 use Rattle.json5_ser.specs.WrittenTrees.{Written, Elements, Fields}
-use Rattle.json5_ser.specs.Out.{Out, Stop, whole, invalid_key, too_deep, no_number, after, piece, ◌then◌, closing, out, elements_out, fields_out, value_part}
-use Rattle.json5_ser.specs.Writes.{SerializerState, Wrote, Refusal, by_key, by_depth, by_writer, by_refusal, by_none, refusal_of, RefusesBy, Refuses, Writes, WritesTree, at_depth}
+use Rattle.json5_ser.specs.Out.{Out, Stop, whole, invalid_key, too_deep, no_number, followed_by, piece, ◌then◌, closed_by, out, elements_out, fields_out, value_part}
+use Rattle.json5_ser.specs.Writes.{SerializerState, Wrote, Refusal, by_key, by_depth, by_writer, by_refusal, by_none, refusal_of, RefusesBy, RefusesWrite, Writes, WritesTree, at_depth}
 use Rattle.json5_text.specs.Errors.{kind_of}
 use Rattle.json5_ser.specs.Brackets.{closing_sign, is_square}
 use Rattle.json5_ser.specs.Lending.{within_variant, inner, serializer_of, reference_of, state_of, is_list, key_pending, has_member, in_variant, Opened, Steps}
@@ -58,20 +58,20 @@ RefusesBy-at d e w o n by_writer p = record { was = p.was; front = p.front; rest
 RefusesBy-at d e w o n by_refusal p = record { was = p.was; bytes = p.bytes; failed = p.failed }
 RefusesBy-at d e w o n by_none p = p
 
-pub Refuses-at : (d e : ℕ) (w : Out) (o n : SerializerState) (x : Error) → Refuses w o x n → Refuses w (at_depth d o) x (at_depth e n)
+pub Refuses-at : (d e : ℕ) (w : Out) (o n : SerializerState) (x : Error) → RefusesWrite w o x n → RefusesWrite w (at_depth d o) x (at_depth e n)
 Refuses-at d e w o n x p = record { leaves = RefusesBy-at d e w o n (refusal_of (kind_of x)) p.leaves; no_place = p.no_place }
 
 pub Writes-at : {A : Type 0} (d : ℕ) (w : Out) (o n : SerializerState) (r : Result A Error) → Writes w o r n → Writes w (at_depth d o) r (at_depth d n)
 Writes-at d w o n (Ok x) p = Wrote-at d w o n p
 Writes-at d w o n (Err e) p = Refuses-at d d w o n e p
 
-after_whole_part : (s t : List ℕ) (e : Stop) (c : Out) → after (s ++ t) e c ≡ after s whole (after t e c)
+after_whole_part : (s t : List ℕ) (e : Stop) (c : Out) → followed_by (s ++ t) e c ≡ followed_by s whole (followed_by t e c)
 after_whole_part s t whole c = ap (λ l. record { text = l; stop = c.stop }) (append_assoc s t c.text)
 after_whole_part s t invalid_key c = refl
 after_whole_part s t too_deep c = refl
 after_whole_part s t no_number c = refl
 
-after_after : (s : List ℕ) (e : Stop) (b c : Out) → (after s e b) then c ≡ after s e (b then c)
+after_after : (s : List ℕ) (e : Stop) (b c : Out) → (followed_by s e b) then c ≡ followed_by s e (b then c)
 after_after s whole b c = after_whole_part s b.text b.stop c
 after_after s invalid_key b c = refl
 after_after s too_deep b c = refl
@@ -81,27 +81,27 @@ pub then_assoc : (a b c : Out) → (a then b) then c ≡ a then (b then c)
 then_assoc a b c = after_after a.text a.stop b c
 
 -- what closes a collection is refused, in a variant or not
-pub end_refused : (v : Bool) (d e : ℕ) (w : Out) (o n : SerializerState) (x : Error) → Refuses w (at_depth e o) x n → Refuses (within_variant v d w) (at_depth d o) x n
-end_refused true d e w o n x p = Refuses-before w (piece (comma_sign ∷ []) then closing d true right_brace) (at_depth d o) n x (Refuses-at d n.depth w (at_depth e o) n x p)
+pub end_refused : (v : Bool) (d e : ℕ) (w : Out) (o n : SerializerState) (x : Error) → RefusesWrite w (at_depth e o) x n → RefusesWrite (within_variant v d w) (at_depth d o) x n
+end_refused true d e w o n x p = Refuses-before w (piece (comma_sign ∷ []) then closed_by d true right_brace) (at_depth d o) n x (Refuses-at d n.depth w (at_depth e o) n x p)
 end_refused false d e w o n x p = Refuses-at d n.depth w (at_depth e o) n x p
 
-at_outer : {A : Type 0} (d e : ℕ) (o n : SerializerState) (r : Result A Error) → e ≡ d → Writes (piece (comma_sign ∷ []) then closing e true right_brace) (at_depth e o) r n → Writes (piece (comma_sign ∷ []) then closing d true right_brace) (at_depth d o) r n
-at_outer d e o n r same p = subst (λ k. Writes (piece (comma_sign ∷ []) then closing k true right_brace) (at_depth k o) r n) same p
+at_outer : {A : Type 0} (d e : ℕ) (o n : SerializerState) (r : Result A Error) → e ≡ d → Writes (piece (comma_sign ∷ []) then closed_by e true right_brace) (at_depth e o) r n → Writes (piece (comma_sign ∷ []) then closed_by d true right_brace) (at_depth d o) r n
+at_outer d e o n r same p = subst (λ k. Writes (piece (comma_sign ∷ []) then closed_by k true right_brace) (at_depth k o) r n) same p
 
 -- what closes the contents of a variant was written, and then what closes its object
 pub end_in_variant : {A : Type 0} (v : Bool) (w : Out) (o m n : SerializerState) (r : Result A Error) → v ≡ true → Wrote w (at_depth (o.depth - 1) o) m
-    → Writes (piece (comma_sign ∷ []) then closing (m.depth - 1) true right_brace) (at_depth (m.depth - 1) m) r n → Writes (within_variant v (o.depth - inner v 1) w) (at_depth (o.depth - inner v 1) o) r n
+    → Writes (piece (comma_sign ∷ []) then closed_by (m.depth - 1) true right_brace) (at_depth (m.depth - 1) m) r n → Writes (within_variant v (o.depth - inner v 1) w) (at_depth (o.depth - inner v 1) o) r n
 end_in_variant true w o m n r e p q =
     let d : ℕ = o.depth - 2 in
     let same : m.depth - 1 ≡ d = let h = p.depth in omega (arith, h) in
-    Reaches-last _ (piece (comma_sign ∷ []) then closing d true right_brace) _ _ _ r
-    (Reaches-first w (piece (comma_sign ∷ []) then closing d true right_brace) (at_depth d o) (at_depth d m) (Wrote-at d w (at_depth (o.depth - 1) o) m p)) (at_outer d (m.depth - 1) m n r same q)
+    Reaches-last _ (piece (comma_sign ∷ []) then closed_by d true right_brace) _ _ _ r
+    (Reaches-first w (piece (comma_sign ∷ []) then closed_by d true right_brace) (at_depth d o) (at_depth d m) (Wrote-at d w (at_depth (o.depth - 1) o) m p)) (at_outer d (m.depth - 1) m n r same q)
 end_in_variant false w o m n r e p q = absurd (cc)
 
 -- ---- a call that writes the part that remains first
 
 variant_then : (v : Bool) (d : ℕ) (a b : Out) → within_variant v d (a then b) ≡ a then within_variant v d b
-variant_then true d a b = then_assoc a b (piece (comma_sign ∷ []) then closing d true right_brace)
+variant_then true d a b = then_assoc a b (piece (comma_sign ∷ []) then closed_by d true right_brace)
 variant_then false d a b = refl
 
 -- the text of what remains, and of what closes after it
@@ -123,7 +123,7 @@ lender-by w o n d f by_writer b p = record { was = p.was; front = p.front; rest 
 lender-by w o n d f by_refusal b p = record { was = p.was; bytes = p.bytes; failed = b }
 lender-by w o n d f by_none b p = p
 
-Refuses-lender : (w : Out) (o n : SerializerState) (d : ℕ) (f : Bool) (e : Error) → n.failed ≡ true → Refuses w o e (record n { depth = d; failed = f }) → Refuses w o e n
+Refuses-lender : (w : Out) (o n : SerializerState) (d : ℕ) (f : Bool) (e : Error) → n.failed ≡ true → RefusesWrite w o e (record n { depth = d; failed = f }) → RefusesWrite w o e n
 Refuses-lender w o n d f e b p = record { leaves = lender-by w o n d f (refusal_of (kind_of e)) b p.leaves; no_place = p.no_place }
 
 same_inner : (v w : Bool) (d : ℕ) → w ≡ v → inner v d ≡ inner w d
@@ -188,9 +188,9 @@ inner_is : (v : Bool) (d e : ℕ) → e ≡ inner v d + 1 → e - 1 ≡ inner v 
 inner_is v d e h = omega (arith, h)
 
 pub ends_whole : {A : Type 0} (v started : Bool) (b : Brackets) (sign : ℕ) (all : Out) (at o n : SerializerState) (r : Result A Error) → o.depth ≡ inner v at.depth + 1 → closing_sign b ≡ sign
-    → Reaches all at (at_depth at.depth o) (within_variant v at.depth (closing (inner v at.depth) started sign)) → Writes (within_variant v (o.depth - inner v 1) (closing (o.depth - 1) started (closing_sign b))) (at_depth (o.depth - inner v 1) o) r n → Writes all at r n
+    → Reaches all at (at_depth at.depth o) (within_variant v at.depth (closed_by (inner v at.depth) started sign)) → Writes (within_variant v (o.depth - inner v 1) (closed_by (o.depth - 1) started (closing_sign b))) (at_depth (o.depth - inner v 1) o) r n → Writes all at r n
 ends_whole v started b sign all at o n r same is h w =
-    let close = subst (λ k. Writes (within_variant v k (closing (o.depth - 1) started (closing_sign b))) (at_depth k o) r n) (outer_is v at.depth o.depth same) w in
-    let inside = subst (λ k. Writes (within_variant v at.depth (closing k started (closing_sign b))) (at_depth at.depth o) r n) (inner_is v at.depth o.depth same) close in
-    let signed = subst (λ k. Writes (within_variant v at.depth (closing (inner v at.depth) started k)) (at_depth at.depth o) r n) is inside in
-    Reaches-last all (within_variant v at.depth (closing (inner v at.depth) started sign)) at (at_depth at.depth o) n r h signed
+    let close = subst (λ k. Writes (within_variant v k (closed_by (o.depth - 1) started (closing_sign b))) (at_depth k o) r n) (outer_is v at.depth o.depth same) w in
+    let inside = subst (λ k. Writes (within_variant v at.depth (closed_by k started (closing_sign b))) (at_depth at.depth o) r n) (inner_is v at.depth o.depth same) close in
+    let signed = subst (λ k. Writes (within_variant v at.depth (closed_by (inner v at.depth) started k)) (at_depth at.depth o) r n) is inside in
+    Reaches-last all (within_variant v at.depth (closed_by (inner v at.depth) started sign)) at (at_depth at.depth o) n r h signed

@@ -13,7 +13,7 @@ use Rattle.json5_grammar.specs.Language.Characters.{is_digit, is_identifier_star
 use Rattle.json5_grammar.specs.Language.Numbers.{Decimal, infinite, nan, finite}
 use Rattle.json5_grammar.specs.Written.NumberText.{zeros, digits_text, decimal_text, Normal}
 use Rattle.json5_grammar.specs.Written.Quoting.{escaped, escaped_all, quote_for, quoted_text, is_name, key_text}
-use Rattle.json5_text.specs.NumberDecimals.{is_minus, is_infinity, is_not_a_number}
+use Rattle.json5_text.specs.NumberDecimals.{has_minus, is_infinity, is_not_a_number}
 use Rattle.json5_ser.proofs.DecimalPieces.{is_spelling, is_spelled, ascii_decimal}
 
 -- ---- no character is escaped
@@ -112,7 +112,7 @@ low_sign true t h = refl
 low_sign false t h = h
 
 -- infinity and not-a-number without a minus, and no other
-pub decimal_name : (d : Decimal) → Normal d → is_name (decimal_text d) ≡ (not (is_minus d) && (is_infinity d || is_not_a_number d))
+pub decimal_name : (d : Decimal) → Normal d → is_name (decimal_text d) ≡ (not (has_minus d) && (is_infinity d || is_not_a_number d))
 decimal_name (infinite true) n = no_name_from (decimal_text (infinite true)) refl
 decimal_name (infinite false) n = words_are_names.0
 decimal_name (nan true) n = no_name_from (decimal_text (nan true)) refl
@@ -132,11 +132,11 @@ bare_key d h = bare_name (decimal_text d) h
 pub quoted_key : (d : Decimal) → Normal d → is_name (decimal_text d) ≡ false → key_text (decimal_text d) ≡ 34 ∷ decimal_text d ++ 34 ∷ []
 quoted_key d n h = quoted_name (decimal_text d) h ∙ spelled_quoted (decimal_text d) (ascii_decimal d n)
 
-pub minus_no_name : (d : Decimal) (m : Bool) → Normal d → m ≡ is_minus d → m ≡ true → is_name (decimal_text d) ≡ false
+pub minus_no_name : (d : Decimal) (m : Bool) → Normal d → m ≡ has_minus d → m ≡ true → is_name (decimal_text d) ≡ false
 minus_no_name d m n e h = decimal_name d n ∙ ap (λ b. not b && (is_infinity d || is_not_a_number d)) (sym e ∙ h)
 
-pub infinite_is_name : (d : Decimal) (m i : Bool) → Normal d → m ≡ is_minus d → m ≡ false → i ≡ is_infinity d → i ≡ true → is_name (decimal_text d) ≡ true
+pub infinite_is_name : (d : Decimal) (m i : Bool) → Normal d → m ≡ has_minus d → m ≡ false → i ≡ is_infinity d → i ≡ true → is_name (decimal_text d) ≡ true
 infinite_is_name d m i n e h f k = decimal_name d n ∙ (ap (λ b. not b && (is_infinity d || is_not_a_number d)) (sym e ∙ h) ∙ ap (λ b. b || is_not_a_number d) (sym f ∙ k))
 
-pub nan_is_name : (d : Decimal) (m i k : Bool) → Normal d → m ≡ is_minus d → m ≡ false → i ≡ is_infinity d → i ≡ false → k ≡ is_not_a_number d → is_name (decimal_text d) ≡ k
+pub nan_is_name : (d : Decimal) (m i k : Bool) → Normal d → m ≡ has_minus d → m ≡ false → i ≡ is_infinity d → i ≡ false → k ≡ is_not_a_number d → is_name (decimal_text d) ≡ k
 nan_is_name d m i k n e h f g j = decimal_name d n ∙ (ap (λ b. not b && (is_infinity d || is_not_a_number d)) (sym e ∙ h) ∙ (ap (λ b. b || is_not_a_number d) (sym f ∙ g) ∙ sym j))

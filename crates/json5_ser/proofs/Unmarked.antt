@@ -2,7 +2,7 @@
 use Rattle.std.proofs.Common.{◌≡◌, ℕ, ◌+◌, List, [], ◌∷◌, ◌++◌, Bool, true, false, refl, ap, ◌∙◌}
 use Rattle.json5_grammar.specs.Language.Characters.{left_bracket, left_brace}
 use Rattle.json5_ser.specs.WrittenTrees.{Written, null, boolean, number, text, array, object, Elements, no_element, element, Fields, no_field, field, named, bad}
-use Rattle.json5_ser.specs.Out.{Out, Stop, whole, invalid_key, too_deep, no_number, piece, after, ◌then◌, out, elements_out, fields_out, opening, element_out, key_part, value_part}
+use Rattle.json5_ser.specs.Out.{Out, Stop, whole, invalid_key, too_deep, no_number, piece, followed_by, ◌then◌, out, elements_out, fields_out, opened_by, element_out, key_part, value_part}
 use Rattle.json5_ser.specs.Marks.{marks, element_marks, field_marks, unmarked, unmarked_elements, unmarked_fields}
 
 -- both parts of a whole text are whole
@@ -11,7 +11,7 @@ pub record Parts (a b : Out) : Type 0 where
   pub second : b.stop ≡ whole
   pub text : (a then b).text ≡ a.text ++ b.text
 
-parts_at : (s : List ℕ) (e : Stop) (b : Out) → (after s e b).stop ≡ whole → Parts (record { text = s; stop = e }) b
+parts_at : (s : List ℕ) (e : Stop) (b : Out) → (followed_by s e b).stop ≡ whole → Parts (record { text = s; stop = e }) b
 parts_at s whole b h = record { first = refl; second = h; text = refl }
 parts_at s invalid_key b h = absurd (cc)
 parts_at s too_deep b h = absurd (cc)
@@ -26,8 +26,8 @@ mutual
   tree_again limit (boolean b) d h = refl
   tree_again limit (number n) d h = refl
   tree_again limit (text u) d h = refl
-  tree_again limit (array ts) d h = ap array (elements_again limit ts d false (parts (opening limit d left_bracket) (elements_out limit ts d false) h).second)
-  tree_again limit (object fs) d h = ap object (fields_again limit fs d false (parts (opening limit d left_brace) (fields_out limit fs d false) h).second)
+  tree_again limit (array ts) d h = ap array (elements_again limit ts d false (parts (opened_by limit d left_bracket) (elements_out limit ts d false) h).second)
+  tree_again limit (object fs) d h = ap object (fields_again limit fs d false (parts (opened_by limit d left_brace) (fields_out limit fs d false) h).second)
 
   pub elements_again : (limit : ℕ) (ts : Elements) (d : ℕ) (started : Bool) → (elements_out limit ts d started).stop ≡ whole → unmarked_elements (element_marks ts) ≡ ts
   elements_again limit no_element d started h = refl

@@ -4,7 +4,7 @@ use Rattle.json5_text.specs.declared.value.Value.{Value}
 use Rattle.json5_text.specs.ValueViews as datum
 use Rattle.json5_text.specs.ValueViews.{Datum, Items, no_item, item, value_of}
 use Rattle.json5_ser.specs.WrittenTrees.{Written, null, boolean, number, text, array, object, Elements, no_element, element, Fields, no_field, field, named, bad}
-use Rattle.json5_ser.specs.Out.{Out, Stop, whole, invalid_key, too_deep, no_number, piece, stopped, after, ◌then◌, out, elements_out, fields_out, opening, closing, element_out, value_part, text_within}
+use Rattle.json5_ser.specs.Out.{Out, Stop, whole, invalid_key, too_deep, no_number, piece, stopped, followed_by, ◌then◌, out, elements_out, fields_out, opened_by, closed_by, element_out, value_part, text_within}
 use Rattle.json5_ser.specs.Writable.{is_writable}
 use Rattle.json5_grammar.specs.Written.NumberText.{number_text}
 use Rattle.json5_ser.specs.ValueTrees.{datum_tree, items_tree, fields_tree, value_tree}
@@ -58,7 +58,7 @@ one_value limit v w h = (
 
 -- ---- each key of a value has a text
 
-named_at : (s : List ℕ) (e : Stop) (b : Out) → e ≢ invalid_key → b.stop ≢ invalid_key → (after s e b).stop ≢ invalid_key
+named_at : (s : List ℕ) (e : Stop) (b : Out) → e ≢ invalid_key → b.stop ≢ invalid_key → (followed_by s e b).stop ≢ invalid_key
 named_at s whole b n k h = k h
 named_at s invalid_key b n k h = n refl
 named_at s too_deep b n k h = cc
@@ -71,11 +71,11 @@ cond_named : (b : Bool) (o : Out) (s : Stop) → o.stop ≢ invalid_key → s �
 cond_named true o s n k h = n h
 cond_named false o s n k h = k h
 
-closing_named : (b : Bool) (d bracket : ℕ) → (closing d b bracket).stop ≢ invalid_key
+closing_named : (b : Bool) (d bracket : ℕ) → (closed_by d b bracket).stop ≢ invalid_key
 closing_named true d bracket h = cc
 closing_named false d bracket h = cc
 
-opening_named : (limit d bracket : ℕ) → (opening limit d bracket).stop ≢ invalid_key
+opening_named : (limit d bracket : ℕ) → (opened_by limit d bracket).stop ≢ invalid_key
 opening_named limit d bracket = cond_named (nat_lt d limit) (piece (bracket ∷ [])) too_deep (λ h. cc) (λ h. cc)
 
 mutual
@@ -84,8 +84,8 @@ mutual
   datum_named limit (datum.boolean b) d h = cc
   datum_named limit (datum.number n) d h = cond_named (is_writable n) (piece (number_text n)) no_number (λ h. cc) (λ h. cc) h
   datum_named limit (datum.text u) d h = cc
-  datum_named limit (datum.array xs) d h = both_named (opening limit d 91) (elements_out limit (items_tree xs) d false) (opening_named limit d 91) (items_named limit xs d false) h
-  datum_named limit (datum.object fs) d h = both_named (opening limit d 123) (fields_out limit (fields_tree fs) d false) (opening_named limit d 123) (fields_named limit fs d false) h
+  datum_named limit (datum.array xs) d h = both_named (opened_by limit d 91) (elements_out limit (items_tree xs) d false) (opening_named limit d 91) (items_named limit xs d false) h
+  datum_named limit (datum.object fs) d h = both_named (opened_by limit d 123) (fields_out limit (fields_tree fs) d false) (opening_named limit d 123) (fields_named limit fs d false) h
 
   items_named : (limit : ℕ) (xs : Items) (d : ℕ) (started : Bool) → (elements_out limit (items_tree xs) d started).stop ≢ invalid_key
   items_named limit no_item d started h = closing_named started d 93 h

@@ -21,7 +21,7 @@ pub record SplitsAtEscape (q : ℕ) (t raw escape after : List ℕ) : Type 0 whe
   pub utf8 : IsUtf8 after
 
 -- the characters before rest are written as they stand
-pub record StandsBefore (q : ℕ) (t rest : List ℕ) : Type 0 where
+pub record WritesAsIs (q : ℕ) (t rest : List ℕ) : Type 0 where
   pub before : List ℕ
   pub scalars : all_scalars before ≡ true
   pub bytes : t ≡ encode_utf8_all before ++ rest

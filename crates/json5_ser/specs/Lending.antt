@@ -4,8 +4,8 @@ use Rattle.std.specs.Borrow.{Fml, GName, RattleType, MutBor, RestsIfErr}
 use Rattle.std.specs.declared.io.Write as write
 use Rattle.json5_grammar.specs.Language.Characters.{comma_sign, left_bracket, left_brace, right_brace}
 use Rattle.json5_text.specs.declared.error.Error.{Error}
-use Rattle.json5_ser.specs.Out.{Out, piece, ◌then◌, opening, closing, variant_opening}
-use Rattle.json5_ser.specs.Writes.{SerializerState, Wrote, Refuses, Writes, at_depth}
+use Rattle.json5_ser.specs.Out.{Out, piece, ◌then◌, opened_by, closed_by, variant_opening}
+use Rattle.json5_ser.specs.Writes.{SerializerState, Wrote, RefusesWrite, Writes, at_depth}
 use Rattle.json5_ser.specs.Brackets.{closing_sign, is_square}
 use Rattle.json5_ser.specs.Stages.{is_started, is_pending}
 use Rattle.json5_ser.specs.declared.stage.Stage.{Stage}
@@ -14,7 +14,7 @@ use Rattle.json5_ser.specs.contracts.serializer.Serializer.{the_row}
 
 -- what follows the text of a collection within d brackets: the end of the variant's object, where it is what a variant holds
 abbrev pub within_variant : Bool → ℕ → Out → Out
-within_variant true d o = o then (piece (comma_sign ∷ []) then closing d true right_brace)
+within_variant true d o = o then (piece (comma_sign ∷ []) then closed_by d true right_brace)
 within_variant false d o = o
 
 -- how many brackets stand round a collection that was begun within d
@@ -24,10 +24,10 @@ inner false d = d
 
 -- the bracket of a list, and of an object, with which this serializer goes on
 abbrev pub list_opening : MutBor SerializerState → Out
-list_opening ser = opening ser.now.limit ser.now.depth left_bracket
+list_opening ser = opened_by ser.now.limit ser.now.depth left_bracket
 
 abbrev pub object_opening : MutBor SerializerState → Out
-object_opening ser = opening ser.now.limit ser.now.depth left_brace
+object_opening ser = opened_by ser.now.limit ser.now.depth left_brace
 
 module _ {W : Type 0} where
   -- the serializer itself, as the collection holds it
@@ -102,7 +102,7 @@ module _ {W : Type 0} where
 
   -- what closes the collection, and a variant's object round it
   abbrev pub ending : SerializeCollection W → Out
-  ending c = within_variant (in_variant c) (outer c) (closing ((state_of c).depth - 1) (has_member c) (closing_sign c.brackets))
+  ending c = within_variant (in_variant c) (outer c) (closed_by ((state_of c).depth - 1) (has_member c) (closing_sign c.brackets))
 
   -- the serializer is blocked again, and the collection goes on to a stage where nothing was refused
   pub record Settles (old : SerializeCollection W) (written : Result ⊤ Error) (next : Stage) (new : SerializeCollection W) (result : Result ⊤ Error) : Type 0 where
@@ -117,7 +117,7 @@ module _ {W : Type 0} where
 module _ (W : RattleType) (g : write.Ghosts W.Denot) where
   -- where it refuses the text o, the serializer ends so, and else as the collection leaves it
   abbrev pub lends_serializer : Out → MutBor SerializerState → Result (SerializeCollection W.Denot) Error → Fml
-  lends_serializer o ser result = RestsIfErr (the_row W g) ser (λ c. reference_of c) result (λ last. IfErr result (λ e. Refuses o ser.now e last))
+  lends_serializer o ser result = RestsIfErr (the_row W g) ser (λ c. reference_of c) result (λ last. IfErr result (λ e. RefusesWrite o ser.now e last))
 
   abbrev pub lends_list : MutBor SerializerState → Result (SerializeCollection W.Denot) Error → Fml
   lends_list ser result = lends_serializer (list_opening ser) ser result

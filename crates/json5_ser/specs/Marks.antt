@@ -9,12 +9,12 @@ use Rattle.json5_ser.specs.WrittenTrees as written
 use Rattle.json5_ser.specs.WrittenTrees.{Written, Elements, no_element, element, Fields, no_field, field, named, bad}
 
 -- the written text holds no backslash
-abbrev pub is_escape_free : List ℕ → Bool
-is_escape_free u = not (holds_backslash (quoted_text u))
+abbrev pub is_escape_free_text : List ℕ → Bool
+is_escape_free_text u = not (holds_backslash (quoted_text u))
 
 -- the key is written bare, or its text holds no backslash
 abbrev pub is_escape_free_key : List ℕ → Bool
-is_escape_free_key u = is_name u || is_escape_free u
+is_escape_free_key u = is_name u || is_escape_free_text u
 
 -- of a tree without a bad key
 abbrev mutual
@@ -22,7 +22,7 @@ abbrev mutual
   marks written.null = marked.null
   marks (written.boolean b) = marked.boolean b
   marks (written.number n) = marked.number n
-  marks (written.text u) = marked.text u (is_escape_free u)
+  marks (written.text u) = marked.text u (is_escape_free_text u)
   marks (written.array ts) = marked.array (element_marks ts)
   marks (written.object fs) = marked.object (field_marks fs)
 

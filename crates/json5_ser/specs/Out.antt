@@ -9,7 +9,7 @@ use Rattle.json5_grammar.specs.Language.Documents.{max_depth}
 use Rattle.json5_grammar.specs.Language.Values.{null_text, true_text, false_text}
 use Rattle.json5_ser.specs.Writable.{is_writable}
 use Rattle.json5_ser.specs.WrittenTrees as written
-use Rattle.json5_ser.specs.WrittenTrees.{Key, named, bad, Written, Elements, no_element, element, Fields, no_field, field}
+use Rattle.json5_ser.specs.WrittenTrees.{WrittenKey, named, bad, Written, Elements, no_element, element, Fields, no_field, field}
 
 -- whether the text is whole, or stops before a key, a bracket, or what is no number of these types
 pub data Stop : Type 0 where
@@ -30,15 +30,15 @@ abbrev pub stopped : Stop → Out
 stopped s = record { text = []; stop = s }
 
 -- this text, and then the other where this is whole
-abbrev pub after : List ℕ → Stop → Out → Out
-after s whole o = record { text = s ++ o.text; stop = o.stop }
-after s invalid_key o = record { text = s; stop = invalid_key }
-after s too_deep o = record { text = s; stop = too_deep }
-after s no_number o = record { text = s; stop = no_number }
+abbrev pub followed_by : List ℕ → Stop → Out → Out
+followed_by s whole o = record { text = s ++ o.text; stop = o.stop }
+followed_by s invalid_key o = record { text = s; stop = invalid_key }
+followed_by s too_deep o = record { text = s; stop = too_deep }
+followed_by s no_number o = record { text = s; stop = no_number }
 
 infixr 10 ◌then◌
 abbrev pub ◌then◌ : Out → Out → Out
-a then b = after a.text a.stop b
+a then b = followed_by a.text a.stop b
 
 -- a line feed, and the spaces of a level
 abbrev pub line : ℕ → List ℕ
@@ -51,25 +51,25 @@ bool_text false = false_text
 abbrev pub number_out : Number → Out
 number_out n = cond (is_writable n) (piece (number_text n)) (stopped no_number)
 
-abbrev pub key_out : Key → Out
+abbrev pub key_out : WrittenKey → Out
 key_out (named u) = piece (key_text u)
 key_out bad = stopped invalid_key
 
 -- what opens a collection within d others
-abbrev pub opening : ℕ → ℕ → ℕ → Out
-opening limit d bracket = cond (nat_lt d limit) (piece (bracket ∷ [])) (stopped too_deep)
+abbrev pub opened_by : ℕ → ℕ → ℕ → Out
+opened_by limit d bracket = cond (nat_lt d limit) (piece (bracket ∷ [])) (stopped too_deep)
 
 -- what closes it: the bracket alone where nothing stands in it
-abbrev pub closing : ℕ → Bool → ℕ → Out
-closing d true bracket = piece (line d ++ bracket ∷ [])
-closing d false bracket = piece (bracket ∷ [])
+abbrev pub closed_by : ℕ → Bool → ℕ → Out
+closed_by d true bracket = piece (line d ++ bracket ∷ [])
+closed_by d false bracket = piece (bracket ∷ [])
 
 -- a member of a list, within d brackets
 abbrev pub element_out : ℕ → Out → Out
 element_out d o = piece (line d) then (o then piece (comma_sign ∷ []))
 
 -- a key of an object, within d brackets, and what follows it
-abbrev pub key_part : ℕ → Key → Out
+abbrev pub key_part : ℕ → WrittenKey → Out
 key_part d k = piece (line d) then key_out k
 
 abbrev pub value_part : Out → Out
@@ -82,29 +82,29 @@ abbrev mutual
   out limit (written.boolean b) d = piece (bool_text b)
   out limit (written.number n) d = number_out n
   out limit (written.text u) d = piece (quoted_text u)
-  out limit (written.array ts) d = opening limit d left_bracket then elements_out limit ts d false
-  out limit (written.object fs) d = opening limit d left_brace then fields_out limit fs d false
+  out limit (written.array ts) d = opened_by limit d left_bracket then elements_out limit ts d false
+  out limit (written.object fs) d = opened_by limit d left_brace then fields_out limit fs d false
 
   -- what follows the bracket that opens a list; the test says that something stands in it already
   pub elements_out : ℕ → Elements → ℕ → Bool → Out
-  elements_out limit no_element d started = closing d started right_bracket
+  elements_out limit no_element d started = closed_by d started right_bracket
   elements_out limit (element t ts) d started = element_out (d + 1) (out limit t (d + 1)) then elements_out limit ts d true
 
   pub fields_out : ℕ → Fields → ℕ → Bool → Out
-  fields_out limit no_field d started = closing d started right_brace
+  fields_out limit no_field d started = closed_by d started right_brace
   fields_out limit (field k t fs) d started = key_part (d + 1) k then (value_part (out limit t (d + 1)) then fields_out limit fs d true)
 
 -- the text of a whole tree, within a limit and at the full one
 abbrev pub text_within : ℕ → Written → Out
 text_within limit t = out limit t 0
 
-abbrev pub text_of : Written → Out
-text_of = text_within max_depth
+abbrev pub written_text : Written → Out
+written_text = text_within max_depth
 
 -- a key of an object within d brackets, and its value
-abbrev pub entry_out : ℕ → ℕ → Key → Written → Out
+abbrev pub entry_out : ℕ → ℕ → WrittenKey → Written → Out
 entry_out limit d k t = key_part d k then value_part (out limit t d)
 
 -- within d others, the object of a variant up to the bracket that opens what the variant holds
 abbrev pub variant_opening : ℕ → List ℕ → ℕ → ℕ → Out
-variant_opening limit name bracket d = opening limit d left_brace then (key_part (d + 1) (named name) then (piece (colon_sign ∷ space ∷ []) then opening limit (d + 1) bracket))
+variant_opening limit name bracket d = opened_by limit d left_brace then (key_part (d + 1) (named name) then (piece (colon_sign ∷ space ∷ []) then opened_by limit (d + 1) bracket))

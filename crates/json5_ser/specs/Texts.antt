@@ -22,6 +22,6 @@ StopsAs o failed_write = ⊥
 StopsAs o (custom _) = ⊥
 
 -- a refusal of `to_string`: it has no place
-pub record RefusesText (o : Out) (e : Error) : Type 0 where
+pub record RefusesToString (o : Out) (e : Error) : Type 0 where
   pub stops : StopsAs o (kind_of e)
   pub no_place : place_of e ≡ None

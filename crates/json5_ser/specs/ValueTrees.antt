@@ -7,7 +7,7 @@ use Rattle.json5_text.specs.ValueViews as datum
 use Rattle.json5_text.specs.ValueViews.{Datum, Items, no_item, item, no_field, field, value_of}
 use Rattle.json5_ser.specs.Out.{Out, text_within}
 use Rattle.json5_ser.specs.WrittenTrees as written
-use Rattle.json5_ser.specs.WrittenTrees.{Key, Written, Elements, Fields, named, null, boolean, number, text, array, object, no_element, element}
+use Rattle.json5_ser.specs.WrittenTrees.{WrittenKey, Written, Elements, Fields, named, null, boolean, number, text, array, object, no_element, element}
 
 abbrev mutual
   pub datum_tree : Datum → Written
@@ -34,5 +34,5 @@ abbrev pub value_text : ℕ → Value → Out
 value_text limit v = text_within limit (value_tree v)
 
 -- the key that is a text
-abbrev pub text_key : String Global → Key
-text_key s = named (chars (string_bytes s))
+abbrev pub key_of_string : String Global → WrittenKey
+key_of_string s = named (chars (string_bytes s))

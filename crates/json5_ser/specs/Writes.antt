@@ -73,14 +73,14 @@ RefusesBy o old by_refusal new = Idled old new
 RefusesBy o old by_none new = ⊥
 
 -- a refusal has no place
-pub record Refuses (o : Out) (old : SerializerState) (e : Error) (new : SerializerState) : Type 0 where
+pub record RefusesWrite (o : Out) (old : SerializerState) (e : Error) (new : SerializerState) : Type 0 where
   pub leaves : RefusesBy o old (refusal_of (kind_of e)) new
   pub no_place : place_of e ≡ None
 
 -- what a call did that has this text to write
 abbrev pub Writes : {A : Type 0} → Out → SerializerState → Result A Error → SerializerState → Type 0
 Writes o old (Ok x) new = Wrote o old new
-Writes o old (Err e) new = Refuses o old e new
+Writes o old (Err e) new = RefusesWrite o old e new
 
 -- what a call did that writes this tree within the brackets that are open, and within the limit of the serializer
 abbrev pub WritesTree : {A : Type 0} → Written → SerializerState → Result A Error → SerializerState → Type 0

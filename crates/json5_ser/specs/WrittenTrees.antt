@@ -4,9 +4,9 @@ use Rattle.json5_grammar.specs.Language.Numbers.{Number, whole}
 use Rattle.json5_grammar.specs.Written.NumberText.{number_text}
 
 -- a key is a text, or what can't be a key
-pub data Key : Type 0 where
-  named : List ℕ → Key
-  bad : Key
+pub data WrittenKey : Type 0 where
+  named : List ℕ → WrittenKey
+  bad : WrittenKey
 
 mutual
   pub data Written : Type 0 where
@@ -23,7 +23,7 @@ mutual
 
   pub data Fields : Type 0 where
     no_field : Fields
-    field : Key → Written → Fields → Fields
+    field : WrittenKey → Written → Fields → Fields
 
 -- whole numbers
 abbrev pub integer : ℤ → Written
@@ -52,18 +52,18 @@ abbrev pub struct_variant : List ℕ → Fields → Written
 struct_variant name fs = newtype_variant name (object fs)
 
 -- the fields of the entries of a map
-abbrev pub fields_of : {K V : Type 0} → (K → Key) → (V → Written) → List (K × V) → Fields
+abbrev pub fields_of : {K V : Type 0} → (K → WrittenKey) → (V → Written) → List (K × V) → Fields
 fields_of key tree [] = no_field
 fields_of key tree (e ∷ es) = field (key e.0) (tree e.1) (fields_of key tree es)
 
 -- the decimal digits
-abbrev pub integer_key : ℤ → Key
+abbrev pub integer_key : ℤ → WrittenKey
 integer_key z = named (number_text (whole z))
 
-abbrev pub natural_key : ℕ → Key
+abbrev pub natural_key : ℕ → WrittenKey
 natural_key n = integer_key (pos n)
 
 -- none is no key
-abbrev pub option_key : {A : Type 0} → (A → Key) → Option A → Key
+abbrev pub option_key : {A : Type 0} → (A → WrittenKey) → Option A → WrittenKey
 option_key key None = bad
 option_key key (Some x) = key x

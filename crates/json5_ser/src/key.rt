@@ -4,7 +4,7 @@ ghost use Rattle.std.specs.Prelude.{◌≡◌, ◌+◌, [], ◌∷◌, Some, OnO
 ghost use Rattle.std.specs.Str.{chars};
 ghost use Rattle.hex.specs.Hex.{encode_lower};
 ghost use Rattle.json5_grammar.specs.Written.NumberText.{decimal_text};
-ghost use Rattle.json5_ser.specs.WrittenTrees.{Key, named, option_key};
+ghost use Rattle.json5_ser.specs.WrittenTrees.{WrittenKey, named, option_key};
 ghost use Rattle.json5_ser.specs.Out.{out, key_part, value_part, entry_out, variant_opening, bool_text};
 ghost use Rattle.json5_ser.specs.Brackets.{opening_sign};
 ghost use Rattle.json5_ser.specs.Writes.{Writes, at_depth};
@@ -67,7 +67,7 @@ impl<W: Write + Drop> Drop for MapKey<'_, W> {
 pub trait SerializeKey {
     ghost use Rattle.json5_ser.specs.Waiting.{serializer_of_key};
 
-    ghost as_key: { Self → Key };
+    ghost as_key: { Self → WrittenKey };
 
     /// Writes the key.
     ///

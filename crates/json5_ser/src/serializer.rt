@@ -6,7 +6,7 @@ ghost use Rattle.json5_ser.specs.Quotes.{delimiter};
 ghost use Rattle.json5_grammar.specs.Written.Quoting.{escaped_all, quoted_text};
 ghost use Rattle.json5_ser.specs.WrittenTrees.{null, boolean, text};
 ghost use Rattle.json5_grammar.specs.Language.Documents.{max_depth};
-ghost use Rattle.json5_ser.specs.Out.{piece, ◌then◌, stopped, line, opening, closing, invalid_key, too_deep};
+ghost use Rattle.json5_ser.specs.Out.{piece, ◌then◌, stopped, line, opened_by, closed_by, invalid_key, too_deep};
 ghost use Rattle.json5_grammar.specs.declared.code.ErrorCode.TheVariants as codes;
 ghost use Rattle.json5_text.specs.Errors.{code, kind_of, place_of};
 ghost use Rattle.json5_grammar.specs.Language.Characters.{comma_sign, right_brace, double_quote};
@@ -370,7 +370,7 @@ impl<W: Write + Drop> Serializer<W> {
 
     /// Opens a collection.
     pub(crate) fn open(&mut self, brackets: Brackets) -> Result<()>
-        ensures opens { Writes (opening self.old.limit self.old.depth (opening_sign brackets)) self.old result (at_depth self.old.depth self.new) }
+        ensures opens { Writes (opened_by self.old.limit self.old.depth (opening_sign brackets)) self.old result (at_depth self.old.depth self.new) }
         ensures deeper { OnOk result (self.new.depth ≡ self.old.depth + 1) }
     {
         if self.depth >= self.limit.get() {
@@ -390,7 +390,7 @@ impl<W: Write + Drop> Serializer<W> {
 
     /// Closes a collection; its bracket is on a line of its own where something was written in it.
     pub(crate) fn close(&mut self, brackets: Brackets, stage: Stage) -> Result<()>
-        ensures { Writes (closing (self.old.depth - 1) (is_started stage) (closing_sign brackets)) (at_depth (self.old.depth - 1) self.old) result self.new }
+        ensures { Writes (closed_by (self.old.depth - 1) (is_started stage) (closing_sign brackets)) (at_depth (self.old.depth - 1) self.old) result self.new }
     {
         self.exit_bracket();
         if !stage.is_started() {
@@ -402,7 +402,7 @@ impl<W: Write + Drop> Serializer<W> {
 
     /// Ends the only field of a variant's object, and closes the object.
     pub(crate) fn close_variant(&mut self) -> Result<()>
-        ensures { Writes (piece (comma_sign ∷ []) then closing (self.old.depth - 1) true right_brace) (at_depth (self.old.depth - 1) self.old) result self.new }
+        ensures { Writes (piece (comma_sign ∷ []) then closed_by (self.old.depth - 1) true right_brace) (at_depth (self.old.depth - 1) self.old) result self.new }
     {
         self.put(",")?;
         self.close(Brackets::Curly, Stage::Started)

@@ -4,9 +4,9 @@ ghost use Rattle.std.specs.Prelude.{string_bytes, IfOk, IfErr};
 ghost use Rattle.std.specs.Str.{chars};
 ghost use Rattle.json5_grammar.specs.Language.Documents.{Doc, max_depth};
 ghost use Rattle.json5_ser.specs.Marks.{marks};
-ghost use Rattle.json5_ser.specs.Out.{text_of, text_within};
+ghost use Rattle.json5_ser.specs.Out.{written_text, text_within};
 ghost use Rattle.json5_ser.specs.Writes.{WritesTree, fresh, fresh_within, ended, ended_within};
-ghost use Rattle.json5_ser.specs.Texts.{IsText, RefusesText};
+ghost use Rattle.json5_ser.specs.Texts.{IsText, RefusesToString};
 ghost use Rattle.json5_ser.specs.Named.{named};
 
 use crate::{Serialize, Serializer};
@@ -87,9 +87,9 @@ pub fn to_writer_within<T: Serialize, W: Write>(w: &mut W, limit: Limit, value: 
 ///
 /// As [`to_string_within`].
 pub fn to_string<T: Serialize>(alloc: Global, value: &T) -> Result<String>
-    ensures whole { IfOk result (λ s. IsText (text_of (T.tree value.now)) (string_bytes s)) }
+    ensures whole { IfOk result (λ s. IsText (written_text (T.tree value.now)) (string_bytes s)) }
     ensures reads_back { IfOk result (λ s. Doc max_depth (chars (string_bytes s)) (marks (T.tree value.now))) }
-    ensures refused { IfErr result (RefusesText (text_of (T.tree value.now))) }
+    ensures refused { IfErr result (RefusesToString (written_text (T.tree value.now))) }
 {
     to_string_within(alloc, Limit::full(), value)
 }
@@ -109,7 +109,7 @@ pub fn to_string<T: Serialize>(alloc: Global, value: &T) -> Result<String>
 pub fn to_string_within<T: Serialize>(alloc: Global, limit: Limit, value: &T) -> Result<String>
     ensures whole { IfOk result (λ s. IsText (text_within limit (T.tree value.now)) (string_bytes s)) }
     ensures reads_back { IfOk result (λ s. Doc limit (chars (string_bytes s)) (marks (T.tree value.now))) }
-    ensures refused { IfErr result (RefusesText (text_within limit (T.tree value.now))) }
+    ensures refused { IfErr result (RefusesToString (text_within limit (T.tree value.now))) }
 {
     let mut ser = Serializer::within(Vec::new(alloc), limit);
     let written = value.serialize(&mut ser);

@@ -1,7 +1,7 @@
 //! Values of any kind, written.
 
 ghost use Rattle.json5_ser.specs.WrittenTrees.{integer, object, fields_of};
-ghost use Rattle.json5_ser.specs.ValueTrees.{value_tree, text_key};
+ghost use Rattle.json5_ser.specs.ValueTrees.{value_tree, key_of_string};
 ghost use Rattle.json5_ser.specs.Writes.{WritesTree};
 
 use crate::{Serialize, Serializer};
@@ -31,7 +31,7 @@ impl Serialize for Value {
 /// An object of the members, in their order.
 #[cycle(tree)]
 fn write_fields<W: Write + Drop>(fields: &[(String, Value)], ser: &mut Serializer<W>) -> Result<()>
-    ensures { WritesTree (object (fields_of text_key value_tree fields.now)) ser.old result ser.new }
+    ensures { WritesTree (object (fields_of key_of_string value_tree fields.now)) ser.old result ser.new }
 {
     let mut object = ser.serialize_map(Some(fields.len()))?;
     for (key, value) in fields {

@@ -12,7 +12,7 @@ use Rattle.std.proofs.lemmas.List.{length-append, length-drop, length-take, take
 use Rattle.std.proofs.lemmas.Str.{chars_past_char, IsUtf8-past_char, length-encode, len_utf8_bounds, encode_ascii, length-encode, IsCharBoundary-after_ascii, encodes-chars, scalars-chars, chars-encodes, encodes-append, chars-append, IsUtf8-take, IsUtf8-drop, IsCharBoundary-at_seam}
 use Rattle.json5_text.specs.Outcome.{bytes_in}
 use Rattle.json5_text.specs.Cursor.{IsOffset}
-use Rattle.json5_text.specs.Scan.{InText, Begins}
+use Rattle.json5_text.specs.Scan.{InText, StartsWith}
 use Rattle.std.proofs.lemmas.Bool.{and_parts}
 
 pub scalar_halves : (x y : List ℕ) → all_scalars (x ++ y) ≡ true → (all_scalars x ≡ true) × (all_scalars y ≡ true)
@@ -178,14 +178,14 @@ next_left {text = text} {offset = offset} {end = end} c r k e =
     let t = k.counted in
     omega (arith, o, n, m, u, w, ap length f, t)
 
-pub begins_ascii : (s t : List ℕ) → IsUtf8 s → 0 < length s → slice_index s 0 < 128 → t ≡ drop 1 s → Begins s (slice_index s 0) t
+pub begins_ascii : (s t : List ℕ) → IsUtf8 s → 0 < length s → slice_index s 0 < 128 → t ≡ drop 1 s → StartsWith s (slice_index s 0) t
 begins_ascii s t u l h d = record {
   chars = first_char s t u l h d;
   text = subst IsUtf8 (sym d) (IsUtf8-drop s 1 u (first_cut s u l h));
   shorter = let k = ap length d in let m = length-drop 1 s in omega arith;
 }
 
-pub begins_char : (s t : List ℕ) (c : ℕ) → IsUtf8 s → s ≡ encode_utf8 c ++ t → Begins s c t
+pub begins_char : (s t : List ℕ) (c : ℕ) → IsUtf8 s → s ≡ encode_utf8 c ++ t → StartsWith s c t
 begins_char s t c u e = record {
   chars = chars_past_char s t c u e;
   text = IsUtf8-past_char s t c u e;

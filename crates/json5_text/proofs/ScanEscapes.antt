@@ -19,7 +19,7 @@ use Rattle.json5_text.specs.declared.refusal.Refusal.{Refusal}
 use Rattle.json5_text.specs.declared.refusal.Refusal.TheVariants as refusal
 use Rattle.json5_text.specs.Outcome.{failed, outcome, left_at}
 use Rattle.json5_text.specs.Refused.{Refuses}
-use Rattle.json5_text.specs.Scan.{Begins}
+use Rattle.json5_text.specs.Scan.{StartsWith}
 use Rattle.json5_text.proofs.ScanBytes.{first_cut, begins_ascii, no_chars}
 use Rattle.json5_text.proofs.ScanFaults.{same_failed, gave_failed}
 
@@ -87,8 +87,8 @@ hex_no_byte w n b s l e = hex_ends w n b (chars s) l (no_byte s e)
 pub digit_cut : (s : List ℕ) (d : ℕ) → IsUtf8 s → Some d ≡ slice_get s 0 → digit_value d < 16 → IsCharBoundary s 1
 digit_cut s d u e h = let f = byte_first s d e in first_cut s u f.0 (rw f.1 (digit_ascii d h))
 
-pub digit_begins : (s t : List ℕ) (d : ℕ) → IsUtf8 s → Some d ≡ slice_get s 0 → digit_value d < 16 → t ≡ drop 1 s → Begins s d t
-digit_begins s t d u e h f = let k = byte_first s d e in subst (λ x. Begins s x t) k.1 (begins_ascii s t u k.0 (rw k.1 (digit_ascii d h)) f)
+pub digit_begins : (s t : List ℕ) (d : ℕ) → IsUtf8 s → Some d ≡ slice_get s 0 → digit_value d < 16 → t ≡ drop 1 s → StartsWith s d t
+digit_begins s t d u e h f = let k = byte_first s d e in subst (λ x. StartsWith s x t) k.1 (begins_ascii s t u k.0 (rw k.1 (digit_ascii d h)) f)
 
 first_byte : (s r : List ℕ) (c : ℕ) → IsUtf8 s → chars s ≡ c ∷ r → c < 128 → slice_index s 0 ≡ c
 first_byte s r c u e h = ap (λ z. slice_index z 0) (sym (encodes-chars s u) ∙ ap encode_utf8_all e ∙ ap (λ z. z ++ encode_utf8_all r) (encode_ascii c h))

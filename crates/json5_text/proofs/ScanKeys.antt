@@ -16,7 +16,7 @@ use Rattle.json5_text.specs.Errors.{LacksMemory}
 use Rattle.json5_text.specs.Outcome.{outcome}
 use Rattle.json5_text.specs.Refused.{Refuses}
 use Rattle.json5_text.specs.Scan.{MadeOf}
-use Rattle.json5_text.specs.ScanKeys.{key_at}
+use Rattle.json5_text.specs.ScanKeys.{key_ahead}
 use Rattle.json5_text.specs.ScanTexts.{string_at}
 use Rattle.json5_text.specs.Tokens.{FaultyKey, at_quote, at_name}
 use Rattle.json5_text.proofs.ScanFaults.{FaultAt, FaultyIn}
@@ -24,20 +24,20 @@ use Rattle.json5_text.proofs.ScanTokens.{AtSound, at_sound, NameAtSound, name_at
 
 -- ---- what reading gives
 
-pub key_none : (x : List ℕ) → x ≡ [] → key_at x ≡ bad (Some EofParsingIdentifier) inner
-unfolding key_at identifier
+pub key_none : (x : List ℕ) → x ≡ [] → key_ahead x ≡ bad (Some EofParsingIdentifier) inner
+unfolding key_ahead identifier
 key_none x e = rw e refl
 
-pub key_string : (q : ℕ) (x body : List ℕ) → x ≡ q ∷ body → is_quote q ≡ true → key_at x ≡ string_at x
-unfolding key_at key string_at
+pub key_string : (q : ℕ) (x body : List ℕ) → x ≡ q ∷ body → is_quote q ≡ true → key_ahead x ≡ string_at x
+unfolding key_ahead key string_at
 key_string q x body e h = rw (e, h) refl
 
-pub key_name : (c : ℕ) (x body : List ℕ) → x ≡ c ∷ body → is_quote c ≡ false → key_at x ≡ identifier x
-unfolding key_at key
+pub key_name : (c : ℕ) (x body : List ℕ) → x ≡ c ∷ body → is_quote c ≡ false → key_ahead x ≡ identifier x
+unfolding key_ahead key
 key_name c x body e h = rw (e, h) refl
 
-key_of : (x : List ℕ) (a : List ℕ × Bool) (r : List ℕ) → key x ≡ got a r → key_at x ≡ got a r
-unfolding key_at key
+key_of : (x : List ℕ) (a : List ℕ × Bool) (r : List ℕ) → key x ≡ got a r → key_ahead x ≡ got a r
+unfolding key_ahead key
 key_of [] a r e = absurd (cc)
 key_of (c ∷ x) a r e = e
 
@@ -55,15 +55,15 @@ from_name : (x : List ℕ) (res : Read (List ℕ × Bool)) → NotBegun is_quote
 from_name x (got a r) h (s, e, i, (c, z, f, g)) = (s, e, subst (λ y. Key s y a.0 a.1) (sym f) (name_key i g))
 from_name x (bad e p) h k = record { place = k.place; fault = at_name h k.fault; is_at = k.is_at }
 
-key_missing : key_at [] ≡ identifier []
-unfolding key_at
+key_missing : key_ahead [] ≡ identifier []
+unfolding key_ahead
 key_missing = refl
 
-key_at_sound : (x : List ℕ) → AtKeySound x (key_at x)
+key_at_sound : (x : List ℕ) → AtKeySound x (key_ahead x)
 key_at_sound [] = subst (AtKeySound []) (sym key_missing) (from_name [] (identifier []) tt (name_at_sound []))
 key_at_sound (c ∷ r) = by_flag (is_quote c) refl
   where
-    by_flag : (b : Bool) → is_quote c ≡ b → AtKeySound (c ∷ r) (key_at (c ∷ r))
+    by_flag : (b : Bool) → is_quote c ≡ b → AtKeySound (c ∷ r) (key_ahead (c ∷ r))
     by_flag true h = subst (AtKeySound (c ∷ r)) (sym (key_string c (c ∷ r) r refl h)) (from_string c r (string_at (c ∷ r)) h (at_sound (c ∷ r)))
     by_flag false h = subst (AtKeySound (c ∷ r)) (sym (key_name c (c ∷ r) r refl h)) (from_name (c ∷ r) (identifier (c ∷ r)) h (name_at_sound (c ∷ r)))
 
@@ -72,27 +72,27 @@ pub record KeyTaken (x u r : List ℕ) (escape_free : Bool) : Type 0 where
   pub split : x ≡ key ++ r
   pub is_key : Key key r u escape_free
 
-pub key_taken : (x y u r : List ℕ) (escape_free : Bool) → x ≡ y → key_at x ≡ got (u, escape_free) r → KeyTaken y u r escape_free
+pub key_taken : (x y u r : List ℕ) (escape_free : Bool) → x ≡ y → key_ahead x ≡ got (u, escape_free) r → KeyTaken y u r escape_free
 key_taken x y u r escape_free f e =
-    let k = subst (AtKeySound y) (ap key_at (sym f) ∙ e) (key_at_sound y) in
+    let k = subst (AtKeySound y) (ap key_ahead (sym f) ∙ e) (key_at_sound y) in
     record { key = k.0; split = k.1; is_key = k.2 }
 
 faulty_key : (x : List ℕ) (res : Read (List ℕ × Bool)) → AtKeySound x res → FaultyIn FaultyKey x res
 faulty_key x (got a r) k = tt
 faulty_key x (bad e p) k = k
 
-pub key_faulty : (x y : List ℕ) → x ≡ y → FaultyIn FaultyKey y (key_at x)
-key_faulty x y e = subst (λ z. FaultyIn FaultyKey y (key_at z)) (sym e) (faulty_key y (key_at y) (key_at_sound y))
+pub key_faulty : (x y : List ℕ) → x ≡ y → FaultyIn FaultyKey y (key_ahead x)
+key_faulty x y e = subst (λ z. FaultyIn FaultyKey y (key_ahead z)) (sym e) (faulty_key y (key_ahead y) (key_at_sound y))
 
 -- a key in front is read
-key_in_front : {x y s u r : List ℕ} {escape_free : Bool} → x ≡ y → y ≡ s ++ r → Key s r u escape_free → key_at x ≡ got (u, escape_free) r
-key_in_front {s = s} {u = u} {r = r} {escape_free = escape_free} f e k = ap key_at (f ∙ e) ∙ key_of (s ++ r) (u, escape_free) r (key_complete k)
+key_in_front : {x y s u r : List ℕ} {escape_free : Bool} → x ≡ y → y ≡ s ++ r → Key s r u escape_free → key_ahead x ≡ got (u, escape_free) r
+key_in_front {s = s} {u = u} {r = r} {escape_free = escape_free} f e k = ap key_ahead (f ∙ e) ∙ key_of (s ++ r) (u, escape_free) r (key_complete k)
 
 -- and refused only where memory runs out
-pub key_memory : (x y s u r : List ℕ) (escape_free : Bool) (e : Refusal) → x ≡ y → Refuses e (outcome (key_at x)) → y ≡ s ++ r → Key s r u escape_free → e ≡ refusal.OutOfMemory
+pub key_memory : (x y s u r : List ℕ) (escape_free : Bool) (e : Refusal) → x ≡ y → Refuses e (outcome (key_ahead x)) → y ≡ s ++ r → Key s r u escape_free → e ≡ refusal.OutOfMemory
 key_memory x y s u r escape_free e f h split k = of_memory e (u, escape_free) r (subst (λ z. Refuses e (outcome z)) (key_in_front f split k) h)
 
-pub escape_free_key_memory : (x y s u r : List ℕ) (e : Refusal) → x ≡ y → Refuses e (outcome (key_at x)) → SparesEscapeFree e (key_at x) → y ≡ s ++ r → Key s r u true → ⊥
+pub escape_free_key_memory : (x y s u r : List ℕ) (e : Refusal) → x ≡ y → Refuses e (outcome (key_ahead x)) → SparesEscapeFree e (key_ahead x) → y ≡ s ++ r → Key s r u true → ⊥
 escape_free_key_memory x y s u r e f h spares split k = spares (key_memory x y s u r true e f h split k) u r (key_in_front f split k)
 
 pub made_of_memory : (s : Cursor) (r : Refusal) (e : Error) → r ≡ refusal.OutOfMemory → MadeOf s r e → LacksMemory e

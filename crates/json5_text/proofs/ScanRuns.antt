@@ -16,7 +16,7 @@ use Rattle.json5_text.specs.declared.texts.Kind.TheVariants as kind
 use Rattle.json5_text.specs.declared.texts.Quote.{Quote}
 use Rattle.json5_text.specs.declared.texts.Quote.TheVariants as quotes
 use Rattle.json5_text.specs.Scan.{SkipsAll}
-use Rattle.json5_text.specs.ScanTexts.{quote_of, rest_of, past, ends_early, text_at, string_at, is_raw_in, Run, SkipsRaw}
+use Rattle.json5_text.specs.ScanTexts.{quote_of, after_first_char, past, ends_early, text_at, string_at, is_raw_in, Run, SkipsRaw}
 use Rattle.json5_text.proofs.ScanBytes.{no_chars}
 
 -- ---- characters that stand for themselves
@@ -25,12 +25,12 @@ pub quote_is : (q : Quote) → is_quote (quote_of q) ≡ true
 quote_is quotes.Double = refl
 quote_is quotes.Single = refl
 
-rest_twice : (k : Kind) → rest_of (rest_of k) ≡ rest_of k
+rest_twice : (k : Kind) → after_first_char (after_first_char k) ≡ after_first_char k
 rest_twice kind.Name = refl
 rest_twice kind.NameRest = refl
 rest_twice (kind.String q) = refl
 
-pub past_rest : (k : Kind) (raw : List ℕ) → past (rest_of k) raw ≡ rest_of k
+pub past_rest : (k : Kind) (raw : List ℕ) → past (after_first_char k) raw ≡ after_first_char k
 past_rest k [] = refl
 past_rest k (c ∷ raw) = rest_twice k
 
@@ -42,7 +42,7 @@ both : (a b : Bool) → (not a && b) ≡ true → (a ≡ false) × (b ≡ true)
 both true b h = absurd (cc)
 both false b h = (refl, h)
 
-one_raw : (k : Kind) (c : ℕ) (x : List ℕ) → is_raw_in k c ≡ true → text_at k (c ∷ x) ≡ put (c ∷ []) true (text_at (rest_of k) x)
+one_raw : (k : Kind) (c : ℕ) (x : List ℕ) → is_raw_in k c ≡ true → text_at k (c ∷ x) ≡ put (c ∷ []) true (text_at (after_first_char k) x)
 one_raw kind.Name c x h = let f = both (c == 92) (is_identifier_start c) h in start_raw c x f.0 f.1 ∙ ap (put (c ∷ []) true) (sym (rest_is x))
 one_raw kind.NameRest c x h = let f = both (c == 92) (is_identifier_part c) h in rest_is (c ∷ x) ∙ name_raw c x f.0 f.1 ∙ ap (put (c ∷ []) true) (sym (rest_is x))
 one_raw (kind.String q) c x h =
@@ -54,20 +54,20 @@ put_put u v true q (got a r) = ap (λ t. got (t, q && a.1) r) (sym (append_assoc
 put_put u v false q (got a r) = ap (λ t. got (t, false) r) (sym (append_assoc u v a.0))
 put_put u v p q (bad e z) = refl
 
-each_read : (k : Kind) (raw x : List ℕ) → Each (is_raw_in (rest_of k)) raw → text_at (rest_of k) (raw ++ x) ≡ put raw true (text_at (rest_of k) x)
-each_read k [] x e = put_none (text_at (rest_of k) x)
+each_read : (k : Kind) (raw x : List ℕ) → Each (is_raw_in (after_first_char k)) raw → text_at (after_first_char k) (raw ++ x) ≡ put raw true (text_at (after_first_char k) x)
+each_read k [] x e = put_none (text_at (after_first_char k) x)
 each_read k (c ∷ raw) x (char h e) =
-    one_raw (rest_of k) c (raw ++ x) h ∙ ap (λ j. put (c ∷ []) true (text_at j (raw ++ x))) (rest_twice k) ∙ ap (put (c ∷ []) true) (each_read k raw x e) ∙ put_put (c ∷ []) raw true true (text_at (rest_of k) x)
+    one_raw (after_first_char k) c (raw ++ x) h ∙ ap (λ j. put (c ∷ []) true (text_at j (raw ++ x))) (rest_twice k) ∙ ap (put (c ∷ []) true) (each_read k raw x e) ∙ put_put (c ∷ []) raw true true (text_at (after_first_char k) x)
 
 run_read : (k : Kind) (raw x : List ℕ) → Run k raw → text_at k (raw ++ x) ≡ put raw true (text_at (past k raw) x)
 run_read k [] x e = put_none (text_at k x)
-run_read k (c ∷ raw) x e = one_raw k c (raw ++ x) e.0 ∙ ap (put (c ∷ []) true) (each_read k raw x e.1) ∙ put_put (c ∷ []) raw true true (text_at (rest_of k) x)
+run_read k (c ∷ raw) x e = one_raw k c (raw ++ x) e.0 ∙ ap (put (c ∷ []) true) (each_read k raw x e.1) ∙ put_put (c ∷ []) raw true true (text_at (after_first_char k) x)
 
-run_each : (k : Kind) (raw : List ℕ) → Each (is_raw_in (rest_of k)) raw → Run (rest_of k) raw
+run_each : (k : Kind) (raw : List ℕ) → Each (is_raw_in (after_first_char k)) raw → Run (after_first_char k) raw
 run_each k [] e = tt
 run_each k (c ∷ raw) (char h e) = (h, subst (λ j. Each (is_raw_in j) raw) (sym (rest_twice k)) e)
 
-pub all_raw : (k : Kind) (whole rest : List ℕ) → SkipsAll (is_raw_in (rest_of k)) whole rest → SkipsRaw (rest_of k) whole rest
+pub all_raw : (k : Kind) (whole rest : List ℕ) → SkipsAll (is_raw_in (after_first_char k)) whole rest → SkipsRaw (after_first_char k) whole rest
 all_raw k whole rest s = record {
   passed = s.passed;
   split = s.split;
@@ -78,10 +78,10 @@ all_raw k whole rest s = record {
 pub past_none : (k : Kind) (run : List ℕ) → length run ≡ 0 → past k (chars run) ≡ k
 past_none k run e = rw (no_chars run e) refl
 
-pub past_some : (k : Kind) (run : List ℕ) → IsUtf8 run → (length run ≡ 0 → ⊥) → past k (chars run) ≡ rest_of k
+pub past_some : (k : Kind) (run : List ℕ) → IsUtf8 run → (length run ≡ 0 → ⊥) → past k (chars run) ≡ after_first_char k
 past_some k run u n = by_chars (chars run) (encodes-chars run u)
   where
-    by_chars : (xs : List ℕ) → encode_utf8_all xs ≡ run → past k xs ≡ rest_of k
+    by_chars : (xs : List ℕ) → encode_utf8_all xs ≡ run → past k xs ≡ after_first_char k
     by_chars [] e = absurd (n (ap length (sym e)))
     by_chars (c ∷ xs) e = refl
 

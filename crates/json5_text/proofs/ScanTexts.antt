@@ -21,7 +21,7 @@ use Rattle.json5_text.specs.declared.texts.Stop.{Stop}
 use Rattle.json5_text.specs.declared.texts.Stop.TheVariants as stop
 use Rattle.json5_text.specs.Outcome.{outcome}
 use Rattle.json5_text.specs.Refused.{Refuses}
-use Rattle.json5_text.specs.ScanTexts.{quote_of, rest_of, past, text_at, fits, SkipsRaw, item_of_name, item, GoesOn, AnswersStop, IsRun}
+use Rattle.json5_text.specs.ScanTexts.{quote_of, after_first_char, past, text_at, fits_name, SkipsRaw, item_of_name, item, ReadsUpTo, AnswersStop, IsRun}
 use Rattle.json5_text.proofs.ScanEscapes.{refuses_as}
 use Rattle.json5_text.proofs.ScanRuns.{quote_is, rest_is, put_put, run_past}
 
@@ -36,15 +36,15 @@ one_refused (got n r) c p e = absurd (cc)
 one_refused (bad d q) c p e = cc
 
 -- an escape that is read, and then the rest
-item_at : (k : Kind) (y v z : List ℕ) → item k (92 ∷ y) y ≡ got v z → (text_at k (92 ∷ y) ≡ put v false (text_at (rest_of k) z)) × (length z ≤ length y)
+item_at : (k : Kind) (y v z : List ℕ) → item k (92 ∷ y) y ≡ got v z → (text_at k (92 ∷ y) ≡ put v false (text_at (after_first_char k) z)) × (length z ≤ length y)
 item_at kind.Name y v z h =
     let n = one_read _ v z h in
-    let s = subst (EscapedSound (fits true) (92 ∷ y)) n.1 (escaped_sound (fits true) y) in
+    let s = subst (EscapedSound (fits_name true) (92 ∷ y)) n.1 (escaped_sound (fits_name true) y) in
     let l : length z < length (92 ∷ y) = shorter (92 ∷ y) s.0 z s.1 (unicode_head s.2) in
     (start_escaped y z n.0 n.1 ∙ ap (λ w. put w false (name_rest z)) (sym n.2) ∙ ap (put v false) (sym (rest_is z)), omega arith)
 item_at kind.NameRest y v z h =
     let n = one_read _ v z h in
-    let s = subst (EscapedSound (fits false) (92 ∷ y)) n.1 (escaped_sound (fits false) y) in
+    let s = subst (EscapedSound (fits_name false) (92 ∷ y)) n.1 (escaped_sound (fits_name false) y) in
     let l : length z < length (92 ∷ y) = shorter (92 ∷ y) s.0 z s.1 (unicode_head s.2) in
     (rest_is (92 ∷ y) ∙ name_escaped y z n.0 n.1 ∙ ap (λ w. put w false (name_rest z)) (sym n.2) ∙ ap (put v false) (sym (rest_is z)), omega arith)
 item_at (kind.String q) y v z h =
@@ -57,21 +57,21 @@ fault_at kind.Name y c p h = start_bad y c p (one_refused _ c p h)
 fault_at kind.NameRest y c p h = rest_is (92 ∷ y) ∙ name_bad y c p (one_refused _ c p h)
 fault_at (kind.String q) y c p h = string_is (quote_of q) (92 ∷ y) ∙ rest_bad (quote_of q) y c p (quote_no_backslash (quote_of q) (quote_is q)) h
 
-pub item_read : (k : Kind) (x y v z : List ℕ) → x ≡ 92 ∷ y → item k x y ≡ got v z → (text_at k x ≡ put v false (text_at (rest_of k) z)) × (length z ≤ length y)
-item_read k x y v z e = subst (λ t. item k t y ≡ got v z → (text_at k t ≡ put v false (text_at (rest_of k) z)) × (length z ≤ length y)) (sym e) (item_at k y v z)
+pub item_read : (k : Kind) (x y v z : List ℕ) → x ≡ 92 ∷ y → item k x y ≡ got v z → (text_at k x ≡ put v false (text_at (after_first_char k) z)) × (length z ≤ length y)
+item_read k x y v z e = subst (λ t. item k t y ≡ got v z → (text_at k t ≡ put v false (text_at (after_first_char k) z)) × (length z ≤ length y)) (sym e) (item_at k y v z)
 
 pub item_refused : (k : Kind) (r : Refusal) (x y : List ℕ) → x ≡ 92 ∷ y → Refuses r (outcome (item k x y)) → Refuses r (outcome (text_at k x))
 item_refused k r x y e = refuses_as r (item k x y) (text_at k x) (λ c p. subst (λ t. item k t y ≡ bad c p → text_at k t ≡ bad c p) (sym e) (fault_at k y c p))
 
 -- ---- what is read up to an escape, and from there on
 
-pub goes_past : (whole next : Read (List ℕ × Bool)) (u v : List ℕ) (p q : Bool) (s : Stop) → whole ≡ put u p next → GoesOn next v q s → GoesOn whole (u ++ v) (p && q) s
+pub goes_past : (whole next : Read (List ℕ × Bool)) (u v : List ℕ) (p q : Bool) (s : Stop) → whole ≡ put u p next → ReadsUpTo next v q s → ReadsUpTo whole (u ++ v) (p && q) s
 goes_past whole next u v p q (stop.End rest) e g = record { read = e ∙ ap (put u p) g.read; text = g.text }
 goes_past whole next u v p q (stop.Escape k x y) e g = (e ∙ ap (put u p) g.0 ∙ put_put u v p q (text_at k (chars x.now)), g.1)
 
 pub run_ends : (k j : Kind) (whole run rest : List ℕ) (end : Stop) (s : SkipsRaw k whole rest) → chars run ≡ s.passed → j ≡ past k (chars run) → IsUtf8 run → AnswersStop j rest (Ok end) → IsRun k whole run end
 run_ends k j whole run rest end s e f u g = record {
-  goes_on = subst (λ t. GoesOn (text_at k (chars whole)) t true end) (append-nil (chars run)) (goes_past _ _ (chars run) [] true true end (run_past k j whole run rest s e f) g.0);
+  goes_on = subst (λ t. ReadsUpTo (text_at k (chars whole)) t true end) (append-nil (chars run)) (goes_past _ _ (chars run) [] true true end (run_past k j whole run rest s e f) g.0);
   left = let l : length (chars whole) ≡ length s.passed + length (chars rest) = ap length s.split ∙ length-append s.passed (chars rest) in let m = g.1 in omega arith;
   text = u;
 }
@@ -104,7 +104,7 @@ pub escape_not_escape_free : (k : Kind) (x y u r : List ℕ) → x ≡ 92 ∷ y 
 escape_not_escape_free k x y u r e f = by_item (item k x y) refl
   where
     by_item : (res : Read (List ℕ)) → item k x y ≡ res → ⊥
-    by_item (got v z) h = let p = (plain_put v u r false (text_at (rest_of k) z) (sym (item_read k x y v z e h).0 ∙ f)).0 in absurd (cc)
+    by_item (got v z) h = let p = (plain_put v u r false (text_at (after_first_char k) z) (sym (item_read k x y v z e h).0 ∙ f)).0 in absurd (cc)
     by_item (bad c p) h =
         let g : text_at k x ≡ bad c p = subst (λ t. item k t y ≡ bad c p → text_at k t ≡ bad c p) (sym e) (fault_at k y c p) h in
         absurd (cc)
@@ -132,5 +132,5 @@ pub escape_unicode : (c : ℕ) (b xs ys : List ℕ) → xs ≡ c ∷ ys → c �
 unfolding name_escape
 escape_unicode c b xs ys e h = rw (e, h) refl
 
-pub item_misfits : (first : Bool) (b xs ys : List ℕ) (n : ℕ) → name_escape b xs ≡ got n ys → fits first n ≡ false → item_of_name first b xs ≡ bad (Some ExpectedIdentifier) (here b)
-item_misfits first b xs ys n e h = ap (λ z. and_then (and_then z (fit (fits first) b)) one_char) e ∙ rw h refl
+pub item_misfits : (first : Bool) (b xs ys : List ℕ) (n : ℕ) → name_escape b xs ≡ got n ys → fits_name first n ≡ false → item_of_name first b xs ≡ bad (Some ExpectedIdentifier) (here b)
+item_misfits first b xs ys n e h = ap (λ z. and_then (and_then z (fit (fits_name first) b)) one_char) e ∙ rw h refl

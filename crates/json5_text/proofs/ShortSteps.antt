@@ -12,7 +12,7 @@ use Rattle.json5_grammar.specs.Model.Collections.{IsSign}
 use Rattle.json5_grammar.specs.Model.ReadBlanks.{skip, between}
 use Rattle.json5_grammar.proofs.Basics.{eq_from}
 use Rattle.json5_grammar.proofs.BlanksSound.{gap_blanks}
-use Rattle.json5_text.specs.TokenResults.{Gives}
+use Rattle.json5_text.specs.TokenResults.{GivesValue}
 use Rattle.json5_text.specs.Cursor.{Cursor}
 use Rattle.json5_text.specs.Scan.{Leaves, LeavesAt}
 use Rattle.json5_text.specs.Short.{IsStep, FindsStep, IsInFront, Stepped, FindsSign, TakesShortSign}
@@ -36,12 +36,12 @@ in_front sign (c ∷ x) y true h u e some k =
     (IsCharBoundary-after_ascii (c ∷ x) 0 u (omega arith) (omega (arith, same, h)), chars_past_char (c ∷ x) x sign u front)
 in_front sign (c ∷ x) y false h u e some k = ends_chars (λ d. d == sign) (c ∷ x) (sign_ascii sign h) u (rw e at k)
 
-sign_after : (sign : ℕ) (x rest : List ℕ) → Gives (skip between x) tt rest → chars rest ≡ sign ∷ chars (drop 1 rest) → IsSign sign x (chars (drop 1 rest))
+sign_after : (sign : ℕ) (x rest : List ℕ) → GivesValue (skip between x) tt rest → chars rest ≡ sign ∷ chars (drop 1 rest) → IsSign sign x (chars (drop 1 rest))
 sign_after sign x rest g f =
     let k = blanks_passed x x (chars rest) refl g.read in
     record { front = k.gap; split = k.split ∙ ap (λ z. k.gap ++ z) f; blank = gap_blanks sign (chars (drop 1 rest)) (subst (Gap k.gap) f k.blank) }
 
-pub member_found : (text rest : List ℕ) (closing left : ℕ) (b : Bool) → Gives (skip between (chars text)) tt rest → IsInFront closing rest b → left ≡ length rest → FindsStep closing false text (record { at_closing = b; left = left })
+pub member_found : (text rest : List ℕ) (closing left : ℕ) (b : Bool) → GivesValue (skip between (chars text)) tt rest → IsInFront closing rest b → left ≡ length rest → FindsStep closing false text (record { at_closing = b; left = left })
 member_found text rest closing left true g f l =
     let k = blanks_passed (chars text) (chars text) (chars rest) refl g.read in
     record { passed = k.gap; rest = rest; split = k.split; step = (chars (drop 1 rest), sign_after closing (chars text) rest g f.1, f.1); counted = l; text_rest = g.text }
@@ -49,7 +49,7 @@ member_found text rest closing left false g f l =
     let k = blanks_passed (chars text) (chars text) (chars rest) refl g.read in
     record { passed = k.gap; rest = rest; split = k.split; step = (record { gap = k.gap; split = k.split; is_gap = k.blank; solid = k.solid }, f); counted = l; text_rest = g.text }
 
-pub closing_found : (text rest : List ℕ) (closing left : ℕ) → Gives (skip between (chars text)) tt rest → IsInFront closing rest true → left ≡ length rest → FindsStep closing true text (record { at_closing = true; left = left })
+pub closing_found : (text rest : List ℕ) (closing left : ℕ) → GivesValue (skip between (chars text)) tt rest → IsInFront closing rest true → left ≡ length rest → FindsStep closing true text (record { at_closing = true; left = left })
 closing_found text rest closing left g f l =
     let k = blanks_passed (chars text) (chars text) (chars rest) refl g.read in
     record { passed = k.gap; rest = rest; split = k.split; step = (chars (drop 1 rest), inl (sign_after closing (chars text) rest g f.1), f.1); counted = l; text_rest = g.text }
@@ -58,7 +58,7 @@ after_comma : (closing : ℕ) (at_closing : Bool) (x y z : List ℕ) → IsSign 
 after_comma closing true x y z c (r, e, f) = (r, inr (z, c, e), f)
 after_comma closing false x y z c (s, f) = ((z, c, s), f)
 
-comma_found : (text rest next : List ℕ) (closing : ℕ) (found : Step) → Gives (skip between (chars text)) tt rest → IsInFront comma_sign rest true → next ≡ drop 1 rest → FindsStep closing false next found → FindsStep closing true text found
+comma_found : (text rest next : List ℕ) (closing : ℕ) (found : Step) → GivesValue (skip between (chars text)) tt rest → IsInFront comma_sign rest true → next ≡ drop 1 rest → FindsStep closing false next found → FindsStep closing true text found
 comma_found text rest next closing found g f n k =
     let b = blanks_passed (chars text) (chars text) (chars rest) refl g.read in
     let front : chars rest ≡ comma_sign ∷ chars next = f.1 ∙ ap (λ z. comma_sign ∷ chars z) (sym n) in
@@ -72,7 +72,7 @@ comma_found text rest next closing found g f n k =
       text_rest = k.text_rest;
     }
 
-pub if_comma : (text rest next : List ℕ) (closing : ℕ) (o : Option Step) → Gives (skip between (chars text)) tt rest → IsInFront comma_sign rest true → next ≡ drop 1 rest → IfSome o (FindsStep closing false next) → IfSome o (FindsStep closing true text)
+pub if_comma : (text rest next : List ℕ) (closing : ℕ) (o : Option Step) → GivesValue (skip between (chars text)) tt rest → IsInFront comma_sign rest true → next ≡ drop 1 rest → IfSome o (FindsStep closing false next) → IfSome o (FindsStep closing true text)
 if_comma text rest next closing None g f n k = tt
 if_comma text rest next closing (Some found) g f n k = comma_found text rest next closing found g f n k
 
@@ -85,7 +85,7 @@ stepped {closing = closing} {comma_due = comma_due} old new b k e left is =
 
 -- ---- a sign alone
 
-pub sign_found : (sign : ℕ) (text solid : List ℕ) → Gives (skip between (chars text)) tt solid → IsInFront sign solid true → FindsSign sign text (length solid - 1)
+pub sign_found : (sign : ℕ) (text solid : List ℕ) → GivesValue (skip between (chars text)) tt solid → IsInFront sign solid true → FindsSign sign text (length solid - 1)
 sign_found sign text solid g f = record {
   rest = chars (drop 1 solid);
   found = sign_after sign (chars text) solid g f.1;

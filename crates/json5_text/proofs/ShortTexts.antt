@@ -19,12 +19,12 @@ use Rattle.json5_grammar.proofs.NumberTests.{front_each, rest_stops}
 use Rattle.json5_grammar.proofs.ValuesSound.{text_stops}
 use Rattle.json5_text.specs.ByteRuns.{is_ascii_start, is_ascii_part, is_plain_ascii, IsAsciiName}
 use Rattle.json5_text.specs.Cursor.{Cursor}
-use Rattle.json5_text.specs.TextTokens.{StandsAt}
+use Rattle.json5_text.specs.TextTokens.{IsSliceAt}
 use Rattle.json5_text.specs.Outcome.{bytes_in}
 use Rattle.json5_text.specs.Scan.{InText, Leaves, LeavesAt, SkipsAll}
 use Rattle.json5_text.specs.ScanTexts.{quote_of}
 use Rattle.json5_text.specs.Short.{IsInFront}
-use Rattle.json5_text.specs.ShortTexts.{ReadsEscapeFreeString, ReadsEscapeFreeKey, IsEscapeFreeString, IsEscapeFreeKey, TookEscapeFree, StandsBefore, FindsEscapeFree, HasSolid, FindsFirst}
+use Rattle.json5_text.specs.ShortTexts.{ReadsEscapeFreeString, ReadsEscapeFreeKey, IsEscapeFreeString, IsEscapeFreeKey, TookEscapeFree, IsSliceBefore, FindsEscapeFree, HasSolid, FindsFirst}
 use Rattle.json5_text.specs.declared.short_texts.FoundText.{FoundText}
 use Rattle.json5_text.specs.declared.texts.Quote.{Quote}
 use Rattle.json5_text.specs.declared.texts.Quote.TheVariants as quotes
@@ -200,7 +200,7 @@ pub record Found (IsRead : List ℕ → List ℕ → List ℕ → Type 0) (x : L
   pub rest : List ℕ
   pub split : x ≡ taken ++ rest
   pub read : IsRead x spelled rest
-  pub place : StandsBefore x spelled found.from found.to
+  pub place : IsSliceBefore x spelled found.from found.to
   pub counted : found.left ≡ bytes_in rest
 
 pub spaced : {IsToken IsRead : List ℕ → List ℕ → List ℕ → Type 0} {found : FoundText} (text x y : List ℕ) → ReadsToken IsToken IsRead → text ≡ x → skip between text ≡ skip between y → FindsFirst IsToken y found → Found IsRead x found
@@ -225,10 +225,10 @@ spaced text x y reads f e (k, solid) =
 
 -- ---- in the scanner's text
 
-from_fits : {text x u : List ℕ} {offset end from to : ℕ} → InText text offset end → chars (drop offset text) ≡ x → StandsBefore x u from to → from ≤ end
+from_fits : {text x u : List ℕ} {offset end from to : ℕ} → InText text offset end → chars (drop offset text) ≡ x → IsSliceBefore x u from to → from ≤ end
 from_fits {u = u} k e p = fits_left _ _ k (whole_split p.before (u ++ p.rest) k (e ∙ p.split)) p.begins
 
-to_fits : {text x u : List ℕ} {offset end from to : ℕ} → InText text offset end → chars (drop offset text) ≡ x → StandsBefore x u from to → to ≤ from
+to_fits : {text x u : List ℕ} {offset end from to : ℕ} → InText text offset end → chars (drop offset text) ≡ x → IsSliceBefore x u from to → to ≤ from
 to_fits {u = u} k e p = let b = bytes_append u p.rest in let f = p.begins in let t = p.ends in omega arith
 
 pub begins_inside : {IsRead : List ℕ → List ℕ → List ℕ → Type 0} {text x : List ℕ} {offset end : ℕ} {found : FoundText} → InText text offset end → chars (drop offset text) ≡ x → Found IsRead x found → found.from ≤ end
@@ -237,7 +237,7 @@ begins_inside k e f = from_fits k e f.place
 pub ends_inside : {IsRead : List ℕ → List ℕ → List ℕ → Type 0} {text x : List ℕ} {offset end : ℕ} {found : FoundText} → InText text offset end → chars (drop offset text) ≡ x → Found IsRead x found → found.to ≤ end
 ends_inside k e f = let a = from_fits k e f.place in let b = to_fits k e f.place in omega arith
 
-stands_at : {text x u : List ℕ} {offset end from to : ℕ} (s : Cursor) → InText text offset end → chars text ≡ s.input → chars (drop offset text) ≡ x → StandsBefore x u from to → StandsAt s.input u (end - from) (end - to)
+stands_at : {text x u : List ℕ} {offset end from to : ℕ} (s : Cursor) → InText text offset end → chars text ≡ s.input → chars (drop offset text) ≡ x → IsSliceBefore x u from to → IsSliceAt s.input u (end - from) (end - to)
 stands_at {text = text} {u = u} {offset = offset} {end = end} {from = from} {to = to} s k i e p =
     let whole = whole_split p.before (u ++ p.rest) k (e ∙ p.split) in
     let before = chars (take offset text) ++ p.before in

@@ -15,7 +15,7 @@ use Rattle.json5_grammar.specs.Model.ReadNumbers as model
 use Rattle.json5_grammar.proofs.NumbersRead.{complete}
 use Rattle.json5_grammar.proofs.WholesWritten.{literal_alone}
 use Rattle.std.proofs.lemmas.Int.{ints}
-use Rattle.json5_text.specs.TokenResults.{Gives}
+use Rattle.json5_text.specs.TokenResults.{GivesValue}
 use Rattle.json5_grammar.specs.Model.ReadNumbers.{front_of, rest_of}
 use Rattle.json5_grammar.proofs.NumberTests.{front_each, digit_nonzero, nonzero_not_48, nonzero_digit, digit_no_sign}
 use Rattle.json5_grammar.proofs.Basics.{eq_from}
@@ -77,7 +77,7 @@ not_lengthened : (p q : ℕ → Bool) (r : List ℕ) → ((c : ℕ) → p c ≡ 
 not_lengthened p q [] f n = tt
 not_lengthened p q (c ∷ r) f n = f c n
 
-pub short_bare : (s r : List ℕ) (n : ℕ) (z : ℤ) → IsShort s n r → z ≡ pos n → Gives (model.number (chars s)) (whole z) r
+pub short_bare : (s r : List ℕ) (n : ℕ) (z : ℤ) → IsShort s n r → z ≡ pos n → GivesValue (model.number (chars s)) (whole z) r
 short_bare s r n z k e =
     let num : Num k.digits (whole (pos (spelled 10 0 k.digits))) = is_integer no_sign (literal_alone (integer k.integer)) (let l = k.small in let v = k.value_is in (omega (arith, ints), omega (arith, ints))) in
     let stops = not_lengthened lengthens_digits (lengthens k.digits) (chars r) (λ c h. digits_no_sign k.digits k.integer c ∙ body_ends k.digits k.integer c h) k.ends in
@@ -86,7 +86,7 @@ short_bare s r n z k e =
       text = k.text_rest;
     }
 
-pub short_minus : (s t r : List ℕ) (n : ℕ) (z : ℤ) → chars s ≡ 45 ∷ chars t → IsShort t n r → z ≡ neg_ℤ (pos n) → Gives (model.number (chars s)) (whole z) r
+pub short_minus : (s t r : List ℕ) (n : ℕ) (z : ℤ) → chars s ≡ 45 ∷ chars t → IsShort t n r → z ≡ neg_ℤ (pos n) → GivesValue (model.number (chars s)) (whole z) r
 short_minus s t r n z m k e =
     let num : Num (45 ∷ k.digits) (whole (neg_ℤ (pos (spelled 10 0 k.digits)))) = is_integer minus (literal_alone (integer k.integer)) (let l = k.small in let v = k.value_is in (omega (arith, ints), omega (arith, ints))) in
     let stops = not_lengthened lengthens_digits (lengthens (45 ∷ k.digits)) (chars r) (λ c h. body_ends k.digits k.integer c h) k.ends in

@@ -13,7 +13,7 @@ use Rattle.json5_text.specs.declared.text_token.TextToken.{TextToken}
 use Rattle.json5_text.specs.TokenResults.{GivesText, IsCow}
 use Rattle.json5_text.specs.Cows.{cow_bytes, is_borrowed}
 use Rattle.json5_text.specs.Cursor.{Cursor}
-use Rattle.json5_text.specs.TextTokens.{StandsAt, Spells}
+use Rattle.json5_text.specs.TextTokens.{IsSliceAt, Spells}
 use Rattle.json5_text.specs.Outcome.{bytes_in}
 use Rattle.json5_text.specs.Scan.{InText}
 use Rattle.json5_text.specs.ScanTextTokens.{IsTokenOf, IsTokenIn}
@@ -96,7 +96,7 @@ token_inside {text = text} {offset = offset} s x u escape_free t inside e f g is
     subst (λ z. Spells z u escape_free t) (whole ∙ e) (is before (inside.counted ∙ left_counted text inside.is_text ∙ sym (ap bytes_in whole)))
 
 -- the part of a text where u stands
-pub stands_between : (text u : List ℕ) (start end : ℕ) (part : Option (Bor (List ℕ))) (other : Bor (List ℕ)) → IsUtf8 text → GetsRange text start end part → StandsAt (chars text) u start end → (unwrap_or part other).now ≡ encode_utf8_all u
+pub stands_between : (text u : List ℕ) (start end : ℕ) (part : Option (Bor (List ℕ))) (other : Bor (List ℕ)) → IsUtf8 text → GetsRange text start end part → IsSliceAt (chars text) u start end → (unwrap_or part other).now ≡ encode_utf8_all u
 stands_between text u start end (Some x) other utf8 gets at =
     let h : Halves text at.before (u ++ at.rest) = record { is_text = utf8; split = at.split } in
     gets.0 ∙ rw (at.ends, at.starts) (part_between u at.rest h)

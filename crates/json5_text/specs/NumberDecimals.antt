@@ -12,16 +12,16 @@ use Rattle.json5_text.specs.declared.decimal.Kept.TheVariants as kept
 use Rattle.json5_text.specs.declared.decimal.Size.{Size}
 use Rattle.json5_text.specs.declared.decimal.Size.TheVariants as size
 
-abbrev pub decimal_of : Kept → Decimal
-decimal_of (kept.Infinite negative) = infinite negative
-decimal_of (kept.NotANumber negative) = nan negative
-decimal_of (kept.Few negative exponent digits) = finite negative digits exponent
-decimal_of (kept.Many negative exponent digits) = finite negative (string_bytes digits.value) exponent
+abbrev pub kept_decimal : Kept → Decimal
+kept_decimal (kept.Infinite negative) = infinite negative
+kept_decimal (kept.NotANumber negative) = nan negative
+kept_decimal (kept.Few negative exponent digits) = finite negative digits exponent
+kept_decimal (kept.Many negative exponent digits) = finite negative (string_bytes digits.value) exponent
 
-abbrev pub is_minus : Decimal → Bool
-is_minus (infinite m) = m
-is_minus (nan m) = m
-is_minus (finite m ds e) = m
+abbrev pub has_minus : Decimal → Bool
+has_minus (infinite m) = m
+has_minus (nan m) = m
+has_minus (finite m ds e) = m
 
 abbrev pub is_infinity : Decimal → Bool
 is_infinity (infinite m) = true
@@ -52,7 +52,7 @@ sized negative size.NotANumber = nan negative
 sized negative (size.Finite digits exponent) = finite negative digits.now exponent
 
 -- this is what the decimal shows there; each decimal is normal
-pub record Shows {A : Type 0} (view : Decimal → A) (d : Decimal) (shown : A) : Type 0 where
+pub record ShowsDecimal {A : Type 0} (view : Decimal → A) (d : Decimal) (shown : A) : Type 0 where
   pub value : shown ≡ view d
   pub normal : Normal d
 

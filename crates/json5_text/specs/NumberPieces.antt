@@ -2,6 +2,6 @@
 use Rattle.std.specs.Prelude.{◌≡◌, ◌<◌, ℕ, List, ◌++◌, length}
 
 -- the text begins with this piece, which isn't empty, and rest follows it
-pub record IsFront (text piece rest : List ℕ) : Type 0 where
+pub record BeginsWithPiece (text piece rest : List ℕ) : Type 0 where
   pub parts : text ≡ piece ++ rest
   pub some : 0 < length piece

@@ -71,7 +71,7 @@ MadeOf s (refusal.UnpairedSurrogate escape left) e = LacksMemory e ⊎ (Says Non
 MadeOf s refusal.OutOfMemory e = LacksMemory e
 
 -- c is in front, and the rest follows it
-pub record Begins (whole : List ℕ) (c : ℕ) (rest : List ℕ) : Type 0 where
+pub record StartsWith (whole : List ℕ) (c : ℕ) (rest : List ℕ) : Type 0 where
   pub chars : chars whole ≡ c ∷ chars rest
   pub text : IsUtf8 rest
   pub shorter : length rest < length whole
@@ -79,7 +79,7 @@ pub record Begins (whole : List ℕ) (c : ℕ) (rest : List ℕ) : Type 0 where
 -- the first character and what follows it, if there is one
 abbrev pub IsFront : List ℕ → Option (ℕ × Bor (List ℕ)) → Type 0
 IsFront whole None = chars whole ≡ []
-IsFront whole (Some p) = Begins whole p.0 p.1.now
+IsFront whole (Some p) = StartsWith whole p.0 p.1.now
 
 -- all in front that passes the test is passed over
 pub record SkipsAll (p : ℕ → Bool) (whole rest : List ℕ) : Type 0 where

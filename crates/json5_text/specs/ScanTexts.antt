@@ -17,22 +17,22 @@ use Rattle.json5_text.specs.declared.texts.Stop.{Stop}
 use Rattle.json5_text.specs.declared.texts.Stop.TheVariants as stop
 use Rattle.json5_text.specs.declared.texts.Step.{Step}
 use Rattle.json5_text.specs.Scan.{AtEscape, in_list}
-use Rattle.json5_text.specs.TokenResults.{Gives, RefusesByCode, RefusesByFault}
+use Rattle.json5_text.specs.TokenResults.{GivesValue, RefusesByCode, RefusesByFault}
 
 abbrev pub quote_of : Quote → ℕ
 quote_of quotes.Double = double_quote
 quote_of quotes.Single = single_quote
 
 -- what is read after a character
-abbrev pub rest_of : Kind → Kind
-rest_of kind.Name = kind.NameRest
-rest_of kind.NameRest = kind.NameRest
-rest_of (kind.String q) = kind.String q
+abbrev pub after_first_char : Kind → Kind
+after_first_char kind.Name = kind.NameRest
+after_first_char kind.NameRest = kind.NameRest
+after_first_char (kind.String q) = kind.String q
 
 -- what is read after these characters
 abbrev pub past : Kind → List ℕ → Kind
 past k [] = k
-past k (c ∷ r) = rest_of k
+past k (c ∷ r) = after_first_char k
 
 -- the code of a text that ends in it
 abbrev pub ends_early : Kind → ErrorCode
@@ -65,9 +65,9 @@ AnswersQuote x (Err e) = RefusesByCode e (string_at x)
 -- ---- characters that stand for themselves
 
 -- a character that may begin a name, or go on one
-abbrev pub fits : Bool → ℕ → Bool
-fits true c = is_identifier_start c
-fits false c = is_identifier_part c
+abbrev pub fits_name : Bool → ℕ → Bool
+fits_name true c = is_identifier_start c
+fits_name false c = is_identifier_part c
 
 abbrev pub is_raw_part : ℕ → Bool
 is_raw_part c = not (c == backslash) && is_identifier_part c
@@ -81,7 +81,7 @@ is_raw_in (kind.String q) c = is_raw (quote_of q) c
 -- characters that stand for themselves from there on
 abbrev pub Run : Kind → List ℕ → Type 0
 Run k [] = ⊤
-Run k (c ∷ r) = (is_raw_in k c ≡ true) × Each (is_raw_in (rest_of k)) r
+Run k (c ∷ r) = (is_raw_in k c ≡ true) × Each (is_raw_in (after_first_char k)) r
 
 -- all in front that stand for themselves are passed over
 pub record SkipsRaw (k : Kind) (whole rest : List ℕ) : Type 0 where
@@ -94,7 +94,7 @@ pub record SkipsRaw (k : Kind) (whole rest : List ℕ) : Type 0 where
 
 -- a name's escape, x from the backslash on and y after it, whose character may stand there
 abbrev pub item_of_name : Bool → List ℕ → List ℕ → Read (List ℕ)
-item_of_name first x y = and_then (and_then (name_escape x y) (fit (fits first) x)) one_char
+item_of_name first x y = and_then (and_then (name_escape x y) (fit (fits_name first) x)) one_char
 
 -- what an escape spells, x from the backslash on and y after it
 abbrev pub item : Kind → List ℕ → List ℕ → Read (List ℕ)
@@ -105,9 +105,9 @@ item (kind.String q) x y = escape_at x y
 -- ---- where a run ends
 
 -- reading gives u up to there
-abbrev pub GoesOn : Read (List ℕ × Bool) → List ℕ → Bool → Stop → Type 0
-GoesOn reading u escape_free (stop.End rest) = Gives reading (u, escape_free) rest.now
-GoesOn reading u escape_free (stop.Escape k escape after) = (reading ≡ put u escape_free (text_at k (chars escape.now))) × AtEscape escape.now after.now
+abbrev pub ReadsUpTo : Read (List ℕ × Bool) → List ℕ → Bool → Stop → Type 0
+ReadsUpTo reading u escape_free (stop.End rest) = GivesValue reading (u, escape_free) rest.now
+ReadsUpTo reading u escape_free (stop.Escape k escape after) = (reading ≡ put u escape_free (text_at k (chars escape.now))) × AtEscape escape.now after.now
 
 -- how many characters are left to be read there
 abbrev pub left_in : Stop → ℕ
@@ -116,12 +116,12 @@ left_in (stop.Escape k escape after) = length (chars escape.now)
 
 -- where the run ends that the text begins with, and nothing is before it; or the fault
 abbrev pub AnswersStop : Kind → List ℕ → Result Stop Refusal → Type 0
-AnswersStop k whole (Ok end) = GoesOn (text_at k (chars whole)) [] true end × (left_in end ≤ length (chars whole))
+AnswersStop k whole (Ok end) = ReadsUpTo (text_at k (chars whole)) [] true end × (left_in end ≤ length (chars whole))
 AnswersStop k whole (Err e) = RefusesByCode e (text_at k (chars whole))
 
 -- the run in front ends there
 pub record IsRun (k : Kind) (whole run : List ℕ) (end : Stop) : Type 0 where
-  pub goes_on : GoesOn (text_at k (chars whole)) (chars run) true end
+  pub goes_on : ReadsUpTo (text_at k (chars whole)) (chars run) true end
   pub left : left_in end ≤ length (chars whole)
   pub text : IsUtf8 run
 
@@ -131,12 +131,12 @@ AnswersRun k whole (Ok p) = IsRun k whole p.0.now p.1
 AnswersRun k whole (Err e) = RefusesByCode e (text_at k (chars whole))
 
 -- the escape in front spells this, and the run after it ends there
-pub record IsStep (k : Kind) (escape after : List ℕ) (step : Step) : Type 0 where
-  pub goes_on : GoesOn (text_at k (chars escape)) (in_list step.spelled ++ chars step.run.now) false step.stop
+pub record IsEscapeStep (k : Kind) (escape after : List ℕ) (step : Step) : Type 0 where
+  pub goes_on : ReadsUpTo (text_at k (chars escape)) (in_list step.spelled ++ chars step.run.now) false step.stop
   pub left : left_in step.stop ≤ length (chars after)
   pub text : IsUtf8 step.run.now
 
 -- the escape in front and the run after it; or the fault
 abbrev pub AnswersStep : Kind → List ℕ → List ℕ → Result Step Refusal → Type 0
-AnswersStep k escape after (Ok step) = IsStep k escape after step
+AnswersStep k escape after (Ok step) = IsEscapeStep k escape after step
 AnswersStep k escape after (Err e) = RefusesByFault e (text_at k (chars escape))

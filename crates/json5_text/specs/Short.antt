@@ -11,7 +11,7 @@ use Rattle.json5_text.specs.declared.short.ShortStep.{ShortStep}
 use Rattle.json5_text.specs.declared.short.ShortStep.TheVariants as short
 use Rattle.json5_text.specs.declared.short.ShortWhole.{ShortWhole}
 use Rattle.json5_text.specs.declared.short.Step.{Step}
-use Rattle.json5_text.specs.TokenResults.{Gives}
+use Rattle.json5_text.specs.TokenResults.{GivesValue}
 use Rattle.json5_text.specs.Cursor.{Cursor}
 use Rattle.json5_text.specs.Outcome.{bytes_in}
 
@@ -37,7 +37,7 @@ TakesShortWhole min max old new result = MatchOption result (new ≡ old) (λ nu
 
 -- the number is read in front and leaves this rest; it has at most 19 digits
 pub record IsShortWhole (text : List ℕ) (number : ℤ) (rest : List ℕ) : Type 0 where
-  pub gives : Gives (model.number (chars text)) (whole number) rest
+  pub gives : GivesValue (model.number (chars text)) (whole number) rest
   pub low : neg_ℤ (pos (10 ^ 19)) ≤ℤ number
   pub high : number ≤ℤ pos (10 ^ 19)
 

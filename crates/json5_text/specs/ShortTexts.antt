@@ -10,7 +10,7 @@ use Rattle.json5_grammar.specs.Language.Values.{Reads}
 use Rattle.json5_text.specs.declared.short_texts.Span.{Span}
 use Rattle.json5_text.specs.declared.short_texts.FoundText.{FoundText}
 use Rattle.json5_text.specs.Cursor.{Cursor}
-use Rattle.json5_text.specs.TextTokens.{StandsAt}
+use Rattle.json5_text.specs.TextTokens.{IsSliceAt}
 use Rattle.json5_text.specs.Outcome.{bytes_in}
 
 -- x begins with blanks and a string with the text u, which holds no escape, and r is left
@@ -25,7 +25,7 @@ ReadsEscapeFreeKey x u r = ReadsKey x u true r
 pub record TookEscapeFree (IsRead : List ℕ → List ℕ → List ℕ → Type 0) (old new : Cursor) (span : Span) : Type 0 where
   pub spelled : List ℕ
   pub read : IsRead old.unread spelled new.unread
-  pub stands : StandsAt old.input spelled span.start span.end
+  pub stands : IsSliceAt old.input spelled span.start span.end
   pub same : new.input ≡ old.input
 
 -- a string without an escape is taken, or nothing
@@ -38,12 +38,12 @@ TakesShortKey old new result = MatchOption result (new ≡ old) (λ span. TookEs
 
 -- these are the bytes of the text that stands there
 abbrev pub IsTextAt : List ℕ → Span → List ℕ → Type 0
-IsTextAt input span bytes = (u : List ℕ) → StandsAt input u span.start span.end → bytes ≡ encode_utf8_all u
+IsTextAt input span bytes = (u : List ℕ) → IsSliceAt input u span.start span.end → bytes ≡ encode_utf8_all u
 
 -- ---- what is found in front
 
 -- u stands in x, and so many bytes are left where it begins and where it ends
-pub record StandsBefore (x u : List ℕ) (from to : ℕ) : Type 0 where
+pub record IsSliceBefore (x u : List ℕ) (from to : ℕ) : Type 0 where
   pub before : List ℕ
   pub rest : List ℕ
   pub split : x ≡ before ++ (u ++ rest)
@@ -64,7 +64,7 @@ pub record FindsEscapeFree (IsToken : List ℕ → List ℕ → List ℕ → Typ
   pub rest : List ℕ
   pub split : x ≡ token ++ rest
   pub is_token : IsToken token spelled rest
-  pub place : StandsBefore x spelled found.from found.to
+  pub place : IsSliceBefore x spelled found.from found.to
   pub counted : found.left ≡ bytes_in rest
 
 -- x begins with a character that is neither blank nor begins a comment

@@ -7,7 +7,7 @@ use Rattle.json5_text.specs.declared.text_token.TextToken.TheVariants as token
 use Rattle.json5_text.specs.Cows.{cow_bytes, is_borrowed}
 
 -- u stands in the input between these offsets
-pub record StandsAt (input u : List ℕ) (start end : ℕ) : Type 0 where
+pub record IsSliceAt (input u : List ℕ) (start end : ℕ) : Type 0 where
   pub before : List ℕ
   pub rest : List ℕ
   pub split : input ≡ before ++ (u ++ rest)
@@ -16,7 +16,7 @@ pub record StandsAt (input u : List ℕ) (start end : ℕ) : Type 0 where
 
 -- the token spells the text u, which stands so in the input where it is escape-free, else in memory of its own
 abbrev pub Spells : List ℕ → List ℕ → Bool → TextToken → Type 0
-Spells input u escape_free (token.EscapeFree start end) = (escape_free ≡ true) × StandsAt input u start end
+Spells input u escape_free (token.EscapeFree start end) = (escape_free ≡ true) × IsSliceAt input u start end
 Spells input u escape_free (token.Escaped text) = (escape_free ≡ false) × (string_bytes text ≡ encode_utf8_all u)
 
 -- these are the bytes of the text that the token spells

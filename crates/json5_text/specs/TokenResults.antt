@@ -16,7 +16,7 @@ use Rattle.json5_text.specs.Refused.{Refuses, WantsForDigits}
 use Rattle.json5_text.specs.Scan.{HasCode, HasFault}
 
 -- reading gives this value and leaves this rest
-pub record Gives {V : Type 0} (reading : Read V) (value : V) (rest : List ℕ) : Type 0 where
+pub record GivesValue {V : Type 0} (reading : Read V) (value : V) (rest : List ℕ) : Type 0 where
   pub read : reading ≡ got value (chars rest)
   pub text : IsUtf8 rest
 
@@ -29,11 +29,11 @@ pub record RefusesByFault {V : Type 0} (e : Refusal) (reading : Read V) : Type 0
 
 -- the value in front, seen by the view, and what follows it; or the fault
 abbrev pub AnswersAs : {A V : Type 0} → (A → V) → Read V → Result (A × Bor (List ℕ)) Refusal → Type 0
-AnswersAs view reading (Ok p) = Gives reading (view p.0) p.1.now
+AnswersAs view reading (Ok p) = GivesValue reading (view p.0) p.1.now
 AnswersAs view reading (Err e) = RefusesByFault e reading
 
-abbrev pub Answers : {A : Type 0} → Read A → Result (A × Bor (List ℕ)) Refusal → Type 0
-Answers reading result = AnswersAs (λ value. value) reading result
+abbrev pub ReturnsReading : {A : Type 0} → Read A → Result (A × Bor (List ℕ)) Refusal → Type 0
+ReturnsReading reading result = AnswersAs (λ value. value) reading result
 
 -- ---- what is passed over
 
@@ -44,7 +44,7 @@ pub record RefusesByCode {V : Type 0} (e : Refusal) (reading : Read V) : Type 0 
 
 -- what follows it; or the fault
 abbrev pub Skips : Read (Unit {0}) → Result (Bor (List ℕ)) Refusal → Type 0
-Skips reading (Ok rest) = Gives reading tt rest.now
+Skips reading (Ok rest) = GivesValue reading tt rest.now
 Skips reading (Err e) = RefusesByCode e reading
 
 -- reading gives some value and leaves this rest
@@ -67,13 +67,13 @@ pub record RefusesNumber (e : Refusal) (reading : Read Number) : Type 0 where
 
 -- the number in front, seen by the view, and what follows it; or the fault
 abbrev pub AnswersNumber : {A : Type 0} → (A → Number) → Read Number → Result (A × Bor (List ℕ)) Refusal → Type 0
-AnswersNumber view reading (Ok p) = Gives reading (view p.0) p.1.now
+AnswersNumber view reading (Ok p) = GivesValue reading (view p.0) p.1.now
 AnswersNumber view reading (Err e) = RefusesNumber e reading
 
 -- reading gives this number and leaves the rest; or the fault
-abbrev pub Judges : Read Number → List ℕ → Result Scanned Refusal → Type 0
-Judges reading rest (Ok number) = reading ≡ got (scanned_of number) rest
-Judges reading rest (Err e) = RefusesByFault e reading
+abbrev pub JudgesNumber : Read Number → List ℕ → Result Scanned Refusal → Type 0
+JudgesNumber reading rest (Ok number) = reading ≡ got (scanned_of number) rest
+JudgesNumber reading rest (Err e) = RefusesByFault e reading
 
 -- reading gives a number, of which this is the whole one if it is whole, and leaves this rest
 pub record GivesWhole (reading : Read Number) (found : Option ℤ) (rest : List ℕ) : Type 0 where

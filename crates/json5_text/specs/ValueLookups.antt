@@ -71,13 +71,13 @@ abbrev pub whole_of : Datum → Option ℤ
 whole_of (number (whole z)) = Some z
 whole_of _ = None
 
-abbrev pub decimal_of : Datum → Option Decimal
-decimal_of (number (decimal d)) = Some d
-decimal_of _ = None
+abbrev pub decimal_in : Datum → Option Decimal
+decimal_in (number (decimal d)) = Some d
+decimal_in _ = None
 
-abbrev pub text_of : Datum → Option (List ℕ)
-text_of (text u) = Some u
-text_of _ = None
+abbrev pub text_in : Datum → Option (List ℕ)
+text_in (text u) = Some u
+text_in _ = None
 
 abbrev pub items_in : Datum → Option Items
 items_in (array xs) = Some xs

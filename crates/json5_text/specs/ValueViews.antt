@@ -37,9 +37,9 @@ abbrev pub items_of : List Datum → Items
 items_of [] = no_item
 items_of (x ∷ xs) = item x (items_of xs)
 
-abbrev pub fields_of : List (String Global × Datum) → Fields
-fields_of [] = no_field
-fields_of (f ∷ fs) = field (chars (string_bytes f.0)) f.1 (fields_of fs)
+abbrev pub datum_fields : List (String Global × Datum) → Fields
+datum_fields [] = no_field
+datum_fields (f ∷ fs) = field (chars (string_bytes f.0)) f.1 (datum_fields fs)
 
 -- one level, with each value inside already seen as what it stands for
 abbrev pub view_step : Value-F Datum → Datum
@@ -49,7 +49,7 @@ view_step (Value-F.Whole z) = number (whole z)
 view_step (Value-F.Decimal d) = number (decimal d)
 view_step (Value-F.String s) = text (chars (string_bytes s))
 view_step (Value-F.Array v) = array (items_of v.items)
-view_step (Value-F.Object v) = object (fields_of v.items)
+view_step (Value-F.Object v) = object (datum_fields v.items)
 
 abbrev pub value_of : Value → Datum
 value_of = fold-Value Datum view_step
@@ -58,7 +58,7 @@ abbrev pub items_view : List Value → Items
 items_view vs = items_of (map value_of vs)
 
 abbrev pub fields_view : List (String Global × Value) → Fields
-fields_view fs = fields_of (map (λ f. (f.0, value_of f.1)) fs)
+fields_view fs = datum_fields (map (λ f. (f.0, value_of f.1)) fs)
 
 -- ---- equality
 

@@ -10,7 +10,7 @@ use unicode::properties::GeneralCategory;
 
 /// Says whether the character may be between tokens, as white space or a line terminator: U+0009 to U+000D, a space, U+00A0,
 /// U+2028, U+2029, U+FEFF and the category Zs (JSON5 section 8, ECMAScript 5.1 sections 7.2 and 7.3).
-#[tactic(auto, unfolding(json5_grammar::specs::Characters::is_space_separator))]
+#[tactic(auto, unfolding(json5_grammar::specs::Language::Characters::is_space_separator))]
 pub fn is_json5_whitespace(c: char) -> bool
     ensures { result ≡ is_blank c }
 {

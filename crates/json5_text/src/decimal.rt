@@ -6,7 +6,7 @@ ghost use Rattle.json5_grammar.specs.Language.Characters.{is_digit, Each};
 ghost use Rattle.json5_grammar.specs.Language.Numbers as numbers;
 ghost use Rattle.json5_grammar.specs.Written.NumberText.{decimal_text, IsNormal};
 ghost use Rattle.json5_text.specs.Errors.{LacksMemory};
-ghost use Rattle.json5_text.specs.NumberDecimals.{is_minus, is_infinity, is_not_a_number, digits_in, exponent_in, sized, Shows, IsFiniteIfInRange, IsFiniteOf};
+ghost use Rattle.json5_text.specs.NumberDecimals.{has_minus, is_infinity, is_not_a_number, digits_in, exponent_in, sized, ShowsDecimal, IsFiniteIfInRange, IsFiniteOf};
 ghost use Rattle.json5_text.specs.NumberSteps.{raised, IsSmallExponent};
 ghost use Rattle.json5_text.specs.NumberViews.{keeps_digits};
 
@@ -62,11 +62,11 @@ impl Model for Decimal {
 
     ghost Value = { numbers.Decimal };
 
-    ghost use Rattle.json5_text.specs.NumberDecimals.{decimal_of};
+    ghost use Rattle.json5_text.specs.NumberDecimals.{kept_decimal};
 
-    ghost view = { λ d. decimal_of d.kept };
+    ghost view = { λ d. kept_decimal d.kept };
 
-    ghost invariant = { λ d. Normal (decimal_of d.kept) };
+    ghost invariant = { λ d. Normal (kept_decimal d.kept) };
 }
 
 /// Digits in two parts, without the zeros in front.
@@ -245,7 +245,7 @@ impl Decimal {
 
     /// Says whether it has a minus, which zero and not-a-number may have too.
     pub fn is_negative(&self) -> bool
-        ensures { Shows is_minus self.now result }
+        ensures { ShowsDecimal has_minus self.now result }
     {
         match &self.kept {
             Kept::Infinite(negative) | Kept::NotANumber(negative) => *negative,
@@ -255,7 +255,7 @@ impl Decimal {
 
     /// How large it is, whatever its sign.
     fn size(&self) -> Size<'_>
-        ensures { Shows (λ d. d) self.now (sized (is_minus self.now) result) }
+        ensures { ShowsDecimal (λ d. d) self.now (sized (has_minus self.now) result) }
     {
         match &self.kept {
             Kept::Infinite(_) => Size::Infinite,
@@ -281,7 +281,7 @@ impl Decimal {
 
     /// Returns the ASCII digits, without zeros in front and at the end; none for zero, infinity and not-a-number.
     pub fn digits(&self) -> &str
-        ensures { Shows digits_in self.now result.now }
+        ensures { ShowsDecimal digits_in self.now result.now }
     {
         match self.size() {
             Size::Finite(digits, _) => digits,
@@ -291,7 +291,7 @@ impl Decimal {
 
     /// Returns the power of ten that the digits are multiplied with; 0 for zero, infinity and not-a-number.
     pub fn exponent(&self) -> i16
-        ensures { Shows exponent_in self.now result }
+        ensures { ShowsDecimal exponent_in self.now result }
     {
         match self.size() {
             Size::Finite(_, exponent) => exponent,
@@ -301,7 +301,7 @@ impl Decimal {
 
     /// Returns the text that `Display` prints, in pieces, so that it takes no memory however long it is.
     pub fn pieces(&self) -> Pieces<'_>
-        ensures { Shows decimal_text self.now result }
+        ensures { ShowsDecimal decimal_text self.now result }
     {
         let sign = if self.is_negative() { "-" } else { "" };
         match self.size() {

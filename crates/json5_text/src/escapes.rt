@@ -6,7 +6,7 @@ ghost use Rattle.json5_grammar.specs.Model.Reading.{and_then};
 ghost use Rattle.json5_grammar.specs.Language.Strings.{short_escape, is_high, is_low, pair_value};
 ghost use Rattle.json5_grammar.specs.Model.ReadTexts.{hex, second, unicode_at, one_char, after_nul, after_cr, not_short, escape_at};
 ghost use Rattle.json5_text.specs.declared.refusal.Refusal.{Refusal};
-ghost use Rattle.json5_text.specs.TokenResults.{Gives, Answers, AnswersAs};
+ghost use Rattle.json5_text.specs.TokenResults.{GivesValue, ReturnsReading, AnswersAs};
 ghost use Rattle.json5_text.specs.Scan.{in_list};
 
 use crate::front::front;
@@ -93,7 +93,7 @@ fn byte_escape<'t>(escape: &str, text: &'t str) -> Result<(Option<char>, &'t str
 
 /// After a backslash and CR: an LF belongs to it.
 fn skip_line_feed(text: &str) -> &str
-    ensures { Gives (after_cr (chars text.now)) [] result.now }
+    ensures { GivesValue (after_cr (chars text.now)) [] result.now }
 {
     match front(text) {
         Some(('\n', rest)) => rest,
@@ -103,7 +103,7 @@ fn skip_line_feed(text: &str) -> &str
 
 /// After `\u`: four hexadecimal digits, and another such escape after a surrogate.
 pub(crate) fn unicode_escape<'t>(escape: &str, text: &'t str) -> Result<(char, &'t str), Refusal>
-    ensures { Answers (unicode_at (chars escape.now) (chars text.now)) result }
+    ensures { ReturnsReading (unicode_at (chars escape.now) (chars text.now)) result }
 {
     let (unit, rest) = hexadecimal(4, escape, text)?;
     match char::from_u32(unit) {
@@ -115,7 +115,7 @@ pub(crate) fn unicode_escape<'t>(escape: &str, text: &'t str) -> Result<(char, &
 /// After the escape of the surrogate `unit`: the escape of the other one of a pair.
 fn second_escape<'t>(escape: &str, unit: u32, text: &'t str) -> Result<(char, &'t str), Refusal>
     requires { unit < 0x1_0000 }
-    ensures { Answers (second unit (chars escape.now) (chars text.now)) result }
+    ensures { ReturnsReading (second unit (chars escape.now) (chars text.now)) result }
 {
     let ends = ErrorCode::EofParsingEscapeSequence;
     let digits = skip_word("\\u", text, ends, ErrorCode::InvalidEscapeSequence)?;
@@ -139,7 +139,7 @@ fn pair(high: u32, low: u32) -> Option<char>
 /// The value of so many hexadecimal digits, and what follows them.
 fn hexadecimal<'t>(count: u32, escape: &str, text: &'t str) -> Result<(u32, &'t str), Refusal>
     requires { count ≤ 4 }
-    ensures read { Answers (hex count 0 (chars escape.now) (chars text.now)) result }
+    ensures read { ReturnsReading (hex count 0 (chars escape.now) (chars text.now)) result }
     ensures bounded { IfOk result (λ p. p.0 < 16 ^ count) }
 {
     let mut value = 0;

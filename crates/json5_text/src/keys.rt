@@ -2,7 +2,7 @@
 
 ghost use Rattle.std.specs.Prelude.{◌≤◌, length};
 ghost use Rattle.std.specs.Str.{chars};
-ghost use Rattle.json5_text.specs.ScanKeys.{key_at};
+ghost use Rattle.json5_text.specs.ScanKeys.{key_ahead};
 ghost use Rattle.json5_text.specs.ScanTextTokens.{AnswersToken};
 
 use crate::front::front;
@@ -16,7 +16,7 @@ use std::alloc::Global;
 /// The key in front, and what follows it. `end` is the length in bytes of all that is read, which the text is the rest of.
 pub(crate) fn read_key(alloc: Global, end: usize, text: &str) -> Result<(TextToken, &str), Refusal>
     requires { length text.now ≤ end }
-    ensures { AnswersToken end (chars text.now) (key_at (chars text.now)) result }
+    ensures { AnswersToken end (chars text.now) (key_ahead (chars text.now)) result }
 {
     let Some((c, _)) = front(text) else {
         return Err(Refusal::TokenError { code: ErrorCode::EofParsingIdentifier, remaining: None });

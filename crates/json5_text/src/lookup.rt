@@ -3,7 +3,7 @@
 ghost use Rattle.std.specs.Prelude.{◌≡◌, option_map};
 ghost use Rattle.std.specs.Str.{chars};
 ghost use Rattle.json5_text.specs.ValueViews.{value_of, items_view, fields_view};
-ghost use Rattle.json5_text.specs.ValueLookups.{is_null, boolean_of, whole_of, decimal_of, text_of, items_in, fields_in, item_at, element_of, last_named, named_of};
+ghost use Rattle.json5_text.specs.ValueLookups.{is_null, boolean_of, whole_of, decimal_in, text_in, items_in, fields_in, item_at, element_of, last_named, named_of};
 
 use crate::decimal::Decimal;
 use crate::value::Value;
@@ -94,7 +94,7 @@ impl Value {
     /// Returns the decimal, if it is one: a number with a point or an exponent, or past the range of `Whole`, infinity and
     /// not-a-number included.
     pub fn as_decimal(&self) -> Option<&Decimal>
-        ensures { option_map (λ number. number.now) result ≡ decimal_of (value_of self.now) }
+        ensures { option_map (λ number. number.now) result ≡ decimal_in (value_of self.now) }
     {
         match self {
             Value::Decimal(number) => Some(number),
@@ -104,7 +104,7 @@ impl Value {
 
     /// Returns the text, if it is a string.
     pub fn as_str(&self) -> Option<&str>
-        ensures { option_map (λ s. chars s.now) result ≡ text_of (value_of self.now) }
+        ensures { option_map (λ s. chars s.now) result ≡ text_in (value_of self.now) }
     {
         match self {
             Value::String(text) => Some(text.as_str()),

@@ -3,9 +3,9 @@
 ghost use Rattle.std.specs.Prelude.{◌≡◌};
 ghost use Rattle.std.specs.Str.{chars};
 ghost use Rattle.json5_grammar.specs.Model.ReadTexts.{name_escape, identifier};
-ghost use Rattle.json5_text.specs.TokenResults.{Answers, AnswersAs, AnswersCow, Passes};
+ghost use Rattle.json5_text.specs.TokenResults.{ReturnsReading, AnswersAs, AnswersCow, Passes};
 ghost use Rattle.json5_text.specs.Scan.{SkipsAll, SkipsSome, in_list};
-ghost use Rattle.json5_text.specs.ScanTexts.{fits, is_raw_part, item_of_name, SkipsRaw};
+ghost use Rattle.json5_text.specs.ScanTexts.{fits_name, is_raw_part, item_of_name, SkipsRaw};
 
 use crate::bytes::name_len;
 use crate::char::{is_json5_identifier, is_json5_identifier_start};
@@ -47,7 +47,7 @@ pub(crate) fn read_item<'t>(
 }
 
 fn fits(is_first: bool, c: char) -> bool
-    ensures { result ≡ fits is_first c }
+    ensures { result ≡ fits_name is_first c }
 {
     if is_first {
         is_json5_identifier_start(c)
@@ -58,7 +58,7 @@ fn fits(is_first: bool, c: char) -> bool
 
 /// The character that a name's escape spells, and what follows the escape.
 fn read_escape<'t>(escape: &str, after: &'t str) -> Result<(char, &'t str), Refusal>
-    ensures { Answers (name_escape (chars escape.now) (chars after.now)) result }
+    ensures { ReturnsReading (name_escape (chars escape.now) (chars after.now)) result }
 {
     let Some((c, digits)) = front(after) else {
         return Err(Refusal::TokenError { code: ErrorCode::EofParsingIdentifier, remaining: None });

@@ -5,7 +5,7 @@ ghost use Rattle.std.specs.Str.{IsUtf8, chars};
 ghost use Rattle.json5_grammar.specs.Language.Characters.{digit_zero};
 ghost use Rattle.json5_grammar.specs.Language.Numbers as numbers;
 ghost use Rattle.json5_grammar.specs.Model.ReadNumbers as model;
-ghost use Rattle.json5_text.specs.TokenResults.{Gives, AnswersAs, AnswersNumber, AnswersWhole};
+ghost use Rattle.json5_text.specs.TokenResults.{GivesValue, AnswersAs, AnswersNumber, AnswersWhole};
 ghost use Rattle.json5_text.specs.NumberViews.{number_of};
 ghost use Rattle.json5_text.specs.NumberParts.{scanned_of};
 
@@ -106,7 +106,7 @@ fn scan(text: &str) -> Result<(Scanned<'_>, &str), Refusal>
 /// The number in front, where it is a whole one of few digits, and what follows it.
 #[inline(always)]
 fn short_whole(text: &str) -> Option<(Whole, &str)>
-    ensures { IfSome result (λ p. Gives (model.number (chars text.now)) (numbers.whole p.0) p.1.now) }
+    ensures { IfSome result (λ p. GivesValue (model.number (chars text.now)) (numbers.whole p.0) p.1.now) }
 {
     if begins_minus(text.as_bytes()) {
         let (magnitude, rest) = short_digits(text.split_at(1).1)?;

@@ -3,7 +3,7 @@
 ghost use Rattle.std.specs.Prelude.{◌≡◌, ◌≤◌, ◌++◌, [], MatchOption};
 ghost use Rattle.json5_grammar.specs.Language.Characters.{is_digit, Each};
 ghost use Rattle.json5_grammar.specs.Written.NumberText.{zeros, digits_text};
-ghost use Rattle.json5_text.specs.NumberPieces.{IsFront};
+ghost use Rattle.json5_text.specs.NumberPieces.{BeginsWithPiece};
 
 use std::marker::Model;
 use std::mem;
@@ -97,7 +97,7 @@ impl<'a> Pieces<'a> {
 
     /// Returns the next piece of the text, and takes it away; none at the end.
     pub fn next_piece(&mut self) -> Option<&'a str>
-        ensures { MatchOption result (self.old ≡ []) (λ piece. IsFront self.old piece.now self.new) }
+        ensures { MatchOption result (self.old ≡ []) (λ piece. BeginsWithPiece self.old piece.now self.new) }
     {
         if !self.sign.is_empty() {
             return Some(mem::replace(&mut self.sign, ""));

@@ -5,7 +5,7 @@ ghost use Rattle.std.specs.Str.{chars};
 ghost use Rattle.json5_grammar.specs.Language.Characters.{is_digit, Each};
 ghost use Rattle.json5_grammar.specs.Language.Numbers as numbers;
 ghost use Rattle.json5_grammar.specs.Model.ReadNumbers as model;
-ghost use Rattle.json5_text.specs.TokenResults.{Judges};
+ghost use Rattle.json5_text.specs.TokenResults.{JudgesNumber};
 ghost use Rattle.json5_text.specs.NumberViews.{number_of, keeps_digits, whole_in};
 ghost use Rattle.json5_text.specs.NumberParts.{scanned_of, parts_of, signed_limited, limited_exponent, is_whole_literal, HasExponentDigits, HasDigits};
 ghost use Rattle.json5_text.specs.NumberSteps.{IsSmallExponent};
@@ -96,7 +96,7 @@ pub(crate) fn judge<'t>(
     literal: &Literal<'t>,
 ) -> Result<Scanned<'t>, Refusal>
     requires { HasDigits literal.now }
-    ensures { (rest : List ℕ) → Judges (model.if_literal (chars start.now) negative rest (Some (parts_of literal.now))) rest result }
+    ensures { (rest : List ℕ) → JudgesNumber (model.if_literal (chars start.now) negative rest (Some (parts_of literal.now))) rest result }
 {
     if let Some(whole) = whole_number(negative, literal) {
         return Ok(Scanned::Whole(whole));

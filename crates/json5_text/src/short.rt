@@ -4,7 +4,7 @@
 ghost use Rattle.std.specs.Prelude.{◌<◌, true, false, IfSome};
 ghost use Rattle.std.specs.Str.{chars};
 ghost use Rattle.json5_grammar.specs.Model.ReadBlanks.{skip, between};
-ghost use Rattle.json5_text.specs.TokenResults.{Gives};
+ghost use Rattle.json5_text.specs.TokenResults.{GivesValue};
 ghost use Rattle.json5_text.specs.Short.{IsShortWhole, GivesSpaced, TakesShortWhole, IsInFront, FindsStep, TakesShortStep, FindsSign, TakesShortSign};
 
 use crate::blanks::skip_ascii;
@@ -15,7 +15,7 @@ use crate::scanner::Scanner;
 /// What follows ASCII blanks, where it begins with a character that is surely neither blank nor a slash.
 #[inline(always)]
 fn skip_to_solid(text: &str) -> Option<&str>
-    ensures { IfSome result (λ rest. Gives (skip between (chars text.now)) tt rest.now) }
+    ensures { IfSome result (λ rest. GivesValue (skip between (chars text.now)) tt rest.now) }
 {
     let rest = skip_ascii(text);
     if begins_solid(rest.as_bytes()) {

@@ -5,7 +5,7 @@ ghost use Rattle.std.specs.Str.{chars, encode_utf8_all};
 ghost use Rattle.json5_grammar.specs.Language.Characters.{NotBegun};
 ghost use Rattle.json5_text.specs.TokenResults.{AnswersAs, AnswersCow, AnswersMore, Passes};
 ghost use Rattle.json5_text.specs.Scan.{AtEscape, in_list};
-ghost use Rattle.json5_text.specs.ScanTexts.{quote_of, rest_of, past, ends_early, text_at, item, is_raw_in, SkipsRaw, AnswersStop, AnswersRun, AnswersStep};
+ghost use Rattle.json5_text.specs.ScanTexts.{quote_of, after_first_char, past, ends_early, text_at, item, is_raw_in, SkipsRaw, AnswersStop, AnswersRun, AnswersStep};
 
 use crate::cow_str::CowStr;
 use crate::escapes::read_escape;
@@ -60,7 +60,7 @@ impl Kind {
     /// What is read after a character.
     #[inline(always)]
     fn rest(self) -> Kind
-        ensures { result ≡ rest_of self }
+        ensures { result ≡ after_first_char self }
     {
         match self {
             Kind::Name | Kind::NameRest => Kind::NameRest,

@@ -25,7 +25,7 @@ use Rattle.json5_text.specs.Tokens.{FaultyKey, at_quote, at_name}
 use Rattle.json5_text.proofs.TextScalars.{key_scalars}
 use Rattle.json5_value.specs.Entries.{entry_front, entry_start, next_entry}
 use Rattle.json5_value.specs.Keeping.{BlamesOrMemory, Keeps, OwnsKey, IsFoundKey, IsKeyText, IsNextKey, next_key}
-use Rattle.json5_value.specs.Steps.{IsInside, SameText, Blames, Gave, RefusesToken}
+use Rattle.json5_value.specs.Steps.{IsInside, SameText, RefusesRead, Gave, RefusesToken}
 use Rattle.json5_value.proofs.EntryValues.{key_missing, key_string, key_name}
 use Rattle.json5_value.proofs.OtherCodes.{key_lacks}
 use Rattle.json5_value.proofs.Shorter.{next_shorter}
@@ -113,7 +113,7 @@ next_is true x = by_comma (separator of_object x)
     by_comma (got false y) = refl
     by_comma (bad c p) = refl
 
-pub entry_refused : (comma_due : Bool) (old new : Cursor) (e : Error) → Blames old.input (next_entry of_object comma_due old.unread) e → SameText old new → Keeps IsNextKey (next_key comma_due old.unread) old new (Err e)
+pub entry_refused : (comma_due : Bool) (old new : Cursor) (e : Error) → RefusesRead old.input (next_entry of_object comma_due old.unread) e → SameText old new → Keeps IsNextKey (next_key comma_due old.unread) old new (Err e)
 entry_refused comma_due old new e b g = taken_as old new (next_key comma_due old.unread) (and_then (next_entry of_object comma_due old.unread) key_or_end) (Err e) (next_is comma_due old.unread) (first_not_taken old new (next_entry of_object comma_due old.unread) key_or_end e (inr b) g)
 
 pub brace_closed : (comma_due goes : Bool) (old new : Cursor) → goes ≡ false → Gave (next_entry of_object comma_due old.unread) goes old new → Keeps IsNextKey (next_key comma_due old.unread) old new (Ok None)
@@ -131,7 +131,7 @@ module _ (comma_due goes : Bool) (old mid : Cursor) (is : goes ≡ true) (g : Ga
   pub next_key_refused : (new : Cursor) (e : Error) → BlamesOrMemory mid.input (key mid.unread) e → SameText mid new → Keeps IsNextKey (next_key comma_due old.unread) old new (Err e)
   next_key_refused new e b f = key_next new (Err e) (first_not_taken mid new (key mid.unread) key_and_colon e b f)
 
-  pub next_colon_refused : (last new : Cursor) (t : String Global) (e : Error) → (a : List ℕ × Bool) × IsKeyText t a × Gave (key mid.unread) a mid last → Blames last.input (colon_after last.unread) e → SameText last new → Keeps IsNextKey (next_key comma_due old.unread) old new (Err e)
+  pub next_colon_refused : (last new : Cursor) (t : String Global) (e : Error) → (a : List ℕ × Bool) × IsKeyText t a × Gave (key mid.unread) a mid last → RefusesRead last.input (colon_after last.unread) e → SameText last new → Keeps IsNextKey (next_key comma_due old.unread) old new (Err e)
   next_colon_refused last new t e (a, same, k) b f =
       key_next new (Err e) (takes_then mid last new (key mid.unread) a key_and_colon (Err e) k (first_not_taken last new (colon_after last.unread) (λ u y. got (Some a) y) e (inr b) f))
 

@@ -4,7 +4,7 @@ use Rattle.std.specs.declared.alloc.Global.{Global}
 use Rattle.std.specs.Str.{chars}
 use Rattle.json5_grammar.specs.Faults.Fronts.{of_array, of_object}
 use Rattle.json5_grammar.specs.Model.Reading.{Read, here, inner, got, bad, and_then, placed}
-use Rattle.json5_grammar.specs.Model.ReadSteps.{member_at, separator, next_value, trees_of, trees_after, pairs_of, pairs_after, key_at, first_of_trees, goes_on_with, pair_or_end}
+use Rattle.json5_grammar.specs.Model.ReadSteps.{member_at, separator, next_value, trees_of, trees_after, read_pairs, pairs_after, key_at, first_of_trees, goes_on_with, pair_or_end}
 use Rattle.json5_grammar.specs.Model.ReadValues.{read}
 use Rattle.json5_grammar.specs.Language.Trees.{Tree, Trees, Pairs, array, object, no_more, more, no_pair, pair}
 use Rattle.json5_grammar.proofs.TreeSteps.{trees_step, trees_later, pairs_step, pairs_later, read_array, read_object}
@@ -102,11 +102,11 @@ object_goes before d (got (Some a) y) = member_first before d a (read d y)
 object_goes before d (got None y) = refl
 object_goes before d (bad e p) = refl
 
-first_member : (before : Fields → Fields) (d : ℕ) (x : List ℕ) → object_with before (pairs_of d x) ≡ and_then (key_at x) (object_turn before d)
+first_member : (before : Fields → Fields) (d : ℕ) (x : List ℕ) → object_with before (read_pairs d x) ≡ and_then (key_at x) (object_turn before d)
 first_member before d x = ap (object_with before) (pairs_step d x) ∙ object_goes before d (key_at x)
 
 member_after_comma : (before : Fields → Fields) (d : ℕ) (m : Read Bool)
-    → object_with before (and_then m (goes_on_with no_pair (pairs_of d))) ≡ and_then (and_then m (λ goes y. cond goes (key_at y) (got None y))) (object_turn before d)
+    → object_with before (and_then m (goes_on_with no_pair (read_pairs d))) ≡ and_then (and_then m (λ goes y. cond goes (key_at y) (got None y))) (object_turn before d)
 member_after_comma before d (got true y) = first_member before d y
 member_after_comma before d (got false y) = refl
 member_after_comma before d (bad e p) = refl
@@ -140,4 +140,4 @@ placed_object q (bad e inner) = refl
 
 -- an object is what is left after its brace
 pub object_opened : (d : ℕ) (r : List ℕ) → as_datum (read (suc d) (123 ∷ r)) ≡ placed (123 ∷ r) (rest_of_object [] false d r)
-object_opened d r = ap as_datum (read_object d r) ∙ placed_object (123 ∷ r) (pairs_of d r)
+object_opened d r = ap as_datum (read_object d r) ∙ placed_object (123 ∷ r) (read_pairs d r)

@@ -35,7 +35,7 @@ use Rattle.json5_value.specs.declared.kinds.ValueKind.TheVariants as kind
 use Rattle.json5_value.specs.Data.{datum_of}
 use Rattle.json5_value.specs.Keeping.{BlamesOrMemory, Keeps, IsOfTree, as_datum, tree_at, datum_at, datum_of_literal, ReadsOrOpens}
 use Rattle.json5_value.specs.Kinds.{kind_at, word_of}
-use Rattle.json5_value.specs.Steps.{IsInside, SameText, Blames, Gave, Steps, RefusesToken, value_at}
+use Rattle.json5_value.specs.Steps.{IsInside, SameText, RefusesRead, Gave, Steps, RefusesToken, value_at}
 use Rattle.json5_value.proofs.OtherCodes.{Lacks, faulty_number_lacks, faulty_string_lacks}
 use Rattle.json5_value.proofs.Scalars.{tests_of, value_shorter}
 use Rattle.json5_value.proofs.Steps.{same_of, none_next, some_next, blames_as, blames_made, blames_refused}
@@ -66,10 +66,10 @@ forget_bad {A = A} (bad d q) c p e = let a : d ≡ c = cc in let b : q ≡ p = c
     renamed : (m : Read A) → m ≡ bad d q → d ≡ c → q ≡ p → m ≡ bad c p
     renamed m is a b = subst (λ z. m ≡ bad z p) a (subst (λ z. m ≡ bad d z) b is)
 
-pub tree_blamed : (room : ℕ) (old : Cursor) (e : Error) → Blames old.input (value_at room old) e → Blames old.input (tree_at room old) e
+pub tree_blamed : (room : ℕ) (old : Cursor) (e : Error) → RefusesRead old.input (value_at room old) e → RefusesRead old.input (tree_at room old) e
 tree_blamed room old e b = blames_as old.input old.input (value_at room old) (tree_at room old) e refl (λ c p is. forget_bad (tree_at room old) c p is) b
 
-pub datum_blamed : (room : ℕ) (old : Cursor) (e : Error) → Blames old.input (tree_at room old) e → Blames old.input (datum_at room old) e
+pub datum_blamed : (room : ℕ) (old : Cursor) (e : Error) → RefusesRead old.input (tree_at room old) e → RefusesRead old.input (datum_at room old) e
 datum_blamed room old e b = blames_as old.input old.input (tree_at room old) (datum_at room old) e refl (λ c p is. ap as_datum is) b
 
 -- one of this tree was taken
@@ -145,5 +145,5 @@ scalar_not_begun room old new e b g = record { begun = tt; refused = or_blames o
 pub bracket_begun : (room : ℕ) (old new : Cursor) (f : OpenBracket) → OpenedAt room f old new → ReadsOrOpens room old new (Ok (start.Bracket f))
 bracket_begun room old new f o = record { begun = o; refused = tt; same_text = tt; shorter = let k = o.sign in omega (arith, ap length k) }
 
-pub bracket_not_begun : (room : ℕ) (old new : Cursor) (e : Error) → Blames old.input (value_at room old) e → SameText old new → ReadsOrOpens room old new (Err e)
+pub bracket_not_begun : (room : ℕ) (old new : Cursor) (e : Error) → RefusesRead old.input (value_at room old) e → SameText old new → ReadsOrOpens room old new (Err e)
 bracket_not_begun room old new e b g = record { begun = tt; refused = inr (datum_blamed room old e (tree_blamed room old e b)); same_text = g; shorter = tt }

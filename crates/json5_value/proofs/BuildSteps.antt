@@ -5,16 +5,16 @@ use Rattle.json5_grammar.specs.Model.Reading.{Read, got, and_then}
 use Rattle.json5_text.specs.declared.error.Error.{Error}
 use Rattle.json5_text.specs.Cursor.{Cursor, Took}
 use Rattle.json5_value.specs.Keeping.{BlamesOrMemory, Keeps}
-use Rattle.json5_value.specs.Steps.{SameText, Blames, Gave}
+use Rattle.json5_value.specs.Steps.{SameText, RefusesRead, Gave}
 use Rattle.json5_value.proofs.Steps.{blames_as, first_refused, then_step}
 
 gave_then : {A B : Type 0} (old mid new : Cursor) (m : Read A) (a : A) (f : A → List ℕ → Read B) (b : B) → Gave m a old mid → Gave (f a mid.unread) b mid new → Gave (and_then m f) b old new
 gave_then old mid new m a f b g k = (then_step old mid new m a f (Ok b) g (record { given = k; refused = tt; same_text = tt })).given
 
-blames_then : {A B : Type 0} (old mid : Cursor) (m : Read A) (a : A) (f : A → List ℕ → Read B) (e : Error) → Gave m a old mid → Blames mid.input (f a mid.unread) e → Blames old.input (and_then m f) e
+blames_then : {A B : Type 0} (old mid : Cursor) (m : Read A) (a : A) (f : A → List ℕ → Read B) (e : Error) → Gave m a old mid → RefusesRead mid.input (f a mid.unread) e → RefusesRead old.input (and_then m f) e
 blames_then old mid m a f e g b = blames_as mid.input old.input (f a mid.unread) (and_then m f) e g.took.same (λ c p is. ap (λ z. and_then z f) g.reads ∙ is) b
 
-pub or_blames : {A B : Type 0} (input other : List ℕ) (m : Read A) (n : Read B) (e : Error) → (Blames input m e → Blames other n e) → BlamesOrMemory input m e → BlamesOrMemory other n e
+pub or_blames : {A B : Type 0} (input other : List ℕ) (m : Read A) (n : Read B) (e : Error) → (RefusesRead input m e → RefusesRead other n e) → BlamesOrMemory input m e → BlamesOrMemory other n e
 or_blames input other m n e k (inl memory) = inl memory
 or_blames input other m n e k (inr b) = inr (k b)
 

@@ -14,11 +14,11 @@ use Rattle.json5_text.specs.ValueViews as views
 use Rattle.json5_text.proofs.ValuesCompared.{view-Array, view-Object}
 use Rattle.json5_value.specs.declared.read.Unfinished.{Unfinished}
 use Rattle.json5_value.specs.declared.read.Unfinished.TheVariants as unfinished
-use Rattle.json5_value.specs.BuildSteps.{elements_before, members_before, object_with, array_at, object_at, value_in_at, start_of, value_in, Building, BuildingInside, TurnsInside}
+use Rattle.json5_value.specs.BuildSteps.{elements_before, members_before, object_with, array_at, object_at, value_in_at, start_of, value_in, Building, BuildingInside, TurnsBuildingInside}
 use Rattle.json5_value.specs.Keeping.{BlamesOrMemory, IsNextKey, next_key, datum_at}
 use Rattle.json5_value.specs.Nesting.{Within}
 use Rattle.json5_value.specs.Places.{StartsAfter, PlacedAt}
-use Rattle.json5_value.specs.Steps.{SameText, Blames, Gave}
+use Rattle.json5_value.specs.Steps.{SameText, RefusesRead, Gave}
 use Rattle.json5_value.proofs.BuildRests.{array_turn, array_step, no_more_elements, array_grown, object_turn, object_step, no_more_members, object_grown}
 use Rattle.json5_value.proofs.Nesting.{value_reached, closed, inside_blamed}
 use Rattle.json5_value.proofs.Shorter.{next_shorter}
@@ -34,7 +34,7 @@ room_within room fs f = omega (arith, length-append fs (f ∷ []))
 module _ (m : ℕ → Read Datum) (at : ℕ) (comma_due : Bool) (fs : List Unfinished) (old : Cursor) where
   -- a value of it comes next
   turn_goes : (after : List Unfinished) (f : Unfinished) (new : Cursor) (s : List ℕ) → at ≡ start_of f → Took old s new → ((d : ℕ) → m d ≡ and_then (datum_at d new) (value_in f d)) → after ≡ fs ++ f ∷ [] → (comma_due ≡ true → length new.unread < length old.unread)
-      → TurnsInside m at comma_due fs after old new (Ok None)
+      → TurnsBuildingInside m at comma_due fs after old new (Ok None)
   turn_goes after f new s is took reads grown less = record {
     goes = λ room w q h. subst (λ z. Building room w z None new) (sym grown)
         (subst (λ d. Within start_of value_in room w (fs ++ f ∷ []) (datum_at d new) new) (sym (room_within room fs f))
@@ -46,7 +46,7 @@ module _ (m : ℕ → Read Datum) (at : ℕ) (comma_due : Bool) (fs : List Unfin
   }
 
   -- it ended
-  turn_closed : (new : Cursor) (v : Value) (s : List ℕ) → Took old s new → ((d : ℕ) → m d ≡ got (value_of v) new.unread) → (comma_due ≡ true → length new.unread < length old.unread) → TurnsInside m at comma_due fs fs old new (Ok (Some v))
+  turn_closed : (new : Cursor) (v : Value) (s : List ℕ) → Took old s new → ((d : ℕ) → m d ≡ got (value_of v) new.unread) → (comma_due ≡ true → length new.unread < length old.unread) → TurnsBuildingInside m at comma_due fs fs old new (Ok (Some v))
   turn_closed new v s took reads less = record {
     goes = λ room w q h. closed start_of value_in room old w (m (room - length fs - 1)) fs at q h new (value_of v) s took (reads (room - length fs - 1));
     refused = tt;
@@ -55,7 +55,7 @@ module _ (m : ℕ → Read Datum) (at : ℕ) (comma_due : Bool) (fs : List Unfin
     no_longer = no_more_left old new s took;
   }
 
-  turn_refused : (after : List Unfinished) (new : Cursor) (own e : Error) → IsOutOfMemory own ⊎ ((d : ℕ) → Blames old.input (m d) own) → SameText old new → PlacedAt (StartsAfter new.input at) own e → TurnsInside m at comma_due fs after old new (Err e)
+  turn_refused : (after : List Unfinished) (new : Cursor) (own e : Error) → IsOutOfMemory own ⊎ ((d : ℕ) → RefusesRead old.input (m d) own) → SameText old new → PlacedAt (StartsAfter new.input at) own e → TurnsBuildingInside m at comma_due fs after old new (Err e)
   turn_refused after new own e (inl memory) g k = record { goes = tt; refused = inl (k.kind ∙ memory); same_text = g; shorter = tt; no_longer = tt }
   turn_refused after new own e (inr b) g k = record {
     goes = tt;
@@ -66,7 +66,7 @@ module _ (m : ℕ → Read Datum) (at : ℕ) (comma_due : Bool) (fs : List Unfin
   }
 
   -- memory ran out
-  pub turn_lacks_memory : (after : List Unfinished) (new : Cursor) (e : Error) → IsOutOfMemory e → SameText old new → TurnsInside m at comma_due fs after old new (Err e)
+  pub turn_lacks_memory : (after : List Unfinished) (new : Cursor) (e : Error) → IsOutOfMemory e → SameText old new → TurnsBuildingInside m at comma_due fs after old new (Err e)
   turn_lacks_memory after new e memory g = record { goes = tt; refused = inl memory; same_text = g; shorter = tt; no_longer = tt }
 
 -- ---- arrays
@@ -76,19 +76,19 @@ module _ (elements : Vec Value Global) (at : ℕ) (comma_due : Bool) (fs : List 
   array_is : (goes : Bool) (mid : Cursor) (d : ℕ) → Gave (next_value of_array comma_due old.unread) goes old mid → array_at elements.items comma_due old d ≡ array_turn (elements_before elements.items) d goes mid.unread
   array_is goes mid d g = array_step elements.items comma_due d old.unread ∙ ap (λ m. and_then m (array_turn (elements_before elements.items) d)) g.reads
 
-  pub array_goes_on : (goes : Bool) (after : List Unfinished) (new : Cursor) → goes ≡ true → Gave (next_value of_array comma_due old.unread) goes old new → after ≡ fs ++ unfinished.Array at elements ∷ [] → TurnsInside (array_at elements.items comma_due old) at comma_due fs after old new (Ok None)
+  pub array_goes_on : (goes : Bool) (after : List Unfinished) (new : Cursor) → goes ≡ true → Gave (next_value of_array comma_due old.unread) goes old new → after ≡ fs ++ unfinished.Array at elements ∷ [] → TurnsBuildingInside (array_at elements.items comma_due old) at comma_due fs after old new (Ok None)
   array_goes_on goes after new is g grown =
       turn_goes (array_at elements.items comma_due old) at comma_due fs old after (unfinished.Array at elements) new g.taken refl g.took
       (λ d. array_is goes new d g ∙ ap (λ b. array_turn (elements_before elements.items) d b new.unread) is) grown (λ d. next_shorter of_array comma_due goes old.unread new.unread g.reads d)
 
-  pub array_closed : (goes : Bool) (new : Cursor) → goes ≡ false → Gave (next_value of_array comma_due old.unread) goes old new → TurnsInside (array_at elements.items comma_due old) at comma_due fs fs old new (Ok (Some (value.Array elements)))
+  pub array_closed : (goes : Bool) (new : Cursor) → goes ≡ false → Gave (next_value of_array comma_due old.unread) goes old new → TurnsBuildingInside (array_at elements.items comma_due old) at comma_due fs fs old new (Ok (Some (value.Array elements)))
   array_closed goes new is g =
       turn_closed (array_at elements.items comma_due old) at comma_due fs old new (value.Array elements) g.taken g.took
       (λ d. array_is goes new d g ∙ ap (λ b. array_turn (elements_before elements.items) d b new.unread) is
       ∙ ap (λ xs. got (views.array xs) new.unread) (no_more_elements elements.items) ∙ ap (λ x. got x new.unread) (sym (view-Array elements)))
       (λ d. next_shorter of_array comma_due goes old.unread new.unread g.reads d)
 
-  pub array_refused : (after : List Unfinished) (new : Cursor) (own e : Error) → Blames old.input (next_value of_array comma_due old.unread) own → SameText old new → PlacedAt (StartsAfter new.input at) own e → TurnsInside (array_at elements.items comma_due old) at comma_due fs after old new (Err e)
+  pub array_refused : (after : List Unfinished) (new : Cursor) (own e : Error) → RefusesRead old.input (next_value of_array comma_due old.unread) own → SameText old new → PlacedAt (StartsAfter new.input at) own e → TurnsBuildingInside (array_at elements.items comma_due old) at comma_due fs after old new (Err e)
   array_refused after new own e b g k =
       turn_refused (array_at elements.items comma_due old) at comma_due fs old after new own e
       (inr (λ d. blames_as old.input old.input (next_value of_array comma_due old.unread) (array_at elements.items comma_due old d) own refl
@@ -102,10 +102,10 @@ module _ (members : Vec (String Global × Value) Global) (at : ℕ) (comma_due :
   object_is o mid d g = object_step members.items comma_due d old.unread ∙ ap (λ m. and_then m (object_turn (members_before members.items) d)) g.reads
 
   pub object_goes_on : (next : Option (String Global)) (key : String Global) (after : List Unfinished) (new : Cursor) → next ≡ Some key
-      → (o : Option (List ℕ × Bool)) × IsNextKey next o × Gave (next_key comma_due old.unread) o old new → after ≡ fs ++ unfinished.Object at members key ∷ [] → TurnsInside (object_at members.items comma_due old) at comma_due fs after old new (Ok None)
+      → (o : Option (List ℕ × Bool)) × IsNextKey next o × Gave (next_key comma_due old.unread) o old new → after ≡ fs ++ unfinished.Object at members key ∷ [] → TurnsBuildingInside (object_at members.items comma_due old) at comma_due fs after old new (Ok None)
   object_goes_on next key after new is (o, found, g) grown = by_key o g (subst (λ z. IsNextKey z o) is found)
     where
-      by_key : (o : Option (List ℕ × Bool)) → Gave (next_key comma_due old.unread) o old new → IsNextKey (Some key) o → TurnsInside (object_at members.items comma_due old) at comma_due fs after old new (Ok None)
+      by_key : (o : Option (List ℕ × Bool)) → Gave (next_key comma_due old.unread) o old new → IsNextKey (Some key) o → TurnsBuildingInside (object_at members.items comma_due old) at comma_due fs after old new (Ok None)
       by_key None g k = absurd k
       by_key (Some a) g k =
           turn_goes (object_at members.items comma_due old) at comma_due fs old after (unfinished.Object at members key) new g.taken refl g.took
@@ -113,10 +113,10 @@ module _ (members : Vec (String Global × Value) Global) (at : ℕ) (comma_due :
           grown (λ d. key_shorter comma_due (Some a) old.unread new.unread g.reads d)
 
   pub object_closed : (next : Option (String Global)) (new : Cursor) → next ≡ None → (o : Option (List ℕ × Bool)) × IsNextKey next o × Gave (next_key comma_due old.unread) o old new
-      → TurnsInside (object_at members.items comma_due old) at comma_due fs fs old new (Ok (Some (value.Object members)))
+      → TurnsBuildingInside (object_at members.items comma_due old) at comma_due fs fs old new (Ok (Some (value.Object members)))
   object_closed next new is (o, found, g) = by_key o g (subst (λ z. IsNextKey z o) is found)
     where
-      by_key : (o : Option (List ℕ × Bool)) → Gave (next_key comma_due old.unread) o old new → IsNextKey None o → TurnsInside (object_at members.items comma_due old) at comma_due fs fs old new (Ok (Some (value.Object members)))
+      by_key : (o : Option (List ℕ × Bool)) → Gave (next_key comma_due old.unread) o old new → IsNextKey None o → TurnsBuildingInside (object_at members.items comma_due old) at comma_due fs fs old new (Ok (Some (value.Object members)))
       by_key (Some a) g k = absurd k
       by_key None g k =
           turn_closed (object_at members.items comma_due old) at comma_due fs old new (value.Object members) g.taken g.took
@@ -124,10 +124,10 @@ module _ (members : Vec (String Global × Value) Global) (at : ℕ) (comma_due :
           (λ d. key_shorter comma_due None old.unread new.unread g.reads d)
 
   pub object_refused : (after : List Unfinished) (new : Cursor) (own e : Error) → BlamesOrMemory old.input (next_key comma_due old.unread) own → SameText old new → PlacedAt (StartsAfter new.input at) own e
-      → TurnsInside (object_at members.items comma_due old) at comma_due fs after old new (Err e)
+      → TurnsBuildingInside (object_at members.items comma_due old) at comma_due fs after old new (Err e)
   object_refused after new own e b g k = turn_refused (object_at members.items comma_due old) at comma_due fs old after new own e (by_cause b) g k
     where
-      by_cause : BlamesOrMemory old.input (next_key comma_due old.unread) own → IsOutOfMemory own ⊎ ((d : ℕ) → Blames old.input (object_at members.items comma_due old d) own)
+      by_cause : BlamesOrMemory old.input (next_key comma_due old.unread) own → IsOutOfMemory own ⊎ ((d : ℕ) → RefusesRead old.input (object_at members.items comma_due old d) own)
       by_cause (inl memory) = inl memory
       by_cause (inr b) = inr (λ d. blames_as old.input old.input (next_key comma_due old.unread) (object_at members.items comma_due old d) own refl
           (λ c p is. object_step members.items comma_due d old.unread ∙ ap (λ m. and_then m (object_turn (members_before members.items) d)) is) b)
@@ -135,7 +135,7 @@ module _ (members : Vec (String Global × Value) Global) (at : ℕ) (comma_due :
 -- ---- a value in an array or an object that is unfinished
 
 -- the same of a reading that is equal at each depth
-pub turns_as : (m n : ℕ → Read Datum) (at : ℕ) (comma_due : Bool) (fs after : List Unfinished) (old new : Cursor) (result : Result (Option Value) Error) → ((d : ℕ) → m d ≡ n d) → TurnsInside n at comma_due fs after old new result → TurnsInside m at comma_due fs after old new result
+pub turns_as : (m n : ℕ → Read Datum) (at : ℕ) (comma_due : Bool) (fs after : List Unfinished) (old new : Cursor) (result : Result (Option Value) Error) → ((d : ℕ) → m d ≡ n d) → TurnsBuildingInside n at comma_due fs after old new result → TurnsBuildingInside m at comma_due fs after old new result
 turns_as m n at comma_due fs after old new (Ok ended) same k = record {
   goes = λ room w q h. k.goes room w q (subst (λ z. InsideOf room w q z) (same (room - length fs - 1)) h);
   refused = tt;
@@ -148,18 +148,18 @@ turns_as m n at comma_due fs after old new (Ok ended) same k = record {
     InsideOf room w q z = BuildingInside room w fs at (λ d. z) q old
 turns_as m n at comma_due fs after old new (Err e) same k = record { goes = tt; refused = by_cause k.refused; same_text = k.same_text; shorter = tt; no_longer = tt }
   where
-    by_cause : IsOutOfMemory e ⊎ ((room : ℕ) (w : Read Datum) (q : List ℕ) → BuildingInside room w fs at n q old → Blames old.input w e) → IsOutOfMemory e ⊎ ((room : ℕ) (w : Read Datum) (q : List ℕ) → BuildingInside room w fs at m q old → Blames old.input w e)
+    by_cause : IsOutOfMemory e ⊎ ((room : ℕ) (w : Read Datum) (q : List ℕ) → BuildingInside room w fs at n q old → RefusesRead old.input w e) → IsOutOfMemory e ⊎ ((room : ℕ) (w : Read Datum) (q : List ℕ) → BuildingInside room w fs at m q old → RefusesRead old.input w e)
     by_cause (inl memory) = inl memory
     by_cause (inr b) = inr (λ room w q h. b room w q (subst (λ z. BuildingInside room w fs at (λ d. z) q old) (same (room - length fs - 1)) h))
 
 pub element_attached : (f : Unfinished) (at : ℕ) (elements grown : Vec Value Global) (v : Value) (fs after : List Unfinished) (old new : Cursor) (result : Result (Option Value) Error) → f ≡ unfinished.Array at elements → grown.items ≡ elements.items ++ v ∷ []
-    → TurnsInside (array_at grown.items true old) at true fs after old new result → TurnsInside (value_in_at f v old) (start_of f) true fs after old new result
+    → TurnsBuildingInside (array_at grown.items true old) at true fs after old new result → TurnsBuildingInside (value_in_at f v old) (start_of f) true fs after old new result
 element_attached f at elements grown v fs after old new result is more k =
-    subst (λ g. TurnsInside (value_in_at g v old) (start_of g) true fs after old new result) (sym is)
+    subst (λ g. TurnsBuildingInside (value_in_at g v old) (start_of g) true fs after old new result) (sym is)
     (turns_as (value_in_at (unfinished.Array at elements) v old) (array_at grown.items true old) at true fs after old new result (λ d. sym (array_grown elements.items grown.items v d old.unread more)) k)
 
 pub member_attached : (f : Unfinished) (at : ℕ) (members grown : Vec (String Global × Value) Global) (key : String Global) (v : Value) (fs after : List Unfinished) (old new : Cursor) (result : Result (Option Value) Error) → f ≡ unfinished.Object at members key
-    → grown.items ≡ members.items ++ (key, v) ∷ [] → TurnsInside (object_at grown.items true old) at true fs after old new result → TurnsInside (value_in_at f v old) (start_of f) true fs after old new result
+    → grown.items ≡ members.items ++ (key, v) ∷ [] → TurnsBuildingInside (object_at grown.items true old) at true fs after old new result → TurnsBuildingInside (value_in_at f v old) (start_of f) true fs after old new result
 member_attached f at members grown key v fs after old new result is more k =
-    subst (λ g. TurnsInside (value_in_at g v old) (start_of g) true fs after old new result) (sym is)
+    subst (λ g. TurnsBuildingInside (value_in_at g v old) (start_of g) true fs after old new result) (sym is)
     (turns_as (value_in_at (unfinished.Object at members key) v old) (object_at grown.items true old) at true fs after old new result (λ d. sym (object_grown members.items grown.items key v d old.unread more)) k)

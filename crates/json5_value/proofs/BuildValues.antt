@@ -16,11 +16,11 @@ use Rattle.json5_value.specs.declared.brackets.BracketKind.TheVariants as bracke
 use Rattle.json5_value.specs.declared.brackets.OpenBracket.{OpenBracket}
 use Rattle.json5_value.specs.declared.read.Unfinished.{Unfinished}
 use Rattle.json5_value.specs.Brackets.{bracket_of}
-use Rattle.json5_value.specs.BuildSteps.{array_at, object_at, value_in_at, start_of, value_in, Building, BuildingInside, PlacedIn, Turns, TurnsInside}
+use Rattle.json5_value.specs.BuildSteps.{array_at, object_at, value_in_at, start_of, value_in, Building, BuildingInside, PlacedIn, TurnsBuilding, TurnsBuildingInside}
 use Rattle.json5_value.specs.Keeping.{BlamesOrMemory, as_datum, datum_at, ReadsDatum}
 use Rattle.json5_value.specs.Nesting.{Nested}
 use Rattle.json5_value.specs.Opening.{OpenedAt}
-use Rattle.json5_value.specs.Steps.{IsInside, SameText, Blames, Gave}
+use Rattle.json5_value.specs.Steps.{IsInside, SameText, RefusesRead, Gave}
 use Rattle.json5_value.proofs.BuildRests.{array_opened, object_opened}
 use Rattle.json5_value.proofs.Nesting.{value_ended, value_opened, whole_blamed, innermost_blamed, ends_inside}
 use Rattle.json5_value.proofs.SkipTurns.{ready_opened}
@@ -32,7 +32,7 @@ use Rattle.json5_value.proofs.BuildScalars.{datum_got}
 pub room_left : (room : ℕ) (stack : Vec Unfinished Global) (count left : ℕ) → count ≡ vec_len stack → left ≡ room - count → left ≡ room - length stack.items
 room_left room stack count left is less = let same = stack.ok in omega (arith, is, less, same)
 
-pub first_scalar : (room : ℕ) (fs after : List Unfinished) (old new : Cursor) (v : Value) → Gave (datum_at (room - length fs) old) (value_of v) old new → after ≡ fs → length new.unread < length old.unread → Turns room fs after old new (Ok (Some v))
+pub first_scalar : (room : ℕ) (fs after : List Unfinished) (old new : Cursor) (v : Value) → Gave (datum_at (room - length fs) old) (value_of v) old new → after ≡ fs → length new.unread < length old.unread → TurnsBuilding room fs after old new (Ok (Some v))
 first_scalar room fs after old new v g same less = record {
   goes = λ w h. subst (λ z. Building room w z (Some v) new) (sym same) (value_ended start_of value_in room old new w (datum_at (room - length fs) old) fs (value_of v) h g);
   refused = tt;
@@ -50,7 +50,7 @@ module _ (room : ℕ) (fs : List Unfinished) (f : OpenBracket) (m : ℕ → Read
       value_opened start_of value_in room old mid w (datum_at (room - length fs) old) (m (room - length fs - 1)) fs f.start h (ready_opened (room - length fs) f old mid ready o) o.counted o.same_text o.room_left
       (ap (λ k. as_datum (read k old.unread)) more ∙ ap (λ z. as_datum (read (suc (room - length fs - 1)) z)) o.sign ∙ reads (room - length fs - 1) ∙ ap (λ z. placed z (m (room - length fs - 1))) (sym o.sign))
 
-  first_bracket : (after : List Unfinished) (new : Cursor) (result : Result (Option Value) Error) → length mid.unread < length old.unread → TurnsInside m f.start false fs after mid new result → Turns room fs after old new result
+  first_bracket : (after : List Unfinished) (new : Cursor) (result : Result (Option Value) Error) → length mid.unread < length old.unread → TurnsBuildingInside m f.start false fs after mid new result → TurnsBuilding room fs after old new result
   first_bracket after new (Ok ended) less t = record {
     goes = λ w h. t.goes room w old.unread (inside_of w h);
     refused = tt;
@@ -59,13 +59,13 @@ module _ (room : ℕ) (fs : List Unfinished) (f : OpenBracket) (m : ℕ → Read
   }
   first_bracket after new (Err e) less t = record { goes = tt; refused = by_cause t.refused; same_text = t.same_text ∙ o.same_text; shorter = tt }
     where
-      by_cause : IsOutOfMemory e ⊎ ((room : ℕ) (w : Read Datum) (q : List ℕ) → BuildingInside room w fs f.start m q mid → Blames mid.input w e) → IsOutOfMemory e ⊎ ((w : Read Datum) → Building room w fs None old → Blames old.input w e)
+      by_cause : IsOutOfMemory e ⊎ ((room : ℕ) (w : Read Datum) (q : List ℕ) → BuildingInside room w fs f.start m q mid → RefusesRead mid.input w e) → IsOutOfMemory e ⊎ ((w : Read Datum) → Building room w fs None old → RefusesRead old.input w e)
       by_cause (inl memory) = inl memory
-      by_cause (inr k) = inr (λ w h. subst (λ z. Blames z w e) o.same_text (k room w old.unread (inside_of w h)))
+      by_cause (inr k) = inr (λ w h. subst (λ z. RefusesRead z w e) o.same_text (k room w old.unread (inside_of w h)))
 
 -- an array or an object without a member so far is what stands after its bracket
 pub array_begun : (room : ℕ) (fs after : List Unfinished) (f : OpenBracket) (elements : Vec Value Global) (old mid new : Cursor) (result : Result (Option Value) Error) → IsInside old → OpenedAt (room - length fs) f old mid → f.kind ≡ bracket.Array → elements.items ≡ []
-    → length mid.unread < length old.unread → TurnsInside (array_at elements.items false mid) f.start false fs after mid new result → Turns room fs after old new result
+    → length mid.unread < length old.unread → TurnsBuildingInside (array_at elements.items false mid) f.start false fs after mid new result → TurnsBuilding room fs after old new result
 array_begun room fs after f elements old mid new result ready o is none less t =
     first_bracket room fs f (array_at elements.items false mid) old mid ready o
     (subst (λ vs. (d : ℕ) → as_datum (read (suc d) (opening (bracket_of f.kind) ∷ mid.unread)) ≡ placed (opening (bracket_of f.kind) ∷ mid.unread) (array_at vs false mid d)) (sym none)
@@ -73,7 +73,7 @@ array_begun room fs after f elements old mid new result ready o is none less t =
     after new result less t
 
 pub object_begun : (room : ℕ) (fs after : List Unfinished) (f : OpenBracket) (members : Vec (String Global × Value) Global) (old mid new : Cursor) (result : Result (Option Value) Error) → IsInside old → OpenedAt (room - length fs) f old mid → f.kind ≡ bracket.Object
-    → members.items ≡ [] → length mid.unread < length old.unread → TurnsInside (object_at members.items false mid) f.start false fs after mid new result → Turns room fs after old new result
+    → members.items ≡ [] → length mid.unread < length old.unread → TurnsBuildingInside (object_at members.items false mid) f.start false fs after mid new result → TurnsBuilding room fs after old new result
 object_begun room fs after f members old mid new result ready o is none less t =
     first_bracket room fs f (object_at members.items false mid) old mid ready o
     (subst (λ vs. (d : ℕ) → as_datum (read (suc d) (opening (bracket_of f.kind) ∷ mid.unread)) ≡ placed (opening (bracket_of f.kind) ∷ mid.unread) (object_at vs false mid d)) (sym none)
@@ -81,13 +81,13 @@ object_begun room fs after f members old mid new result ready o is none less t =
     after new result less t
 
 -- the value is refused before a bracket of it is open
-pub first_refused : (room : ℕ) (fs after : List Unfinished) (old new : Cursor) (own e : Error) → BlamesOrMemory old.input (datum_at (room - length fs) old) own → SameText old new → PlacedIn new.input fs own e → Turns room fs after old new (Err e)
+pub first_refused : (room : ℕ) (fs after : List Unfinished) (old new : Cursor) (own e : Error) → BlamesOrMemory old.input (datum_at (room - length fs) old) own → SameText old new → PlacedIn new.input fs own e → TurnsBuilding room fs after old new (Err e)
 first_refused room fs after old new own e b g k = record { goes = tt; refused = by_cause b (subst (λ z. PlacedIn z fs own e) g k); same_text = g; shorter = tt }
   where
-    by_cause : BlamesOrMemory old.input (datum_at (room - length fs) old) own → PlacedIn old.input fs own e → IsOutOfMemory e ⊎ ((w : Read Datum) → Building room w fs None old → Blames old.input w e)
+    by_cause : BlamesOrMemory old.input (datum_at (room - length fs) old) own → PlacedIn old.input fs own e → IsOutOfMemory e ⊎ ((w : Read Datum) → Building room w fs None old → RefusesRead old.input w e)
     by_cause (inl memory) (inl (none, same)) = inl (ap kind_of same ∙ memory)
     by_cause (inl memory) (inr (gs, f, is, p)) = inl (p.kind ∙ memory)
-    by_cause (inr b) (inl (none, same)) = inr (λ w h. whole_blamed start_of value_in room old w (datum_at (room - length fs) old) fs e h none (subst (λ z. Blames old.input (datum_at (room - length fs) old) z) (sym same) b))
+    by_cause (inr b) (inl (none, same)) = inr (λ w h. whole_blamed start_of value_in room old w (datum_at (room - length fs) old) fs e h none (subst (λ z. RefusesRead old.input (datum_at (room - length fs) old) z) (sym same) b))
     by_cause (inr b) (inr (gs, f, is, p)) = inr (λ w h. innermost_blamed start_of value_in room old w (datum_at (room - length fs) old) fs gs f own e h is b p)
 
 -- ---- the whole
@@ -105,9 +105,9 @@ pub ended_inside : (room : ℕ) (w : Read Datum) (now : Cursor) (gs fs : List Un
 ended_inside room w now gs fs f v is h = ends_inside start_of value_in room now w gs fs f (value_of v) is h
 
 pub member_not_read : (room : ℕ) (old now new : Cursor) (fs : List Unfinished) (at : ℕ) (m : ℕ → Read Datum) (q : List ℕ) (e : Error) → BuildingInside room (datum_at room old) fs at m q now → SameText old now
-    → IsOutOfMemory e ⊎ ((room : ℕ) (w : Read Datum) (q : List ℕ) → BuildingInside room w fs at m q now → Blames now.input w e) → SameText now new → ReadsDatum room old new (Err e)
+    → IsOutOfMemory e ⊎ ((room : ℕ) (w : Read Datum) (q : List ℕ) → BuildingInside room w fs at m q now → RefusesRead now.input w e) → SameText now new → ReadsDatum room old new (Err e)
 member_not_read room old now new fs at m q e h same b g = record { given = tt; refused = by_cause b; same_text = g ∙ same }
   where
-    by_cause : IsOutOfMemory e ⊎ ((room : ℕ) (w : Read Datum) (q : List ℕ) → BuildingInside room w fs at m q now → Blames now.input w e) → BlamesOrMemory old.input (datum_at room old) e
+    by_cause : IsOutOfMemory e ⊎ ((room : ℕ) (w : Read Datum) (q : List ℕ) → BuildingInside room w fs at m q now → RefusesRead now.input w e) → BlamesOrMemory old.input (datum_at room old) e
     by_cause (inl memory) = inl memory
-    by_cause (inr k) = inr (subst (λ z. Blames z (datum_at room old) e) same (k room (datum_at room old) q h))
+    by_cause (inr k) = inr (subst (λ z. RefusesRead z (datum_at room old) e) same (k room (datum_at room old) q h))

@@ -11,14 +11,14 @@ use Rattle.json5_grammar.specs.Model.ReadValues.{colon_at}
 use Rattle.json5_text.specs.declared.error.Error.{Error}
 use Rattle.json5_text.specs.Cursor.{Cursor, Took, Refused}
 use Rattle.json5_value.specs.Entries.{entry_front, entry_start, due_comma, next_entry}
-use Rattle.json5_value.specs.Steps.{IsInside, SameText, Blames, Gave, Steps, Unexpected}
+use Rattle.json5_value.specs.Steps.{IsInside, SameText, RefusesRead, Gave, Steps, Unexpected}
 use Rattle.json5_value.proofs.Signs.{no_comma, no_colon}
 use Rattle.json5_value.proofs.Steps.{same_of, ready_next, then_step, first_step_refused, same_step, took_step, refused_step, took_nothing, refused_there}
 
 -- ---- colons
 
 -- the blanks before the colon are refused
-pub colon_blanks : (old new : Cursor) (e : Error) → Blames old.input (skip between old.unread) e → SameText old new → Steps (colon_after old.unread) old new (Err e)
+pub colon_blanks : (old new : Cursor) (e : Error) → RefusesRead old.input (skip between old.unread) e → SameText old new → Steps (colon_after old.unread) old new (Err e)
 colon_blanks old new e b g = first_step_refused old new (skip between old.unread) _ e b g
 
 -- no colon stands there
@@ -48,7 +48,7 @@ after_blanks : (k : BracketKind) (old mid new : Cursor) (u : Unit {0}) (result :
 after_blanks k old mid new u result g s = same_step old new (separator k old.unread) _ result (separator_is k old.unread) (then_step old mid new (skip between old.unread) u _ result g s)
 
 -- the blanks are refused
-pub comma_blanks : (k : BracketKind) (old new : Cursor) (e : Error) → Blames old.input (skip between old.unread) e → SameText old new → Steps (separator k old.unread) old new (Err e)
+pub comma_blanks : (k : BracketKind) (old new : Cursor) (e : Error) → RefusesRead old.input (skip between old.unread) e → SameText old new → Steps (separator k old.unread) old new (Err e)
 comma_blanks k old new e b g = same_step old new (separator k old.unread) _ (Err e) (separator_is k old.unread) (first_step_refused old new (skip between old.unread) (λ u y. comma_at k y) e b g)
 
 pub comma_taken : (k : BracketKind) (old mid new : Cursor) (u : Unit {0}) → Gave (skip between old.unread) u old mid → Took mid (44 ∷ []) new → Steps (separator k old.unread) old new (Ok true)
@@ -88,7 +88,7 @@ abbrev pub start_or_end : BracketKind → Bool → List ℕ → Read Bool
 start_or_end k more y = cond more (entry_start k y) (got false y)
 
 -- the comma is refused, or the bracket was closed in its place
-pub comma_refused : (k : BracketKind) (comma_due : Bool) (old new : Cursor) (e : Error) → Blames old.input (due_comma k comma_due old.unread) e → SameText old new → Steps (next_entry k comma_due old.unread) old new (Err e)
+pub comma_refused : (k : BracketKind) (comma_due : Bool) (old new : Cursor) (e : Error) → RefusesRead old.input (due_comma k comma_due old.unread) e → SameText old new → Steps (next_entry k comma_due old.unread) old new (Err e)
 comma_refused k comma_due old new e b g = first_step_refused old new (due_comma k comma_due old.unread) (start_or_end k) e b g
 
 pub closed_for_comma : (k : BracketKind) (comma_due more : Bool) (old new : Cursor) → more ≡ false → Gave (due_comma k comma_due old.unread) more old new → Steps (next_entry k comma_due old.unread) old new (Ok false)
@@ -99,7 +99,7 @@ after_comma k comma_due more old mid new result is g s =
     then_step old mid new (due_comma k comma_due old.unread) more (start_or_end k) result g (same_step mid new (start_or_end k more mid.unread) (entry_start k mid.unread) result (ap (λ b. start_or_end k b mid.unread) is) s)
 
 -- the blanks are refused
-pub entry_blanks : (k : BracketKind) (comma_due more : Bool) (old mid new : Cursor) (e : Error) → more ≡ true → Gave (due_comma k comma_due old.unread) more old mid → Blames mid.input (skip between mid.unread) e → SameText mid new → Steps (next_entry k comma_due old.unread) old new (Err e)
+pub entry_blanks : (k : BracketKind) (comma_due more : Bool) (old mid new : Cursor) (e : Error) → more ≡ true → Gave (due_comma k comma_due old.unread) more old mid → RefusesRead mid.input (skip between mid.unread) e → SameText mid new → Steps (next_entry k comma_due old.unread) old new (Err e)
 entry_blanks k comma_due more old mid new e is g b f = after_comma k comma_due more old mid new (Err e) is g (first_step_refused mid new (skip between mid.unread) (λ u y. entry_front k y) e b f)
 
 -- the bracket was closed, or not

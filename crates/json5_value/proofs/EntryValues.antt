@@ -12,7 +12,7 @@ use Rattle.json5_text.specs.declared.error.Error.{Error}
 use Rattle.json5_text.specs.Errors.{code, kind_of, place_of}
 use Rattle.json5_text.specs.Cursor.{Cursor}
 use Rattle.json5_value.specs.Entries.{entry_front, entry_start, next_entry}
-use Rattle.json5_value.specs.Steps.{SameText, Blames, Gave, Steps}
+use Rattle.json5_value.specs.Steps.{SameText, RefusesRead, Gave, Steps}
 use Rattle.json5_value.proofs.EntrySteps.{start_or_end}
 use Rattle.json5_value.proofs.Steps.{none_next, some_next, blames_made, then_step, first_step_refused, same_step, took_step, refused_step, took_nothing}
 
@@ -61,7 +61,7 @@ next_is k true x = by_comma (separator k x)
     by_comma (got false y) = refl
     by_comma (bad c p) = refl
 
-pub next_refused : (k : BracketKind) (comma_due : Bool) (old new : Cursor) (e : Error) → Blames old.input (next_entry k comma_due old.unread) e → SameText old new → Steps (next_value k comma_due old.unread) old new (Err e)
+pub next_refused : (k : BracketKind) (comma_due : Bool) (old new : Cursor) (e : Error) → RefusesRead old.input (next_entry k comma_due old.unread) e → SameText old new → Steps (next_value k comma_due old.unread) old new (Err e)
 next_refused k comma_due old new e b g = same_step old new (next_value k comma_due old.unread) _ (Err e) (next_is k comma_due old.unread) (first_step_refused old new (next_entry k comma_due old.unread) (head_or_end k) e b g)
 
 pub next_closed : (k : BracketKind) (comma_due goes : Bool) (old new : Cursor) → goes ≡ false → Gave (next_entry k comma_due old.unread) goes old new → Steps (next_value k comma_due old.unread) old new (Ok false)
@@ -90,11 +90,11 @@ module _ (k : BracketKind) (comma_due goes : Bool) (old mid : Cursor) (e : k ≡
   of_member new result s = next_found k of_object comma_due goes old mid new result e is g (same_step mid new (pair_head mid.unread) _ result (forget_then (key mid.unread) after_key) s)
 
   -- its key is refused
-  pub key_refused : (new : Cursor) (own : Error) → Blames mid.input (forget (key mid.unread)) own → SameText mid new → Steps (next_value k comma_due old.unread) old new (Err own)
+  pub key_refused : (new : Cursor) (own : Error) → RefusesRead mid.input (forget (key mid.unread)) own → SameText mid new → Steps (next_value k comma_due old.unread) old new (Err own)
   key_refused new own b f = of_member new (Err own) (first_step_refused mid new (forget (key mid.unread)) (λ v r. after_key r) own b f)
 
   -- its colon is refused
-  pub colon_refused : (last new : Cursor) (v : Unit {0}) (own : Error) → Gave (forget (key mid.unread)) v mid last → Blames last.input (colon_after last.unread) own → SameText last new → Steps (next_value k comma_due old.unread) old new (Err own)
+  pub colon_refused : (last new : Cursor) (v : Unit {0}) (own : Error) → Gave (forget (key mid.unread)) v mid last → RefusesRead last.input (colon_after last.unread) own → SameText last new → Steps (next_value k comma_due old.unread) old new (Err own)
   colon_refused last new v own name b f =
       of_member new (Err own) (then_step mid last new (forget (key mid.unread)) v (λ v r. after_key r) (Err own) name (first_step_refused last new (colon_after last.unread) (λ u y. got true y) own b f))
 

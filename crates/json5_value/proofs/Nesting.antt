@@ -5,9 +5,9 @@ use Rattle.json5_grammar.specs.Model.Reading.{Read, Place, here, inner, got, bad
 use Rattle.json5_text.specs.declared.error.Error.{Error}
 use Rattle.json5_text.specs.Errors.{kind_of, or_place}
 use Rattle.json5_text.specs.Cursor.{Cursor, Took, Says, IsOutOfMemory}
-use Rattle.json5_value.specs.Nesting.{Nested, Within, Inside}
+use Rattle.json5_value.specs.Nesting.{Nested, Within, WithinInner}
 use Rattle.json5_value.specs.Places.{StartsAfter, PlacedAt, CountsTo}
-use Rattle.json5_value.specs.Steps.{IsInside, SameText, StandsAt, Blames, Gave}
+use Rattle.json5_value.specs.Steps.{IsInside, SameText, HasPositionAt, RefusesRead, Gave}
 use Rattle.json5_value.proofs.Steps.{ready_after, blames_as}
 
 -- ---- places
@@ -17,10 +17,10 @@ says_same (Some c) own e k s = k ∙ s
 says_same None own e k (text, s) = (text, k ∙ s)
 
 -- a fault without a place gets the bracket's
-blames_placed : {A : Type 0} (input q : List ℕ) (start : ℕ) (m : Read A) (own e : Error) → CountsTo input start q → PlacedAt (StartsAfter input start) own e → Blames input m own → Blames input (placed q m) e
+blames_placed : {A : Type 0} (input q : List ℕ) (start : ℕ) (m : Read A) (own e : Error) → CountsTo input start q → PlacedAt (StartsAfter input start) own e → RefusesRead input m own → RefusesRead input (placed q m) e
 blames_placed {A = A} input q start m own e (before, split, counted) k b = by_place b.place b.is_bad b.says
   where
-    by_place : (p : Place) → m ≡ bad b.reason p → IsOutOfMemory own ⊎ (Says b.reason own × StandsAt input p own) → Blames input (placed q m) e
+    by_place : (p : Place) → m ≡ bad b.reason p → IsOutOfMemory own ⊎ (Says b.reason own × HasPositionAt input p own) → RefusesRead input (placed q m) e
     by_place (here z) is says = record {
       reason = b.reason;
       place = here z;
@@ -29,7 +29,7 @@ blames_placed {A = A} input q start m own e (before, split, counted) k b = by_pl
       unprompted = λ f. b.unprompted (sym k.kind ∙ f);
     }
       where
-        kept : IsOutOfMemory own ⊎ (Says b.reason own × StandsAt input (here z) own) → IsOutOfMemory e ⊎ (Says b.reason e × StandsAt input (here z) e)
+        kept : IsOutOfMemory own ⊎ (Says b.reason own × HasPositionAt input (here z) own) → IsOutOfMemory e ⊎ (Says b.reason e × HasPositionAt input (here z) e)
         kept (inl memory) = inl (k.kind ∙ memory)
         kept (inr (s, (front, there, place))) = inr (says_same b.reason own e k.kind s, (front, there, k.place ∙ ap (λ o. or_place o k.there) place))
     by_place inner is says = record {
@@ -40,7 +40,7 @@ blames_placed {A = A} input q start m own e (before, split, counted) k b = by_pl
       unprompted = λ f. b.unprompted (sym k.kind ∙ f);
     }
       where
-        given : IsOutOfMemory own ⊎ (Says b.reason own × StandsAt input inner own) → IsOutOfMemory e ⊎ (Says b.reason e × StandsAt input (here q) e)
+        given : IsOutOfMemory own ⊎ (Says b.reason own × HasPositionAt input inner own) → IsOutOfMemory e ⊎ (Says b.reason e × HasPositionAt input (here q) e)
         given (inl memory) = inl (k.kind ∙ memory)
         given (inr (s, none)) = inr (says_same b.reason own e k.kind s, (before, split, k.place ∙ ap (λ o. or_place o k.there) none ∙ ap (λ z. Some z) (k.is_there before (record { rest = q; split = split; counted = counted }))))
 
@@ -70,7 +70,7 @@ module _ {F D : Type 0} (start : F → ℕ) (after : F → ℕ → D → List �
   nested_as input other d fs m n w same is h = subst (λ z. Nested start after z d fs n w) same (subst (λ z. Nested start after input d fs z w) is h)
 
   -- what is refused in the innermost is refused in the whole
-  blames_whole : (input : List ℕ) (d : ℕ) (fs : List F) (q : List ℕ) (m w : Read D) (e : Error) → Nested start after input d fs (placed q m) w → Blames input (placed q m) e → Blames input w e
+  blames_whole : (input : List ℕ) (d : ℕ) (fs : List F) (q : List ℕ) (m w : Read D) (e : Error) → Nested start after input d fs (placed q m) w → RefusesRead input (placed q m) e → RefusesRead input w e
   blames_whole input d fs q m w e h b = by_place b.place b.is_bad b.says
     where
       has_place : (n : Read D) (c : Option ErrorCode) → placed q n ≡ bad c inner → ⊥
@@ -78,13 +78,13 @@ module _ {F D : Type 0} (start : F → ℕ) (after : F → ℕ → D → List �
       has_place (bad f (here z)) c is = cc
       has_place (bad f inner) c is = cc
 
-      by_place : (p : Place) → placed q m ≡ bad b.reason p → IsOutOfMemory e ⊎ (Says b.reason e × StandsAt input p e) → Blames input w e
+      by_place : (p : Place) → placed q m ≡ bad b.reason p → IsOutOfMemory e ⊎ (Says b.reason e × HasPositionAt input p e) → RefusesRead input w e
       by_place (here z) is says = record { reason = b.reason; place = here z; is_bad = nested_fault input d fs w b.reason z (nested_as input input d fs (placed q m) (bad b.reason (here z)) w refl is h); says = says; unprompted = b.unprompted }
       by_place inner is says = absurd (has_place m b.reason is)
 
   -- ---- within one more
 
-  module _ (room : ℕ) (old : Cursor) (w m : Read D) (fs : List F) (at : ℕ) (q : List ℕ) (h : Inside start after room w fs at m q old) where
+  module _ (room : ℕ) (old : Cursor) (w m : Read D) (fs : List F) (at : ℕ) (q : List ℕ) (h : WithinInner start after room w fs at m q old) where
     -- a value of it is reached
     pub value_reached : (f : F) (new : Cursor) (v : Read D) (s : List ℕ) → at ≡ start f → Took old s new → m ≡ and_then v (after f (room - length fs - 1)) → Within start after room w (fs ++ f ∷ []) v new
     value_reached f new v s is took reads = record {
@@ -96,7 +96,7 @@ module _ {F D : Type 0} (start : F → ℕ) (after : F → ℕ → D → List �
     }
 
     -- something of it was passed over
-    pub moved : (new : Cursor) (n : Read D) (s : List ℕ) → Took old s new → m ≡ n → Inside start after room w fs at n q new
+    pub moved : (new : Cursor) (n : Read D) (s : List ℕ) → Took old s new → m ≡ n → WithinInner start after room w fs at n q new
     moved new n s took reads = record {
       ready = ready_after old new s h.ready took;
       fits = h.fits;
@@ -113,7 +113,7 @@ module _ {F D : Type 0} (start : F → ℕ) (after : F → ℕ → D → List �
     }
 
     -- it is refused
-    pub inside_blamed : (input : List ℕ) (own e : Error) → Blames old.input m own → PlacedAt (StartsAfter input at) own e → input ≡ old.input → Blames old.input w e
+    pub inside_blamed : (input : List ℕ) (own e : Error) → RefusesRead old.input m own → PlacedAt (StartsAfter input at) own e → input ≡ old.input → RefusesRead old.input w e
     inside_blamed input own e b k same =
         blames_whole old.input room fs q m w e h.nested (blames_placed old.input q at m own e h.counted (subst (λ z. PlacedAt (StartsAfter z at) own e) same k) b)
 
@@ -129,7 +129,7 @@ module _ {F D : Type 0} (start : F → ℕ) (after : F → ℕ → D → List �
 
   -- it was opened
   pub value_opened : (room : ℕ) (old mid : Cursor) (w m n : Read D) (fs : List F) (at : ℕ) → Within start after room w fs m old → IsInside mid → CountsTo old.input at old.unread → SameText old mid → 0 < room - length fs → m ≡ placed old.unread n
-      → Inside start after room w fs at n old.unread mid
+      → WithinInner start after room w fs at n old.unread mid
   value_opened room old mid w m n fs at h ready counted same left reads = record {
     ready = ready;
     fits = omega (arith, left);
@@ -138,15 +138,15 @@ module _ {F D : Type 0} (start : F → ℕ) (after : F → ℕ → D → List �
   }
 
   -- it is refused where nothing is open
-  pub whole_blamed : (room : ℕ) (old : Cursor) (w m : Read D) (fs : List F) (e : Error) → Within start after room w fs m old → fs ≡ [] → Blames old.input m e → Blames old.input w e
+  pub whole_blamed : (room : ℕ) (old : Cursor) (w m : Read D) (fs : List F) (e : Error) → Within start after room w fs m old → fs ≡ [] → RefusesRead old.input m e → RefusesRead old.input w e
   whole_blamed room old w m fs e h none b = blames_as old.input old.input m w e refl (λ c p is. subst (λ gs. Nested start after old.input room gs m w) none h.nested ∙ is) b
 
   -- it is refused in the innermost
-  pub innermost_blamed : (room : ℕ) (old : Cursor) (w m : Read D) (gs fs : List F) (f : F) (own e : Error) → Within start after room w gs m old → gs ≡ fs ++ f ∷ [] → Blames old.input m own → PlacedAt (StartsAfter old.input (start f)) own e → Blames old.input w e
+  pub innermost_blamed : (room : ℕ) (old : Cursor) (w m : Read D) (gs fs : List F) (f : F) (own e : Error) → Within start after room w gs m old → gs ≡ fs ++ f ∷ [] → RefusesRead old.input m own → PlacedAt (StartsAfter old.input (start f)) own e → RefusesRead old.input w e
   innermost_blamed room old w m gs fs f own e h is b k =
       let n : ℕ = room - length fs - 1 in
       let (q, counted, nested) = nested_pop old.input room n fs f m w refl (subst (λ z. Nested start after old.input room z m w) is h.nested) in
-      let inside : Blames old.input (and_then m (after f n)) own = blames_as old.input old.input m (and_then m (after f n)) own refl (λ c p is. ap (λ z. and_then z (after f n)) is) b in
+      let inside : RefusesRead old.input (and_then m (after f n)) own = blames_as old.input old.input m (and_then m (after f n)) own refl (λ c p is. ap (λ z. and_then z (after f n)) is) b in
       blames_whole old.input room fs q (and_then m (after f n)) w e nested (blames_placed old.input q (start f) (and_then m (after f n)) own e counted k inside)
 
   -- ---- the whole
@@ -157,7 +157,7 @@ module _ {F D : Type 0} (start : F → ℕ) (after : F → ℕ → D → List �
 
   -- a value ended in the innermost
   pub ends_inside : (room : ℕ) (now : Cursor) (w : Read D) (gs fs : List F) (f : F) (x : D) → gs ≡ fs ++ f ∷ [] → Within start after room w gs (got x now.unread) now
-      → (q : List ℕ) × Inside start after room w fs (start f) (after f (room - length fs - 1) x now.unread) q now
+      → (q : List ℕ) × WithinInner start after room w fs (start f) (after f (room - length fs - 1) x now.unread) q now
   ends_inside room now w gs fs f x is h =
       let (q, counted, nested) = nested_pop now.input room (room - length fs - 1) fs f (got x now.unread) w refl (subst (λ z. Nested start after now.input room z (got x now.unread) w) is h.nested) in
       let k = h.fits in

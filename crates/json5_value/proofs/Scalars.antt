@@ -33,9 +33,9 @@ use Rattle.json5_value.specs.declared.kinds.ValueKind.TheVariants as kind
 use Rattle.json5_value.specs.declared.brackets.OpenBracket.{OpenBracket}
 use Rattle.json5_value.specs.Brackets.{bracket_of}
 use Rattle.json5_value.specs.Kinds.{kind_at, word_of, ends_of, differs_of}
-use Rattle.json5_value.specs.Opening.{OpenedAt, Opens}
+use Rattle.json5_value.specs.Opening.{OpenedAt, OpensBracket}
 use Rattle.json5_value.specs.SkipSteps.{SkipsOrOpens}
-use Rattle.json5_value.specs.Steps.{IsInside, SameText, Blames, Gave, Steps, value_at}
+use Rattle.json5_value.specs.Steps.{IsInside, SameText, RefusesRead, Gave, Steps, value_at}
 use Rattle.json5_value.proofs.Steps.{same_step, refused_step, forget_got, blames_made, none_next, some_next, counted_before}
 use Rattle.json5_value.proofs.TokenSteps.{string_step, number_step, word_step, without}
 
@@ -142,7 +142,7 @@ value_shorter d x r u e = let (t, is) = forget_got (read d x) u r e in shorter t
 pub scalar_passed : (room : ℕ) (old new : Cursor) (u : Unit {0}) → Gave (value_at room old) u old new → SkipsOrOpens room old new (Ok None)
 scalar_passed room old new u g = record { begun = g; refused = tt; same_text = tt; shorter = value_shorter room old.unread new.unread u g.reads }
 
-pub scalar_refused : (room : ℕ) (old new : Cursor) (e : Error) → Blames old.input (value_at room old) e → SameText old new → SkipsOrOpens room old new (Err e)
+pub scalar_refused : (room : ℕ) (old new : Cursor) (e : Error) → RefusesRead old.input (value_at room old) e → SameText old new → SkipsOrOpens room old new (Err e)
 scalar_refused room old new e b g = record { begun = tt; refused = b; same_text = g; shorter = tt }
 
 pub bracket_passed : (room : ℕ) (old new : Cursor) (bracket : OpenBracket) → OpenedAt room bracket old new → SkipsOrOpens room old new (Ok (Some bracket))
@@ -154,7 +154,7 @@ bracket_passed room old new bracket o = record { begun = o; refused = tt; same_t
 pub bracket_too_deep : (room : ℕ) (old : Cursor) (k : BracketKind) (start : ℕ) (e : Error) (p : Position) → IsInside old → slice_get old.unread 0 ≡ Some (opening k) → room ≡ 0
     → start ≡ offset_of old
     → ((before rest : List ℕ) → old.input ≡ before ++ rest → start ≡ length (encode_utf8_all before) → p ≡ position_after before)
-    → kind_of e ≡ code codes.TooDeep → place_of e ≡ Some p → Opens room old old (Err e)
+    → kind_of e ≡ code codes.TooDeep → place_of e ≡ Some p → OpensBracket room old old (Err e)
 bracket_too_deep room old k start e p ready first none counted located kind place =
     let (r, x) = some_next old.unread (opening k) first in
     record {
@@ -169,7 +169,7 @@ bracket_too_deep room old k start e p ready first none counted located kind plac
 -- the bracket is taken
 pub bracket_opened : (room : ℕ) (old new : Cursor) (bracket : OpenBracket) (c : ℕ) (b : Bool) → IsInside old → slice_get old.unread 0 ≡ Some (opening (bracket_of bracket.kind)) → 0 < room
     → bracket.start ≡ offset_of old → c ≡ opening (bracket_of bracket.kind)
-    → (b ≡ true → Took old (c ∷ []) new) → (b ≡ false → (new ≡ old) × NotBegun (λ d. d == c) old.unread) → Opens room old new (Ok bracket)
+    → (b ≡ true → Took old (c ∷ []) new) → (b ≡ false → (new ≡ old) × NotBegun (λ d. d == c) old.unread) → OpensBracket room old new (Ok bracket)
 bracket_opened room old new bracket c true ready first left counted is taken kept =
     let took = taken refl in
     record {

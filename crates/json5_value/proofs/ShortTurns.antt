@@ -17,9 +17,9 @@ use Rattle.json5_value.specs.Entries.{next_entry}
 use Rattle.json5_value.specs.Nesting.{Within}
 use Rattle.json5_value.specs.Opening.{OpenedAt}
 use Rattle.json5_value.specs.Places.{StartsAfter, PlacedAt}
-use Rattle.json5_value.specs.Short.{PassesShort, name_at, member_at, SkippingMember, TurnsMember, Advanced, TurnsShort, ResumesShort}
+use Rattle.json5_value.specs.Short.{PassesShort, name_at, member_left, SkippingMember, TurnsMember, Advanced, TurnsShort, ResumesShort}
 use Rattle.json5_value.specs.SkipSteps.{start_of, rest_in, rest_at, Skipping, SkippingInside}
-use Rattle.json5_value.specs.Steps.{SameText, Blames, Gave, value_at}
+use Rattle.json5_value.specs.Steps.{SameText, RefusesRead, Gave, value_at}
 use Rattle.json5_value.proofs.EntryValues.{next_is, head_or_end, head_of}
 use Rattle.json5_value.proofs.Nesting.{value_reached, inside_blamed, moved}
 use Rattle.json5_value.proofs.Shorter.{entry_shorter}
@@ -51,21 +51,21 @@ module _ (room : ℕ) (w : Read (Unit {0})) (bs : List OpenBracket) (f : OpenBra
   key_reached comma_due old new is g h =
       let k : BracketKind = bracket_of f.kind in
       let left : ℕ = room - length bs - 1 in
-      moved start_of rest_in room old w (rest_at room bs f comma_due old) bs f.start q h new (member_at room bs f new) g.taken g.took
+      moved start_of rest_in room old w (rest_at room bs f comma_due old) bs f.start q h new (member_left room bs f new) g.taken g.took
       (rest_step k comma_due left old.unread ∙ ap (λ m. and_then m (turn k left)) (next_is k comma_due old.unread ∙ ap (λ m. and_then m (head_or_end k)) g.reads) ∙ object_head k left new.unread (ap bracket_of is))
 
   -- its value was reached
   pub named : (old new : Cursor) → Gave (name_at old.unread) tt old new → SkippingMember room w bs f q old → Skipping room w (bs ++ f ∷ []) true new
   named old new g h =
       subst (λ d. Within start_of rest_in room w (bs ++ f ∷ []) (value_at d new) new) (sym (room_within room bs f))
-      (value_reached start_of rest_in room old w (member_at room bs f old) bs f.start q h f new (value_at (room - length bs - 1) new) g.taken refl g.took
+      (value_reached start_of rest_in room old w (member_left room bs f old) bs f.start q h f new (value_at (room - length bs - 1) new) g.taken refl g.took
       (ap (λ m. and_then m (λ u y. value_and_rest (bracket_of f.kind) (room - length bs - 1) y)) g.reads))
 
   -- its key or its colon is refused
-  pub not_named : (old new : Cursor) (own e : Error) → Blames old.input (name_at old.unread) own → SameText old new → PlacedAt (StartsAfter new.input f.start) own e → SkippingMember room w bs f q old → Blames old.input w e
+  pub not_named : (old new : Cursor) (own e : Error) → RefusesRead old.input (name_at old.unread) own → SameText old new → PlacedAt (StartsAfter new.input f.start) own e → SkippingMember room w bs f q old → RefusesRead old.input w e
   not_named old new own e b same k h =
-      inside_blamed start_of rest_in room old w (member_at room bs f old) bs f.start q h new.input own e
-      (blames_as old.input old.input (name_at old.unread) (member_at room bs f old) own refl (λ c p is. ap (λ m. and_then m (λ u y. value_and_rest (bracket_of f.kind) (room - length bs - 1) y)) is) b) k same
+      inside_blamed start_of rest_in room old w (member_left room bs f old) bs f.start q h new.input own e
+      (blames_as old.input old.input (name_at old.unread) (member_left room bs f old) own refl (λ c p is. ap (λ m. and_then m (λ u y. value_and_rest (bracket_of f.kind) (room - length bs - 1) y)) is) b) k same
 
 pub member_goes : (f : OpenBracket) (bs after : List OpenBracket) (old new : Cursor) (u : Unit {0}) → Gave (name_at old.unread) u old new → after ≡ bs ++ f ∷ [] → TurnsMember f bs after old new (Ok true)
 member_goes f bs after old new u g grown = record {
@@ -75,7 +75,7 @@ member_goes f bs after old new u g grown = record {
   no_longer = no_more_left old new g.taken g.took;
 }
 
-pub member_refused : (f : OpenBracket) (bs after : List OpenBracket) (old new : Cursor) (own e : Error) → Blames old.input (name_at old.unread) own → SameText old new → PlacedAt (StartsAfter new.input f.start) own e → TurnsMember f bs after old new (Err e)
+pub member_refused : (f : OpenBracket) (bs after : List OpenBracket) (old new : Cursor) (own e : Error) → RefusesRead old.input (name_at old.unread) own → SameText old new → PlacedAt (StartsAfter new.input f.start) own e → TurnsMember f bs after old new (Err e)
 member_refused f bs after old new own e b same k = record {
   goes = tt;
   refused = λ room w q h. not_named room w bs f q old new own e b same k h;

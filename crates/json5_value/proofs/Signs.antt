@@ -19,7 +19,7 @@ use Rattle.json5_value.specs.declared.brackets.Brackets.{Brackets}
 use Rattle.json5_value.specs.declared.brackets.BracketKind.{BracketKind as OwnKind}
 use Rattle.json5_value.specs.declared.brackets.BracketKind.TheVariants as kind
 use Rattle.json5_value.specs.Brackets.{bracket_of, brackets_of}
-use Rattle.json5_value.specs.Steps.{IsInside, Blames, Unexpected, at_end, at_char}
+use Rattle.json5_value.specs.Steps.{IsInside, RefusesRead, Unexpected, at_end, at_char}
 use Rattle.json5_value.proofs.OtherCodes.{Lacks}
 use Rattle.json5_value.proofs.Steps.{none_next, some_next, blames_refused}
 
@@ -75,7 +75,7 @@ eof_other of_array e = absurd (cc)
 eof_other of_object e = absurd (cc)
 
 -- neither a comma nor the closing bracket
-pub no_comma : (k : BracketKind) (s : Cursor) (e : Error) → IsInside s → NotBegun (λ d. d == 44) s.unread → NotBegun (λ d. d == closing k) s.unread → Refused (Unexpected (eof_in k) codes.ExpectedComma) s e → Blames s.input (comma_at k s.unread) e
+pub no_comma : (k : BracketKind) (s : Cursor) (e : Error) → IsInside s → NotBegun (λ d. d == 44) s.unread → NotBegun (λ d. d == closing k) s.unread → Refused (Unexpected (eof_in k) codes.ExpectedComma) s e → RefusesRead s.input (comma_at k s.unread) e
 no_comma k s e ready a b f = blames_refused s (comma_at k s.unread) e ready (unexpected_lacks (eof_other k) (λ e. absurd (cc))) (λ reason place g. comma_refuses k s.unread reason place a b g) f
 
 colon_refuses : (x : List ℕ) (reason : Option ErrorCode) (place : Option (List ℕ)) → NotBegun (λ d. d == 58) x → Unexpected codes.EofParsingObject codes.ExpectedColon x reason place → Refuses (colon_at x) x reason place
@@ -83,5 +83,5 @@ colon_refuses x reason place a at_end = (inner, refl, tt)
 colon_refuses x reason place a (at_char c r) = (here (c ∷ r), rw a refl, refl)
 
 -- no colon
-pub no_colon : (s : Cursor) (e : Error) → IsInside s → NotBegun (λ d. d == 58) s.unread → Refused (Unexpected codes.EofParsingObject codes.ExpectedColon) s e → Blames s.input (colon_at s.unread) e
+pub no_colon : (s : Cursor) (e : Error) → IsInside s → NotBegun (λ d. d == 58) s.unread → Refused (Unexpected codes.EofParsingObject codes.ExpectedColon) s e → RefusesRead s.input (colon_at s.unread) e
 no_colon s e ready a f = blames_refused s (colon_at s.unread) e ready (unexpected_lacks (λ e. absurd (cc)) (λ e. absurd (cc))) (λ reason place g. colon_refuses s.unread reason place a g) f

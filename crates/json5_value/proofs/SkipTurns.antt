@@ -3,7 +3,7 @@ use Rattle.std.proofs.Common.{◌≡◌, ℕ, suc, ◌-◌, ◌<◌, ◌≤◌, 
 use Rattle.std.specs.Prelude.{Result, Ok, Err, IsSome, ◌↔◌}
 use Rattle.json5_grammar.specs.Faults.Fronts.{opening}
 use Rattle.json5_grammar.specs.Model.Reading.{Read, got, and_then, placed}
-use Rattle.json5_grammar.specs.Model.ReadSteps.{forget, next_value, rest_of}
+use Rattle.json5_grammar.specs.Model.ReadSteps.{forget, next_value, rest_of_bracket}
 use Rattle.json5_grammar.specs.Model.ReadValues.{read}
 use Rattle.json5_grammar.proofs.ValuesSound.{read_sound}
 use Rattle.json5_grammar.proofs.ValueSteps.{turn, rest_step, read_opened}
@@ -14,8 +14,8 @@ use Rattle.json5_value.specs.Brackets.{bracket_of}
 use Rattle.json5_value.specs.Nesting.{Nested, Within}
 use Rattle.json5_value.specs.Opening.{OpenedAt}
 use Rattle.json5_value.specs.Places.{StartsAfter, PlacedAt}
-use Rattle.json5_value.specs.SkipSteps.{start_of, rest_in, rest_at, Skipping, SkippingInside, Turns, TurnsInside, PlacedWithin}
-use Rattle.json5_value.specs.Steps.{IsInside, SameText, Blames, Gave, value_at}
+use Rattle.json5_value.specs.SkipSteps.{start_of, rest_in, rest_at, Skipping, SkippingInside, TurnsSkipping, TurnsSkippingInside, PlacedWithin}
+use Rattle.json5_value.specs.Steps.{IsInside, SameText, RefusesRead, Gave, value_at}
 use Rattle.json5_value.proofs.Nesting.{value_reached, closed, inside_blamed, value_ended, value_opened, whole_blamed, innermost_blamed, starts, ends_inside}
 use Rattle.json5_value.proofs.Shorter.{next_shorter}
 use Rattle.json5_value.proofs.Steps.{blames_as, forget_got}
@@ -30,7 +30,7 @@ module _ (room : ℕ) (bs : List OpenBracket) (f : OpenBracket) (comma_due : Boo
   rest_is : (goes : Bool) (new : Cursor) → Gave (next_value (bracket_of f.kind) comma_due old.unread) goes old new → rest_at room bs f comma_due old ≡ turn (bracket_of f.kind) left goes new.unread
   rest_is goes new g = rest_step (bracket_of f.kind) comma_due left old.unread ∙ ap (λ m. and_then m (turn (bracket_of f.kind) left)) g.reads
 
-  rest_bad : (own : Error) → Blames old.input (next_value (bracket_of f.kind) comma_due old.unread) own → Blames old.input (rest_at room bs f comma_due old) own
+  rest_bad : (own : Error) → RefusesRead old.input (next_value (bracket_of f.kind) comma_due old.unread) own → RefusesRead old.input (rest_at room bs f comma_due old) own
   rest_bad own b = blames_as old.input old.input (next_value (bracket_of f.kind) comma_due old.unread) (rest_at room bs f comma_due old) own refl
       (λ c p is. rest_step (bracket_of f.kind) comma_due left old.unread ∙ ap (λ m. and_then m (turn (bracket_of f.kind) left)) is) b
 
@@ -44,7 +44,7 @@ room_within room bs f = omega (arith, length-append bs (f ∷ []))
 pub no_more_left : (old new : Cursor) (s : List ℕ) → Took old s new → length new.unread ≤ length old.unread
 no_more_left old new s t = omega (arith, ap length t.split, length-append s new.unread)
 
-pub inside_goes : (comma_due goes : Bool) (f : OpenBracket) (bs after : List OpenBracket) (old new : Cursor) → goes ≡ true → Gave (next_value (bracket_of f.kind) comma_due old.unread) goes old new → after ≡ bs ++ f ∷ [] → TurnsInside comma_due f bs after old new (Ok true)
+pub inside_goes : (comma_due goes : Bool) (f : OpenBracket) (bs after : List OpenBracket) (old new : Cursor) → goes ≡ true → Gave (next_value (bracket_of f.kind) comma_due old.unread) goes old new → after ≡ bs ++ f ∷ [] → TurnsSkippingInside comma_due f bs after old new (Ok true)
 inside_goes comma_due goes f bs after old new is g grown = record {
   goes = λ room w q h. subst (λ z. Skipping room w z true new) (sym grown)
       (subst (λ d. Within start_of rest_in room w (bs ++ f ∷ []) (value_at d new) new) (sym (room_within room bs f))
@@ -55,7 +55,7 @@ inside_goes comma_due goes f bs after old new is g grown = record {
   no_longer = no_more_left old new g.taken g.took;
 }
 
-pub inside_closed : (comma_due goes : Bool) (f : OpenBracket) (bs : List OpenBracket) (old new : Cursor) → goes ≡ false → Gave (next_value (bracket_of f.kind) comma_due old.unread) goes old new → TurnsInside comma_due f bs bs old new (Ok false)
+pub inside_closed : (comma_due goes : Bool) (f : OpenBracket) (bs : List OpenBracket) (old new : Cursor) → goes ≡ false → Gave (next_value (bracket_of f.kind) comma_due old.unread) goes old new → TurnsSkippingInside comma_due f bs bs old new (Ok false)
 inside_closed comma_due goes f bs old new is g = record {
   goes = λ room w q h. closed start_of rest_in room old w (rest_at room bs f comma_due old) bs f.start q h new tt g.taken g.took (rest_is room bs f comma_due old goes new g ∙ ap (λ b. turn (bracket_of f.kind) (room - length bs - 1) b new.unread) is);
   refused = tt;
@@ -64,8 +64,8 @@ inside_closed comma_due goes f bs old new is g = record {
   no_longer = no_more_left old new g.taken g.took;
 }
 
-pub inside_refused : (comma_due : Bool) (f : OpenBracket) (bs after : List OpenBracket) (old new : Cursor) (own e : Error) → Blames old.input (next_value (bracket_of f.kind) comma_due old.unread) own → SameText old new → PlacedAt (StartsAfter new.input f.start) own e
-    → TurnsInside comma_due f bs after old new (Err e)
+pub inside_refused : (comma_due : Bool) (f : OpenBracket) (bs after : List OpenBracket) (old new : Cursor) (own e : Error) → RefusesRead old.input (next_value (bracket_of f.kind) comma_due old.unread) own → SameText old new → PlacedAt (StartsAfter new.input f.start) own e
+    → TurnsSkippingInside comma_due f bs after old new (Err e)
 inside_refused comma_due f bs after old new own e b same k = record {
   goes = tt;
   refused = λ room w q h. inside_blamed start_of rest_in room old w (rest_at room bs f comma_due old) bs f.start q h new.input own e (rest_bad room bs f comma_due old own b) k same;
@@ -76,7 +76,7 @@ inside_refused comma_due f bs after old new own e b same k = record {
 
 -- ---- a value's beginning within brackets
 
-pub first_scalar : (room : ℕ) (bs after : List OpenBracket) (old new : Cursor) (u : Unit {0}) → Gave (value_at (room - length bs) old) u old new → after ≡ bs → length new.unread < length old.unread → Turns room bs after old new (Ok false)
+pub first_scalar : (room : ℕ) (bs after : List OpenBracket) (old new : Cursor) (u : Unit {0}) → Gave (value_at (room - length bs) old) u old new → after ≡ bs → length new.unread < length old.unread → TurnsSkipping room bs after old new (Ok false)
 first_scalar room bs after old new u g same less = record {
   goes = λ w h. subst (λ fs. Skipping room w fs false new) (sym same) (value_ended start_of rest_in room old new w (value_at (room - length bs) old) bs u h g);
   refused = tt;
@@ -97,9 +97,9 @@ inside_of room w bs f old mid h o =
     let more : room - length bs ≡ suc (room - length bs - 1) = omega (arith, d) in
     value_opened start_of rest_in room old mid w (value_at (room - length bs) old) (rest_at room bs f false mid) bs f.start h (ready_opened (room - length bs) f old mid h.ready o) o.counted o.same_text o.room_left
     (ap (λ k. forget (read k old.unread)) more ∙ ap (λ z. forget (read (suc (room - length bs - 1)) z)) o.sign ∙ read_opened (bracket_of f.kind) (room - length bs - 1) mid.unread
-    ∙ ap (λ z. placed z (rest_of (bracket_of f.kind) false (room - length bs - 1) mid.unread)) (sym o.sign))
+    ∙ ap (λ z. placed z (rest_of_bracket (bracket_of f.kind) false (room - length bs - 1) mid.unread)) (sym o.sign))
 
-pub first_bracket : (room : ℕ) (bs after : List OpenBracket) (f : OpenBracket) (old mid new : Cursor) (result : Result Bool Error) → OpenedAt (room - length bs) f old mid → length mid.unread < length old.unread → TurnsInside false f bs after mid new result → Turns room bs after old new result
+pub first_bracket : (room : ℕ) (bs after : List OpenBracket) (f : OpenBracket) (old mid new : Cursor) (result : Result Bool Error) → OpenedAt (room - length bs) f old mid → length mid.unread < length old.unread → TurnsSkippingInside false f bs after mid new result → TurnsSkipping room bs after old new result
 first_bracket room bs after f old mid new (Ok goes) o less t = record {
   goes = λ w h. t.goes room w old.unread (inside_of room w bs f old mid h o);
   refused = tt;
@@ -108,7 +108,7 @@ first_bracket room bs after f old mid new (Ok goes) o less t = record {
 }
 first_bracket room bs after f old mid new (Err e) o less t = record {
   goes = tt;
-  refused = λ w h. subst (λ z. Blames z w e) o.same_text (t.refused room w old.unread (inside_of room w bs f old mid h o));
+  refused = λ w h. subst (λ z. RefusesRead z w e) o.same_text (t.refused room w old.unread (inside_of room w bs f old mid h o));
   same_text = t.same_text ∙ o.same_text;
   shorter = tt;
 }
@@ -122,11 +122,11 @@ none_open (f ∷ fs) o is k = absurd (none o is (k.1 (omega arith)))
     none None is e = cc
     none (Some g) is e = cc
 
-value_blamed : (room : ℕ) (old : Cursor) (w : Read (Unit {0})) (bs : List OpenBracket) (own e : Error) → Blames old.input (value_at (room - length bs) old) own → PlacedWithin old.input bs own e → Skipping room w bs true old → Blames old.input w e
-value_blamed room old w bs own e b (inl (none, same)) h = whole_blamed start_of rest_in room old w (value_at (room - length bs) old) bs e h none (subst (λ z. Blames old.input (value_at (room - length bs) old) z) (sym same) b)
+value_blamed : (room : ℕ) (old : Cursor) (w : Read (Unit {0})) (bs : List OpenBracket) (own e : Error) → RefusesRead old.input (value_at (room - length bs) old) own → PlacedWithin old.input bs own e → Skipping room w bs true old → RefusesRead old.input w e
+value_blamed room old w bs own e b (inl (none, same)) h = whole_blamed start_of rest_in room old w (value_at (room - length bs) old) bs e h none (subst (λ z. RefusesRead old.input (value_at (room - length bs) old) z) (sym same) b)
 value_blamed room old w bs own e b (inr (fs, f, is, k)) h = innermost_blamed start_of rest_in room old w (value_at (room - length bs) old) bs fs f own e h is b k
 
-pub first_refused : (room : ℕ) (bs after : List OpenBracket) (old new : Cursor) (own e : Error) → Blames old.input (value_at (room - length bs) old) own → SameText old new → PlacedWithin new.input bs own e → Turns room bs after old new (Err e)
+pub first_refused : (room : ℕ) (bs after : List OpenBracket) (old new : Cursor) (own e : Error) → RefusesRead old.input (value_at (room - length bs) old) own → SameText old new → PlacedWithin new.input bs own e → TurnsSkipping room bs after old new (Err e)
 first_refused room bs after old new own e b same k = record {
   goes = tt;
   refused = λ w h. value_blamed room old w bs own e b (subst (λ z. PlacedWithin z bs own e) same k) h;

@@ -11,7 +11,7 @@ use Rattle.json5_grammar.proofs.Refusals.{Refuses}
 use Rattle.json5_text.specs.declared.error.Error.{Error}
 use Rattle.json5_text.specs.Cursor.{Cursor, Took, IsPlaced, Refused, IsOutOfMemory, Says, offset_of}
 use Rattle.json5_text.specs.Errors.{code, kind_of}
-use Rattle.json5_value.specs.Steps.{IsInside, SameText, StandsAt, Blames, Gave, Steps, RefusesToken}
+use Rattle.json5_value.specs.Steps.{IsInside, SameText, HasPositionAt, RefusesRead, Gave, Steps, RefusesToken}
 use Rattle.json5_value.proofs.OtherCodes.{Lacks, other_says, memory_other}
 
 -- ---- the next character
@@ -38,7 +38,7 @@ counted_before s before offset e split =
 pub same_of : {s t : Cursor} → s ≡ t → s.input ≡ t.input
 same_of e = ap (λ (s : Cursor). s.input) e
 
-stands_at : (s : Cursor) (place : Option (List ℕ)) (p : Place) (e : Error) → IsInside s → IsAt s.unread place p → IsPlaced s place e → StandsAt s.input p e
+stands_at : (s : Cursor) (place : Option (List ℕ)) (p : Place) (e : Error) → IsInside s → IsAt s.unread place p → IsPlaced s place e → HasPositionAt s.input p e
 stands_at s (Some b) (here q) e r at k = (r.before ++ b, r.inside ∙ ap (λ z. r.before ++ z) at ∙ sym (append_assoc r.before b q), k r.before r.inside)
 stands_at s (Some b) inner e r at k = absurd at
 stands_at s None (here q) e r at k = absurd at
@@ -46,18 +46,18 @@ stands_at s None inner e r at k = k
 
 -- a fault that reading on lists refuses with too
 pub blames_refused : {A : Type 0} {F : List ℕ → Option ErrorCode → Option (List ℕ) → Type 0} (s : Cursor) (m : Read A) (e : Error) → IsInside s → Lacks F → ((reason : Option ErrorCode) (place : Option (List ℕ)) → F s.unread reason place → Refuses m s.unread reason place)
-    → Refused F s e → Blames s.input m e
+    → Refused F s e → RefusesRead s.input m e
 blames_refused s m e r l k f =
     let (p, is, at) = k f.reason f.place f.fault in
     record { reason = f.reason; place = p; is_bad = is; says = inr (f.says, stands_at s f.place p e r at f.placed); unprompted = other_says f.reason e (l s.unread f.reason f.place f.fault) f.says }
 
 -- the same, or memory ran out, where reading gives nothing
 pub blames_token : {A : Type 0} {F : List ℕ → Option ErrorCode → Option (List ℕ) → Type 0} (s : Cursor) (m : Read A) (e : Error) → IsInside s → Lacks F → ((reason : Option ErrorCode) (place : Option (List ℕ)) → F s.unread reason place → Refuses m s.unread reason place)
-    → ((a : A) (r : List ℕ) → m ≡ got a r → ⊥) → RefusesToken F s e → Blames s.input m e
+    → ((a : A) (r : List ℕ) → m ≡ got a r → ⊥) → RefusesToken F s e → RefusesRead s.input m e
 blames_token s m e r l k none (inr f) = blames_refused s m e r l k f
 blames_token {A = A} s m e r l k none (inl memory) = by_answer m refl
   where
-    by_answer : (n : Read A) → m ≡ n → Blames s.input m e
+    by_answer : (n : Read A) → m ≡ n → RefusesRead s.input m e
     by_answer (got a y) is = absurd (none a y is)
     by_answer (bad c p) is = record { reason = c; place = p; is_bad = is; says = inl memory.kind; unprompted = memory_other e memory.kind }
 
@@ -69,7 +69,7 @@ pub forget_refuses : {A : Type 0} (m : Read A) (x : List ℕ) (reason : Option E
 forget_refuses m x reason place (p, is, at) = (p, ap forget is, at)
 
 -- a fault that was made with a code of its own
-pub blames_made : {A : Type 0} (input : List ℕ) (m : Read A) (e : Error) (c : ErrorCode) (p : Place) → m ≡ bad (Some c) p → Some c ≢ Some codes.Failed → kind_of e ≡ code c → StandsAt input p e → Blames input m e
+pub blames_made : {A : Type 0} (input : List ℕ) (m : Read A) (e : Error) (c : ErrorCode) (p : Place) → m ≡ bad (Some c) p → Some c ≢ Some codes.Failed → kind_of e ≡ code c → HasPositionAt input p e → RefusesRead input m e
 blames_made input m e c p is other kind there = record { reason = Some c; place = p; is_bad = is; says = inr (kind, there); unprompted = other_says (Some c) e other kind }
 
 -- ---- one step after another
@@ -88,11 +88,11 @@ took_both old mid new s w a b = record {
 }
 
 -- what reading gives, by another name
-pub blames_as : {A B : Type 0} (input other : List ℕ) (m : Read A) (n : Read B) (e : Error) → input ≡ other → ((c : Option ErrorCode) (p : Place) → m ≡ bad c p → n ≡ bad c p) → Blames input m e → Blames other n e
-blames_as input other m n e same k b = record { reason = b.reason; place = b.place; is_bad = k b.reason b.place b.is_bad; says = subst (λ z. IsOutOfMemory e ⊎ (Says b.reason e × StandsAt z b.place e)) same b.says; unprompted = b.unprompted }
+pub blames_as : {A B : Type 0} (input other : List ℕ) (m : Read A) (n : Read B) (e : Error) → input ≡ other → ((c : Option ErrorCode) (p : Place) → m ≡ bad c p → n ≡ bad c p) → RefusesRead input m e → RefusesRead other n e
+blames_as input other m n e same k b = record { reason = b.reason; place = b.place; is_bad = k b.reason b.place b.is_bad; says = subst (λ z. IsOutOfMemory e ⊎ (Says b.reason e × HasPositionAt z b.place e)) same b.says; unprompted = b.unprompted }
 
 -- the first step is refused
-pub first_refused : {A B : Type 0} (old : Cursor) (m : Read A) (f : A → List ℕ → Read B) (e : Error) → Blames old.input m e → Blames old.input (and_then m f) e
+pub first_refused : {A B : Type 0} (old : Cursor) (m : Read A) (f : A → List ℕ → Read B) (e : Error) → RefusesRead old.input m e → RefusesRead old.input (and_then m f) e
 first_refused old m f e b = blames_as old.input old.input m (and_then m f) e refl (λ c p is. ap (λ z. and_then z f) is) b
 
 -- a step after another
@@ -109,7 +109,7 @@ then_step old mid new m a f (Err e) g k = record {
 }
 
 -- the first step of several is refused
-pub first_step_refused : {A B : Type 0} (old new : Cursor) (m : Read A) (f : A → List ℕ → Read B) (e : Error) → Blames old.input m e → SameText old new → Steps (and_then m f) old new (Err e)
+pub first_step_refused : {A B : Type 0} (old new : Cursor) (m : Read A) (f : A → List ℕ → Read B) (e : Error) → RefusesRead old.input m e → SameText old new → Steps (and_then m f) old new (Err e)
 first_step_refused old new m f e b g = record { given = tt; refused = first_refused old m f e b; same_text = g }
 
 -- the same reading by another name
@@ -122,7 +122,7 @@ pub took_step : {A : Type 0} (old new : Cursor) (m : Read A) (a : A) (s : List �
 took_step old new m a s e t = record { given = record { reads = e; taken = s; took = t }; refused = tt; same_text = tt }
 
 -- a step that is refused
-pub refused_step : {A : Type 0} (old new : Cursor) (m : Read A) (e : Error) → Blames old.input m e → SameText old new → Steps m old new (Err e)
+pub refused_step : {A : Type 0} (old new : Cursor) (m : Read A) (e : Error) → RefusesRead old.input m e → SameText old new → Steps m old new (Err e)
 refused_step old new m e b g = record { given = tt; refused = b; same_text = g }
 
 -- ---- nothing is taken

@@ -32,7 +32,7 @@ use Rattle.json5_text.specs.TokenCalls.{PassesBlanks, PassesString, PassesName, 
 use Rattle.json5_text.specs.NumberViews.{whole_in}
 use Rattle.json5_text.specs.Tokens.{FaultyBlanks, FaultyWord, word_differs, word_ends, FaultyNumber, no_number, number_missing, FaultyString, no_quote, string_missing, FaultyName, no_name, name_missing}
 use Rattle.json5_text.specs.Tokens as tokens
-use Rattle.json5_value.specs.Steps.{IsInside, Blames, Gave, Steps, RefusesToken}
+use Rattle.json5_value.specs.Steps.{IsInside, RefusesRead, Gave, Steps, RefusesToken}
 use Rattle.json5_value.proofs.OtherCodes.{Lacks, in_blanks_other, word_lacks, faulty_number_lacks, faulty_string_lacks, faulty_name_lacks}
 use Rattle.json5_value.proofs.Steps.{same_of, blames_refused, blames_token, forget_got, forget_refuses}
 
@@ -61,7 +61,7 @@ pub gap_given : (old new : Cursor) (result : Result (Unit {0}) Error) → Passes
 gap_given old new (Ok u) k = let (w, took, gap, solid) = k.passed in record { reads = ap (skip between) took.split ∙ gap_read gap solid; taken = w; took = took }
 gap_given old new (Err e) k = tt
 
-pub gap_blamed : (old new : Cursor) (result : Result (Unit {0}) Error) → IsInside old → PassesBlanks old new result → IfErr result (Blames old.input (skip between old.unread))
+pub gap_blamed : (old new : Cursor) (result : Result (Unit {0}) Error) → IsInside old → PassesBlanks old new result → IfErr result (RefusesRead old.input (skip between old.unread))
 gap_blamed old new (Ok u) r k = tt
 gap_blamed old new (Err e) r k = blames_refused old (skip between old.unread) e r (λ x reason place (b, part, shown, fault). in_blanks_other fault) (λ reason place (b, part, shown, fault). blank_refused fault) k.refused
 

@@ -3,7 +3,7 @@ use Rattle.std.specs.Prelude.{◌≡◌, ◌⊎◌, ℕ, ◌-◌, ◌<◌, ◌�
 use Rattle.std.specs.declared.alloc.Global.{Global}
 use Rattle.std.specs.Str.{chars}
 use Rattle.json5_grammar.specs.Model.Reading.{Read, got, and_then}
-use Rattle.json5_grammar.specs.Model.ReadSteps.{trees_of, trees_after, pairs_of, pairs_after}
+use Rattle.json5_grammar.specs.Model.ReadSteps.{trees_of, trees_after, read_pairs, pairs_after}
 use Rattle.json5_grammar.specs.Language.Trees.{Trees, Pairs}
 use Rattle.json5_text.specs.declared.error.Error.{Error}
 use Rattle.json5_text.specs.declared.value.Value.{Value}
@@ -13,9 +13,9 @@ use Rattle.json5_value.specs.declared.read.Unfinished.{Unfinished}
 use Rattle.json5_value.specs.declared.read.Unfinished.TheVariants as unfinished
 use Rattle.json5_value.specs.Data.{items_of, fields_of}
 use Rattle.json5_value.specs.Keeping.{datum_at}
-use Rattle.json5_value.specs.Nesting.{Within, Inside}
+use Rattle.json5_value.specs.Nesting.{Within, WithinInner}
 use Rattle.json5_value.specs.Places.{StartsAfter, PlacedAt}
-use Rattle.json5_value.specs.Steps.{SameText, Blames}
+use Rattle.json5_value.specs.Steps.{SameText, RefusesRead}
 
 -- ---- what is left
 
@@ -41,7 +41,7 @@ rest_of_array vs false d x = array_with (elements_before vs) (trees_of d x)
 rest_of_array vs true d x = array_with (elements_before vs) (trees_after d x)
 
 abbrev pub rest_of_object : List (String Global × Value) → Bool → ℕ → List ℕ → Read Datum
-rest_of_object fs false d x = object_with (members_before fs) (pairs_of d x)
+rest_of_object fs false d x = object_with (members_before fs) (read_pairs d x)
 rest_of_object fs true d x = object_with (members_before fs) (pairs_after d x)
 
 -- the same of a scanner, by how many brackets may be open at once in a value
@@ -76,7 +76,7 @@ Building room w fs ended now = Within start_of value_in room w fs (ended_or_next
 
 -- the same within one more, which was opened before q and of which m is left
 abbrev pub BuildingInside : ℕ → Read Datum → List Unfinished → ℕ → (ℕ → Read Datum) → List ℕ → Cursor → Type 0
-BuildingInside room w fs start m q now = Inside start_of value_in room w fs start (m (room - length fs - 1)) q now
+BuildingInside room w fs start m q now = WithinInner start_of value_in room w fs start (m (room - length fs - 1)) q now
 
 -- the fault gets the place of the innermost that is unfinished, where it has none
 abbrev pub PlacedIn : List ℕ → List Unfinished → Error → Error → Type 0
@@ -85,16 +85,16 @@ PlacedIn input fs own e = ((fs ≡ []) × (e ≡ own)) ⊎ ((gs : List Unfinishe
 -- ---- turns
 
 -- a turn goes on, and answers the value that ended if one did; or what is refused makes a fault of the whole, or memory ran out
-pub record Turns (room : ℕ) (fs after : List Unfinished) (old new : Cursor) (result : Result (Option Value) Error) : Type 0 where
+pub record TurnsBuilding (room : ℕ) (fs after : List Unfinished) (old new : Cursor) (result : Result (Option Value) Error) : Type 0 where
   pub goes : IfOk result (λ ended. (w : Read Datum) → Building room w fs None old → Building room w after ended new)
-  pub refused : IfErr result (λ e. IsOutOfMemory e ⊎ ((w : Read Datum) → Building room w fs None old → Blames old.input w e))
+  pub refused : IfErr result (λ e. IsOutOfMemory e ⊎ ((w : Read Datum) → Building room w fs None old → RefusesRead old.input w e))
   pub same_text : SameText old new
   pub shorter : IfOk result (λ ended. length new.unread < length old.unread)
 
 -- the same within one more, of which m is left
-pub record TurnsInside (m : ℕ → Read Datum) (start : ℕ) (comma_due : Bool) (fs after : List Unfinished) (old new : Cursor) (result : Result (Option Value) Error) : Type 0 where
+pub record TurnsBuildingInside (m : ℕ → Read Datum) (start : ℕ) (comma_due : Bool) (fs after : List Unfinished) (old new : Cursor) (result : Result (Option Value) Error) : Type 0 where
   pub goes : IfOk result (λ ended. (room : ℕ) (w : Read Datum) (q : List ℕ) → BuildingInside room w fs start m q old → Building room w after ended new)
-  pub refused : IfErr result (λ e. IsOutOfMemory e ⊎ ((room : ℕ) (w : Read Datum) (q : List ℕ) → BuildingInside room w fs start m q old → Blames old.input w e))
+  pub refused : IfErr result (λ e. IsOutOfMemory e ⊎ ((room : ℕ) (w : Read Datum) (q : List ℕ) → BuildingInside room w fs start m q old → RefusesRead old.input w e))
   pub same_text : SameText old new
   pub shorter : IfOk result (λ ended. comma_due ≡ true → length new.unread < length old.unread)
   pub no_longer : IfOk result (λ ended. length new.unread ≤ length old.unread)

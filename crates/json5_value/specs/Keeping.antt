@@ -21,11 +21,11 @@ use Rattle.json5_value.specs.declared.read.ValueStart.{ValueStart}
 use Rattle.json5_value.specs.declared.read.ValueStart.TheVariants as start
 use Rattle.json5_value.specs.Data.{datum_of}
 use Rattle.json5_value.specs.Opening.{OpenedAt}
-use Rattle.json5_value.specs.Steps.{SameText, Blames, Gave}
+use Rattle.json5_value.specs.Steps.{SameText, RefusesRead, Gave}
 
 -- reading gives this fault, or memory ran out
 abbrev pub BlamesOrMemory : {A : Type 0} → List ℕ → Read A → Error → Type 0
-BlamesOrMemory input reading e = IsOutOfMemory e ⊎ Blames input reading e
+BlamesOrMemory input reading e = IsOutOfMemory e ⊎ RefusesRead input reading e
 
 -- a step keeps what reading on lists gives
 pub record Keeps {V A : Type 0} (Is : V → A → Type 0) (reading : Read A) (old new : Cursor) (result : Result V Error) : Type 0 where

@@ -17,7 +17,7 @@ pub record Within {F D : Type 0} (start : F → ℕ) (after : F → ℕ → D �
   pub nested : Nested start after now.input room fs m w
 
 -- the same within one more, which was opened before q
-pub record Inside {F D : Type 0} (start : F → ℕ) (after : F → ℕ → D → List ℕ → Read D) (room : ℕ) (w : Read D) (fs : List F) (at : ℕ) (m : Read D) (q : List ℕ) (now : Cursor) : Type 0 where
+pub record WithinInner {F D : Type 0} (start : F → ℕ) (after : F → ℕ → D → List ℕ → Read D) (room : ℕ) (w : Read D) (fs : List F) (at : ℕ) (m : Read D) (q : List ℕ) (now : Cursor) : Type 0 where
   pub ready : IsInside now
   pub fits : length fs < room
   pub counted : CountsTo now.input at q

@@ -8,7 +8,7 @@ use Rattle.json5_value.specs.declared.kinds.ValueKind.TheVariants as kind
 use Rattle.json5_value.specs.Brackets.{bracket_of}
 use Rattle.json5_value.specs.Kinds.{kind_at}
 use Rattle.json5_value.specs.Places.{CountsTo}
-use Rattle.json5_value.specs.Steps.{IsInside, SameText, Blames, value_at}
+use Rattle.json5_value.specs.Steps.{IsInside, SameText, RefusesRead, value_at}
 
 -- a value that is no collection begins here with this character
 pub record AtScalar (c : ℕ) (s : Cursor) : Type 0 where
@@ -29,7 +29,7 @@ pub record OpenedAt (room : ℕ) (bracket : OpenBracket) (old new : Cursor) : Ty
   pub same_text : SameText old new
 
 -- an opening bracket was taken, or there was no room for it
-pub record Opens (room : ℕ) (old new : Cursor) (result : Result OpenBracket Error) : Type 0 where
+pub record OpensBracket (room : ℕ) (old new : Cursor) (result : Result OpenBracket Error) : Type 0 where
   pub opened : IfOk result (λ bracket. OpenedAt room bracket old new)
-  pub refused : IfErr result (Blames old.input (value_at room old))
+  pub refused : IfErr result (RefusesRead old.input (value_at room old))
   pub same_text : OnErr result (SameText old new)

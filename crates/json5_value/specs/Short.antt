@@ -14,9 +14,9 @@ use Rattle.json5_value.specs.declared.skip.ShortTurn.{ShortTurn}
 use Rattle.json5_value.specs.declared.skip.ShortTurn.TheVariants as turn
 use Rattle.json5_value.specs.Brackets.{bracket_of}
 use Rattle.json5_value.specs.Entries.{next_entry}
-use Rattle.json5_value.specs.Nesting.{Inside}
+use Rattle.json5_value.specs.Nesting.{WithinInner}
 use Rattle.json5_value.specs.SkipSteps.{start_of, rest_in, Skipping, SkippingInside}
-use Rattle.json5_value.specs.Steps.{SameText, Blames, Gave, value_at}
+use Rattle.json5_value.specs.Steps.{SameText, RefusesRead, Gave, value_at}
 
 -- ---- entries and values
 
@@ -39,17 +39,17 @@ abbrev pub name_at : List ℕ → Read (Unit {0})
 name_at x = and_then (forget (key x)) (λ u r. colon_after r)
 
 -- what is left of an object within these, from the key of a member on
-abbrev pub member_at : ℕ → List OpenBracket → OpenBracket → Cursor → Read (Unit {0})
-member_at room brackets bracket now = and_then (name_at now.unread) (λ u y. value_and_rest (bracket_of bracket.kind) (room - length brackets - 1) y)
+abbrev pub member_left : ℕ → List OpenBracket → OpenBracket → Cursor → Read (Unit {0})
+member_left room brackets bracket now = and_then (name_at now.unread) (λ u y. value_and_rest (bracket_of bracket.kind) (room - length brackets - 1) y)
 
 -- these are open, and an object within them, which was opened before q, goes on with a member
 abbrev pub SkippingMember : ℕ → Read (Unit {0}) → List OpenBracket → OpenBracket → List ℕ → Cursor → Type 0
-SkippingMember room w brackets bracket q now = Inside start_of rest_in room w brackets bracket.start (member_at room brackets bracket now) q now
+SkippingMember room w brackets bracket q now = WithinInner start_of rest_in room w brackets bracket.start (member_left room brackets bracket now) q now
 
 -- the value of the member is next, and its object is open; or what is refused makes a fault of the whole
 pub record TurnsMember (bracket : OpenBracket) (brackets after : List OpenBracket) (old new : Cursor) (result : Result Bool Error) : Type 0 where
   pub goes : IfOk result (λ at_value. (room : ℕ) (w : Read (Unit {0})) (q : List ℕ) → SkippingMember room w brackets bracket q old → Skipping room w after at_value new)
-  pub refused : IfErr result (λ e. (room : ℕ) (w : Read (Unit {0})) (q : List ℕ) → SkippingMember room w brackets bracket q old → Blames old.input w e)
+  pub refused : IfErr result (λ e. (room : ℕ) (w : Read (Unit {0})) (q : List ℕ) → SkippingMember room w brackets bracket q old → RefusesRead old.input w e)
   pub same_text : SameText old new
   pub no_longer : IfOk result (λ at_value. length new.unread ≤ length old.unread)
 

@@ -23,16 +23,16 @@ abbrev pub IsUnprompted : Error → Type 0
 IsUnprompted e = kind_of e ≢ code codes.Failed
 
 -- the fault's place is where this rest of the text begins, or it has none
-abbrev pub StandsAt : List ℕ → Place → Error → Type 0
-StandsAt input (here q) e = (before : List ℕ) × (input ≡ before ++ q) × (place_of e ≡ Some (position_after before))
-StandsAt input inner e = place_of e ≡ None
+abbrev pub HasPositionAt : List ℕ → Place → Error → Type 0
+HasPositionAt input (here q) e = (before : List ℕ) × (input ≡ before ++ q) × (place_of e ≡ Some (position_after before))
+HasPositionAt input inner e = place_of e ≡ None
 
 -- reading gives this fault, or memory ran out for its text
-pub record Blames {A : Type 0} (input : List ℕ) (reading : Read A) (e : Error) : Type 0 where
+pub record RefusesRead {A : Type 0} (input : List ℕ) (reading : Read A) (e : Error) : Type 0 where
   pub reason : Option ErrorCode
   pub place : Place
   pub is_bad : reading ≡ bad reason place
-  pub says : IsOutOfMemory e ⊎ (Says reason e × StandsAt input place e)
+  pub says : IsOutOfMemory e ⊎ (Says reason e × HasPositionAt input place e)
   pub unprompted : IsUnprompted e
 
 -- what reading gives was taken
@@ -44,7 +44,7 @@ pub record Gave {A : Type 0} (reading : Read A) (a : A) (old new : Cursor) : Typ
 -- a step does what reading on lists does
 pub record Steps {A : Type 0} (reading : Read A) (old new : Cursor) (result : Result A Error) : Type 0 where
   pub given : IfOk result (λ a. Gave reading a old new)
-  pub refused : IfErr result (Blames old.input reading)
+  pub refused : IfErr result (RefusesRead old.input reading)
   pub same_text : OnErr result (SameText old new)
 
 -- what the value in front is read as, in which so many brackets may be open at once

@@ -3,7 +3,7 @@
 ghost use Rattle.std.specs.Prelude.{◌≡◌, Some, slice_get};
 ghost use Rattle.json5_grammar.specs.Faults.Fronts.{opening};
 ghost use Rattle.json5_value.specs.Brackets.{bracket_of, brackets_of};
-ghost use Rattle.json5_value.specs.Opening.{Opens};
+ghost use Rattle.json5_value.specs.Opening.{OpensBracket};
 ghost use Rattle.json5_value.specs.Steps.{IsInside};
 
 use json5_text::ErrorCode;
@@ -84,7 +84,7 @@ pub(crate) fn open_bracket<I: Input>(
 ) -> Result<OpenBracket>
     requires ready { IsInside scanner.old }
     requires sign { slice_get scanner.old.unread 0 ≡ Some (opening (bracket_of kind)) }
-    ensures { Opens room scanner.old scanner.new result }
+    ensures { OpensBracket room scanner.old scanner.new result }
 {
     let start = scanner.offset();
     if room == 0 {

@@ -1,7 +1,7 @@
 //! Reading of values of any kind (JSON5 sections 2 to 6).
 
 ghost use Rattle.std.specs.Prelude.{◌≡◌, true};
-ghost use Rattle.json5_value.specs.BuildSteps.{PlacedIn, Turns, TurnsInside, array_at, object_at, start_of, value_in_at};
+ghost use Rattle.json5_value.specs.BuildSteps.{PlacedIn, TurnsBuilding, TurnsBuildingInside, array_at, object_at, start_of, value_in_at};
 ghost use Rattle.json5_value.specs.Keeping.{ReadsDatum, ReadsOrOpens};
 ghost use Rattle.json5_value.specs.Steps.{IsInside};
 
@@ -95,7 +95,7 @@ fn resume_array<I: Input>(
     comma_due: bool,
 ) -> Result<Option<Value>>
     requires { IsInside scanner.old }
-    ensures { TurnsInside (array_at elements.items comma_due scanner.old) start comma_due stack.old.items stack.new.items scanner.old scanner.new result }
+    ensures { TurnsBuildingInside (array_at elements.items comma_due scanner.old) start comma_due stack.old.items stack.new.items scanner.old scanner.new result }
 {
     match skip_to_value(scanner, BracketKind::Array, comma_due) {
         Ok(true) => {
@@ -116,7 +116,7 @@ fn resume_object<I: Input>(
     comma_due: bool,
 ) -> Result<Option<Value>>
     requires { IsInside scanner.old }
-    ensures { TurnsInside (object_at members.items comma_due scanner.old) start comma_due stack.old.items stack.new.items scanner.old scanner.new result }
+    ensures { TurnsBuildingInside (object_at members.items comma_due scanner.old) start comma_due stack.old.items stack.new.items scanner.old scanner.new result }
 {
     match next_member_key(scanner, comma_due) {
         Ok(Some(key)) => {
@@ -139,7 +139,7 @@ fn begin_value<I: Input>(
     stack: &mut Vec<Unfinished>,
 ) -> Result<Option<Value>>
     requires { IsInside scanner.old }
-    ensures { Turns room stack.old.items stack.new.items scanner.old scanner.new result }
+    ensures { TurnsBuilding room stack.old.items stack.new.items scanner.old scanner.new result }
 {
     let open = stack.len();
     let left = room.saturating_sub(open);
@@ -175,7 +175,7 @@ fn attach_value<I: Input>(
     value: Value,
 ) -> Result<Option<Value>>
     requires { IsInside scanner.old }
-    ensures { TurnsInside (value_in_at unfinished value scanner.old) (start_of unfinished) true stack.old.items stack.new.items scanner.old scanner.new result }
+    ensures { TurnsBuildingInside (value_in_at unfinished value scanner.old) (start_of unfinished) true stack.old.items stack.new.items scanner.old scanner.new result }
 {
     match unfinished {
         Unfinished::Array {

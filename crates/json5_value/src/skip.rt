@@ -7,7 +7,7 @@ ghost use Rattle.json5_value.specs.Brackets.{bracket_of};
 ghost use Rattle.json5_value.specs.Opening.{AtScalar};
 ghost use Rattle.json5_value.specs.Steps.{IsInside, Steps, value_at};
 ghost use Rattle.json5_value.specs.Short.{TurnsMember, ResumesShort, TurnsShort};
-ghost use Rattle.json5_value.specs.SkipSteps.{SkipsOrOpens, Turns, TurnsInside, PlacedWithin, Skips};
+ghost use Rattle.json5_value.specs.SkipSteps.{SkipsOrOpens, TurnsSkipping, TurnsSkippingInside, PlacedWithin, SkipsValue};
 
 use crate::brackets::{BracketKind, OpenBracket, open_bracket};
 use crate::entries::{skip_name, skip_to_value};
@@ -86,7 +86,7 @@ fn resume_bracket<I: Input>(
 ) -> Result<bool>
     requires ready { IsInside scanner.old }
     requires place { length brackets.old.items < 128 }
-    ensures { TurnsInside comma_due bracket brackets.old.items brackets.new.items scanner.old scanner.new result }
+    ensures { TurnsSkippingInside comma_due bracket brackets.old.items brackets.new.items scanner.old scanner.new result }
 {
     match skip_to_value(scanner, bracket.kind, comma_due) {
         Ok(true) => {
@@ -107,7 +107,7 @@ fn begin_value<I: Input>(
 ) -> Result<bool>
     requires ready { IsInside scanner.old }
     requires room { room ≤ max_depth }
-    ensures { Turns room brackets.old.items brackets.new.items scanner.old scanner.new result }
+    ensures { TurnsSkipping room brackets.old.items brackets.new.items scanner.old scanner.new result }
 {
     let open = brackets.len();
     let left = room.saturating_sub(open);
@@ -257,7 +257,7 @@ fn short_turn<I: Input>(
 /// As [`read_value`](crate::read::read_value), with the same positions.
 pub fn skip_value<I: Input>(scanner: &mut Scanner<I>, room: usize) -> Result<()>
     requires { room ≤ max_depth }
-    ensures { Skips room scanner.old scanner.new result }
+    ensures { SkipsValue room scanner.old scanner.new result }
 {
     let _offset = scanner.offset();
     let mut brackets = OpenBrackets::new();

@@ -4,7 +4,7 @@ use Rattle.json5_grammar.specs.Language.Characters.{star_sign, slash_sign, digit
 use Rattle.json5_grammar.specs.Faults.Codes.{ErrorCode}
 use Rattle.json5_grammar.specs.Language.Blanks.{Inside}
 use Rattle.json5_grammar.specs.Language.Numbers.{Sign, hex_start}
-use Rattle.json5_grammar.specs.Faults.Tokens.{NumberWord, Run, CutEscape, Word}
+use Rattle.json5_grammar.specs.Faults.Tokens.{NumberWord, DecimalRun, CutEscape, Word}
 use Rattle.json5_grammar.specs.Language.Strings.{Items, is_quote}
 use Rattle.json5_grammar.specs.Language.Names.{Ident}
 
@@ -23,7 +23,7 @@ pub data NumberPart : List ℕ → Type 0 where
   hexadecimal : (s h x : List ℕ) {m : Bool} (c : ℕ) → Sign s m → hex_start c ≡ true → Each is_hex_digit h → Nearly (s ++ digit_zero ∷ c ∷ h) x
       → NumberPart x
   lone_zero_part : (s x : List ℕ) {m : Bool} → Sign s m → Nearly (s ++ digit_zero ∷ []) x → NumberPart x
-  decimal_run : (n x : List ℕ) → Run n → Nearly n x → NumberPart x
+  decimal_run : (n x : List ℕ) → DecimalRun n → Nearly n x → NumberPart x
 
 pub data Part : List ℕ → Type 0 where
   no_part : Part []

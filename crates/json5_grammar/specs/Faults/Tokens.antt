@@ -133,10 +133,10 @@ pub data NumberWord : List ℕ → Type 0 where
   nan : NumberWord (codes "NaN")
 
 -- n is all of a decimal run: a sign, a point or digit, and more; a first `0` begins one only before `. e E`
-pub data Run : List ℕ → Type 0 where
-  run : {s n : List ℕ} {m : Bool} {c : ℕ} → Sign s m → begins_run c ≡ true → c ≢ digit_zero → Each in_run n → Run (s ++ c ∷ n)
+pub data DecimalRun : List ℕ → Type 0 where
+  run : {s n : List ℕ} {m : Bool} {c : ℕ} → Sign s m → begins_run c ≡ true → c ≢ digit_zero → Each in_run n → DecimalRun (s ++ c ∷ n)
   zero_run : {s n : List ℕ} {m : Bool} (c : ℕ) → Sign s m → ((c == point_sign) || ((c == letter_e) || (c == capital_e))) ≡ true → Each in_run n
-      → Run (s ++ digit_zero ∷ c ∷ n)
+      → DecimalRun (s ++ digit_zero ∷ c ∷ n)
 
 -- the text r ends or begins with a character that fails the test: that character, or nothing
 pub data RunEnd (p : ℕ → Bool) : List ℕ → List ℕ → Shown → Type 0 where
@@ -176,12 +176,12 @@ pub data NumberFault : List ℕ → Option ErrorCode → Option (List ℕ) → L
       → RunEnd is_hex_digit r c shown
       → NumberFault (minus_sign ∷ digit_zero ∷ x ∷ (h ++ r)) None (Some []) (minus_sign ∷ digit_zero ∷ x ∷ (h ++ c)) shown
   -- custom, at the number's start: a decimal run that is no literal
-  not_a_literal : (r n c : List ℕ) {shown : Shown} → Run n
+  not_a_literal : (r n c : List ℕ) {shown : Shown} → DecimalRun n
       → ((s l i : List ℕ) (m : Bool) (d : Option (List ℕ)) (w : Option ℤ) → Sign s m → Literal l i d w → n ≡ s ++ l → ⊥)
       → RunEnd in_run r c shown
       → NumberFault (n ++ r) None (Some []) (n ++ c) shown
   -- OverflowParsingNumber at the number's start: a literal whose exponent is out of range
-  literal_overflows : (r s l i c : List ℕ) {shown : Shown} {m : Bool} {d : Option (List ℕ)} {w : Option ℤ} → Run (s ++ l) → Sign s m
+  literal_overflows : (r s l i c : List ℕ) {shown : Shown} {m : Bool} {d : Option (List ℕ)} {w : Option ℤ} → DecimalRun (s ++ l) → Sign s m
       → Literal l i d w → ((n : Number) → Num (s ++ l) n → ⊥)
       → RunEnd in_run r c shown
       → NumberFault ((s ++ l) ++ r) (Some OverflowParsingNumber) (Some []) ((s ++ l) ++ c) shown

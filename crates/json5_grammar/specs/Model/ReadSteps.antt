@@ -8,7 +8,7 @@ use Rattle.json5_grammar.specs.Model.Reading.{Read, and_then, here, inner, got, 
 use Rattle.json5_grammar.specs.Model.ReadBlanks.{skip, between}
 use Rattle.json5_grammar.specs.Model.ReadTexts.{key}
 use Rattle.json5_grammar.specs.Language.Trees.{Trees, Pairs, more, no_pair, pair}
-use Rattle.json5_grammar.specs.Model.ReadValues.{read, items, entries, after_member, after_pair, colon_at}
+use Rattle.json5_grammar.specs.Model.ReadValues.{read, read_elements, read_members, after_member, after_pair, colon_at}
 
 -- the answer without what was read
 abbrev pub forget : {A : Type 0} → Read A → Read (Unit {0})
@@ -50,31 +50,31 @@ next_value k true x = and_then (separator k x) (λ more y. cond more (member_at 
 
 -- ---- what is left of a bracket of the kind, its values nested no deeper than the number
 
-unfoldable pub rest_of : BracketKind → Bool → ℕ → List ℕ → Read (Unit {0})
-rest_of of_array false d x = forget (items (read d) (suc (length x)) x)
-rest_of of_object false d x = forget (entries (read d) (suc (length x)) x)
-rest_of of_array true d x = forget (and_then (skip between x) (λ u y. after_member (λ z. items (read d) (suc (length z)) z) y))
-rest_of of_object true d x = forget (and_then (skip between x) (λ u y. after_pair (λ z. entries (read d) (suc (length z)) z) y))
+unfoldable pub rest_of_bracket : BracketKind → Bool → ℕ → List ℕ → Read (Unit {0})
+rest_of_bracket of_array false d x = forget (read_elements (read d) (suc (length x)) x)
+rest_of_bracket of_object false d x = forget (read_members (read d) (suc (length x)) x)
+rest_of_bracket of_array true d x = forget (and_then (skip between x) (λ u y. after_member (λ z. read_elements (read d) (suc (length z)) z) y))
+rest_of_bracket of_object true d x = forget (and_then (skip between x) (λ u y. after_pair (λ z. read_members (read d) (suc (length z)) z) y))
 
 -- a value, and then what is left of its bracket
 abbrev pub value_and_rest : BracketKind → ℕ → List ℕ → Read (Unit {0})
-value_and_rest k d x = and_then (forget (read d x)) (λ u y. rest_of k true d y)
+value_and_rest k d x = and_then (forget (read d x)) (λ u y. rest_of_bracket k true d y)
 
 -- ---- the same with the trees
 
 -- members and the closing bracket; and after a member
 abbrev pub trees_of : ℕ → List ℕ → Read Trees
-trees_of d x = items (read d) (suc (length x)) x
+trees_of d x = read_elements (read d) (suc (length x)) x
 
 abbrev pub trees_after : ℕ → List ℕ → Read Trees
 trees_after d x = and_then (skip between x) (λ u y. after_member (trees_of d) y)
 
 -- pairs and the closing brace; and after a pair
-abbrev pub pairs_of : ℕ → List ℕ → Read Pairs
-pairs_of d x = entries (read d) (suc (length x)) x
+abbrev pub read_pairs : ℕ → List ℕ → Read Pairs
+read_pairs d x = read_members (read d) (suc (length x)) x
 
 abbrev pub pairs_after : ℕ → List ℕ → Read Pairs
-pairs_after d x = and_then (skip between x) (λ u y. after_pair (pairs_of d) y)
+pairs_after d x = and_then (skip between x) (λ u y. after_pair (read_pairs d) y)
 
 -- where a pair may begin, after the blanks: its key, past the colon; None where the brace was closed
 abbrev pub key_head : List ℕ → Read (Option (List ℕ × Bool))

@@ -31,9 +31,9 @@ abbrev pub member : (List ℕ → Read Tree) → (List ℕ → Read Trees) → L
 member val k x = and_then (val x) (λ t r. and_then (skip between r) (λ u y. and_then (after_member k y) (λ ts z. got (more t ts) z)))
 
 -- the number bounds the turns; more than the length of the text is enough
-unfoldable pub items : (List ℕ → Read Tree) → ℕ → List ℕ → Read Trees
-items val zero x = bad (Some EofParsingArray) inner
-items val (suc n) x = and_then (skip between x) (λ u y. close_or (member val (items val n) y) y)
+unfoldable pub read_elements : (List ℕ → Read Tree) → ℕ → List ℕ → Read Trees
+read_elements val zero x = bad (Some EofParsingArray) inner
+read_elements val (suc n) x = and_then (skip between x) (λ u y. close_or (member val (read_elements val n) y) y)
 
 -- ---- pairs of objects
 
@@ -56,9 +56,9 @@ abbrev pub key_or : Read Pairs → List ℕ → Read Pairs
 key_or m [] = bad (Some EofParsingObject) inner
 key_or m (c ∷ r) = cond (c == right_brace) (got no_pair r) m
 
-unfoldable pub entries : (List ℕ → Read Tree) → ℕ → List ℕ → Read Pairs
-entries val zero x = bad (Some EofParsingObject) inner
-entries val (suc n) x = and_then (skip between x) (λ u y. key_or (pair_at val (entries val n) y) y)
+unfoldable pub read_members : (List ℕ → Read Tree) → ℕ → List ℕ → Read Pairs
+read_members val zero x = bad (Some EofParsingObject) inner
+read_members val (suc n) x = and_then (skip between x) (λ u y. key_or (pair_at val (read_members val n) y) y)
 
 -- ---- values
 
@@ -84,8 +84,8 @@ too_deep q r = bad (Some TooDeep) (here q)
 unfoldable pub read : ℕ → List ℕ → Read Tree
 read zero = value_with too_deep too_deep
 read (suc d) = value_with
-    (λ q r. placed q (and_then (items (read d) (suc (length r)) r) (λ ts y. got (array ts) y)))
-    (λ q r. placed q (and_then (entries (read d) (suc (length r)) r) (λ ps y. got (object ps) y)))
+    (λ q r. placed q (and_then (read_elements (read d) (suc (length r)) r) (λ ts y. got (array ts) y)))
+    (λ q r. placed q (and_then (read_members (read d) (suc (length r)) r) (λ ps y. got (object ps) y)))
 
 abbrev pub at_end : Tree → List ℕ → Read Tree
 at_end t [] = got t []

@@ -2,7 +2,7 @@
 
 ghost use Rattle.std.specs.Prelude.{◌≡◌, ℕ, List};
 ghost use Rattle.std.specs.Str.{chars, encode_utf8_all};
-ghost use Rattle.json5_text.specs.TextTokens.{StandsAt, IsTextOf, IsCowOf};
+ghost use Rattle.json5_text.specs.TextTokens.{IsSliceAt, IsTextOf, IsCowOf};
 ghost use Rattle.json5_text.specs.ShortTexts.{IsTextAt};
 ghost use Rattle.json5_text.specs.TokenCalls.{TakesString, TakesName};
 
@@ -105,7 +105,7 @@ impl<I: Input> Scanner<I> {
 
 /// The part of a text between two offsets in bytes; the empty text where they are out of order or within a character.
 fn between(text: &str, start: usize, end: usize) -> &str
-    ensures { (u : List ℕ) → StandsAt (chars text.now) u start end → result.now ≡ encode_utf8_all u }
+    ensures { (u : List ℕ) → IsSliceAt (chars text.now) u start end → result.now ≡ encode_utf8_all u }
 {
     text.get(start..end).unwrap_or("")
 }

@@ -1,6 +1,6 @@
 use Rattle.std.proofs.lemmas.Result.{err_from_is_err_and}
 use Rattle.std.specs.Prelude.{Err}
-use Rattle.json5.specs.Out.{text_of}
+use Rattle.json5.specs.Out.{written_text}
 use Rattle.json5.specs.ValueTrees.{value_tree}
 use Rattle.json5.proofs.Formats.{pushes_whole}
 use Rattle.json5_formatter.specs.Runs.{written_bytes}
@@ -12,7 +12,7 @@ returns-in_err-to_writer g c =
     let (y, is, from) = err_from_is_err_and c.from_residual.result c.from_residual.ensures.1 in
     let holds = g.W.Write.contents in
     let t = value_tree c.args.value.now in
-    rw is (λ w. text_stops (holds c.args.w.now) (holds c.to_writer.new.w) (written_bytes t) (pushes_whole {A = Unit {0}} (text_of t) (holds c.args.w.now) (holds c.to_writer.new.w) (Err c.in_err-to_writer.field-0.0) w c.in_err-to_writer.ensures))
+    rw is (λ w. text_stops (holds c.args.w.now) (holds c.to_writer.new.w) (written_bytes t) (pushes_whole {A = Unit {0}} (written_text t) (holds c.args.w.now) (holds c.to_writer.new.w) (Err c.in_err-to_writer.field-0.0) w c.in_err-to_writer.ensures))
 
 pub returns-in_err-write_whole : goal.returns-in_err-write_whole
 returns-in_err-write_whole g c =

@@ -2,7 +2,7 @@ use Rattle.std.proofs.Common.{rules, sym, ap, subst, ◌∙◌, ◌≡◌, ◌<�
 use Rattle.std.specs.Str.{chars}
 use Rattle.json5_text.proofs.LookedUp.{from_here}
 use Rattle.json5_ser.specs.WrittenTrees.{text, fields_of}
-use Rattle.json5_ser.specs.ValueTrees.{value_tree, text_key}
+use Rattle.json5_ser.specs.ValueTrees.{value_tree, key_of_string}
 use Rattle.json5_ser.specs.Writes.{WritesTree}
 use Rattle.json5_ser.proofs.Members.{object_refused, object_begun, in_loop, out_of_loop, same_entries, field_on, field_refused, object_ended}
 use Rattle.json5_ser.proofs.ValuesInside.{tree-String, tree-Array, tree-Object}
@@ -21,7 +21,7 @@ ValueSerialize::serialize-returns-in-Object g t c = rw (c.in-Object.is, tree-Obj
 
 pub write_fields-returns-in_err-object : goal.write_fields-returns-in_err-object
 write_fields-returns-in_err-object g t c =
-    object_refused (fields_of text_key value_tree c.args.fields.now) _ _ _ _ (rw c.in_err-object.was at c.serialize_map.follows.holds-at-none) c.from_residual.ensures.1
+    object_refused (fields_of key_of_string value_tree c.args.fields.now) _ _ _ _ (rw c.in_err-object.was at c.serialize_map.follows.holds-at-none) c.from_residual.ensures.1
 
 pub write_fields-loop-key-init : goal.write_fields-loop-key-init
 write_fields-loop-key-init g t c = record { remains = in_loop (object_begun _ c.in_ok-object.ensures.begun) }
@@ -29,17 +29,17 @@ write_fields-loop-key-init g t c = record { remains = in_loop (object_begun _ c.
 pub write_fields-returns-in_err-serialize_entry : goal.write_fields-returns-in_err-serialize_entry
 write_fields-returns-in_err-serialize_entry g t c =
     let left : c.loop-key.key-index < length c.args.fields.now = search rules in
-    let remains = same_entries text_key value_tree _ _ (from_here c.args.fields.now c.loop-key.key-index c.loop-key-item.result left c.loop-key-item.is) c.loop-key.invariant.remains in
+    let remains = same_entries key_of_string value_tree _ _ (from_here c.args.fields.now c.loop-key.key-index c.loop-key-item.result left c.loop-key-item.is) c.loop-key.invariant.remains in
     field_refused _ (out_of_loop c.in_ok-object.ensures.begun.same_reference remains) c.in_err-serialize_entry.ensures c.from_residual-in_err-serialize_entry.ensures.1 c.drop-object.ensures (search rules)
 
 pub write_fields-loop-key-preserved : goal.write_fields-loop-key-preserved
 write_fields-loop-key-preserved g t c =
     let left : c.loop-key.key-index < length c.args.fields.now = search rules in
     record {
-      remains = field_on (same_entries text_key value_tree _ _ (from_here c.args.fields.now c.loop-key.key-index c.loop-key-item.result left c.loop-key-item.is) c.loop-key.invariant.remains) c.in_ok-serialize_entry.ensures;
+      remains = field_on (same_entries key_of_string value_tree _ _ (from_here c.args.fields.now c.loop-key.key-index c.loop-key-item.result left c.loop-key-item.is) c.loop-key.invariant.remains) c.in_ok-serialize_entry.ensures;
     }
 
 pub write_fields-returns : goal.write_fields-returns
 write_fields-returns g t c =
     let none : drop c.loop-key.key-index c.args.fields.now ≡ [] = drop_of_length-le c.args.fields.now (search rules) in
-    object_ended _ _ (out_of_loop c.in_ok-object.ensures.begun.same_reference (same_entries text_key value_tree _ _ none c.loop-key.invariant.remains)) c.end.ensures (search rules)
+    object_ended _ _ (out_of_loop c.in_ok-object.ensures.begun.same_reference (same_entries key_of_string value_tree _ _ none c.loop-key.invariant.remains)) c.end.ensures (search rules)

@@ -1,7 +1,7 @@
 use Rattle.std.proofs.Common.{◌<◌, sym, ap, ◌∙◌, subst, arith}
 use Rattle.std.specs.Prelude.{slice_index}
 use Rattle.std.proofs.lemmas.Bool.Decides.{nat_tests}
-use Rattle.json5_text.specs.Scan.{Begins}
+use Rattle.json5_text.specs.Scan.{StartsWith}
 use Rattle.json5_text.proofs.ScanBytes.{first_cut, begins_ascii, no_chars}
 use Rattle.json5_text.proofs.front.front.Goals as goal
 
@@ -16,5 +16,5 @@ split_at-requires c =
 pub returns-then-bytes-lt128 : goal.returns-then-bytes-lt128
 returns-then-bytes-lt128 c =
     let same = c.as_bytes-bytes.ensures.value in
-    subst (λ d. Begins c.args.text.now d c.split_at.result.1.now) (ap (λ s. slice_index s 0) (sym same) ∙ sym c.from.ensures)
+    subst (λ d. StartsWith c.args.text.now d c.split_at.result.1.now) (ap (λ s. slice_index s 0) (sym same) ∙ sym c.from.ensures)
     (begins_ascii c.args.text.now _ c.utf8.text (grind (arith, nat_tests, same, c.if-is_empty.ensures, c.if-is_empty.false)) (subst (λ s. slice_index s 0 < 128) same c.if-bytes-lt128.true) c.split_at.ensures.back)

@@ -5,7 +5,7 @@ use Rattle.std.proofs.lemmas.Result.{err_from_is_err_and}
 use Rattle.json5_grammar.specs.Model.Reading.{got}
 use Rattle.json5_grammar.proofs.StringsRead.{put_none}
 use Rattle.json5_text.specs.Scan.{in_list}
-use Rattle.json5_text.specs.ScanTexts.{text_at, GoesOn, left_in}
+use Rattle.json5_text.specs.ScanTexts.{text_at, ReadsUpTo, left_in}
 use Rattle.json5_text.proofs.ScanTexts.{goes_past, refused_past, bytes_past, never_escape_free}
 use Rattle.json5_text.proofs.texts.read_escaped.Goals as goal
 
@@ -15,26 +15,26 @@ loop-stop-init c = ([], true, (put_none (text_at c.args.kind (chars c.args.escap
 pub returns-in-End : goal.returns-in-End
 returns-in-End c =
     let at = c.loop-stop.invariant in
-    let end = subst (GoesOn (text_at c.args.kind (chars c.args.escape.now)) at.0 at.1) c.in-End.is at.2 in
+    let end = subst (ReadsUpTo (text_at c.args.kind (chars c.args.escape.now)) at.0 at.1) c.in-End.is at.2 in
     let escape_free = never_escape_free c.args.kind _ _ at.0 _ at.1 c.requires end.read in
     record { spelled = at.0; read = end.read ∙ ap (λ p. got (at.0, p) (chars c.in-End.rest.now)) escape_free; whole = at.3; text = end.text }
 
 pub read_step-requires : goal.read_step-requires
 read_step-requires c =
     let at = c.loop-stop.invariant in
-    (subst (GoesOn (text_at c.args.kind (chars c.args.escape.now)) at.0 at.1) c.in-Escape.is at.2).1
+    (subst (ReadsUpTo (text_at c.args.kind (chars c.args.escape.now)) at.0 at.1) c.in-Escape.is at.2).1
 
 pub returns-in_err-step-in-Escape : goal.returns-in_err-step-in-Escape
 returns-in_err-step-in-Escape c =
     let p = err_from_is_err_and c.from_residual-in_err-step-in-Escape.result c.from_residual-in_err-step-in-Escape.ensures.1 in
     let at = c.loop-stop.invariant in
-    let here = subst (GoesOn (text_at c.args.kind (chars c.args.escape.now)) at.0 at.1) c.in-Escape.is at.2 in
+    let here = subst (ReadsUpTo (text_at c.args.kind (chars c.args.escape.now)) at.0 at.1) c.in-Escape.is at.2 in
     rw (p.1, p.2) (refused_past c.in_err-step-in-Escape.field-0.0 _ _ at.0 at.1 here.0 c.in_err-step-in-Escape.ensures.refused)
 
 pub loop-stop-smaller : goal.loop-stop-smaller
 loop-stop-smaller c =
     let at = c.loop-stop.invariant in
-    let here = subst (GoesOn (text_at c.args.kind (chars c.args.escape.now)) at.0 at.1) c.in-Escape.is at.2 in
+    let here = subst (ReadsUpTo (text_at c.args.kind (chars c.args.escape.now)) at.0 at.1) c.in-Escape.is at.2 in
     let whole = ap left_in c.in-Escape.is in
     let first = ap length here.1 in
     let left = c.in_ok-step-in-Escape.ensures.left in
@@ -43,7 +43,7 @@ loop-stop-smaller c =
 pub loop-stop-preserved : goal.loop-stop-preserved
 loop-stop-preserved c =
     let at = c.loop-stop.invariant in
-    let here = subst (GoesOn (text_at c.args.kind (chars c.args.escape.now)) at.0 at.1) c.in-Escape.is at.2 in
+    let here = subst (ReadsUpTo (text_at c.args.kind (chars c.args.escape.now)) at.0 at.1) c.in-Escape.is at.2 in
     let step = c.in_ok-step-in-Escape.step in
     let found = c.in_ok-step-in-Escape.ensures in
     let spelled = in_list step.spelled ++ chars step.run.now in (

@@ -3,7 +3,7 @@ use Rattle.std.specs.Str.{chars}
 use Rattle.std.proofs.lemmas.Result.{err_from_is_err_and}
 use Rattle.std.proofs.lemmas.Str.{encodes-chars}
 use Rattle.json5_grammar.specs.Model.ReadTexts.{put}
-use Rattle.json5_text.specs.ScanTexts.{text_at, GoesOn}
+use Rattle.json5_text.specs.ScanTexts.{text_at, ReadsUpTo}
 use Rattle.json5_text.proofs.ScanTexts.{refused_past, both_parts, escape_not_escape_free, not_escape_free_past}
 use Rattle.json5_text.proofs.texts.read_text.Goals as goal
 
@@ -11,7 +11,7 @@ pub returns-in_err-text-in-Escape : goal.returns-in_err-text-in-Escape
 returns-in_err-text-in-Escape c =
     let p = err_from_is_err_and c.from_residual-in_err-text-in-Escape.result c.from_residual-in_err-text-in-Escape.ensures.1 in
     let run = chars c.in_ok-run.run'.now in
-    let here = subst (GoesOn (text_at c.args.kind (chars c.args.text.now)) run true) c.in-Escape.is c.in_ok-run.ensures.goes_on in
+    let here = subst (ReadsUpTo (text_at c.args.kind (chars c.args.text.now)) run true) c.in-Escape.is c.in_ok-run.ensures.goes_on in
     rw (p.1, p.2)
     (record {
       refused = refused_past c.in_err-text-in-Escape.field-0.0 _ _ run true here.0 c.in_err-text-in-Escape.ensures;
@@ -21,13 +21,13 @@ returns-in_err-text-in-Escape c =
 pub returns-in-End : goal.returns-in-End
 returns-in-End c =
     let run = chars c.in_ok-run.run'.now in
-    let end = subst (GoesOn (text_at c.args.kind (chars c.args.text.now)) run true) c.in-End.is c.in_ok-run.ensures.goes_on in
+    let end = subst (ReadsUpTo (text_at c.args.kind (chars c.args.text.now)) run true) c.in-End.is c.in_ok-run.ensures.goes_on in
     record { spelled = run; escape_free = true; read = end.read; is_text = record { borrowed = refl; bytes = sym (encodes-chars c.in_ok-run.run'.now c.in_ok-run.ensures.text) }; text = end.text }
 
 pub returns-in_ok-text-in-Escape : goal.returns-in_ok-text-in-Escape
 returns-in_ok-text-in-Escape c =
     let run = chars c.in_ok-run.run'.now in
-    let here = subst (GoesOn (text_at c.args.kind (chars c.args.text.now)) run true) c.in-Escape.is c.in_ok-run.ensures.goes_on in
+    let here = subst (ReadsUpTo (text_at c.args.kind (chars c.args.text.now)) run true) c.in-Escape.is c.in_ok-run.ensures.goes_on in
     let more = c.in_ok-text-in-Escape.ensures in
     record {
       spelled = run ++ more.spelled;

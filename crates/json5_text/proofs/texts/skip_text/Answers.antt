@@ -2,7 +2,7 @@ use Rattle.std.proofs.Common.{◌++◌, true, false, ◌&&◌, ap, subst, length
 use Rattle.std.specs.Str.{chars}
 use Rattle.std.proofs.lemmas.Result.{err_from_is_err_and}
 use Rattle.json5_text.specs.Scan.{in_list}
-use Rattle.json5_text.specs.ScanTexts.{text_at, GoesOn, left_in}
+use Rattle.json5_text.specs.ScanTexts.{text_at, ReadsUpTo, left_in}
 use Rattle.json5_text.proofs.ScanTexts.{goes_past, refused_past}
 use Rattle.json5_text.proofs.texts.skip_text.Goals as goal
 
@@ -12,26 +12,26 @@ loop-stop-init c = (chars c.in_ok-stop.field-0-0.now, true, c.in_ok-stop.ensures
 pub returns-in-End : goal.returns-in-End
 returns-in-End c =
     let at = c.loop-stop.invariant in
-    let end = subst (GoesOn (text_at c.args.kind (chars c.args.text.now)) at.0 at.1) c.in-End.is at.2 in
+    let end = subst (ReadsUpTo (text_at c.args.kind (chars c.args.text.now)) at.0 at.1) c.in-End.is at.2 in
     record { value = (at.0, at.1); read = end.read; text = end.text }
 
 pub read_step-requires : goal.read_step-requires
 read_step-requires c =
     let at = c.loop-stop.invariant in
-    (subst (GoesOn (text_at c.args.kind (chars c.args.text.now)) at.0 at.1) c.in-Escape.is at.2).1
+    (subst (ReadsUpTo (text_at c.args.kind (chars c.args.text.now)) at.0 at.1) c.in-Escape.is at.2).1
 
 pub returns-in_err-stop-in-Escape : goal.returns-in_err-stop-in-Escape
 returns-in_err-stop-in-Escape c =
     let p = err_from_is_err_and c.from_residual-in_err-stop-in-Escape.result c.from_residual-in_err-stop-in-Escape.ensures.1 in
     let at = c.loop-stop.invariant in
-    let here = subst (GoesOn (text_at c.args.kind (chars c.args.text.now)) at.0 at.1) c.in-Escape.is at.2 in
+    let here = subst (ReadsUpTo (text_at c.args.kind (chars c.args.text.now)) at.0 at.1) c.in-Escape.is at.2 in
     let refusal = c.in_err-stop-in-Escape.ensures in
     rw (p.1, p.2) (record { refused = refused_past c.in_err-stop-in-Escape.field-0.0 _ _ at.0 at.1 here.0 refusal.refused; known = refusal.known })
 
 pub loop-stop-smaller : goal.loop-stop-smaller
 loop-stop-smaller c =
     let at = c.loop-stop.invariant in
-    let here = subst (GoesOn (text_at c.args.kind (chars c.args.text.now)) at.0 at.1) c.in-Escape.is at.2 in
+    let here = subst (ReadsUpTo (text_at c.args.kind (chars c.args.text.now)) at.0 at.1) c.in-Escape.is at.2 in
     let whole = ap left_in c.in-Escape.is in
     let first = ap length here.1 in
     let left = c.in_ok-stop-in-Escape.ensures.left in
@@ -40,7 +40,7 @@ loop-stop-smaller c =
 pub loop-stop-preserved : goal.loop-stop-preserved
 loop-stop-preserved c =
     let at = c.loop-stop.invariant in
-    let here = subst (GoesOn (text_at c.args.kind (chars c.args.text.now)) at.0 at.1) c.in-Escape.is at.2 in
+    let here = subst (ReadsUpTo (text_at c.args.kind (chars c.args.text.now)) at.0 at.1) c.in-Escape.is at.2 in
     let found = c.in_ok-stop-in-Escape.ensures in
     let step = c.in_ok-stop-in-Escape.field-0 in
     let spelled = in_list step.spelled ++ chars step.run.now in

@@ -2,7 +2,7 @@ use Rattle.std.proofs.Common.{ap, refl, sym, subst}
 use Rattle.std.specs.Str.{chars}
 use Rattle.json5_grammar.specs.Language.Names.{Key}
 use Rattle.json5_text.specs.Cursor.{Cursor}
-use Rattle.json5_text.specs.ScanKeys.{key_at}
+use Rattle.json5_text.specs.ScanKeys.{key_ahead}
 use Rattle.json5_text.specs.Tokens.{FaultyKey}
 use Rattle.json5_text.proofs.ScanFaults.{refusal_in, refused}
 use Rattle.json5_text.proofs.TextTokens.{unread_fits, token_inside}
@@ -11,12 +11,12 @@ use Rattle.json5_text.proofs.ScanTokens.{left_counted, leaves_rest}
 use Rattle.json5_text.proofs.scanner.Scanner.key.Goals as goal
 
 pub fault-requires : goal.fault-requires
-fault-requires g c = refusal_in FaultyKey c.args.self.now c.in-Err.refusal (key_at (chars c.rest.result.now)) (key_faulty _ _ c.rest.ensures) c.in-Err.ensures.refused
+fault-requires g c = refusal_in FaultyKey c.args.self.now c.in-Err.refusal (key_ahead (chars c.rest.result.now)) (key_faulty _ _ c.rest.ensures) c.in-Err.ensures.refused
 
 pub returns-in-Err : goal.returns-in-Err
 returns-in-Err g c = record {
   taken = tt;
-  refused = refused FaultyKey c.args.self.now c.fault.result c.in-Err.refusal (key_at (chars c.rest.result.now)) (key_faulty _ _ c.rest.ensures) c.in-Err.ensures.refused c.fault.ensures;
+  refused = refused FaultyKey c.args.self.now c.fault.result c.in-Err.refusal (key_ahead (chars c.rest.result.now)) (key_faulty _ _ c.rest.ensures) c.in-Err.ensures.refused c.fault.ensures;
   kept = refl;
   complete = λ s u r escape_free split is_key. made_of_memory c.args.self.now c.in-Err.refusal c.fault.result
       (key_memory (chars c.rest.result.now) c.args.self.now.unread s u r escape_free c.in-Err.refusal c.rest.ensures c.in-Err.ensures.refused split is_key) c.fault.ensures;
