@@ -16,9 +16,9 @@ ghost use Rattle.json5_ser.specs.Writes.{SerializerState, Writes, WritesTree, fr
 
 use crate::Serialize;
 use crate::brackets::Brackets;
+use crate::escape_free::is_escape_free;
 use crate::lines::line;
 use crate::output::write_whole;
-use crate::escape_free::is_escape_free;
 use crate::quoting::{Quote, split_at_escape};
 use crate::stage::Stage;
 use itoa::{Buffer, Integer};

@@ -104,7 +104,10 @@ pub(crate) fn judge<'t>(
     let after = literal.after.unwrap_or("");
     let exponent = lowered_exponent(literal, after.len());
     let Some(decimal) = DecimalRef::new(negative, literal.before, after, exponent) else {
-        return Err(Refusal::TokenError { code: ErrorCode::OverflowParsingNumber, remaining: Some(start.len()) });
+        return Err(Refusal::TokenError {
+            code: ErrorCode::OverflowParsingNumber,
+            remaining: Some(start.len()),
+        });
     };
     Ok(Scanned::Finite(decimal))
 }

@@ -56,7 +56,11 @@ pub(crate) fn skip_name<I: Input>(scanner: &mut Scanner<I>) -> Result<()>
 }
 
 /// Where a comma is due, passes over it and says true, or over the closing bracket and says false. Says true where none is.
-fn skip_comma<I: Input>(scanner: &mut Scanner<I>, kind: BracketKind, comma_due: bool) -> Result<bool>
+fn skip_comma<I: Input>(
+    scanner: &mut Scanner<I>,
+    kind: BracketKind,
+    comma_due: bool,
+) -> Result<bool>
     requires { IsInside scanner.old }
     ensures { Steps (due_comma (bracket_of kind) comma_due scanner.old.unread) scanner.old scanner.new result }
 {

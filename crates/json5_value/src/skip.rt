@@ -151,7 +151,10 @@ enum ShortTurn {
     /// A value is next that must be begun the longer way.
     Begins,
     /// The bracket isn't among the open ones, and must be gone on with the longer way, after a comma where one is due.
-    Within { bracket: OpenBracket, comma_due: bool },
+    Within {
+        bracket: OpenBracket,
+        comma_due: bool,
+    },
     /// The object isn't among the open ones, and the key of its member is next.
     AtKey(OpenBracket),
     /// The value that was to be passed over has ended.
