@@ -1,4 +1,5 @@
 -- What the short ways promise: a token is taken with the ASCII blanks before it, or nothing is.
+use denote.Ref.{Bor}
 use Rattle.std.specs.Prelude.{◌≡◌, ℕ, ◌^◌, Bool, true, false, ◌==◌, List, ◌∷◌, ◌++◌, length, drop, ℤ, pos, neg_ℤ, ◌≤ℤ◌, Option, MatchOption}
 use Rattle.std.specs.Str.{IsUtf8, IsCharBoundary, chars}
 use Rattle.json5_grammar.specs.Language.Characters.{NotBegun, comma_sign}
@@ -50,6 +51,10 @@ pub record GivesSpaced (text : List ℕ) (found : ShortWhole) : Type 0 where
   pub counted : found.left ≡ length rest
 
 -- ---- a step to the next member of an array or an object
+
+-- blanks are in front of the text, and this follows them
+abbrev pub FollowsBlanks : List ℕ → Bor (List ℕ) → Type 0
+FollowsBlanks text rest = GivesValue (skip between (chars text)) tt rest.now
 
 -- y is what follows blanks at the front of x
 pub record AfterGap (x y : List ℕ) : Type 0 where

@@ -2,27 +2,37 @@
 //! frame of the caller; where they answer nothing they take nothing, and the scanner's other calls say what is there.
 
 ghost use Rattle.std.specs.Prelude.{◌<◌, true, false, IfSome};
-ghost use Rattle.std.specs.Str.{chars};
-ghost use Rattle.json5_grammar.specs.Model.ReadBlanks.{skip, between};
-ghost use Rattle.json5_text.specs.TokenResults.{GivesValue};
-ghost use Rattle.json5_text.specs.Short.{IsShortWhole, GivesSpaced, TakesShortWhole, IsInFront, FindsStep, TakesShortStep, FindsSign, TakesShortSign};
+ghost use Rattle.json5_text.specs.Short.{FollowsBlanks, IsShortWhole, GivesSpaced, TakesShortWhole, IsInFront, FindsStep, TakesShortStep, FindsSign, TakesShortSign};
 
-use crate::blanks::skip_ascii;
+use crate::blanks::{skip_ascii, skip_blank};
 use crate::bytes::{begins_minus, begins_solid, short_digits};
 use crate::input::Input;
 use crate::scanner::Scanner;
 
-/// What follows ASCII blanks, where it begins with a character that is surely neither blank nor a slash.
+/// What follows blanks of any kind, comments among them. None at the end of the text, and at a comment that has a fault.
+#[inline(never)]
+fn skip_comments(text: &str) -> Option<&str>
+    ensures { IfSome result (FollowsBlanks text.now) }
+{
+    let Ok(rest) = skip_blank(text) else {
+        return None;
+    };
+    if rest.is_empty() {
+        return None;
+    }
+    Some(rest)
+}
+
+/// What follows blanks. None at the end of the text, and at a comment that has a fault.
 #[inline(always)]
 fn skip_to_solid(text: &str) -> Option<&str>
-    ensures { IfSome result (λ rest. GivesValue (skip between (chars text.now)) tt rest.now) }
+    ensures { IfSome result (FollowsBlanks text.now) }
 {
     let rest = skip_ascii(text);
     if begins_solid(rest.as_bytes()) {
-        Some(rest)
-    } else {
-        None
+        return Some(rest);
     }
+    skip_comments(rest)
 }
 
 /// A whole number of few digits, and how many bytes follow it.
