@@ -1,5 +1,5 @@
-//! Short ways: tokens that are taken at once where no fault can come. They answer numbers alone, so that no fault stands in the
-//! frame of the caller; where they answer nothing they take nothing, and the scanner's other calls say what is there.
+//! Short ways: tokens that are taken at once where no fault can come. They return numbers alone, so that the caller's frame
+//! holds no fault. When they return None they take nothing, and the scanner's other calls say what is there.
 
 ghost use Rattle.std.specs.Prelude.{◌<◌, true, false, IfSome};
 ghost use Rattle.std.specs.Str.{chars};
@@ -12,7 +12,7 @@ use crate::bytes::{begins_minus, begins_solid, short_digits};
 use crate::input::Input;
 use crate::scanner::Scanner;
 
-/// What follows ASCII blanks, where it begins with a character that is surely neither blank nor a slash.
+/// What follows ASCII blanks, if it begins with a character that is surely neither blank nor a slash.
 #[inline(always)]
 fn skip_to_solid(text: &str) -> Option<&str>
     ensures { IfSome result (λ rest. GivesValue (skip between (chars text.now)) tt rest.now) }
@@ -32,7 +32,7 @@ struct ShortWhole {
     left: usize,
 }
 
-/// The whole number in front, where it has few digits, and what follows it.
+/// The whole number in front, if it has few digits, and what follows it.
 #[inline(always)]
 fn front_whole(text: &str) -> Option<(i128, &str)>
     ensures { IfSome result (λ p. IsShortWhole text.now p.0 p.1.now) }
@@ -45,7 +45,7 @@ fn front_whole(text: &str) -> Option<(i128, &str)>
     Some((i128::from(magnitude), rest))
 }
 
-/// The whole number after ASCII blanks, where it has few digits.
+/// The whole number after ASCII blanks, if it has few digits.
 #[inline(always)]
 fn spaced_whole(text: &str) -> Option<ShortWhole>
     ensures { IfSome result (GivesSpaced text.now) }
@@ -117,7 +117,7 @@ fn comma_step(closing: u8, text: &str) -> Option<Step>
     member_step(closing, solid.split_at(1).1)
 }
 
-/// A step, where the closing sign is an ASCII character.
+/// A step, if the closing sign is an ASCII character.
 #[inline(always)]
 fn find_step(closing: u8, comma_due: bool, text: &str) -> Option<Step>
     ensures { IfSome result (FindsStep closing comma_due text.now) }
@@ -132,7 +132,7 @@ fn find_step(closing: u8, comma_due: bool, text: &str) -> Option<Step>
     }
 }
 
-/// How many bytes follow ASCII blanks and the sign, where the sign is an ASCII character.
+/// How many bytes follow ASCII blanks and the sign, if the sign is an ASCII character.
 #[inline(always)]
 fn after_sign(sign: u8, text: &str) -> Option<usize>
     ensures { IfSome result (FindsSign sign text.now) }

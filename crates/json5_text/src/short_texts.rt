@@ -1,5 +1,5 @@
-//! Short ways: strings and keys without an escape, which are taken at once and stay where they stand in the text. Each answers
-//! numbers alone; where it answers nothing it takes nothing, and the scanner's other calls say what is there.
+//! Short ways: strings and keys without an escape, which are taken at once and aren't copied. Each returns numbers alone. When
+//! it returns None it takes nothing, and the scanner's other calls say what is there.
 
 ghost use Rattle.std.specs.Prelude.{◌≡◌, ◌∷◌, true, IfSome};
 ghost use Rattle.std.specs.Str.{chars};
@@ -22,7 +22,7 @@ pub struct Span {
     pub end: usize,
 }
 
-/// A text in front: how many bytes are left where it begins, where it ends, and after the string or the key that it is.
+/// The body of a string or a key in front: how many bytes are left where it begins, where it ends, and after the whole token.
 #[derive(Clone, Copy)]
 struct FoundText {
     from: usize,

@@ -1,4 +1,4 @@
-//! Texts of strings, identifiers and keys: slices of the scanner's text, where they can be.
+//! What strings, identifiers and keys spell: slices of the scanner's input if they have no escape.
 
 ghost use Rattle.std.specs.Prelude.{◌≡◌, ℕ, List};
 ghost use Rattle.std.specs.Str.{chars, encode_utf8_all};
@@ -103,7 +103,7 @@ impl<I: Input> Scanner<I> {
     }
 }
 
-/// The part of a text between two offsets in bytes; the empty text where they are out of order or within a character.
+/// The part of the input between two offsets in bytes; empty if they are out of order or within a character.
 fn between(text: &str, start: usize, end: usize) -> &str
     ensures { (u : List ℕ) → IsSliceAt (chars text.now) u start end → result.now ≡ encode_utf8_all u }
 {
