@@ -131,7 +131,7 @@ value_missing room old next e peeked is kind place = record {
   shorter = tt;
 }
 
--- ---- a value's beginning
+-- ---- how a value begins
 
 pub value_shorter : (d : ℕ) (x r : List ℕ) (u : Unit {0}) → forget (read d x) ≡ got u r → length r < length x
 value_shorter d x r u e = let (t, is) = forget_got (read d x) u r e in shorter t (read_sound d x r t is)
