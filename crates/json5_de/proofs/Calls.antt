@@ -18,7 +18,7 @@ use Rattle.json5_de.proofs.StagesPassed.{comma_after_member}
 use Rattle.json5_de.proofs.Elements.{reads_element, reads_more, leaves_fewer}
 use Rattle.json5_de.proofs.Next.{gives_seen, gives_next, refuses_next}
 
--- the access whose reader stands there
+-- the access with its reader in this state
 abbrev pub lent : {I : Type 0} → SeqAccess I → State → SeqAccess I
 lent s after = record s { de = record s.de { now = after } }
 

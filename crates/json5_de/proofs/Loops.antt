@@ -28,7 +28,8 @@ pub record ManyLeft {C : Type 0} (f : Tree → Option C) (r : List ℕ) (all rea
   pub left : ElementsLeft trees r now
   pub counted : read + length values ≡ all
 
--- an array in the midst of its elements: the values stand for those that were read, and where all of it converts the others are left
+-- an array between two elements: the values are what the elements that were read convert to, and if all of the array converts, the
+-- other elements are left
 pub record Reading {V C : Type 0} (content : V → C) (f : Tree → Option C) (old : State) (vs : List V) (now : AccessState) : Type 0 where
   pub first : State
   pub opened : Opened square old first
@@ -118,7 +119,7 @@ HasSoMany {C = C} {D = D} f g n = (ts : Trees) (d : D) → g ts ≡ Some d → (
 abbrev pub HasAtMost : {C D : Type 0} → (Tree → Option C) → (Trees → Option D) → ℕ → Type 0
 HasAtMost {C = C} {D = D} f g n = (ts : Trees) (d : D) → g ts ≡ Some d → (cs : List C) × (contents f ts ≡ Some cs) × (length cs ≤ n)
 
--- a refusal was handed on
+-- a refusal was forwarded
 pub handed_on : {T E : Type 0} (P : Result T E → Type 0) (e : E) (r : Result T E) → IsErrAnd r (λ y. y ≡ e) → P (Err e) → P r
 handed_on P e (Ok v) is p = absurd is
 handed_on P e (Err y) is p = subst (λ z. P (Err z)) (sym is) p

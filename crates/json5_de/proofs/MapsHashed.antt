@@ -1,4 +1,4 @@
--- What is found in a hashed map, whose entries stand in any order.
+-- What is found in a hashed map, whose entries are in any order.
 use Rattle.std.proofs.Common.{◌≡◌, Bool, true, false, List, [], ◌∷◌, ◌++◌, map, refl, sym, ap, ◌∙◌, subst, Option, Some, None}
 use Rattle.std.specs.Prelude.{if◌then◌else◌, cond, is_some, IsSome}
 use Rattle.std.specs.Cmp.{IsEquivalence}

@@ -24,7 +24,7 @@ comma_after_key stage.FirstKey true = refl
 comma_after_key stage.Started true = refl
 comma_after_key stage.LaterKey true = refl
 
--- a key waits where one was given and none waited
+-- if no key was pending, one is pending exactly if a key was returned
 pub key_after_key : (s : Stage) (given : Bool) → is_pending s ≡ false → is_pending (with_key s given) ≡ given
 key_after_key s false none = none
 key_after_key stage.Empty true none = refl

@@ -3,7 +3,7 @@ use Rattle.std.specs.Prelude.{Bool, true, false}
 use Rattle.json5_de.specs.declared.stage.Stage.{Stage}
 use Rattle.json5_de.specs.declared.stage.Stage.TheVariants as stage
 
--- whether a comma is due before the next member
+-- whether a comma is due before the next element or member
 abbrev pub is_comma_due : Stage → Bool
 is_comma_due stage.Empty = false
 is_comma_due stage.FirstKey = false

@@ -33,7 +33,7 @@ pub record PassesWord (w : List ℕ) (ends differs : ErrorCode) (old new : State
   pub refused : IfErr result (λ e. Refused (FaultyWord w ends differs) (cursor_of old) e)
   pub failed : OnErr result (GivesUp old new)
 
--- a string is taken, its text in memory of its own
+-- a string is taken, its text an owned copy
 pub record TakesOwnString {A : Type 0} (old new : State) (result : Result (String A) Error) : Type 0 where
   pub taken : IfOk result (TookOwned old new)
   pub characters : IfOk result (TookCharacters old new)
@@ -67,7 +67,7 @@ number_token = record {
 abbrev pub CompletesEscapeFree : {V : Type 0} → List ℕ → Result V Error → Type 0
 CompletesEscapeFree x result = (s u r : List ℕ) → x ≡ s ++ r → Str s u true → IsOk result
 
--- a string, its text borrowed where it is escape-free
+-- a string, its text borrowed if it is escape-free
 abbrev pub string_token : Token CowStr
 string_token = record { Took = TookCow; IsFault = FaultyString; Completes = CompletesEscapeFree }
 
