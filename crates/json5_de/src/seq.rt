@@ -184,7 +184,7 @@ impl<'a, I: Input> SeqAccess<'a, I> {
         Ok(next)
     }
 
-    /// Reads the element at this index of a list of so many. Where the list ends before it, that is a custom fault at the
+    /// Reads the element at this index of a list of so many elements. A list that ends before it is a custom fault at the
     /// opening bracket.
     pub(crate) fn required<T: Deserialize<I>>(
         &mut self,
