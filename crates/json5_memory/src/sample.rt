@@ -1,4 +1,4 @@
-//! A struct of a list, a text and a map.
+//! A struct of a list, a string and a map.
 
 use json5::de::Fields;
 use json5::{Decimal, Deserialize, Deserializer, Input, MapAccess, Result};

@@ -1,4 +1,4 @@
-//! Texts that are read.
+//! Inputs that are read.
 
 /// A page with each part of the language.
 pub(crate) const README: &str = r#"{
