@@ -26,7 +26,7 @@ raised_of e = signed e.negative (spelled 10 0 e.digits.now)
 abbrev pub parts_of : Literal → Parts
 parts_of l = record { before = l.before.now; after = option_map (λ digits. digits.now) l.after; raised = option_map raised_of l.exponent }
 
--- the written exponent, or the limit where that is less
+-- the written exponent, or the limit if that is less
 abbrev pub signed_limited : ℕ → Exponent → ℤ
 signed_limited limit e = signed e.negative (min limit (spelled 10 0 e.digits.now))
 

@@ -23,6 +23,6 @@ Spells input u escape_free (token.Escaped text) = (escape_free ≡ false) × (st
 abbrev pub IsTextOf : List ℕ → TextToken → List ℕ → Type 0
 IsTextOf input t bytes = (u : List ℕ) (escape_free : Bool) → Spells input u escape_free t → bytes ≡ encode_utf8_all u
 
--- the same, borrowed where it is escape-free
+-- the same, borrowed if it is escape-free
 abbrev pub IsCowOf : List ℕ → TextToken → CowStr → Type 0
 IsCowOf input t text = (u : List ℕ) (escape_free : Bool) → Spells input u escape_free t → (is_borrowed text ≡ escape_free) × (cow_bytes text ≡ encode_utf8_all u)

@@ -55,7 +55,7 @@ fn goes_on(text: &str) -> bool
     )
 }
 
-/// The digits of an exponent, with which the decimal run in front ends.
+/// The tail with the exponent whose digits are in front, if the decimal run ends with them.
 fn read_exponent_digits(negative: bool, text: &str) -> Option<Tail>
     ensures { ReadsTail (model.exponent_digits negative (run_of (chars text.now))) text.now result }
 {
