@@ -40,7 +40,7 @@ first_scalar room fs after old new v g same less = record {
   shorter = less;
 }
 
--- after its bracket m is left of it
+-- after the value's bracket, m is left of the value
 module _ (room : ℕ) (fs : List Unfinished) (f : OpenBracket) (m : ℕ → Read Datum) (old mid : Cursor) (ready : IsInside old) (o : OpenedAt (room - length fs) f old mid)
     (reads : (d : ℕ) → as_datum (read (suc d) (opening (bracket_of f.kind) ∷ mid.unread)) ≡ placed (opening (bracket_of f.kind) ∷ mid.unread) (m d)) where
   inside_of : (w : Read Datum) → Building room w fs None old → BuildingInside room w fs f.start m old.unread mid

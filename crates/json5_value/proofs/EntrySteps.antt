@@ -67,7 +67,7 @@ comma_missing k old mid at last u c ends e r g same n same2 is n2 eof f =
     after_blanks k old mid last u (Err e) g
     (refused_step mid last (comma_at k mid.unread) e (no_comma k mid e (ready_next old mid r g) n no_close (subst (λ z. Refused (Unexpected z codes.ExpectedComma) mid e) eof (refused_there mid last e there f))) (same_of there))
 
--- where one is due
+-- a comma is due
 pub after_comma_due : (k : BracketKind) (comma_due : Bool) (old new : Cursor) (result : Result Bool Error) → comma_due ≡ true → Steps (separator k old.unread) old new result → Steps (due_comma k comma_due old.unread) old new result
 after_comma_due k comma_due old new result is s = same_step old new (due_comma k comma_due old.unread) (separator k old.unread) result (ap (λ b. due_comma k b old.unread) is) s
 

@@ -1,4 +1,4 @@
--- How a value begins that is passed over: as a scalar, or with an opening bracket.
+-- How a value that is passed over begins: as a scalar, or with an opening bracket.
 use Rattle.std.proofs.Common.{◌≡◌, ◌≢◌, ℕ, ◌<◌, Bool, true, false, cond, ◌||◌, List, [], ◌∷◌, ◌++◌, length, refl, ap, sym, ◌∙◌, subst, arith, length-append, Option, Some, None}
 use Rattle.std.specs.Prelude.{◌==◌, ℤ, slice_get, Result, Ok, Err}
 use Rattle.std.specs.Str.{encode_utf8_all}

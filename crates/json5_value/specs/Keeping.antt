@@ -59,7 +59,7 @@ next_key true x = and_then (separator of_object x) (λ goes y. cond goes (key_at
 
 -- ---- values
 
--- what the value in front is read as, in which so many brackets may be open at once
+-- what the value in front is read as; at most `room` brackets may be open at once in it
 abbrev pub tree_at : ℕ → Cursor → Read Tree
 tree_at room s = read room s.unread
 

@@ -64,7 +64,7 @@ Reached room w brackets (turn.Within bracket comma_due) now = (q : List ℕ) × 
 Reached room w brackets (turn.AtKey bracket) now = (q : List ℕ) × SkippingMember room w brackets bracket q now
 Reached room w brackets turn.Whole now = (brackets ≡ []) × Skipping room w brackets false now
 
--- less is left than before, or will be once the longer way has done the rest of the turn
+-- less is left than before, or will be after the longer way has done the rest of the turn
 abbrev pub Advanced : ShortTurn → Cursor → Cursor → Type 0
 Advanced turn.Value old new = length new.unread < length old.unread
 Advanced turn.Ended old new = length new.unread < length old.unread

@@ -47,7 +47,7 @@ pub record Steps {A : Type 0} (reading : Read A) (old new : Cursor) (result : Re
   pub refused : IfErr result (RefusesRead old.input reading)
   pub same_text : OnErr result (SameText old new)
 
--- what the value in front is read as, in which so many brackets may be open at once
+-- what the value in front is read as, its tree forgotten; at most `room` brackets may be open at once in it
 abbrev pub value_at : ℕ → Cursor → Read (Unit {0})
 value_at room s = forget (read room s.unread)
 
