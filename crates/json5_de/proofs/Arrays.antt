@@ -142,7 +142,7 @@ goes_after b comma_due false s mid next last d p took q found other =
 
 -- ---- an element
 
--- what is read where it may begin
+-- what can be read where an element may begin is an element
 pub element_read : (comma_due : Bool) (x y r : List ℕ) (t : Tree) → IsMemberStart comma_due x y → Reads y t r → IsElement comma_due x t r
 element_read false x y r t g p = reads_here x g.gap y r t g.split g.is_gap p
 element_read true x y r t (z, comma, g) p = (z, comma, reads_here z g.gap y r t g.split g.is_gap p)
@@ -251,7 +251,7 @@ opens_begun b level x r reason place e room (no_bracket c q n) = let same : c �
 opens_begun b level x r reason place e room text_ends = absurd (cc)
 opens_begun b level x r reason place e room (too_deep q full) = omega (arith, room, full)
 
--- what is there is opened, within the limit
+-- an opening bracket within the limit isn't refused
 pub no_opening_refusal : (b : Brackets) → AreSigns b → (level : ℕ) (x r : List ℕ) (reason : Option ErrorCode) (place : Option (List ℕ)) → IsSign b.opening x r → level < max_depth → AfterBlanks (NotOpened b level) x reason place → ⊥
 no_opening_refusal b k level x r reason place o room (in_blanks (w, p, shown, f)) = no_sign_in_blanks b.opening x w p r reason place shown k.opening f o
 no_opening_refusal b k level x r reason place o room (after_gap {w = w} {x = y} {place = q} g s f) =

@@ -142,7 +142,7 @@ module _ {U K V C D : Type 0} {key : K → C} {value : V → D} {keys : KeyConve
       let w = m.left all r cs are live reads shallow in
       key_refused key value keys values r new e w.pairs w.contents w.are (fewer w.pairs r w.left))
 
-  -- the brace was refused where no key was given
+  -- no key was returned, and the brace was refused
   pub end_completes : IsErrAnd result (λ y. y ≡ e) → ReadingPairs key value keys values old ps None s → ((all : Pairs) (r : List ℕ) → PairsLeft all r s → LeavesAValue key keys all r new (Ok None))
       → ((r : List ℕ) → PairsLeft no_pair r new → IsOk {T = Unit {0}} {E = Error} (Err e)) → Completes (pairs_of keys values) old result
   end_completes is_err m fewer ends = completes_as keys values old e result is_err (λ all r cs are live reads shallow.

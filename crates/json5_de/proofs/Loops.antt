@@ -20,7 +20,7 @@ use Rattle.json5_de.specs.Seq.{RefusedAtBracket}
 use Rattle.json5_de.specs.Lists.{element, every, count, ReadWithin, any_number, array_of_size, at_element, too_many, LeavesRequired, RefusesRequired, RefusesList}
 use Rattle.json5_de.proofs.ListFaults.{every_accepted, count_values, refuses_list, required_fault, reading}
 
--- elements that convert are left, of so many in all where so many were read
+-- elements that convert are left: `all` in number, less the `read` ones
 pub record ManyLeft {C : Type 0} (f : Tree → Option C) (r : List ℕ) (all read : ℕ) (now : AccessState) : Type 0 where
   pub trees : Trees
   pub values : List C
@@ -146,7 +146,7 @@ module _ {U V W C D : Type 0} {content : V → C} (given : W → C) {f : Tree �
       let counted = w.counted in
       required_refused given f w.trees r new e w.values w.are (omega (arith, few, count, counted)) (fewer w.trees r w.left))
 
-  -- the bracket was refused where no element was given
+  -- no element was returned, and the bracket was refused
   pub end_completes : IsErrAnd result (λ y. y ≡ e) → HasContents f g → Reading content f old vs now → ((ts : Trees) (r : List ℕ) → ElementsLeft ts r now → LeavesFewer given f ts r new (Ok None))
       → ((r : List ℕ) → ElementsLeft no_more r new → IsOk {T = Unit {0}} {E = Error} (Err e)) → Completes (array_of g) old result
   end_completes is_err parts m fewer ends = completes_as (array_of g) old e result is_err (λ t r d live reads shallow converts.

@@ -25,7 +25,7 @@ use Rattle.json5_de.proofs.PairCodes.{gives_key_seen, gives_next_key, refuses_ne
 abbrev pub lent : {I : Type 0} → MapAccess I → State → MapAccess I
 lent m after = record m { de = record m.de { now = after } }
 
--- what was read is given
+-- what was read is returned
 pub given_on : {I V : Type 0} {mid new : MapAccess I} (read : Result V Error) (v : V) → SettlesMap mid read new (Ok v) → (read ≡ Ok v) × (new ≡ blocking_map mid mid.failed)
 given_on (Ok w) v s = (sym s.given, s.blocks)
 given_on (Err own) v s = absurd s.refused

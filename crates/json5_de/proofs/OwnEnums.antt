@@ -39,7 +39,7 @@ passed_place {C} n v w vs {k = k} not_it t = by (k == n) (other_place n not_it)
     by true e = absurd (cc)
     by false e = refl
 
--- a content that is read is the same where it converts in the same way
+-- two conversions that agree read the same contents
 pub finishes_same : {V C : Type 0} {content : V → C} {f h : Option Tree → Option C} {old : EnumAccessState} {new : State} {result : Result V Error} → ((t : Option Tree) → f t ≡ h t) → FinishesVariant content h old new result → FinishesVariant content f old new result
 finishes_same {V} {C} {content = content} {f = f} {h = h} {old = old} {new = new} {result = result} same done = record {
   read = by result done.read;

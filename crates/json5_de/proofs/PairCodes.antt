@@ -1,4 +1,4 @@
--- A key and its value where they may begin, and what is refused there.
+-- How a key and its value begin, and how they are refused.
 use Rattle.std.proofs.Common.{◌≡◌, ◌≢◌, ℕ, Bool, true, false, List, [], ◌∷◌, ◌++◌, length, refl, ap, sym, ◌∙◌, subst, arith, Option, Some, None, Ok, Err}
 use Rattle.std.specs.Prelude.{◌==◌, is_some}
 use Rattle.std.specs.Str.{encode_utf8_all}
@@ -120,7 +120,7 @@ after_wider : {F G : List ℕ → Option ErrorCode → Option (List ℕ) → Typ
 after_wider x reason place h (in_blanks k) = in_blanks k
 after_wider x reason place h (after_gap {x = y} {place = p} g s k) = after_gap g s (h y reason p k)
 
--- where no member was reached
+-- no member was reached
 pub refused_next_key : (comma_due : Bool) (s : State) (e : Error) → RefusedBy (NoNext curly comma_due) s e → RefusedBy (NoKey comma_due) s e
 refused_next_key comma_due s e f live = let f = f live in record { reason = f.reason; place = f.place; fault = after_wider s.unread f.reason f.place (λ x reason place k. no_next k) f.fault; says = f.says; placed = f.placed }
 

@@ -5,7 +5,7 @@ use Rattle.json5_de.specs.Stages.{is_comma_due, is_pending, with_member, with_ke
 use Rattle.json5_de.specs.declared.stage.Stage.{Stage}
 use Rattle.json5_de.specs.declared.stage.Stage.TheVariants as stage
 
--- a comma is due where it was, and after a member
+-- a comma is due if it was due, or if an element was read
 pub comma_after_member : (s : Stage) (given : Bool) → is_comma_due (with_member s given) ≡ (is_comma_due s || given)
 comma_after_member stage.Empty true = refl
 comma_after_member stage.Empty false = refl

@@ -125,7 +125,7 @@ module _ {S D : Type 0} (plan : Plan S D) (faults : ValueFaults) {old : State} {
     pub pairs_refused : RefusesPairs plan.step faults plan.start (map_state_of map) (Err e) → HasFault plan faults old result
     pairs_refused refuses = struct_fault (λ live. in_pairs (map_state_of map) (opened_object map opens) (refuses.cause (begun_live map opens)))
 
-    -- a field is missing, once all were read
+    -- all members were read, and a field is missing
     pub missing_refused : {n : S} {now : MapAccess I} → KeepsMap map now → ReadsPairs plan.step plan.start n (map_state_of map) (map_state_of now) (Ok tt) → plan.build n ≡ None → IsOwnAtBracket (map_state_of now).at e → HasFault plan faults old result
     missing_refused {n = n} {now = now} keeps reads none own = struct_fault (λ live.
         let (ps, are, on) = reads.read in

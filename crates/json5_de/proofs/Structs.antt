@@ -212,14 +212,14 @@ none_left : {S X : Type 0} (step : Step S) (content : X → List ℕ) (s z : S) 
 none_left step content s z new no_pair r are left = (cc are, left)
 none_left step content s z new (pair u escape_free t ps) r are left = absurd left
 
--- a key that was given leaves a reader that hasn't failed
+-- a call that returned a key leaves a reader that hasn't failed
 pub live_after_key : {X C : Type 0} (content : X → C) (keys : KeyConversion C) (old new : MapAccessState) (k : X) → GivesPairKey content keys old new (Some k) → old.at.reader.failed ≡ false → new.at.reader.failed ≡ false
 live_after_key content keys old new k (u, escape_free, took, is, comma_due, waits) live = ap (λ (s : State). s.failed) took.rest ∙ live
 
 pub live_at_brace : {X C : Type 0} (content : X → C) (keys : KeyConversion C) (old new : MapAccessState) → GivesPairKey content keys old new None → new.at.reader.failed ≡ false
 live_at_brace content keys old new (at, comma_due, none) = ap (λ (s : State). s.failed) at.rest ∙ at.live
 
--- where no key is given the brace is next
+-- if no key is returned, the brace is next
 pub brace_next : {X C : Type 0} (content : X → C) (keys : KeyConversion C) (old new : MapAccessState) → GivesPairKey content keys old new None → (x : List ℕ) × (new.at.reader.unread ≡ right_brace ∷ x)
 brace_next content keys old new (at, comma_due, none) = let (r, close, next) = at.close in (r, next)
 

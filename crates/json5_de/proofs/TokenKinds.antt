@@ -114,7 +114,7 @@ not_begun l content old new e k failed before = refuses l content old new e (ref
 pub refuses_after : {V C : Type 0} {kind : Kind C} → IsLawful kind → (content : V → C) (old mid new : State) (e : Error) → PassedGap old mid → Refused kind.IsFault (cursor_of mid) e → GivesUp mid new → ReadsAs kind content old new (Err e)
 refuses_after l content old mid new e p k failed = refuses l content old new e (refused_token old mid e p k) (given_up old mid new p failed) (λ f. true_false f p.live)
 
--- the same, or memory ran out, where no tree is free
+-- the same, or memory ran out, if no tree is read without memory
 pub refuses_value : {V C : Type 0} {kind : Kind C} → IsLawful kind → kind.may_lack_memory ≡ true → ((t : Tree) → kind.allocation_free t ≡ false) → (content : V → C) (old mid new : State) (e : Error) → PassedGap old mid → RefusedByOrMemory kind.IsFault old e → GivesUp mid new
     → ReadsAs kind content old new (Err e)
 refuses_value {V = V} {kind = kind} l m none content old mid new e p k failed = reads_err l content old new e
@@ -123,7 +123,7 @@ refuses_value {V = V} {kind = kind} l m none content old mid new e p k failed = 
     (given_up old mid new p failed)
     (λ h. true_false h p.live)
 
--- memory ran out after the token was taken, where no tree is free
+-- memory ran out after the token was taken, if no tree is read without memory
 pub refuses_memory : {V C : Type 0} {kind : Kind C} → IsLawful kind → kind.may_lack_memory ≡ true → ((t : Tree) → kind.allocation_free t ≡ false) → (content : V → C) (old mid new last : State) (e : Error) (s : List ℕ) → PassedGap old mid → TookText mid s new → LacksMemory e
     → GivesUp new last → ReadsAs kind content old last (Err e)
 refuses_memory {V = V} {kind = kind} l m none content old mid new last e s p k is failed = reads_err l content old last e

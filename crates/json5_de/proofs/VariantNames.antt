@@ -308,7 +308,7 @@ content_after old mid now u escape_free p at = record { keyed = at.keyed; key = 
       rest = e.rest ∙ ap (λ (m : State). record m { unread = at.keyed.unread; level = m.level + 1 }) p.rest;
     }
 
--- the whole object, once its value and the closing brace were read
+-- the whole object, after its value and the closing brace were read
 pub whole_variant : (from now after new : State) (u : List ℕ) (escape_free : Bool) (t : Tree) → AtContent from u escape_free now → TookValue now t after → Closed curly true after new → TookValue from (object (pair u escape_free t no_pair)) new
 whole_variant from now after new u escape_free t at took closed =
     all_read from (bare_map after true false) new (pair u escape_free t no_pair) closed

@@ -176,7 +176,7 @@ pub data NoBracket (b : Brackets) (comma : Bool) : List ℕ → Option ErrorCode
   other_sign : (c : ℕ) (r : List ℕ) → (c == b.closing) ≡ false → (comma ≡ true → (c == comma_sign) ≡ false) → NoBracket b comma (c ∷ r) (Some b.not_closed) (Some [])
   bracket_missing : NoBracket b comma [] (Some b.ends) None
 
--- where the closing bracket is expected, and a comma before it where one is due
+-- where the closing bracket is expected, and a comma before it may be
 pub data NotClosed (b : Brackets) (comma_due : Bool) : List ℕ → Option ErrorCode → Option (List ℕ) → Type 0 where
   not_here : {x : List ℕ} {reason : Option ErrorCode} {place : Option (List ℕ)} → NoBracket b comma_due x reason place → NotClosed b comma_due x reason place
   after_comma : {x : List ℕ} {reason : Option ErrorCode} {place : Option (List ℕ)} → comma_due ≡ true → AfterBlanks (NoBracket b false) x reason place

@@ -256,7 +256,7 @@ pub record ClosesStruct (brace : ℕ) (old : MapAccessState) (new : State) (resu
   pub read : OnOk result ((from content : State) (u : List ℕ) (escape_free : Bool) (ps : Pairs) → AtContent from u escape_free content → PairsRead content ps None old → TookValue from (object (pair u escape_free (object ps) no_pair)) new)
   pub left : (x r : List ℕ) → old.pending ≡ false → PairsLeft no_pair x old → IsBrace true x r → IsOk result
 
--- the end of an access closes its own bracket, and where there is one the brace of the variant whose content it is
+-- the end of an access closes its own bracket and, in a variant's content, the variant's brace
 pub record EndsArray (brace : Option ℕ) (old : AccessState) (new : State) (result : Result (Unit {0}) Error) : Type 0 where
   pub alone : brace ≡ None → ClosesArray old new result
   pub in_variant : (start : ℕ) → brace ≡ Some start → ClosesTuple start old new result

@@ -21,7 +21,7 @@ abbrev pub values_named : List ℕ → Pairs → Trees
 values_named name no_pair = no_more
 values_named name (pair u escape_free t ps) = if bytes_eq (encode_utf8_all u) name then more t (values_named name ps) else values_named name ps
 
--- one value at most, where it converts
+-- at most one value, which converts
 abbrev pub at_most_one : {C : Type 0} → (Tree → Option C) → Trees → Option (Option C)
 at_most_one f no_more = Some None
 at_most_one f (more t no_more) = if_some Some (f t)
@@ -39,7 +39,7 @@ abbrev pub or_value : {C : Type 0} → C → Option C → C
 or_value c None = c
 or_value c (Some d) = d
 
--- a field that is c where it is missing
+-- a field whose content is c if it is missing
 abbrev pub with_default : {C : Type 0} → C → List ℕ → (Tree → Option C) → Pairs → Option C
 with_default c name f ps = if_some (or_value c) (optional name f ps)
 

@@ -18,7 +18,7 @@ use Rattle.json5_de.specs.Keys.{KeyConversion}
 abbrev pub TellsKeys : {K C A : Type 0} → (K → C) → (K → K → A) → (C → C → A) → Type 0
 TellsKeys {K} content compare test = (x y : K) → test (content x) (content y) ≡ compare x y
 
--- a content for each such test: A where keys are told apart by what counts of them, and nothing is known where they aren't
+-- an A for each test that tells contents apart as the type tells keys apart
 abbrev pub Told : {K C R : Type 0} → (K → C) → (K → K → R) → Type 0 → Type 0
 Told {K} {C} {R} content compare A = (test : C → C → R) → TellsKeys content compare test → A
 
@@ -38,11 +38,11 @@ abbrev pub found_in : {C D : Type 0} → (C → Bool) → List (C × D) → Opti
 found_in test [] = None
 found_in test (p ∷ ps) = if test p.0 then Some (p.0, last_value test p.1 ps) else found_in test ps
 
--- the pairs put into a map in turn, as it keeps the order in which keys first came
+-- the pairs inserted in turn into a map that keeps the order in which keys first came
 abbrev pub in_turn : {C D : Type 0} → (C → C → Bool) → List (C × D) → List (C × D)
 in_turn same ps = insert_all same [] ps
 
--- the pairs put into a map in turn, as it keeps the keys' order
+-- the pairs inserted in turn into a map that keeps the keys' order
 abbrev pub in_order : {C D : Type 0} → (C → C → Ordering) → List (C × D) → List (C × D)
 in_order compare ps = fold (λ done p. tree.insert_entry compare done p.0 p.1) [] ps
 

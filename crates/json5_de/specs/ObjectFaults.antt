@@ -46,7 +46,7 @@ pub data NoKeyHere : List ℕ → Option ErrorCode → Option (List ℕ) → Typ
   no_key : (c : ℕ) (r : List ℕ) → begins_key c ≡ false → (c == right_brace) ≡ false → NoKeyHere (c ∷ r) (Some codes.ExpectedIdentifier) (Some [])
   key_missing : NoKeyHere [] (Some codes.EofParsingObject) None
 
--- what is refused where the next key is expected, after a comma where one is due
+-- what is refused where the next key is expected, after a comma if one is due
 pub data NoKey (comma_due : Bool) : List ℕ → Option ErrorCode → Option (List ℕ) → Type 0 where
   no_next : {x : List ℕ} {reason : Option ErrorCode} {place : Option (List ℕ)} → NoNext curly comma_due x reason place → NoKey comma_due x reason place
   not_here : {x : List ℕ} {reason : Option ErrorCode} {place : Option (List ℕ)} → comma_due ≡ false → NoKeyHere x reason place → NoKey comma_due x reason place

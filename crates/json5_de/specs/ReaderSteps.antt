@@ -45,7 +45,7 @@ TookNumber old new n = (s : List ℕ) × TookText old s new × Num s (number_of 
 abbrev pub TookOwned : {A : Type 0} → State → State → String A → Type 0
 TookOwned old new t = (s u : List ℕ) × (escape_free : Bool) × TookText old s new × Str s u escape_free × (string_bytes t ≡ encode_utf8_all u)
 
--- the same, borrowed where it is escape-free
+-- the same, borrowed if it is escape-free
 abbrev pub TookCow : State → State → CowStr → Type 0
 TookCow old new t = (s u : List ℕ) × (escape_free : Bool) × TookText old s new × Str s u escape_free × (is_borrowed t ≡ escape_free) × (cow_bytes t ≡ encode_utf8_all u)
 
@@ -86,7 +86,7 @@ pub record WholeAt (old new : State) (start : ℕ) (z : ℤ) : Type 0 where
   pub counted : (before : List ℕ) → between.input ≡ before ++ between.unread → start ≡ length (encode_utf8_all before)
   pub offset : IsOffset new.input start
 
--- the character is taken where it is next
+-- the character is taken if it is next
 pub record Eats (c : ℕ) (old new : State) (ate : Bool) : Type 0 where
   pub taken : ate ≡ true → TookText old (c ∷ []) new
   pub kept : (ate ≡ false) → (new ≡ old) × NotBegun (λ d. d == c) old.unread

@@ -37,6 +37,6 @@ refined f g t = if_more g (f t)
 pub data NotAccepted {A B : Type 0} (f : Tree → Option A) (g : A → Option B) : List ℕ → Option ErrorCode → Option (List ℕ) → Type 0 where
   not_accepted : {s : List ℕ} {t : Tree} (r : List ℕ) (a : A) → Val s t → Stops s r → f t ≡ Some a → g a ≡ None → NotAccepted f g (s ++ r) None (Some [])
 
--- refused as what is read, or where that isn't accepted
+-- refused as the read refuses it, or because what was read isn't accepted
 abbrev pub RefusesOwn : {A B : Type 0} → (Tree → Option A) → (A → Option B) → (State → Error → State → Type 0) → State → Error → State → Type 0
 RefusesOwn f g refuses old e new = refuses old e new ⊎ RefusedByOrMemory (NotAccepted f g) old e

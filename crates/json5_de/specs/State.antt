@@ -43,7 +43,7 @@ FailsIfErr new result = OnErr result (new.failed ≡ true)
 abbrev pub GivesUpIfErr : {V : Type 0} → State → State → Result V Error → Type 0
 GivesUpIfErr old new result = OnErr result (GivesUp old new)
 
--- the reader's scanner is called: nothing else changes where the call succeeds, and the reader has failed where it refuses
+-- the reader's scanner is called: nothing else changes if the call succeeds, and the reader has failed if it refuses
 pub record Calls {A : Type 0} (IsCall : Cursor → Cursor → Result A Error → Type 0) (old new : State) (result : Result A Error) : Type 0 where
   pub call : IsCall (cursor_of old) (cursor_of new) result
   pub read : OnOk result (OnlyRead old new)

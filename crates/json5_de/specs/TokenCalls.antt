@@ -19,7 +19,7 @@ use Rattle.json5_de.specs.Law.{StaysFailed, Unprompted}
 use Rattle.json5_de.specs.ReaderSteps.{PassedGap, TookText, TookNumber, TookOwned, TookCharacters, TookCow, RefusesToken}
 use Rattle.json5_de.specs.FoundTexts.{TookToken, IsString}
 
--- blanks are passed over, where there was no refusal before
+-- blanks are passed over if no call was refused before
 pub record PassesGap (old new : State) (result : Result (Unit {0}) Error) : Type 0 where
   pub passed : OnOk result (PassedGap old new)
   pub refused : IfErr result (λ e. old.failed ≡ false → Refused FaultyBlanks (cursor_of old) e)
