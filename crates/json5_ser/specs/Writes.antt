@@ -9,7 +9,7 @@ use Rattle.json5_grammar.specs.Language.Documents.{max_depth}
 use Rattle.json5_ser.specs.WrittenTrees.{Written}
 use Rattle.json5_ser.specs.Out.{Out, Stop, whole, invalid_key, too_deep, out}
 
--- the bytes that the writer holds, where they are known; how many brackets are open; how many may be; whether a call was refused
+-- the bytes that the writer holds, if they are known; how many brackets are open; how many may be; whether a call was refused
 pub record SerializerState : Type 0 where
   pub known : Option (List ℕ)
   pub depth : ℕ
