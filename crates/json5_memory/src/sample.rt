@@ -41,7 +41,7 @@ impl<I: Input> Fields<I> for Found {
     }
 }
 
-/// An object of the three fields; one that isn't known is passed over, and one that stands twice is refused.
+/// An object of the three fields; an unknown field is passed over, and a field that comes twice is refused.
 impl<I: Input> Deserialize<I> for Sample {
     ghost use Rattle.json5.specs.Collections.{object_of};
     ghost use Rattle.json5_memory.specs.Sample.{sample};
