@@ -1,4 +1,4 @@
--- What reading a whole text as a value of any kind comes to.
+-- What reading a whole input as a value of any kind comes to.
 use Rattle.std.proofs.Common.{◌≡◌, ℕ, ◌-◌, ◌≤◌, List, ◌++◌, refl, sym, ◌∙◌, subst, append_assoc, arith, ◌⊎◌, inl, inr, Option, Some}
 use Rattle.std.specs.Prelude.{Result, Ok, Err, IfOk, IfErr}
 use Rattle.std.proofs.lemmas.Option.{same_Some}
@@ -30,25 +30,25 @@ use Rattle.json5_de.proofs.Taken.{input_of, placed_after}
 use Rattle.json5.specs.AnyText.{FaultyDocument, unread_text, IsRefused, IsRefusedWithin, ReadsText}
 use Rattle.json5_grammar.proofs.DocumentsRead.{to_end, blanks_refused, value_refused, comment_refused, character_refused, rest_refused}
 
--- what reading refuses the text with
+-- what reading refuses the input with
 abbrev RefusedReading : ℕ → FaultRelation
 RefusedReading limit x reason place = Refuses (document limit x) x reason place
 
--- what refuses a value of any kind
+-- how a value of any kind is refused
 abbrev pub any_refuses : State → Error → State → Type 0
 any_refuses s e t = RefusesTree s e
 
--- what reading within the limit refuses
+-- the room that a reader within the limit has
 room_is : (limit : ℕ) → limit ≤ max_depth → max_depth - (max_depth - limit) ≡ limit
 room_is limit bound = omega (arith, bound)
 
--- a fault of the value is one of the text
+-- a fault of the value is a fault of the input
 faulty_value : (limit : ℕ) (x : List ℕ) (reason : Option ErrorCode) (place : Option (List ℕ)) → limit ≤ max_depth → AfterBlanks (ReadingRefuses (max_depth - limit)) x reason place → RefusedReading limit x reason place
 faulty_value limit x reason place bound (in_blanks (before, part, shown, f)) = blanks_refused limit x reason place (blank_refused f)
 faulty_value limit x reason place bound (after_gap {place = there} g s k) =
     subst (λ n. RefusedReading n x reason place) (room_is limit bound) (value_refused (max_depth - (max_depth - limit)) reason there g s k)
 
--- and so is a fault of what stands after the value
+-- and so is a fault of what follows the value
 faulty_rest : (t : Tree) (r : List ℕ) (reason : Option ErrorCode) (place : Option (List ℕ)) → AfterBlanks Trailing r reason place → Refuses (to_end t r) r reason place
 faulty_rest t r reason place (in_blanks (before, part, shown, f)) = comment_refused t r reason place (blank_refused f)
 faulty_rest t r reason place (after_gap g s (trailing c q)) = character_refused t c q g s
@@ -74,7 +74,7 @@ in_the_value : (limit : ℕ) (x : List ℕ) (e : Error) → limit ≤ max_depth 
 in_the_value limit x e bound (inl memory) = inl memory
 in_the_value limit x e bound (inr k) = inr (in_front limit x e bound (k refl))
 
--- it is the text's fault
+-- it is the input's fault
 as_fault : (limit : ℕ) (x : List ℕ) (e : Error) → Refused (RefusedReading limit) (unread_text x) e → Refused (FaultyDocument limit) (unread_text x) e
 as_fault limit x e f = record { reason = f.reason; place = f.place; fault = blames_text limit x f.reason f.place f.fault; says = f.says; placed = f.placed }
 
@@ -82,7 +82,7 @@ memory_or_fault : (limit : ℕ) (x : List ℕ) (e : Error) → IsOutOfMemory e �
 memory_or_fault limit x e (inl m) = inl m
 memory_or_fault limit x e (inr f) = inr (as_fault limit x e f)
 
--- a refusal has a fault of the text
+-- a refusal has a fault of the input
 cause_of : (limit : ℕ) (x : List ℕ) (e : Error) → limit ≤ max_depth → RefusesReading every_datum any_refuses limit x e → IsOutOfMemory e ⊎ Refused (FaultyDocument limit) (unread_text x) e
 cause_of limit x e bound (in_value new k) = memory_or_fault limit x e (in_the_value limit x e bound (as_reading (at_start limit x) e k))
 cause_of limit x e bound (after_value t c new took is k) = inr (as_fault limit x e (after_phrase limit x e t new bound took k))
@@ -107,7 +107,7 @@ reads_text limit x (Err e) bound sound complete refused unprompted = record {
   refused = text_refused_within limit x e bound refused unprompted;
 }
 
--- that memory ran out is a cause of its own
+-- that memory ran out is also a cause
 pub memory_refused : (limit : ℕ) (x : List ℕ) (e : Error) → IsOutOfMemory e → IsRefusedWithin limit x e
 memory_refused limit x e m = record { cause = inl m; unprompted = λ k. let same : code codes_of.OutOfMemory ≡ code codes_of.Failed = sym m ∙ k in absurd (cc) }
 

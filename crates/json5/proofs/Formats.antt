@@ -24,7 +24,7 @@ use Rattle.json5.specs.Formatted.{IsFormatted, IsFormattedWithin}
 
 -- ---- the tree that is written
 
--- what a tree stands for is written as the tree without marks
+-- what a tree means is written as the tree without marks
 mutual
   pub same_tree : (t : Tree) → datum_tree (datum_of t) ≡ unmarked t
   same_tree null = refl
@@ -42,11 +42,11 @@ mutual
   same_pairs no_pair = refl
   same_pairs (pair u escape_free t ps) = rw (same_tree t, same_pairs ps) refl
 
--- what stands for the tree is written as it
+-- a value that means the same as the tree is written as the tree without marks
 pub written_tree : (t : Tree) (d : Datum) → d ≡ datum_of t → datum_tree d ≡ unmarked t
 written_tree t d e = ap datum_tree e ∙ same_tree t
 
--- its text is whole
+-- its output is whole
 pub value_within : (limit : ℕ) (x : List ℕ) (t : Tree) (d : Datum) → Doc limit x t → d ≡ datum_of t → (text_within limit (datum_tree d)).stop ≡ whole
 value_within limit x t d doc e = subst (λ z. (text_within limit z).stop ≡ whole) (sym (written_tree t d e)) (read_written limit x t doc)
 
@@ -68,15 +68,15 @@ formatted = formatted_within max_depth
 
 -- ---- formatting twice
 
--- what is written of a formatted text is the text
+-- what is written of a formatted output is that output
 pub formatted_again : (limit : ℕ) (x bytes other : List ℕ) → IsFormattedWithin limit x bytes → IsFormattedWithin limit (chars bytes) other → other ≡ bytes
 formatted_again limit x bytes other f g =
     let tree = one_tree limit limit (chars bytes) g.tree f.again g.document f.reads_back in
     g.written.encoded ∙ (ap (λ t. encode_utf8_all (text_within limit t).text) (ap unmarked tree ∙ f.same) ∙ sym f.written.encoded)
 
--- ---- where a text is whole
+-- ---- a whole output
 
--- memory alone refuses it
+-- only want of memory refuses it
 kind_of_whole : (o : Out) (k : FaultKind) → o.stop ≡ whole → StopsAs o k → k ≡ code codes_of.OutOfMemory
 kind_of_whole o (code codes_of.OutOfMemory) w h = refl
 kind_of_whole o (code codes_of.InvalidKey) w h = let e : invalid_key ≡ whole = sym h ∙ w in absurd (cc)
@@ -95,7 +95,7 @@ pub completed : {S : Type 0} (limit : ℕ) (bytes : S → List ℕ) (x : List �
 completed limit bytes x t u d (Ok s) a b is w k = subst (λ z. IsText (text_within limit z) (bytes s)) (written_tree t d is ∙ ap unmarked (one_tree limit limit x t u a b)) w
 completed limit bytes x t u d (Err e) a b is w k = only_memory limit x t d e a is k
 
--- a failed write alone refuses it to a writer, which holds a prefix
+-- only a failed write refuses it to a writer, which then holds a prefix
 front_of_whole : (o : Out) (r : Refusal) (old new : SerializerState) → o.stop ≡ whole → old.failed ≡ false → RefusesBy o old r new → AppendsFront old.known new.known (encode_utf8_all o.text)
 front_of_whole o by_key old new w live h = let e : invalid_key ≡ whole = sym h.stop ∙ w in absurd (cc)
 front_of_whole o by_depth old new w live h = let e : too_deep ≡ whole = sym h.stop ∙ w in absurd (cc)

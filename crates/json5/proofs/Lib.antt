@@ -6,7 +6,7 @@ pub mod ReadsBack
 pub mod ValuesBack
 pub mod MapsBack
 pub mod ReadAgain
--- What proofs of a user's own types cite.
+-- What proofs of users' types cite.
 pub use Rattle.json5_grammar.proofs.CollectionsPairs
 pub use Rattle.json5_de.proofs.Refinement
 pub use Rattle.json5_de.proofs.Loops

@@ -1,4 +1,4 @@
--- The entries of a map, put into an empty one in their order, make it again.
+-- The entries of a map, inserted into an empty one in their order, make it again.
 use Rattle.std.proofs.Common.{◌≡◌, Bool, false, List, [], ◌∷◌, ◌++◌, map, refl, sym, ap, ◌∙◌, append_assoc, append-nil}
 use Rattle.std.specs.Prelude.{fold, ⊤}
 use Rattle.std.specs.Ordering.{ordering_reverse}

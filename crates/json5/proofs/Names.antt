@@ -18,6 +18,6 @@ all_below [] e i = omega arith
 all_below (c ∷ cs) e zero = below c (both (is_ascii c) (list_all is_ascii cs) e).0
 all_below (c ∷ cs) e (suc i) = all_below cs (both (is_ascii c) (list_all is_ascii cs) e).1 i
 
--- a name reads back: at a name that is given the second argument is `refl`
+-- a name reads back: for a literal name the second argument is `refl`
 pub name_back : (name : List ℕ) → list_all is_ascii name ≡ true → encode_utf8_all (chars name) ≡ name
 name_back name e = encodes-chars name (IsUtf8-from_ascii name (all_below name e))

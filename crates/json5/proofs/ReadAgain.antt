@@ -1,4 +1,4 @@
--- A value whose text is read again: what a function of a user's own that writes and reads cites.
+-- A value whose output is read again: what a user's function that writes and reads cites.
 use Rattle.std.proofs.Common.{◌≡◌, ◌≤◌, ◌<◌, ◌+◌, ◌⊎◌, inl, inr, ℕ, Bool, true, false, cond, nat_lt, List, [], ◌∷◌, refl, sym, ap, ◌∙◌, subst, arith}
 use Rattle.std.specs.Prelude.{Result, MatchResult, Option, ⊤}
 use Rattle.std.proofs.lemmas.Bool.Decides.{nat_tests}
@@ -94,7 +94,7 @@ memory_by o (code _) w h = absurd h
 memory_by o failed_write w h = absurd h
 memory_by o (custom _) w h = absurd h
 
--- what isn't too deep, and whose keys have texts, is refused only where memory ran out
+-- a tree that isn't too deep, and whose keys have texts, is refused only if memory ran out
 pub only_memory : (t : Written) (e : Error) → HasKeys t → depth (marks t) ≤ max_depth → RefusesToString (written_text t) e → IsOutOfMemory e
 only_memory t e s l h = memory_by (written_text t) (kind_of e) (not_refused max_depth t 0 s (omega (arith, l))) h.stops
 

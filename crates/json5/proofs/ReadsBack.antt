@@ -36,7 +36,7 @@ pub integer_back : (bound : ℕ) (z : ℤ) → neg_ℤ (pos bound) ≤ℤ z → 
 integer_back bound (pos n) low high = let l : n < bound = omega (arith, ints, high) in let h : nat_lt n bound ≡ true = grind (arith, nat_tests) in rw h refl
 integer_back bound (negsuc n) low high = let l : n < bound = omega (arith, ints, low) in let h : nat_lt n bound ≡ true = grind (arith, nat_tests) in rw h refl
 
--- a text that is read as bytes
+-- a string by its bytes
 pub string_back : (s : String Global) → ReadsBack (λ s. text (chars (string_bytes s))) text_of string_bytes s
 string_back s = ap Some (encodes-chars (string_bytes s) (IsUtf8-string_bytes s))
 
@@ -44,7 +44,7 @@ if_escape_free_by : (u : List ℕ) (b : Bool) → if_escape_free u b ≡ (if b t
 if_escape_free_by u true = refl
 if_escape_free_by u false = refl
 
--- a text that holds an escape is no slice
+-- a string reads back as a slice exactly if it is written without a backslash
 pub slice_back : (u : List ℕ) → escape_free_of (marks (text u)) ≡ (if is_escape_free_text u then Some (encode_utf8_all u) else None)
 slice_back u = if_escape_free_by u (is_escape_free_text u)
 
@@ -78,7 +78,7 @@ list_contents tree f content (v ∷ vs) h = let first = All-head (ReadsBack tree
 pub list_back : {V C : Type 0} (tree : V → Written) (f : Tree → Option C) (content : V → C) (vs : List V) → All (ReadsBack tree f content) vs → ReadsBack (list_tree tree) (list_of f) (map content) vs
 list_back tree f content vs h = list_contents tree f content vs h
 
--- ---- pairs
+-- ---- tuples of two
 
 pub pair_back : {A B C D : Type 0} (first : A → Written) (f : Tree → Option C) (as_first : A → C) (second : B → Written) (g : Tree → Option D) (as_second : B → D) (v : A × B) → ReadsBack first f as_first v.0 → ReadsBack second g as_second v.1
     → ReadsBack (λ (v : A × B). array (element (first v.0) (element (second v.1) no_element))) (array_of (first_of f (last_of g))) (λ v. (as_first v.0, as_second v.1)) v

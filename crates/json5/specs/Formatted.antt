@@ -7,11 +7,11 @@ use Rattle.json5_ser.specs.Out.{text_within}
 use Rattle.json5_ser.specs.Marks.{unmarked}
 use Rattle.json5_ser.specs.Texts.{IsText}
 
--- the bytes are the written text of the tree without its marks
+-- the bytes are the output of the tree without its marks
 abbrev pub WritesUnmarked : ℕ → Tree → List ℕ → Type 0
 WritesUnmarked limit t bytes = IsText (text_within limit (unmarked t)) bytes
 
--- x is a document within the limit, the bytes are the written text of its tree without marks, and they are again a document of
+-- x is a document within the limit, the bytes are the output of its tree without marks, and they are again a document of
 -- that tree
 pub record IsFormattedWithin (limit : ℕ) (x bytes : List ℕ) : Type 0 where
   pub tree : Tree

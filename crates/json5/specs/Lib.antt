@@ -1,7 +1,7 @@
 pub mod AnyText
 pub mod Formatted
 pub mod ReadsBack
--- What else contracts cite, and what a type of a user's own cites: trees, and what stands in a text.
+-- What else contracts cite, and what a user's type cites: trees, and what an input holds.
 pub use Rattle.json5_grammar.specs.Language.Trees
 pub use Rattle.json5_grammar.specs.Language.Values
 pub use Rattle.json5_grammar.specs.Model.Collections

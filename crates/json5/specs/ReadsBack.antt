@@ -26,22 +26,22 @@ list_of f = array_of (contents f)
 abbrev pub KeyReadsBack : {K C : Type 0} → (K → WrittenKey) → KeyConversion C → (K → C) → K → Type 0
 KeyReadsBack key convert content k = (u : List ℕ) × (key k ≡ named u) × (convert u (is_escape_free_key u) ≡ Some (content k))
 
--- a pair's key and its value read back
+-- a member's key and its value read back
 pub record PairReadsBack {K V C D : Type 0} (key : K → WrittenKey) (keys : KeyConversion C) (as_key : K → C) (tree : V → Written) (values : Tree → Option D) (as_value : V → D) (e : K × V) : Type 0 where
   pub key_back : KeyReadsBack key keys as_key e.0
   pub value_back : ReadsBack tree values as_value e.1
 
--- the pairs of an object read back, in their order, where each key and each value does
+-- the members of an object read back, in their order, if each key and each value does
 abbrev pub PairsReadBack : {K V C D : Type 0} → (K → WrittenKey) → KeyConversion C → (K → C) → (V → Written) → (Tree → Option D) → (V → D) → Type 0
 PairsReadBack {K} {V} key keys as_key tree values as_value =
     (es : List (K × V)) → All (PairReadsBack key keys as_key tree values as_value) es → pairs_of keys values (marks (object (fields_of key tree es))) ≡ Some (map (pair_content as_key as_value) es)
 
--- what counts of entries whose keys ascend, put into a map in turn, stays as it is
+-- what counts of entries whose keys ascend, inserted into a map in turn, stays as it is
 abbrev pub OrderStays : {K V C D : Type 0} → (K → C) → (V → D) → (K → K → Ordering) → Type 0
 OrderStays {K} {V} {C} key value cmp =
     (es : List (K × V)) (test : C → C → Ordering) → IsStrictlySortedBy cmp (keys_of es) → TellsKeys key cmp test → in_order test (map (pair_content key value) es) ≡ map (pair_content key value) es
 
--- the same of entries whose keys differ, where the map keeps the order in which they came
+-- the same of entries whose keys differ, if the map keeps the order in which they came
 abbrev pub TurnStays : {K V C D : Type 0} → (K → C) → (V → D) → (K → K → Bool) → Type 0
 TurnStays {K} {V} {C} key value eq =
     (es : List (K × V)) (test : C → C → Bool) → IsDistinct eq (keys_of es) → TellsKeys key eq test → in_turn test (map (pair_content key value) es) ≡ map (pair_content key value) es

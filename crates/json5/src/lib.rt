@@ -93,8 +93,8 @@ pub fn format_within(alloc: Global, limit: Limit, text: &str) -> Result<String>
     to_string_within(alloc, limit, &value)
 }
 
-/// Reads the value of a document within the limit. It says of a `Value` what `from_str_within` says of every type: it reads
-/// exactly the documents, each as what its tree stands for, and refuses any other text with its fault.
+/// Reads the value of a document within the limit. Its contract is what that of `from_str_within` comes to at `Value`: it reads
+/// exactly the documents, each as what its tree means, and refuses any other input with its fault.
 fn read_value(alloc: Global, limit: Limit, text: &str) -> Result<Value>
     ensures { ReadsText limit (chars text.now) result }
 {

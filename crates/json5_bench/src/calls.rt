@@ -18,7 +18,7 @@ pub(crate) enum Call {
     Format,
 }
 
-/// What a call did: how many bytes it read or, where it writes, wrote, and how long that took.
+/// What a call did: how many bytes it read or wrote, and how long that took.
 #[derive(Drop)]
 pub(crate) struct Measured {
     pub(crate) bytes: usize,
@@ -34,7 +34,7 @@ pub(crate) const CALLS: [(&str, Call); 5] = [
     ("format", Call::Format),
 ];
 
-/// Makes the call on a text that is read as this kind.
+/// Makes the call on an input that is read as this kind.
 pub(crate) fn make(rt: &HostRuntime, call: Call, kind: Kind, text: &str) -> Result<Measured> {
     match kind {
         Kind::Integers => make_as::<Vec<i64>>(rt, call, text),

@@ -1,8 +1,8 @@
 //! Measures how fast the library reads, passes over, writes and formats.
 //!
-//! `json5_bench CALL SAMPLE MIB` makes a text of that many MiB, makes the call once, and prints how many bytes it read or wrote, in
+//! `json5_bench CALL SAMPLE MIB` makes an input of that many MiB, makes the call once, and prints how many bytes it read or wrote, in
 //! how many milliseconds, how many MiB a second that is, and the most memory that the program held. Without words it makes each
-//! call on a short text of each sample, and prints how many bytes it read or wrote.
+//! call on a short input of each sample, and prints how many bytes it read or wrote.
 #![tactic(auto)]
 
 mod calls;
@@ -15,7 +15,7 @@ use std::{env, fs};
 
 const MIB: usize = 1024 * 1024;
 
-/// How many bytes the texts have that are tried without words.
+/// How many bytes the inputs of a run without words have.
 const SHORT: usize = 1024;
 
 fn main(rt: HostRuntime) -> Result<()> {
@@ -32,7 +32,7 @@ fn main(rt: HostRuntime) -> Result<()> {
     }
 }
 
-/// Makes each call on a short text of each sample.
+/// Makes each call on a short input of each sample.
 fn make_each(rt: &HostRuntime) -> Result<()> {
     for sample in samples() {
         let text = sample.text(rt.alloc(), SHORT)?;
@@ -44,7 +44,7 @@ fn make_each(rt: &HostRuntime) -> Result<()> {
     Ok(())
 }
 
-/// Makes one call on a text of so many MiB, and prints what it took.
+/// Makes one call on an input of so many MiB, and prints what it took.
 fn measure(rt: &HostRuntime, call: Call, sample: Sample, size: usize) -> Result<()> {
     let text = sample.text(rt.alloc(), size.saturating_mul(MIB))?;
     let done = make(rt, call, sample.kind, text.as_str())?;

@@ -1,9 +1,9 @@
-//! The texts that are measured: lists whose items are alike, one long string, and objects of many keys.
+//! The inputs that are measured: lists whose elements are alike, one long string, and objects of many keys.
 
 use std::alloc::{AllocError, Global};
 use std::fmt::Write;
 
-/// The type that a text is read as and written from.
+/// The type that an input is read as and written from.
 #[derive(Clone, Copy, Drop)]
 pub(crate) enum Kind {
     Integers,
@@ -18,7 +18,7 @@ pub(crate) enum Kind {
     Values,
 }
 
-/// A text made of the same items again and again, and the type that it is read as.
+/// An input made of the same elements again and again, and the type that it is read as.
 #[derive(Clone, Copy, Drop)]
 pub(crate) struct Sample {
     pub(crate) name: &'static str,
@@ -30,7 +30,7 @@ const SETTINGS: &str = "{host: 'localhost', port: 8080, label: 'main'},\n";
 
 const NESTED: &str = "[[[[[[[[[[[[[[[[[[[[[[[[[[[[[[[[]]]]]]]]]]]]]]]]]]]]]]]]]]]]]]]],";
 
-/// Every text that is measured.
+/// Every input that is measured.
 pub(crate) fn samples() -> [Sample; 16] {
     [
         Sample::new("short_integers", Kind::Integers, "1,22,333,"),
@@ -77,7 +77,7 @@ impl Sample {
         Sample { name, kind, items }
     }
 
-    /// A text of about so many bytes.
+    /// An input of about so many bytes.
     pub(crate) fn text(&self, alloc: Global, size: usize) -> Result<String, AllocError> {
         match self.kind {
             Kind::SortedMap | Kind::IndexedMap => object(alloc, size / 16),
@@ -87,7 +87,7 @@ impl Sample {
     }
 }
 
-/// The items between an opening and a closing text, as often as they fit into so many bytes.
+/// The elements between an opening and a closing string, as often as they fit into so many bytes.
 fn repeated(
     alloc: Global,
     open: &str,

@@ -103,7 +103,7 @@ expects_closing b comma_due = record {
     at_some x c r reason place e h (not_here bracket_missing) = absurd (cc)
     at_some x c r reason place e h (after_comma {x = y} d f) = absurd (true_false (at_comma comma_due d) (subst (λ k. begins_close b comma_due k ≡ false) (sym (first_same 0x2C c y r e)) h))
 
--- ---- where nothing goes on
+-- ---- nothing of an array follows
 
 pub end_no_sign : (sign : ℕ) (s : State) (r : List ℕ) → is_solid sign ≡ true → AtEnd s → IsSign sign s.unread r → ⊥
 end_no_sign sign s r h (live, l) k = no_sign sign s.unread s.unread [] r h (sym (append-nil s.unread)) (Gap.at_end l) tt tt k

@@ -64,16 +64,16 @@ pub no_bracket_here : (b : Brackets) (comma : Bool) (x : List ℕ) (reason : Opt
 no_bracket_here b comma x reason place m n at_end = bracket_missing
 no_bracket_here b comma x reason place m n (at_char c r) = other_sign c r n m
 
--- ---- what goes on
+-- ---- what follows
 
--- after the gap stands a sign
+-- a sign follows the gap
 pub sign_next : (sign : ℕ) (x y z : List ℕ) → IsAfterGap x y → y ≡ sign ∷ z → IsSign sign x z
 sign_next sign x y z g e = sign_here sign x g.gap z (g.split ∙ ap (λ k. g.gap ++ k) e) (subst (Gap g.gap) e g.is_gap)
 
 pub no_sign_next : (sign : ℕ) (x y r : List ℕ) → is_solid sign ≡ true → IsAfterGap x y → NotBegun (λ c. c == sign) y → IsSign sign x r → ⊥
 no_sign_next sign x y r h g n s = no_sign sign x g.gap y r h g.split g.is_gap g.solid n s
 
--- where a comment is at fault no sign and no gap goes on
+-- if a comment is at fault, no sign and no gap follows
 pub no_sign_faulty : (sign : ℕ) (s : State) (e : Error) (r : List ℕ) → is_solid sign ≡ true → Refused FaultyBlanks (cursor_of s) e → IsSign sign s.unread r → ⊥
 no_sign_faulty sign s e r h f c = let (w, p, shown, fault) = f.fault in no_sign_in_blanks sign s.unread w p r f.reason f.place shown h fault c
 
@@ -142,21 +142,21 @@ goes_after b comma_due false s mid next last d p took q found other =
 
 -- ---- an element
 
--- what is read where it may begin
+-- what can be read where an element may begin is an element
 pub element_read : (comma_due : Bool) (x y r : List ℕ) (t : Tree) → IsMemberStart comma_due x y → Reads y t r → IsElement comma_due x t r
 element_read false x y r t g p = reads_here x g.gap y r t g.split g.is_gap p
 element_read true x y r t (z, comma, g) p = (z, comma, reads_here z g.gap y r t g.split g.is_gap p)
 
--- an element stands after blanks, where it begins
+-- an element begins after blanks
 reads_gap : (x r : List ℕ) (t : Tree) → Reads x t r → (y : List ℕ) × IsAfterGap x y
 reads_gap x r t p = (p.phrase ++ r, record { gap = p.front; split = p.split; is_gap = Gap.blanks p.blank; solid = value_solid r (val_head p.value) })
 
--- where no member may begin no element stands
+-- if no element may begin, there is none
 pub no_element_next : (b : Brackets) (comma_due : Bool) (x r : List ℕ) (t : Tree) → NothingNext b comma_due x → IsElement comma_due x t r → ⊥
 no_element_next b false x r t n e = let (y, g) = reads_gap x r t e in n.no_member y g
 no_element_next b true x r t n (z, comma, e) = let (y, g) = reads_gap z r t e in n.no_member y (z, comma, g)
 
--- and what stands there
+-- the element begins where an element may begin
 pub element_found : (comma_due : Bool) (x y r : List ℕ) (t : Tree) → IsMemberStart comma_due x y → IsElement comma_due x t r → Reads y t r
 element_found false x y r t g p = reads_found x g.gap y r t g.split g.is_gap g.solid p
 element_found true x y r t (z, comma, g) (k, other, p) = reads_found z g.gap y r t g.split g.is_gap g.solid (after_same_comma (λ q. Reads q t r) x z k comma other p)
@@ -223,9 +223,9 @@ pub ok_unless : {V E : Type 0} {P : E → Type 0} (result : Result V E) → IfEr
 ok_unless (Ok v) k h = refl
 ok_unless (Err e) k h = absurd (h e k)
 
--- ---- what is refused in place of a closing bracket
+-- ---- what is refused instead of a closing bracket
 
--- where no comma stands, or none may
+-- without a comma, or where no comma is due
 pub refused_bracket : (b : Brackets) (comma_due : Bool) (s mid at : State) (e : Error) → PassedGap s mid → at ≡ mid → (comma_due ≡ true → NotBegun (λ c. c == 0x2C) mid.unread)
     → Refused (Unexpected b.ends b.not_closed) (cursor_of at) e × NotBegun (λ c. c == b.closing) at.unread → RefusedBy (NotClosed b comma_due) s e
 refused_bracket b comma_due s mid at e p same m (f, n) =
@@ -251,7 +251,7 @@ opens_begun b level x r reason place e room (no_bracket c q n) = let same : c �
 opens_begun b level x r reason place e room text_ends = absurd (cc)
 opens_begun b level x r reason place e room (too_deep q full) = omega (arith, room, full)
 
--- what is there is opened, within the limit
+-- an opening bracket within the limit isn't refused
 pub no_opening_refusal : (b : Brackets) → AreSigns b → (level : ℕ) (x r : List ℕ) (reason : Option ErrorCode) (place : Option (List ℕ)) → IsSign b.opening x r → level < max_depth → AfterBlanks (NotOpened b level) x reason place → ⊥
 no_opening_refusal b k level x r reason place o room (in_blanks (w, p, shown, f)) = no_sign_in_blanks b.opening x w p r reason place shown k.opening f o
 no_opening_refusal b k level x r reason place o room (after_gap {w = w} {x = y} {place = q} g s f) =

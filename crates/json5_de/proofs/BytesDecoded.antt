@@ -1,4 +1,4 @@
--- A text that isn't of bytes.
+-- Texts that don't spell bytes.
 use Rattle.std.proofs.Common.{◌≡◌, ◌∙◌, ℕ, true, List, refl, ap, sym, subst, ◌⊎◌, inl, inr, Some, None}
 use Rattle.std.specs.Prelude.{Result, Ok, Err, IsErrAnd}
 use Rattle.std.specs.Result.{result_ok}

@@ -18,11 +18,11 @@ use Rattle.json5_de.proofs.StagesPassed.{comma_after_member}
 use Rattle.json5_de.proofs.Elements.{reads_element, reads_more, leaves_fewer}
 use Rattle.json5_de.proofs.Next.{gives_seen, gives_next, refuses_next}
 
--- the access whose reader stands there
+-- the access with its reader in this state
 abbrev pub lent : {I : Type 0} → SeqAccess I → State → SeqAccess I
 lent s after = record s { de = record s.de { now = after } }
 
--- what was read is given
+-- what was read is returned
 pub given_on : {I V : Type 0} {mid new : SeqAccess I} (read : Result V Error) (v : V) → Settles mid read new (Ok v) → (read ≡ Ok v) × (new ≡ blocking mid mid.failed)
 given_on (Ok w) v s = (sym s.given, s.blocks)
 given_on (Err own) v s = absurd s.refused

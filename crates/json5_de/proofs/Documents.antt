@@ -1,4 +1,4 @@
--- A whole text is a document.
+-- A whole input is a document.
 use Rattle.std.proofs.Common.{◌≡◌, ℕ, ◌+◌, ◌≤◌, false, List, ap, sym, ◌∙◌, subst, arith, ◌⊎◌, inl, inr, Option, Some}
 use Rattle.std.specs.Prelude.{Err}
 use Rattle.json5_text.specs.declared.error.Error.{Error}
@@ -61,7 +61,7 @@ pub blames_value : (V : Type 0) {C : Type 0} {convert : Tree → Option C} (limi
 blames_value V limit s x t r c e bound is reads shallow converts complete =
     inl (complete t r c (failed_of is) (subst (λ z. Reads z t r) (sym (ap (λ (s : State). s.unread) is)) reads) (let level = ap (λ (s : State). s.level) is in omega (arith, bound, level, shallow)) converts)
 
--- what stands after it is
+-- what follows the value is refused
 pub blames_rest : (limit : ℕ) (s mid : State) (x : List ℕ) (t u : Tree) (r : List ℕ) (e : Error) → s ≡ at_start limit x → Reads x t r → TookValue s u mid → RefusedBy Trailing mid e
     → IsOutOfMemory e ⊎ Refused (AfterBlanks Trailing) (record { input = x; unread = r }) e
 blames_rest limit s mid x t u r e is reads took f =
@@ -72,9 +72,9 @@ blames_rest limit s mid x t u r e is reads took f =
     cursor : {a b c d : List ℕ} → a ≡ b → c ≡ d → cursor_at a c ≡ cursor_at b d
     cursor {b = b} {c = c} i u = ap (λ z. cursor_at z c) i ∙ ap (λ z. cursor_at b z) u
 
--- ---- one answer
+-- ---- one result
 
--- two values that may be given for one text have the same content, and leave the same
+-- two values that may be read from one input have the same content, and leave the same
 pub same_answer : {V C : Type 0} (content : V → C) (convert : Tree → Option C) (old new last : State) (v w : V) → Gives content convert old new v → Gives content convert old last w → (content v ≡ content w) × (new ≡ last)
 same_answer content convert old new last v w (t, a, is) (u, b, other) =
     let (tree, rest) = one_phrase old.unread new.unread last.unread t u a.reads b.reads in (

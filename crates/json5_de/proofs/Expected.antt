@@ -68,7 +68,7 @@ end_no_value x r t l h =
     let none : head.char ∷ (head.more ++ r) ≡ [] = sym (ap (λ z. z ++ r) head.is) ∙ gap.1 in
     absurd (cc)
 
--- after the blanks stands a character that begins no value of the kind
+-- a character follows the blanks that begins no value of the kind
 pub other_no_value : {C : Type 0} {F : List ℕ → Option ErrorCode → Option (List ℕ) → Type 0} {convert : Tree → Option C} {begins : ℕ → Bool} {ends differs : ErrorCode} → Expected F convert begins ends differs
     → (x w q r : List ℕ) (c : ℕ) (t : Tree) (v : C) → Blanks w → is_solid c ≡ true → begins c ≡ false → x ≡ w ++ c ∷ q → convert t ≡ Some v → Reads x t r → ⊥
 other_no_value {begins = begins} a x w q r c t v b s n e k h =

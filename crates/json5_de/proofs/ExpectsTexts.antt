@@ -1,4 +1,4 @@
--- What a type of texts expects.
+-- What a type of strings expects.
 use Rattle.std.proofs.Common.{◌≡◌, ℕ, Bool, true, false, List, [], ◌∷◌, ◌++◌, refl, ap, sym, ◌∙◌, subst, ◌⊎◌, inl, inr, Option, Some, None}
 use Rattle.std.specs.Prelude.{◌||◌, ◌==◌}
 use Rattle.json5_grammar.specs.declared.code.ErrorCode.{ErrorCode}
@@ -89,7 +89,7 @@ expects_text other f = record {
   first = λ s t v e k. text_quote (text_phrase f v e k).2;
 }
 
--- ---- nothing lengthens a text
+-- ---- nothing lengthens a string
 
 quote_stops : (q : ℕ) (s r : List ℕ) → (q ≡ 34) ⊎ (q ≡ 39) → NotBegun (lengthens (q ∷ s)) r
 quote_stops q s [] h = tt

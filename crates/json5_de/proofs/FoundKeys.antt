@@ -40,7 +40,7 @@ use Rattle.json5_de.proofs.TokenKinds.{refused_other, given_up_after}
 use Rattle.json5_de.proofs.Taken.{input_of, refused_token}
 use Rattle.json5_de.proofs.WholeTexts.{converts, is_document, IsRefusedText, refused_text}
 
--- ---- what stands in front
+-- ---- what is in front
 
 key_gap : {s u : List ℕ} {escape_free : Bool} (w x r : List ℕ) → Key s r u escape_free → Gap w x → x ≡ s ++ r → Blanks w
 key_gap w x r k g e = let head = key_head k in gap_blanks head.char (head.more ++ r) (subst (Gap w) (e ∙ ap (λ z. z ++ r) head.is) g)
@@ -59,7 +59,7 @@ took_key old new key k = record {
   rest = k.took.rest ∙ ap (λ (m : State). record m { unread = new.unread }) k.passed.rest;
 }
 
--- what can be read as a key stands after the gap
+-- what can be read as a key follows the gap
 pub key_after : (old mid : State) (u : List ℕ) (escape_free : Bool) (r : List ℕ) → PassedGap old mid → (h : ReadsKey old.unread u escape_free r) → mid.unread ≡ h.spelling ++ r
 key_after old mid u escape_free r p h = (one_gap h.front (h.spelling ++ r) p.gap mid.unread (Gap.blanks h.blank) (key_solid r (key_head h.key)) p.is_gap p.solid (sym h.split ∙ p.split)).1
 
@@ -131,7 +131,7 @@ refuses_found {C = C} kind content old new last key e k not refused other gives_
         absurd (none_some (kind.convert u escape_free) c (subst (λ z. kind.convert u z ≡ None) mark (subst (λ z. kind.convert z k.escape_free ≡ None) text none)) is)
     completes (inr m) u escape_free r c live reads is = m
 
--- a fault of its text, at the key
+-- a fault of the key's text, at the key
 refused_key : {IsFault : KeyFault} (old new : State) (key : FoundText) (e : Error) (reason : Option ErrorCode) → (k : TookKeyAt old new key) → IsFault k.text k.escape_free reason → Says reason e
     → ((before rest : List ℕ) → new.input ≡ before ++ rest → key.start ≡ length (encode_utf8_all before) → place_of e ≡ Some (position_after before)) → RefusedBy (NotKey IsFault) old e
 refused_key {IsFault = IsFault} old new key e reason k fault says placed = refused_token old k.between e k.passed (record {
@@ -171,7 +171,7 @@ pub key_not_text : {V C : Type 0} (f : KeyConversion C) (content : V → C) (old
     → ReadsKeyAs (text_key f) content old last (Err e)
 key_not_text f content old new last key e k none is failed = key_not_coded None f content old new last key e (λ e. absurd (cc)) k none is failed
 
--- the text is looked at where it stands
+-- the text is looked at without a copy
 pub key_judged : {V C : Type 0} (lacks : Bool) (of_other : Option ErrorCode) → (of_other ≡ Some codes.Failed → ⊥) → (f : KeyConversion C) (content : V → C) (old new last : State) (key : FoundText) (result : Result V Error) → TookKeyAt old new key
     → JudgesText lacks of_other f content key new last result → ReadsKeyAs (coded_text_key of_other f) content old last result
 key_judged lacks of_other unlike f content old new last key (Ok v) k j =
@@ -182,7 +182,7 @@ key_judged {V = V} {C = C} lacks of_other unlike f content old new last key (Err
     by_cause (inl (may, memory)) = key_lacks_memory (coded_text_key of_other f) content old new last key e k memory j.failed
     by_cause (inr none) = key_not_coded of_other f content old new last key e unlike k (none k.text k.escape_free k.is_text k.scalars) j.refused j.failed
 
--- the characters of the bytes of its text
+-- the bytes of the key's text have the text's characters
 pub key_characters : (old new : State) (key : FoundText) (bytes : List ℕ) → (k : TookKeyAt old new key) → bytes ≡ encode_utf8_all k.text → chars bytes ≡ k.text
 key_characters old new key bytes k same = ap chars same ∙ chars-encodes k.text k.scalars
 
@@ -231,9 +231,9 @@ key_no_document {C = C} kind content old new last key x own e k same complete re
     refused (at_key none there is says) (inr (reason, why, words)) =
         inr (refused_key old new key e reason k why (same_words reason says.kind words) (λ before rest split counted. says.place ∙ ap Some (is before rest split counted)))
 
--- ---- one answer
+-- ---- one result
 
--- two values that may be given for one key have the same content, and leave the same
+-- two values that may be read from one key have the same content, and leave the same
 pub same_key : {V C : Type 0} (content : V → C) (convert : KeyConversion C) → OneKeyAnswer content convert
 same_key content convert old new last v w (u, p, a, is) (x, q, b, other) =
     let (text, mark, rest) = one_reads_key old.unread new.unread last.unread u x p q a.reads b.reads in (

@@ -1,4 +1,4 @@
--- What a read of a text means that is found and looked at.
+-- What it means to read a string that is found and looked at without a copy.
 use Rattle.std.proofs.Common.{◌≡◌, ◌≢◌, Bool, true, false, List, ℕ, refl, ap, sym, ◌∙◌, subst, ◌⊎◌, inl, inr, Option, Some, None}
 use Rattle.std.specs.Prelude.{Result, Ok, Err}
 use Rattle.std.specs.Str.{chars}
@@ -32,7 +32,7 @@ no_text : {C : Type 0} (other : Option ErrorCode) (f : List ℕ → Bool → Opt
 no_text other f old e (inl m) = inl m
 no_text other f old e (inr k) = inr (λ live. let g = k live in record { reason = g.reason; place = g.place; fault = after_text other f old.unread g.reason g.place g.fault; says = g.says; placed = g.placed })
 
--- an escape-free text is a text
+-- an escape-free string is a string
 escape_free_is_text : (t : Tree) → escape_free_text t ≡ true → (v : List ℕ) × (as_text every_text t ≡ Some v)
 escape_free_is_text null e = absurd (cc)
 escape_free_is_text (boolean b) e = absurd (cc)
@@ -55,7 +55,7 @@ no_string other unlike f allocation_free content old new e only k complete faile
     failed
     before
 
--- the text is looked at where it stands
+-- the text is looked at without a copy
 pub string_judged : {V C : Type 0} (lacks : Bool) (other : Option ErrorCode) → other ≢ Some codes.Failed → (f : List ℕ → Bool → Option C) (allocation_free : Tree → Bool) (content : V → C) (old new last : State) (found : FoundText) (result : Result V Error)
     → (lacks ≡ true → (t : Tree) → allocation_free t ≡ false) → TookStringAt old new found → JudgesText lacks other f content found new last result → ReadsAs (coded_text_kind other f allocation_free) content old last result
 string_judged lacks other unlike f allocation_free content old new last found (Ok v) spare k j =
@@ -72,7 +72,7 @@ string_judged {V = V} {C = C} lacks other unlike f allocation_free content old n
 
 -- ---- texts of one character
 
--- the characters of a text that was found are those of its bytes
+-- the characters of a found text are those of its bytes
 pub judged_character : (s : State) (found : FoundText) (bytes : List ℕ) (c : Option ℕ) → SpellsText s found.token bytes → one_character (chars bytes) false ≡ c → OfFound s found (λ u escape_free. one_character u escape_free ≡ c)
 judged_character s found bytes c spells is u escape_free spelled scalars =
     same_character u escape_free ∙ ap (λ x. one_character x false) (sym (ap chars (spells u escape_free spelled) ∙ chars-encodes u scalars)) ∙ is

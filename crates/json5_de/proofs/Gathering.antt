@@ -1,4 +1,4 @@
--- An object whose pairs are read in a loop: what was read, and what is left.
+-- An object whose members are read in a loop: what was read, and what is left.
 use Rattle.std.proofs.Common.{◌≡◌, ℕ, ◌+◌, ◌≤◌, Bool, true, false, List, [], ◌∷◌, ◌++◌, length, map, refl, sym, ap, ◌∙◌, subst, Option, Some, None, Ok, Err}
 use Rattle.std.proofs.lemmas.List.{map-append}
 use Rattle.std.proofs.lemmas.Bool.{false≢true}
@@ -26,14 +26,15 @@ use Rattle.json5_de.specs.Maps.{pair_content, pairs_of}
 use Rattle.json5_de.specs.MapFaults.{Sides, WithinMap, MapFault, RefusesMap, at_key, at_value}
 use Rattle.json5_de.proofs.Loops.{handed_on}
 
--- pairs that convert are left
+-- members that convert are left
 pub record LeftPairs {C D : Type 0} (keys : KeyConversion C) (values : Tree → Option D) (r : List ℕ) (now : MapAccessState) : Type 0 where
   pub pairs : Pairs
   pub contents : List (C × D)
   pub are : pair_contents keys values pairs ≡ Some contents
   pub left : PairsLeft pairs r now
 
--- an object in the midst of its pairs, perhaps after a key: the list stands for the pairs that were read, and where all of it converts the others are left
+-- an object between two members, or after a key: the list is what the members that were read convert to, and if all of the object
+-- converts, the other members are left
 pub record ReadingPairs {K V C D : Type 0} (key : K → C) (value : V → D) (keys : KeyConversion C) (values : Tree → Option D) (old : State) (ps : List (K × V)) (waits : Option (List ℕ × Bool)) (now : MapAccessState) : Type 0 where
   pub first : State
   pub opened : Opened curly old first
@@ -43,7 +44,7 @@ pub record ReadingPairs {K V C D : Type 0} (key : K → C) (value : V → D) (ke
   pub read : PairsRead old pairs waits now
   pub left : (all : Pairs) (r : List ℕ) (cs : List (C × D)) → pair_contents keys values all ≡ Some cs → old.failed ≡ false → Reads old.unread (object all) r → old.level + depth (object all) ≤ max_depth → LeftPairs keys values r now
 
--- the same after a key was read, which stands for k
+-- the same after a key was read that converts to k
 abbrev pub AfterKey : {K V C D : Type 0} → (K → C) → (V → D) → KeyConversion C → (Tree → Option D) → State → List (K × V) → K → MapAccessState → Type 0
 AfterKey key value keys values old ps k now = (u : List ℕ) × (escape_free : Bool) × (keys u escape_free ≡ Some (key k)) × ReadingPairs key value keys values old ps (Some (u, escape_free)) now
 
@@ -60,7 +61,7 @@ module _ {K V C D : Type 0} (key : K → C) (value : V → D) (keys : KeyConvers
       record { pairs = all; contents = rest; are = others; left = (fewer u escape_free t all left).1 }
 
 module _ {K V C D : Type 0} (key : K → C) (value : V → D) (keys : KeyConversion C) (values : Tree → Option D) {old : State} where
-  -- it begins, with no pair
+  -- it begins, with no member
   pub begins : {A : Type 0} {Held : A → Type 0} (state_of : A → MapAccessState) (a : A) → OpensMap Held state_of old (Ok a) → ReadingPairs key value keys values old [] None (state_of a)
   begins state_of a opens = record {
     first = (state_of a).at.reader;
@@ -109,7 +110,7 @@ module _ {K V C D : Type 0} (key : K → C) (value : V → D) (keys : KeyConvers
       → ((from : State) (all : Pairs) → PairsRead from all None now → TookValue from (object all) last) → Gives (map (pair_content key value)) (pairs_of keys values) old end ps
   stops m same on ends = (object m.pairs, subst (λ n. TookValue old (object m.pairs) n) (sym same) (ends old m.pairs (on old m.pairs m.read)), m.are)
 
--- ---- pairs that convert are read
+-- ---- members that convert are read
 
 module _ {U C D : Type 0} (keys : KeyConversion C) (values : Tree → Option D) (old : State) (e : Error) (result : Result U Error) where
   completes_as : IsErrAnd result (λ y. y ≡ e)
@@ -141,7 +142,7 @@ module _ {U K V C D : Type 0} {key : K → C} {value : V → D} {keys : KeyConve
       let w = m.left all r cs are live reads shallow in
       key_refused key value keys values r new e w.pairs w.contents w.are (fewer w.pairs r w.left))
 
-  -- the brace was refused where no key was given
+  -- no key was returned, and the brace was refused
   pub end_completes : IsErrAnd result (λ y. y ≡ e) → ReadingPairs key value keys values old ps None s → ((all : Pairs) (r : List ℕ) → PairsLeft all r s → LeavesAValue key keys all r new (Ok None))
       → ((r : List ℕ) → PairsLeft no_pair r new → IsOk {T = Unit {0}} {E = Error} (Err e)) → Completes (pairs_of keys values) old result
   end_completes is_err m fewer ends = completes_as keys values old e result is_err (λ all r cs are live reads shallow.

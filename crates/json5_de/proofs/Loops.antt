@@ -20,7 +20,7 @@ use Rattle.json5_de.specs.Seq.{RefusedAtBracket}
 use Rattle.json5_de.specs.Lists.{element, every, count, ReadWithin, any_number, array_of_size, at_element, too_many, LeavesRequired, RefusesRequired, RefusesList}
 use Rattle.json5_de.proofs.ListFaults.{every_accepted, count_values, refuses_list, required_fault, reading}
 
--- elements that convert are left, of so many in all where so many were read
+-- elements that convert are left: `all` in number, less the `read` ones
 pub record ManyLeft {C : Type 0} (f : Tree → Option C) (r : List ℕ) (all read : ℕ) (now : AccessState) : Type 0 where
   pub trees : Trees
   pub values : List C
@@ -28,7 +28,8 @@ pub record ManyLeft {C : Type 0} (f : Tree → Option C) (r : List ℕ) (all rea
   pub left : ElementsLeft trees r now
   pub counted : read + length values ≡ all
 
--- an array in the midst of its elements: the values stand for those that were read, and where all of it converts the others are left
+-- an array between two elements: the values are what the elements that were read convert to, and if all of the array converts, the
+-- other elements are left
 pub record Reading {V C : Type 0} (content : V → C) (f : Tree → Option C) (old : State) (vs : List V) (now : AccessState) : Type 0 where
   pub first : State
   pub opened : Opened square old first
@@ -118,7 +119,7 @@ HasSoMany {C = C} {D = D} f g n = (ts : Trees) (d : D) → g ts ≡ Some d → (
 abbrev pub HasAtMost : {C D : Type 0} → (Tree → Option C) → (Trees → Option D) → ℕ → Type 0
 HasAtMost {C = C} {D = D} f g n = (ts : Trees) (d : D) → g ts ≡ Some d → (cs : List C) × (contents f ts ≡ Some cs) × (length cs ≤ n)
 
--- a refusal was handed on
+-- a refusal was forwarded
 pub handed_on : {T E : Type 0} (P : Result T E → Type 0) (e : E) (r : Result T E) → IsErrAnd r (λ y. y ≡ e) → P (Err e) → P r
 handed_on P e (Ok v) is p = absurd is
 handed_on P e (Err y) is p = subst (λ z. P (Err z)) (sym is) p
@@ -145,7 +146,7 @@ module _ {U V W C D : Type 0} {content : V → C} (given : W → C) {f : Tree �
       let counted = w.counted in
       required_refused given f w.trees r new e w.values w.are (omega (arith, few, count, counted)) (fewer w.trees r w.left))
 
-  -- the bracket was refused where no element was given
+  -- no element was returned, and the bracket was refused
   pub end_completes : IsErrAnd result (λ y. y ≡ e) → HasContents f g → Reading content f old vs now → ((ts : Trees) (r : List ℕ) → ElementsLeft ts r now → LeavesFewer given f ts r new (Ok None))
       → ((r : List ℕ) → ElementsLeft no_more r new → IsOk {T = Unit {0}} {E = Error} (Err e)) → Completes (array_of g) old result
   end_completes is_err parts m fewer ends = completes_as (array_of g) old e result is_err (λ t r d live reads shallow converts.

@@ -21,11 +21,11 @@ use Rattle.json5_de.proofs.StagesPassed.{comma_after_key, key_after_key}
 use Rattle.json5_de.proofs.Pairs.{reads_a_key, reads_pair_key, leaves_a_value, reads_a_pair, reads_pair_value, leaves_pairs}
 use Rattle.json5_de.proofs.PairCodes.{gives_key_seen, gives_next_key, refuses_next_key, gives_value_seen, gives_next_value, refuses_next_value}
 
--- the access whose reader stands there
+-- the access with its reader in this state
 abbrev pub lent : {I : Type 0} → MapAccess I → State → MapAccess I
 lent m after = record m { de = record m.de { now = after } }
 
--- what was read is given
+-- what was read is returned
 pub given_on : {I V : Type 0} {mid new : MapAccess I} (read : Result V Error) (v : V) → SettlesMap mid read new (Ok v) → (read ≡ Ok v) × (new ≡ blocking_map mid mid.failed)
 given_on (Ok w) v s = (sym s.given, s.blocks)
 given_on (Err own) v s = absurd s.refused

@@ -1,4 +1,4 @@
--- What is put into a map one pair after another, and what counts of it.
+-- What is put into a map, one pair of a key and a value after another, and what counts of it.
 use Rattle.std.proofs.Common.{◌≡◌, Bool, true, false, List, [], ◌∷◌, map, refl, sym, ap, ◌∙◌, Some}
 use Rattle.std.specs.Prelude.{if◌then◌else◌, fold}
 use Rattle.std.specs.declared.cmp.Ordering.{Ordering}
@@ -9,7 +9,7 @@ use Rattle.json5_de.specs.ConvertLists.{if_some}
 use Rattle.json5_de.specs.Maps.{TellsKeys, pair_content, last_value, found_in, in_turn, in_order}
 
 module _ {K V C D : Type 0} (key : K → C) (value : V → D) where
-  -- what counts of it is what is made of what counts of each
+  -- what counts of a map is made of what counts of each member
   insert_content : (eq : K → K → Bool) (same : C → C → Bool) → TellsKeys key eq same → (es : List (K × V)) (p : K × V)
       → map (pair_content key value) (insert_entry eq es p.0 p.1) ≡ insert_entry same (map (pair_content key value) es) (key p.0) (value p.1)
   insert_content eq same tells [] p = refl

@@ -1,4 +1,4 @@
--- What is found in a hashed map, whose entries stand in any order.
+-- What is found in a hashed map, whose entries are in any order.
 use Rattle.std.proofs.Common.{◌≡◌, Bool, true, false, List, [], ◌∷◌, ◌++◌, map, refl, sym, ap, ◌∙◌, subst, Option, Some, None}
 use Rattle.std.specs.Prelude.{if◌then◌else◌, cond, is_some, IsSome}
 use Rattle.std.specs.Cmp.{IsEquivalence}
@@ -10,7 +10,7 @@ use Rattle.std.proofs.lemmas.List.Sorted.{IsPermutation-map}
 use Rattle.indexmap.proofs.MapLemmas.{lookup_permutation}
 use Rattle.json5_de.specs.Maps.{last_value, found_in}
 
--- what is found once p is put as well
+-- what is found after p was inserted too
 abbrev pub found_more : {K V : Type 0} → (K → Bool) → K × V → Option (K × V) → Option (K × V)
 found_more test p None = if test p.0 then Some p else None
 found_more test p (Some e) = Some (e.0, if test p.0 then p.1 else e.1)
@@ -92,7 +92,7 @@ module _ {K V : Type 0} {eq : K → K → Bool} (laws : IsEquivalence eq) (q k :
       by true h rest = rw h (here h (eq q k) refl)
       by false h rest = rw h (there_is (eq q e.0) refl h rest (rw h at there))
 
--- a pair was put: what the map finds is what the pairs that were put say
+-- a pair was inserted: the map finds what is found in the inserted pairs
 pub found_put : {K V S : Type 0} {eq : K → K → Bool} → IsEquivalence eq → (m n : HashMap K V S) (k : K) (v : V) (old : Option V) → old ≡ get eq m k → PutsEntry eq m n k v old → IsUnique eq n → (ps : List (K × V))
     → ((q : K) → lookup_entry (eq q) m.entries ≡ found_in (eq q) ps) → (q : K) → lookup_entry (eq q) n.entries ≡ found_in (eq q) (ps ++ (k, v) ∷ [])
 found_put {eq = eq} laws m n k v None is puts unique ps found q =

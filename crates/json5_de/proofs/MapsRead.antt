@@ -1,4 +1,4 @@
--- What a map stands for, from the pairs that were gathered into it.
+-- What counts of a map, from the pairs that were gathered into it.
 use Rattle.std.proofs.Common.{◌≡◌, Bool, List, map, refl, sym, ap, ◌∙◌, Option, Some, None}
 use Rattle.std.specs.Prelude.{Result, Ok, Err, IfOk}
 use Rattle.std.specs.declared.cmp.Ordering.{Ordering}
@@ -23,7 +23,7 @@ module _ {C D A : Type 0} (keys : KeyConversion C) (values : Tree → Option D) 
   gives_map key value Gathered content made new (Ok m) (ps, is, gives) = let (t, took, are) = gives in (t, took, ap (if_some gathered) are ∙ ap Some (sym (made m ps is)))
   gives_map key value Gathered content made new (Err e) gives = tt
 
-  -- where it converts its pairs do
+  -- if the object converts, its members do
   pub completes_map : {V : Type 0} (result : Result V Error) → Completes (pairs_of keys values) old result → Completes (map_of keys values gathered) old result
   completes_map result complete t r c live reads shallow is = let (cs, are, made) = some_from gathered (pairs_of keys values t) c is in complete t r cs live reads shallow are
 

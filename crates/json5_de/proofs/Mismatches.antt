@@ -1,4 +1,4 @@
--- What is whole and isn't of the type: a text of its own, at its start.
+-- What is complete and isn't of the type: a custom message, at its start.
 use Rattle.std.proofs.Common.{◌≡◌, ℕ, Bool, List, [], ◌++◌, length, sym, ◌∙◌, subst, inl, inr, Option, Some, None}
 use Rattle.std.specs.Prelude.{Result, Ok, Err, IfErr, IsErrAnd}
 use Rattle.std.specs.Str.{encode_utf8_all}

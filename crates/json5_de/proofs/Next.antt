@@ -57,11 +57,11 @@ or_some (Some q) p e = absurd (cc)
 place_kept : (own e : Error) (p q : Position) → place_of e ≡ or_place (place_of own) p → place_of own ≡ Some q → place_of e ≡ Some q
 place_kept own e p q is k = is ∙ ap (λ o. or_place o p) k
 
--- a fault without a place got the bracket's
+-- a fault without a position got the bracket's
 at_bracket : (old : AccessState) (own e : Error) → PlacedAtBracket old own e → place_of own ≡ None → IsAtBracket old e
 at_bracket old own e p none before starts = p.place ∙ ap (λ o. or_place o p.there) none ∙ ap Some (p.is_there before starts)
 
--- a call that was answered
+-- a call that returned a value
 pub answers_call : {V : Type 0} (IsCause : Cause) (asked : Bool) (begins : ℕ → Bool) (ends differs : ErrorCode) (old : AccessState) (new : State) (v : V) → (asked ≡ true → AtEnd old.reader → ⊥) → (asked ≡ true → (w : List ℕ) → AtOther begins old.reader w → ⊥)
     → (old.reader.failed ≡ true → ⊥) → RefusesCall IsCause asked begins ends differs old new (Ok v)
 answers_call IsCause asked begins ends differs old new v no_end no_other live = record {

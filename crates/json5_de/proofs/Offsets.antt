@@ -1,4 +1,4 @@
--- Offsets in bytes, and the places that they name.
+-- Offsets in bytes, and the positions at them.
 use Rattle.std.proofs.Common.{◌≡◌, ℕ, true, List, ◌++◌, length, ap, sym, ◌∙◌}
 use Rattle.std.specs.Str.{all_scalars, encode_utf8_all}
 use Rattle.json5_text.specs.Cursor.{Cursor, IsOffset, offset_of}
@@ -26,6 +26,6 @@ is_count s cursor offset same_input same_unread counted (before, split) scalars 
       scalars = ap all_scalars (sym same_unread) ∙ scalars;
     }
 
--- a place that each of other texts stands before as well
+-- the same for a narrower IsBefore
 pub placed_where : {IsBefore OtherBefore : List ℕ → Type 0} {own e : Error} → ((before : List ℕ) → OtherBefore before → IsBefore before) → PlacedAt IsBefore own e → PlacedAt OtherBefore own e
 placed_where is p = record { kind = p.kind; there = p.there; place = p.place; is_there = λ before b. p.is_there before (is before b) }

@@ -47,7 +47,7 @@ refuses_opening b k state_of old e f before = record {
   before = before;
 }
 
--- a call that answers as another did
+-- a call that refuses as another did
 pub opens_too : {A B : Type 0} (b : Brackets) (state_of : A → AccessState) (seen_too : B → AccessState) (old : State) (e : Error) → OpensAs b state_of old (Err e) → OpensAs b seen_too old (Err e)
 opens_too b state_of seen_too old e o = record { opened = tt; start = tt; complete = o.complete; refused = o.refused; ends = o.ends; differs = o.differs; too_deep = o.too_deep; unprompted = o.unprompted; before = o.before }
 

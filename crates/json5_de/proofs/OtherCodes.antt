@@ -1,4 +1,4 @@
--- No fault of a text is that a reader had failed.
+-- No fault of the input is that a reader had failed.
 use Rattle.std.proofs.Common.{◌≢◌, ℕ, Bool, false, List, ◌∷◌, Option, Some}
 use Rattle.json5_grammar.specs.declared.code.ErrorCode.{ErrorCode}
 use Rattle.json5_grammar.specs.declared.code.ErrorCode.TheVariants as codes
@@ -21,7 +21,7 @@ pub number_lacks : {C : Type 0} (f : Number → Option C) → Lacks (NotNumber f
 number_lacks f x reason place (faulty_number k) = faulty_number_lacks x reason place k
 number_lacks f x reason place (other_number r k stops none) = λ e. absurd (cc)
 
--- ---- texts
+-- ---- strings
 
 pub text_lacks : {C : Type 0} (other : Option ErrorCode) → other ≢ Some codes.Failed → (f : List ℕ → Bool → Option C) → Lacks (NotText other f)
 text_lacks other h f x reason place (faulty_text k) = faulty_string_lacks x reason place k

@@ -27,7 +27,7 @@ some_parts g (Some a) b e = (a, refl, cc e)
 
 -- ---- the name, and then the content
 
--- another place
+-- another index
 pub other_place : {k : ℕ} (n : ℕ) → k ≢ n → (k == n) ≡ false
 other_place n not_it = grind arith
 
@@ -39,7 +39,7 @@ passed_place {C} n v w vs {k = k} not_it t = by (k == n) (other_place n not_it)
     by true e = absurd (cc)
     by false e = refl
 
--- a content that is read is the same where it converts in the same way
+-- two conversions that agree read the same contents
 pub finishes_same : {V C : Type 0} {content : V → C} {f h : Option Tree → Option C} {old : EnumAccessState} {new : State} {result : Result V Error} → ((t : Option Tree) → f t ≡ h t) → FinishesVariant content h old new result → FinishesVariant content f old new result
 finishes_same {V} {C} {content = content} {f = f} {h = h} {old = old} {new = new} {result = result} same done = record {
   read = by result done.read;
@@ -59,7 +59,7 @@ enum_refused names f state_of {old = old} e result is_err named = handed_on (λ 
     named.left t r k d live reads shallow one)
 
 module _ {A V C : Type 0} (names : List (List ℕ)) (f : ℕ → Option Tree → Option C) (state_of : A → EnumAccessState) {content : V → C} {old new : State} {a : A} (result : Result V Error) (named : NamesVariant names state_of old (Ok a)) (k : ℕ) (at : (state_of a).variant ≡ k) (done : FinishesVariant content (f k) (state_of a) new result) where
-  -- the variant at place k was named, and its content was read
+  -- the variant at index k was named, and its content was read
   pub enum_read : IfOk result (λ v. Gives content (enum_of names f) old new v)
   enum_read = by result done.read
     where
@@ -154,7 +154,7 @@ pub record RestOf {A D : Type 0} (h : Trees → Option D) (make : D → A) (a : 
   pub left : ElementsLeft trees after now
   pub brace : IsBrace true after r
 
--- the array that g takes in the midst of its elements: h takes those that remain, and make says what the whole is
+-- the array that g takes, between two of its elements: h takes those that are left, and make says what the whole is
 pub record InTuple {A D : Type 0} (g : Trees → Option A) (old : EnumAccessState) (h : Trees → Option D) (make : D → A) (now : AccessState) : Type 0 where
   pub has_content : old.has_content ≡ true
   pub trees : Trees
@@ -321,16 +321,16 @@ module _ {S D : Type 0} (plan : Plan S D) {X : Type 0} (state_of : X → MapAcce
           let (m, are, built) = parts plan.build (run plan.step plan.start ps) d (sym (plan.says ps) ∙ converts) in
           memory ps z r m d are built (opens.left ps z opens.content.has_content l.live (subst (λ u. Reads old.reader.unread u z) one reads) (subst (λ u. old.reader.level + depth u ≤ max_depth) one l.shallow)) close
 
-  -- the refusal of its pairs isn't `Failed`
+  -- the refusal of its members isn't `Failed`
   pub fields_unprompted : (before : State) {n : S} {now : MapAccessState} (e : Error) (result : Result V Error) → IsErrAnd result (λ y. y ≡ e) → ReadsPairs plan.step plan.start n (state_of x) now (Err e) → Unprompted before result
   fields_unprompted before e result is_err reads = handed_on (λ r. Unprompted before r) e result is_err (λ live. reads.unprompted struct_live)
 
-  -- its pairs were refused
+  -- its members were refused
   pub fields_refused : {n : S} {now : MapAccessState} {new : State} (e : Error) (result : Result V Error) → IsErrAnd result (λ y. y ≡ e) → ReadsPairs plan.step plan.start n (state_of x) now (Err e) → SameText (state_of x).at.reader new
       → FinishesVariant content (λ t. if_some make (content_of (object_of plan.convert) t)) old new result
   fields_refused {new = new} e result is_err reads same = refused_fields e result is_err (λ live. reads.unprompted struct_live) (struct_input new same) (λ ps z r m d are built left close. reads.left ps z m are left)
 
-  -- all its pairs were read, and they make no struct
+  -- all its members were read, and they make no struct
   pub field_missing : {n : S} {now : MapAccessState} {new : State} (e : Error) (result : Result V Error) → IsErrAnd result (λ y. y ≡ e) → ReadsPairs plan.step plan.start n (state_of x) now (Ok tt) → plan.build n ≡ None → IsUnprompted e → SameText (state_of x).at.reader new
       → FinishesVariant content (λ t. if_some make (content_of (object_of plan.convert) t)) old new result
   field_missing {new = new} e result is_err reads none own same = refused_fields e result is_err (λ live. own) (struct_input new same) (λ ps z r m d are built left close.

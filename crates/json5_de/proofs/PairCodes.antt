@@ -1,4 +1,4 @@
--- A key and its value where they may begin, and what is refused there.
+-- How a key and its value begin, and how they are refused.
 use Rattle.std.proofs.Common.{◌≡◌, ◌≢◌, ℕ, Bool, true, false, List, [], ◌∷◌, ◌++◌, length, refl, ap, sym, ◌∙◌, subst, arith, Option, Some, None, Ok, Err}
 use Rattle.std.specs.Prelude.{◌==◌, is_some}
 use Rattle.std.specs.Str.{encode_utf8_all}
@@ -49,7 +49,7 @@ use Rattle.json5_de.proofs.Pairs.{curly_signs}
 key_gap : (x r u : List ℕ) (p : Bool) → ReadsKey x u p r → (y : List ℕ) × IsAfterGap x y
 key_gap x r u p k = (k.spelling ++ r, record { gap = k.front; split = k.split; is_gap = Gap.blanks k.blank; solid = key_solid r (key_head k.key) })
 
--- a key that stands after the gap begins there
+-- a key that follows the gap begins there
 key_at : (x y r u : List ℕ) (p : Bool) → IsAfterGap x y → (k : ReadsKey x u p r) → y ≡ k.spelling ++ r
 key_at x y r u p g k = (one_gap k.front (k.spelling ++ r) g.gap y (Gap.blanks k.blank) (key_solid r (key_head k.key)) g.is_gap g.solid (sym k.split ∙ g.split)).1
 
@@ -98,7 +98,7 @@ no_key_begun y r u p solid n k =
     let head = key_head k.key in
     true_false head.begins (subst (NotBegun begins_key) (at ∙ ap (λ z. z ++ r) head.is) n)
 
--- where no member may begin no pair goes on
+-- if no member may begin, no key and no brace follows
 pub no_pair_next : (comma_due : Bool) (x : List ℕ) → NothingNext curly comma_due x → NoPairGoes comma_due x
 no_pair_next comma_due x n = record { no_key = λ u p r k. by comma_due u p r n k; no_brace = n.no_close }
   where
@@ -120,7 +120,7 @@ after_wider : {F G : List ℕ → Option ErrorCode → Option (List ℕ) → Typ
 after_wider x reason place h (in_blanks k) = in_blanks k
 after_wider x reason place h (after_gap {x = y} {place = p} g s k) = after_gap g s (h y reason p k)
 
--- where no member was reached
+-- no member was reached
 pub refused_next_key : (comma_due : Bool) (s : State) (e : Error) → RefusedBy (NoNext curly comma_due) s e → RefusedBy (NoKey comma_due) s e
 refused_next_key comma_due s e f live = let f = f live in record { reason = f.reason; place = f.place; fault = after_wider s.unread f.reason f.place (λ x reason place k. no_next k) f.fault; says = f.says; placed = f.placed }
 
@@ -199,7 +199,7 @@ expects_colon = record {
     at_some x reason place c r e (no_colon d q n) = (refl, refl)
     at_some x reason place c r e colon_missing = absurd (cc)
 
--- ---- where no key goes on
+-- ---- no key follows
 
 end_no_key : (comma_due : Bool) (s : State) (u r : List ℕ) (p : Bool) → AtEnd s → IsKey comma_due s.unread u p r → ⊥
 end_no_key true s u r p at (z, comma, k) = end_no_sign 0x2C s z comma_solid at comma
@@ -282,12 +282,12 @@ refuses_next_key refuses old new after own e cause other before p failed =
     differs (not_reached f) w o = other_fault (expects_key old.at.comma_due) old.at.reader own w o f
     differs (in_key start k there c placed) w o = absurd (other_at_key old.at.comma_due old.at.reader start w o there)
 
--- a key's fault keeps what it says, but for its place
+-- a key's fault keeps what it says, but for its position
 key_kind : (IsBefore : List ℕ → Type 0) (own e : Error) → PlacedAtKey IsBefore own e → kind_of e ≡ kind_of own
 key_kind IsBefore own e (at_key h p) = p.kind
 key_kind IsBefore own e (as_it_is h kind place) = kind
 
--- the key stands where the reader stood
+-- the key is where the reader was
 placed_before : (mid end : State) (offset : ℕ) (own e : Error) → SameText mid end → ((before : List ℕ) → mid.input ≡ before ++ mid.unread → offset ≡ length (encode_utf8_all before)) → PlacedAtKey (StartsAfter end.input offset) own e
     → PlacedAtKey (λ before. mid.input ≡ before ++ mid.unread) own e
 placed_before mid end offset own e same counted (at_key h p) = at_key h (placed_where (λ before split. record { rest = mid.unread; split = same ∙ split; counted = counted before split }) p)

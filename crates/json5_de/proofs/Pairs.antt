@@ -1,4 +1,4 @@
--- An object as a whole, while its pairs are read: what was read of it, and what is left.
+-- An object as a whole, while its members are read: what was read of it, and what is left.
 use Rattle.std.proofs.Common.{◌≡◌, ℕ, ◌+◌, ◌-◌, ◌<◌, ◌≤◌, Bool, true, false, List, ◌∷◌, refl, sym, ap, ◌∙◌, subst, arith, Option, Some, None, Result, Ok, Err, inl, inr}
 use Rattle.std.specs.Prelude.{IfOk}
 use Rattle.json5_grammar.specs.Language.Trees.{Tree, Pairs, object, no_pair, pair, depth, pair_depths}
@@ -53,7 +53,7 @@ opened_read old first comma_due none o = record {
   rest = o.rest;
 }
 
--- a key stands where the text stands, since no brace does
+-- the reader is in front of the key, since no closing brace is next
 key_after : (from : State) (old : MapAccessState) (ps : Pairs) (u : List ℕ) (escape_free : Bool) (y : List ℕ) → (e : PairsRead from ps None old) → IsKey old.at.comma_due old.at.reader.unread u escape_free y → IsKey old.at.comma_due e.after u escape_free y
 key_after from old ps u escape_free y e is = elim e.here [
   | inl same ↦ subst (λ x. IsKey old.at.comma_due x u escape_free y) same is
@@ -79,7 +79,7 @@ brace_after from old ps r e is = elim e.here [
   | inr at ↦ brace_found old.at.comma_due old.at.comma_due e.after old.at.reader.unread r at is
 ]
 
--- none, and the closing brace is next
+-- no key was read, and the closing brace is next
 brace_read : (from : State) (old new : MapAccessState) (ps : Pairs) → AtClose curly old.at.comma_due old.at.reader new.at.reader → new.at.comma_due ≡ old.at.comma_due → new.pending ≡ false → PairsRead from ps None old → PairsRead from ps None new
 brace_read from old new ps at comma_due pending e =
     let (r, close, next) = at.close in
@@ -98,7 +98,7 @@ brace_read from old new ps at comma_due pending e =
 inside_level : (from : State) (now : MapAccessState) (ps : Pairs) (key : Option (List ℕ × Bool)) → PairsRead from ps key now → now.at.reader.level ≡ from.level + 1
 inside_level from now ps key e = ap (λ (m : State). m.level) e.rest
 
--- the value of the key, one pair more
+-- the value of the key was read, one member more
 pub pair_read : (from : State) (old new : MapAccessState) (ps : Pairs) (u : List ℕ) (escape_free : Bool) (t : Tree) → TookPairValue old.at.reader t new.at.reader → new.at.comma_due ≡ true → new.pending ≡ false
     → PairsRead from ps (Some (u, escape_free)) old → PairsRead from (snoc_pair ps u escape_free t) None new
 pair_read from old new ps u escape_free t took comma_due pending e = record {
@@ -140,7 +140,7 @@ reads_a_pair content convert old new v (t, took, is, comma_due, pending) = (t, i
 pub object_opens : (old : State) (ps : Pairs) (r : List ℕ) → Reads old.unread (object ps) r → old.level + depth (object ps) ≤ max_depth → (y : List ℕ) × OpensObject old.unread y × (old.level < max_depth)
 object_opens old ps r reads shallow = let (y, opens, tail) = object_front old.unread r ps reads in (y, opens, omega (arith, shallow))
 
--- all pairs, where the object was opened
+-- all members are left after the object was opened
 pub opened_left : (old : State) (first : MapAccessState) (ps : Pairs) (r : List ℕ) → first.at.comma_due ≡ false → first.pending ≡ false → Opened curly old first.at.reader → Reads old.unread (object ps) r → old.level + depth (object ps) ≤ max_depth → PairsLeft ps r first
 opened_left old first ps r none no_key o reads shallow =
     let (y, bracket, tail) = object_front old.unread r ps reads in
@@ -203,7 +203,7 @@ leaves_pairs content convert old new (Err f) key gives complete u escape_free t 
     let deep = e.shallow in
     complete t z c e.live value (omega (arith, deep)) same
 
--- one key stands there, so what is given is its content
+-- only one key can be read there, so what is returned is its content
 pub reads_pair_key : {K C : Type 0} (content : K → C) (convert : KeyConversion C) (old new : MapAccessState) (o : Option K) → GivesPairKey content convert old new o → ReadsPairKey content convert old (Ok o)
 reads_pair_key content convert old new (Some k) (v, allocation_free, took, is, comma_due, pending) u escape_free r c live key converts =
     let (same, mark, here) = one_key old.at.comma_due old.at.reader.unread r new.at.reader.unread u v escape_free allocation_free key took.key in

@@ -1,4 +1,4 @@
--- Places of what is refused.
+-- Positions of what is refused.
 use Rattle.std.proofs.Common.{◌≡◌, ℕ, List, ◌++◌, sym, subst, Option}
 use Rattle.json5_grammar.specs.declared.code.ErrorCode.{ErrorCode}
 use Rattle.json5_grammar.specs.Faults.Codes.{after_text}

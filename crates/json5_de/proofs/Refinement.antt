@@ -26,7 +26,7 @@ parts g (Some a) v e = (a, refl, e)
 pub no_content : {A B : Type 0} (f : Tree → Option A) (g : A → Option B) (t : Tree) (a : A) (v : B) → ((x : A) → f t ≡ Some x → a ≡ x) → g a ≡ None → refined f g t ≡ Some v → ⊥
 no_content f g t a v same none e = let (x, is, accepted) = parts g (f t) v e in let here = same x is in absurd (cc (here, none, accepted))
 
--- one tree stands in front, so what is answered is its content
+-- only one tree can be read in front, so what is returned is its content
 pub reads_content : {V C : Type 0} (content : V → C) (convert : Tree → Option C) (old new : State) (result : Result V Error) → IfOk result (λ v. Gives content convert old new v) → Completes convert old result → ReadsContent content convert old result
 reads_content content convert old new (Ok v) (u, took, is) complete t r c live reads shallow converts =
     let (same, rest) = one_phrase old.unread r new.unread t u reads took.reads in
@@ -38,7 +38,7 @@ completes content convert old (Ok v) reads t r c live k shallow is = tt
 completes content convert old (Err e) reads t r c live k shallow is = reads t r c live k shallow is
 
 module _ {A B : Type 0} (f : Tree → Option A) (g : A → Option B) (old new : State) (a : A) (start end : ℕ) (p : Position) (e : Error) where
-  -- what was read and isn't accepted is refused where it stands
+  -- what was read and isn't accepted is refused at its first character
   pub refused_at : (t : Tree) × TookValue old t new × (f t ≡ Some a) → SpansValue old start end new → g a ≡ None → IsPositionOf new.input start p → IsCustomAt (Some p) e → RefusedBy (NotAccepted f g) old e
   refused_at (t, took, is) span none place own = refused_token old span.at e span.passed (record {
     reason = None;

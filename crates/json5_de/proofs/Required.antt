@@ -7,7 +7,7 @@ use Rattle.json5_grammar.specs.Language.Trees.{Tree, Trees, no_more, more}
 use Rattle.json5_de.specs.Access.{LeavesFewer}
 use Rattle.json5_de.specs.Lists.{IsTooShort, LeavesRequired}
 
--- the bracket stands where it stood
+-- the bracket stays where it was
 pub bracket_before : (old new : AccessState) (e : Error) → new.start ≡ old.start → SameText old.reader new.reader → IsAtBracket new e → IsAtBracket old e
 bracket_before old new e start same at before b = at before (record { rest = b.rest; split = same ∙ b.split; counted = start ∙ b.counted })
 
@@ -19,7 +19,7 @@ pub left_refused : {V C : Type 0} (content : V → C) (convert : Tree → Option
 left_refused content convert no_more r new e fewer = tt
 left_refused content convert (more t ts) r new e fewer = fewer
 
--- where none was given, none was left
+-- if None was returned, no element was left
 pub left_missing : {V C : Type 0} (content : V → C) (convert : Tree → Option C) (ts : Trees) (r : List ℕ) (new : AccessState) (e : Error) → LeavesFewer content convert ts r new (Ok None) → LeavesRequired content convert ts r new (Err e)
 left_missing content convert no_more r new e fewer = tt
 left_missing content convert (more t ts) r new e fewer = absurd fewer

@@ -1,4 +1,4 @@
--- What the short ways answer is what the reader's other calls answer.
+-- What the short ways return is what the reader's other calls return.
 use Rattle.std.proofs.Common.{◌≡◌, ℕ, ◌+◌, ◌≤◌, ◌<◌, ◌^◌, Bool, true, false, nat_lt, ℤ, pos, negsuc, nat_abs, ◌-ℤ◌, ◌≤ℤ◌, List, ◌++◌, Option, Some, None, inl, refl, ap, sym, ◌∙◌, subst, arith}
 use Rattle.std.specs.Prelude.{MatchOption, Result, Ok, Err, String, string_bytes}
 use Rattle.std.proofs.lemmas.Bool.Decides.{nat_tests}
@@ -112,7 +112,7 @@ short_step b comma_due before after level failed old short.Closing e live k =
     subst (λ s. StepsShort b comma_due s (reader_at after level failed) short.Closing) e
     (record { live = live; close = k.step; rest = ap (λ i. record { input = i; unread = after.unread; level = level; failed = failed }) k.same })
 
--- ---- texts and keys without an escape
+-- ---- strings and keys without an escape
 
 took_text : (before after : Cursor) (level : ℕ) (failed : Bool) (span : Span) → level ≤ max_depth → failed ≡ false → TookEscapeFree ReadsEscapeFreeString before after span
     → (u : List ℕ) × TookValue (reader_at before level failed) (text u true) (reader_at after level failed) × IsSliceAt after.input u span.start span.end
@@ -147,7 +147,7 @@ short_colon before after level failed old true e live k =
     subst (λ s. PassesShortColon s (reader_at after level failed) true) e
     (record { live = live; colon = k.0; rest = ap (λ i. record { input = i; unread = after.unread; level = level; failed = failed }) k.1 })
 
--- ---- a text in memory of its own
+-- ---- an owned copy of a text
 
 pub own_value : {A : Type 0} {span : Span} (old mid new : State) (r : Result (String A) Error) → ((u : List ℕ) × TookValue old (text u true) mid × IsSliceAt mid.input u span.start span.end) → OwnsTextAt span mid new r → ReadsAs string_kind string_bytes old new r
 own_value old mid new (Ok t) (u, took, stands) (same, bytes) =

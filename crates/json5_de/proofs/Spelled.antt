@@ -11,7 +11,7 @@ others_before : (b : List ℕ) (names : List (Bor (List ℕ))) → prefix_len (�
 others_before b [] = refl
 others_before b (n ∷ names) = ap (λ k. cond (not (bytes_eq n.now b)) (1 + k) 0) (others_before b names)
 
--- the place of a name among these is its place among their bytes
+-- the index of a name among these is its index among their bytes
 pub place_spelled : (b : List ℕ) (names : List (Bor (List ℕ))) → position (λ n. bytes_eq n.now b) names ≡ position (λ n. bytes_eq n b) (names_bytes names)
 place_spelled b names =
     ap (λ k. cond (nat_lt k (length names)) (Some k) None) (others_before b names)

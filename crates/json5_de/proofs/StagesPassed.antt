@@ -5,7 +5,7 @@ use Rattle.json5_de.specs.Stages.{is_comma_due, is_pending, with_member, with_ke
 use Rattle.json5_de.specs.declared.stage.Stage.{Stage}
 use Rattle.json5_de.specs.declared.stage.Stage.TheVariants as stage
 
--- a comma is due where it was, and after a member
+-- a comma is due if it was due, or if an element was read
 pub comma_after_member : (s : Stage) (given : Bool) → is_comma_due (with_member s given) ≡ (is_comma_due s || given)
 comma_after_member stage.Empty true = refl
 comma_after_member stage.Empty false = refl
@@ -24,7 +24,7 @@ comma_after_key stage.FirstKey true = refl
 comma_after_key stage.Started true = refl
 comma_after_key stage.LaterKey true = refl
 
--- a key waits where one was given and none waited
+-- if no key was pending, one is pending exactly if a key was returned
 pub key_after_key : (s : Stage) (given : Bool) → is_pending s ≡ false → is_pending (with_key s given) ≡ given
 key_after_key s false none = none
 key_after_key stage.Empty true none = refl

@@ -60,12 +60,12 @@ module _ {S : Type 0} (faults : ValueFaults) {step : Step S} {old : MapAccessSta
       by (Ok done) cause = tt
       by (Err e) cause = λ live. one (may_stand step s name) e (record { every = λ t. ap is_some (passes.same s t); fault = cause live })
 
--- ---- the pairs
+-- ---- the members
 
 same_place : (old now : MapAccessState) (e : Error) → SameText old.at.reader now.at.reader → now.at.start ≡ old.at.start → IsAtBracket now.at e → IsAtBracket old.at e
 same_place old now e same_text same_brace there before after = there before (record { rest = after.rest; split = same_text ∙ after.split; counted = same_brace ∙ after.counted })
 
--- a key is given, or none, by a reader that hasn't failed
+-- a reader that returns a key or None hasn't failed
 pub live_before : {X C : Type 0} (content : X → C) (keys : KeyConversion C) (old new : MapAccessState) (o : Option X) → GivesPairKey content keys old new o → old.at.reader.failed ≡ true → ⊥
 live_before content keys old new None (at, comma_due, none) f = true_false f at.live
 live_before content keys old new (Some k) (u, escape_free, took, is, comma_due, waits) f = true_false f took.live
@@ -121,18 +121,18 @@ module _ {S D : Type 0} (plan : Plan S D) (faults : ValueFaults) {old : State} {
   unopened refused = struct_fault (λ live. not_opened refused)
 
   module _ {I : Type 0} {Held : MapAccess I → Type 0} (map : MapAccess I) (opens : OpensMap Held map_state_of old (Ok map)) where
-    -- its pairs were refused
+    -- its members were refused
     pub pairs_refused : RefusesPairs plan.step faults plan.start (map_state_of map) (Err e) → HasFault plan faults old result
     pairs_refused refuses = struct_fault (λ live. in_pairs (map_state_of map) (opened_object map opens) (refuses.cause (begun_live map opens)))
 
-    -- a field is missing, once all were read
+    -- all members were read, and a field is missing
     pub missing_refused : {n : S} {now : MapAccess I} → KeepsMap map now → ReadsPairs plan.step plan.start n (map_state_of map) (map_state_of now) (Ok tt) → plan.build n ≡ None → IsOwnAtBracket (map_state_of now).at e → HasFault plan faults old result
     missing_refused {n = n} {now = now} keeps reads none own = struct_fault (λ live.
         let (ps, are, on) = reads.read in
         let (r, at) = reads.at_brace in
         missing (map_state_of map) (map_state_of now) n r (opened_object map opens) (record { live = reads.live; same_text = keeps.same_text; same_brace = keeps.start; pairs = ps; are = are; read = on }) at none own)
 
--- where all pairs were read its brace is there
+-- after all members were read its brace is there
 pub closes_there : {S : Type 0} {step : Step S} {start n : S} {old now : MapAccessState} {last : State} {e : Error} → ReadsPairs step start n old now (Ok tt) → ClosesMap now last (Err e) → {A : Type 0} → A
 closes_there {now = now} reads closes =
     let (r, at) = reads.at_brace in

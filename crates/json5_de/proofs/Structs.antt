@@ -1,4 +1,4 @@
--- Structs: where each name's value goes, what a pair changes, and how a struct is read.
+-- Structs: which field each name's value goes to, what a member changes, and how a struct is read.
 use Rattle.std.proofs.Common.{◌≡◌, ◌≢◌, ℕ, ◌+◌, ◌≤◌, Bool, true, false, List, ◌∷◌, refl, sym, ap, ◌∙◌, subst, unwrap_or, Option, Some, None, Ok, Err}
 use Rattle.std.proofs.lemmas.Bool.{false≢true, false_from_ne_true}
 use Rattle.std.proofs.lemmas.Slice.Eq.{bytes_eq-Decides}
@@ -34,7 +34,7 @@ pub record Part {S C : Type 0} (step : Step S) (name : List ℕ) (f : Tree → O
   pub takes : (s : S) (t : Tree) → step (set s None) name t ≡ if_some (λ c. set s (Some c)) (f t)
   pub twice : (s : S) (c : C) (t : Tree) → step (set s (Some c)) name t ≡ None
 
--- a pair of this name changes nothing
+-- a member with this name changes nothing
 pub record Passes {S : Type 0} (step : Step S) (name : List ℕ) : Type 0 where
   pub same : (s : S) (t : Tree) → step s name t ≡ Some s
 
@@ -101,7 +101,7 @@ module _ {S T : Type 0} {a : Step S} {b : Step T} {name : List ℕ} where
     abbrev pub in_others : Passes a name → Part b name f → Part (both_steps a b) name f
     in_others q p = record { set = λ s o. (s.0, p.set s.1 o); takes = λ s t. others_take p q s t; twice = λ s c t. others_twice p q s c t }
 
--- ---- one pair
+-- ---- one member
 
 abbrev some_unit : Option (Unit {0})
 some_unit = Some tt
@@ -142,7 +142,7 @@ module _ {S : Type 0} {step : Step S} {old new : MapAccessState} where
           (same ∙ ap (λ o. part.set s o) (one ∙ ap (if_some content) (sym some)), others)
       leaves (Err e) None m t ps r takes left = let (c, is, same) = converted m (convert t) (sym (part.takes s t) ∙ takes) in left refl c is
 
-  -- a pair that changes nothing is passed over
+  -- a member that changes nothing is passed over
   pub passes_pair : {s : S} {name : List ℕ} {result : Result (Unit {0}) Error} → Passes step name → PassesPair old new result → TakesPair step s s name old new result
   passes_pair {s = s} {name = name} {result = result} passes is = record {
     read = reads result is.read;
@@ -162,9 +162,9 @@ module _ {S : Type 0} {step : Step S} {old new : MapAccessState} where
       leaves (Ok done) m ps r same (one, others) = (same, others)
       leaves (Err e) m ps r same memory = memory
 
--- ---- all pairs
+-- ---- all members
 
--- the first pair has the name that is pending
+-- the first member has the name that is pending
 abbrev pub BeginsAt : Option (List ℕ) → Pairs → Type 0
 BeginsAt None ps = Unit {0}
 BeginsAt (Some k) no_pair = ⊥
@@ -177,14 +177,15 @@ StandsFor None (Some w) = ⊥
 StandsFor (Some k) None = ⊥
 StandsFor (Some k) (Some (u, escape_free)) = encode_utf8_all u ≡ k
 
--- of pairs that make m of what was read these are left
+-- of the members that make m of what was read, these are left
 pub record StillLeft {S : Type 0} (step : Step S) (s m : S) (key : Option (List ℕ)) (r : List ℕ) (now : MapAccessState) : Type 0 where
   pub pairs : Pairs
   pub are : run step s pairs ≡ Some m
   pub begins : BeginsAt key pairs
   pub left : PairsLeft pairs r now
 
--- a struct in the midst of its pairs, perhaps after a key: s is what was read of its fields since `old`, and where all pairs may stand the others are left
+-- a struct between two members, or after a key: s is what was read of its fields since `old`, and if the struct may have all members,
+-- the others are left
 pub record ReadingStruct {S : Type 0} (step : Step S) (start : S) (old : MapAccessState) (s : S) (key : Option (List ℕ)) (now : MapAccessState) : Type 0 where
   pub live : old.at.reader.failed ≡ false → now.at.reader.failed ≡ false
   pub pairs : Pairs
@@ -198,7 +199,7 @@ abbrev or_text : List ℕ → Option (List ℕ) → List ℕ
 or_text other None = other
 or_text other (Some k) = k
 
--- one pair more
+-- one member more
 run_snoc : {S : Type 0} (step : Step S) (s n m : S) (ps : Pairs) (u : List ℕ) (escape_free : Bool) (t : Tree) → run step s ps ≡ Some n → step n (encode_utf8_all u) t ≡ Some m → run step s (snoc_pair ps u escape_free t) ≡ Some m
 run_snoc step s n m no_pair u escape_free t is next = let same : s ≡ n = cc in rw (same, next) refl
 run_snoc {S} step s n m (pair v allocation_free w ps) u escape_free t is next = by (step s (encode_utf8_all v) w) is (λ x rest. run_snoc step x n m ps u escape_free t rest next)
@@ -211,18 +212,18 @@ none_left : {S X : Type 0} (step : Step S) (content : X → List ℕ) (s z : S) 
 none_left step content s z new no_pair r are left = (cc are, left)
 none_left step content s z new (pair u escape_free t ps) r are left = absurd left
 
--- a key that was given leaves a reader that hasn't failed
+-- a call that returned a key leaves a reader that hasn't failed
 pub live_after_key : {X C : Type 0} (content : X → C) (keys : KeyConversion C) (old new : MapAccessState) (k : X) → GivesPairKey content keys old new (Some k) → old.at.reader.failed ≡ false → new.at.reader.failed ≡ false
 live_after_key content keys old new k (u, escape_free, took, is, comma_due, waits) live = ap (λ (s : State). s.failed) took.rest ∙ live
 
 pub live_at_brace : {X C : Type 0} (content : X → C) (keys : KeyConversion C) (old new : MapAccessState) → GivesPairKey content keys old new None → new.at.reader.failed ≡ false
 live_at_brace content keys old new (at, comma_due, none) = ap (λ (s : State). s.failed) at.rest ∙ at.live
 
--- where no key is given the brace is next
+-- if no key is returned, the brace is next
 pub brace_next : {X C : Type 0} (content : X → C) (keys : KeyConversion C) (old new : MapAccessState) → GivesPairKey content keys old new None → (x : List ℕ) × (new.at.reader.unread ≡ right_brace ∷ x)
 brace_next content keys old new (at, comma_due, none) = let (r, close, next) = at.close in (r, next)
 
--- none is read yet
+-- no member is read yet
 pub no_pairs : {S : Type 0} (step : Step S) (s : S) (old : MapAccessState) → ReadingStruct step s old s None old
 no_pairs step s old = record { live = λ l. l; pairs = no_pair; are = refl; waits = None; named = tt; read = λ from p. p; left = λ ps r m is left. record { pairs = ps; are = is; begins = tt; left = left } }
 
@@ -275,7 +276,7 @@ module _ {S : Type 0} {step : Step S} {start : S} {old : MapAccessState} where
         left = λ ps r z are left. let w = m.left ps r z are left in by z w.pairs r w.are w.begins w.left;
       }
 
-  -- no key was given: all pairs were read
+  -- no key was returned: all members were read
   pub all_read : {X : Type 0} (content : X → List ℕ) {s : S} {at new : MapAccessState} → ReadingStruct step start old s None at → new.at.reader.failed ≡ false → (x : List ℕ) × (new.at.reader.unread ≡ right_brace ∷ x) → ReadsAKey content every_text at new None
       → ((ps : Pairs) (r : List ℕ) → PairsLeft ps r at → LeavesAValue content every_text ps r new (Ok None)) → ReadsPairs step start s old new (Ok tt)
   all_read content {s = s} {new = new} m live brace on fewer = record {
@@ -340,7 +341,7 @@ module _ {S D : Type 0} (plan : Plan S D) {I : Type 0} {Held : MapAccess I → T
       let (ps, are, on) = reads.read in
       (object ps, subst (λ e. TookValue old (object ps) e) (sym same) (ends old ps (on old opens.read)), plan.says ps ∙ ap (if_more plan.build) are ∙ is)
 
-  -- the refusal of its pairs isn't `Failed`
+  -- the refusal of its members isn't `Failed`
   pub fields_unprompted : {n : S} {now : MapAccessState} {U : Type 0} (e : Error) (result : Result U Error) → IsErrAnd result (λ y. y ≡ e) → ReadsPairs plan.step plan.start n (map_state_of map) now (Err e) → Unprompted old result
   fields_unprompted e result is_err reads = handed_on (λ r. Unprompted old r) e result is_err (λ live. reads.unprompted opened_live)
 
@@ -351,11 +352,11 @@ module _ {S D : Type 0} (plan : Plan S D) {I : Type 0} {Held : MapAccess I → T
         let (m, are, built) = parts plan.build (run plan.step plan.start ps) d (sym (plan.says ps) ∙ converts) in
         k ps r m d are built (opens.left ps r live (subst (λ u. Reads old.unread u r) same reads) (subst (λ u. old.level + depth u ≤ max_depth) same shallow)))
 
-    -- its pairs were refused
+    -- its members were refused
     pub fields_complete : {n : S} {now : MapAccessState} → IsErrAnd result (λ y. y ≡ e) → ReadsPairs plan.step plan.start n (map_state_of map) now (Err e) → Completes (object_of plan.convert) old result
     fields_complete is_err reads = completes_as is_err (λ ps r m d are built left. reads.left ps r m are left)
 
-    -- all its pairs were read, and they make no struct
+    -- all its members were read, and they make no struct
     pub missing_completes : {n : S} {now : MapAccessState} → IsErrAnd result (λ y. y ≡ e) → ReadsPairs plan.step plan.start n (map_state_of map) now (Ok tt) → plan.build n ≡ None → Completes (object_of plan.convert) old result
     missing_completes is_err reads none = completes_as is_err (λ ps r m d are built left.
         let (same, rest) = reads.left ps r m are left in

@@ -21,6 +21,6 @@ pub took_characters : {A : Type 0} (t : String A) (old new : State) → all_scal
 took_characters t old new scalars (s, u, escape_free, took, str, bytes) =
     (s, escape_free, took, subst (λ z. Str s z escape_free) (sym (text_characters old.unread new.unread (string_bytes t) took.split scalars str bytes)) str)
 
--- a string that was taken, its text in memory of its own
+-- a string was taken, its text an owned copy
 pub took_owned : {A : Type 0} (t : String A) (old new : State) → all_scalars old.unread ≡ true → TookOwned old new t → TakesOwnString old new (Ok t)
 took_owned t old new scalars taken = record { taken = taken; characters = took_characters t old new scalars taken; refused = tt; failed = tt }

@@ -114,7 +114,7 @@ not_begun l content old new e k failed before = refuses l content old new e (ref
 pub refuses_after : {V C : Type 0} {kind : Kind C} → IsLawful kind → (content : V → C) (old mid new : State) (e : Error) → PassedGap old mid → Refused kind.IsFault (cursor_of mid) e → GivesUp mid new → ReadsAs kind content old new (Err e)
 refuses_after l content old mid new e p k failed = refuses l content old new e (refused_token old mid e p k) (given_up old mid new p failed) (λ f. true_false f p.live)
 
--- the same, or memory ran out, where no tree is free
+-- the same, or memory ran out, if no tree is read without memory
 pub refuses_value : {V C : Type 0} {kind : Kind C} → IsLawful kind → kind.may_lack_memory ≡ true → ((t : Tree) → kind.allocation_free t ≡ false) → (content : V → C) (old mid new : State) (e : Error) → PassedGap old mid → RefusedByOrMemory kind.IsFault old e → GivesUp mid new
     → ReadsAs kind content old new (Err e)
 refuses_value {V = V} {kind = kind} l m none content old mid new e p k failed = reads_err l content old new e
@@ -123,7 +123,7 @@ refuses_value {V = V} {kind = kind} l m none content old mid new e p k failed = 
     (given_up old mid new p failed)
     (λ h. true_false h p.live)
 
--- memory ran out after the token was taken, where no tree is free
+-- memory ran out after the token was taken, if no tree is read without memory
 pub refuses_memory : {V C : Type 0} {kind : Kind C} → IsLawful kind → kind.may_lack_memory ≡ true → ((t : Tree) → kind.allocation_free t ≡ false) → (content : V → C) (old mid new last : State) (e : Error) (s : List ℕ) → PassedGap old mid → TookText mid s new → LacksMemory e
     → GivesUp new last → ReadsAs kind content old last (Err e)
 refuses_memory {V = V} {kind = kind} l m none content old mid new last e s p k is failed = reads_err l content old last e
@@ -153,7 +153,7 @@ lawful_decimal = record { expected = expects_number every_decimal; lacks = numbe
 
 -- ---- whole numbers
 
--- the number in front was refused, which a whole one isn't
+-- the number in front was refused, and a whole number isn't refused
 pub number_refused : {V C : Type 0} (f : ℤ → Option C) (content : V → C) (old mid new : State) (e : Error) → PassedGap old mid → LacksMemory e ⊎ Refused FaultyNumber (cursor_of mid) e → GivesUp mid new
     → ((s r : List ℕ) (n : Number) → mid.unread ≡ s ++ r → Num s n → NotBegun (lengthens s) r → keeps_digits n ≡ false → false ≡ true)
     → ReadsAs (whole_kind f) content old new (Err e)
@@ -174,7 +174,7 @@ not_whole f content old mid new last (Err e) start s n p k num stops none at is 
     (given_up_after old mid new last s p k failed)
     (λ h. true_false h p.live)
 
--- what is no whole number is none in a range
+-- what is no whole number is no whole number in a range
 pub narrower : {V W C : Type 0} (f : ℤ → Option C) (wide : V → ℤ) (content : W → C) (old new : State) (e : Error) → ReadsAs (whole_kind (λ z. Some z)) wide old new (Err e) → ReadsAs (whole_kind f) content old new (Err e)
 narrower {C = C} f wide content old new e k =
     reads_err (lawful_whole f) content old new e
@@ -221,7 +221,7 @@ pub out_of_range : {V C : Type 0} (f : ℤ → Option C) (content : V → C) (ol
     → ReadsAs (whole_kind f) content old last result
 out_of_range f content old new last result start z w none is failed = not_whole f content old w.between new last result start w.phrase (whole z) w.passed w.took w.is_number w.stops none w.counted is failed
 
--- ---- texts
+-- ---- strings
 
 pub lawful_coded : {C : Type 0} (other : Option ErrorCode) → other ≢ Some codes.Failed → (f : List ℕ → Bool → Option C) (allocation_free : Tree → Bool) → IsLawful (coded_text_kind other f allocation_free)
 lawful_coded other h f allocation_free = record { expected = expects_text other f; lacks = text_lacks other h f }
@@ -263,7 +263,7 @@ escape_free_converts (text u false) e = absurd (cc)
 escape_free_converts (array ts) e = absurd (cc)
 escape_free_converts (object ps) e = absurd (cc)
 
--- an escape-free text takes no memory
+-- an escape-free string takes no memory
 pub escape_free_completes : {V C : Type 0} (convert : Tree → Option C) (old mid : State) (result : Result V Error) → PassedGap old mid → ((s u r : List ℕ) → mid.unread ≡ s ++ r → Str s u true → IsOk result) → CompletesFree escape_free_text convert old result
 escape_free_completes convert old mid result p ok t r c live reads shallow is allocation_free =
     let (v, converts) = escape_free_converts t allocation_free in
@@ -280,7 +280,7 @@ escape_free_refused content old mid new e p k failed ok =
 
 -- ---- the codes
 
--- the same answers, with the faults alone
+-- the same results, with the faults alone
 abbrev Answers : {V C : Type 0} → (m : Bool) → FaultRelation → (Tree → Option C) → (V → C) → State → State → Result V Error → Type 0
 Answers m F convert content old new result = IfOk result (λ v. Gives content convert old new v) × IfErr result (RefusedWith m F old)
 

@@ -1,4 +1,4 @@
--- The codes where a value of any kind is expected: at the end, and at a character that begins none.
+-- The codes where a value of any kind is expected: at the end, and at a character that begins no value.
 use Rattle.std.proofs.Common.{◌≡◌, ℕ, ◌-◌, ◌≤◌, Bool, true, false, List, [], ◌∷◌, ◌++◌, length, refl, ap, sym, ◌∙◌, arith, length-append, Option, Some, None}
 use Rattle.std.specs.Prelude.{nat_le, if◌then◌else◌, Result, Ok, Err, IfOk, IfErr}
 use Rattle.std.proofs.lemmas.Bool.Decides.{nat_tests}
@@ -22,7 +22,7 @@ use Rattle.json5_de.specs.State.{State}
 use Rattle.json5_de.proofs.Expected.{Expected, ends_or_memory, differs_or_memory}
 use Rattle.json5_de.proofs.TreesRead.{forget_bad}
 
--- the trees that may stand within so many brackets
+-- the trees that fit within so many brackets
 abbrev shallow : {C : Type 0} → ℕ → (Tree → Option C) → Tree → Option C
 shallow level convert t = if nat_le (depth t) (max_depth - level) then convert t else None
 

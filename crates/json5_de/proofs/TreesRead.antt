@@ -87,7 +87,7 @@ readable old mid e t r p reads low b =
     let clash : got tt r ≡ bad b.reason b.place = sym whole ∙ b.is_bad in
     absurd (cc)
 
--- the place of a fault in the rest of the text
+-- the position of a fault in the rest of the input
 placed_in : (mid : State) (reason : Option ErrorCode) (p : Place) (e : Error) → read (max_depth - mid.level) mid.unread ≡ bad reason p → Says reason e → HasPositionAt mid.input p e → IsIn mid.unread p → Refused (ReadingRefuses mid.level) (cursor_of mid) e
 placed_in mid reason (here q) e is says (front, whole, place) (b, split) = record {
   reason = reason;

@@ -92,7 +92,7 @@ module _ {V C : Type 0} (content : V → C) (convert : Tree → Option C) (alloc
       failed = k.failed;
     }
 
-  -- a text, where content is expected
+  -- a string, where content is expected
   pub text_refused : (old : EnumAccessState) (new : State) (e : Error) → old.has_content ≡ false → IsMismatch old.reader.input old.start e → GivesUp old.reader new → ReadsVariant content (content_of convert) (content_free allocation_free) refuses old new (Err e)
   text_refused old new e none is failed = record {
     read = tt;
@@ -108,7 +108,7 @@ module _ {V C : Type 0} (content : V → C) (convert : Tree → Option C) (alloc
       lacks None r d l e = absurd (cc)
       lacks (Some t) r d l e = true_false l.content none
 
--- a text is a variant without content
+-- a string is a variant without content
 pub text_is_unit : (allocation_free : Option Tree → Bool) (refuses : State → Error → State → Type 0) (old : EnumAccessState) (new : State) → old.has_content ≡ false → new ≡ old.reader → ReadsVariant {V = Unit {0}} (λ v. tt) unit_content allocation_free refuses old new (Ok tt)
 text_is_unit allocation_free refuses old new none same = record {
   read = λ names from n.

@@ -1,4 +1,4 @@
--- The name of a variant: what stands where one is read, and what is refused there.
+-- The name of a variant: what is read, and what is refused.
 use Rattle.std.proofs.Common.{◌≡◌, ℕ, ◌≤◌, ◌+◌, Bool, true, false, List, [], ◌∷◌, ◌++◌, length, refl, ap, sym, ◌∙◌, subst, arith, ◌⊎◌, inl, inr, Option, Some, None, Ok, Err}
 use Rattle.std.specs.Prelude.{◌==◌, is_some, IsOk}
 use Rattle.std.specs.Str.{encode_utf8_all}
@@ -53,7 +53,7 @@ use Rattle.json5_de.proofs.FoundKeys.{no_fault_before}
 
 -- ---- what is next where a variant is named
 
--- a text begins with a quote, an object with its brace
+-- a string begins with a quote, an object with its brace
 pub data VariantAt (c : ℕ) : Tree → Type 0 where
   at_text : (u : List ℕ) (escape_free : Bool) → is_quote c ≡ true → VariantAt c (text u escape_free)
   at_object : (u : List ℕ) (escape_free : Bool) (t : Tree) → c ≡ 123 → VariantAt c (object (pair u escape_free t no_pair))
@@ -74,7 +74,7 @@ variant_at names x (is_array m) e = absurd (cc)
 variant_at names x (is_empty_object {w = w} b) e = absurd (cc)
 variant_at names x (is_object {m = m} {ps = ps} k) e = (123, m ++ 125 ∷ [], refl, object_at 123 names x ps refl e)
 
--- what stands after the gap begins so
+-- what follows the gap begins so
 pub variant_next : (names : List (List ℕ)) (x : ℕ × Option Tree) (y : List ℕ) (c : ℕ) (m r : List ℕ) (t : Tree) → Solid y → y ≡ c ∷ m → Reads y t r → named_variant names t ≡ Some x → VariantAt c t
 variant_next names x y c m r t solid next reads e =
     let (d, z, is, at) = variant_at names x reads.value e in
@@ -94,7 +94,7 @@ named_as : (o : Option ℕ) (n k : ℕ) (b c : Option Tree) → o ≡ Some n →
 named_as None n k b c e f = absurd (cc)
 named_as (Some i) n k b c e f = let m : i ≡ n = cc in let (p, q) = same_pair (i, b) (k, c) f in (sym m ∙ p, q)
 
--- what was read before a content is what stands there
+-- what was read before a content is what the content follows
 at_content_left : (names : List (List ℕ)) (from now : State) (u v r : List ℕ) (p q : Bool) (w : Tree) → AtContent from u p now → Reads from.unread (object (pair v q w no_pair)) r
     → (u ≡ v) × (p ≡ q) × (z : List ℕ) × Reads now.unread w z × IsBrace true z r
 at_content_left names from now u v r p q w at reads =
@@ -119,7 +119,7 @@ inside_text from now u p at = input_of at.colon.rest ∙ input_of at.key.rest
 
 module _ (names : List (List ℕ)) (from : State) (s : EnumAccessState) (n : NameRead names from s) (t : Tree) (r : List ℕ) (k : ℕ) (c : Option Tree) (reads : Reads from.unread t r) (shallow : from.level + depth t ≤ max_depth)
     (is : named_variant names t ≡ Some (k, c)) where
-  -- a text was read
+  -- a string was read
   text_left : s.has_content ≡ false → TookValue from (text n.name n.escape_free) s.reader → (s.variant ≡ k) × ContentLeft c r s
   text_left none took =
       let (same, here) = one_phrase from.unread s.reader.unread r (text n.name n.escape_free) t took.reads reads in
@@ -172,7 +172,7 @@ module _ (names : List (List ℕ)) (from : State) (s : EnumAccessState) (n : Nam
       by false is took = text_left is took
       by true is at = keyed_left is at
 
--- the reader after the name reads the same text
+-- the reader after the name reads the same input
 same_text_after : (b : Bool) (from now : State) (u : List ℕ) (escape_free : Bool) → AfterName b from u escape_free now → SameText from now
 same_text_after false from now u escape_free took = input_of took.rest
 same_text_after true from now u escape_free at = inside_text from now u escape_free at
@@ -230,7 +230,7 @@ module _ {A : Type 0} (names : List (List ℕ)) (state_of : A → EnumAccessStat
     before = λ h. absurd (true_false h next.passed.live);
   }
 
-  -- neither a text nor an object is next
+  -- neither a string nor an object is next
   pub names_nothing : (e : Error) → RefusedBy NoVariant old e → (old.failed ≡ true → IsUnplaced codes.Failed e) → ((t : Tree) (r : List ℕ) (x : ℕ × Option Tree) → old.failed ≡ false → Reads old.unread t r → named_variant names t ≡ Some x → ⊥)
       → NamesVariant names state_of old (Err e)
   names_nothing e f before nothing = record {
@@ -244,7 +244,7 @@ module _ {A : Type 0} (names : List (List ℕ)) (state_of : A → EnumAccessStat
     before = before;
   }
 
-  -- the text or the object that is next is refused
+  -- the string or the object that is next is refused
   pub names_refused : (e : Error) (start : State) → IsNext begins_variant old start → RefusesName names old e → (old.failed ≡ false → IsUnprompted e)
       → ((t : Tree) (r : List ℕ) (k : ℕ) (c : Option Tree) → Reads start.unread t r → start.level + depth t ≤ max_depth → named_variant names t ≡ Some (k, c) → IsOutOfMemory e) → NamesVariant names state_of old (Err e)
   names_refused e start next f other left = record {
@@ -308,7 +308,7 @@ content_after old mid now u escape_free p at = record { keyed = at.keyed; key = 
       rest = e.rest ∙ ap (λ (m : State). record m { unread = at.keyed.unread; level = m.level + 1 }) p.rest;
     }
 
--- the whole object, once its value and the closing brace were read
+-- the whole object, after its value and the closing brace were read
 pub whole_variant : (from now after new : State) (u : List ℕ) (escape_free : Bool) (t : Tree) → AtContent from u escape_free now → TookValue now t after → Closed curly true after new → TookValue from (object (pair u escape_free t no_pair)) new
 whole_variant from now after new u escape_free t at took closed =
     all_read from (bare_map after true false) new (pair u escape_free t no_pair) closed
@@ -414,7 +414,7 @@ only_key_refused names old inside new start o own e k placed =
       failed = record { failed = k.failed.failed; same_text = k.failed.same_text ∙ input_of opened.rest };
     }
 
--- ---- the name, whichever stands there
+-- ---- the name, by a string or by an object
 
 place_named : (o : Option ℕ) (k : ℕ) (b c : Option Tree) → if_some {B = ℕ × Option Tree} (λ i. (i, b)) o ≡ Some (k, c) → o ≡ Some k
 place_named None k b c e = absurd (cc)
@@ -435,7 +435,7 @@ brace_next : {old mid : State} → PassedGap old mid → FirstCharIs is_left_bra
 brace_next p h = record { passed = p; first = record { char = h.char; more = h.more; split = h.split; is_first = or_right (is_quote h.char) (is_left_brace h.char) h.is_first } }
 
 module _ (names : List (List ℕ)) (old mid : State) (p : PassedGap old mid) (start : ℕ) (counted : (before : List ℕ) → mid.input ≡ before ++ mid.unread → start ≡ length (encode_utf8_all before)) where
-  -- a text
+  -- by a string
   pub text_named : {A : Type 0} (state_of : A → EnumAccessState) (new : State) (a : A) (k : ℕ) → FirstCharIs is_quote mid.unread → state_of a ≡ record { reader = new; start = start; variant = k; has_content = false } → ReadsAs {V = ℕ} (variant_kind names) (λ n. n) mid new (Ok k) → NamesVariant names state_of old (Ok a)
   text_named state_of new a k h same reads =
       let (t, took, is) = reads.sound in
@@ -505,7 +505,7 @@ neither : (x : List ℕ) → NotBegun is_quote x → NotBegun is_left_brace x �
 neither [] a b = tt
 neither (c ∷ x) a b = rw (a, b) refl
 
--- neither stands there
+-- there is neither
 pub no_name_begun : {A : Type 0} (names : List (List ℕ)) (state_of : A → EnumAccessState) (old mid : State) → PassedGap old mid → (e : Error) → NotBegun is_quote mid.unread → NotBegun is_left_brace mid.unread → Refused (Unexpected codes.EofParsingValue codes.ExpectedStringOrObject) (cursor_of mid) e → NamesVariant names state_of old (Err e)
 no_name_begun names state_of old mid p e a b f =
     let n = neither mid.unread a b in

@@ -1,4 +1,4 @@
--- What stands after the blanks where a whole number or an escape-free text can be read.
+-- What follows the blanks where a whole number or an escape-free string can be read.
 use Rattle.std.proofs.Common.{◌≡◌, ℕ, Bool, true, false, List, ◌++◌, refl, ap, sym, ◌∙◌, subst, Option, Some, None, ℤ}
 use Rattle.json5_grammar.specs.Language.Blanks.{Gap}
 use Rattle.json5_grammar.specs.Language.Numbers.{Number, whole, decimal, Num}
@@ -48,7 +48,7 @@ no_other_number f old mid new s n t r v p k num stops none h is =
     let one = one_number num there stops h.stops (sym k.split ∙ phrase_after old mid t r p h) in
     none_some (f m) v (sym (ap f one.1) ∙ none) e
 
--- ---- texts
+-- ---- strings
 
 -- a string without an escape
 pub record EscapeFreeThere (x r : List ℕ) : Type 0 where
@@ -66,7 +66,7 @@ escape_free_there old mid t r v p h is =
     let (u, escape_free, str, e) = text_phrase if_escape_free v is h.value in
     record { string = h.phrase; text = u; split = phrase_after old mid t r p h; is_string = subst (Str h.phrase u) (is_escape_free u escape_free v e) str }
 
--- a text that isn't of the type isn't one that is
+-- a string whose text doesn't convert is none that converts
 pub no_other_text : {C : Type 0} (f : List ℕ → Bool → Option C) (old mid new : State) (s u : List ℕ) (escape_free : Bool) (t : Tree) (r : List ℕ) (v : C) → PassedGap old mid → TookText mid s new → Str s u escape_free → f u escape_free ≡ None → Reads old.unread t r
     → as_text f t ≡ Some v → ⊥
 no_other_text f old mid new s u escape_free t r v p k str none h is =

@@ -29,7 +29,7 @@ pub record AccessState : Type 0 where
   pub start : ℕ
   pub comma_due : Bool
 
--- a reader seen so, wherever the bracket stands
+-- a reader as an access, wherever the bracket is
 abbrev pub bare : State → Bool → AccessState
 bare reader comma_due = record { reader = reader; start = 0; comma_due = comma_due }
 
@@ -42,19 +42,19 @@ pub record Opened (b : Brackets) (old new : State) : Type 0 where
   pub bracket : IsSign b.opening old.unread new.unread
   pub rest : new ≡ record old { unread = new.unread; level = old.level + 1 }
 
--- the closing bracket was taken, after a comma where one may stand, and one bracket less is open
+-- the closing bracket was taken, after a comma if one is there and may be, and one bracket less is open
 pub record Closed (b : Brackets) (comma_due : Bool) (old new : State) : Type 0 where
   pub live : old.failed ≡ false
   pub close : IsEnd b.closing comma_due old.unread new.unread
   pub rest : new ≡ record old { unread = new.unread; level = old.level - 1 }
 
--- the closing bracket is next, after the comma that may stand there
+-- the closing bracket is next, after a comma if one is there and may be
 pub record AtClose (b : Brackets) (comma_due : Bool) (old new : State) : Type 0 where
   pub live : old.failed ≡ false
   pub close : (r : List ℕ) × IsEnd b.closing comma_due old.unread r × (new.unread ≡ b.closing ∷ r)
   pub rest : OnlyRead old new
 
--- nothing is refused where the closing bracket goes on
+-- nothing is refused if the closing bracket follows
 abbrev pub CompletesClose : {V : Type 0} → Brackets → AccessState → Result V Error → Type 0
 CompletesClose b old result = (r : List ℕ) → old.reader.failed ≡ false → IsEnd b.closing old.comma_due old.reader.unread r → IsOk result
 
@@ -67,7 +67,7 @@ pub record TookElement (comma_due : Bool) (old : State) (t : Tree) (new : State)
   pub shallow : old.level + depth t ≤ max_depth
   pub rest : OnlyRead old new
 
--- an element was read and stands for v, or the closing bracket is next
+-- an element was read and v is its value, or the closing bracket is next
 abbrev pub GivesElement : {V C : Type 0} → (V → C) → (Tree → Option C) → AccessState → AccessState → Option V → Type 0
 GivesElement content convert old new (Some v) = (t : Tree) × TookElement old.comma_due old.reader t new.reader × (new.comma_due ≡ true) × (convert t ≡ Some (content v))
 GivesElement content convert old new None = AtClose square old.comma_due old.reader new.reader × (new.comma_due ≡ old.comma_due)
@@ -77,7 +77,7 @@ abbrev pub CompletesElement : {V C : Type 0} → (Tree → Option C) → AccessS
 CompletesElement {C = C} convert old result =
     (t : Tree) (r : List ℕ) (c : C) → old.reader.failed ≡ false → IsElement old.comma_due old.reader.unread t r → old.reader.level + depth t ≤ max_depth → convert t ≡ Some c → IsOkOrMemory result
 
--- where an element that converts to c stands, the answer is Ok of an element whose content is c, unless memory runs out
+-- if an element that converts to c is next, the call returns Ok of an element whose content is c, unless memory runs out
 abbrev pub ReadsElement : {V C : Type 0} → (V → C) → (Tree → Option C) → AccessState → Result (Option V) Error → Type 0
 ReadsElement {C = C} content convert old result =
     (t : Tree) (r : List ℕ) (c : C) → old.reader.failed ≡ false → IsElement old.comma_due old.reader.unread t r → old.reader.level + depth t ≤ max_depth → convert t ≡ Some c
@@ -85,7 +85,7 @@ ReadsElement {C = C} content convert old result =
 
 -- ---- an array as a whole: what was read of it, and what is left
 
--- an array begins at `from`, these elements of it were read, and perhaps what stands before the closing bracket, the last comma included
+-- an array begins at `from`, these elements of it were read, and perhaps what is before the closing bracket, the last comma included
 pub record ElementsRead (from : State) (ts : Trees) (now : AccessState) : Type 0 where
   pub live : from.failed ≡ false
   pub shallow : from.level + depth (array ts) ≤ max_depth
@@ -96,19 +96,19 @@ pub record ElementsRead (from : State) (ts : Trees) (now : AccessState) : Type 0
   pub here : (now.reader.unread ≡ after) ⊎ IsAtClose now.comma_due after now.reader.unread
   pub rest : now.reader ≡ record from { unread = now.reader.unread; level = from.level + 1 }
 
--- these elements are left, after a comma where one is due, and then the closing bracket, with r after it; none is too deep
+-- these elements are left, after a comma if one is due, and then the closing bracket, with r after it; no element is too deep
 pub record ElementsLeft (ts : Trees) (r : List ℕ) (now : AccessState) : Type 0 where
   pub live : now.reader.failed ≡ false
   pub shallow : now.reader.level + depths ts ≤ max_depth
   pub tail : Tail ts now.comma_due now.reader.unread r
 
--- one element more was read, which stands for v; or none, and what was read is the same (that the bracket is next says `GivesElement`)
+-- one element more was read, and v is its value; or no element, and what was read is the same (`GivesElement` says that the bracket is next)
 abbrev pub ReadsMore : {V C : Type 0} → (V → C) → (Tree → Option C) → AccessState → AccessState → Option V → Type 0
 ReadsMore content convert old new (Some v) = (t : Tree) × (convert t ≡ Some (content v)) × ((from : State) (ts : Trees) → ElementsRead from ts old → ElementsRead from (snoc ts t) new)
 ReadsMore content convert old new None = (from : State) (ts : Trees) → ElementsRead from ts old → ElementsRead from ts new
 
--- where elements are left and the first converts, it was read, unless memory ran out, and the others are left; where none is left, none was given.
--- Nothing is said of the refusal of one that doesn't convert.
+-- if elements are left and the first converts, it was read, unless memory ran out, and the others are left; if no element is left, None was returned.
+-- Nothing is said of the refusal of an element that doesn't convert.
 abbrev pub LeavesFewer : {V C : Type 0} → (V → C) → (Tree → Option C) → Trees → List ℕ → AccessState → Result (Option V) Error → Type 0
 LeavesFewer content convert no_more r new (Ok None) = ElementsLeft no_more r new
 LeavesFewer content convert no_more r new (Ok (Some v)) = ⊥
@@ -117,13 +117,13 @@ LeavesFewer content convert (more t ts) r new (Ok (Some v)) = (convert t ≡ Som
 LeavesFewer content convert (more t ts) r new (Ok None) = ⊥
 LeavesFewer {C = C} content convert (more t ts) r new (Err e) = (c : C) → convert t ≡ Some c → IsOutOfMemory e
 
--- ---- places
+-- ---- positions
 
--- the same fault, at the opening bracket where it had no place
+-- the same fault, at the opening bracket if it had no position
 abbrev pub PlacedAtBracket : AccessState → Error → Error → Type 0
 PlacedAtBracket s own e = PlacedAt (StartsAfter s.reader.input s.start) own e
 
--- the fault's place is the opening bracket
+-- the fault's position is the opening bracket
 abbrev pub IsAtBracket : AccessState → Error → Type 0
 IsAtBracket s e = (before : List ℕ) → StartsAfter s.reader.input s.start before → place_of e ≡ Some (position_after before)
 
@@ -131,14 +131,14 @@ IsAtBracket s e = (before : List ℕ) → StartsAfter s.reader.input s.start bef
 abbrev pub IsFailedAtBracket : AccessState → Error → Type 0
 IsFailedAtBracket s e = (kind_of e ≡ code codes.Failed) × IsAtBracket s e
 
--- a call after a refusal answers so
+-- a call after a refusal returns `Failed` at the opening bracket
 abbrev pub AnswersFailedAtBracket : {V : Type 0} → AccessState → Result V Error → Type 0
 AnswersFailedAtBracket s result = s.reader.failed ≡ true → IsErrAnd result (IsFailedAtBracket s)
 
 abbrev pub HasPosition : Error → Type 0
 HasPosition e = place_of e ≢ None
 
--- after the blanks w stands an opening bracket, where no more may be open
+-- an opening bracket follows the blanks w, and no more brackets may be open
 pub record AtFull (b : Brackets) (old : State) (w : List ℕ) : Type 0 where
   pub live : old.failed ≡ false
   pub full : old.level ≡ max_depth
@@ -159,13 +159,13 @@ is_opening b c = c == b.opening
 abbrev pub is_comma_or_closing : Brackets → ℕ → Bool
 is_comma_or_closing b c = (c == comma_sign) || (c == b.closing)
 
--- the closing bracket, and before it the comma that may stand there
+-- the closing bracket, or the comma that may be before it
 abbrev pub begins_close : Brackets → Bool → ℕ → Bool
 begins_close b comma_due c = (c == b.closing) || (comma_due && (c == comma_sign))
 
 -- ---- what is refused
 
--- where an opening bracket is expected, and so many are open: none, or one too many
+-- where an opening bracket is expected, and so many are open: there is no bracket, or it is one too many
 pub data NotOpened (b : Brackets) (level : ℕ) : List ℕ → Option ErrorCode → Option (List ℕ) → Type 0 where
   no_bracket : (c : ℕ) (r : List ℕ) → (c == b.opening) ≡ false → NotOpened b level (c ∷ r) (Some b.not_opened) (Some [])
   text_ends : NotOpened b level [] (Some b.ends) None
@@ -176,7 +176,7 @@ pub data NoBracket (b : Brackets) (comma : Bool) : List ℕ → Option ErrorCode
   other_sign : (c : ℕ) (r : List ℕ) → (c == b.closing) ≡ false → (comma ≡ true → (c == comma_sign) ≡ false) → NoBracket b comma (c ∷ r) (Some b.not_closed) (Some [])
   bracket_missing : NoBracket b comma [] (Some b.ends) None
 
--- where the closing bracket is expected, and a comma before it where one is due
+-- where the closing bracket is expected, and a comma before it may be
 pub data NotClosed (b : Brackets) (comma_due : Bool) : List ℕ → Option ErrorCode → Option (List ℕ) → Type 0 where
   not_here : {x : List ℕ} {reason : Option ErrorCode} {place : Option (List ℕ)} → NoBracket b comma_due x reason place → NotClosed b comma_due x reason place
   after_comma : {x : List ℕ} {reason : Option ErrorCode} {place : Option (List ℕ)} → comma_due ≡ true → AfterBlanks (NoBracket b false) x reason place
@@ -210,7 +210,7 @@ pub record ClosesAs (b : Brackets) (comma_due : Bool) (old new : State) (result 
   pub unprompted : Unprompted old result
   pub before : AnswersFailed old result
 
--- an array is opened by an access that holds the reader so: nothing was read of it, and where one can be read its elements are left
+-- an array is opened by an access that holds the reader so: nothing of it was read, and if an array can be read, its elements are left
 pub record OpensArray {A : Type 0} (Held : A → Type 0) (state_of : A → AccessState) (old : State) (result : Result A Error) : Type 0 where
   pub held : IfOk result Held
   pub bracket : OpensAs square state_of old result

@@ -1,4 +1,4 @@
--- What is read where a value of any kind stands, and what is refused there.
+-- How a value of any kind is read, and how it is refused.
 use Rattle.std.specs.Prelude.{◌≡◌, ◌⊎◌, ◌-◌, ℕ, Bool, false, Option, Some, Result}
 use Rattle.json5_grammar.specs.declared.code.ErrorCode.TheVariants as codes
 use Rattle.json5_grammar.specs.Language.Documents.{max_depth}
@@ -13,12 +13,12 @@ use Rattle.json5_de.specs.State.{State, cursor_of}
 use Rattle.json5_de.specs.Law.{ReadsValue}
 use Rattle.json5_de.specs.Faults.{FaultRelation, RefusedByOr, EndsWithOr, DiffersWithOr}
 
--- the fault of the value in front, so many brackets being open before it: an end has the place of the innermost bracket that the
--- value opens
+-- the fault of the value in front, with so many brackets open before it: if the input ends, the position is that of the innermost
+-- bracket that the value opens
 abbrev pub FaultyTree : ℕ → FaultRelation
 FaultyTree level = BlamesValue (max_depth - level)
 
--- it is refused with its fault, or since memory ran out; the place of that isn't promised
+-- it is refused with its fault, or because memory ran out, whose position isn't promised
 abbrev pub RefusesTree : State → Error → Type 0
 RefusesTree s e = IsOutOfMemory e ⊎ (s.failed ≡ false → Refused (FaultyTree s.level) (cursor_of s) e)
 

@@ -71,21 +71,21 @@ every_decimal n = Some (same_decimal n)
 abbrev pub decimal_of : Tree → Option Decimal
 decimal_of = as_number every_decimal
 
--- ---- texts
+-- ---- strings
 
--- a text that converts; true where it is escape-free
+-- a string whose text converts; the Bool is true if it is escape-free
 abbrev pub as_text : {C : Type 0} → (List ℕ → Bool → Option C) → Tree → Option C
 as_text f (text u escape_free) = f u escape_free
 as_text f _ = None
 
--- a text, by its bytes
+-- any text, by its bytes
 abbrev pub every_text : List ℕ → Bool → Option (List ℕ)
 every_text u escape_free = Some (encode_utf8_all u)
 
 abbrev pub text_of : Tree → Option (List ℕ)
 text_of = as_text every_text
 
--- a text without a backslash, by its bytes
+-- a text spelled without a backslash, by its bytes
 abbrev pub if_escape_free : List ℕ → Bool → Option (List ℕ)
 if_escape_free u true = Some (encode_utf8_all u)
 if_escape_free u false = None
@@ -93,7 +93,7 @@ if_escape_free u false = None
 abbrev pub escape_free_of : Tree → Option (List ℕ)
 escape_free_of = as_text if_escape_free
 
--- a text by its bytes, and whether it is escape-free
+-- any text by its bytes, and whether it is escape-free
 abbrev pub every_cow : List ℕ → Bool → Option (List ℕ × Bool)
 every_cow u escape_free = Some (encode_utf8_all u, escape_free)
 
@@ -110,7 +110,7 @@ one_character (c ∷ d ∷ u) escape_free = None
 abbrev pub names_bytes : List (Bor (List ℕ)) → List (List ℕ)
 names_bytes names = map (λ name. name.now) names
 
--- a text that is one of these names, as its first place among them
+-- a text that is one of these names, as its first index among them
 abbrev pub index_of : List (List ℕ) → List ℕ → Bool → Option ℕ
 index_of names u escape_free = position (λ name. bytes_eq name (encode_utf8_all u)) names
 
@@ -120,7 +120,7 @@ variant_of names = as_text (index_of names)
 abbrev pub char_of : Tree → Option ℕ
 char_of = as_text one_character
 
--- the bytes of a text of hexadecimal digits in either case, two a byte; any other text converts to none
+-- the bytes of a text of hexadecimal digits in either case, two a byte; no other text converts
 abbrev pub digits_bytes : List ℕ → Bool → Option (List ℕ)
 digits_bytes u escape_free = result_ok (decode_of (encode_utf8_all u))
 

@@ -8,7 +8,7 @@ abbrev pub if_some : {A B : Type 0} → (A → B) → Option A → Option B
 if_some f None = None
 if_some f (Some a) = Some (f a)
 
--- null is none; another tree that converts is some
+-- null is None; another tree that converts is Some
 abbrev pub option_of : {C : Type 0} → (Tree → Option C) → Tree → Option (Option C)
 option_of f null = Some None
 option_of f (boolean b) = if_some Some (f (boolean b))

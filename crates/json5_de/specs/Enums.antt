@@ -27,9 +27,10 @@ use Rattle.json5_de.specs.KeyKinds.{NotKey, not_converted}
 use Rattle.json5_de.specs.Objects.{MapAccessState, PairsRead, PairsLeft, AfterColon, ClosesMap, bare_map}
 use Rattle.json5_de.specs.ObjectFaults.{begins_key, NoColon}
 
--- ---- what a tree stands for
+-- ---- what a tree means
 
--- which of these names a tree gives, by its first place among them, and the variant's content: a text has none, an object of one pair that pair's value
+-- which of these names a tree gives, by its first index among them, and the variant's content: a string has none, an object of
+-- one member has the member's value
 abbrev pub named_variant : List (List ℕ) → Tree → Option (ℕ × Option Tree)
 named_variant names null = None
 named_variant names (boolean b) = None
@@ -61,7 +62,7 @@ content_free allocation_free (Some t) = allocation_free t
 
 -- ---- an access to a variant
 
--- what contracts see of it: the reader that is lent to it, the count of bytes before the text or the brace, the variant's place among the
+-- what contracts see of it: the reader that is lent to it, the count of bytes before the string or the brace, the variant's index among the
 -- names, and whether it has content that is to be read
 pub record EnumAccessState : Type 0 where
   pub reader : State
@@ -75,7 +76,7 @@ pub record AtContent (from : State) (u : List ℕ) (escape_free : Bool) (now : S
   pub key : PairsRead from no_pair (Some (u, escape_free)) (bare_map keyed false true)
   pub colon : AfterColon keyed now
 
--- where the name of a variant was read: it is a text, or a key whose value is next
+-- the name of a variant was read: it is a string, or a key whose value is next
 abbrev pub AfterName : Bool → State → List ℕ → Bool → State → Type 0
 AfterName false from u escape_free now = TookValue from (text u escape_free) now
 AfterName true from u escape_free now = AtContent from u escape_free now
@@ -90,7 +91,7 @@ pub record NameRead (names : List (List ℕ)) (from : State) (now : EnumAccessSt
   pub passed : PassedGap from between
   pub counted : (before : List ℕ) → between.input ≡ before ++ between.unread → now.start ≡ length (encode_utf8_all before)
 
--- x goes on with the content and the closing brace, and r is left after it; where there is no content, x is r
+-- x begins with the content and the closing brace, and r is left after them; without content, x is r
 abbrev pub ContentTail : Option Tree → List ℕ → List ℕ → Type 0
 ContentTail None x r = x ≡ r
 ContentTail (Some t) x r = (z : List ℕ) × Reads x t z × IsBrace true z r
@@ -115,7 +116,7 @@ is_left_brace c = c == left_brace
 abbrev pub begins_variant : ℕ → Bool
 begins_variant c = is_quote c || is_left_brace c
 
--- neither a text nor an object is next
+-- neither a string nor an object is next
 pub data NoVariant : List ℕ → Option ErrorCode → Option (List ℕ) → Type 0 where
   no_variant : (c : ℕ) (r : List ℕ) → begins_variant c ≡ false → NoVariant (c ∷ r) (Some codes.ExpectedStringOrObject) (Some [])
   variant_missing : NoVariant [] (Some codes.EofParsingValue) None
@@ -137,13 +138,13 @@ pub record IsNext (begins : ℕ → Bool) (old start : State) : Type 0 where
   pub passed : PassedGap old start
   pub first : FirstCharIs begins start.unread
 
--- why the only key of an object is refused: none is next, it names no variant, or no colon is after it
+-- why the only key of an object is refused: no key is next, it names no variant, or no colon follows it
 pub data RefusesOnlyKey (names : List (List ℕ)) (inside : State) (e : Error) : Type 0 where
   no_only_key : RefusedBy NotKeyed inside e → RefusesOnlyKey names inside e
   other_key : (start : State) → IsNext begins_key inside start → RefusedByOrMemory (NotKey (not_converted None (index_of names))) start e → RefusesOnlyKey names inside e
   not_followed : (u : List ℕ) (escape_free : Bool) (keyed : State) → TookKey inside u escape_free keyed → RefusedBy NoColon keyed e → RefusesOnlyKey names inside e
 
--- an object was opened and its only key refused: a fault without a place gets the brace's
+-- an object was opened and its only key refused: a fault without a position gets the brace's
 pub record RefusesKeyed (names : List (List ℕ)) (old : State) (e : Error) : Type 0 where
   pub inside : State
   pub opened : Opened curly old inside
@@ -158,7 +159,7 @@ pub data RefusesName (names : List (List ℕ)) (old : State) (e : Error) : Type 
   not_opened : (start : State) → IsNext is_left_brace old start → RefusedBy (NotOpened curly start.level) start e → RefusesName names old e
   in_object : (start : State) → IsNext is_left_brace old start → RefusesKeyed names start e → RefusesName names old e
 
--- why a content is refused: there is none, its type refuses it, or its brace isn't closed. A fault of its type without a place gets the brace's.
+-- why a content is refused: there is none, its type refuses it, or its brace isn't closed. A fault of its type without a position gets the brace's.
 pub data RefusesContent (refuses : State → Error → State → Type 0) (old : EnumAccessState) (e : Error) : Type 0 where
   no_content : old.has_content ≡ false → IsMismatch old.reader.input old.start e → RefusesContent refuses old e
   in_content : (own : Error) (after : State) → old.has_content ≡ true → refuses old.reader own after → PlacedAt (StartsAfter old.reader.input old.start) own e → RefusesContent refuses old e
@@ -183,7 +184,7 @@ pub record ReadsKeyed (names : List (List ℕ)) (old new : State) (result : Resu
   pub unprompted : Unprompted old result
   pub failed : OnErr result (GivesUp old new)
 
--- a value that stands for v and the closing brace after it are read
+-- a value that converts to v's content and the closing brace after it are read
 pub record ReadsInBrace {V C : Type 0} (content : V → C) (convert : Tree → Option C) (allocation_free : Tree → Bool) (refuses : State → Error → State → Type 0) (start : ℕ) (old new : State) (result : Result V Error) : Type 0 where
   pub sound : IfOk result (λ v. (t : Tree) × (after : State) × TookValue old t after × Closed curly true after new × (convert t ≡ Some (content v)))
   pub complete : (t : Tree) (z r : List ℕ) (c : C) → old.failed ≡ false → Reads old.unread t z → IsBrace true z r → old.level + depth t ≤ max_depth → convert t ≡ Some c → IsOkOrMemory result
@@ -195,7 +196,7 @@ pub record ReadsInBrace {V C : Type 0} (content : V → C) (convert : Tree → O
 
 -- ---- what the calls mean
 
--- the name of a variant is read: a text, or the only key of an object and its colon
+-- the name of a variant is read: a string, or the only key of an object and its colon
 pub record NamesVariant {A : Type 0} (names : List (List ℕ)) (state_of : A → EnumAccessState) (old : State) (result : Result A Error) : Type 0 where
   pub read : IfOk result (λ a. NameRead names old (state_of a))
   pub left : (t : Tree) (r : List ℕ) (k : ℕ) (c : Option Tree) → old.failed ≡ false → Reads old.unread t r → old.level + depth t ≤ max_depth → named_variant names t ≡ Some (k, c)
@@ -207,7 +208,7 @@ pub record NamesVariant {A : Type 0} (names : List (List ℕ)) (state_of : A →
   pub same_text : IfOk result (λ a. SameText old (state_of a).reader)
   pub before : AnswersFailed old result
 
--- v stands for the content of the variant that was named at `from`, and the value was read to its end
+-- v is what the content of the variant named at `from` converts to, and the value was read to its end
 abbrev pub GivesContent : {V C : Type 0} → (V → C) → (Option Tree → Option C) → List (List ℕ) → State → ℕ → State → V → Type 0
 GivesContent content convert names from k new v = (t : Tree) × (c : Option Tree) × TookValue from t new × (named_variant names t ≡ Some (k, c)) × (convert c ≡ Some (content v))
 
@@ -229,7 +230,7 @@ pub record ClosesLast (b : Brackets) (comma_due : Bool) (old new : State) (resul
   pub same_text : SameText old new
   pub failed : FailsIfErr new result
 
--- why a content isn't closed, and then the variant's brace: a fault of the content's bracket without a place gets the brace's
+-- why a content isn't closed, or then the variant's brace: a fault of the content's bracket without a position gets the brace's
 pub data RefusesEnding (b : Brackets) (comma_due : Bool) (brace : ℕ) (old : State) (e : Error) : Type 0 where
   not_ended : (own : Error) → RefusedBy (NotClosed b comma_due) old own → PlacedAt (StartsAfter old.input brace) own e → RefusesEnding b comma_due brace old e
   brace_open : (after : State) → Closed b comma_due old after → RefusedBy (NotClosed curly true) after e → RefusesEnding b comma_due brace old e
@@ -255,7 +256,7 @@ pub record ClosesStruct (brace : ℕ) (old : MapAccessState) (new : State) (resu
   pub read : OnOk result ((from content : State) (u : List ℕ) (escape_free : Bool) (ps : Pairs) → AtContent from u escape_free content → PairsRead content ps None old → TookValue from (object (pair u escape_free (object ps) no_pair)) new)
   pub left : (x r : List ℕ) → old.pending ≡ false → PairsLeft no_pair x old → IsBrace true x r → IsOk result
 
--- the end of an access closes its own bracket, and where there is one the brace of the variant whose content it is
+-- the end of an access closes its own bracket and, in a variant's content, the variant's brace
 pub record EndsArray (brace : Option ℕ) (old : AccessState) (new : State) (result : Result (Unit {0}) Error) : Type 0 where
   pub alone : brace ≡ None → ClosesArray old new result
   pub in_variant : (start : ℕ) → brace ≡ Some start → ClosesTuple start old new result
@@ -273,7 +274,7 @@ pub record OpensContent {A : Type 0} (b : Brackets) (state_of : A → AccessStat
   pub refused : IfErr result (RefusesContent (λ s e t. RefusedBy (NotOpened b s.level) s e) old)
   pub unprompted : Unprompted old.reader result
 
--- an array: nothing was read of it, and where one can be read its elements are left
+-- an array: nothing of it was read, and if an array can be read, its elements are left
 pub record OpensTuple {A : Type 0} (state_of : A → AccessState) (old : EnumAccessState) (result : Result A Error) : Type 0 where
   pub content : OpensContent square state_of old result
   pub same_text : IfOk result (λ a. SameText old.reader (state_of a).reader)

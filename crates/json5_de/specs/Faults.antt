@@ -14,26 +14,26 @@ use Rattle.json5_text.specs.Cursor.{IsPlaced, Refused}
 use Rattle.json5_text.specs.Tokens.{FaultyBlanks, FaultyWord, FaultyNumber, FaultyString}
 use Rattle.json5_de.specs.State.{State, cursor_of}
 
--- which faults a text has: the code, None for a text of its own, and the text before its place, None for no place
+-- which faults an input has: the code, None for a custom message; and the input before its position, None for no position
 abbrev pub FaultRelation : Type 1
 FaultRelation = List ℕ → Option ErrorCode → Option (List ℕ) → Type 0
 
--- a comment in front is at fault, or after the gap stands what isn't expected
+-- a comment in front is at fault, or what follows the gap isn't expected
 pub data AfterBlanks (IsFault : FaultRelation) : List ℕ → Option ErrorCode → Option (List ℕ) → Type 0 where
   in_blanks : {x : List ℕ} {reason : Option ErrorCode} {place : Option (List ℕ)} → FaultyBlanks x reason place → AfterBlanks IsFault x reason place
   after_gap : {w x : List ℕ} {reason : Option ErrorCode} {place : Option (List ℕ)} → Gap w x → Solid x → IsFault x reason place → AfterBlanks IsFault (w ++ x) reason (after_text w place)
 
--- a number in front is faulty, or it is whole and isn't the type's: a text of its own, at the number's start
+-- a number in front is faulty, or it is complete and isn't the type's: a custom message, at the number's start
 pub data NotNumber {C : Type 0} (convert : Number → Option C) : List ℕ → Option ErrorCode → Option (List ℕ) → Type 0 where
   faulty_number : {x : List ℕ} {reason : Option ErrorCode} {place : Option (List ℕ)} → FaultyNumber x reason place → NotNumber convert x reason place
   other_number : {s : List ℕ} {n : Number} (r : List ℕ) → Num s n → Stops s r → convert n ≡ None → NotNumber convert (s ++ r) None (Some [])
 
--- a string in front is faulty, or it is whole and isn't the type's: this code, None for a text of its own, at the quote
+-- a string in front is faulty, or it is complete and isn't the type's: this code, None for a custom message, at the quote
 pub data NotText {C : Type 0} (other : Option ErrorCode) (convert : List ℕ → Bool → Option C) : List ℕ → Option ErrorCode → Option (List ℕ) → Type 0 where
   faulty_text : {x : List ℕ} {reason : Option ErrorCode} {place : Option (List ℕ)} → FaultyString x reason place → NotText other convert x reason place
   other_text : {s u : List ℕ} {escape_free : Bool} (r : List ℕ) → Str s u escape_free → convert u escape_free ≡ None → NotText other convert (s ++ r) other (Some [])
 
--- a reader that hasn't failed refuses with a fault that the relation gives what is after the blanks, at its place
+-- a reader that hasn't failed refuses with a fault of blanks, or with one that the relation gives what follows them, at its position
 abbrev pub RefusedBy : FaultRelation → State → Error → Type 0
 RefusedBy IsFault old e = old.failed ≡ false → Refused (AfterBlanks IsFault) (cursor_of old) e
 
@@ -41,7 +41,7 @@ RefusedBy IsFault old e = old.failed ≡ false → Refused (AfterBlanks IsFault)
 abbrev pub RefusedByOr : (Error → Type 0) → FaultRelation → State → Error → Type 0
 RefusedByOr Lacks IsFault old e = Lacks e ⊎ RefusedBy IsFault old e
 
--- the same, or memory ran out, without a place
+-- the same, or memory ran out, without a position
 abbrev pub RefusedByOrMemory : FaultRelation → State → Error → Type 0
 RefusedByOrMemory = RefusedByOr LacksMemory
 
@@ -60,11 +60,11 @@ FaultyBool x = FaultyWord (if begins_with letter_f x then false_text else true_t
 pub data Trailing : List ℕ → Option ErrorCode → Option (List ℕ) → Type 0 where
   trailing : (c : ℕ) (r : List ℕ) → Trailing (c ∷ r) (Some codes.TrailingCharacters) (Some [])
 
--- this code, without a place
+-- this code, without a position
 abbrev pub IsUnplaced : ErrorCode → Error → Type 0
 IsUnplaced c e = (kind_of e ≡ code c) × (place_of e ≡ None)
 
--- this code, at the place after w
+-- this code, at the position after w
 abbrev pub IsAfter : ErrorCode → State → List ℕ → Error → Type 0
 IsAfter c old w e = (kind_of e ≡ code c) × IsPlaced (cursor_of old) (Some w) e
 
@@ -72,7 +72,7 @@ IsAfter c old w e = (kind_of e ≡ code c) × IsPlaced (cursor_of old) (Some w) 
 abbrev pub AtEnd : State → Type 0
 AtEnd old = (old.failed ≡ false) × LastBlanks old.unread
 
--- after the blanks w stands a character that begins nothing of what is expected
+-- a character follows the blanks w that begins nothing of what is expected
 pub record AtOther (begins : ℕ → Bool) (old : State) (w : List ℕ) : Type 0 where
   pub live : old.failed ≡ false
   pub blank : Blanks w

@@ -1,4 +1,4 @@
--- Structs: the fields of an object by their names, in any order; a field may stand once.
+-- Structs: the fields of an object by their names, in any order, each at most once.
 use Rattle.std.specs.Prelude.{◌≡◌, ◌⊎◌, ◌<◌, length, false, ℕ, Bool, if◌then◌else◌, true, is_some, List, Option, Some, None, Result, Ok, Err, OnOk, OnErr, IfErr}
 use Rattle.std.specs.Str.{bytes_eq, encode_utf8_all}
 use Rattle.json5_grammar.specs.Language.Trees.{Tree, Trees, Pairs, no_more, more, no_pair, pair}
@@ -16,12 +16,12 @@ use Rattle.json5_de.specs.ObjectFaults.{ValueRefusedAtBrace}
 
 -- ---- what a struct takes of an object
 
--- the values of the pairs with this name, in the order of the text; a name is the bytes of its text
+-- the values of the members with this name, in their order; a name is the bytes of its text
 abbrev pub values_named : List ℕ → Pairs → Trees
 values_named name no_pair = no_more
 values_named name (pair u escape_free t ps) = if bytes_eq (encode_utf8_all u) name then more t (values_named name ps) else values_named name ps
 
--- one value at most, where it converts
+-- at most one value, which converts
 abbrev pub at_most_one : {C : Type 0} → (Tree → Option C) → Trees → Option (Option C)
 at_most_one f no_more = Some None
 at_most_one f (more t no_more) = if_some Some (f t)
@@ -39,7 +39,7 @@ abbrev pub or_value : {C : Type 0} → C → Option C → C
 or_value c None = c
 or_value c (Some d) = d
 
--- a field that is c where it is missing
+-- a field whose content is c if it is missing
 abbrev pub with_default : {C : Type 0} → C → List ℕ → (Tree → Option C) → Pairs → Option C
 with_default c name f ps = if_some (or_value c) (optional name f ps)
 
@@ -49,16 +49,16 @@ and_field f g ps = joint (f ps) (g ps)
 
 -- ---- what the calls for a field mean
 
--- a fault with a text of its own at the opening bracket, or memory ran out
+-- a fault with a custom message at the opening bracket, or memory ran out
 pub record IsOwnAtBracket (s : AccessState) (e : Error) : Type 0 where
   pub kind : ((text : List ℕ) × (kind_of e ≡ custom text)) ⊎ IsOutOfMemory e
   pub there : IsAtBracket s e
 
--- the value of the key that was read fills the field, which had none
+-- the value of the key that was read fills the field, which had no value
 abbrev pub FillsField : {V C : Type 0} → (V → C) → (Tree → Option C) → MapAccessState → MapAccessState → Option V → Option V → Type 0
 FillsField {V} content convert old new field next = (v : V) × (field ≡ None) × (next ≡ Some v) × ReadsAPair content convert old new v
 
--- where the first pair's value converts, it fills the field, unless memory runs out, and the others are left
+-- if the first member's value converts, it fills the field, unless memory runs out, and the other members are left
 abbrev pub LeavesFilled : {V C : Type 0} → (V → C) → (Tree → Option C) → Tree → Pairs → List ℕ → MapAccessState → Option V → Result (Unit {0}) Error → Type 0
 LeavesFilled {V} content convert t ps r new next (Ok done) = (v : V) × (next ≡ Some v) × LeavesPairs content convert t ps r new (Ok v)
 LeavesFilled {V} content convert t ps r new next (Err e) = LeavesPairs {V = V} content convert t ps r new (Err e)
@@ -67,7 +67,7 @@ LeavesFilled {V} content convert t ps r new next (Err e) = LeavesPairs {V = V} c
 abbrev pub RefusesHere : {V : Type 0} → (State → Error → State → Type 0) → MapAccessState → Result V Error → Type 0
 RefusesHere refuses old result = IfErr result (λ e. old.at.reader.failed ≡ false → ValueRefusedAtBrace refuses old e)
 
--- why a field isn't filled: its value is refused, or it stands there a second time
+-- why a field isn't filled: its value is refused, or the field was filled before
 pub data FieldFault {V : Type 0} (refuses : State → Error → State → Type 0) (old : MapAccessState) (field : Option V) (e : Error) : Type 0 where
   in_field : field ≡ None → ValueRefusedAtBrace refuses old e → FieldFault refuses old field e
   twice : is_some field ≡ true → IsOwnAtBracket old.at e → FieldFault refuses old field e

@@ -39,7 +39,7 @@ SpellsText s t bytes = IsTextOf s.input t bytes
 abbrev pub SpellsCow : State → TextToken → CowStr → Type 0
 SpellsCow s t text = IsCowOf s.input t text
 
--- a spelling was taken after a gap, and so many bytes stand before it
+-- a spelling was taken after a gap, and so many bytes come before it
 pub record TookFound (Is : Spelling) (old new : State) (found : FoundText) : Type 0 where
   pub between : State
   pub spelling : List ℕ
@@ -75,12 +75,12 @@ FindsKey old new result = Finds Key FaultyKey (CompletesKey every_key) old new r
 abbrev pub FindsString : State → State → Result FoundText Error → Type 0
 FindsString old new result = Finds IsString FaultyString (CompletesFree escape_free_text (as_text every_text)) old new result
 
--- so it is for the text that was found
+-- P holds for the text that was found
 abbrev pub OfFound : State → FoundText → (List ℕ → Bool → Type 0) → Type 0
 OfFound s found P = (u : List ℕ) (escape_free : Bool) → Spells s.input u escape_free found.token → all_scalars u ≡ true → P u escape_free
 
--- the content is what the text that was found converts to, and nothing changes; a text that doesn't convert is refused at its start with this code,
--- None for a text of its own; one that does is only where it may lack memory
+-- the content is what the found text converts to, and nothing changes; a text that doesn't convert is refused at its start with this code,
+-- None for a custom message; a text that converts is refused only if memory may run out
 pub record JudgesText {V C : Type 0} (may_lack_memory : Bool) (of_other : Option ErrorCode) (f : KeyConversion C) (content : V → C) (found : FoundText) (old new : State) (result : Result V Error) : Type 0 where
   pub converts : IfOk result (λ v. OfFound old found (λ u escape_free. f u escape_free ≡ Some (content v)))
   pub kept : OnOk result (new ≡ old)

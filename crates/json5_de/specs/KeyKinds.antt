@@ -17,16 +17,16 @@ use Rattle.json5_de.specs.Faults.{AfterBlanks, RefusedByOrMemory, Trailing}
 use Rattle.json5_de.specs.Keys.{KeyConversion, every_key, ReadsOneKey}
 use Rattle.json5_de.specs.TokenKinds.{Kind}
 
--- with which code the text of a key is refused, None for a fault with a text of its own; true where the key is escape-free
+-- with which code the text of a key is refused, None for a custom message; the Bool is true if the key is escape-free
 abbrev pub KeyFault : Type 1
 KeyFault = List ℕ → Bool → Option ErrorCode → Type 0
 
--- a kind of key: what each text gives, and what is refused
+-- a kind of key: what each text converts to, and how it is refused
 pub record KeyKind (C : Type 0) : Type 1 where
   pub convert : KeyConversion C
   pub IsFault : KeyFault
 
--- no whole key stands in front, or its text is refused, at the key's first character
+-- no whole key is in front, or its text is refused, at the key's first character
 pub data NotKey (IsFault : KeyFault) : List ℕ → Option ErrorCode → Option (List ℕ) → Type 0 where
   no_key : {x : List ℕ} {reason : Option ErrorCode} {place : Option (List ℕ)} → FaultyKey x reason place → NotKey IsFault x reason place
   other_key : {s u : List ℕ} {escape_free : Bool} {reason : Option ErrorCode} (r : List ℕ) → Key s r u escape_free → IsFault u escape_free reason → NotKey IsFault (s ++ r) reason (Some [])
@@ -41,7 +41,7 @@ ReadsKeyAs kind content old new result = ReadsOneKey content kind.convert (Refus
 
 -- ---- texts
 
--- a text that doesn't convert is refused with this code, None for a text of its own
+-- a text that doesn't convert is refused with this code, None for a custom message
 abbrev pub not_converted : {C : Type 0} → Option ErrorCode → KeyConversion C → KeyFault
 not_converted of_other f u escape_free reason = (reason ≡ of_other) × (f u escape_free ≡ None)
 
@@ -67,7 +67,7 @@ escape_free_key = text_key if_escape_free
 abbrev pub cow_key : KeyKind (List ℕ × Bool)
 cow_key = text_key every_cow
 
--- one of these names, by its first place among them
+-- one of these names, by its first index among them
 abbrev pub variant_key : List (List ℕ) → KeyKind ℕ
 variant_key names = text_key (index_of names)
 
@@ -85,11 +85,11 @@ abbrev pub converted : {C : Type 0} → (Tree → Option C) → Read Tree → Op
 converted convert (got t r) = convert t
 converted convert (bad e p) = None
 
--- what a text converts to that is read as a document of its own, where its tree converts; `document_keys` says which texts do
+-- what a text converts to as a document, if its tree converts; `document_keys` says which texts do
 abbrev pub document_of : {C : Type 0} → (Tree → Option C) → KeyConversion C
 document_of convert u escape_free = converted convert (document max_depth u)
 
--- the text isn't a document whose tree converts: the value in front is refused, or what stands after one that converts
+-- the text isn't a document whose tree converts: the value in front is refused, or what follows a value that converts
 pub data NotDocument {C : Type 0} (kind : Kind C) : List ℕ → Bool → Option ErrorCode → Type 0 where
   no_value : {u : List ℕ} {escape_free : Bool} {reason : Option ErrorCode} {place : Option (List ℕ)} → AfterBlanks kind.IsFault u reason place → NotDocument kind u escape_free reason
   more_follows : {u r : List ℕ} {escape_free : Bool} {t : Tree} {c : C} {reason : Option ErrorCode} {place : Option (List ℕ)} → Reads u t r → depth t ≤ max_depth → kind.convert t ≡ Some c
@@ -99,7 +99,7 @@ pub data NotDocument {C : Type 0} (kind : Kind C) : List ℕ → Bool → Option
 abbrev pub document_key : {C : Type 0} → Kind C → KeyKind C
 document_key kind = record { convert = document_of kind.convert; IsFault = NotDocument kind }
 
--- such a text converts exactly where it is a document whose tree converts
+-- such a text converts exactly if it is a document whose tree converts
 abbrev pub ConvertsDocuments : {C : Type 0} → (Tree → Option C) → Type 0
 ConvertsDocuments {C = C} convert = (u : List ℕ) (escape_free : Bool) (c : C) → (document_of convert u escape_free ≡ Some c) ↔ ((t : Tree) × Doc max_depth u t × (convert t ≡ Some c))
 

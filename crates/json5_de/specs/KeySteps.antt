@@ -10,7 +10,7 @@ abbrev pub is_out_of_memory : FaultKind → Bool
 is_out_of_memory (code codes.OutOfMemory) = true
 is_out_of_memory _ = false
 
--- the fault of a key whose text, read as a document of its own, has this fault: memory ran out, without a place, or the same at this offset
+-- the fault of a key whose text, read as a document, has this fault: memory ran out, without a position, or the same at this offset
 pub data IsTextFault (input : List ℕ) (offset : ℕ) (own e : Error) : Type 0 where
   no_memory : is_out_of_memory (kind_of own) ≡ true → LacksMemory e → IsTextFault input offset own e
   at_key : is_out_of_memory (kind_of own) ≡ false → (there : Position) → IsPositionOf input offset there → SaysAt (kind_of own) (Some there) e → IsTextFault input offset own e

@@ -6,13 +6,13 @@ use Rattle.json5_text.specs.declared.error.Error.{Error}
 use Rattle.json5_de.specs.State.{State, OnlyRead, SameText, FailsIfErr}
 use Rattle.json5_de.specs.Law.{IsOkOrMemory, StaysFailed, Unprompted}
 
--- a key that stands for u was read, blanks before it included, and nothing else happened; escape-free says that no escape is used
+-- a key that spells u was read, with the blanks before it, and nothing else; escape_free says that no escape is used
 pub record TookKey (old : State) (u : List ℕ) (escape_free : Bool) (new : State) : Type 0 where
   pub live : old.failed ≡ false
   pub reads : ReadsKey old.unread u escape_free new.unread
   pub rest : OnlyRead old new
 
--- what a key's text converts to, where it does; true where it is escape-free
+-- what a key's text converts to, if it does; the Bool is true if it is escape-free
 abbrev pub KeyConversion : Type 0 → Type 0
 KeyConversion C = List ℕ → Bool → Option C
 
@@ -20,11 +20,11 @@ KeyConversion C = List ℕ → Bool → Option C
 abbrev pub every_key : KeyConversion (Unit {0})
 every_key u escape_free = Some tt
 
--- v stands for a key that was read
+-- a key was read, and v is what it converts to
 abbrev pub GivesKey : {V C : Type 0} → (V → C) → KeyConversion C → State → State → V → Type 0
 GivesKey content convert old new v = (u : List ℕ) × (escape_free : Bool) × TookKey old u escape_free new × (convert u escape_free ≡ Some (content v))
 
--- two values that may be given for one key have the same content, and leave the same
+-- two values that may be read from one key have the same content, and leave the same
 abbrev pub OneKeyAnswer : {V C : Type 0} → (V → C) → KeyConversion C → Type 0
 OneKeyAnswer {V = V} content convert = (old new last : State) (v w : V) → GivesKey content convert old new v → GivesKey content convert old last w → (content v ≡ content w) × (new ≡ last)
 

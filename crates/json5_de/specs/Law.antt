@@ -17,7 +17,7 @@ pub record TookValue (old : State) (t : Tree) (new : State) : Type 0 where
   pub shallow : old.level + depth t ≤ max_depth
   pub rest : OnlyRead old new
 
--- v stands for a tree that was read
+-- a tree was read, and v is what it converts to
 abbrev pub Gives : {V C : Type 0} → (V → C) → (Tree → Option C) → State → State → V → Type 0
 Gives content convert old new v = (t : Tree) × TookValue old t new × (convert t ≡ Some (content v))
 
@@ -35,7 +35,7 @@ abbrev pub CompletesFree : {V C : Type 0} → (Tree → Bool) → (Tree → Opti
 CompletesFree {C = C} allocation_free convert old result =
     (t : Tree) (r : List ℕ) (c : C) → old.failed ≡ false → Reads old.unread t r → old.level + depth t ≤ max_depth → convert t ≡ Some c → allocation_free t ≡ true → IsOk result
 
--- a reader that has failed answers `Failed` without a place
+-- a reader that has failed returns `Failed` without a position
 abbrev pub AnswersFailed : {V : Type 0} → State → Result V Error → Type 0
 AnswersFailed old result = old.failed ≡ true → IsErrAnd result (IsUnplaced codes.Failed)
 
@@ -43,7 +43,7 @@ AnswersFailed old result = old.failed ≡ true → IsErrAnd result (IsUnplaced c
 abbrev pub StaysFailed : {V : Type 0} → State → State → Result V Error → Type 0
 StaysFailed old new result = old.failed ≡ true → IsErrAnd result (IsUnplaced codes.Failed) × (new ≡ old)
 
--- two values that may be given for one text have the same content, and leave the same
+-- two values that may be read from one input have the same content, and leave the same
 abbrev pub OneAnswer : {V C : Type 0} → (V → C) → (Tree → Option C) → Type 0
 OneAnswer {V = V} content convert = (old new last : State) (v w : V) → Gives content convert old new v → Gives content convert old last w → (content v ≡ content w) × (new ≡ last)
 
@@ -62,7 +62,7 @@ pub record ReadsValue {V C : Type 0} (content : V → C) (convert : Tree → Opt
   pub failed : FailsIfErr new result
   pub before : StaysFailed old new result
 
--- the text stays; a reader that had failed says `Failed` without a place, and no other does
+-- the input stays; a reader that had failed returns `Failed` without a position, and no other does
 pub record Steady {V : Type 0} (old new : State) (result : Result V Error) : Type 0 where
   pub same_text : SameText old new
   pub unprompted : Unprompted old result

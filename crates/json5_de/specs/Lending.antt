@@ -56,7 +56,7 @@ module _ {I : Type 0} where
   abbrev pub HoldsTheSame : SeqAccess I → SeqAccess I → Type 0
   HoldsTheSame old new = holding new ≡ holding old
 
-  -- the reader itself stands as failed while the access holds it
+  -- the reader itself counts as failed while the access holds it
   abbrev pub BlocksReader : SeqAccess I → Type 0
   BlocksReader s = s.de.now.failed ≡ true
 
@@ -64,7 +64,7 @@ module _ {I : Type 0} where
   abbrev pub blocking : SeqAccess I → Bool → SeqAccess I
   blocking s failed = record s { de = record s.de { now = record s.de.now { failed = true } }; failed = failed }
 
-  -- after its reader read it is blocked again, and a refusal is kept in mind, which is at the bracket where it had no place
+  -- after a read the reader is blocked again, and a refusal is remembered; its fault gets the bracket's position if it had none
   pub record Settles {V : Type 0} (old : SeqAccess I) (read : Result V Error) (new : SeqAccess I) (result : Result V Error) : Type 0 where
     pub given : IfOk read (λ v. result ≡ Ok v)
     pub refused : IfErr read (λ own. IsErrAnd result (PlacedAtBracket (state_of old) own))
@@ -73,7 +73,7 @@ module _ {I : Type 0} where
   abbrev pub map_state_of : MapAccess I → MapAccessState
   map_state_of m = record { at = record { reader = record m.de.now { failed = m.failed }; start = m.start; comma_due = is_comma_due m.stage }; pending = is_pending m.stage }
 
-  -- a key was read whose value wasn't, or none was
+  -- a key was read and its value wasn't yet
   abbrev pub KeyPending : MapAccess I → Type 0
   KeyPending m = (map_state_of m).pending ≡ true
 
@@ -114,7 +114,7 @@ module _ {I : Type 0} where
   abbrev pub enum_state_of : EnumAccess I → EnumAccessState
   enum_state_of a = named_state_of (record a.de.now { failed = false }) a.name
 
-  -- the reader that it was given, and the same as it stands
+  -- the reader that the access borrows, and its present state
   abbrev pub reader_of : EnumAccess I → MutBor State
   reader_of a = a.de
 
@@ -127,7 +127,7 @@ module _ {I : Type 0} where
   abbrev pub BlocksEnumReader : EnumAccess I → Type 0
   BlocksEnumReader a = a.de.now.failed ≡ true
 
--- the reader that is lent to a key, which stands before it
+-- the reader that is lent to a key; the key is in front of it
 abbrev pub reader_of_key : {I : Type 0} → MapKey I → State
 reader_of_key key = key.de.now
 
@@ -144,7 +144,7 @@ pub record KeyReadsBy {I V C : Type 0} (content : V → C) (convert : KeyConvers
 abbrev pub KeyReads : {I V C : Type 0} → KeyKind C → (V → C) → MapKey I → MapKey I → Result V Error → Type 0
 KeyReads kind content old new result = KeyReadsBy content kind.convert (RefusedAsKey kind) old new result
 
--- null, bytes, or a text that is borrowed where it is escape-free
+-- null, bytes, or a string, which is borrowed if it is escape-free
 abbrev pub ReadsNullKey : {I : Type 0} → MapKey I → MapKey I → Result (Unit {0}) Error → Type 0
 ReadsNullKey old new result = KeyReads (document_key null_kind) (λ _. tt) old new result
 
@@ -154,7 +154,7 @@ ReadsBytesKey old new result = KeyReads bytes_key bytes_of old new result
 abbrev pub ReadsCowKey : {I : Type 0} → MapKey I → MapKey I → Result CowStr Error → Type 0
 ReadsCowKey old new result = KeyReads cow_key (λ t. (cow_bytes t, is_borrowed t)) old new result
 
--- the access holds this reader, and blocks it; its end closes such a brace too, or none
+-- the access holds this reader, and blocks it; if `brace` is Some, its end closes that brace too
 pub record HoldsBlocked {I : Type 0} (reader : MutBor State) (brace : Option ℕ) (s : SeqAccess I) : Type 0 where
   pub same_reference : Holds reader s
   pub blocks : BlocksReader s
@@ -172,7 +172,7 @@ OpensSeqAccess reader old result = OpensArray (HoldsBlocked reader None) state_o
 abbrev pub OpensMapAccess : {I : Type 0} → MutBor State → State → Result (MapAccess I) Error → Type 0
 OpensMapAccess reader old result = OpensMap (HoldsMapBlocked reader None) map_state_of old result
 
--- a call of the access keeps its reference, blocks the reader, and leaves the bracket and the text where they were
+-- a call of the access keeps its reference, blocks the reader, and leaves the bracket and the input as they were
 pub record KeepsAccess {I : Type 0} (old new : SeqAccess I) : Type 0 where
   pub same_reference : HoldsTheSame old new
   pub blocks : BlocksReader new
@@ -185,7 +185,7 @@ pub record KeepsMap {I : Type 0} (old new : MapAccess I) : Type 0 where
   pub start : (map_state_of new).at.start ≡ (map_state_of old).at.start
   pub same_text : SameText (map_state_of old).at.reader (map_state_of new).at.reader
 
--- the next element is read, or none where the bracket is next
+-- the next element is read, or None is returned if the bracket is next
 pub record ReadsNext {I V C : Type 0} (content : V → C) (convert : Tree → Option C) (refuses : State → Error → State → Type 0) (old new : SeqAccess I) (result : Result (Option V) Error) : Type 0 where
   pub access : KeepsAccess old new
   pub sound : IfOk result (GivesElement content convert (state_of old) (state_of new))
@@ -196,7 +196,7 @@ pub record ReadsNext {I V C : Type 0} (content : V → C) (convert : Tree → Op
   pub read : IfOk result (ReadsMore content convert (state_of old) (state_of new))
   pub left : (ts : Trees) (r : List ℕ) → ElementsLeft ts r (state_of old) → LeavesFewer content convert ts r (state_of new) result
 
--- the next key is read, or none where the brace is next
+-- the next key is read, or None is returned if the brace is next
 pub record ReadsNextKey {I K C : Type 0} (content : K → C) (convert : KeyConversion C) (refuses : State → Error → State → Type 0) (old new : MapAccess I) (result : Result (Option K) Error) : Type 0 where
   pub access : KeepsMap old new
   pub pending : SetsPending is_some (map_state_of old) (map_state_of new) result

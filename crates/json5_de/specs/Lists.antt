@@ -15,7 +15,7 @@ use Rattle.json5_de.specs.Seq.{RefusedAtBracket}
 
 -- ---- the elements of a list
 
--- what is expected at a place of a list: which trees convert, and how its type refuses
+-- what is expected at an index of a list: which trees convert, and how its type refuses
 pub record Element : Type 1 where
   pub accepts : Tree → Bool
   pub refuses : State → Error → State → Type 0
@@ -23,11 +23,11 @@ pub record Element : Type 1 where
 abbrev pub element : {C : Type 0} → (Tree → Option C) → (State → Error → State → Type 0) → Element
 element convert refuses = record { accepts = λ t. is_some (convert t); refuses = refuses }
 
--- what is expected at each place, counted from 0
+-- what is expected at each index
 abbrev pub Elements : Type 1
 Elements = ℕ → Element
 
--- the same at every place
+-- the same at every index
 abbrev pub every : Element → Elements
 every e n = e
 
@@ -40,14 +40,14 @@ abbrev pub count : Trees → ℕ
 count no_more = 0
 count (more t ts) = suc (count ts)
 
--- each converts at its place
+-- each element converts at its index
 abbrev pub Accepted : Elements → Trees → Type 0
 Accepted es no_more = Unit {0}
 Accepted es (more t ts) = ((es 0).accepts t ≡ true) × Accepted (λ n. es (suc n)) ts
 
 -- ---- an element that has to be there
 
--- a text of its own, or memory ran out, at the opening bracket
+-- a custom message, or memory ran out, at the opening bracket
 abbrev pub IsTooShort : AccessState → Error → Type 0
 IsTooShort old e = (IsOutOfMemory e ⊎ Says None e) × IsAtBracket old e
 
@@ -56,7 +56,7 @@ pub data RefusesRequired (refuses : State → Error → State → Type 0) (old :
   at_fault : RefusedAtBracket refuses old e → RefusesRequired refuses old e
   missing : (at : State) → AtClose square old.comma_due old.reader at → IsTooShort old e → RefusesRequired refuses old e
 
--- where elements are left and the first converts, it was read, unless memory ran out, and the others are left; where none is left, none was read
+-- if elements are left and the first converts, it was read, unless memory ran out, and the others are left; if no element is left, none was read
 abbrev pub LeavesRequired : {V C : Type 0} → (V → C) → (Tree → Option C) → Trees → List ℕ → AccessState → Result V Error → Type 0
 LeavesRequired content convert ts r new (Ok v) = LeavesFewer content convert ts r new (Ok (Some v))
 LeavesRequired content convert no_more r new (Err e) = Unit {0}
@@ -88,7 +88,7 @@ array_of_size n = record { size = Some n; gathers = true }
 abbrev pub tuple_of_size : ℕ → Shape
 tuple_of_size n = record { size = Some n; gathers = false }
 
--- such a list has an element at this place
+-- such a list has an element at this index
 abbrev pub HasElement : Option ℕ → ℕ → Type 0
 HasElement None place = Unit {0}
 HasElement (Some n) place = place < n

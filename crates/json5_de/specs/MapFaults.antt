@@ -25,7 +25,7 @@ pub record Sides (C D : Type 0) : Type 1 where
 abbrev pub sides : {C D : Type 0} → KeyConversion C → (Tree → Option D) → (State → Error → State → Type 0) → (State → Error → State → Type 0) → Sides C D
 sides keys values refuses_key refuses_value = record { keys = keys; values = values; refuses_key = refuses_key; refuses_value = refuses_value }
 
--- the object was opened, and pairs of it were read, each of which converts, and perhaps a key after them
+-- the object was opened, and members of it were read, each of which converts, and perhaps a key after them
 pub record WithinMap {C D : Type 0} (keys : KeyConversion C) (values : Tree → Option D) (old : State) (key : Option (List ℕ × Bool)) (now : MapAccessState) : Type 0 where
   pub first : State
   pub opened : Opened curly old first

@@ -1,4 +1,4 @@
--- What a map is read to: of the pairs of an object, a later one with an equal key replaces the value, and the first key and its place stay.
+-- What a map is read to: among an object's members, a later one with an equal key replaces the value; the first key and its position in the order stay.
 use Rattle.std.specs.Prelude.{◌≡◌, Bool, List, [], ◌∷◌, map, Option, Some, None, if◌then◌else◌, fold}
 use Rattle.std.specs.declared.cmp.Ordering.{Ordering}
 use Rattle.std.specs.BTreeMap as tree
@@ -18,7 +18,7 @@ use Rattle.json5_de.specs.Keys.{KeyConversion}
 abbrev pub TellsKeys : {K C A : Type 0} → (K → C) → (K → K → A) → (C → C → A) → Type 0
 TellsKeys {K} content compare test = (x y : K) → test (content x) (content y) ≡ compare x y
 
--- a content for each such test: A where keys are told apart by what counts of them, and nothing is known where they aren't
+-- an A for each test that tells contents apart as the type tells keys apart
 abbrev pub Told : {K C R : Type 0} → (K → C) → (K → K → R) → Type 0 → Type 0
 Told {K} {C} {R} content compare A = (test : C → C → R) → TellsKeys content compare test → A
 
@@ -38,17 +38,17 @@ abbrev pub found_in : {C D : Type 0} → (C → Bool) → List (C × D) → Opti
 found_in test [] = None
 found_in test (p ∷ ps) = if test p.0 then Some (p.0, last_value test p.1 ps) else found_in test ps
 
--- the pairs put into a map in turn, as it keeps the order in which keys first came
+-- the pairs inserted in turn into a map that keeps the order in which keys first came
 abbrev pub in_turn : {C D : Type 0} → (C → C → Bool) → List (C × D) → List (C × D)
 in_turn same ps = insert_all same [] ps
 
--- the pairs put into a map in turn, as it keeps the keys' order
+-- the pairs inserted in turn into a map that keeps the keys' order
 abbrev pub in_order : {C D : Type 0} → (C → C → Ordering) → List (C × D) → List (C × D)
 in_order compare ps = fold (λ done p. tree.insert_entry compare done p.0 p.1) [] ps
 
 -- ---- maps
 
--- what counts of an object's pairs, in their order
+-- what counts of an object's members, in their order
 abbrev pub pairs_of : {C D : Type 0} → KeyConversion C → (Tree → Option D) → Tree → Option (List (C × D))
 pairs_of keys values = object_of (pair_contents keys values)
 
@@ -56,12 +56,12 @@ pairs_of keys values = object_of (pair_contents keys values)
 abbrev pub map_of : {C D A : Type 0} → KeyConversion C → (Tree → Option D) → (List (C × D) → A) → Tree → Option A
 map_of keys values gathered t = if_some gathered (pairs_of keys values t)
 
--- an object was read, and m is what its pairs make
+-- an object was read, and m is what its members make
 abbrev pub GivesPairs : {K V C D M : Type 0} → (K → C) → (V → D) → KeyConversion C → (Tree → Option D) → (M → List (K × V) → Type 0) → State → State → M → Type 0
 GivesPairs {K} {V} key value keys values Gathered old new m = (ps : List (K × V)) × Gathered m ps × Gives (map (pair_content key value)) (pairs_of keys values) old new ps
 
 module _ {K C D R M A : Type 0} (key : K → C) (compare : K → K → R) (keys : KeyConversion C) (values : Tree → Option D) where
-  -- where a test tells keys apart by what counts of them, a map that was read holds what the object's pairs make by that test
+  -- if a test tells keys apart by what counts of them, a map that was read holds what the object's members make by that test
   abbrev pub Holds : (M → Told key compare A) → (Tree → Option (Told key compare A)) → (M → A) → ((C → C → R) → List (C × D) → A) → Type 0
   Holds content convert entries gathered =
       (test : C → C → R) → TellsKeys key compare test → (old new : State) (m : M) → Gives content convert old new m → (t : Tree) × (ps : List (C × D)) × TookValue old t new × (pairs_of keys values t ≡ Some ps) × (entries m ≡ gathered test ps)

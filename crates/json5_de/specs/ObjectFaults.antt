@@ -46,13 +46,13 @@ pub data NoKeyHere : List ℕ → Option ErrorCode → Option (List ℕ) → Typ
   no_key : (c : ℕ) (r : List ℕ) → begins_key c ≡ false → (c == right_brace) ≡ false → NoKeyHere (c ∷ r) (Some codes.ExpectedIdentifier) (Some [])
   key_missing : NoKeyHere [] (Some codes.EofParsingObject) None
 
--- what is refused where the next key is expected, after a comma where one is due
+-- what is refused where the next key is expected, after a comma if one is due
 pub data NoKey (comma_due : Bool) : List ℕ → Option ErrorCode → Option (List ℕ) → Type 0 where
   no_next : {x : List ℕ} {reason : Option ErrorCode} {place : Option (List ℕ)} → NoNext curly comma_due x reason place → NoKey comma_due x reason place
   not_here : {x : List ℕ} {reason : Option ErrorCode} {place : Option (List ℕ)} → comma_due ≡ false → NoKeyHere x reason place → NoKey comma_due x reason place
   not_after_comma : {x : List ℕ} {reason : Option ErrorCode} {place : Option (List ℕ)} → comma_due ≡ true → AfterBlanks NoKeyHere x reason place → NoKey comma_due (comma_sign ∷ x) reason (after_text (comma_sign ∷ []) place)
 
--- the codes of a text that ended, of memory that ran out, and of a reader that had failed
+-- the codes of an input that ended, of memory that ran out, and of a reader that had failed
 abbrev pub is_unplaced_code : ErrorCode → Bool
 is_unplaced_code codes.EofParsingArray = true
 is_unplaced_code codes.EofParsingBool = true
@@ -73,17 +73,17 @@ is_unplaced (code c) = is_unplaced_code c
 is_unplaced (custom text) = false
 is_unplaced failed_write = false
 
--- a fault of a key that has no place gets the key's, but for the codes that have none
+-- a fault of a key without a position gets the key's, but for the codes that have none
 pub data PlacedAtKey (IsBefore : List ℕ → Type 0) (own e : Error) : Type 0 where
   at_key : is_unplaced (kind_of own) ≡ false → PlacedAt IsBefore own e → PlacedAtKey IsBefore own e
   as_it_is : is_unplaced (kind_of own) ≡ true → kind_of e ≡ kind_of own → place_of e ≡ place_of own → PlacedAtKey IsBefore own e
 
--- the fault of a call for a key: none was reached, or the key's own
+-- the fault of a call for a key: no key was reached, or the key's own
 pub data RefusesPairKey (refuses : State → Error → State → Type 0) (comma_due : Bool) (old : State) (e : Error) (after : State) : Type 0 where
   not_reached : RefusedBy (NoKey comma_due) old e → RefusesPairKey refuses comma_due old e after
   in_key : (start : State) (own : Error) → AtKey comma_due old start → refuses start own after → PlacedAtKey (λ before. start.input ≡ before ++ start.unread) own e → RefusesPairKey refuses comma_due old e after
 
--- the next key of an object is read, or none where the closing brace is next
+-- the next key of an object is read, or None is returned if the closing brace is next
 pub record ReadsKeyOfPair {K C : Type 0} (content : K → C) (convert : KeyConversion C) (refuses : State → Error → State → Type 0) (comma_due : Bool) (old new : State) (result : Result (Option K) Error) : Type 0 where
   pub sound : IfOk result (λ o. GivesPairKey content convert (bare_map old comma_due false) (bare_map new comma_due (is_some o)) o)
   pub complete : CompletesPairKey convert (bare_map old comma_due false) result
@@ -91,7 +91,7 @@ pub record ReadsKeyOfPair {K C : Type 0} (content : K → C) (convert : KeyConve
   pub cause : IfErr result (λ e. RefusesPairKey refuses comma_due old e new)
   pub steady : Steady old new result
 
--- what is next at a key: after a pair the comma or the brace, else a key or the brace
+-- what is next at a key: after a member the comma or the brace, else a key or the brace
 abbrev pub begins_next_key : Bool → ℕ → Bool
 begins_next_key true c = is_comma_or_closing curly c
 begins_next_key false c = begins_key c || (c == right_brace)
@@ -101,7 +101,7 @@ abbrev pub no_key_code : Bool → ErrorCode
 no_key_code true = codes.ExpectedComma
 no_key_code false = codes.ExpectedIdentifier
 
--- the fault of a call for a key, at the opening brace where it has no place
+-- the fault of a call for a key, at the opening brace if it has no position
 abbrev pub KeyRefusedAtBrace : (State → Error → State → Type 0) → MapAccessState → Error → Type 0
 KeyRefusedAtBrace refuses old e = PlacedFault (RefusesPairKey refuses old.at.comma_due old.at.reader) old.at e
 
@@ -132,7 +132,7 @@ pub data RefusesPairValue (refuses : State → Error → State → Type 0) (old 
   no_value : RefusedBy NoColon old e → RefusesPairValue refuses old e after
   in_value : (start : State) → AfterColon old start → refuses start e after → RefusesPairValue refuses old e after
 
--- the fault of a call for a value, at the opening brace where it has no place
+-- the fault of a call for a value, at the opening brace if it has no position
 abbrev pub ValueRefusedAtBrace : (State → Error → State → Type 0) → MapAccessState → Error → Type 0
 ValueRefusedAtBrace refuses old e = PlacedFault (RefusesPairValue refuses old.at.reader) old.at e
 

@@ -14,18 +14,18 @@ use Rattle.json5_de.specs.ConvertLists.{if_some}
 use Rattle.json5_value.specs.Brackets.{curly}
 use Rattle.json5_de.specs.Access.{AccessState, bare, AtClose, OpensAs, ClosesAs}
 
--- as of an array, and whether a key was read whose value wasn't
+-- as of an array, and whether a key was read and its value wasn't yet
 pub record MapAccessState : Type 0 where
   pub at : AccessState
   pub pending : Bool
 
--- a reader seen so, wherever the brace stands
+-- a reader as an access, wherever the brace is
 abbrev pub bare_map : State → Bool → Bool → MapAccessState
 bare_map reader comma_due pending = record { at = bare reader comma_due; pending = pending }
 
 -- ---- a key, and then its value
 
--- a key that stands for u was read, after the comma that was due; escape-free says that no escape is used
+-- a key that spells u was read, after the comma that was due; escape_free says that no escape is used
 pub record TookPairKey (comma_due : Bool) (old : State) (u : List ℕ) (escape_free : Bool) (new : State) : Type 0 where
   pub live : old.failed ≡ false
   pub key : IsKey comma_due old.unread u escape_free new.unread
@@ -44,13 +44,13 @@ pub record TookPairValue (old : State) (t : Tree) (new : State) : Type 0 where
   pub shallow : old.level + depth t ≤ max_depth
   pub rest : OnlyRead old new
 
--- a key was read and stands for k, and its value is to follow; or the closing brace is next
+-- a key was read and k is what it converts to, and its value is to follow; or the closing brace is next
 abbrev pub GivesPairKey : {K C : Type 0} → (K → C) → KeyConversion C → MapAccessState → MapAccessState → Option K → Type 0
 GivesPairKey content convert old new (Some k) =
     (u : List ℕ) × (escape_free : Bool) × TookPairKey old.at.comma_due old.at.reader u escape_free new.at.reader × (convert u escape_free ≡ Some (content k)) × (new.at.comma_due ≡ old.at.comma_due) × (new.pending ≡ true)
 GivesPairKey content convert old new None = AtClose curly old.at.comma_due old.at.reader new.at.reader × (new.at.comma_due ≡ old.at.comma_due) × (new.pending ≡ false)
 
--- a value was read and stands for v, and a comma is due
+-- a value was read and v is what it converts to, and a comma is due
 abbrev pub GivesPairValue : {V C : Type 0} → (V → C) → (Tree → Option C) → MapAccessState → MapAccessState → V → Type 0
 GivesPairValue content convert old new v = (t : Tree) × TookPairValue old.at.reader t new.at.reader × (convert t ≡ Some (content v)) × (new.at.comma_due ≡ true) × (new.pending ≡ false)
 
@@ -59,7 +59,7 @@ abbrev pub CompletesPairKey : {V C : Type 0} → KeyConversion C → MapAccessSt
 CompletesPairKey {C = C} convert old result =
     (u : List ℕ) (escape_free : Bool) (r : List ℕ) (c : C) → old.at.reader.failed ≡ false → IsKey old.at.comma_due old.at.reader.unread u escape_free r → convert u escape_free ≡ Some c → IsOkOrMemory result
 
--- where a key that converts to c stands, the answer is Ok of a key whose content is c, unless memory runs out
+-- if a key that converts to c is next, the call returns Ok of a key whose content is c, unless memory runs out
 abbrev pub ReadsPairKey : {V C : Type 0} → (V → C) → KeyConversion C → MapAccessState → Result (Option V) Error → Type 0
 ReadsPairKey {C = C} content convert old result =
     (u : List ℕ) (escape_free : Bool) (r : List ℕ) (c : C) → old.at.reader.failed ≡ false → IsKey old.at.comma_due old.at.reader.unread u escape_free r → convert u escape_free ≡ Some c
@@ -70,7 +70,7 @@ abbrev pub CompletesPairValue : {V C : Type 0} → (Tree → Option C) → MapAc
 CompletesPairValue {C = C} convert old result =
     (t : Tree) (r : List ℕ) (c : C) → old.at.reader.failed ≡ false → IsKeyValue old.at.reader.unread t r → old.at.reader.level + depth t ≤ max_depth → convert t ≡ Some c → IsOkOrMemory result
 
--- where a value that converts to c stands, the answer is Ok of a value whose content is c, unless memory runs out
+-- if a value that converts to c is next, the call returns Ok of a value whose content is c, unless memory runs out
 abbrev pub ReadsPairValue : {V C : Type 0} → (V → C) → (Tree → Option C) → MapAccessState → Result V Error → Type 0
 ReadsPairValue {C = C} content convert old result =
     (t : Tree) (r : List ℕ) (c : C) → old.at.reader.failed ≡ false → IsKeyValue old.at.reader.unread t r → old.at.reader.level + depth t ≤ max_depth → convert t ≡ Some c
@@ -78,12 +78,12 @@ ReadsPairValue {C = C} content convert old result =
 
 -- ---- an object as a whole: what was read of it, and what is left
 
--- what stands after the last pair: nothing of the next, perhaps what is before the closing brace, or a key
+-- what was read after the last member: nothing of the next, perhaps what is before the closing brace, or a key
 abbrev pub StandsAfter : Option (List ℕ × Bool) → Bool → List ℕ → List ℕ → Type 0
 StandsAfter None comma_due x y = (y ≡ x) ⊎ IsAtBrace comma_due x y
 StandsAfter (Some (u, escape_free)) comma_due x y = IsKey comma_due x u escape_free y
 
--- an object begins at `from`, these pairs of it were read, and perhaps a key after them
+-- an object begins at `from`, these members of it were read, and perhaps a key after them
 pub record PairsRead (from : State) (ps : Pairs) (key : Option (List ℕ × Bool)) (now : MapAccessState) : Type 0 where
   pub live : from.failed ≡ false
   pub shallow : from.level + depth (object ps) ≤ max_depth
@@ -95,30 +95,30 @@ pub record PairsRead (from : State) (ps : Pairs) (key : Option (List ℕ × Bool
   pub pending : now.pending ≡ is_some key
   pub rest : now.at.reader ≡ record from { unread = now.at.reader.unread; level = from.level + 1 }
 
--- these pairs and the closing brace go on, with r after it; where a key is pending, the first pair without its key
+-- these members and the closing brace follow, with r after the brace; if a key is pending, the first member without its key
 abbrev pub LeftAfter : Bool → Pairs → Bool → List ℕ → List ℕ → Type 0
 LeftAfter false ps comma_due x r = PairsTail ps comma_due x r
 LeftAfter true no_pair comma_due x r = ⊥
 LeftAfter true (pair u escape_free t ps) comma_due x r = (z : List ℕ) × IsKeyValue x t z × PairsTail ps true z r
 
--- these pairs are left, the first perhaps without its key, and then the closing brace, with r after it; none is too deep
+-- these members are left, the first perhaps without its key, and then the closing brace, with r after it; no member is too deep
 pub record PairsLeft (ps : Pairs) (r : List ℕ) (now : MapAccessState) : Type 0 where
   pub live : now.at.reader.failed ≡ false
   pub shallow : now.at.reader.level + pair_depths ps ≤ max_depth
   pub tail : LeftAfter now.pending ps now.at.comma_due now.at.reader.unread r
 
--- a key was read after the pairs, which stands for k; or none, and what was read is the same
+-- a key was read after the members, and k is what it converts to; or no key, and what was read is the same
 abbrev pub ReadsAKey : {K C : Type 0} → (K → C) → KeyConversion C → MapAccessState → MapAccessState → Option K → Type 0
 ReadsAKey content convert old new (Some k) =
     (u : List ℕ) × (escape_free : Bool) × (convert u escape_free ≡ Some (content k)) × ((from : State) (ps : Pairs) → PairsRead from ps None old → PairsRead from ps (Some (u, escape_free)) new)
 ReadsAKey content convert old new None = (from : State) (ps : Pairs) → PairsRead from ps None old → PairsRead from ps None new
 
--- the key that was read has this value, one pair more
+-- the key that was read has this value, one member more
 abbrev pub ReadsAPair : {V C : Type 0} → (V → C) → (Tree → Option C) → MapAccessState → MapAccessState → V → Type 0
 ReadsAPair content convert old new v =
     (t : Tree) × (convert t ≡ Some (content v)) × ((from : State) (ps : Pairs) (u : List ℕ) (escape_free : Bool) → PairsRead from ps (Some (u, escape_free)) old → PairsRead from (snoc_pair ps u escape_free t) None new)
 
--- where pairs are left and the first one's key converts, it was read, unless memory ran out, and its value is left; where none is left, none was given.
+-- if members are left and the first one's key converts, it was read, unless memory ran out, and its value is left; if no member is left, None was returned.
 -- Nothing is said of the refusal of a key that doesn't convert.
 abbrev pub LeavesAValue : {K C : Type 0} → (K → C) → KeyConversion C → Pairs → List ℕ → MapAccessState → Result (Option K) Error → Type 0
 LeavesAValue content convert no_pair r new (Ok None) = PairsLeft no_pair r new
@@ -128,12 +128,12 @@ LeavesAValue content convert (pair u escape_free t ps) r new (Ok None) = ⊥
 LeavesAValue content convert (pair u escape_free t ps) r new (Ok (Some k)) = (convert u escape_free ≡ Some (content k)) × PairsLeft (pair u escape_free t ps) r new
 LeavesAValue {C = C} content convert (pair u escape_free t ps) r new (Err e) = (c : C) → convert u escape_free ≡ Some c → IsOutOfMemory e
 
--- where the first pair's value converts, it was read, unless memory ran out, and the others are left
+-- if the first member's value converts, it was read, unless memory ran out, and the other members are left
 abbrev pub LeavesPairs : {V C : Type 0} → (V → C) → (Tree → Option C) → Tree → Pairs → List ℕ → MapAccessState → Result V Error → Type 0
 LeavesPairs content convert t ps r new (Ok v) = (convert t ≡ Some (content v)) × PairsLeft ps r new
 LeavesPairs {C = C} content convert t ps r new (Err e) = (c : C) → convert t ≡ Some c → IsOutOfMemory e
 
--- the same of any pairs that are left
+-- the same of any members that are left
 abbrev pub LeavesOthers : {V C : Type 0} → (V → C) → (Tree → Option C) → MapAccessState → MapAccessState → Result V Error → Type 0
 LeavesOthers content convert old new result = (u : List ℕ) (escape_free : Bool) (t : Tree) (ps : Pairs) (r : List ℕ) → PairsLeft (pair u escape_free t ps) r old → LeavesPairs content convert t ps r new result
 
@@ -148,7 +148,7 @@ pub record SetsPending {V : Type 0} (waits : V → Bool) (old new : MapAccessSta
   pub given : IfOk result (λ v. new.pending ≡ waits v)
   pub kept : OnErr result (KeepsPending old new)
 
--- an object is opened by an access that holds the reader so: nothing was read of it, and where one can be read its pairs are left
+-- an object is opened by an access that holds the reader so: nothing of it was read, and if an object can be read, its members are left
 pub record OpensMap {A : Type 0} (Held : A → Type 0) (state_of : A → MapAccessState) (old : State) (result : Result A Error) : Type 0 where
   pub held : IfOk result Held
   pub bracket : OpensAs curly (λ a. (state_of a).at) old result
@@ -157,7 +157,7 @@ pub record OpensMap {A : Type 0} (Held : A → Type 0) (state_of : A → MapAcce
   pub read : IfOk result (λ a. PairsRead old no_pair None (state_of a))
   pub left : (ps : Pairs) (r : List ℕ) → old.failed ≡ false → Reads old.unread (object ps) r → old.level + depth (object ps) ≤ max_depth → IsOkAnd result (λ a. PairsLeft ps r (state_of a))
 
--- an object is closed: the pairs that were read are all of it
+-- an object is closed: the members that were read are all of it
 pub record ClosesMap (old : MapAccessState) (new : State) (result : Result (Unit {0}) Error) : Type 0 where
   pub bracket : ClosesAs curly old.at.comma_due old.at.reader new result
   pub same_text : SameText old.at.reader new

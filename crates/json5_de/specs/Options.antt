@@ -25,7 +25,7 @@ pub data NoOption : List ℕ → Option ErrorCode → Option (List ℕ) → Type
   option_missing : NoOption [] (Some codes.EofParsingValue) None
   faulty_null : {r : List ℕ} {reason : Option ErrorCode} {place : Option (List ℕ)} → FaultyNull (letter_n ∷ r) reason place → NoOption (letter_n ∷ r) reason place
 
--- T refused after the blanks, with a fault that gets the value's start where it had no place
+-- T refused after the blanks, with a fault that gets the value's start as its position if it had none
 pub record RefusedInside (refuses : State → Error → State → Type 0) (old : State) (e : Error) (new : State) : Type 0 where
   pub start : State
   pub passed : PassedGap old start

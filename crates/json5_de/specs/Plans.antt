@@ -1,4 +1,4 @@
--- A struct by its fields, one plan: what it takes of an object, and what each pair changes of what was read of it.
+-- A struct by its fields, one plan: what it takes of an object, and what each member changes of what was read of it.
 use Rattle.std.proofs.Common.{◌≡◌, ℕ, Bool, true, false, List, [], ◌∷◌, refl, sym, ap, ◌∙◌, Option, Some, None}
 use Rattle.std.specs.Prelude.{if◌then◌else◌, ◌<◌, length, Result, Ok, Err, OnOk}
 use Rattle.std.specs.Str.{bytes_eq, encode_utf8_all}
@@ -15,7 +15,7 @@ use Rattle.json5_de.specs.Objects.{MapAccessState, PairsRead, PairsLeft}
 use Rattle.json5_de.specs.Fields.{values_named, at_most_one, or_value}
 use Rattle.json5_de.specs.Fields as spec
 
--- how a pair with this name changes what was read of the fields; none where it may not stand
+-- how a member with this name changes what was read of the fields; None if the struct may not have the member
 abbrev pub Step : Type 0 → Type 0
 Step S = S → List ℕ → Tree → Option S
 
@@ -23,7 +23,7 @@ abbrev pub run : {S : Type 0} → Step S → S → Pairs → Option S
 run step s no_pair = Some s
 run step s (pair u escape_free t ps) = if_more (λ n. run step n ps) (step s (encode_utf8_all u) t)
 
--- the fields of a struct: how pairs change them, what they are before the first, what they make at the end, and what that is of all pairs
+-- the fields of a struct: how members change them, what they are before the first member, what they make at the end, and what all members make
 pub record Plan (S D : Type 0) : Type 0 where
   pub step : Step S
   pub start : S
@@ -130,9 +130,9 @@ plan_and a b = record {
   says = λ ps. rw (a.says ps, b.says ps) (built_both a.build b.build (run a.step a.start ps) (run b.step b.start ps) ∙ sym (ap (if_more _) (run_both a.step b.step a.start b.start ps)));
 }
 
--- ---- what the calls mean that read a struct's pairs
+-- ---- what the calls mean that read a struct's members
 
--- where a pair, or pairs, make m of what was read it is read, unless memory runs out, and these pairs are left
+-- if a member, or members, make m of what was read, they are read, unless memory runs out, and these members are left
 abbrev pub LeavesTaken : {S : Type 0} → S → S → Pairs → List ℕ → MapAccessState → Result (Unit {0}) Error → Type 0
 LeavesTaken n m ps r new (Ok done) = (m ≡ n) × PairsLeft ps r new
 LeavesTaken n m ps r new (Err e) = IsOutOfMemory e
@@ -150,7 +150,7 @@ pub record TakesPair {S : Type 0} (step : Step S) (s n : S) (name : List ℕ) (o
 abbrev pub PassesPair : MapAccessState → MapAccessState → Result (Unit {0}) Error → Type 0
 PassesPair old new result = TakesPair {S = Unit {0}} (λ s name t. Some s) tt tt [] old new result
 
--- all pairs that are left, from the first, up to the closing brace: s is what was read of the fields before, n after them
+-- all members that are left, from the first, up to the closing brace: s is what was read of the fields before, n after them
 pub record ReadsPairs {S : Type 0} (step : Step S) (s n : S) (old new : MapAccessState) (result : Result (Unit {0}) Error) : Type 0 where
   pub read : OnOk result ((ps : Pairs) × (run step s ps ≡ Some n) × ((from : State) → PairsRead from no_pair None old → PairsRead from ps None new))
   pub left : (ps : Pairs) (r : List ℕ) (m : S) → run step s ps ≡ Some m → PairsLeft ps r old → LeavesTaken n m no_pair r new result

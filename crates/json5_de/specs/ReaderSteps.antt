@@ -32,7 +32,7 @@ pub record PassedGap (old new : State) : Type 0 where
   pub solid : Solid new.unread
   pub rest : OnlyRead old new
 
--- this text was taken from the front
+-- these characters were taken from the front
 pub record TookText (old : State) (taken : List ℕ) (new : State) : Type 0 where
   pub split : old.unread ≡ taken ++ new.unread
   pub rest : OnlyRead old new
@@ -41,11 +41,11 @@ pub record TookText (old : State) (taken : List ℕ) (new : State) : Type 0 wher
 abbrev pub TookNumber : State → State → token.Number → Type 0
 TookNumber old new n = (s : List ℕ) × TookText old s new × Num s (number_of n) × NotBegun (lengthens s) new.unread
 
--- a string was taken, which stands for this text
+-- a string was taken that spells this text
 abbrev pub TookOwned : {A : Type 0} → State → State → String A → Type 0
 TookOwned old new t = (s u : List ℕ) × (escape_free : Bool) × TookText old s new × Str s u escape_free × (string_bytes t ≡ encode_utf8_all u)
 
--- the same, borrowed where it is escape-free
+-- the same, borrowed if it is escape-free
 abbrev pub TookCow : State → State → CowStr → Type 0
 TookCow old new t = (s u : List ℕ) × (escape_free : Bool) × TookText old s new × Str s u escape_free × (is_borrowed t ≡ escape_free) × (cow_bytes t ≡ encode_utf8_all u)
 
@@ -57,7 +57,7 @@ TookCharacters old new t = (s : List ℕ) × (escape_free : Bool) × TookText ol
 abbrev pub RefusesToken : FaultRelation → State → Error → Type 0
 RefusesToken IsFault old e = LacksMemory e ⊎ Refused IsFault (cursor_of old) e
 
--- this code, None for a text of its own, at this offset
+-- this code, None for a custom message, at this offset
 abbrev pub IsFaultAt : Option ErrorCode → List ℕ → ℕ → Error → Type 0
 IsFaultAt reason input offset e =
     Says reason e × ((before rest : List ℕ) → input ≡ before ++ rest → offset ≡ length (encode_utf8_all before) → place_of e ≡ Some (position_after before))
@@ -66,16 +66,16 @@ IsFaultAt reason input offset e =
 abbrev pub IsMismatchOf : Option ErrorCode → List ℕ → ℕ → Error → Type 0
 IsMismatchOf reason input offset e = LacksMemory e ⊎ IsFaultAt reason input offset e
 
--- a text of its own at this offset, or memory ran out
+-- a custom message at this offset, or memory ran out
 abbrev pub IsMismatch : List ℕ → ℕ → Error → Type 0
 IsMismatch = IsMismatchOf None
 
--- memory ran out in decoding, or the text isn't of bytes: InvalidBytes at this offset
+-- memory ran out in decoding, or the text spells no bytes: InvalidBytes at this offset
 abbrev pub IsUndecoded : FromHexError → List ℕ → ℕ → Error → Type 0
 IsUndecoded hex.OutOfMemory input offset e = LacksMemory e
 IsUndecoded _ input offset e = IsFaultAt (Some InvalidBytes) input offset e
 
--- a whole number was taken after a gap, and so many bytes stand before it
+-- a whole number was taken after a gap, and so many bytes come before it
 pub record WholeAt (old new : State) (start : ℕ) (z : ℤ) : Type 0 where
   pub between : State
   pub phrase : List ℕ
@@ -86,12 +86,12 @@ pub record WholeAt (old new : State) (start : ℕ) (z : ℤ) : Type 0 where
   pub counted : (before : List ℕ) → between.input ≡ before ++ between.unread → start ≡ length (encode_utf8_all before)
   pub offset : IsOffset new.input start
 
--- the character is taken where it is next
+-- the character is taken if it is next
 pub record Eats (c : ℕ) (old new : State) (ate : Bool) : Type 0 where
   pub taken : ate ≡ true → TookText old (c ∷ []) new
   pub kept : (ate ≡ false) → (new ≡ old) × NotBegun (λ d. d == c) old.unread
 
--- so many bytes stand before what is unread, and that is a text
+-- so many bytes come before the unread part, which is the end of the input and scalar values
 pub record IsCount (s : State) (count : ℕ) : Type 0 where
   pub offset : IsOffset s.input count
   pub counted : (before : List ℕ) → s.input ≡ before ++ s.unread → count ≡ length (encode_utf8_all before)

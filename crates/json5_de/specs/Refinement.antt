@@ -10,12 +10,12 @@ use Rattle.json5_de.specs.State.{State, SameText}
 use Rattle.json5_de.specs.Law.{Gives, CompletesFree, Unprompted}
 use Rattle.json5_de.specs.Faults.{RefusedByOrMemory}
 
--- where a tree that converts to c stands in front, the answer is Ok of a value whose content is c, unless memory runs out
+-- if a tree that converts to c is in front, the call returns Ok of a value whose content is c, unless memory runs out
 abbrev pub ReadsContent : {V C : Type 0} → (V → C) → (Tree → Option C) → State → Result V Error → Type 0
 ReadsContent {C = C} content convert old result =
     (t : Tree) (r : List ℕ) (c : C) → old.failed ≡ false → Reads old.unread t r → old.level + depth t ≤ max_depth → convert t ≡ Some c → MatchResult result (λ v. content v ≡ c) IsOutOfMemory
 
--- one value is read from the front: the law of a type, and which content is answered
+-- one value is read from the front: the law of a type, and which content is returned
 pub record ReadsExactly {V C : Type 0} (content : V → C) (convert : Tree → Option C) (allocation_free : Tree → Bool) (refuses : State → Error → State → Type 0) (old new : State) (result : Result V Error) : Type 0 where
   pub sound : IfOk result (λ v. Gives content convert old new v)
   pub complete : ReadsContent content convert old result
@@ -33,10 +33,10 @@ if_more g (Some a) = g a
 abbrev pub refined : {A B : Type 0} → (Tree → Option A) → (A → Option B) → Tree → Option B
 refined f g t = if_more g (f t)
 
--- a value that converts and isn't accepted: a text of its own, at the value's first character
+-- a value that converts and isn't accepted: a custom message, at the value's first character
 pub data NotAccepted {A B : Type 0} (f : Tree → Option A) (g : A → Option B) : List ℕ → Option ErrorCode → Option (List ℕ) → Type 0 where
   not_accepted : {s : List ℕ} {t : Tree} (r : List ℕ) (a : A) → Val s t → Stops s r → f t ≡ Some a → g a ≡ None → NotAccepted f g (s ++ r) None (Some [])
 
--- refused as what is read, or where that isn't accepted
+-- refused as the read refuses it, or because what was read isn't accepted
 abbrev pub RefusesOwn : {A B : Type 0} → (Tree → Option A) → (A → Option B) → (State → Error → State → Type 0) → State → Error → State → Type 0
 RefusesOwn f g refuses old e new = refuses old e new ⊎ RefusedByOrMemory (NotAccepted f g) old e

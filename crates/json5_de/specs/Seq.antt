@@ -18,7 +18,7 @@ use Rattle.json5_de.specs.Faults.{RefusedBy, AtEnd, DiffersWith}
 use Rattle.json5_de.specs.Access.{AccessState, AtClose, HasPosition, PlacedAtBracket, IsAtBracket, is_comma_or_closing, AnswersFailedAtBracket}
 use Rattle.json5_value.specs.Steps.{Unexpected}
 
--- y is what stands after the gap in front of x
+-- y is what follows the gap in front of x
 pub record IsAfterGap (x y : List ℕ) : Type 0 where
   pub gap : List ℕ
   pub split : x ≡ gap ++ y
@@ -39,11 +39,11 @@ pub record IsUnexpected (ends differs : ErrorCode) (old new : State) (e : Error)
   pub fault : Refused (Unexpected ends differs) (cursor_of old) e
   pub state : new ≡ record old { failed = true }
 
--- something else stands in front
+-- something else is in front
 abbrev pub RefusesClosing : Brackets → State → Error → Type 0
 RefusesClosing b old e = Refused (Unexpected b.ends b.not_closed) (cursor_of old) e × NotBegun (λ c. c == b.closing) old.unread
 
--- the closing bracket is taken where it stands in front
+-- the closing bracket is taken if it is in front
 pub record TakesClosing (b : Brackets) (old new : State) (result : Result (Unit {0}) Error) : Type 0 where
   pub taken : OnOk result (TookClosing b old new)
   pub refused : IfErr result (RefusesClosing b old)
@@ -60,18 +60,18 @@ abbrev pub AdvancesToEntry : Brackets → Bool → State → State → Bool → 
 AdvancesToEntry b comma_due old new true = AtMember b comma_due old new
 AdvancesToEntry b comma_due old new false = AtClose b comma_due old new
 
--- x goes on with no place where a member may begin, and with no closing bracket
+-- neither the start of an element or a member nor the closing bracket follows in x
 pub record NothingNext (b : Brackets) (comma_due : Bool) (x : List ℕ) : Type 0 where
   pub no_member : (y : List ℕ) → IsMemberStart comma_due x y → ⊥
   pub no_close : (r : List ℕ) → IsEnd b.closing comma_due x r → ⊥
 
--- what is refused where the next member is expected
+-- what is refused where the next element or member is expected
 pub data NoNext (b : Brackets) (comma_due : Bool) : List ℕ → Option ErrorCode → Option (List ℕ) → Type 0 where
   no_comma : (c : ℕ) (r : List ℕ) → comma_due ≡ true → (c == comma_sign) ≡ false → (c == b.closing) ≡ false → NoNext b comma_due (c ∷ r) (Some codes.ExpectedComma) (Some [])
   comma_missing : comma_due ≡ true → NoNext b comma_due [] (Some b.ends) None
   in_blanks_after : {x : List ℕ} {reason : Option ErrorCode} {place : Option (List ℕ)} → comma_due ≡ true → FaultyBlanks x reason place → NoNext b comma_due (comma_sign ∷ x) reason (after_text (comma_sign ∷ []) place)
 
--- the reader goes to the next member, or to the closing bracket
+-- the reader goes to the next element or member, or to the closing bracket
 pub record Advances (b : Brackets) (comma_due : Bool) (old new : State) (result : Result Bool Error) : Type 0 where
   pub sound : IfOk result (λ more. AdvancesToEntry b comma_due old new more)
   pub refused : IfErr result (RefusedBy (NoNext b comma_due) old)
@@ -84,14 +84,14 @@ pub record Advances (b : Brackets) (comma_due : Bool) (old new : State) (result 
 abbrev pub Cause : Type 1
 Cause = Error → State → Type 0
 
--- the fault, at the opening bracket where it had no place
+-- the fault, at the opening bracket if it had no position
 pub record PlacedFault (IsCause : Cause) (old : AccessState) (e : Error) : Type 0 where
   pub own : Error
   pub after : State
   pub cause : IsCause own after
   pub placed : PlacedAtBracket old own e
 
--- how a call is refused: a fault without a place gets the opening bracket's. Where something is asked for, `end_code` comes
+-- how a call is refused: a fault without a position gets the opening bracket's. If something is asked for, the code is `end_code`
 -- at the end, and `other_code` at a character that begins nothing of it.
 pub record RefusesCall {V : Type 0} (IsCause : Cause) (asked : Bool) (begins : ℕ → Bool) (end_code other_code : ErrorCode) (old : AccessState) (new : State) (result : Result V Error) : Type 0 where
   pub cause : IfErr result (λ e. old.reader.failed ≡ false → PlacedFault IsCause old e)
@@ -104,12 +104,12 @@ pub record RefusesCall {V : Type 0} (IsCause : Cause) (asked : Bool) (begins : �
 
 -- ---- elements
 
--- the fault of a call for an element: none was reached, or the element's own
+-- the fault of a call for an element: no element was reached, or the element's own
 pub data RefusesElement (refuses : State → Error → State → Type 0) (comma_due : Bool) (old : State) (e : Error) (after : State) : Type 0 where
   not_reached : RefusedBy (NoNext square comma_due) old e → RefusesElement refuses comma_due old e after
   in_element : (start : State) → AtMember square comma_due old start → refuses start e after → RefusesElement refuses comma_due old e after
 
--- the element's fault, at the opening bracket where it had no place
+-- the element's fault, at the opening bracket if it had no position
 abbrev pub RefusedAtBracket : (State → Error → State → Type 0) → AccessState → Error → Type 0
 RefusedAtBracket refuses old e = PlacedFault (RefusesElement refuses old.comma_due old.reader) old e
 

@@ -1,4 +1,4 @@
--- What the short ways promise: what they answer is what the reader's other calls answer, and where they answer nothing, nothing has changed.
+-- What the short ways promise: they return what the reader's other calls return, or None, and then nothing has changed.
 use Rattle.std.specs.Prelude.{◌≡◌, ℕ, Bool, true, false, List, Option, MatchOption, Result, Ok, Err, String, string_bytes}
 use Rattle.std.specs.Borrow.{Bor}
 use Rattle.std.specs.Str.{encode_utf8_all}
@@ -28,15 +28,15 @@ StepsShort b comma_due old new short.Member = AdvancesToEntry b comma_due old ne
 StepsShort b comma_due old new short.Closing = AdvancesToEntry b comma_due old new false
 StepsShort b comma_due old new short.Other = new ≡ old
 
--- a text without an escape is read, which stands there, or nothing
+-- a string without an escape is read, whose text is at the span, or nothing
 abbrev pub ReadsShortText : State → State → Option Span → Type 0
 ReadsShortText old new result = MatchOption result (new ≡ old) (λ span. (u : List ℕ) × TookValue old (text u true) new × IsSliceAt new.input u span.start span.end)
 
--- a key without an escape is taken, whose text stands there, or nothing
+-- a key without an escape is taken, whose text is at the span, or nothing
 abbrev pub ReadsShortKey : State → State → Option Span → Type 0
 ReadsShortKey old new result = MatchOption result (new ≡ old) (λ span. (u : List ℕ) × TookKey old u true new × IsSliceAt new.input u span.start span.end)
 
--- a text without an escape is read, or nothing
+-- a string without an escape is read, or nothing
 abbrev pub ReadsEscapeFreeText : State → State → Option (Bor (List ℕ)) → Type 0
 ReadsEscapeFreeText old new result = MatchOption result (new ≡ old) (λ t. (u : List ℕ) × TookValue old (text u true) new × (t.now ≡ encode_utf8_all u))
 
@@ -49,7 +49,7 @@ abbrev pub PassesShortColon : State → State → Bool → Type 0
 PassesShortColon old new true = AfterColon old new
 PassesShortColon old new false = new ≡ old
 
--- the text that stands there, in memory of its own; or memory ran out
+-- an owned copy of the text at the span; or memory ran out
 abbrev pub OwnsTextAt : {A : Type 0} → Span → State → State → Result (String A) Error → Type 0
 OwnsTextAt span old new (Ok t) = (new ≡ old) × IsTextAt old.input span (string_bytes t)
 OwnsTextAt span old new (Err e) = LacksMemory e × GivesUp old new

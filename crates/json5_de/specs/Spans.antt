@@ -1,4 +1,4 @@
--- Where a value stands that was read.
+-- The offsets of a value that was read.
 use Rattle.std.specs.Prelude.{◌≡◌, ◌⊎◌, ℕ, ◌++◌, false, List, length}
 use Rattle.std.specs.Str.{encode_utf8_all}
 use Rattle.json5_text.specs.declared.error.Error.{Error}
@@ -7,11 +7,11 @@ use Rattle.json5_text.specs.Tokens.{FaultyBlanks}
 use Rattle.json5_de.specs.State.{State, cursor_of}
 use Rattle.json5_de.specs.ReaderSteps.{PassedGap}
 
--- so many bytes stand before what is unread
+-- so many bytes come before the unread part
 abbrev pub IsBefore : State → ℕ → Type 0
 IsBefore s offset = (before : List ℕ) → s.input ≡ before ++ s.unread → offset ≡ length (encode_utf8_all before)
 
--- so many bytes stand before the value's first character, which the blanks end with, and so many before what follows the value
+-- `start` bytes come before the value's first character, where the blanks end, and `end` bytes before what follows the value
 pub record SpansValue (old : State) (start end : ℕ) (new : State) : Type 0 where
   pub at : State
   pub passed : PassedGap old at

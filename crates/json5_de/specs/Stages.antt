@@ -3,7 +3,7 @@ use Rattle.std.specs.Prelude.{Bool, true, false}
 use Rattle.json5_de.specs.declared.stage.Stage.{Stage}
 use Rattle.json5_de.specs.declared.stage.Stage.TheVariants as stage
 
--- whether a comma is due before the next member
+-- whether a comma is due before the next element or member
 abbrev pub is_comma_due : Stage → Bool
 is_comma_due stage.Empty = false
 is_comma_due stage.FirstKey = false
@@ -17,12 +17,12 @@ is_pending stage.FirstKey = true
 is_pending stage.Started = false
 is_pending stage.LaterKey = true
 
--- the stage after a call for a member, which was given or not
+-- the stage after a call for an element, which was read or not
 abbrev pub with_member : Stage → Bool → Stage
 with_member s true = stage.Started
 with_member s false = s
 
--- the stage after a call for a key, which was given or not
+-- the stage after a call for a key, which was read or not
 abbrev pub with_key : Stage → Bool → Stage
 with_key s false = s
 with_key stage.Empty true = stage.FirstKey

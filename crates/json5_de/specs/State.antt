@@ -4,14 +4,15 @@ use Rattle.json5_grammar.specs.Language.Documents.{max_depth}
 use Rattle.json5_text.specs.declared.error.Error.{Error}
 use Rattle.json5_text.specs.Cursor.{Cursor}
 
--- the whole text, what is unread of it, how many of 128 brackets are taken (those that are open, and those past the reader's own limit, which is 128 where none was named), and whether a call refused, or an access holds the reader or was dropped before its end
+-- the whole input, its unread part, how many of 128 brackets are taken (those that are open, and those past the reader's limit, which is 128 by default),
+-- and whether a call refused, or an access holds the reader or was dropped before its end
 pub record State : Type 0 where
   pub input : List ℕ
   pub unread : List ℕ
   pub level : ℕ
   pub failed : Bool
 
--- a reader within a limit, at the start of the text: all brackets are taken but those that it may open
+-- a reader within a limit, at the start of the input: all brackets are taken but those that it may open
 abbrev pub at_start : ℕ → List ℕ → State
 at_start limit x = record { input = x; unread = x; level = max_depth - limit; failed = false }
 
@@ -26,11 +27,11 @@ next s = slice_get s.unread 0
 abbrev pub OnlyRead : State → State → Type 0
 OnlyRead old new = new ≡ record old { unread = new.unread }
 
--- the reader still reads the same text
+-- the reader still reads the same input
 abbrev pub SameText : State → State → Type 0
 SameText old new = new.input ≡ old.input
 
--- it has failed, and still reads the same text
+-- it has failed, and still reads the same input
 pub record GivesUp (old new : State) : Type 0 where
   pub failed : new.failed ≡ true
   pub same_text : SameText old new
@@ -42,7 +43,7 @@ FailsIfErr new result = OnErr result (new.failed ≡ true)
 abbrev pub GivesUpIfErr : {V : Type 0} → State → State → Result V Error → Type 0
 GivesUpIfErr old new result = OnErr result (GivesUp old new)
 
--- the reader's scanner is called: nothing else changes where the call succeeds, and the reader has failed where it refuses
+-- the reader's scanner is called: nothing else changes if the call succeeds, and the reader has failed if it refuses
 pub record Calls {A : Type 0} (IsCall : Cursor → Cursor → Result A Error → Type 0) (old new : State) (result : Result A Error) : Type 0 where
   pub call : IsCall (cursor_of old) (cursor_of new) result
   pub read : OnOk result (OnlyRead old new)

@@ -17,7 +17,7 @@ use Rattle.json5_de.specs.Plans.{Step, Plan, run}
 
 -- ---- the value of a key
 
--- what is known of a value's fault: the name of its key, which values may stand there, the object there, and the fault
+-- what is known of a value's fault: the name of its key, which values are allowed there, the object at that point, and the fault
 abbrev pub ValueFaults : Type 1
 ValueFaults = List ℕ → (Tree → Bool) → MapAccessState → Error → Type 0
 
@@ -25,7 +25,7 @@ ValueFaults = List ℕ → (Tree → Bool) → MapAccessState → Error → Type
 abbrev pub may_stand : {S : Type 0} → Step S → S → List ℕ → Tree → Bool
 may_stand step s name t = is_some (step s name t)
 
--- the faults of a field: its first value is refused as its type refuses it, and a second one may not stand there
+-- the faults of a field: its first value is refused as its type refuses it, and a second value isn't allowed
 pub data of_field {C : Type 0} (field : List ℕ) (convert : Tree → Option C) (refuses : State → Error → State → Type 0) (name : List ℕ) (may : Tree → Bool) (old : MapAccessState) (e : Error) : Type 0 where
   first : name ≡ field → ((t : Tree) → may t ≡ is_some (convert t)) → ValueRefusedAtBrace refuses old e → of_field field convert refuses name may old e
   second : name ≡ field → ((t : Tree) → may t ≡ false) → IsOwnAtBracket old.at e → of_field field convert refuses name may old e
@@ -34,7 +34,7 @@ pub data of_field {C : Type 0} (field : List ℕ) (convert : Tree → Option C) 
 abbrev pub or_of : ValueFaults → ValueFaults → ValueFaults
 or_of a b name may old e = a name may old e ⊎ b name may old e
 
--- the fault of a value that is passed over: any may stand there, and none can be read
+-- the fault of a value that is passed over: any value is allowed, and no value can be read
 pub record of_any (name : List ℕ) (may : Tree → Bool) (old : MapAccessState) (e : Error) : Type 0 where
   pub every : (t : Tree) → may t ≡ true
   pub fault : ValueRefusedAtBrace (λ s own after. RefusesTree s own) old e
@@ -43,9 +43,9 @@ pub record of_any (name : List ℕ) (may : Tree → Bool) (old : MapAccessState)
 abbrev pub RefusesPair : {S : Type 0} → ValueFaults → Step S → S → List ℕ → MapAccessState → Result (Unit {0}) Error → Type 0
 RefusesPair faults step s name old result = IfErr result (λ e. old.at.reader.failed ≡ false → faults name (may_stand step s name) old e)
 
--- ---- the pairs
+-- ---- the members
 
--- from `old` on pairs were read, which make s of the fields, and perhaps a key after them
+-- from `old` on members were read, which make s of the fields, and perhaps a key after them
 pub record ReadSince {S : Type 0} (step : Step S) (start s : S) (key : Option (List ℕ × Bool)) (old now : MapAccessState) : Type 0 where
   pub live : now.at.reader.failed ≡ false
   pub same_text : SameText old.at.reader now.at.reader
@@ -54,12 +54,12 @@ pub record ReadSince {S : Type 0} (step : Step S) (start s : S) (key : Option (L
   pub are : run step start pairs ≡ Some s
   pub read : (from : State) → PairsRead from no_pair None old → PairsRead from pairs key now
 
--- after the pairs that were read the next key is refused, or the value of a key that was read
+-- after the members that were read the next key is refused, or the value of a key that was read
 pub data PairsFault {S : Type 0} (step : Step S) (faults : ValueFaults) (start : S) (old : MapAccessState) (e : Error) : Type 0 where
   at_key : (s : S) (now : MapAccessState) → ReadSince step start s None old now → KeyRefusedAtBrace (RefusedAsKey string_key) now e → PairsFault step faults start old e
   at_value : (s : S) (now : MapAccessState) (u : List ℕ) (escape_free : Bool) → ReadSince step start s (Some (u, escape_free)) old now → faults (encode_utf8_all u) (may_stand step s (encode_utf8_all u)) now e → PairsFault step faults start old e
 
--- pairs that are refused have one of these faults; where a call was refused before, this one answers `Failed` at the opening brace
+-- members that are refused have one of these faults; if a call was refused before, this one returns `Failed` at the opening brace
 pub record RefusesPairs {S : Type 0} (step : Step S) (faults : ValueFaults) (start : S) (old : MapAccessState) (result : Result (Unit {0}) Error) : Type 0 where
   pub cause : IfErr result (λ e. old.at.reader.failed ≡ false → PairsFault step faults start old e)
   pub before : AnswersFailedAtBracket old.at result
@@ -72,7 +72,7 @@ pub record OpenedObject (old : State) (first : MapAccessState) : Type 0 where
   pub start : (before : List ℕ) → old.input ≡ before ++ left_brace ∷ first.at.reader.unread → first.at.start ≡ length (encode_utf8_all before)
   pub read : PairsRead old no_pair None first
 
--- the opening brace, the first key or value at fault, or a field that is missing once all pairs were read
+-- the opening brace, the first key or value at fault, or a field that is missing after all members were read
 pub data StructFault {S D : Type 0} (plan : Plan S D) (faults : ValueFaults) (old : State) (e : Error) : Type 0 where
   not_opened : RefusedBy (NotOpened curly old.level) old e → StructFault plan faults old e
   in_pairs : (first : MapAccessState) → OpenedObject old first → PairsFault plan.step faults plan.start first e → StructFault plan faults old e

@@ -1,4 +1,4 @@
--- How a whole text is read, and why it is refused.
+-- How a whole input is read, and why it is refused.
 use Rattle.std.specs.Prelude.{◌≡◌, ◌⊎◌, ℕ, ◌≤◌, List, [], Option, Some, Result, MatchResult, IfOk, IfErr, OnOk, OnErr, IsOk}
 use Rattle.json5_grammar.specs.Language.Documents.{Doc}
 use Rattle.json5_grammar.specs.Language.Trees.{Tree, depth}
@@ -13,12 +13,12 @@ use Rattle.json5_de.specs.Faults.{AfterBlanks, RefusedBy, AtEnd, Trailing}
 abbrev pub ReadsDocument : {V C : Type 0} → (V → C) → (Tree → Option C) → ℕ → List ℕ → Result V Error → Type 0
 ReadsDocument {C = C} content convert limit x result = (t : Tree) (c : C) → Doc limit x t → convert t ≡ Some c → MatchResult result (λ v. content v ≡ c) IsOutOfMemory
 
--- the value is refused, or what stands after one that converts
+-- the value is refused, or what follows a value that converts
 pub data RefusesReading {C : Type 0} (convert : Tree → Option C) (refuses : State → Error → State → Type 0) (limit : ℕ) (x : List ℕ) (e : Error) : Type 0 where
   in_value : (new : State) → refuses (at_start limit x) e new → RefusesReading convert refuses limit x e
   after_value : (t : Tree) (c : C) (new : State) → TookValue (at_start limit x) t new → convert t ≡ Some c → RefusedBy Trailing new e → RefusesReading convert refuses limit x e
 
--- where a value within the limit that converts stands in front, the fault is that of what stands after it, unless memory runs out
+-- if a value within the limit that converts is in front, the fault is that of what follows it, unless memory runs out
 abbrev pub BlamesRest : {C : Type 0} → (Tree → Option C) → ℕ → List ℕ → Error → Type 0
 BlamesRest {C = C} convert limit x e = (t : Tree) (r : List ℕ) (c : C) → Reads x t r → depth t ≤ limit → convert t ≡ Some c
     → IsOutOfMemory e ⊎ Refused (AfterBlanks Trailing) (record { input = x; unread = r }) e
@@ -31,7 +31,7 @@ pub record ReadsEnd (old new : State) (result : Result (Unit {0}) Error) : Type 
   pub failed : OnErr result (GivesUp old new)
   pub before : StaysFailed old new result
 
--- the whole text is read as one value within the limit
+-- the whole input is read as one value within the limit
 pub record ReadsWholeText {V C : Type 0} (content : V → C) (convert : Tree → Option C) (refuses : State → Error → State → Type 0) (limit : ℕ) (x : List ℕ) (result : Result V Error) : Type 0 where
   pub sound : IfOk result (λ v. (t : Tree) × Doc limit x t × (convert t ≡ Some (content v)))
   pub complete : ReadsDocument content convert limit x result

@@ -19,7 +19,7 @@ use Rattle.json5_de.specs.Law.{StaysFailed, Unprompted}
 use Rattle.json5_de.specs.ReaderSteps.{PassedGap, TookText, TookNumber, TookOwned, TookCharacters, TookCow, RefusesToken}
 use Rattle.json5_de.specs.FoundTexts.{TookToken, IsString}
 
--- blanks are passed over, where there was no refusal before
+-- blanks are passed over if no call was refused before
 pub record PassesGap (old new : State) (result : Result (Unit {0}) Error) : Type 0 where
   pub passed : OnOk result (PassedGap old new)
   pub refused : IfErr result (λ e. old.failed ≡ false → Refused FaultyBlanks (cursor_of old) e)
@@ -33,7 +33,7 @@ pub record PassesWord (w : List ℕ) (ends differs : ErrorCode) (old new : State
   pub refused : IfErr result (λ e. Refused (FaultyWord w ends differs) (cursor_of old) e)
   pub failed : OnErr result (GivesUp old new)
 
--- a string is taken, its text in memory of its own
+-- a string is taken, its text an owned copy
 pub record TakesOwnString {A : Type 0} (old new : State) (result : Result (String A) Error) : Type 0 where
   pub taken : IfOk result (TookOwned old new)
   pub characters : IfOk result (TookCharacters old new)
@@ -67,7 +67,7 @@ number_token = record {
 abbrev pub CompletesEscapeFree : {V : Type 0} → List ℕ → Result V Error → Type 0
 CompletesEscapeFree x result = (s u r : List ℕ) → x ≡ s ++ r → Str s u true → IsOk result
 
--- a string, its text borrowed where it is escape-free
+-- a string, its text borrowed if it is escape-free
 abbrev pub string_token : Token CowStr
 string_token = record { Took = TookCow; IsFault = FaultyString; Completes = CompletesEscapeFree }
 

@@ -58,14 +58,14 @@ EndsAs kind old result = EndsWhere kind.may_lack_memory kind.ends old result
 abbrev pub DiffersAs : {V C : Type 0} → Kind C → State → Result V Error → Type 0
 DiffersAs kind old result = DiffersWhere kind.may_lack_memory kind.begins kind.differs old result
 
--- all trees, or none, whose contents need no memory
+-- trees whose contents need no memory: all, or none
 abbrev pub every_tree : Tree → Bool
 every_tree t = true
 
 abbrev pub no_tree : Tree → Bool
 no_tree t = false
 
--- a text without a backslash
+-- a string without a backslash
 abbrev pub escape_free_text : Tree → Bool
 escape_free_text (text u escape_free) = escape_free
 escape_free_text _ = false
@@ -93,34 +93,34 @@ integer_kind bound = whole_kind (integer_below bound)
 abbrev pub decimal_kind : Kind Decimal
 decimal_kind = record { IsFault = NotNumber every_decimal; convert = as_number every_decimal; allocation_free = no_tree; begins = λ c. is_sign c || begins_number c; ends = codes.EofParsingNumber; differs = codes.ExpectedNumber; may_lack_memory = true }
 
--- a text that converts; else this code at the quote, None for a text of its own
+-- a string whose text converts; else this code at the quote, None for a custom message
 abbrev pub coded_text_kind : {C : Type 0} → Option ErrorCode → (List ℕ → Bool → Option C) → (Tree → Bool) → Kind C
 coded_text_kind other f allocation_free = record { IsFault = NotText other f; convert = as_text f; allocation_free = allocation_free; begins = is_quote; ends = codes.EofParsingString; differs = codes.ExpectedString; may_lack_memory = true }
 
--- a text that converts; else a text of its own
+-- a string whose text converts; else a custom message
 abbrev pub text_kind : {C : Type 0} → (List ℕ → Bool → Option C) → (Tree → Bool) → Kind C
 text_kind = coded_text_kind None
 
 abbrev pub string_kind : Kind (List ℕ)
 string_kind = text_kind every_text no_tree
 
--- one character; an escape-free text takes no memory
+-- one character; an escape-free string takes no memory
 abbrev pub char_kind : Kind ℕ
 char_kind = text_kind one_character escape_free_text
 
--- a text without a backslash
+-- a string without a backslash
 abbrev pub escape_free_kind : Kind (List ℕ)
 escape_free_kind = text_kind if_escape_free every_tree
 
--- a text, and whether it is escape-free, which then takes no memory
+-- a string, and whether it is escape-free, which then takes no memory
 abbrev pub cow_kind : Kind (List ℕ × Bool)
 cow_kind = text_kind every_cow escape_free_text
 
--- one of these names, by its first place among them; an escape-free text takes no memory
+-- one of these names, by its first index among them; an escape-free string takes no memory
 abbrev pub variant_kind : List (List ℕ) → Kind ℕ
 variant_kind names = text_kind (index_of names) escape_free_text
 
--- bytes, as a text of hexadecimal digits
+-- bytes, as a string of hexadecimal digits
 abbrev pub bytes_kind : Kind (List ℕ)
 bytes_kind = coded_text_kind (Some codes.InvalidBytes) digits_bytes no_tree
 

@@ -23,7 +23,7 @@ holding name f make = record { name = name; convert = λ t. if_some make (conten
 abbrev pub names : {C : Type 0} → List (Variant C) → List (List ℕ)
 names vs = map (λ v. v.name) vs
 
--- what is made of the content of the variant at place k, where these begin at place n; no name has a place after the last
+-- what is made of the content of the variant at index k, if these begin at index n; no name has an index after the last
 abbrev pub from_place : {C : Type 0} → ℕ → List (Variant C) → ℕ → Option Tree → Option C
 from_place n [] k t = None
 from_place n (v ∷ []) k t = v.convert t

@@ -46,7 +46,7 @@ impl<I: Input> Deserializer<I> {
         self.peek() == Some(kind.brackets().closing)
     }
 
-    /// Goes to the next member and says true, or to the closing bracket and says false.
+    /// Goes to the next element or member and returns true, or to the closing bracket and returns false.
     #[inline(always)]
     pub(crate) fn advance_to_entry(&mut self, kind: BracketKind, comma_due: bool) -> Result<bool>
         ensures { Advances (brackets_of kind) comma_due self.old self.new result }
@@ -58,7 +58,7 @@ impl<I: Input> Deserializer<I> {
         }
     }
 
-    /// The same, whatever is in front.
+    /// The same for anything in front, in the long way.
     #[inline(never)]
     fn advance_slowly(&mut self, kind: BracketKind, comma_due: bool) -> Result<bool>
         ensures { Advances (brackets_of kind) comma_due self.old self.new result }

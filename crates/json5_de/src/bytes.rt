@@ -46,7 +46,7 @@ impl<I: Input> Deserializer<I> {
         self.deserialize_bytes()
     }
 
-    /// The bytes that the hexadecimal digits of a text that was found stand for; of another text `InvalidBytes` at its start.
+    /// The bytes that a found text spells in hexadecimal digits; if it spells none, `InvalidBytes` at its start.
     pub(crate) fn bytes_of(&mut self, found: &FoundText) -> Result<ByteBuf>
         ensures { JudgesText true (Some codes.InvalidBytes) digits_bytes bytes_of found.now self.old self.new result }
     {
@@ -56,7 +56,7 @@ impl<I: Input> Deserializer<I> {
         }
     }
 
-    /// Refuses a text at the offset that was decoded with this fault.
+    /// Refuses the text at the offset, whose decoding failed with this fault.
     fn undecoded<T>(&mut self, offset: usize, error: FromHexError) -> Result<T>
         ensures { GivesUpWith (IsUndecoded error self.old.input offset) self.old self.new result }
     {

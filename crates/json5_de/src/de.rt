@@ -190,7 +190,7 @@ impl<I: Input> Deserializer<I> {
         self.scanner.allocator()
     }
 
-    /// Answers `Failed` where a call refused before, or an access holds the reader.
+    /// Returns `Failed` if a call refused before, or an access holds the reader.
     #[inline(always)]
     pub(crate) fn check_not_failed(&self) -> Result<()>
         ensures live { OnOk result ((self.now.failed ≡ false) × (self.now.level ≤ max_depth)) }
@@ -221,7 +221,7 @@ impl<I: Input> Deserializer<I> {
         self.scanner.peek()
     }
 
-    /// Passes over blanks, where there was no refusal so far.
+    /// Passes over blanks if no call was refused so far.
     #[inline(always)]
     pub(crate) fn skip_blank(&mut self) -> Result<()>
         ensures { PassesGap self.old self.new result }
@@ -253,7 +253,7 @@ impl<I: Input> Deserializer<I> {
         }
     }
 
-    /// Takes the string in front, its text in memory of its own.
+    /// Takes the string in front, and returns an owned copy of its text.
     pub(crate) fn string_owned(&mut self) -> Result<String>
         ensures { TakesOwnString self.old self.new result }
     {
@@ -311,7 +311,7 @@ impl<I: Input> Deserializer<I> {
         self.scanner.text_of(token)
     }
 
-    /// The text of a key that was taken, in memory of its own.
+    /// An owned copy of the text of a key that was taken.
     pub(crate) fn own_key_text(&self, key: TextToken) -> Result<String>
         ensures { OwnsKey self.now.input key result }
     {
@@ -339,7 +339,7 @@ impl<I: Input> Deserializer<I> {
         error
     }
 
-    /// The fault, at the offset where it has no position.
+    /// The fault; without a position, it gets that of the offset.
     #[cold]
     #[inline(never)]
     pub(crate) fn place_at(&self, start: usize, error: Error) -> Error
@@ -404,7 +404,7 @@ impl<I: Input> Deserializer<I> {
         self.failed = failed;
     }
 
-    /// Counts one more open bracket, where there is room, and says whether there was.
+    /// Counts one more open bracket if there is room, and returns whether there was.
     pub(crate) fn enter_bracket(&mut self) -> bool
         ensures entered { result ≡ true → (self.old.level < max_depth) × (self.new ≡ record self.old { level = self.old.level + 1 }) }
         ensures kept { result ≡ false → (self.old.level ≡ max_depth) × (self.new ≡ self.old) }
@@ -424,7 +424,7 @@ impl<I: Input> Deserializer<I> {
         self.level = self.level.saturating_sub(1);
     }
 
-    /// Takes the character where it is next, and says whether it was.
+    /// Takes the character if it is next, and returns whether it was.
     pub(crate) fn eat(&mut self, c: char) -> bool
         ensures { Eats c self.old self.new result }
     {
@@ -445,9 +445,9 @@ impl<I: Input> Deserializer<I> {
     }
 }
 
-// What is borrowed from the text.
+// What is borrowed from the input.
 impl<'de, I: Borrows<'de>> Deserializer<I> {
-    /// Takes the string in front, its text borrowed where it holds no backslash.
+    /// Takes the string in front, its text borrowed if it has no backslash.
     pub(crate) fn text(&mut self) -> Result<CowStr<'de>>
         ensures { Takes tokens.string_token self.old self.new result }
     {
@@ -457,7 +457,7 @@ impl<'de, I: Borrows<'de>> Deserializer<I> {
         }
     }
 
-    /// The text of a key that was taken, borrowed where no escape is used.
+    /// The text of a key that was taken, borrowed if no escape is used.
     pub(crate) fn borrowed_key_text(&self, key: TextToken) -> CowStr<'de>
         ensures { SpellsCow self.now key result }
     {

@@ -48,7 +48,7 @@ pub trait Fields<I: Input>: Sized + Drop {
 
     ghost content: { Self → Content };
 
-    // What a pair changes, by its name and its value.
+    // What a member changes, by its name and its value.
     ghost step: { Step Content };
 
     // What is known of the refusal of a value, by its name.
@@ -69,7 +69,7 @@ pub trait Fields<I: Input>: Sized + Drop {
 }
 
 impl<I: Input> Deserializer<I> {
-    /// Reads a key as a text, in the memory of a spare one.
+    /// Reads a key as a string, in the memory of a spare one.
     fn key_in(&mut self, spare: String) -> Result<String>
         ensures { ReadsKeyAs string_key string_bytes self.old self.new result }
     {
@@ -80,7 +80,7 @@ impl<I: Input> Deserializer<I> {
         }
     }
 
-    /// The text of a token that was taken, in the memory of a spare one where it has none of its own.
+    /// The text of a token that was taken: the token's own copy, or one in the memory of a spare string.
     fn token_in(&self, token: TextToken, mut spare: String) -> Result<String>
         ensures { OwnsKey self.now.input token result }
     {
@@ -92,7 +92,7 @@ impl<I: Input> Deserializer<I> {
         Ok(spare)
     }
 
-    /// The next key of an object as a text, as `pair_key::<String>` gives it, in the memory of a spare one.
+    /// The next key of an object, as `pair_key::<String>` returns it, in the memory of a spare string.
     fn pair_name(&mut self, comma_due: bool, spare: String) -> Result<Option<String>>
         ensures { ReadsKeyOfPair string_bytes every_text (RefusedAsKey string_key) comma_due self.old self.new result }
     {
@@ -206,7 +206,7 @@ impl<'a, I: Input> MapAccess<'a, I> {
         }
     }
 
-    /// The next key as a text, as `next_key::<String>` gives it, in the memory of a spare one.
+    /// The next key, as `next_key::<String>` returns it, in the memory of a spare string.
     fn next_name(&mut self, spare: String) -> Result<Option<String>>
         requires no_key { NoKeyPending self.old }
         ensures { ReadsNextKey string_bytes every_text (RefusedAsKey string_key) self.old self.new result }

@@ -1,4 +1,4 @@
-//! Strings and keys that were taken, whose text is looked at where it stands.
+//! Strings and keys that were taken, whose text is looked at without a copy.
 
 ghost use Rattle.json5_de.specs.FoundTexts.{FindsKey, FindsString};
 
@@ -7,7 +7,7 @@ use json5_text::error::Result;
 use json5_text::input::Input;
 use json5_text::text_token::TextToken;
 
-/// The text of a string or a key that was taken.
+/// A string or a key that was taken, and its offset.
 #[derive(Drop)]
 pub(crate) struct FoundText {
     /// The count of bytes before the string or key.

@@ -12,14 +12,14 @@ use crate::key::DeserializeKey;
 use json5_text::error::Result;
 use json5_text::input::Input;
 
-/// A map that members are put into, one after another.
+/// A map that members are inserted into, one after another.
 pub(crate) trait Gathers<K, V>: Sized + Drop {
     ghost use Rattle.std.specs.Prelude.{List};
 
-    // It is what an empty map becomes by these pairs, put into it in turn.
+    // The map is what an empty one becomes by these pairs, inserted in turn.
     ghost gathered: { Self → List (K × V) → Type 0 };
 
-    /// Puts a member. Where an equal key is there, it stays and takes the value.
+    /// Inserts a member. If an equal key is there, that key stays and takes the value.
     fn put(&mut self, key: K, value: V) -> Result<()>
         ensures put { OnOk result ((ps : List (K × V)) → gathered self.old ps → gathered self.new (ps ++ (key, value) ∷ [])) }
         ensures refused { IfErr result LacksMemory };

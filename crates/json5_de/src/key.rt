@@ -95,7 +95,7 @@ pub trait DeserializeKey<I: Input>: Sized + Drop {
 
     ghost content: { Self → Content };
 
-    // What a key's text converts to, where it does; true where no escape is used.
+    // What a key's text converts to, if it does; the Bool is true if no escape is used.
     ghost convert: { KeyConversion Content };
 
     // What is known of a refusal, beside what the law says.
@@ -382,7 +382,7 @@ impl<I: Input> MapKey<'_, I> {
     }
 }
 
-// What is borrowed from the text.
+// What is borrowed from the input.
 impl<'de, I: Borrows<'de>> MapKey<'_, I> {
     ghost use Rattle.json5_de.specs.Lending.{KeyReads, ReadsCowKey};
 
@@ -447,7 +447,7 @@ impl<I: Input> Deserializer<I> {
         }
     }
 
-    /// Reads a key as a text.
+    /// Reads a key as a string.
     #[inline(never)]
     pub(crate) fn key_string_slowly(&mut self) -> Result<String>
         ensures { ReadsKeyAs string_key string_bytes self.old self.new result }
@@ -467,7 +467,7 @@ impl<I: Input> Deserializer<I> {
         self.character_of(&key)
     }
 
-    /// Reads a key that is one of the variants, as its first place among them.
+    /// Reads a key that is one of the variants, as its first index among them.
     pub(crate) fn key_variant(&mut self, variants: &[&str]) -> Result<usize>
         ensures { ReadsKeyAs (variant_key (names_bytes variants.now)) (λ n. n) self.old self.new result }
     {
@@ -491,7 +491,7 @@ impl<I: Input> Deserializer<I> {
         self.bytes_of(&key)
     }
 
-    /// Reads a key as a document of its own.
+    /// Reads the text of a key as a document.
     pub(crate) fn key_document<T: FromText>(&mut self) -> Result<T>
         ensures { ReadsKeyAs (document_key T.kind) T.content self.old self.new result }
     {
@@ -505,7 +505,7 @@ impl<I: Input> Deserializer<I> {
         }
     }
 
-    /// The fault of a key's text, at the key. That memory ran out has no place.
+    /// The fault of a key's text, at the key. `OutOfMemory` gets no position.
     fn text_fault(&self, error: Error, start: usize) -> Error
         ensures { IsTextFault self.now.input start error result }
     {
@@ -516,9 +516,9 @@ impl<I: Input> Deserializer<I> {
     }
 }
 
-// What is borrowed from the text.
+// What is borrowed from the input.
 impl<'de, I: Borrows<'de>> Deserializer<I> {
-    /// Reads a key as a text, borrowed where no escape is used.
+    /// Reads a key as a string, borrowed if no escape is used.
     #[inline(never)]
     pub(crate) fn key_cow_slowly(&mut self) -> Result<CowStr<'de>>
         ensures { ReadsKeyAs cow_key (λ t. (cow_bytes t, is_borrowed t)) self.old self.new result }

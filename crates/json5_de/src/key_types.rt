@@ -1,4 +1,4 @@
-//! The types that can be read from a key: its text itself, or what that text is a document of.
+//! The types that can be read from a key: from its text itself, or from its text as a document.
 
 ghost use Rattle.std.specs.Prelude.{string_bytes};
 ghost use Rattle.json5_text.specs.Cows.{cow_bytes, is_borrowed};

@@ -146,7 +146,7 @@ impl<I: Input> Deserializer<I> {
 impl<'a, I: Input> MapAccess<'a, I> {
     ghost use Rattle.json5_de.specs.Lending.{map_state_of, KeyPending, NoKeyPending, map_brace, SettlesMap, ReadsNextKey, ReadsNextValue};
 
-    /// Blocks the reader again after a call of its own, and remembers a refusal. A fault without a position gets that of the
+    /// Blocks the reader again after one of its calls, and remembers a refusal. A fault without a position gets that of the
     /// opening brace.
     pub(crate) fn settle<T>(&mut self, read: Result<T>) -> Result<T>
         ensures { SettlesMap self.old read self.new result }

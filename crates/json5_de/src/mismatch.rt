@@ -3,20 +3,20 @@
 use json5_text::whole::Whole;
 use std::fmt;
 
-/// What was found in place of what is expected.
+/// What was found instead of what is expected.
 #[derive(Drop)]
 pub(crate) enum Mismatch<'a> {
     /// A whole number that isn't in the range of the type of this name.
     OutOfRange(Whole, &'a str),
     /// A decimal where the integer type of this name is expected.
     NotWhole(&'a str),
-    /// A text with an escape where a borrowed one is expected.
+    /// A string with an escape where a borrowed one is expected.
     Escaped(&'a str),
-    /// A text that isn't one character.
+    /// A string that isn't one character.
     NotCharacter(&'a str),
-    /// A name, and the variants of which it is none.
+    /// A name that is none of the variants, and their names.
     UnknownVariant(&'a str, &'a [&'a str]),
-    /// A text where a variant of this kind is expected, which has content.
+    /// A string where a variant with content of this kind is expected.
     WithoutContent(&'a str),
 }
 
@@ -46,7 +46,7 @@ impl fmt::Display for Mismatch<'_> {
     }
 }
 
-/// A number from -2^63 to 2^64-1 is an invalid value, any other one is of an invalid type.
+/// Says that a number from -2^63 to 2^64-1 is an invalid value, and that any other one is of an invalid type.
 fn write_range<W: fmt::Write>(f: &mut fmt::Formatter<W>, whole: Whole, name: &str) -> fmt::Result {
     if let Some(number) = whole.as_u128() {
         if number <= u64::MAX as u128 {
@@ -69,7 +69,7 @@ fn write_range<W: fmt::Write>(f: &mut fmt::Formatter<W>, whole: Whole, name: &st
     )
 }
 
-/// What is expected in place of a name that is none of the variants.
+/// What is expected instead of a name that is none of the variants.
 fn write_variants<W: fmt::Write>(f: &mut fmt::Formatter<W>, variants: &[&str]) -> fmt::Result {
     match variants {
         [] => f.write_str("there are no variants"),
@@ -85,7 +85,7 @@ fn write_variants<W: fmt::Write>(f: &mut fmt::Formatter<W>, variants: &[&str]) -
     }
 }
 
-/// The text between double quotes, these, backslashes, tabs and line ends escaped.
+/// The text between double quotes, with double quotes, backslashes, tabs and line ends escaped.
 fn write_quoted<W: fmt::Write>(f: &mut fmt::Formatter<W>, text: &str) -> fmt::Result {
     f.write_char('"')?;
     for c in text.chars() {

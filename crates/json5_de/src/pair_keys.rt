@@ -1,4 +1,4 @@
-//! Reading of the keys of an object's pairs.
+//! Reading the keys of an object's members.
 
 ghost use Rattle.std.specs.Prelude.{◌≡◌, true, false, IfOk, IfErr, OnErr};
 ghost use Rattle.json5_grammar.specs.Language.Characters.{NotBegun};
@@ -25,7 +25,7 @@ fn begins_key(c: char) -> bool
     matches!(c, '"' | '\'' | '\\') || is_json5_identifier_start(c)
 }
 
-/// Whether the fault is one that doesn't get a key's position: the text ended, memory ran out or the reader had failed.
+/// Whether the fault doesn't get a key's position: the input ended, memory ran out or the reader had failed.
 fn is_unplaced(error: &Error) -> bool
     ensures { result ≡ is_unplaced (kind_of error.now) }
 {
@@ -61,7 +61,7 @@ impl<I: Input> Deserializer<I> {
         }
     }
 
-    /// Goes to the next key and says true, or to the closing brace and says false.
+    /// Goes to the next key and returns true, or to the closing brace and returns false.
     pub(crate) fn advance_to_key(&mut self, comma_due: bool) -> Result<bool>
         ensures sound { IfOk result (λ more. GoesToKey comma_due self.old self.new more) }
         ensures refused { IfErr result (RefusedBy (NoKey comma_due) self.old) }
@@ -80,7 +80,7 @@ impl<I: Input> Deserializer<I> {
         Ok(true)
     }
 
-    /// A key's fault, at the key where it has no position and may have one.
+    /// A key's fault; without a position, it gets that of the key if its code may have one.
     pub(crate) fn key_fault(&self, error: Error, start: usize) -> Error
         ensures { PlacedAtKey (StartsAfter self.now.input start) error result }
     {
@@ -91,7 +91,7 @@ impl<I: Input> Deserializer<I> {
         }
     }
 
-    /// The next key of an object, or none where the closing brace is next.
+    /// The next key of an object, or None if the closing brace is next.
     pub(crate) fn pair_key<K: DeserializeKey<I>>(&mut self, comma_due: bool) -> Result<Option<K>>
         ensures { ReadsKeyOfPair K.content K.convert K.refuses comma_due self.old self.new result }
     {

@@ -6,8 +6,8 @@ use crate::de::{Deserialize, Deserializer};
 use json5_text::error::Result;
 use json5_text::input::Input;
 
-/// Reads one `T` from the front, as `T::deserialize` does. Its contract also fixes the answer: where the value in front
-/// converts, it is Ok of what that value stands for, unless memory runs out.
+/// Reads one `T` from the front, as `T::deserialize` does. Its contract also fixes the result: if the value in front
+/// converts, it is Ok of what that value converts to, unless memory runs out.
 ///
 /// ```text
 /// let (first, last) = read::<I, (u16, Spanned<u16>)>(de)?;

@@ -69,7 +69,7 @@ impl<I: Input> Drop for SeqAccess<'_, I> {
 impl<I: Input> Deserializer<I> {
     ghost use Rattle.json5_de.specs.Lending.{OpensSeqAccess, lends_reader};
 
-    /// Reads the next element of an array, or returns none where the closing bracket is next.
+    /// Reads the next element of an array, or returns None if the closing bracket is next.
     #[inline(always)]
     fn element<T: Deserialize<I>>(&mut self, comma_due: bool) -> Result<Option<T>>
         ensures sound { IfOk result (λ o. GivesElement T.content T.convert (bare self.old comma_due) (bare self.new (comma_due || is_some o)) o) }
@@ -148,7 +148,7 @@ impl<I: Input> Deserializer<I> {
 impl<'a, I: Input> SeqAccess<'a, I> {
     ghost use Rattle.json5_de.specs.Lending.{state_of, brace_of, KeepsAccess, ReadsNext, Settles};
 
-    /// Blocks the reader again after a call of its own, and remembers a refusal. A fault without a position gets that of the
+    /// Blocks the reader again after one of its calls, and remembers a refusal. A fault without a position gets that of the
     /// opening bracket.
     #[inline(always)]
     fn settle<T>(&mut self, read: Result<T>) -> Result<T>
@@ -184,7 +184,7 @@ impl<'a, I: Input> SeqAccess<'a, I> {
         Ok(next)
     }
 
-    /// Reads the element at this index of a list of so many. Where the list ends before it, that is a custom fault at the
+    /// Reads the element at this index of a list of so many elements. A list that ends before it is a custom fault at the
     /// opening bracket.
     pub(crate) fn required<T: Deserialize<I>>(
         &mut self,

@@ -1,5 +1,5 @@
-//! Short ways: values and steps that are read at once where no fault can come. They answer numbers alone, so that no fault stands in
-//! the frame of the caller. Where they answer nothing, nothing has changed, and the reader's other calls say what is there.
+//! Short ways: values and steps that are read at once where no fault can come. They return numbers alone, so that the caller's
+//! frame holds no fault. When they return None or `Other`, nothing has changed, and the reader's other calls say what is there.
 
 ghost use Rattle.std.specs.Prelude.{◌+◌, ◌≤ℤ◌, pos, nat_abs, string_bytes, IfSome};
 ghost use Rattle.json5_value.specs.Brackets.{brackets_of};
@@ -46,7 +46,7 @@ impl<I: Input> Deserializer<I> {
         self.scanner.short_whole(-1 - max, max)
     }
 
-    /// Goes to the next member or to the closing bracket, or nowhere.
+    /// Goes to the next element or member or to the closing bracket, or nowhere.
     #[inline(always)]
     pub(crate) fn short_step(&mut self, kind: BracketKind, comma_due: bool) -> ShortStep
         ensures { StepsShort (brackets_of kind) comma_due self.old self.new result }
@@ -58,7 +58,7 @@ impl<I: Input> Deserializer<I> {
             .short_step(kind.brackets().closing as u8, comma_due)
     }
 
-    /// Reads a text without an escape, and answers where it stands, or nothing.
+    /// Reads a string without an escape and returns the span of its text, or returns None.
     #[inline(always)]
     pub(crate) fn short_string(&mut self) -> Option<Span>
         ensures { ReadsShortText self.old self.new result }
@@ -69,7 +69,7 @@ impl<I: Input> Deserializer<I> {
         self.scanner.short_string()
     }
 
-    /// Takes a key without an escape, and answers where its text stands, or nothing.
+    /// Takes a key without an escape and returns the span of its text, or returns None.
     #[inline(always)]
     pub(crate) fn short_key(&mut self) -> Option<Span>
         ensures { ReadsShortKey self.old self.new result }
@@ -91,7 +91,7 @@ impl<I: Input> Deserializer<I> {
         self.scanner.short_sign(b':')
     }
 
-    /// The text that stands there.
+    /// The text of the span.
     #[inline(always)]
     fn text_at(&self, span: Span) -> &str
         ensures { IsTextAt self.now.input span result.now }
@@ -99,7 +99,7 @@ impl<I: Input> Deserializer<I> {
         self.scanner.text_of_span(span)
     }
 
-    /// The text that stands there, in memory of its own. Where there is none, it refuses for good.
+    /// An owned copy of the text of the span. If memory runs out, the reader has failed.
     pub(crate) fn own_text(&mut self, span: Span) -> Result<String>
         ensures { OwnsTextAt span self.old self.new result }
     {
@@ -109,7 +109,7 @@ impl<I: Input> Deserializer<I> {
         }
     }
 
-    /// Reads a key as a text.
+    /// Reads a key as a string.
     #[inline(always)]
     pub(crate) fn key_string(&mut self) -> Result<String>
         ensures { ReadsKeyAs string_key string_bytes self.old self.new result }
@@ -121,9 +121,9 @@ impl<I: Input> Deserializer<I> {
     }
 }
 
-// What is borrowed from the text.
+// What is borrowed from the input.
 impl<'de, I: Borrows<'de>> Deserializer<I> {
-    /// The text that stands there.
+    /// The text of the span, borrowed from the input.
     #[inline(always)]
     fn borrowed_text_at(&self, span: Span) -> &'de str
         ensures { IsTextAt self.now.input span result.now }
@@ -131,7 +131,7 @@ impl<'de, I: Borrows<'de>> Deserializer<I> {
         self.scanner.borrowed_text_of_span(span)
     }
 
-    /// Reads a text without an escape, or nothing.
+    /// Reads a string without an escape and returns its text, or returns None.
     #[inline(always)]
     pub(crate) fn short_str(&mut self) -> Option<&'de str>
         ensures { ReadsEscapeFreeText self.old self.new result }
@@ -149,7 +149,7 @@ impl<'de, I: Borrows<'de>> Deserializer<I> {
         Some(self.borrowed_text_at(span))
     }
 
-    /// Reads a key as a text, borrowed where no escape is used.
+    /// Reads a key as a string, borrowed if no escape is used.
     #[inline(always)]
     pub(crate) fn key_cow(&mut self) -> Result<CowStr<'de>>
         ensures { ReadsKeyAs cow_key (λ t. (cow_bytes t, is_borrowed t)) self.old self.new result }

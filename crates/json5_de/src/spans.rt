@@ -1,4 +1,4 @@
-//! Values and where they are in the text.
+//! Values and their offsets in the input.
 
 ghost use Rattle.std.specs.Prelude.{IfOk};
 ghost use Rattle.json5_de.specs.Refinement.{ReadsExactly};

@@ -10,14 +10,14 @@ pub(crate) enum Stage {
     Empty,
     /// Its first key was read, and the value comes next.
     FirstKey,
-    /// A member was read, and a comma stands before the next one.
+    /// An element or a member was read, and a comma is due before the next one.
     Started,
     /// A later key was read, and the value comes next.
     LaterKey,
 }
 
 impl Stage {
-    /// Whether a member was read, so that a comma stands before the next one.
+    /// Whether an element or a member was read, so that a comma is due before the next one.
     #[inline(always)]
     pub(crate) fn is_comma_due(self) -> bool
         ensures { result ≡ is_comma_due self }
@@ -25,14 +25,14 @@ impl Stage {
         matches!(self, Stage::Started | Stage::LaterKey)
     }
 
-    /// Whether a key was read whose value wasn't.
+    /// Whether a key was read and its value wasn't yet.
     pub(crate) fn is_pending(self) -> bool
         ensures { result ≡ is_pending self }
     {
         matches!(self, Stage::FirstKey | Stage::LaterKey)
     }
 
-    /// The stage after a call for a member, which was given or not.
+    /// The stage after a call for an element, which was read or not.
     #[inline(always)]
     pub(crate) fn with_member(self, given: bool) -> Stage
         ensures { result ≡ with_member self given }
@@ -40,7 +40,7 @@ impl Stage {
         if given { Stage::Started } else { self }
     }
 
-    /// The stage after a call for a key, which was given or not.
+    /// The stage after a call for a key, which was read or not.
     pub(crate) fn with_key(self, given: bool) -> Stage
         ensures { result ≡ with_key self given }
     {

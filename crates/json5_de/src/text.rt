@@ -1,4 +1,4 @@
-//! Reading a whole text.
+//! Reading a whole input.
 
 ghost use Rattle.std.specs.Prelude.{◌≡◌, Some, true, IfOk, IfErr, IsOk};
 ghost use Rattle.std.specs.Str.{chars};

@@ -14,7 +14,7 @@ use json5_text::cow_str::CowStr;
 use json5_text::error::Result;
 use json5_text::input::{Borrows, Input};
 
-/// The text's character, where it is one.
+/// The text's character, if it has just one.
 pub(crate) fn only_character(text: &str) -> Option<char>
     ensures { MatchOption result (one_character (chars text.now) false ≡ None) (λ c. one_character (chars text.now) false ≡ Some c) }
 {
@@ -42,7 +42,7 @@ impl<I: Input> Deserializer<I> {
         }
     }
 
-    /// The same for any text.
+    /// The same as `deserialize_string`, for any string.
     #[inline(never)]
     fn string_slowly(&mut self) -> Result<String>
         ensures { ReadsAs string_kind string_bytes self.old self.new result }
@@ -68,7 +68,7 @@ impl<I: Input> Deserializer<I> {
         self.character_of(&string)
     }
 
-    /// The character of a text that was found, which has no other; else a custom fault at its start.
+    /// The only character of a found text; if it isn't one character, a custom fault at its start.
     pub(crate) fn character_of(&mut self, found: &FoundText) -> Result<char>
         ensures { JudgesText false None one_character (λ c. c) found.now self.old self.new result }
     {
@@ -81,7 +81,7 @@ impl<I: Input> Deserializer<I> {
     }
 }
 
-// What is borrowed from the text.
+// What is borrowed from the input.
 impl<'de, I: Borrows<'de>> Deserializer<I> {
     /// Reads a string (JSON5 section 5) and returns its text, borrowed from the input where the string has no escape, which
     /// then takes no memory.
@@ -103,7 +103,7 @@ impl<'de, I: Borrows<'de>> Deserializer<I> {
         }
     }
 
-    /// The same for any text.
+    /// The same as `deserialize_identifier`, for any string.
     #[inline(never)]
     fn identifier_slowly(&mut self) -> Result<CowStr<'de>>
         ensures { ReadsAs cow_kind (λ t. (cow_bytes t, is_borrowed t)) self.old self.new result }
@@ -133,7 +133,7 @@ impl<'de, I: Borrows<'de>> Deserializer<I> {
         }
     }
 
-    /// The same for any text.
+    /// The same as `deserialize_str`, for any string.
     #[inline(never)]
     fn str_slowly(&mut self) -> Result<&'de str>
         ensures { ReadsAs escape_free_kind (λ t. t.now) self.old self.new result }

@@ -1,4 +1,4 @@
-//! Reading of the name of a variant: a text, or the only key of an object.
+//! Reading the name of a variant: a string, or the only key of an object.
 
 ghost use Rattle.std.specs.Prelude.{◌≡◌, true, false};
 ghost use Rattle.json5_grammar.specs.Language.Characters.{NotBegun};
@@ -18,9 +18,9 @@ use json5_value::brackets::BracketKind;
 /// The name of a variant that was read.
 #[derive(Drop)]
 pub(crate) struct Named {
-    /// The count of bytes before the text or the opening brace.
+    /// The count of bytes before the string or the opening brace.
     pub(crate) start: usize,
-    /// The first place of the name among the variants.
+    /// The first index of the name among the variants.
     pub(crate) variant: usize,
     /// Whether the name is a key, whose value is the content.
     pub(crate) has_content: bool,

@@ -41,7 +41,7 @@ impl<I: Input> Deserializer<I> {
         self.variant_of(&string, variants)
     }
 
-    /// The first place among the variants of a text that was found; another text is a custom fault at its start.
+    /// The first index of a found text among the variants; if it is none of them, a custom fault at its start.
     pub(crate) fn variant_of(&mut self, found: &FoundText, variants: &[&str]) -> Result<usize>
         ensures { JudgesText false None (index_of (names_bytes variants.now)) (λ n. n) found.now self.old self.new result }
     {
@@ -53,7 +53,7 @@ impl<I: Input> Deserializer<I> {
         Ok(place)
     }
 
-    /// The fault of a text that is none of the variants.
+    /// The fault of a string that is none of the variants.
     fn unknown_variant(&self, found: &FoundText, name: &str, variants: &[&str]) -> Error
         ensures { IsMismatch self.now.input found.now.start result }
     {

@@ -1,4 +1,4 @@
--- The text of a document's value and a line feed.
+-- The output of a document's value and a line feed.
 use Rattle.std.proofs.Common.{◌≡◌, ℕ, true, List, [], ◌∷◌, ◌++◌, Option, Some, None, refl, sym, ap, ◌∙◌, subst, append_assoc, append-nil}
 use Rattle.std.specs.Prelude.{IfSome}
 use Rattle.std.specs.Str.{all_scalars, chars}

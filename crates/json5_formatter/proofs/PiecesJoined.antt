@@ -1,4 +1,4 @@
--- A piece after another.
+-- One piece after another.
 use Rattle.std.proofs.Common.{◌≡◌, ℕ, ◌+◌, ◌<◌, List, [], ◌∷◌, ◌++◌, length, take, drop, get_or, Option, Result, Ok, Err, true, false, refl, sym, ap, ◌∙◌, append_assoc, append-nil, take-append-drop}
 use Rattle.std.specs.Result.{is_err}
 use Rattle.std.specs.Borrow.{Bor}
@@ -8,7 +8,7 @@ use Rattle.std.proofs.lemmas.List.{take_more}
 use Rattle.json5.specs.Pieces.{Pushes}
 use Rattle.json5_formatter.specs.Pieces.{joined_texts}
 
--- ---- texts in a row
+-- ---- strings in a row
 
 joined_texts-append : (ts us : List (Bor (List ℕ))) → joined_texts (ts ++ us) ≡ joined_texts ts ++ joined_texts us
 joined_texts-append [] us = refl

@@ -13,7 +13,7 @@ use Rattle.json5_formatter.specs.Words.{work_word, IsRequest}
 
 -- what was read, what output and errors held before and after, and the status
 pub data AnswersStream (input output written errors : Option (List ℕ)) : Option (List ℕ) → ℕ → Type 0 where
-  -- it wrote the formatted text
+  -- it wrote the formatted document
   formats : IfSome input (WritesFormatted output written) → AnswersStream input output written errors errors 0
   -- it said why it stopped
   fails : {said : Option (List ℕ)} (s : Failure) → RunFailure input output written s → NamesMemory s

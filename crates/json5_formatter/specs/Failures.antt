@@ -1,4 +1,4 @@
--- How a fault of the text ends the program.
+-- How a fault of the input ends the program.
 use Rattle.std.specs.Prelude.{⊤}
 use Rattle.json5.specs.ErrorCode.TheVariants as codes
 use Rattle.json5.specs.Error.{Error}
@@ -13,11 +13,11 @@ failure_of_kind (code _) e = failure.Text e
 failure_of_kind (custom text) e = failure.Text e
 failure_of_kind failed_write e = failure.Text e
 
--- that memory ran out is no fault of the text
+-- that memory ran out is no fault of the input
 abbrev pub failure_at : Error → Failure
 failure_at e = failure_of_kind (kind_of e) e
 
--- where memory ran out the cause says so, and no text is blamed
+-- if memory ran out, the cause says so, and no input is blamed
 abbrev pub NamesMemory : Failure → Type 0
 NamesMemory failure.NotUtf8 = ⊤
 NamesMemory (failure.Text e) = ¬ (IsOutOfMemory e)

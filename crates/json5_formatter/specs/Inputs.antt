@@ -10,6 +10,6 @@ IsReadFault failure.Read = ⊤
 IsReadFault failure.NoMemory = ⊤
 IsReadFault _ = ⊥
 
--- a piece is read, and put behind the bytes
+-- a piece is read and appended to the bytes
 abbrev pub ReadsPiece : (piece old new : List ℕ) (before after : Option (List ℕ)) → Type 0
 ReadsPiece piece old new before after = (new ≡ old ++ piece) × Consumes before after piece

@@ -1,8 +1,8 @@
--- Texts in a row.
+-- Strings in a row.
 use Rattle.std.specs.Prelude.{ℕ, List, [], ◌∷◌, ◌++◌}
 use Rattle.std.specs.Borrow.{Bor}
 
--- the texts, one after the other
+-- the strings, one after the other
 abbrev pub joined_texts : List (Bor (List ℕ)) → List ℕ
 joined_texts [] = []
 joined_texts (t ∷ ts) = t.now ++ joined_texts ts

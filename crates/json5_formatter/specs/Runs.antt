@@ -22,24 +22,24 @@ use Rattle.json5_formatter.specs.declared.failure.Failure.TheVariants as failure
 abbrev pub with_line_feed : List ℕ → List ℕ
 with_line_feed text = text ++ line_feed ∷ []
 
--- the written text of a tree, in UTF-8
+-- the output of a tree, in UTF-8
 abbrev pub written_bytes : Written → List ℕ
 written_bytes t = encode_utf8_all (written_text t).text
 
--- the bytes are a text, and what is written of it was written, and one LF
+-- the bytes are UTF-8, and the formatted document was written, and one LF
 abbrev pub WritesFormatted : Option (List ℕ) → Option (List ℕ) → List ℕ → Type 0
 WritesFormatted old new bytes = IsUtf8 bytes × ((output : List ℕ) × Formats bytes output × Appends old new (with_line_feed output))
 
--- the bytes are a document, and a prefix of the written text of its tree without marks and one LF was written
+-- the bytes are a document, and a prefix of the output of its tree without marks and one LF was written
 abbrev pub BeginsFormatted : Option (List ℕ) → Option (List ℕ) → List ℕ → Type 0
 BeginsFormatted old new bytes = IsUtf8 bytes × ((t : Tree) × Doc max_depth (chars bytes) t × AppendsFront old new (with_line_feed (written_bytes (unmarked t))))
 
--- the text of a tree was written, and one LF; where the text is whole, a failed write leaves a prefix of both
+-- the output of a tree was written, and one LF; if the output is whole, a failed write leaves a prefix of both
 abbrev pub WritesLine : {A E : Type 0} → Written → Option (List ℕ) → Option (List ℕ) → Result A E → Type 0
 WritesLine t old new (Ok x) = IsText (written_text t) (written_bytes t) × Appends old new (with_line_feed (written_bytes t))
 WritesLine t old new (Err e) = (written_text t).stop ≡ whole → AppendsFront old new (with_line_feed (written_bytes t))
 
--- all that was read is a text, and the value stands for its tree
+-- all that was read is a document, and the value means the same as its tree
 pub record HoldsValue (input : Option (List ℕ)) (v : Value) : Type 0 where
   pub bytes : List ℕ
   pub all : IfSome input (λ known. bytes ≡ known)
@@ -48,27 +48,27 @@ pub record HoldsValue (input : Option (List ℕ)) (v : Value) : Type 0 where
   pub document : Doc max_depth (chars bytes) tree
   pub stands_for : value_of v ≡ datum_of tree
 
--- the bytes are a text, and a document
+-- the bytes are UTF-8 and a document
 abbrev pub HoldsDocument : List ℕ → Type 0
 HoldsDocument bytes = IsUtf8 bytes × ((t : Tree) × Doc max_depth (chars bytes) t)
 
--- the bytes are a text that is refused so, and a document only where memory ran out
+-- the bytes are UTF-8 and refused so, and they are a document only if memory ran out
 abbrev pub RefusesInput : Error → List ℕ → Type 0
 RefusesInput e bytes = IsUtf8 bytes × RefusesFormat bytes e × ((t : Tree) → Doc max_depth (chars bytes) t → IsOutOfMemory e)
 
--- no text was read
+-- why the input wasn't read as a string
 abbrev pub NoText : Option (List ℕ) → Failure → Type 0
 NoText input failure.NotUtf8 = IfSome input (λ bytes. ¬ (IsUtf8 bytes))
 NoText input failure.NoMemory = ⊤
 NoText input failure.Read = ⊤
 NoText input _ = ⊥
 
--- no document was read
+-- why no document was read
 abbrev pub ReadFailure : Option (List ℕ) → Failure → Type 0
 ReadFailure input (failure.Text e) = ¬ (IsOutOfMemory e) × IfSome input (RefusesInput e)
 ReadFailure input s = NoText input s
 
--- nothing was written, but at a failed write
+-- why a run ended early; nothing was written unless a write failed
 abbrev pub RunFailure : Option (List ℕ) → Option (List ℕ) → Option (List ℕ) → Failure → Type 0
 RunFailure input old new failure.Write = IfSome input (BeginsFormatted old new)
 RunFailure input old new s = ReadFailure input s × Keeps old new

@@ -8,9 +8,9 @@ use json5::{Error, ErrorCode};
 /// Why the work ended.
 #[derive(Debug, Drop)]
 pub enum Failure {
-    /// The bytes that were read are no UTF-8.
+    /// The bytes that were read aren't UTF-8.
     NotUtf8,
-    /// The text is no document.
+    /// The input is no document.
     Text(Error),
     /// Memory ran out.
     NoMemory,

@@ -6,10 +6,10 @@ use std::fs;
 use std::io::{self, ErrorKind, Read, Write};
 use std::test::Fail;
 
-/// A file's name and its bytes, or none where it isn't there.
+/// A file's name and its bytes, or None if there is no such file.
 type Row<'a> = (&'a str, Option<&'a [u8]>);
 
-/// What stands on both streams after a work, and its status.
+/// What both streams hold after a work, and its status.
 #[derive(Drop)]
 struct Ended {
     output: Vec<u8>,
@@ -119,7 +119,7 @@ fn a_missing_file_has_the_greater_status(rt: HostRuntime) -> Result<(), Fail> {
     Ok(())
 }
 
-/// The texts, each as a `String`.
+/// The strings, each as a `String`.
 fn list(alloc: Global, texts: &[&str]) -> Result<Vec<String>, Fail> {
     let mut list = Vec::new(alloc);
     for text in texts {

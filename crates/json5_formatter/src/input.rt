@@ -43,7 +43,7 @@ fn new_piece(alloc: Global) -> Result<Vec<u8>, Failure>
     }
 }
 
-/// Reads once into the piece, puts its bytes after the others, and returns how many there were.
+/// Reads once into the piece, appends its bytes to the others, and returns how many there were.
 fn read_piece<R: Read>(r: &mut R, piece: &mut [u8], bytes: &mut Vec<u8>) -> Result<usize, Failure>
     ensures read { IfOk result (λ count. ReadsPiece (take count piece.new) bytes.old.items bytes.new.items (R.remaining r.old) (R.remaining r.new)) }
     ensures end { IfOk result (λ count. count ≡ 0 → 0 < length piece.old → IsAtEnd (R.remaining r.new)) }

@@ -1,4 +1,4 @@
-//! Writing several texts.
+//! Writing several strings.
 
 ghost use Rattle.json5.specs.Pieces.{Pushes};
 ghost use Rattle.json5_formatter.specs.Pieces.{joined_texts};

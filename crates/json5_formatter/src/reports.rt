@@ -42,7 +42,7 @@ pub fn usage<E: Write>(e: &mut E) -> u8
     )
 }
 
-/// Writes the texts, and answers the status, after a failed write too.
+/// Writes the strings, and returns the status, after a failed write too.
 fn say<E: Write>(e: &mut E, status: u8, texts: &[&str]) -> u8
     ensures status { result ≡ status }
     ensures line { AppendsFront (E.contents e.old) (E.contents e.new) (joined_texts texts.now) }
@@ -51,7 +51,7 @@ fn say<E: Write>(e: &mut E, status: u8, texts: &[&str]) -> u8
     status
 }
 
-/// Writes what the fault prints, without memory, and answers the status.
+/// Writes what the fault prints, without memory, and returns the status.
 fn say_fault<E: Write>(e: &mut E, status: u8, name: &str, error: &Error) -> u8
     ensures status { result ≡ status }
     ensures line { AppendsFront (E.contents e.old) (E.contents e.new) (fault_line name.now error.now) }

@@ -1,4 +1,4 @@
-//! One text, from a reader, and formatted to a writer.
+//! One input, from a reader, and formatted to a writer.
 
 ghost use Rattle.std.specs.Prelude.{◌≡◌, IfOk, IfErr, IfSome, OnOk, string_bytes};
 ghost use Rattle.json5.specs.ValueTrees.{value_tree};
@@ -50,7 +50,7 @@ pub fn check<R: Read>(alloc: Global, r: &mut R) -> Result<(), Failure>
     Ok(())
 }
 
-/// The value of all that is left of the reader. Its text isn't kept.
+/// The value of all that is left of the reader. The input isn't kept.
 fn read_value<R: Read>(alloc: Global, r: &mut R) -> Result<Value, Failure>
     ensures read { IfOk result (HoldsValue (R.remaining r.old)) }
     ensures stopped { IfErr result (ReadFailure (R.remaining r.old)) }
@@ -62,7 +62,7 @@ fn read_value<R: Read>(alloc: Global, r: &mut R) -> Result<Value, Failure>
     }
 }
 
-/// All that is left of the reader, as text.
+/// All that is left of the reader, as a string.
 fn read_text<R: Read>(alloc: Global, r: &mut R) -> Result<String, Failure>
     ensures read { IfOk result (λ text. IfSome (R.remaining r.old) (λ bytes. string_bytes text ≡ bytes)) }
     ensures stopped { IfErr result (NoText (R.remaining r.old)) }
@@ -74,7 +74,7 @@ fn read_text<R: Read>(alloc: Global, r: &mut R) -> Result<String, Failure>
     }
 }
 
-/// Writes the text of a value and one LF.
+/// Writes a value and one LF.
 fn write_value<W: Write>(w: &mut W, value: &Value) -> json5::Result<()>
     ensures { WritesLine (value_tree value.now) (W.contents w.old) (W.contents w.new) result }
 {

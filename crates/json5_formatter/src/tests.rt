@@ -5,7 +5,7 @@ use std::alloc::Global;
 use std::io::{self, ErrorKind, Read, Write};
 use std::test::Fail;
 
-/// The line of each cause and of the usage, and the status that it ends with on a line of its own.
+/// The line of each cause and of the usage, and then the status that it ends with, on its own line.
 fn lines(alloc: Global) -> Result<String, Fail> {
     let place = Position { line: 0, column: 3 };
     let failures = [
@@ -212,7 +212,7 @@ impl Write for Slow {
     }
 }
 
-/// Whether a run over a writer that fails once it has this text ends with the call that failed.
+/// Whether a run over a writer that fails once it has these bytes ends with the call that failed.
 fn ends_after(alloc: Global, text: &str) -> bool {
     let mut input: &[u8] = b"null";
     let mut slow = Slow {

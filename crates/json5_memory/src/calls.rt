@@ -1,4 +1,4 @@
-//! Formatting, clones, faults of one's own, and values of any kind.
+//! Formatting, clones, custom faults, and values of any kind.
 
 use crate::print;
 use crate::reads::taken;
@@ -34,7 +34,7 @@ fn custom_at(alloc: Global) -> Result<String> {
     Err(Error::custom_at(alloc, place, 17u8)?)
 }
 
-/// What stands in a value of any kind, by key and by place.
+/// What is found in a value of any kind, by key and by index.
 fn found(alloc: Global) -> Result<String> {
     let value: Value = taken(alloc, "{a:[{b:'x'},'y'],a:[['z']]}")?;
     let inner = value.get("a").and_then(|list| list.get(0usize));
@@ -63,7 +63,7 @@ fn print_faults<W: Write>(alloc: Global, out: &mut W) -> io::Result<()> {
     print(out, "Error::custom_at", custom_at(alloc))
 }
 
-/// Prints what each call answers.
+/// Prints what each call returns.
 pub(crate) fn print_all<W: Write>(alloc: Global, out: &mut W) -> io::Result<()> {
     print(out, "format", format(alloc, README))?;
     print(out, "format settings", format(alloc, SETTINGS))?;

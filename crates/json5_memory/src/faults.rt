@@ -1,4 +1,4 @@
-//! A text for each fault of reading a value of any kind, where memory is held: within an object and an array.
+//! An input for each fault of reading a value of any kind while memory is held: within an object and an array.
 
 use crate::print;
 use crate::reads::read;
@@ -43,7 +43,7 @@ static ENDS: [&str; 32] = [
     "{a",
 ];
 
-/// What reading such a text as a value answers.
+/// What reading such an input as a value returns.
 fn fault(alloc: Global, end: &str) -> Result<String> {
     let mut text = String::from_str(alloc, "{a:['b',")?;
     text.push_str(end)?;
@@ -56,7 +56,7 @@ fn print_others<W: Write>(alloc: Global, out: &mut W) -> io::Result<()> {
     print(out, "more", read::<Value>(alloc, "['b'] x"))
 }
 
-/// Prints what each text answers.
+/// Prints what reading each input returns.
 pub(crate) fn print_all<W: Write>(alloc: Global, out: &mut W) -> io::Result<()> {
     print_others(alloc, out)?;
     for end in &ENDS {

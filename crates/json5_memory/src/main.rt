@@ -1,4 +1,4 @@
-//! Makes calls of the library, and prints a line for each: its name and what it answers.
+//! Makes calls of the library, and prints a line for each: its name and what it returns.
 //!
 //! Standard input may have a number: so many requests for memory are made first. So a tool that refuses one request of a program
 //! refuses each request of the calls in turn, from one build (`tools/refuse_each_allocation`).
@@ -15,7 +15,7 @@ use json5::Result;
 use std::alloc::Global;
 use std::io::{self, Read, Write};
 
-/// Prints what a call answers, on one line, after its name. It takes no memory.
+/// Prints what a call returns, on one line, after its name. It takes no memory.
 pub(crate) fn print<W: Write>(out: &mut W, name: &str, answer: Result<String>) -> io::Result<()> {
     match answer {
         Ok(text) => writeln!(out, "{name:?}: {text:?}"),
@@ -23,7 +23,7 @@ pub(crate) fn print<W: Write>(out: &mut W, name: &str, answer: Result<String>) -
     }
 }
 
-/// The number that the input begins with; 0 where there is none, or it is longer than a few digits.
+/// The number that the input begins with; 0 if there is none, or it is longer than a few digits.
 fn first_number<R: Read>(input: &mut R) -> io::Result<u32> {
     let mut buffer = [0u8; 8];
     let count = input.read(&mut buffer)?;

@@ -1,4 +1,4 @@
-//! Reading as types of one's own, and writing them.
+//! Reading as users' types, and writing them.
 
 use crate::print;
 use crate::reads::{read, taken};
@@ -151,7 +151,7 @@ fn print_reminders<W: Write>(alloc: Global, out: &mut W) -> io::Result<()> {
     )
 }
 
-/// Prints what each call answers.
+/// Prints what each call returns.
 pub(crate) fn print_all<W: Write>(alloc: Global, out: &mut W) -> io::Result<()> {
     print_lists(alloc, out)?;
     print_names(alloc, out)?;

@@ -11,7 +11,7 @@ use std::alloc::Global;
 use std::collections::{BTreeMap, HashMap};
 use std::io::{self, Write};
 
-/// What is written of the value that is read of the text; where the read is refused, its fault, if the reader then answers
+/// What is written of the value that is read from the input; if the read is refused, its fault, if the reader then returns
 /// `Failed`.
 pub(crate) fn read<'de, T: Deserialize<&'de str> + Serialize>(
     alloc: Global,
@@ -21,7 +21,7 @@ pub(crate) fn read<'de, T: Deserialize<&'de str> + Serialize>(
     to_string(alloc, &value)
 }
 
-/// The value of the text. A reader that goes on after it refused is named as a fault of another code than any text has.
+/// The value of the input. A reader that continues after a refusal is reported as a fault with a code that no input has.
 pub(crate) fn taken<'de, T: Deserialize<&'de str>>(alloc: Global, text: &'de str) -> Result<T> {
     let mut de = Deserializer::from_str(alloc, text);
     let result = T::deserialize(&mut de);
@@ -33,7 +33,7 @@ pub(crate) fn taken<'de, T: Deserialize<&'de str>>(alloc: Global, text: &'de str
     Ok(value)
 }
 
-/// The text, after a word that says whether it stands in memory of its own.
+/// The text, after a word that says whether it is borrowed or owned.
 fn read_text(alloc: Global, text: &str) -> Result<String> {
     match taken::<CowStr>(alloc, text)? {
         CowStr::Borrowed(text) => Ok(format!(in alloc; "borrowed {text}")?),
@@ -41,13 +41,13 @@ fn read_text(alloc: Global, text: &str) -> Result<String> {
     }
 }
 
-/// The list, the text and the map of a struct.
+/// The list, the string and the map of a struct.
 fn read_sample(alloc: Global, text: &str) -> Result<String> {
     let sample: Sample = taken(alloc, text)?;
     to_string(alloc, &(&sample.a, &sample.s, &sample.b))
 }
 
-/// How many pairs a map in no order has, and what stands at `a`.
+/// How many entries a map in no order has, and the value of `a`.
 fn read_hashed(alloc: Global, text: &str) -> Result<String> {
     let map: HashMap<String, String> = taken(alloc, text)?;
     let (count, found) = (map.len(), map.get("a"));
@@ -102,7 +102,7 @@ fn print_maps<W: Write>(alloc: Global, out: &mut W) -> io::Result<()> {
     )
 }
 
-/// Prints what each read answers.
+/// Prints what each read returns.
 pub(crate) fn print_all<W: Write>(alloc: Global, out: &mut W) -> io::Result<()> {
     print(out, "sample as a value", read::<Value>(alloc, SAMPLE))?;
     print(out, "sample", read_sample(alloc, SAMPLE))?;

@@ -1,4 +1,4 @@
-//! A struct of a list, a text and a map.
+//! A struct of a list, a string and a map.
 
 use json5::de::Fields;
 use json5::{Decimal, Deserialize, Deserializer, Input, MapAccess, Result};
@@ -41,7 +41,7 @@ impl<I: Input> Fields<I> for Found {
     }
 }
 
-/// An object of the three fields; one that isn't known is passed over, and one that stands twice is refused.
+/// An object of the three fields; an unknown field is passed over, and a field that comes twice is refused.
 impl<I: Input> Deserialize<I> for Sample {
     ghost use Rattle.json5.specs.Collections.{object_of};
     ghost use Rattle.json5_memory.specs.Sample.{sample};

@@ -1,4 +1,4 @@
-//! Texts that are read.
+//! Inputs that are read.
 
 /// A page with each part of the language.
 pub(crate) const README: &str = r#"{
@@ -22,7 +22,7 @@ pub(crate) const MOST: &str = "\
 [[[[[[[[[[[[[[[[[[[[[[[[[[[[[[[[\
 [";
 
-/// The page of settings that stands in `examples/settings.json5`.
+/// The page of settings of `examples/settings.json5`.
 pub(crate) const SETTINGS: &str =
     r#"// Settings of a made-up web server, with every part of the language.
 // The same settings, formatted, stand in settings.formatted.json5.

@@ -10,7 +10,7 @@ use Rattle.json5_own_type.specs.declared.colors.Color.TheVariants.{Red, Green, B
 abbrev pub color_names : List (List ℕ)
 color_names = codes "red" ∷ codes "green" ∷ codes "blue" ∷ []
 
--- the color whose name stands at this place
+-- the color whose name has this index
 abbrev pub color_at : ℕ → Option Color
 color_at k = Some (if k == 0 then Red else if k == 1 then Green else Blue)
 

@@ -14,7 +14,7 @@ use Rattle.json5_own_type.specs.declared.reminders.Reminder.TheVariants.{Off, Da
 
 -- ---- what is read
 
--- what a reminder stands for
+-- what a reminder means
 pub data Reminded : Type 0 where
   off : Reminded
   daily : ℕ → Reminded

@@ -19,7 +19,7 @@ settings =
     (plan_and (plan_with_default 80 (codes "port") port_of)
     (plan_optional (codes "label") text_of))
 
--- how a value is refused, by its name, where texts and ports are refused so
+-- how a value is refused, by its name, given how strings and ports are refused
 abbrev pub settings_faults : (text port : State → Error → State → Type 0) → ValueFaults
 settings_faults text port =
     or_of (of_field (codes "host") text_of text)

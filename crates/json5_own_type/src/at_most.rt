@@ -9,7 +9,7 @@ pub struct AtMost<T, const N: usize> {
     pub values: Vec<T>,
 }
 
-/// A list; the first value that is too many is refused where it stands, before any other is read.
+/// A list; the first value that is too many is refused at its position, before any other is read.
 impl<I: Input, T: Deserialize<I>, const N: usize> Deserialize<I> for AtMost<T, N> {
     ghost use Rattle.std.specs.Prelude.{List, map};
     ghost use Rattle.json5.specs.Collections.{array_of};

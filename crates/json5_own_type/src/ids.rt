@@ -1,4 +1,4 @@
-//! Numbers by which things are known.
+//! Numbers that identify things.
 
 use json5::de::MapKey;
 use json5::{DeserializeKey, Input, Result, SerializeKey, ser};

@@ -13,7 +13,7 @@ pub enum Level {
     High,
 }
 
-/// A text that names a level; another one is refused where it stands.
+/// A string that names a level; another one is refused at its position.
 impl<I: Input> Deserialize<I> for Level {
     ghost use Rattle.json5.specs.Convert.{text_of};
     ghost use Rattle.json5.specs.Refinement.{refined, RefusesOwn};

@@ -1,4 +1,4 @@
-//! Types of one's own that are read and written, proved lawful by what json5 promises alone.
+//! Users' types that are read and written, proved lawful by what json5 promises alone.
 #![tactic(auto)]
 
 mod articles;

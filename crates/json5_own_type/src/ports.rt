@@ -1,4 +1,4 @@
-//! Ports, and where something listens.
+//! Ports, and endpoints of a host and a port.
 
 ghost use Rattle.std.specs.Prelude.{◌≡◌, ◌<◌, MatchResult};
 ghost use Rattle.json5.specs.Cursor.{IsOutOfMemory};
@@ -18,7 +18,7 @@ pub struct OpenPort {
     pub number: u16,
 }
 
-/// A number; 0 is refused where it stands.
+/// A number; 0 is refused at its position.
 impl<I: Input> Deserialize<I> for OpenPort {
     ghost use Rattle.std.specs.Prelude.{ℕ, ◌^◌};
     ghost use Rattle.json5.specs.Convert.{unsigned_below};
@@ -63,7 +63,7 @@ pub struct Endpoint {
     pub port: OpenPort,
 }
 
-/// A list of a text and a port, with the faults of both.
+/// A list of a string and a port, with the faults of both.
 impl<I: Input> Deserialize<I> for Endpoint {
     ghost use Rattle.std.specs.Prelude.{ℕ, List, ◌^◌, string_bytes};
     ghost use Rattle.json5.specs.Collections.{array_of};
@@ -117,7 +117,7 @@ pub struct PortRange {
     pub last: u16,
 }
 
-/// A list of two numbers; where the second is below the first it is refused where the second stands.
+/// A list of two numbers; if the second is below the first, it is refused at the position of the second.
 impl<I: Input> Deserialize<I> for PortRange {
     ghost use Rattle.std.specs.Prelude.{ℕ, ◌^◌};
     ghost use Rattle.json5.specs.Collections.{array_of};

@@ -115,7 +115,7 @@ impl<I: Input> Fields<I> for Found {
     }
 }
 
-/// A text for the variant that holds nothing, and else an object with the variant's name as its one key.
+/// A string for the variant that holds nothing, and else an object with the variant's name as its one key.
 impl Serialize for Reminder {
     ghost use Rattle.json5_own_type.specs.Reminders.{reminder_tree};
 

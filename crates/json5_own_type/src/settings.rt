@@ -46,7 +46,7 @@ impl<I: Input> Fields<I> for Found {
     }
 }
 
-/// An object; a field that isn't known is passed over, and one that stands twice is refused.
+/// An object; an unknown field is passed over, and a field that comes twice is refused.
 impl<I: Input> Deserialize<I> for Settings {
     ghost use Rattle.std.specs.Prelude.{ℕ, List, Option, string_bytes};
     ghost use Rattle.json5.specs.Collections.{object_of};

@@ -9,7 +9,7 @@ use json5::{Result, Serialize, Serializer, from_str, to_string};
 use std::alloc::Global;
 use std::io::Write;
 
-/// An object of the host, the port, and the label where there is one.
+/// An object of the host, the port, and the label if there is one.
 impl Serialize for Settings {
     ghost use Rattle.json5.specs.WrittenTrees.{object};
     ghost use Rattle.json5_own_type.specs.SettingsWritten.{settings_fields};

@@ -9,7 +9,7 @@ pub struct Labels {
     pub texts: Vec<String>,
 }
 
-/// A list of texts; an empty one is refused at its bracket.
+/// A list of strings; an empty one is refused at its bracket.
 impl<I: Input> Deserialize<I> for Labels {
     ghost use Rattle.std.specs.Prelude.{ℕ, List, map, string_bytes};
     ghost use Rattle.json5.specs.Collections.{array_of, contents};

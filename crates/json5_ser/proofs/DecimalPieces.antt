@@ -1,4 +1,4 @@
--- A decimal's text, which is ASCII, in its pieces.
+-- A decimal's spelling, which is ASCII, in its pieces.
 use Rattle.std.proofs.Common.{◌≡◌, ◌<◌, Result, ℕ, zero, suc, ◌-◌, List, [], ◌∷◌, ◌++◌, Bool, true, false, ◌&&◌, ◌||◌, nat_lt, nat_le, cond, length, take, drop, refl, ap, ◌∙◌, subst, arith}
 use Rattle.std.specs.Prelude.{ℤ, pos, negsuc}
 use Rattle.std.specs.List.{list_all}
@@ -128,7 +128,7 @@ some_decimal (finite m ds e) = some_after (sign_text m) (digits_text ds e) (some
 
 -- ---- the pieces in a row
 
--- what is left of a decimal's text; something was written once a part of it is gone
+-- what is left of a decimal's spelling; if a part of it is gone, something was written
 pub record IsLeft (d : Decimal) (o m : SerializerState) (rest : List ℕ) : Type 0 where
   pub reaches : Reaches (piece (decimal_text d)) o m (piece rest)
   pub ascii : is_spelled rest ≡ true

@@ -1,4 +1,4 @@
--- How deep a tree is nested whose text is whole, so that such a text is a document.
+-- How deep a tree is nested whose output is whole, so that such an output is a document.
 use Rattle.std.proofs.Common.{◌≡◌, ◌≤◌, ◌<◌, ◌⊎◌, ◌↔◌, inl, inr, ℕ, ◌+◌, List, [], ◌∷◌, Bool, true, false, cond, nat_lt, refl, sym, ap, ◌∙◌, subst, arith}
 use Rattle.std.proofs.lemmas.Bool.Decides.{nat_tests}
 use Rattle.std.specs.Str.{chars}
@@ -100,7 +100,7 @@ flat limit (object fs) d l h = absurd (no_bracket limit d left_brace (fields_out
 
 -- ---- what is spelled is whole, or stops at a bracket
 
--- this text is whole, or stops at a bracket
+-- the output is whole, or stops at a bracket
 abbrev IsDeepOnly : Stop → Type 0
 IsDeepOnly s = (s ≡ whole) ⊎ (s ≡ too_deep)
 
@@ -199,7 +199,7 @@ stops_deep limit d t l k (inr h) = h
 pub too_deep_exactly : (limit d : ℕ) (t : Written) → d ≤ limit → IsSpelled t → (out limit t d).stop ≡ too_deep ↔ limit < d + depth (marks t)
 too_deep_exactly limit d t l h = (λ k. past limit d t h k (within_or_past (d + depth (marks t)) limit), λ k. stops_deep limit d t l k (deep_only limit t d h))
 
--- ---- a whole text is a document
+-- ---- a whole output is a document
 
 shallow : (limit d : ℕ) (t : Written) → (out limit t d).stop ≡ whole → (d ≤ limit) ⊎ (limit < d) → depth (marks t) ≤ limit
 shallow limit d t h (inl l) = let k = fits limit t d l h in omega (arith, k)
@@ -211,6 +211,6 @@ whole_document limit d t s e = alone limit s (marks t) (whole_value limit d t s 
 pub piece_whole : (o : Out) → o.stop ≡ whole → o ≡ piece o.text
 piece_whole o h = ap (λ s. record { text = o.text; stop = s }) h
 
--- the text of a whole tree, by its bytes
+-- the output of a whole tree, by its bytes
 pub text_document : (limit : ℕ) (t : Written) (bytes : List ℕ) → IsText (text_within limit t) bytes → Doc limit (chars bytes) (marks t)
 text_document limit t bytes w = subst (λ x. Doc limit x (marks t)) (sym w.characters) (whole_document limit 0 t (text_within limit t).text (piece_whole (text_within limit t) w.stop))

@@ -1,4 +1,4 @@
--- Runs of bytes that are written as they stand are runs of such characters.
+-- Runs of bytes that are written as they are, are runs of such characters.
 use Rattle.std.proofs.Common.{◌≡◌, ℕ, suc, ◌+◌, Bool, true, false, not, cond, ◌&&◌, ◌||◌, List, [], ◌∷◌, ◌++◌, refl, sym, ap, ◌∙◌, subst, arith, append-nil, length}
 use Rattle.std.specs.Prelude.{◌==◌}
 use Rattle.std.specs.List.{prefix_len}
@@ -120,7 +120,7 @@ pub escape_free_lane : (x : ℕ) → top 7 (bit_or (bit_or (bit_or (bit_or (bit_
 escape_free_lane x =
     ap (top 7) (lanes (x == 10) (x == 13) (x == 226) (x == 34) (x == 39) (x == 92)) ∙ lane_test _ ∙ from_left (x == 10) (x == 13) (x == 226) (x == 34) (x == 39) (x == 92)
 
--- ---- a text that is one run
+-- ---- a string that is one run
 
 pub empty_from : (r : List ℕ) (b : Bool) → b ≡ (length r == 0) → b ≡ true → r ≡ []
 empty_from [] b e t = refl

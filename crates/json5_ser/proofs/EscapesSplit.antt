@@ -1,4 +1,4 @@
--- Taking a text apart at a character that is escaped.
+-- Splitting a string at a character that is escaped.
 use Rattle.std.proofs.Common.{◌≡◌, ◌<◌, ℕ, ◌≤◌, ◌+◌, ◌-◌, List, [], ◌∷◌, ◌++◌, true, if◌then◌else◌, length, take, refl, sym, ap, ◌∙◌, subst, arith, length-append, append_assoc, append-nil}
 use Rattle.std.specs.Char.{encode_utf8, IsScalar}
 use Rattle.std.specs.Str.{IsUtf8, chars, encode_utf8_all, IsCharBoundary}
@@ -91,7 +91,7 @@ stands_all q t rest h e =
     let all : chars t ≡ h.before = chars_before q t rest h ∙ (ap (λ l. h.before ++ chars l) e ∙ (ap (λ l. h.before ++ l) chars-nil ∙ append-nil h.before)) in
     ap (escaped_all q) all ∙ (h.same ∙ sym all)
 
--- ---- a run of characters that stand for themselves
+-- ---- a run of characters that are written as they are
 
 escape_free_escaped : (q : Quote) (c : ℕ) → is_escape_free c ≡ true → escaped (delimiter q) c ≡ c ∷ []
 escape_free_escaped quote.Single c h = grind (arith, nat_tests)
@@ -125,7 +125,7 @@ stands_run q t rest after h v s =
 pub stands_first : (q : ℕ) (t : List ℕ) → IsUtf8 t → WritesAsIs q t t
 stands_first q t u = record { before = []; scalars = refl; bytes = refl; same = refl; utf8 = u }
 
--- ---- a text of such characters alone
+-- ---- a string of such characters alone
 
 differs : (q c : ℕ) → is_unmarked q ≡ false → is_escape_free c ≡ true → (c == q) ≡ false
 differs q c n h = grind (arith, nat_tests)

@@ -62,13 +62,13 @@ digits_exit all o m n left chunk rest t e r is f h q p = Reaches-exit all (piece
 nothing : (m : SerializerState) → m.failed ≡ false → Wrote (piece []) m m
 nothing m was = record { was = was; stop = refl; chars = refl; bytes = Appends-nil m.known; depth = refl; limit = refl; failed = was }
 
--- none is left
+-- no byte is left
 pub digits_all : (all : Out) (o m : SerializerState) (left : List ℕ) → length left ≡ 0 → m.failed ≡ false → Reaches all o m (piece (encode_lower left)) → Wrote all o m
 digits_all all o m left none was h =
     let same : piece (encode_lower left) ≡ piece [] = ap (λ l. piece (encode_lower l)) (nil_from_length left none) ∙ ap piece hex_none in
     Reaches.wrote (subst (Reaches all o m) same h) m (nothing m was)
 
--- ---- as a text and as a key
+-- ---- as a string and as a key
 
 digit_holds : (f : ℕ → Bool) (xs : List ℕ) (k : ℕ) → list_all f xs ≡ true → k < length xs → f (slice_index xs k) ≡ true
 digit_holds f [] k h l = absurd (omega arith)

@@ -85,16 +85,16 @@ RefusesBy-after a b o m n by_none p q = q
 pub Refuses-after : (a b : Out) (o m n : SerializerState) (e : Error) → Wrote a o m → RefusesWrite b m e n → RefusesWrite (a then b) o e n
 Refuses-after a b o m n e p q = record { leaves = RefusesBy-after a b o m n (refusal_of (kind_of e)) p q.leaves; no_place = q.no_place }
 
--- the same of an equal text
+-- the same of an equal output
 pub Writes-as : {A : Type 0} (all w : Out) (o n : SerializerState) (r : Result A Error) → all ≡ w → Writes w o r n → Writes all o r n
 Writes-as all w o n r e h = subst (λ x. Writes x o r n) (sym e) h
 
--- a refusal that a `?` hands on as it is
+-- a refusal that a `?` forwards as it is
 pub Writes-handed : {A : Type 0} (w : Out) (o n : SerializerState) (e : Error) (r : Result A Error) → IsErrAnd r (λ y. y ≡ e) → RefusesWrite w o e n → Writes w o r n
 Writes-handed w o n e (Ok x) q p = absurd q
 Writes-handed w o n e (Err y) q p = subst (λ x. RefusesWrite w o x n) (sym q) p
 
--- what a `?` hands on of a first part
+-- what a `?` forwards of a first part
 pub Writes-exit : {A : Type 0} (a b : Out) (o n : SerializerState) (e : Error) (r : Result A Error) → IsErrAnd r (λ y. y ≡ e) → RefusesWrite a o e n → Writes (a then b) o r n
 Writes-exit a b o n e r q p = Writes-handed (a then b) o n e r q (Refuses-before a b o n e p)
 
@@ -114,7 +114,7 @@ Reaches-next all a rest o m n h p =
 pub Reaches-first : (a rest : Out) (o m : SerializerState) → Wrote a o m → Reaches (a then rest) o m rest
 Reaches-first a rest o m p = Reaches-next (a then rest) a rest o o m (Reaches-none (a then rest) o) p
 
--- what a `?` hands on after what was written
+-- what a `?` forwards after what was written
 pub Reaches-exit : {A : Type 0} (all a rest : Out) (o m n : SerializerState) (e : Error) (r : Result A Error) → Reaches all o m (a then rest) → IsErrAnd r (λ y. y ≡ e) → RefusesWrite a m e n → Writes all o r n
 Reaches-exit all a rest o m n e r h q p = Writes-handed all o n e r q (h.refused n e (Refuses-before a rest m n e p))
 

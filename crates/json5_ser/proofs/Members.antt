@@ -131,7 +131,7 @@ module _ {W : Type 0} where
   field_refused {A} {t} {u} {k} {name} {at} {c} {n} {fs} {e} result h s is {last} {lent} dropped follows =
       remains_refused t name at last lent c n (fields (field k u fs)) (fields fs) (entry_out (state_of c).limit (state_of c).depth k u) false e result (first_entry k u fs (inner (in_variant c) at.depth) (state_of c).depth at.limit (state_of c).limit (has_member c) h.depth h.limit) h s is dropped follows
 
-  -- fields that may be left out: what remains where it is known which are
+  -- fields that may be left out: what remains if it is known which are left out
   pub same_fields : {t : Written} {name : GName} {at : SerializerState} {c : SerializeCollection W} {fs gs : Fields} → fs ≡ gs → Remains t name at c (fields fs) → Remains t name at c (fields gs)
   same_fields {t} {name} {at} {c} e h = subst (λ l. Remains t name at c (fields l)) e h
 

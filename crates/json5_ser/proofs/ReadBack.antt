@@ -94,7 +94,7 @@ written_entry d u o t v = entry (line_blanks d) (written_key u) empty (blank ref
 with_comma : (l k o r : List ℕ) → (l ++ k) ++ ((58 ∷ 32 ∷ (o ++ 44 ∷ [])) ++ r) ≡ ((l ++ (k ++ 58 ∷ 32 ∷ (o ++ []))) ++ 44 ∷ []) ++ r
 with_comma l k o r = simp (append_assoc, append-nil) refl
 
--- a whole list begins with its first element, o, and goes on with r
+-- a whole list begins with its first element, o, and continues with r
 record Element (d : ℕ) (o r : Out) : Type 0 where
   first : o.stop ≡ whole
   others : r.stop ≡ whole
@@ -106,7 +106,7 @@ first_element d o r h =
     let q = parts o (piece (44 ∷ [])) p.first in
     record { first = q.first; others = p.second; text = p.text ∙ ap (λ l. (line d ++ l) ++ r.text) q.text }
 
--- a whole object begins with the field of the key u and the value o, and goes on with r
+-- a whole object begins with the field of the key u and the value o, and continues with r
 record Field (d : ℕ) (u : List ℕ) (o r : Out) : Type 0 where
   value : o.stop ≡ whole
   others : r.stop ≡ whole
@@ -157,7 +157,7 @@ mutual
       next_entry p _ u escape_free t _ v (subst (λ l. HasEntries l (field_marks (field (named k) s fs))) (sym e.text) m)
   fields_read limit (field bad s fs) d p u escape_free t v h = absurd (let f : invalid_key ≡ whole = h in cc)
 
--- ---- whole texts
+-- ---- whole outputs
 
 ends : (o : Out) (s : List ℕ) → o ≡ piece s → o.stop ≡ whole
 ends o s e = ap (λ x. x.stop) e

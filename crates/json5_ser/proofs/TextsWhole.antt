@@ -1,4 +1,4 @@
--- What a writer that was empty holds when a text was written.
+-- What a writer that was empty holds after a whole output.
 use Rattle.std.proofs.Common.{◌≡◌, ℕ, List, [], Option, Some, sym, ap, ◌∙◌, subst}
 use Rattle.std.specs.Str.{IsUtf8, chars, encode_utf8_all}
 use Rattle.std.proofs.lemmas.Str.{chars-encodes}

@@ -1,4 +1,4 @@
--- Equal texts are written of equal values, and no value has a key without a text.
+-- Equal outputs are written of equal values, and each key of a value can be written.
 use Rattle.std.proofs.Common.{◌≡◌, ◌≢◌, ◌↔◌, ℕ, ◌+◌, Bool, true, false, cond, nat_lt, List, [], ◌∷◌, refl, ap, sym, ◌∙◌}
 use Rattle.json5_text.specs.declared.value.Value.{Value}
 use Rattle.json5_text.specs.ValueViews as datum
@@ -11,7 +11,7 @@ use Rattle.json5_ser.specs.ValueTrees.{datum_tree, items_tree, fields_tree, valu
 use Rattle.json5_ser.proofs.ReadBack.{one_tree_written}
 use Rattle.json5_ser.proofs.Depths.{piece_whole}
 
--- what a tree without bad keys stands for
+-- what a tree without bad keys means
 abbrev mutual
   tree_datum : Written → Datum
   tree_datum null = datum.null
@@ -56,7 +56,7 @@ one_value limit v w h = (
   λ e. ap (λ d. text_within limit (datum_tree d)) e,
 )
 
--- ---- each key of a value has a text
+-- ---- each key of a value can be written
 
 named_at : (s : List ℕ) (e : Stop) (b : Out) → e ≢ invalid_key → b.stop ≢ invalid_key → (followed_by s e b).stop ≢ invalid_key
 named_at s whole b n k h = k h

@@ -12,7 +12,7 @@ abbrev pub closing_sign : Brackets → ℕ
 closing_sign brackets.Square = right_bracket
 closing_sign brackets.Curly = right_brace
 
--- whether they stand round a list
+-- whether they are those of a list
 abbrev pub is_square : Brackets → Bool
 is_square brackets.Square = true
 is_square brackets.Curly = false

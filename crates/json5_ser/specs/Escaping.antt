@@ -1,4 +1,4 @@
--- How a text is taken apart at a character that is escaped. Private clauses and proofs alone cite it.
+-- How a string is split at a character that is escaped. Private clauses and proofs alone cite it.
 use Rattle.std.specs.Prelude.{◌≡◌, ◌<◌, ℕ, List, ◌++◌, true, length}
 use Rattle.std.specs.Char.{encode_utf8, IsScalar}
 use Rattle.std.specs.Str.{chars, encode_utf8_all, all_scalars, IsUtf8}
@@ -10,17 +10,17 @@ pub record StartsWithScalar (t : List ℕ) (c : ℕ) (rest : List ℕ) : Type 0 
   pub scalar : IsScalar c
   pub utf8 : IsUtf8 rest
 
--- each character stands for itself
+-- each character is written as it is
 abbrev pub NeedsNoEscape : ℕ → List ℕ → Type 0
 NeedsNoEscape q t = escaped_all q (chars t) ≡ chars t
 
--- the escaped text is raw, an escape, and what follows, escaped
+-- the escaped string is raw, an escape, and what follows, escaped
 pub record SplitsAtEscape (q : ℕ) (t raw escape after : List ℕ) : Type 0 where
   pub text : escaped_all q (chars t) ≡ chars raw ++ (chars escape ++ escaped_all q (chars after))
   pub shorter : length after < length t
   pub utf8 : IsUtf8 after
 
--- the characters before rest are written as they stand
+-- the characters before rest are written as they are
 pub record WritesAsIs (q : ℕ) (t rest : List ℕ) : Type 0 where
   pub before : List ℕ
   pub scalars : all_scalars before ≡ true

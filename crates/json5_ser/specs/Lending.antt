@@ -12,17 +12,17 @@ use Rattle.json5_ser.specs.declared.stage.Stage.{Stage}
 use Rattle.json5_ser.specs.declared.collection.SerializeCollection.{SerializeCollection}
 use Rattle.json5_ser.specs.contracts.serializer.Serializer.{the_row}
 
--- what follows the text of a collection within d brackets: the end of the variant's object, where it is what a variant holds
+-- a collection's output within d brackets, with the end of the variant's object if the collection is a variant's content
 abbrev pub within_variant : Bool → ℕ → Out → Out
 within_variant true d o = o then (piece (comma_sign ∷ []) then closed_by d true right_brace)
 within_variant false d o = o
 
--- how many brackets stand round a collection that was begun within d
+-- how many brackets are round a collection that was begun within d
 abbrev pub inner : Bool → ℕ → ℕ
 inner true d = d + 1
 inner false d = d
 
--- the bracket of a list, and of an object, with which this serializer goes on
+-- the opening bracket of a list, and that of an object, which this serializer writes next
 abbrev pub list_opening : MutBor SerializerState → Out
 list_opening ser = opened_by ser.now.limit ser.now.depth left_bracket
 
@@ -38,7 +38,7 @@ module _ {W : Type 0} where
   abbrev pub reference_of : SerializeCollection W → GName
   reference_of c = c.ser.ghost_name
 
-  -- the serializer as the calls of the collection see it: failed where one of them was refused
+  -- the serializer as the calls of the collection see it: failed if one of them was refused
   abbrev pub state_of : SerializeCollection W → SerializerState
   state_of c = record c.ser.now { failed = c.failed }
 
@@ -49,7 +49,7 @@ module _ {W : Type 0} where
   abbrev pub key_pending : SerializeCollection W → Bool
   key_pending c = is_pending c.stage
 
-  -- whether something stands in it
+  -- whether something was written in it
   abbrev pub has_member : SerializeCollection W → Bool
   has_member c = is_started c.stage
 
@@ -82,7 +82,7 @@ module _ {W : Type 0} where
   abbrev pub VariantObjectBegun : List ℕ → MutBor SerializerState → SerializeCollection W → Type 0
   VariantObjectBegun name ser c = Opened (variant_opening ser.now.limit name left_brace ser.now.depth) false true ser c
 
-  -- a call that has this text to write, after which a key waits for its value or none does. It blocks the serializer again
+  -- a call that has this output to write, after which a key waits for its value or no key does. It blocks the serializer again
   pub record Steps (o : Out) (pending_next : Bool) (old : SerializeCollection W) (result : Result ⊤ Error) (new : SerializeCollection W) : Type 0 where
     pub same_reference : reference_of new ≡ reference_of old
     pub writes : Writes o (state_of old) result (state_of new)
@@ -104,7 +104,7 @@ module _ {W : Type 0} where
   abbrev pub ending : SerializeCollection W → Out
   ending c = within_variant (in_variant c) (outer c) (closed_by ((state_of c).depth - 1) (has_member c) (closing_sign c.brackets))
 
-  -- the serializer is blocked again, and the collection goes on to a stage where nothing was refused
+  -- the serializer is blocked again, and the collection reaches the next stage if nothing was refused
   pub record Settles (old : SerializeCollection W) (written : Result ⊤ Error) (next : Stage) (new : SerializeCollection W) (result : Result ⊤ Error) : Type 0 where
     pub same : result ≡ written
     pub same_reference : reference_of new ≡ reference_of old
@@ -115,7 +115,7 @@ module _ {W : Type 0} where
     pub refused : OnErr written ((new.failed ≡ true) × (new.stage ≡ old.stage))
 
 module _ (W : RattleType) (g : write.Ghosts W.Denot) where
-  -- where it refuses the text o, the serializer ends so, and else as the collection leaves it
+  -- if it refuses the output o, the serializer ends so, and else as the collection leaves it
   abbrev pub lends_serializer : Out → MutBor SerializerState → Result (SerializeCollection W.Denot) Error → Fml
   lends_serializer o ser result = RestsIfErr (the_row W g) ser (λ c. reference_of c) result (λ last. IfErr result (λ e. RefusesWrite o ser.now e last))
 

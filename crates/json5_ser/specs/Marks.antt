@@ -1,4 +1,4 @@
--- Which texts of a written tree are escape-free, and the tree without these marks.
+-- Which strings and keys of a written tree are escape-free, and the tree without these marks.
 use Rattle.std.specs.Prelude.{ℕ, List, Bool, ◌||◌, not, ⊤}
 use Rattle.json5_grammar.specs.Language.Strings.{holds_backslash}
 use Rattle.json5_grammar.specs.Written.NumberText.{IsNumber}
@@ -8,11 +8,11 @@ use Rattle.json5_grammar.specs.Language.Trees.{Tree, Trees, Pairs, no_more, more
 use Rattle.json5_ser.specs.WrittenTrees as written
 use Rattle.json5_ser.specs.WrittenTrees.{Written, Elements, no_element, element, Fields, no_field, field, named, bad}
 
--- the written text holds no backslash
+-- the written string holds no backslash
 abbrev pub is_escape_free_text : List ℕ → Bool
 is_escape_free_text u = not (holds_backslash (quoted_text u))
 
--- the key is written bare, or its text holds no backslash
+-- the key is written bare, or as a string without a backslash
 abbrev pub is_escape_free_key : List ℕ → Bool
 is_escape_free_key u = is_name u || is_escape_free_text u
 
@@ -52,7 +52,7 @@ abbrev mutual
   unmarked_fields no_pair = no_field
   unmarked_fields (pair u escape_free t ps) = field (named u) (unmarked t) (unmarked_fields ps)
 
--- each number has a text, and each key is one
+-- each number has a spelling, and each key is a text
 abbrev mutual
   pub IsSpelled : Written → Type 0
   IsSpelled written.null = ⊤

@@ -1,4 +1,4 @@
--- The ASCII characters that a name may go on with. Private clauses and proofs alone cite it.
+-- The ASCII characters that may continue a name. Private clauses and proofs alone cite it.
 use Rattle.std.specs.Prelude.{ℕ, Bool, nat_lt, ◌&&◌}
 use Rattle.json5_grammar.specs.Language.Characters.{is_identifier_part}
 

@@ -1,5 +1,5 @@
--- The written text of a tree, and where it stops.
--- Each member of a collection stands on a line of its own, two spaces a level, and a comma follows it.
+-- The output of a tree, and where it stops.
+-- Each element or member of a collection is on its own line, indented by two spaces a level, and a comma follows it.
 use Rattle.std.specs.Prelude.{ℕ, ◌+◌, ◌*◌, List, [], ◌∷◌, ◌++◌, Bool, true, false, replicate, nat_lt, cond}
 use Rattle.json5_grammar.specs.Language.Characters.{line_feed, space, comma_sign, colon_sign, left_bracket, right_bracket, left_brace, right_brace}
 use Rattle.json5_grammar.specs.Language.Numbers.{Number}
@@ -11,7 +11,7 @@ use Rattle.json5_ser.specs.Writable.{is_writable}
 use Rattle.json5_ser.specs.WrittenTrees as written
 use Rattle.json5_ser.specs.WrittenTrees.{WrittenKey, named, bad, Written, Elements, no_element, element, Fields, no_field, field}
 
--- whether the text is whole, or stops before a key, a bracket, or what is no number of these types
+-- whether the output is whole, or stops before a key, a bracket, or what is no number of these types
 pub data Stop : Type 0 where
   whole : Stop
   invalid_key : Stop
@@ -29,7 +29,7 @@ piece s = record { text = s; stop = whole }
 abbrev pub stopped : Stop → Out
 stopped s = record { text = []; stop = s }
 
--- this text, and then the other where this is whole
+-- this output, and then the other if this one is whole
 abbrev pub followed_by : List ℕ → Stop → Out → Out
 followed_by s whole o = record { text = s ++ o.text; stop = o.stop }
 followed_by s invalid_key o = record { text = s; stop = invalid_key }
@@ -59,12 +59,12 @@ key_out bad = stopped invalid_key
 abbrev pub opened_by : ℕ → ℕ → ℕ → Out
 opened_by limit d bracket = cond (nat_lt d limit) (piece (bracket ∷ [])) (stopped too_deep)
 
--- what closes it: the bracket alone where nothing stands in it
+-- what closes it: the bracket alone if nothing was written in it
 abbrev pub closed_by : ℕ → Bool → ℕ → Out
 closed_by d true bracket = piece (line d ++ bracket ∷ [])
 closed_by d false bracket = piece (bracket ∷ [])
 
--- a member of a list, within d brackets
+-- an element of a list, within d brackets
 abbrev pub element_out : ℕ → Out → Out
 element_out d o = piece (line d) then (o then piece (comma_sign ∷ []))
 
@@ -75,7 +75,7 @@ key_part d k = piece (line d) then key_out k
 abbrev pub value_part : Out → Out
 value_part o = piece (colon_sign ∷ space ∷ []) then (o then piece (comma_sign ∷ []))
 
--- the text of a tree within d brackets, of which `limit` may be open
+-- the output of a tree within d brackets, of which `limit` may be open
 abbrev mutual
   pub out : ℕ → Written → ℕ → Out
   out limit written.null d = piece null_text
@@ -85,7 +85,7 @@ abbrev mutual
   out limit (written.array ts) d = opened_by limit d left_bracket then elements_out limit ts d false
   out limit (written.object fs) d = opened_by limit d left_brace then fields_out limit fs d false
 
-  -- what follows the bracket that opens a list; the test says that something stands in it already
+  -- what follows the bracket that opens a list; the Bool says that something was written in it already
   pub elements_out : ℕ → Elements → ℕ → Bool → Out
   elements_out limit no_element d started = closed_by d started right_bracket
   elements_out limit (element t ts) d started = element_out (d + 1) (out limit t (d + 1)) then elements_out limit ts d true
@@ -94,7 +94,7 @@ abbrev mutual
   fields_out limit no_field d started = closed_by d started right_brace
   fields_out limit (field k t fs) d started = key_part (d + 1) k then (value_part (out limit t (d + 1)) then fields_out limit fs d true)
 
--- the text of a whole tree, within a limit and at the full one
+-- the output of a whole tree, within a limit and at the full one
 abbrev pub text_within : ℕ → Written → Out
 text_within limit t = out limit t 0
 

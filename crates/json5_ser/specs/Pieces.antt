@@ -1,4 +1,4 @@
--- What becomes of a piece that is given to a writer.
+-- What a writer does with a piece.
 use Rattle.std.specs.Prelude.{◌≡◌, ℕ, List, ◌++◌, Option, Result, Ok, Err}
 use Rattle.std.specs.Io.KnownBytes.{Appends}
 

@@ -1,4 +1,4 @@
--- What `to_string` answers.
+-- What `to_string` returns.
 use Rattle.std.specs.Prelude.{◌≡◌, ℕ, List, None, ⊤}
 use Rattle.std.specs.Str.{chars, encode_utf8_all}
 use Rattle.json5_grammar.specs.declared.code.ErrorCode.TheVariants as codes
@@ -6,13 +6,13 @@ use Rattle.json5_text.specs.declared.error.Error.{Error}
 use Rattle.json5_text.specs.Errors.{FaultKind, code, custom, failed_write, kind_of, place_of}
 use Rattle.json5_ser.specs.Out.{Out, whole, invalid_key, too_deep}
 
--- the bytes are the whole text
+-- the bytes are the whole output
 pub record IsText (o : Out) (bytes : List ℕ) : Type 0 where
   pub stop : o.stop ≡ whole
   pub characters : chars bytes ≡ o.text
   pub encoded : bytes ≡ encode_utf8_all o.text
 
--- the text stops with this kind of fault, or memory was refused
+-- the output stops with this kind of fault, or memory was refused
 abbrev pub StopsAs : Out → FaultKind → Type 0
 StopsAs o (code codes.InvalidKey) = o.stop ≡ invalid_key
 StopsAs o (code codes.TooDeep) = o.stop ≡ too_deep
@@ -21,7 +21,7 @@ StopsAs o (code _) = ⊥
 StopsAs o failed_write = ⊥
 StopsAs o (custom _) = ⊥
 
--- a refusal of `to_string`: it has no place
+-- a refusal of `to_string`: it has no position
 pub record RefusesToString (o : Out) (e : Error) : Type 0 where
   pub stops : StopsAs o (kind_of e)
   pub no_place : place_of e ≡ None

@@ -29,10 +29,10 @@ abbrev mutual
 abbrev pub value_tree : Value → Written
 value_tree v = datum_tree (value_of v)
 
--- the text of a value of any kind, within a limit
+-- the output of a value of any kind, within a limit
 abbrev pub value_text : ℕ → Value → Out
 value_text limit v = text_within limit (value_tree v)
 
--- the key that is a text
+-- the key that is this string
 abbrev pub key_of_string : String Global → WrittenKey
 key_of_string s = named (chars (string_bytes s))

@@ -1,4 +1,4 @@
--- Which numbers have a text: whole ones of 128 bits, and decimals in normal form.
+-- Which numbers have a spelling: whole ones of 128 bits, and decimals in normal form.
 use Rattle.std.specs.Prelude.{ℕ, ◌-◌, ◌^◌, Bool, true, ◌&&◌, ◌||◌, not, nat_eq, List, ℤ, pos, neg_ℤ}
 use Rattle.std.specs.List.{list_all}
 use Rattle.std.specs.Ordering.{int_eq}

@@ -9,14 +9,14 @@ use Rattle.json5_grammar.specs.Language.Documents.{max_depth}
 use Rattle.json5_ser.specs.WrittenTrees.{Written}
 use Rattle.json5_ser.specs.Out.{Out, Stop, whole, invalid_key, too_deep, out}
 
--- the bytes that the writer holds, where they are known; how many brackets are open; how many may be; whether a call was refused
+-- the bytes that the writer holds, if they are known; how many brackets are open; how many may be; whether a call was refused
 pub record SerializerState : Type 0 where
   pub known : Option (List ℕ)
   pub depth : ℕ
   pub limit : ℕ
   pub failed : Bool
 
--- the whole text was written, in UTF-8
+-- the whole output was written, in UTF-8
 pub record Wrote (o : Out) (old new : SerializerState) : Type 0 where
   pub was : old.failed ≡ false
   pub stop : o.stop ≡ whole
@@ -26,14 +26,14 @@ pub record Wrote (o : Out) (old new : SerializerState) : Type 0 where
   pub limit : new.limit ≡ old.limit
   pub failed : new.failed ≡ false
 
--- the text stops here, and was written up to there
+-- the output stops here, and was written up to there
 pub record Stopped (s : Stop) (o : Out) (old new : SerializerState) : Type 0 where
   pub was : old.failed ≡ false
   pub stop : o.stop ≡ s
   pub bytes : Appends old.known new.known (encode_utf8_all o.text)
   pub failed : new.failed ≡ true
 
--- the writer failed, and got a prefix of the text
+-- the writer failed, and got a prefix of the output
 pub record Broke (o : Out) (old new : SerializerState) : Type 0 where
   pub was : old.failed ≡ false
   pub front : List ℕ
@@ -72,12 +72,12 @@ RefusesBy o old by_writer new = Broke o old new
 RefusesBy o old by_refusal new = Idled old new
 RefusesBy o old by_none new = ⊥
 
--- a refusal has no place
+-- a refusal has no position
 pub record RefusesWrite (o : Out) (old : SerializerState) (e : Error) (new : SerializerState) : Type 0 where
   pub leaves : RefusesBy o old (refusal_of (kind_of e)) new
   pub no_place : place_of e ≡ None
 
--- what a call did that has this text to write
+-- what a call did that has this output to write
 abbrev pub Writes : {A : Type 0} → Out → SerializerState → Result A Error → SerializerState → Type 0
 Writes o old (Ok x) new = Wrote o old new
 Writes o old (Err e) new = RefusesWrite o old e new
@@ -93,7 +93,7 @@ fresh_within limit known = record { known = known; depth = 0; limit = limit; fai
 abbrev pub fresh : Option (List ℕ) → SerializerState
 fresh = fresh_within max_depth
 
--- a whole text was written, or refused
+-- a whole output was written, or refused
 abbrev pub ended_within : {A : Type 0} → ℕ → Option (List ℕ) → Result A Error → SerializerState
 ended_within limit known (Ok x) = record { known = known; depth = 0; limit = limit; failed = false }
 ended_within limit known (Err e) = record { known = known; depth = 0; limit = limit; failed = true }

@@ -63,7 +63,7 @@ integer_key z = named (number_text (whole z))
 abbrev pub natural_key : ℕ → WrittenKey
 natural_key n = integer_key (pos n)
 
--- none is no key
+-- None is no key
 abbrev pub option_key : {A : Type 0} → (A → WrittenKey) → Option A → WrittenKey
 option_key key None = bad
 option_key key (Some x) = key x

@@ -240,7 +240,7 @@ impl<W: Write + Drop> SerializeCollection<'_, W> {
         self.stage.is_pending()
     }
 
-    /// Blocks the serializer again after a call, and goes on to a stage where nothing was refused.
+    /// Blocks the serializer again after a call, and sets the next stage if nothing was refused.
     fn settle(&mut self, written: Result<()>, next: Stage) -> Result<()>
         ensures { Settles self.old written next self.new result }
     {

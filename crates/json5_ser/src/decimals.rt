@@ -14,7 +14,7 @@ use json5_text::decimal::Decimal;
 use json5_text::error::Result;
 use std::io::Write;
 
-/// Whether the text of the number is an identifier: infinity and not-a-number without a minus.
+/// Whether the number's spelling is an identifier: infinity and not-a-number without a minus.
 fn is_word(value: &Decimal) -> bool
     ensures name { result ≡ is_name (decimal_text value.now) }
     ensures normal { Normal value.now }
@@ -50,7 +50,7 @@ impl<W: Write + Drop> Serializer<W> {
         self.put_pieces(value)
     }
 
-    /// Writes the number's text as a key.
+    /// Writes the number's spelling as a key.
     pub(crate) fn put_decimal_name(&mut self, value: &Decimal) -> Result<()>
         ensures { WritesKey (named (decimal_text value.now)) self.old result self.new }
     {

@@ -1,4 +1,4 @@
-//! Runs of a text that are written as they stand.
+//! Runs of a string that are written as they are.
 
 ghost use Rattle.std.specs.Prelude.{◌≡◌, ◌≤◌, ◌+◌, length, drop, map, IsTrue};
 ghost use Rattle.std.specs.List.{prefix_len};
@@ -23,7 +23,7 @@ fn stops(bytes: u8x16) -> u64
         | bytes.simd_eq(u8x16::splat(b'\\'))).to_bitmask()
 }
 
-/// Whether a run goes on with the byte.
+/// Whether the byte continues a run.
 #[inline(always)]
 fn is_escape_free_byte(byte: u8) -> bool
     ensures { result ≡ is_escape_free_byte byte }
@@ -31,7 +31,7 @@ fn is_escape_free_byte(byte: u8) -> bool
     !matches!(byte, b'\n' | b'\r' | 0xE2 | b'"' | b'\'' | b'\\')
 }
 
-/// The same as `escape_free_len` from there on, byte by byte.
+/// The same as `escape_free_len` from this index on, byte by byte.
 fn escape_free_len_from(bytes: &[u8], from: usize) -> usize
     requires { from ≤ length bytes.now }
     ensures { result ≡ from + prefix_len is_escape_free_byte (drop from bytes.now) }
@@ -43,7 +43,7 @@ fn escape_free_len_from(bytes: &[u8], from: usize) -> usize
     i
 }
 
-/// Where the run in front ends.
+/// How long the run in front is.
 fn escape_free_len(bytes: &[u8]) -> usize
     ensures value { result ≡ prefix_len is_escape_free_byte bytes.now }
     ensures bound { result ≤ length bytes.now }
@@ -59,7 +59,7 @@ fn escape_free_len(bytes: &[u8]) -> usize
     escape_free_len_from(bytes, i)
 }
 
-/// What follows the characters in front that stand for themselves between any quotes, and are no quotes themselves.
+/// What follows the characters in front that are written as they are between any quotes, and are no quotes themselves.
 pub(crate) fn skip_escape_free(text: &str) -> &str
     ensures skips { SkipsAll is_escape_free text.now result.now }
     ensures utf8 { IsUtf8 result.now }
@@ -68,7 +68,7 @@ pub(crate) fn skip_escape_free(text: &str) -> &str
     text.split_at(end).1
 }
 
-/// Whether all characters stand for themselves between any quotes, and none is a quote.
+/// Whether all characters are written as they are between any quotes, and no character is a quote.
 pub(crate) fn is_escape_free(text: &str) -> bool
     ensures { IsTrue result → Each is_escape_free (chars text.now) }
 {

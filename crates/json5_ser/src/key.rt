@@ -86,7 +86,7 @@ fn bool_name(value: bool) -> &'static str
 }
 
 impl<W: Write + Drop> Serializer<W> {
-    /// Writes a key's text, between quotes where it is no identifier.
+    /// Writes a key's text, between quotes if it is no identifier.
     fn put_name(&mut self, text: &str) -> Result<()>
         ensures { WritesKey (named (chars text.now)) self.old result self.new }
     {
@@ -105,7 +105,7 @@ impl<W: Write + Drop> Serializer<W> {
         self.put_name(digits)
     }
 
-    /// A key on a line of its own.
+    /// Writes a line break and a key.
     pub(crate) fn key<K: SerializeKey>(&mut self, key: &K) -> Result<()>
         ensures { Writes (key_part self.old.depth (K.as_key key.now)) self.old result self.new }
     {

@@ -1,4 +1,4 @@
-//! The values that can be written as keys: bare where the text is an identifier, else between quotes.
+//! The values that can be written as keys: bare if the key's text is an identifier, else between quotes.
 
 ghost use Rattle.std.specs.Prelude.{[], ◌∷◌, string_bytes};
 ghost use Rattle.std.specs.Str.{chars};

@@ -12,7 +12,7 @@ fn longest_line() -> &'static str
     "\n                                                                                                                                                                                                                                                                "
 }
 
-/// A line feed, and two spaces for each bracket that is open.
+/// Returns a line feed, and two spaces for each bracket that is open.
 pub(crate) fn line(depth: u8) -> &'static str
     requires { depth ≤ max_depth }
     ensures { chars result.now ≡ line depth }

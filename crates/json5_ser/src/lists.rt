@@ -7,7 +7,7 @@ use crate::{Serialize, Serializer};
 use json5_text::error::Result;
 use std::io::Write;
 
-/// A list of the items.
+/// Writes an array of these elements.
 fn write_items<T: Serialize, W: Write + Drop>(items: &[T], ser: &mut Serializer<W>) -> Result<()>
     ensures { WritesTree (array (elements_of T.tree items.now)) ser.old result ser.new }
 {
@@ -18,7 +18,7 @@ fn write_items<T: Serialize, W: Write + Drop>(items: &[T], ser: &mut Serializer<
     list.end()
 }
 
-/// Writes an array of the items.
+/// Writes an array of the elements.
 impl<T: Serialize> Serialize for Vec<T> {
     ghost tree = { λ v. array (elements_of T.tree v.items) };
 
@@ -27,7 +27,7 @@ impl<T: Serialize> Serialize for Vec<T> {
     }
 }
 
-/// Writes an array of the items.
+/// Writes an array of the elements.
 impl<T: Serialize, const N: usize> Serialize for [T; N] {
     ghost tree = { λ v. array (elements_of T.tree v) };
 

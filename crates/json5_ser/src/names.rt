@@ -1,4 +1,4 @@
-//! Texts that are identifiers.
+//! Strings that are identifiers.
 
 ghost use Rattle.std.specs.Prelude.{◌≡◌};
 ghost use Rattle.std.specs.List.{list_all, prefix_len};
@@ -10,7 +10,7 @@ ghost use Rattle.json5_ser.specs.NameBytes.{is_name_byte};
 use crate::quoting::front;
 use json5_text::char::{is_json5_identifier, is_json5_identifier_start};
 
-/// Whether an identifier may go on with the byte, where it is an ASCII character.
+/// Whether the byte is an ASCII character that may continue an identifier.
 #[inline(always)]
 fn is_name_byte(byte: u8) -> bool
     ensures { result ≡ is_name_byte byte }
@@ -18,7 +18,7 @@ fn is_name_byte(byte: u8) -> bool
     byte < 128 && is_json5_identifier(char::from(byte))
 }
 
-/// How many of them stand in front.
+/// How many such bytes are in front.
 fn name_len(bytes: &[u8]) -> usize
     ensures { result ≡ prefix_len is_name_byte bytes.now }
 {
@@ -29,7 +29,7 @@ fn name_len(bytes: &[u8]) -> usize
     i
 }
 
-/// What follows the ASCII characters in front that an identifier may go on with.
+/// What follows the ASCII characters in front that may continue an identifier.
 fn skip_name_bytes(text: &str) -> &str
     ensures same { list_all is_identifier_part (chars text.now) ≡ list_all is_identifier_part (chars result.now) }
     ensures utf8 { IsUtf8 result.now }
@@ -38,7 +38,7 @@ fn skip_name_bytes(text: &str) -> &str
     text.split_at(len).1
 }
 
-/// Whether an identifier may go on with all characters of the text.
+/// Whether all characters of the string may continue an identifier.
 fn are_parts(text: &str) -> bool
     ensures { result ≡ list_all is_identifier_part (chars text.now) }
 {
@@ -52,7 +52,7 @@ fn are_parts(text: &str) -> bool
     true
 }
 
-/// Whether the text is an identifier (ECMAScript 5.1 section 7.6), so that a key needs no quotes.
+/// Whether the string is an identifier (ECMAScript 5.1 section 7.6), so that a key needs no quotes.
 pub(crate) fn is_identifier(text: &str) -> bool
     ensures { result ≡ is_name (chars text.now) }
 {

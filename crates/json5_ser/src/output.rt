@@ -1,4 +1,4 @@
-//! Writing whole pieces of text.
+//! Writing whole pieces of output.
 
 ghost use Rattle.json5_ser.specs.Pieces.{Pushes};
 

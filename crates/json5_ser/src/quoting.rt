@@ -9,7 +9,7 @@ ghost use Rattle.json5_ser.specs.Escaping.{NeedsNoEscape, SplitsAtEscape, Starts
 use crate::escape_free::skip_escape_free;
 use json5_text::char::escape;
 
-/// The quotes round a text.
+/// The quotes round a string.
 #[derive(Clone, Copy)]
 pub(crate) enum Quote {
     Single,
@@ -17,7 +17,7 @@ pub(crate) enum Quote {
 }
 
 impl Quote {
-    /// The single quote where the text holds `"` and no `'`, else the double quote.
+    /// The single quote if the string holds `"` and no `'`, else the double quote.
     pub(crate) fn around(text: &str) -> Quote
         ensures { delimiter result ≡ quote_for (chars text.now) }
     {
@@ -38,7 +38,7 @@ impl Quote {
         }
     }
 
-    /// The quote as a text.
+    /// The quote as a string.
     #[tactic(auto, using(crate::proofs::PiecesWritten::chars_double_quote, crate::proofs::PiecesWritten::chars_single_quote))]
     pub(crate) fn text(self) -> &'static str
         ensures { chars result.now ≡ delimiter self ∷ [] }
@@ -59,8 +59,8 @@ pub(crate) fn front(text: &str) -> Option<(char, &str)>
     Some((c, rest.as_str()))
 }
 
-/// Up to the first character that is escaped: the text before it, its escape, and the text after it. None where the whole text
-/// is written as it is.
+/// Splits the string at the first character that is escaped: what comes before it, its escape, and what comes after it. None if
+/// the whole string is written as it is.
 pub(crate) fn split_at_escape(quote: Quote, text: &str) -> Option<(&str, &'static str, &str)>
     ensures { MatchOption result (NeedsNoEscape (delimiter quote) text.now) (λ p. SplitsAtEscape (delimiter quote) text.now p.0.now p.1.now p.2.now) }
 {

@@ -112,7 +112,7 @@ impl<W: Write + Drop> Serializer<W> {
         self.failed = failed;
     }
 
-    /// Answers `Failed` where a call was refused before, or a collection holds the serializer.
+    /// Returns `Failed` if a call was refused before, or a collection holds the serializer.
     pub(crate) fn check_not_failed(&self) -> Result<()>
         ensures live { OnOk result (self.now.failed ≡ false) }
         ensures failed { IfErr result (λ e. (self.now.failed ≡ true) × (kind_of e ≡ code codes.Failed) × (place_of e ≡ None)) }
@@ -134,7 +134,7 @@ impl<W: Write + Drop> Serializer<W> {
         Err(Error::new(code))
     }
 
-    /// Writes a piece; `Failed` where a call was refused before.
+    /// Writes a piece; returns `Failed` if a call was refused before.
     pub(crate) fn put(&mut self, text: &str) -> Result<()>
         ensures { Writes (piece (chars text.now)) self.old result self.new }
     {
@@ -294,7 +294,7 @@ impl<W: Write + Drop> Serializer<W> {
         self.put_integer(value)
     }
 
-    /// Writes the text, and escapes the characters that don't stand for themselves between these quotes. What is between two
+    /// Writes the string, and escapes the characters that these quotes don't allow as they are. What is between two
     /// escapes is written in one piece.
     fn put_escaped(&mut self, quote: Quote, text: &str) -> Result<()>
         ensures { Writes (piece (escaped_all (delimiter quote) (chars text.now))) self.old result self.new }
@@ -308,7 +308,7 @@ impl<W: Write + Drop> Serializer<W> {
         self.put(rest)
     }
 
-    /// Writes the text between `"`.
+    /// Writes the string between `"`.
     fn put_escape_free(&mut self, text: &str) -> Result<()>
         ensures { Writes (piece (double_quote ∷ chars text.now ++ double_quote ∷ [])) self.old result self.new }
     {
@@ -317,7 +317,7 @@ impl<W: Write + Drop> Serializer<W> {
         self.put("\"")
     }
 
-    /// Writes the text between the quotes that are for it.
+    /// Writes the string between the quotes that `Quote::around` chooses.
     #[inline(never)]
     fn put_quoted(&mut self, text: &str) -> Result<()>
         ensures { Writes (piece (quoted_text (chars text.now))) self.old result self.new }
@@ -388,7 +388,7 @@ impl<W: Write + Drop> Serializer<W> {
         self.depth = self.depth.saturating_sub(1);
     }
 
-    /// Closes a collection; its bracket is on a line of its own where something was written in it.
+    /// Closes a collection; its bracket is on its own line if something was written in it.
     pub(crate) fn close(&mut self, brackets: Brackets, stage: Stage) -> Result<()>
         ensures { Writes (closed_by (self.old.depth - 1) (is_started stage) (closing_sign brackets)) (at_depth (self.old.depth - 1) self.old) result self.new }
     {

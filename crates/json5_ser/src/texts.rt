@@ -1,4 +1,4 @@
-//! Whole texts.
+//! Whole outputs.
 
 ghost use Rattle.std.specs.Prelude.{string_bytes, IfOk, IfErr};
 ghost use Rattle.std.specs.Str.{chars};

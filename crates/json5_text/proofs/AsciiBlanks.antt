@@ -1,4 +1,4 @@
--- ASCII blanks in front of a text.
+-- ASCII blanks in front of the input.
 use Rattle.std.proofs.Common.{◌≡◌, ℕ, ◌<◌, ◌≤◌, Bool, true, false, subst, List, [], ◌∷◌, ◌++◌, length, drop, refl, ap, sym, ◌∙◌, arith}
 use Rattle.std.specs.List.{prefix_len, take_while}
 use Rattle.std.specs.Prelude.{◌==◌, slice_index}
@@ -53,7 +53,7 @@ at_solid_text r u k =
 pub drop_shorter : (s r : List ℕ) (n : ℕ) → r ≡ drop n s → length r ≤ length s
 drop_shorter s r n d = let k = length-drop n s in let l = ap length d in omega (arith, k, l)
 
--- the characters between text and rest are passed over in a comment, up to one that fails the test
+-- a comment passes over the characters between text and rest, up to one that fails the test
 pub record PassesOn (mode : Mode) (p : ℕ → Bool) (text rest : List ℕ) : Type 0 where
   pub passed : skip mode (chars text) ≡ skip mode (chars rest)
   pub shorter : length rest ≤ length text

@@ -13,7 +13,7 @@ fields_last : (fs : List (String Global × Value)) (f : String Global × Value) 
 fields_last [] f = refl
 fields_last (g ∷ fs) f = ap (field (chars (string_bytes g.0)) (value_of g.1)) (fields_last fs f)
 
--- one pair more on both sides
+-- one member more on both sides
 pub one_more_field : (fs gs : List (String Global × Value)) (k : String Global) (v : Value) (g : String Global × Value) → fields_view fs ≡ fields_view gs → string_bytes k ≡ string_bytes g.0 → value_of v ≡ value_of g.1
     → fields_view (fs ++ (k, v) ∷ []) ≡ fields_view (gs ++ g ∷ [])
 one_more_field fs gs k v g h named is = fields_last fs (k, v) ∙ (rw (h, named, is) (sym (fields_last gs g)))

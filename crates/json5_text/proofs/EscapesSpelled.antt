@@ -1,4 +1,4 @@
--- The texts of the escapes, character by character.
+-- The spellings of the escapes, character by character.
 use Rattle.std.proofs.Common.{◌≡◌, refl}
 use Rattle.std.specs.Str.{chars}
 use Rattle.std.proofs.lemmas.Str.{chars-encodes}

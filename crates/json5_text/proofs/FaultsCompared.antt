@@ -1,4 +1,4 @@
--- Faults are equal exactly when they say the same and have the same place.
+-- Faults are equal exactly when they say the same and have the same position, or no position.
 use Rattle.std.proofs.Common.{◌≡◌, ◌∙◌, ℕ, refl, ap, Option, Some, None, ◌==◌, ◌&&◌, string_bytes}
 use Rattle.std.specs.Bool.{Decides}
 use Rattle.std.specs.String.{string_eq}

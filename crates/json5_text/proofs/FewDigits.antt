@@ -1,4 +1,4 @@
--- Few digits in front of a text are a whole number of the grammar.
+-- Few digits in front of the input are a whole number of the grammar.
 use Rattle.std.proofs.Common.{◌≡◌, ℕ, zero, suc, ◌+◌, ◌-◌, ◌*◌, ◌<◌, ◌≤◌, Bool, true, false, not, cond, ◌||◌, List, [], ◌∷◌, length, drop, refl, ap, sym, ◌∙◌, arith}
 use Rattle.std.specs.Prelude.{◌==◌, slice_index}
 use Rattle.std.specs.List.{prefix_len}
@@ -15,7 +15,7 @@ or-true : (b : Bool) → (b || true) ≡ true
 or-true true = refl
 or-true false = refl
 
--- a digit at the place i
+-- a digit at the index i
 pub digit_here : (d : List ℕ) (i : ℕ) → i < length d → is_digit (slice_index d i) ≡ true → (prefix_len is_digit (drop i d) ≡ 1 + prefix_len is_digit (drop (i + 1) d)) × (front_of is_digit (drop i d) ≡ slice_index d i ∷ front_of is_digit (drop (i + 1) d))
 unfolding front_of
 digit_here [] i l h = absurd (omega arith)

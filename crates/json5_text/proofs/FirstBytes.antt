@@ -23,7 +23,7 @@ module _ (test q : ℕ → Bool) (opposite : (x : ℕ) → q x ≡ not (test x))
       decide true n = absurd (n refl)
       decide false n = refl
 
-  -- the length of the run, where nothing found stands for the end
+  -- the length of the run; None is the end
   pub run_found : (r : Option ℕ) → IsFirstByte test d r → unwrap_or r (length d) ≡ prefix_len q d
   run_found None h = sym (all_pass q d (λ j l. passes (slice_index d j) (h j (omega arith) l)))
   run_found (Some k) h = sym (first_fails q d k h.0.high (λ j l. passes (slice_index d j) (h.0.before j (omega arith) l)) (opposite (slice_index d k) ∙ ap not h.1))

@@ -11,7 +11,7 @@ use Rattle.json5_text.specs.ValueViews.{Datum, null, boolean, number, text, arra
 use Rattle.json5_text.specs.ValueLookups.{or_else, last_named, item_at, items_in, element_of}
 use Rattle.json5_text.proofs.ValuesCompared.{bytes_or_characters}
 
--- a pair with the key replaces what was found before it, and another pair doesn't
+-- a member with the key replaces what was found before it, and another member doesn't
 pub found_here : (a found : Option Datum) (x : Datum) → or_else (or_else a (Some x)) found ≡ or_else a (Some x)
 found_here None found x = refl
 found_here (Some y) found x = refl
@@ -28,7 +28,7 @@ pub past_name : (key : List ℕ) (f : String Global × Value) (fs xs : List (Str
     → or_else (last_named key (fields_view xs)) found ≡ or_else (last_named key (fields_view fs)) found
 past_name key f fs xs found x other = rw (x, other) (found_before (last_named key (fields_view fs)) found)
 
--- an element stands where it is
+-- the view of the elements has the view of the n-th one at the index n
 item_here : (vs : List Value) (n : ℕ) (d : Value) → n < length vs → item_at n (items_view vs) ≡ Some (value_of (get_or vs n d))
 item_here [] n d h = absurd (omega (arith, h))
 item_here (v ∷ vs) zero d h = refl
@@ -43,7 +43,7 @@ pub element_found : (vs : List Value) (n : ℕ) (found : Option (Bor Value)) →
 element_found vs n None h is = sym (no_item_here vs n (grind (arith, h)))
 element_found vs n (Some x) h is = ap (λ v. Some (value_of v)) is ∙ sym (item_here vs n x.now (grind (arith, h)))
 
--- the pairs from one on
+-- the members from the i-th on
 pub from_here : (fs : List (String Global × Value)) (i : ℕ) (f : String Global × Value) → i < length fs → f ≡ get_or fs i f → drop i fs ≡ f ∷ drop (i + 1) fs
 from_here fs i f h is = drop_more fs i f h ∙ ap (λ g. g ∷ drop (i + 1) fs) (sym is)
 

@@ -94,7 +94,7 @@ pub judged_past : (q : List ℕ) (m : Bool) (r i : List ℕ) (f : Option (List �
 unfolding judged
 judged_past q m r i f w e h a n = let t = not_in_range (exponent_of i f w) (λ k. n (a.1 k)) in rw (h, t) refl
 
--- the digits after the point, or none
+-- the digits after the point, or no digits
 pub after_or : (o : Option (Bor (List ℕ))) (d : Bor (List ℕ)) → d.now ≡ [] → (unwrap_or o d).now ≡ digits_after (option_map (λ digits. digits.now) o)
 after_or None d e = e
 after_or (Some x) d e = refl

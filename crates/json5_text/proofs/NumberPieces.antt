@@ -1,4 +1,4 @@
--- The front of a text that stands in parts.
+-- The first piece of a spelling that is made of parts.
 use Rattle.std.proofs.Common.{◌≡◌, ℕ, ◌+◌, ◌-◌, ◌<◌, ◌≤◌, List, [], ◌∷◌, ◌++◌, length, ap, sym, ◌∙◌, arith, append_assoc}
 use Rattle.std.proofs.lemmas.List.{replicate-append-replicate, length-replicate}
 use Rattle.json5_grammar.specs.Written.NumberText.{zeros}

@@ -1,4 +1,4 @@
--- Where a text is cut, after ASCII characters that pass a test.
+-- The input is cut after the ASCII characters in front that pass a test.
 use Rattle.std.proofs.Common.{◌≡◌, ℕ, zero, suc, ◌+◌, ◌<◌, ◌≤◌, Bool, true, false, List, [], ◌∷◌, ◌++◌, length, take, drop, refl, ap, sym, ◌∙◌, subst, arith, drop-cons, add-one}
 use Rattle.std.specs.Prelude.{◌==◌, slice_index, slice_index_or}
 use Rattle.std.specs.List.{prefix_len, take_while}

@@ -21,7 +21,7 @@ use lib.Chars.{codes}
 use Rattle.json5_text.specs.Outcome.{Outcome, bytes_in, outcome, gave, failed}
 use Rattle.json5_grammar.proofs.NumbersUnique.{hex_judged_bad}
 
--- a place by the bytes that are left
+-- the characters have as many bytes as the string
 pub left_is : (s : List ℕ) → IsUtf8 s → bytes_in (chars s) ≡ length s
 left_is s u = ap length (encodes-chars s u)
 

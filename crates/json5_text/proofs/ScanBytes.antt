@@ -1,4 +1,4 @@
--- A text is cut where its characters are.
+-- A string is cut between its characters.
 use Rattle.std.proofs.Common.{◌≡◌, ℕ, suc, ◌+◌, ◌-◌, ◌<◌, ◌≤◌, true, List, [], ◌∷◌, ◌++◌, length, take, drop, refl, ap, sym, ◌∙◌, subst, arith, append_assoc, Bool, false, nat_eq, Option, Some, drop-cons}
 use Rattle.std.specs.Char.{IsScalar, encode_utf8, len_utf8}
 use Rattle.std.specs.Prelude.{slice_index, slice_index_or, slice_get, not}
@@ -25,7 +25,7 @@ scalar_halves (c ∷ x) y s =
 pub one_scalar : (c : ℕ) → IsScalar c → all_scalars (c ∷ []) ≡ true
 one_scalar c h = rw h refl
 
--- the characters of the text are x ++ y
+-- the characters of the string are x ++ y
 pub record Halves (text x y : List ℕ) : Type 0 where
   pub is_text : IsUtf8 text
   pub split : chars text ≡ x ++ y
@@ -58,7 +58,7 @@ pub cut_half : {text x y : List ℕ} → Halves text x y → IsCharBoundary text
 cut_half {text = text} {x = x} {y = y} h =
     rw (offset_at h) (IsCharBoundary-at_seam text (encode_utf8_all x) (encode_utf8_all y) (whole_bytes h) (y, ((parts_scalar h).1, refl)))
 
--- a text cut at a boundary
+-- a string cut at a boundary
 pub halves_at : (text : List ℕ) (i : ℕ) → IsUtf8 text → IsCharBoundary text i → Halves text (chars (take i text)) (chars (drop i text))
 halves_at text i u b = record {
   is_text = u;
@@ -75,16 +75,16 @@ boundary_offset text i u b =
 pub halves_after : {text x y : List ℕ} (p q : List ℕ) → Halves text x y → y ≡ p ++ q → Halves text (x ++ p) q
 halves_after {x = x} p q h e = record { is_text = h.is_text; split = h.split ∙ ap (λ z. x ++ z) e ∙ sym (append_assoc x p q) }
 
--- texts of the same characters have the same bytes
+-- strings of the same characters have the same bytes
 pub same_text : (a b : List ℕ) → IsUtf8 a → IsUtf8 b → chars a ≡ chars b → a ≡ b
 same_text a b u v e = sym (encodes-chars a u) ∙ ap encode_utf8_all e ∙ encodes-chars b v
 
--- ---- the scanner's text
+-- ---- the scanner's input
 
 pub halves_in : {text : List ℕ} {offset end : ℕ} → InText text offset end → Halves text (chars (take offset text)) (chars (drop offset text))
 halves_in {text = text} {offset = offset} k = halves_at text offset k.is_text k.cut
 
--- the text is cut where so many bytes are left
+-- the input is cut where so many bytes are left
 pub cut_left : {text : List ℕ} {offset end left : ℕ} (x y : List ℕ) → InText text offset end → chars text ≡ x ++ y → left ≡ bytes_in y → IsCharBoundary text (end - left)
 cut_left x y k e l = rw (k.counted, l) (cut_half (record { is_text = k.is_text; split = e }))
 
@@ -97,7 +97,7 @@ drop_left x y k e l = rw (k.counted, l) (drop_half (record { is_text = k.is_text
 pub fits_left : {text : List ℕ} {offset end left : ℕ} (x y : List ℕ) → InText text offset end → chars text ≡ x ++ y → left ≡ bytes_in y → left ≤ end
 fits_left x y k e l = rw (k.counted, l) (left_fits (record { is_text = k.is_text; split = e }))
 
--- the whole text, cut within what is unread
+-- the whole input, cut within its unread part
 pub whole_split : {text : List ℕ} {offset end : ℕ} (p q : List ℕ) → InText text offset end → chars (drop offset text) ≡ p ++ q → chars text ≡ (chars (take offset text) ++ p) ++ q
 whole_split p q k e = (halves_after p q (halves_in k) e).split
 
@@ -106,7 +106,7 @@ offset_counted {text = text} {offset = offset} k =
     rw (encodes-chars text k.is_text, encodes-chars (drop offset text) (IsUtf8-drop text offset k.is_text k.cut), length-drop offset text)
     (let h : offset ≤ length text = k.cut.0 in omega arith)
 
--- ---- what stands before a rest
+-- ---- what comes before a rest
 
 beginning : (n : ℕ) (text : List ℕ) → slice_range text 0 n ≡ take n text
 beginning n text = grind (arith, common_steps)
@@ -115,7 +115,7 @@ pub before_rest : {part : List ℕ} (text x rest : List ℕ) → IsUtf8 text →
 before_rest text x rest u v e f =
     ap chars (f ∙ beginning (length text - length rest) text ∙ ap (λ r. take (length text - length r) text) (sym (encodes-chars rest v))) ∙ take_half (record { is_text = u; split = e })
 
--- the text is cut after so many bytes
+-- the input is cut after so many bytes
 pub cut_before : {text : List ℕ} {offset end cut : ℕ} (x y : List ℕ) → InText text offset end → chars text ≡ x ++ y → cut ≡ bytes_in x → IsCharBoundary text cut
 cut_before {text = text} {cut = cut} x y k e l =
     let h : Halves text x y = record { is_text = k.is_text; split = e } in
@@ -126,7 +126,7 @@ take_before {text = text} {cut = cut} x y k e l =
     let h : Halves text x y = record { is_text = k.is_text; split = e } in
     subst (λ n. chars (take n text) ≡ x) (offset_at h ∙ sym l) (take_half h)
 
--- ---- a part of a text
+-- ---- a part of the input
 
 pub cut_at : {text x y : List ℕ} → Halves text x y → IsCharBoundary text (bytes_in x)
 cut_at {text = text} h = subst (IsCharBoundary text) (offset_at h) (cut_half h)

@@ -103,7 +103,7 @@ no_digit s r c d u e f h = by_cases (ltb (digit_value c) 16) refl
         absurd (let m : 16 ≤ digit_value c = subst (λ x. 16 ≤ digit_value x) k h in omega arith)
     by_cases false i = grind (arith, nat_tests)
 
--- a byte that is no digit is that of a character that is none
+-- a byte that is no digit begins a character that is no digit
 pub no_digit_front : (s : List ℕ) (d : ℕ) → IsUtf8 s → Some d ≡ slice_get s 0 → 16 ≤ digit_value d → (c : ℕ) × (r : List ℕ) × (chars s ≡ c ∷ r) × (16 ≤ digit_value c)
 no_digit_front s d u f h = by_chars (chars s) refl
   where
@@ -194,7 +194,7 @@ sign_chars = chars-encodes (92 ∷ 117 ∷ []) refl
 pub second_word : (n : ℕ) (b xs : List ℕ) → second n b xs ≡ and_then (word_at EofParsingEscapeSequence InvalidEscapeSequence escape_sign xs) (other_half n b)
 second_word n b xs = second_list n b xs ∙ ap (λ w. and_then (word_at EofParsingEscapeSequence InvalidEscapeSequence w xs) (other_half n b)) (sym sign_chars)
 
--- it stands there, and four digits after it
+-- `\u` is there, and four digits follow it
 pub second_digits : (n : ℕ) (b xs ys : List ℕ) → word_at EofParsingEscapeSequence InvalidEscapeSequence escape_sign xs ≡ got tt ys → second n b xs ≡ and_then (hex 4 0 b ys) (paired n b)
 second_digits n b xs ys e = second_word n b xs ∙ ap (λ z. and_then z (other_half n b)) e
 

@@ -1,4 +1,4 @@
--- From what the functions below the scanner refuse with to the faults of a text.
+-- From the refusals of the functions below the scanner to the faults of the input.
 use Rattle.std.proofs.Common.{◌≡◌, ℕ, List, ◌++◌, refl, ap, sym, ◌∙◌, append_assoc, Option, Some, None, ◌⊎◌, inl, inr, subst}
 use Rattle.std.specs.Prelude.{⊤}
 use Rattle.json5_grammar.specs.declared.code.ErrorCode.{ErrorCode}
@@ -46,7 +46,7 @@ same_failed A e f a b h = (cc, cc)
 pub gave_failed : (A : Type 0) (a : A) (r : List ℕ) (f : Option ErrorCode) (b : Option ℕ) → Same A (gave a r) (failed f b) → ⊥
 gave_failed A a r f b h = cc
 
--- the place of a refusal is within what is unread
+-- the position of a refusal is within the unread part
 in_unread : (A : Type 0) (IsFault : List ℕ → Option ErrorCode → Option (List ℕ) → Type 0) (s : Cursor) (reason f : Option ErrorCode) (p : Place) (left : ℕ) → FaultAt IsFault s.unread reason p → Same A (failed reason (left_at p)) (failed f (Some left)) → Leaves s left
 in_unread A IsFault s reason f p left k e = leaves s k.place p left k.is_at (same_failed A reason f (left_at p) (Some left) e).1
 
@@ -69,7 +69,7 @@ placed_at s (Some b) inner left err at e there = absurd at
 placed_at s None (here q) left err at e there = absurd at
 placed_at s None inner left err at e there = absurd (cc)
 
--- a fault with a place is the fault of the text
+-- a fault with a position is the fault of the input
 there_refused : (A : Type 0) (IsFault : List ℕ → Option ErrorCode → Option (List ℕ) → Type 0) (s : Cursor) (err : Error) (reason f : Option ErrorCode) (p : Place) (left : ℕ)
     → FaultAt IsFault s.unread reason p → Same A (failed reason (left_at p)) (failed f (Some left)) → Says f err → IsThere s left err → Refused IsFault s err
 there_refused A IsFault s err reason f p left k e says there =

@@ -1,4 +1,4 @@
--- Runs of characters that stand for themselves in a string or a name.
+-- Runs of characters that spell themselves in a string or a name.
 use Rattle.std.proofs.Common.{◌≡◌, ℕ, Bool, true, false, List, [], ◌∷◌, ◌++◌, length, refl, ap, sym, ◌∙◌, append_assoc, subst, arith, Some}
 use Rattle.std.specs.Prelude.{◌==◌, ◌||◌, ◌&&◌, not}
 use Rattle.std.specs.Str.{IsUtf8, chars, encode_utf8_all}
@@ -19,7 +19,7 @@ use Rattle.json5_text.specs.Scan.{SkipsAll}
 use Rattle.json5_text.specs.ScanTexts.{quote_of, after_first_char, past, ends_early, text_at, string_at, is_raw_in, Run, SkipsRaw}
 use Rattle.json5_text.proofs.ScanBytes.{no_chars}
 
--- ---- characters that stand for themselves
+-- ---- characters that spell themselves
 
 pub quote_is : (q : Quote) → is_quote (quote_of q) ≡ true
 quote_is quotes.Double = refl

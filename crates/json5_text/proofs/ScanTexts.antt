@@ -88,7 +88,7 @@ bytes_past front a b c r u v e f g k =
 pub both_parts : (r u : List ℕ) → IsUtf8 r → r ++ encode_utf8_all u ≡ encode_utf8_all (chars r ++ u)
 both_parts r u k = ap (λ t. t ++ encode_utf8_all u) (sym (encodes-chars r k)) ∙ sym (encodes-append (chars r) u)
 
--- ---- a text with an escape isn't escape-free
+-- ---- a string or name with an escape isn't escape-free
 
 abbrev flag : Read (List ℕ × Bool) → Bool
 flag (got a r) = a.1

@@ -223,7 +223,7 @@ spaced text x y reads f e (k, solid) =
       counted = k.counted;
     }
 
--- ---- in the scanner's text
+-- ---- in the scanner's input
 
 from_fits : {text x u : List ℕ} {offset end from to : ℕ} → InText text offset end → chars (drop offset text) ≡ x → IsSliceBefore x u from to → from ≤ end
 from_fits {u = u} k e p = fits_left _ _ k (whole_split p.before (u ++ p.rest) k (e ∙ p.split)) p.begins

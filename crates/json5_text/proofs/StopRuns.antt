@@ -1,4 +1,4 @@
--- A text is cut before the first byte that fails a test, where the bytes of the characters before it pass.
+-- A string is cut before the first byte that fails a test, if the bytes of the characters before it pass.
 use Rattle.std.proofs.Common.{◌≡◌, ℕ, ◌+◌, ◌/◌, ◌%◌, ◌<◌, ◌≤◌, Bool, true, false, ltb, List, [], ◌∷◌, ◌++◌, length, drop, refl, ap, sym, ◌∙◌, subst, arith}
 use Rattle.std.specs.List.{prefix_len}
 use Rattle.std.specs.Str.{IsUtf8, IsCharBoundary, chars, encode_utf8_all}
@@ -71,7 +71,7 @@ front_bytes p q a [] = refl
 front_bytes p q a (c ∷ cs) =
     by_test (λ z. prefix_len p (encode_utf8 c ++ encode_utf8_all cs) ≡ bytes_in z) (q c) (c ∷ front_of q cs) [] (front_more p q c cs a (front_bytes p q a cs)) (a.first c (encode_utf8_all cs))
 
--- ---- the text cut there
+-- ---- the string cut there
 
 pub stop_halves : (q : ℕ → Bool) (text : List ℕ) → IsUtf8 text → Halves text (front_of q (chars text)) (rest_of q (chars text))
 stop_halves q text u = record { is_text = u; split = front_rest q (chars text) }

@@ -1,4 +1,4 @@
--- The text that a string or a key of a text stands for is of scalar values.
+-- What a string or a key spells is scalar values.
 use Rattle.std.proofs.Common.{◌≡◌, ℕ, ◌+◌, ◌*◌, ◌<◌, ◌≤◌, Bool, true, false, List, [], ◌∷◌, ◌++◌, refl, ap, ◌∙◌, subst, Option, Some, None, arith}
 use Rattle.std.specs.Prelude.{◌==◌}
 use Rattle.std.specs.Char.{IsScalar, digit_value}
@@ -113,14 +113,14 @@ key_spelled : {s r u : List ℕ} {escape_free : Bool} → Key s r u escape_free 
 key_spelled (string_key k) h = text_scalars k h
 key_spelled (name_key i e) h = name_scalars i h
 
--- a key in front has a text of scalar values
+-- a key in front spells scalar values
 pub key_scalars : {s u : List ℕ} {escape_free : Bool} (x r : List ℕ) → x ≡ s ++ r → all_scalars x ≡ true → Key s r u escape_free → all_scalars u ≡ true
 key_scalars {s = s} x r split h k = key_spelled k (scalar_halves s r (subst (λ z. all_scalars z ≡ true) split h)).0
 
--- a string in front has a text of scalar values
+-- a string in front spells scalar values
 pub string_scalars : {s u : List ℕ} {escape_free : Bool} (x r : List ℕ) → x ≡ s ++ r → all_scalars x ≡ true → Str s u escape_free → all_scalars u ≡ true
 string_scalars {s = s} x r split h k = text_scalars k (scalar_halves s r (subst (λ z. all_scalars z ≡ true) split h)).0
 
--- the characters of the bytes of a text in front
+-- the bytes of what a string in front spells have its characters
 pub text_characters : {s u : List ℕ} {escape_free : Bool} (x r bytes : List ℕ) → x ≡ s ++ r → all_scalars x ≡ true → Str s u escape_free → bytes ≡ encode_utf8_all u → chars bytes ≡ u
 text_characters {u = u} x r bytes split k str same = ap chars same ∙ chars-encodes u (string_scalars x r split k str)

@@ -1,4 +1,4 @@
--- Where the texts of tokens stand.
+-- The offsets of what tokens spell.
 use Rattle.std.proofs.Common.{◌≡◌, ℕ, ◌+◌, ◌-◌, ◌≤◌, Bool, true, List, [], ◌∷◌, ◌++◌, length, take, drop, refl, ap, sym, ◌∙◌, subst, arith, append_assoc, Option, Some, None}
 use Rattle.std.specs.Option.{unwrap_or}
 use Rattle.std.specs.Str.{IsUtf8, IsCharBoundary, chars, encode_utf8_all}
@@ -21,7 +21,7 @@ use Rattle.json5_text.specs.ScanTexts.{string_at}
 use Rattle.json5_text.proofs.ScanBytes.{Halves, halves_in, fits_left, bytes_append, cut_at, part_between, halves_after}
 use Rattle.json5_text.proofs.ScanTokens.{string_taken, name_taken, left_counted}
 
--- an escape-free string's text begins its body
+-- an escape-free string's body begins with what the string spells
 pub string_body : (q : ℕ) (x body u r : List ℕ) (escape_free : Bool) → x ≡ q ∷ body → string_at x ≡ got (u, escape_free) r → escape_free ≡ true → (rest : List ℕ) × (body ≡ u ++ rest)
 string_body q x body u r escape_free e read h =
     let k = string_taken x x u r escape_free refl read in
@@ -31,15 +31,15 @@ string_body q x body u r escape_free e read h =
     tails : {a b : ℕ} {y z : List ℕ} → a ∷ y ≡ b ∷ z → y ≡ z
     tails f = cc
 
--- an escape-free name is its text
+-- an escape-free name spells itself
 pub name_body : (x u r : List ℕ) (escape_free : Bool) → identifier x ≡ got (u, escape_free) r → escape_free ≡ true → (rest : List ℕ) × (x ≡ u ++ rest)
 name_body x u r escape_free read h =
     let k = name_taken x x u r escape_free refl read in
     (r, k.split ∙ ap (λ z. z ++ r) (name_slice k.is_name h))
 
--- ---- where the text stands
+-- ---- the offsets of the text
 
--- a borrowed text is no longer than what begins with it
+-- a borrowed text is no longer than the input that begins with it
 pub borrowed_fits : {u : List ℕ} {escape_free : Bool} (text : CowStr) (y : List ℕ) → IsUtf8 y → IsCow text u escape_free → (escape_free ≡ true → (rest : List ℕ) × (chars y ≡ u ++ rest)) → is_borrowed text ≡ true → length (cow_bytes text) ≤ length y
 borrowed_fits {u = u} text y utf8 is begins h =
     let k = begins (sym is.borrowed ∙ h) in
@@ -84,18 +84,18 @@ gives_token end left t text front x y rest split same given begins counted made 
   text = given.text;
 }
 
--- what is unread is no longer than the whole text
+-- the unread part is no longer than the whole input
 pub unread_fits : {text : List ℕ} {offset end : ℕ} (s : Cursor) (part : List ℕ) → InText text offset end → IsUtf8 part → chars part ≡ s.unread → chars (drop offset text) ≡ s.unread → length part ≤ end
 unread_fits s part k utf8 e f = fits_left _ _ k (halves_in k).split (left_counted part utf8 ∙ ap bytes_in (e ∙ sym f))
 
--- the token in front of what is unread has its text in the whole one
+-- the text of the token in front of the unread part is within the whole input
 pub token_inside : {text : List ℕ} {offset end : ℕ} (s : Cursor) (x u : List ℕ) (escape_free : Bool) (t : TextToken) → InText text offset end → chars text ≡ s.input → chars (drop offset text) ≡ s.unread → x ≡ s.unread → IsTokenIn end x t u escape_free → Spells s.input u escape_free t
 token_inside {text = text} {offset = offset} s x u escape_free t inside e f g is =
     let before = chars (take offset text) in
     let whole : before ++ x ≡ chars text = ap (λ z. before ++ z) (g ∙ sym f) ∙ sym (halves_in inside).split in
     subst (λ z. Spells z u escape_free t) (whole ∙ e) (is before (inside.counted ∙ left_counted text inside.is_text ∙ sym (ap bytes_in whole)))
 
--- the part of a text where u stands
+-- the part of the input that is u
 pub stands_between : (text u : List ℕ) (start end : ℕ) (part : Option (Bor (List ℕ))) (other : Bor (List ℕ)) → IsUtf8 text → GetsRange text start end part → IsSliceAt (chars text) u start end → (unwrap_or part other).now ≡ encode_utf8_all u
 stands_between text u start end (Some x) other utf8 gets at =
     let h : Halves text at.before (u ++ at.rest) = record { is_text = utf8; split = at.split } in

@@ -1,4 +1,4 @@
--- Texts are equal, and at the same place of the order, where their bytes are the same.
+-- Texts are equal, and compare as Equal, exactly when their bytes are the same.
 use Rattle.std.proofs.Common.{◌≡◌, ◌↔◌, ℕ, List, nat_eq, sym, ap, ◌∙◌}
 use Rattle.std.specs.Bool.{Decides}
 use Rattle.std.specs.Ordering.{is_eq, nat_cmp}
@@ -9,6 +9,6 @@ use Rattle.std.specs.Cmp.Lexicographic.{pointwise, bytes_decides, slice_cmp, tex
 pub texts_same : (x y : List ℕ) → Decides (pointwise nat_eq x y) (x ≡ y)
 texts_same x y = bytes_decides x y
 
--- texts stand at the same place of the order exactly where they are the same
+-- texts compare as Equal exactly when they are the same
 pub same_place : (x y : List ℕ) → (slice_cmp nat_cmp x y ≡ Equal) ↔ (x ≡ y)
 same_place x y = (λ e. (bytes_decides x y).0 (texts_ties x y ∙ ap is_eq e), λ e. (Equal-is (slice_cmp nat_cmp x y)).0 (sym (texts_ties x y) ∙ (bytes_decides x y).1 e))

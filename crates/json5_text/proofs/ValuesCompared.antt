@@ -1,4 +1,4 @@
--- Values are equal where they stand for the same.
+-- Values are equal when their views are.
 use Rattle.std.proofs.Common.{◌≡◌, ◌∙◌, ℕ, suc, Bool, true, false, not, ◌&&◌, List, [], ◌∷◌, length, nat_eq, ap, sym, refl, rules, Vec, String, string_bytes}
 use Rattle.std.specs.declared.alloc.Global.{Global}
 use Rattle.std.specs.Str.{chars, IsUtf8, encode_utf8_all}
@@ -9,7 +9,7 @@ use Rattle.json5_text.specs.ValueViews.{value_of, items_view, fields_view, datum
 use Rattle.json5_text.specs.declared.value.Value.{Value, Null, Array, Object, the_lemmas}
 use Rattle.json5_text.specs.declared.value.Value as value
 
--- what holds of the bytes of two texts holds of their characters
+-- two strings have equal bytes exactly when they have equal characters
 pub bytes_or_characters : (a b : List ℕ) → IsUtf8 a → IsUtf8 b → pointwise nat_eq a b ≡ pointwise nat_eq (chars a) (chars b)
 bytes_or_characters a b h k =
     let back : chars a ≡ chars b → a ≡ b = λ e. sym (encodes-chars a h) ∙ ap encode_utf8_all e ∙ encodes-chars b k in
@@ -37,7 +37,7 @@ other_count (f ∷ fs) (g ∷ gs) h = rw (other_count fs gs (λ e. h (ap suc e))
     and_both_false : (a b : Bool) → (a && (b && false)) ≡ false
     and_both_false a b = rw (and_false b) (and_false a)
 
--- ---- what each kind of value stands for
+-- ---- the view of each kind of value
 
 pub view-Array : (v : Vec Value Global) → value_of (Array v) ≡ array (items_view v.items)
 view-Array v = search (rules, the_lemmas)
@@ -45,7 +45,7 @@ view-Array v = search (rules, the_lemmas)
 pub view-Object : (v : Vec (String Global × Value) Global) → value_of (Object v) ≡ object (fields_view v.items)
 view-Object v = search (rules, the_lemmas)
 
--- a pair of another name comes first
+-- the first members have different keys
 pub other_name : (fs gs : List (String Global × Value)) (f g : String Global × Value) (xs ys : List (String Global × Value)) (a b : List ℕ) → xs ≡ f ∷ fs → ys ≡ g ∷ gs → IsUtf8 a → IsUtf8 b
     → a ≡ string_bytes f.0 → b ≡ string_bytes g.0 → not (pointwise nat_eq a b) ≡ true → fields_eq (fields_view xs) (fields_view ys) ≡ false
 other_name fs gs f g xs ys a b x y h k i j differ =

@@ -11,6 +11,6 @@ IsEquality {A} eq = (x y : A) → IsTrue (eq x y) ↔ (x ≡ y)
 abbrev pub HashesBy : {A B H : Type 0} → (A → B) → (A → H) → Type 0
 HashesBy {A} view hash = (x y : A) → view x ≡ view y → hash x ≡ hash y
 
--- two stand at the same place of the order exactly where they are seen alike
+-- two compare as Equal exactly when their views are the same
 abbrev pub OrdersBy : {A B : Type 0} → (A → B) → (A → A → Ordering) → Type 0
 OrdersBy {A} view order = (x y : A) → order x y ≡ Equal ↔ view x ≡ view y

@@ -31,7 +31,7 @@ is_no_star x = not (x == 42)
 abbrev pub is_ascii_start : ℕ → Bool
 is_ascii_start x = (x == 36) || ((x == 95) || (is_in 65 90 x || is_in 97 122 x))
 
--- an ASCII character that may go on one
+-- an ASCII character that may continue one
 abbrev pub is_ascii_part : ℕ → Bool
 is_ascii_part x = is_ascii_start x || is_digit x
 
@@ -47,7 +47,7 @@ pub record IsAsciiName (bytes : List ℕ) (len : ℕ) : Type 0 where
   pub inside : len < length bytes
   pub stops : is_plain_ascii (slice_index bytes len) ≡ true
 
--- may go on with a number after its digits
+-- may continue a number after its digits
 abbrev pub lengthens_digits : ℕ → Bool
 lengthens_digits c = in_run c || hex_start c
 
@@ -62,7 +62,7 @@ pub record SpellsFront (bytes : List ℕ) (found : FewDigits) : Type 0 where
 abbrev pub IsUnpadded : List ℕ → ℕ → Type 0
 IsUnpadded bytes len = 1 < len → slice_index bytes 0 ≡ 48 → ⊥
 
--- the digits in front are this number, which is a whole one, and nothing goes on with them
+-- the digits in front are this whole number, and nothing continues it
 pub record IsFewDigits (bytes : List ℕ) (found : FewDigits) : Type 0 where
   pub counted : found.len ≡ prefix_len is_digit bytes
   pub value : found.value ≡ spelled 10 0 (front_of is_digit bytes)
@@ -70,7 +70,7 @@ pub record IsFewDigits (bytes : List ℕ) (found : FewDigits) : Type 0 where
   pub stops : NotBegun lengthens_digits (drop found.len bytes)
   pub small : found.value < 10 ^ 19
 
--- the digits in front are this number, and nothing goes on with them in the rest
+-- the digits in front are this number, and nothing in the rest continues it
 pub record IsShort (text : List ℕ) (value : ℕ) (rest : List ℕ) : Type 0 where
   pub digits : List ℕ
   pub split : chars text ≡ digits ++ chars rest

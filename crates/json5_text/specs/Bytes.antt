@@ -1,4 +1,4 @@
--- What contracts see of bytes that are written as a text.
+-- What contracts see of bytes that are written as a string.
 use Rattle.std.specs.Prelude.{ℕ, List}
 use Rattle.json5_text.specs.declared.byte_buf.ByteBuf.{ByteBuf}
 

@@ -1,4 +1,4 @@
--- What contracts see of a scanner: the whole text and what is unread of it, each as the list of its characters.
+-- What contracts see of a scanner: the whole input and its unread part, each as the list of its characters.
 use Rattle.std.specs.Prelude.{◌≡◌, ◌-◌, ℕ, List, ◌++◌, length, Option, Some, None}
 use Rattle.std.specs.Str.{encode_utf8_all}
 use Rattle.json5_grammar.specs.declared.code.ErrorCode.{ErrorCode}
@@ -16,12 +16,12 @@ pub record Cursor : Type 0 where
 abbrev pub offset_of : Cursor → ℕ
 offset_of s = length (encode_utf8_all s.input) - length (encode_utf8_all s.unread)
 
--- the fault says this code, or has a text of its own where there is none
+-- the fault says this code, or, without a code, has a custom message
 abbrev pub Says : Option ErrorCode → Error → Type 0
 Says (Some c) e = kind_of e ≡ code c
 Says None e = (text : List ℕ) × (kind_of e ≡ custom text)
 
--- the fault's place, where the text before the place begins after what is read
+-- the fault has no position, or the one after what is read and p
 abbrev pub IsPlaced : Cursor → Option (List ℕ) → Error → Type 0
 IsPlaced s None e = place_of e ≡ None
 IsPlaced s (Some p) e = (before : List ℕ) → s.input ≡ before ++ s.unread → place_of e ≡ Some (position_after (before ++ p))
@@ -37,14 +37,14 @@ pub record Refused (IsFault : List ℕ → Option ErrorCode → Option (List ℕ
   pub says : Says reason e
   pub placed : IsPlaced s place e
 
--- what was taken stood in front, and the rest is left
+-- what was taken was in front, and the rest is left
 pub record Took (old : Cursor) (taken : List ℕ) (new : Cursor) : Type 0 where
   pub split : old.unread ≡ taken ++ new.unread
   pub same : new.input ≡ old.input
 
--- ---- places of a text by their offsets in bytes
+-- ---- positions in the input by their offsets in bytes
 
--- a character begins at the offset, or the text ends there
+-- a character begins at the offset, or the input ends there
 abbrev pub IsOffset : List ℕ → ℕ → Type 0
 IsOffset input offset = (before rest : List ℕ) × (input ≡ before ++ rest) × (offset ≡ length (encode_utf8_all before))
 
@@ -52,7 +52,7 @@ IsOffset input offset = (before rest : List ℕ) × (input ≡ before ++ rest) �
 abbrev pub IsPositionOf : List ℕ → ℕ → Position → Type 0
 IsPositionOf input offset position = (before rest : List ℕ) → input ≡ before ++ rest → offset ≡ length (encode_utf8_all before) → position ≡ position_after before
 
--- the position at the offset, or that of the text's end where no character begins there
+-- the position at the offset, or that of the input's end if no character begins there
 pub record Locates (input : List ℕ) (offset : ℕ) (position : Position) : Type 0 where
   pub inside : IsPositionOf input offset position
   pub past : (IsOffset input offset → ⊥) → position ≡ position_after input

@@ -9,7 +9,7 @@ use Rattle.json5_text.specs.declared.error.Error.{Error}
 use Rattle.json5_text.specs.declared.error.Content.{Content}
 use Rattle.json5_text.specs.declared.error.Content.TheVariants as content
 
--- what a fault says: a code, a text of its own (its bytes), or that a write failed
+-- what a fault says: a code, a custom message (its bytes), or that a write failed
 pub data FaultKind : Type 0 where
   code : ErrorCode → FaultKind
   custom : List ℕ → FaultKind
@@ -23,7 +23,7 @@ kind_of_content content.FailedWrite = failed_write
 abbrev pub kind_of : Error → FaultKind
 kind_of e = kind_of_content e.content
 
--- the place of a fault
+-- the position of a fault
 abbrev pub place_of : Error → Option Position
 place_of e = e.position
 
@@ -32,22 +32,22 @@ known_code (code c) = Some c
 known_code (custom s) = None
 known_code failed_write = None
 
--- a place that is there stays
+-- a position that the fault has already stays
 abbrev pub or_place : Option Position → Position → Option Position
 or_place None p = Some p
 or_place (Some q) p = Some q
 
--- the fault says this, at this place
+-- the fault says this, and has this position
 pub record SaysAt (what : FaultKind) (there : Option Position) (e : Error) : Type 0 where
   pub kind : kind_of e ≡ what
   pub place : place_of e ≡ there
 
--- the fault has a text of its own, at this place
+-- the fault has a custom message and this position
 pub record IsCustomAt (there : Option Position) (e : Error) : Type 0 where
   pub kind : (text : List ℕ) × (kind_of e ≡ custom text)
   pub place : place_of e ≡ there
 
--- memory was refused, which has no place
+-- memory was refused, which has no position
 pub record LacksMemory (e : Error) : Type 0 where
   pub kind : kind_of e ≡ code OutOfMemory
   pub place : place_of e ≡ None
@@ -66,6 +66,6 @@ abbrev pub placed_text : List ℕ → Option Position → List ℕ
 placed_text text None = text
 placed_text text (Some p) = text ++ (codes " at " ++ position_text p)
 
--- what the fault says, and ` at ` and its place where it has one
+-- what the fault says, and ` at ` and its position if it has one
 abbrev pub error_text : Error → List ℕ
 error_text e = placed_text (kind_text (kind_of e)) (place_of e)

@@ -33,7 +33,7 @@ is_not_a_number (infinite m) = false
 is_not_a_number (nan m) = true
 is_not_a_number (finite m ds e) = false
 
--- none for infinity and not-a-number
+-- the digits, empty for infinity and not-a-number
 abbrev pub digits_in : Decimal → List ℕ
 digits_in (infinite m) = []
 digits_in (nan m) = []
@@ -58,7 +58,7 @@ pub record ShowsDecimal {A : Type 0} (view : Decimal → A) (d : Decimal) (shown
 
 -- ---- the finite number with these digits times ten to the exponent
 
--- the exponent is in range once the outer zeros are gone
+-- the exponent is in range without the outer zeros
 abbrev pub IsInRange : List ℕ → ℤ → Type 0
 IsInRange digits exponent = InExponents (normal_exponent digits exponent)
 

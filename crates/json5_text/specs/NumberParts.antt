@@ -1,4 +1,4 @@
--- A number in front of a text as code holds it. Private clauses and proofs alone cite it.
+-- A number in front of the input as code holds it. Private clauses and proofs alone cite it.
 use Rattle.std.specs.Prelude.{◌≡◌, ◌==◌, ℕ, min, Bool, true, false, cond, List, [], ◌∷◌, ℤ, pos, Option, Some, None, IfSome}
 use Rattle.std.specs.Option.{option_map}
 use Rattle.std.specs.Str.{IsUtf8, chars}
@@ -26,11 +26,11 @@ raised_of e = signed e.negative (spelled 10 0 e.digits.now)
 abbrev pub parts_of : Literal → Parts
 parts_of l = record { before = l.before.now; after = option_map (λ digits. digits.now) l.after; raised = option_map raised_of l.exponent }
 
--- the written exponent, or the limit where that is less
+-- the written exponent, or the limit if that is less
 abbrev pub signed_limited : ℕ → Exponent → ℤ
 signed_limited limit e = signed e.negative (min limit (spelled 10 0 e.digits.now))
 
--- 0 where there is none
+-- 0 if there is no exponent
 abbrev pub limited_exponent : ℕ → Option Exponent → ℤ
 limited_exponent limit None = pos 0
 limited_exponent limit (Some e) = signed_limited limit e
@@ -46,7 +46,7 @@ pub record HasDigits (l : Literal) : Type 0 where
   pub after : IfSome l.after (λ digits. Each is_digit digits.now)
   pub exponent : IfSome l.exponent HasExponentDigits
 
--- ---- a decimal run in front of a text
+-- ---- a decimal run in front of the input
 
 -- the list begins with a character that passes the test
 abbrev pub begun : (ℕ → Bool) → List ℕ → Bool
@@ -70,7 +70,7 @@ pub record SplitsDigits (whole start after : List ℕ) : Type 0 where
 abbrev pub run_of : List ℕ → List ℕ
 run_of x = front_of in_run x
 
--- the rest is what follows the decimal run in front of the text
+-- the rest is what follows the decimal run in front
 pub record EndsRun (whole rest : List ℕ) : Type 0 where
   pub follows : chars rest ≡ rest_of in_run (chars whole)
   pub text : IsUtf8 rest
@@ -78,7 +78,7 @@ pub record EndsRun (whole rest : List ℕ) : Type 0 where
 abbrev pub raised_in : Tail → Option ℤ
 raised_in t = option_map raised_of t.exponent
 
--- the exponent, that it is digits, and what follows the decimal run in front of the text
+-- the exponent, that it is digits, and what follows the decimal run in front
 pub record IsTail (reading : Option (Option ℤ)) (whole : List ℕ) (t : Tail) : Type 0 where
   pub read : reading ≡ Some (raised_in t)
   pub digits : IfSome t.exponent HasExponentDigits
@@ -89,7 +89,7 @@ abbrev pub ReadsTail : Option (Option ℤ) → List ℕ → Option Tail → Type
 ReadsTail reading whole None = reading ≡ None
 ReadsTail reading whole (Some t) = IsTail reading whole t
 
--- the literal, that its parts are digits, and what follows the decimal run in front of the text
+-- the literal, that its parts are digits, and what follows the decimal run in front
 pub record IsLiteral (reading : Option Parts) (whole : List ℕ) (l : Literal) : Type 0 where
   pub read : reading ≡ Some (parts_of l)
   pub digits : HasDigits l

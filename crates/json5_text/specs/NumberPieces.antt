@@ -1,7 +1,7 @@
--- A text that is given out in pieces.
+-- A spelling that is returned in pieces.
 use Rattle.std.specs.Prelude.{◌≡◌, ◌<◌, ℕ, List, ◌++◌, length}
 
--- the text begins with this piece, which isn't empty, and rest follows it
+-- the spelling begins with this piece, which isn't empty, and rest follows it
 pub record BeginsWithPiece (text piece rest : List ℕ) : Type 0 where
   pub parts : text ≡ piece ++ rest
   pub some : 0 < length piece

@@ -15,7 +15,7 @@ abbrev pub IsSignedWhole : Bool → ℕ → Type 0
 IsSignedWhole false n = n < 2 ^ 128
 IsSignedWhole true n = (0 < n) × (n ≤ 2 ^ 127)
 
--- the whole number in a narrower type, where it fits; each whole number is in range
+-- the whole number in a narrower type, if it fits; each whole number is in range
 pub record Converts {A : Type 0} (number_of : A → ℤ) (fits : ℤ → Type 0) (z : ℤ) (result : Option A) : Type 0 where
   pub in_range : IsSome result ↔ fits z
   pub value : IfSome result (λ number. number_of number ≡ z)

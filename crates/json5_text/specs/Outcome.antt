@@ -1,4 +1,4 @@
--- What reading gives, a place being the number of bytes that are left there. Private clauses and proofs alone cite it.
+-- What reading gives, a position being the number of bytes that are left there. Private clauses and proofs alone cite it.
 use Rattle.std.specs.Prelude.{ℕ, List, length, Option, Some, None}
 use Rattle.std.specs.Str.{encode_utf8_all}
 use Rattle.json5_grammar.specs.declared.code.ErrorCode.{ErrorCode}
@@ -8,7 +8,7 @@ pub data Outcome (A : Type 0) : Type 0 where
   gave : A → List ℕ → Outcome A
   failed : Option ErrorCode → Option ℕ → Outcome A
 
--- how many bytes the text has
+-- how many bytes the characters have
 abbrev pub bytes_in : List ℕ → ℕ
 bytes_in q = length (encode_utf8_all q)
 

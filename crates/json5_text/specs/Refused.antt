@@ -7,7 +7,7 @@ use Rattle.json5_text.specs.declared.refusal.Refusal.{Refusal}
 use Rattle.json5_text.specs.declared.refusal.Refusal.TheVariants as refusal
 use Rattle.json5_text.specs.NumberViews.{keeps_digits}
 
--- that memory ran out says nothing of the text
+-- that memory ran out says nothing of the input
 abbrev pub Refuses : {A : Type 0} → Refusal → Outcome A → Type 0
 Refuses (refusal.TokenError c left) m = m ≡ failed (Some c) left
 Refuses (refusal.InvalidNumber left) m = m ≡ failed None (Some left)

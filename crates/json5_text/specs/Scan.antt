@@ -12,13 +12,13 @@ use Rattle.json5_text.specs.Errors.{LacksMemory, code, kind_of, place_of}
 use Rattle.json5_text.specs.Outcome.{bytes_in}
 use Rattle.json5_text.specs.Cursor.{Cursor, Took, Says}
 
--- the offset lies between characters of the text, which has so many bytes
+-- the offset is between characters of the input, which has so many bytes
 pub record InText (text : List ℕ) (offset end : ℕ) : Type 0 where
   pub is_text : IsUtf8 text
   pub counted : end ≡ length text
   pub cut : IsCharBoundary text offset
 
--- a code, and neither a text of its own nor that memory ran out
+-- a code, and neither a custom message nor that memory ran out
 abbrev pub HasCode : Refusal → Type 0
 HasCode (refusal.TokenError c left) = ⊤
 HasCode (refusal.InvalidNumber left) = ⊥
@@ -26,7 +26,7 @@ HasCode (refusal.TooLarge left) = ⊥
 HasCode (refusal.UnpairedSurrogate escape left) = ⊥
 HasCode refusal.OutOfMemory = ⊥
 
--- a fault of the text, and not that memory ran out
+-- a fault of the input, and not that memory ran out
 abbrev pub HasFault : Refusal → Type 0
 HasFault (refusal.TokenError c left) = ⊤
 HasFault (refusal.InvalidNumber left) = ⊤
@@ -41,11 +41,11 @@ pub record Leaves (s : Cursor) (left : ℕ) : Type 0 where
   pub split : s.unread ≡ passed ++ rest
   pub counted : left ≡ bytes_in rest
 
--- what stood before them was taken
+-- what was before them is taken
 abbrev pub LeavesAt : Cursor → ℕ → Cursor → Type 0
 LeavesAt old left new = (taken rest : List ℕ) → old.unread ≡ taken ++ rest → left ≡ bytes_in rest → Took old taken new × (new.unread ≡ rest)
 
--- the place with so many bytes left is within what is unread
+-- the position with so many bytes left is within the unread part
 abbrev pub InUnread : Cursor → Refusal → Type 0
 InUnread s (refusal.TokenError c None) = ⊤
 InUnread s (refusal.TokenError c (Some left)) = Leaves s left
@@ -100,6 +100,6 @@ abbrev pub in_list : Option ℕ → List ℕ
 in_list None = []
 in_list (Some c) = c ∷ []
 
--- an escape: `after` is what stands after its backslash
+-- an escape: `after` is what follows its backslash
 abbrev pub AtEscape : List ℕ → List ℕ → Type 0
 AtEscape escape after = chars escape ≡ backslash ∷ chars after

@@ -5,11 +5,11 @@ use Rattle.json5_grammar.specs.declared.code.ErrorCode.TheVariants.{EofParsingCo
 use Rattle.json5_grammar.specs.Model.Reading.{bad, inner}
 use Rattle.json5_grammar.specs.Model.ReadBlanks.{Mode, skip, between}
 
--- the comment ends in the text, before the rest
+-- to skip the text in this mode is to skip the rest between tokens
 pub record Continues (mode : Mode) (text rest : List ℕ) : Type 0 where
   pub passed : skip mode (chars text) ≡ skip between (chars rest)
   pub shorter : length rest ≤ length text
 
--- the text ends in a comment between `/*` and `*/`
+-- the input ends in a comment that `/*` began
 abbrev pub IsUnclosed : List ℕ → Type 0
 IsUnclosed text = skip Mode.block text ≡ bad (Some EofParsingComment) inner

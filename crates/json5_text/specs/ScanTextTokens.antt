@@ -11,7 +11,7 @@ use Rattle.json5_text.specs.TokenResults.{GivesText, RefusesText}
 use Rattle.json5_text.specs.Outcome.{bytes_in}
 use Rattle.json5_text.specs.TextTokens.{Spells}
 
--- the token of a text that begins there, if it is borrowed
+-- the token of a text that begins at this offset, if it is borrowed
 abbrev pub IsTokenOf : ℕ → CowStr → TextToken → Type 0
 IsTokenOf start (cow.Borrowed text) t = t ≡ token.EscapeFree start (start + length text.now)
 IsTokenOf start (cow.Owned text) t = t ≡ token.Escaped text

@@ -34,7 +34,7 @@ abbrev pub past : Kind → List ℕ → Kind
 past k [] = k
 past k (c ∷ r) = after_first_char k
 
--- the code of a text that ends in it
+-- the code of an input that ends in it
 abbrev pub ends_early : Kind → ErrorCode
 ends_early kind.Name = EofParsingIdentifier
 ends_early kind.NameRest = EofParsingIdentifier
@@ -62,9 +62,9 @@ abbrev pub AnswersQuote : List ℕ → Result (Quote × Bor (List ℕ)) Refusal 
 AnswersQuote x (Ok p) = IsOpened x p.0 p.1.now
 AnswersQuote x (Err e) = RefusesByCode e (string_at x)
 
--- ---- characters that stand for themselves
+-- ---- characters that spell themselves
 
--- a character that may begin a name, or go on one
+-- a character that may begin a name, or continue one
 abbrev pub fits_name : Bool → ℕ → Bool
 fits_name true c = is_identifier_start c
 fits_name false c = is_identifier_part c
@@ -72,18 +72,18 @@ fits_name false c = is_identifier_part c
 abbrev pub is_raw_part : ℕ → Bool
 is_raw_part c = not (c == backslash) && is_identifier_part c
 
--- a character that stands for itself there
+-- a character that spells itself there
 abbrev pub is_raw_in : Kind → ℕ → Bool
 is_raw_in kind.Name c = not (c == backslash) && is_identifier_start c
 is_raw_in kind.NameRest c = is_raw_part c
 is_raw_in (kind.String q) c = is_raw (quote_of q) c
 
--- characters that stand for themselves from there on
+-- characters that spell themselves from there on
 abbrev pub Run : Kind → List ℕ → Type 0
 Run k [] = ⊤
 Run k (c ∷ r) = (is_raw_in k c ≡ true) × Each (is_raw_in (after_first_char k)) r
 
--- all in front that stand for themselves are passed over
+-- all characters in front that spell themselves are passed over
 pub record SkipsRaw (k : Kind) (whole rest : List ℕ) : Type 0 where
   pub passed : List ℕ
   pub split : chars whole ≡ passed ++ chars rest
@@ -92,7 +92,7 @@ pub record SkipsRaw (k : Kind) (whole rest : List ℕ) : Type 0 where
 
 -- ---- escapes
 
--- a name's escape, x from the backslash on and y after it, whose character may stand there
+-- a name's escape, x from the backslash on and y after it, whose character a name may have there
 abbrev pub item_of_name : Bool → List ℕ → List ℕ → Read (List ℕ)
 item_of_name first x y = and_then (and_then (name_escape x y) (fit (fits_name first) x)) one_char
 
@@ -114,7 +114,7 @@ abbrev pub left_in : Stop → ℕ
 left_in (stop.End rest) = zero
 left_in (stop.Escape k escape after) = length (chars escape.now)
 
--- where the run ends that the text begins with, and nothing is before it; or the fault
+-- where the run in front ends, with nothing before it; or the fault
 abbrev pub AnswersStop : Kind → List ℕ → Result Stop Refusal → Type 0
 AnswersStop k whole (Ok end) = ReadsUpTo (text_at k (chars whole)) [] true end × (left_in end ≤ length (chars whole))
 AnswersStop k whole (Err e) = RefusesByCode e (text_at k (chars whole))

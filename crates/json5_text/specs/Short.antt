@@ -68,7 +68,7 @@ abbrev pub StepsTo : Bool → List ℕ → List ℕ → Type 0
 StepsTo false x y = AfterGap x y
 StepsTo true x y = (z : List ℕ) × IsSign comma_sign x z × AfterGap z y
 
--- the closing sign is next in y, after the comma that may stand there; or a member may begin in y
+-- the closing sign is next in y, after a comma, if there is one; or a member may begin in y
 abbrev pub IsStep : ℕ → Bool → Bool → List ℕ → List ℕ → Type 0
 IsStep closing comma_due true x y = (r : List ℕ) × IsEnd closing comma_due x r × (y ≡ closing ∷ r)
 IsStep closing comma_due false x y = StepsTo comma_due x y × NotBegun (λ c. c == closing) y

@@ -21,7 +21,7 @@ ReadsEscapeFreeString x u r = Reads x (text u true) r
 abbrev pub ReadsEscapeFreeKey : List ℕ → List ℕ → List ℕ → Type 0
 ReadsEscapeFreeKey x u r = ReadsKey x u true r
 
--- such a text was taken, and stands there
+-- such a token was taken, and the input has its text at this span
 pub record TookEscapeFree (IsRead : List ℕ → List ℕ → List ℕ → Type 0) (old new : Cursor) (span : Span) : Type 0 where
   pub spelled : List ℕ
   pub read : IsRead old.unread spelled new.unread
@@ -36,13 +36,13 @@ TakesShortString old new result = MatchOption result (new ≡ old) (λ span. Too
 abbrev pub TakesShortKey : Cursor → Cursor → Option Span → Type 0
 TakesShortKey old new result = MatchOption result (new ≡ old) (λ span. TookEscapeFree ReadsEscapeFreeKey old new span)
 
--- these are the bytes of the text that stands there
+-- these are the bytes of the input at this span
 abbrev pub IsTextAt : List ℕ → Span → List ℕ → Type 0
 IsTextAt input span bytes = (u : List ℕ) → IsSliceAt input u span.start span.end → bytes ≡ encode_utf8_all u
 
 -- ---- what is found in front
 
--- u stands in x, and so many bytes are left where it begins and where it ends
+-- u is a part of x, and so many bytes are left where it begins and where it ends
 pub record IsSliceBefore (x u : List ℕ) (from to : ℕ) : Type 0 where
   pub before : List ℕ
   pub rest : List ℕ

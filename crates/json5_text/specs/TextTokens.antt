@@ -6,7 +6,7 @@ use Rattle.json5_text.specs.declared.text_token.TextToken.{TextToken}
 use Rattle.json5_text.specs.declared.text_token.TextToken.TheVariants as token
 use Rattle.json5_text.specs.Cows.{cow_bytes, is_borrowed}
 
--- u stands in the input between these offsets
+-- u is the part of the input between these offsets
 pub record IsSliceAt (input u : List ℕ) (start end : ℕ) : Type 0 where
   pub before : List ℕ
   pub rest : List ℕ
@@ -14,7 +14,7 @@ pub record IsSliceAt (input u : List ℕ) (start end : ℕ) : Type 0 where
   pub starts : start ≡ length (encode_utf8_all before)
   pub ends : end ≡ start + length (encode_utf8_all u)
 
--- the token spells the text u, which stands so in the input where it is escape-free, else in memory of its own
+-- the token spells u: by a part of the input if it is escape-free, else by an owned copy
 abbrev pub Spells : List ℕ → List ℕ → Bool → TextToken → Type 0
 Spells input u escape_free (token.EscapeFree start end) = (escape_free ≡ true) × IsSliceAt input u start end
 Spells input u escape_free (token.Escaped text) = (escape_free ≡ false) × (string_bytes text ≡ encode_utf8_all u)
@@ -23,6 +23,6 @@ Spells input u escape_free (token.Escaped text) = (escape_free ≡ false) × (st
 abbrev pub IsTextOf : List ℕ → TextToken → List ℕ → Type 0
 IsTextOf input t bytes = (u : List ℕ) (escape_free : Bool) → Spells input u escape_free t → bytes ≡ encode_utf8_all u
 
--- the same, borrowed where it is escape-free
+-- the same, borrowed if it is escape-free
 abbrev pub IsCowOf : List ℕ → TextToken → CowStr → Type 0
 IsCowOf input t text = (u : List ℕ) (escape_free : Bool) → Spells input u escape_free t → (is_borrowed text ≡ escape_free) × (cow_bytes text ≡ encode_utf8_all u)

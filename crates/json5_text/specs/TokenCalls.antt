@@ -19,7 +19,7 @@ use Rattle.json5_text.specs.TextTokens.{Spells}
 use Rattle.json5_text.specs.NumberViews.{number_of, keeps_digits, whole_in}
 use Rattle.json5_text.specs.Tokens.{FaultyBlanks, FaultyWord, FaultyNumber, FaultyString, FaultyName, FaultyKey}
 
--- blanks are passed over, up to what is none
+-- blanks are passed over, up to what is no blank
 pub record PassesBlanks (old new : Cursor) (result : Result (Unit {0}) Error) : Type 0 where
   pub passed : OnOk result ((w : List ℕ) × Took old w new × Gap w new.unread × Solid new.unread)
   pub refused : IfErr result (λ e. Refused FaultyBlanks old e)
@@ -31,27 +31,27 @@ pub record TakesWord (w : List ℕ) (ends differs : ErrorCode) (old new : Cursor
   pub refused : IfErr result (λ e. Refused (FaultyWord w ends differs) old e)
   pub kept : OnErr result (new ≡ old)
 
--- a number is taken; memory is taken for digits that are kept, and at a refusal
+-- a number is taken; it takes memory for digits that are kept, or if it is refused
 pub record TakesNumber (old new : Cursor) (result : Result Number Error) : Type 0 where
   pub taken : IfOk result (λ n. (s : List ℕ) × Took old s new × Num s (number_of n) × NotBegun (lengthens s) new.unread)
   pub refused : IfErr result (λ e. LacksMemory e ⊎ Refused FaultyNumber old e)
   pub kept : OnErr result (new ≡ old)
   pub memory : (s r : List ℕ) (n : numbers.Number) → old.unread ≡ s ++ r → Num s n → NotBegun (lengthens s) r → keeps_digits n ≡ false → IsOk result
 
--- a string is taken, its text in memory of its own
+-- a string is taken, its text an owned copy
 pub record TakesOwned {A : Type 0} (old new : Cursor) (result : Result (String A) Error) : Type 0 where
   pub taken : IfOk result (λ t. (s u : List ℕ) × (escape_free : Bool) × Took old s new × Str s u escape_free × (string_bytes t ≡ encode_utf8_all u))
   pub refused : IfErr result (λ e. LacksMemory e ⊎ Refused FaultyString old e)
   pub kept : OnErr result (new ≡ old)
 
--- a string is taken, whose text this is; memory is taken where it isn't escape-free, and at a refusal
+-- a string with this text is taken; it takes memory only if it isn't escape-free or is refused
 pub record TakesText {T : Type 0} (IsText : T → List ℕ → Bool → Type 0) (old new : Cursor) (result : Result T Error) : Type 0 where
   pub taken : IfOk result (λ t. (s u : List ℕ) × (escape_free : Bool) × Took old s new × Str s u escape_free × IsText t u escape_free)
   pub refused : IfErr result (λ e. LacksMemory e ⊎ Refused FaultyString old e)
   pub kept : OnErr result (new ≡ old)
   pub escape_free : (s u r : List ℕ) → old.unread ≡ s ++ r → Str s u true → IsOk result
 
--- a string is taken, its text borrowed where it is escape-free
+-- a string is taken, its text borrowed exactly if it is escape-free
 abbrev pub TakesString : Cursor → Cursor → Result CowStr Error → Type 0
 TakesString old new result = TakesText (λ t u escape_free. (is_borrowed t ≡ escape_free) × (cow_bytes t ≡ encode_utf8_all u)) old new result
 
@@ -59,7 +59,7 @@ TakesString old new result = TakesText (λ t u escape_free. (is_borrowed t ≡ e
 abbrev pub TakesStringToken : Cursor → Cursor → Result TextToken Error → Type 0
 TakesStringToken old new result = TakesText (λ t u escape_free. Spells old.input u escape_free t) old new result
 
--- a name is taken as far as it goes, its text borrowed where it is escape-free; memory is taken where it isn't, and at a refusal
+-- a name is taken as far as it goes, its text borrowed exactly if it is escape-free; it takes memory if it isn't, or is refused
 pub record TakesName (old new : Cursor) (result : Result CowStr Error) : Type 0 where
   pub taken : IfOk result (λ t. (s u : List ℕ) × (escape_free : Bool) × Took old s new × Ident s u escape_free × (is_borrowed t ≡ escape_free) × (cow_bytes t ≡ encode_utf8_all u))
   pub stops : OnOk result ((c : ℕ) × (r : List ℕ) × (new.unread ≡ c ∷ r) × (goes_on_name c ≡ false))
@@ -67,7 +67,7 @@ pub record TakesName (old new : Cursor) (result : Result CowStr Error) : Type 0 
   pub kept : OnErr result (new ≡ old)
   pub escape_free : (s u r : List ℕ) (c : ℕ) → old.unread ≡ s ++ c ∷ r → Ident s u true → goes_on_name c ≡ false → IsOk result
 
--- a key is taken; memory is taken where its text isn't escape-free, and at a refusal
+-- a key is taken; it takes memory if its text isn't escape-free, or if it is refused
 pub record TakesKey (old new : Cursor) (result : Result TextToken Error) : Type 0 where
   pub taken : IfOk result (λ k. (s u : List ℕ) × (escape_free : Bool) × Took old s new × Key s new.unread u escape_free × Spells old.input u escape_free k)
   pub refused : IfErr result (λ e. LacksMemory e ⊎ Refused FaultyKey old e)
@@ -92,7 +92,7 @@ pub record PassesName (old new : Cursor) (result : Result (Unit {0}) Error) : Ty
   pub kept : OnErr result (new ≡ old)
   pub memory : (s u r : List ℕ) (c : ℕ) (escape_free : Bool) → old.unread ≡ s ++ c ∷ r → Ident s u escape_free → goes_on_name c ≡ false → IsOk result
 
--- a number is passed over, and the answer is the number if it is whole
+-- a number is passed over, and returned if it is whole
 pub record PassesNumber (old new : Cursor) (result : Result (Option ℤ) Error) : Type 0 where
   pub taken : IfOk result (λ found. (s : List ℕ) × (n : numbers.Number) × Took old s new × Num s n × NotBegun (lengthens s) new.unread × (found ≡ whole_in n))
   pub refused : IfErr result (λ e. LacksMemory e ⊎ Refused FaultyNumber old e)

@@ -1,4 +1,4 @@
--- What functions below the scanner answer: what reading on lists gives, or a refusal with its fault. Private clauses and proofs alone cite it.
+-- What functions below the scanner return: what reading on lists gives, or a refusal with its fault. Private clauses and proofs cite it.
 use Rattle.std.specs.Prelude.{◌≡◌, ℕ, Bool, true, false, List, ◌++◌, ℤ, Option, Result, Ok, Err, String, string_bytes}
 use denote.Ref.{Bor}
 use Rattle.std.specs.Str.{IsUtf8, chars, encode_utf8_all}
@@ -89,7 +89,7 @@ AnswersWhole reading (Err e) = RefusesByFault e reading
 
 -- ---- texts
 
--- reading gives a text that this value is, and leaves this rest
+-- reading gives the text of this value, and leaves this rest
 pub record GivesText {T : Type 0} (IsText : T → List ℕ → Bool → Type 0) (reading : Read (List ℕ × Bool)) (value : T) (rest : List ℕ) : Type 0 where
   pub spelled : List ℕ
   pub escape_free : Bool
@@ -97,7 +97,7 @@ pub record GivesText {T : Type 0} (IsText : T → List ℕ → Bool → Type 0) 
   pub is_text : IsText value spelled escape_free
   pub text : IsUtf8 rest
 
--- the text, borrowed where it is escape-free
+-- the text, borrowed exactly if it is escape-free
 pub record IsCow (value : CowStr) (spelled : List ℕ) (escape_free : Bool) : Type 0 where
   pub borrowed : is_borrowed value ≡ escape_free
   pub bytes : cow_bytes value ≡ encode_utf8_all spelled
@@ -105,7 +105,7 @@ pub record IsCow (value : CowStr) (spelled : List ℕ) (escape_free : Bool) : Ty
 abbrev pub IsOwned : {A : Type 0} → String A → List ℕ → Bool → Type 0
 IsOwned value spelled escape_free = string_bytes value ≡ encode_utf8_all spelled
 
--- memory doesn't run out at an escape-free text
+-- an escape-free text takes no memory that could run out
 abbrev pub SparesEscapeFree : Refusal → Read (List ℕ × Bool) → Type 0
 SparesEscapeFree e reading = e ≡ refusal.OutOfMemory → (spelled rest : List ℕ) → reading ≡ got (spelled, true) rest → ⊥
 
@@ -113,12 +113,12 @@ pub record RefusesText (e : Refusal) (reading : Read (List ℕ × Bool)) : Type 
   pub refused : Refuses e (outcome reading)
   pub memory : SparesEscapeFree e reading
 
--- the text in front, borrowed where it is escape-free, and what follows it; or the fault
+-- the text in front, borrowed exactly if it is escape-free, and what follows it; or the fault
 abbrev pub AnswersCow : Read (List ℕ × Bool) → Result (CowStr × Bor (List ℕ)) Refusal → Type 0
 AnswersCow reading (Ok p) = GivesText IsCow reading p.0 p.1.now
 AnswersCow reading (Err e) = RefusesText e reading
 
--- the same in memory of its own
+-- the same as an owned copy
 abbrev pub AnswersOwned : {A : Type 0} → Read (List ℕ × Bool) → Result (String A × Bor (List ℕ)) Refusal → Type 0
 AnswersOwned reading (Ok p) = GivesText IsOwned reading p.0 p.1.now
 AnswersOwned reading (Err e) = Refuses e (outcome reading)

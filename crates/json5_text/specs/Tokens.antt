@@ -11,7 +11,7 @@ use Rattle.json5_grammar.specs.Language.Strings.{is_quote}
 abbrev pub FaultyBlanks : List ℕ → Option ErrorCode → Option (List ℕ) → Type 0
 FaultyBlanks x reason place = (before : List ℕ) × (part : List ℕ) × (shown : Shown) × BlankFault x reason place before part shown
 
--- the word w doesn't stand in front: `differs` at the first character that differs, `ends` where the text ends in it
+-- the word w isn't in front: `differs` at the first character that differs, `ends` if the input ends in it
 pub data FaultyWord (w : List ℕ) (ends differs : ErrorCode) : List ℕ → Option ErrorCode → Option (List ℕ) → Type 0 where
   word_differs : (p q r : List ℕ) (c d : ℕ) → w ≡ p ++ d ∷ q → c ≢ d → FaultyWord w ends differs (p ++ c ∷ r) (Some differs) (Some p)
   word_ends : (p q : List ℕ) (d : ℕ) → w ≡ p ++ d ∷ q → FaultyWord w ends differs p (Some ends) None

@@ -48,7 +48,7 @@ abbrev pub or_else : Option Datum → Option Datum → Option Datum
 or_else None other = other
 or_else (Some x) other = Some x
 
--- the value of the last of the pairs with this key
+-- the value of the last member with this key
 abbrev pub last_named : List ℕ → Fields → Option Datum
 last_named key no_field = None
 last_named key (field u x fs) = or_else (last_named key fs) (if pointwise nat_eq u key then Some x else None)
@@ -89,7 +89,7 @@ fields_in _ = None
 
 -- ---- copies
 
--- a copy stands for the same; TooDeep where it doesn't fit, and else only want of memory refuses
+-- a copy has the same view; TooDeep if it doesn't fit, and else only want of memory refuses it
 abbrev pub CopiesValue : Datum → Result Value Error → Type 0
 CopiesValue x (Ok v) = (fits x ≡ true) × (value_of v ≡ x)
 CopiesValue x (Err e) = (kind_of e ≡ code (if fits x then codes.OutOfMemory else codes.TooDeep)) × (place_of e ≡ None)

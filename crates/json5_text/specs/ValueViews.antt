@@ -1,4 +1,4 @@
--- What a value stands for, apart from how it is kept.
+-- What a value means, apart from how it is stored.
 use Rattle.std.specs.Prelude.{◌≡◌, ℕ, Bool, true, false, ◌&&◌, nat_eq, List, [], ◌∷◌, map, String, string_bytes}
 use Rattle.std.specs.declared.alloc.Global.{Global}
 use Rattle.std.proofs.Common.{refl, ap, sym, ◌∙◌}
@@ -15,7 +15,7 @@ use Rattle.json5_text.specs.NumberEquality.{decimal_Decides}
 use Rattle.json5_text.specs.declared.value.Value.{Value, fold-Value}
 use Rattle.json5_text.specs.declared.value.Value.TheOpen.{Value-F}
 
--- a text by the codes of its characters; the pairs of an object in their order, equal keys kept
+-- a string is the codes of its characters; an object keeps its members in their order, and equal keys
 mutual
   pub data Datum : Type 0 where
     null : Datum
@@ -41,7 +41,7 @@ abbrev pub datum_fields : List (String Global × Datum) → Fields
 datum_fields [] = no_field
 datum_fields (f ∷ fs) = field (chars (string_bytes f.0)) f.1 (datum_fields fs)
 
--- one level, with each value inside already seen as what it stands for
+-- one level, with each value inside already seen as what it means
 abbrev pub view_step : Value-F Datum → Datum
 view_step Value-F.Null = null
 view_step (Value-F.Bool b) = boolean b

@@ -10,7 +10,7 @@ ghost use Rattle.json5_text.specs.ByteRuns.{ends_raw, is_ascii_blank, is_ascii_s
 use memchr::{memchr, memchr3};
 use std::simd::prelude::*;
 
-/// U+0009 to U+000D and the space.
+/// Whether the byte is one of U+0009 to U+000D or the space.
 #[inline(always)]
 fn is_ascii_blank(byte: u8) -> bool
     ensures { result ≡ is_ascii_blank byte }
@@ -30,7 +30,7 @@ pub(crate) fn blanks_len(bytes: &[u8]) -> usize
     i
 }
 
-/// An ASCII character that may begin a name.
+/// Whether it is an ASCII character that may begin a name.
 #[inline(always)]
 pub(crate) fn is_ascii_start(byte: u8) -> bool
     ensures { result ≡ is_ascii_start byte }
@@ -38,7 +38,7 @@ pub(crate) fn is_ascii_start(byte: u8) -> bool
     matches!(byte, b'$' | b'_' | b'A'..=b'Z' | b'a'..=b'z')
 }
 
-/// An ASCII character that may go on a name.
+/// Whether it is an ASCII character that may continue a name.
 #[inline(always)]
 pub(crate) fn is_ascii_part(byte: u8) -> bool
     ensures { result ≡ is_ascii_part byte }
@@ -46,7 +46,7 @@ pub(crate) fn is_ascii_part(byte: u8) -> bool
     is_ascii_start(byte) || is_digit(byte)
 }
 
-/// How many ASCII characters are in front that may go on a name.
+/// How many ASCII characters in front may continue a name.
 #[inline(always)]
 pub(crate) fn name_len(bytes: &[u8]) -> usize
     ensures { result ≡ prefix_len is_ascii_part bytes.now }
@@ -58,7 +58,7 @@ pub(crate) fn name_len(bytes: &[u8]) -> usize
     i
 }
 
-/// An ASCII character that begins no escape.
+/// Whether it is an ASCII character that begins no escape.
 #[inline(always)]
 fn is_plain_ascii(byte: u8) -> bool
     ensures { result ≡ is_plain_ascii byte }
@@ -66,7 +66,7 @@ fn is_plain_ascii(byte: u8) -> bool
     byte < 128 && byte != b'\\'
 }
 
-/// How long the name in front is, where it is of ASCII characters alone, and an ASCII character after it begins no escape.
+/// How long the name in front is, if it is of ASCII characters alone and an ASCII character that begins no escape follows it.
 #[inline(always)]
 pub(crate) fn ascii_name_len(bytes: &[u8]) -> Option<usize>
     ensures { IfSome result (IsAsciiName bytes.now) }
@@ -107,7 +107,7 @@ fn stops(quote: u8, bytes: u8x16) -> u64
         | bytes.simd_eq(u8x16::splat(b'\r'))).to_bitmask()
 }
 
-/// The same as `raw_end` from there on, byte by byte.
+/// The same as `raw_end` from this index on, byte by byte.
 #[inline(never)]
 fn raw_end_slowly(quote: u8, bytes: &[u8], from: usize) -> usize
     requires { from ≤ length bytes.now }
@@ -125,7 +125,7 @@ fn raw_end_slowly(quote: u8, bytes: &[u8], from: usize) -> usize
     i
 }
 
-/// Where the bytes in front end that stand for themselves between these quotes.
+/// How many bytes in front spell themselves between these quotes.
 #[inline(always)]
 pub(crate) fn raw_end(quote: u8, bytes: &[u8]) -> usize
     ensures value { result ≡ prefix_len (is_raw quote) bytes.now }
@@ -149,7 +149,7 @@ pub(crate) struct FewDigits {
     pub(crate) len: usize,
 }
 
-/// A digit.
+/// Whether the byte is a digit.
 #[inline(always)]
 pub(crate) fn is_digit(byte: u8) -> bool
     ensures { result ≡ is_digit byte }
@@ -157,7 +157,7 @@ pub(crate) fn is_digit(byte: u8) -> bool
     byte >= b'0' && byte <= b'9'
 }
 
-/// What may go on with a number after its digits.
+/// Whether the byte may continue a number after its digits.
 #[inline(always)]
 fn lengthens_digits(byte: u8) -> bool
     ensures { result ≡ lengthens_digits byte }
@@ -182,7 +182,7 @@ fn front_digits(bytes: &[u8]) -> FewDigits
     FewDigits { value, len: i }
 }
 
-/// Whether something goes on there with a number after its digits.
+/// Whether the byte at this index, if there is one, may continue a number after its digits.
 #[inline(always)]
 fn goes_on(bytes: &[u8], place: usize) -> bool
     ensures { result ≡ false → NotBegun lengthens_digits (drop place bytes.now) }
@@ -199,7 +199,8 @@ fn is_padded(bytes: &[u8], len: usize) -> bool
     len > 1 && bytes[0] == b'0'
 }
 
-/// The number that is few digits in front, and what follows it: none but the first of several is zero, and nothing goes on with them.
+/// The number that the few digits in front spell, and what follows it. No zero comes before further digits, and nothing that
+/// may continue a number comes after them.
 #[inline(always)]
 pub(crate) fn short_digits(text: &str) -> Option<(u64, &str)>
     ensures { IfSome result (λ p. IsShort text.now p.0 p.1.now) }

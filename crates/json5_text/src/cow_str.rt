@@ -1,4 +1,4 @@
-//! Texts that are borrowed from the input, where they can be.
+//! What strings and keys spell, borrowed from the input if they have no escape.
 
 ghost use Rattle.std.specs.Prelude.{◌≡◌, ◌↔◌, Some, IsTrue, refl};
 ghost use Rattle.std.specs.Ordering.{nat_cmp};
@@ -21,7 +21,7 @@ use std::hash::{Hash, Hasher};
 pub enum CowStr<'de> {
     /// A slice of the input.
     Borrowed(&'de str),
-    /// A text in memory of its own: the input spells a part of it by an escape.
+    /// An owned copy: an escape spells a part of it in the input.
     Owned(String),
 }
 

@@ -19,7 +19,7 @@ use std::fmt;
 use std::hash::{Hash, Hasher};
 use std::marker::Model;
 
-/// A decimal as it is kept: whether it is negative and, where it is finite, the power of ten that its digits are multiplied with,
+/// A decimal as it is kept: whether it is negative and, if it is finite, the power of ten that its digits are multiplied with,
 /// and these digits, in ASCII and without zeros at either end.
 #[derive(Drop)]
 enum Kept {
@@ -93,7 +93,7 @@ fn without_back_zeros<'a>(before: &'a str, after: &'a str) -> (&'a str, &'a str)
     }
 }
 
-/// The exponent once the zeros at the end are gone, if it is in range: each of them raises it, and zero has 0.
+/// The exponent without the zeros at the end, if it is in range: each of them raises it by one, and zero has 0.
 fn bare_exponent(exponent: i128, count: usize, bare_count: usize) -> Option<i16>
     requires fewer { bare_count ≤ count }
     requires fits { FitsSigned w128 (exponent +ℤ pos (count - bare_count)) }
@@ -107,7 +107,7 @@ fn bare_exponent(exponent: i128, count: usize, bare_count: usize) -> Option<i16>
     i16::try_from(raised).ok()
 }
 
-/// Both texts, one after the other.
+/// Both strings, one after the other.
 fn joined(alloc: Global, first: &str, last: &str) -> std::result::Result<String, AllocError>
     ensures { IfOk result (λ text. string_bytes text ≡ first.now ++ last.now) }
 {
@@ -117,7 +117,7 @@ fn joined(alloc: Global, first: &str, last: &str) -> std::result::Result<String,
     Ok(text)
 }
 
-/// The finite decimal with the digits of both texts, one after the other. It takes memory where they are more than 19.
+/// The finite decimal with the digits of both strings, one after the other. It takes memory if they are more than 19.
 fn keep(
     alloc: Global,
     negative: bool,
@@ -139,7 +139,7 @@ fn keep(
     })
 }
 
-/// A finite decimal in normal form whose digits are those of two texts, one after the other.
+/// A finite decimal in normal form whose digits are those of two strings, one after the other.
 #[derive(Drop)]
 pub(crate) struct DecimalRef<'a> {
     negative: bool,
@@ -162,7 +162,7 @@ impl<'a> Model for DecimalRef<'a> {
 
 impl<'a> DecimalRef<'a> {
     /// The finite number with these digits, the first part before the second, times ten to the exponent;
-    /// none where the exponent is out of range once the outer zeros are gone.
+    /// None if the exponent is out of range without the outer zeros.
     pub(crate) fn new(
         negative: bool,
         before: &'a str,
@@ -186,7 +186,7 @@ impl<'a> DecimalRef<'a> {
         })
     }
 
-    /// The same number with digits of its own.
+    /// The same number with owned digits.
     pub(crate) fn to_decimal(&self, alloc: Global) -> std::result::Result<Decimal, AllocError>
         ensures { MatchResult result (λ d. d ≡ self.now) (λ _. keeps_digits (numbers.decimal self.now) ≡ true) }
     {

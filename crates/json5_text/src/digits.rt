@@ -5,7 +5,7 @@ ghost use Rattle.json5_grammar.specs.Language.Characters.{is_digit, Each};
 ghost use Rattle.json5_grammar.specs.Language.Numbers.{spelled};
 ghost use Rattle.json5_grammar.specs.Model.NumberSteps.{checked};
 
-/// An exponent past this is out of range, however many digits a text may have.
+/// An exponent past this is out of range, however many digits an input may have.
 pub(crate) const EXPONENT_LIMIT: u128 = 1 << 100;
 
 /// One more digit, if the value stays within `u128`.

@@ -206,7 +206,7 @@ impl Error {
     }
 }
 
-/// Faults are equal when they say the same and have the same position, or both none.
+/// Faults are equal when they say the same and have the same position, or no position.
 impl PartialEq for Error {
     ghost eq = { same_fault };
 

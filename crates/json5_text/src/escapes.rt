@@ -24,8 +24,8 @@ fn invalid(escape: &str) -> Refusal
     }
 }
 
-/// The character that a string's escape spells, None where it spells none, and what follows it: `escape` begins with the
-/// backslash, and `text` comes after it.
+/// The character that a string's escape spells, or None for an escaped line end, and what follows the escape. `escape` begins
+/// with the backslash, and `text` comes after the backslash.
 pub(crate) fn read_escape<'t>(
     escape: &str,
     text: &'t str,
@@ -118,7 +118,7 @@ pub(crate) fn unicode_escape<'t>(escape: &str, text: &'t str) -> Result<(char, &
     }
 }
 
-/// After the escape of the surrogate `unit`: the escape of the other one of a pair.
+/// After the escape of the surrogate `unit`: the escape of the pair's other surrogate.
 fn second_escape<'t>(escape: &str, unit: u32, text: &'t str) -> Result<(char, &'t str), Refusal>
     requires { unit < 0x1_0000 }
     ensures { ReturnsReading (second unit (chars escape.now) (chars text.now)) result }

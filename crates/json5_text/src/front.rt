@@ -1,4 +1,4 @@
-//! The first character of a text.
+//! The first character of a string.
 
 ghost use Rattle.json5_text.specs.Scan.{IsFront};
 
@@ -16,7 +16,7 @@ pub(crate) fn front(text: &str) -> Option<(char, &str)>
     front_decoded(text)
 }
 
-/// The same of any text, by its characters.
+/// The same for any characters, not only ASCII.
 fn front_decoded(text: &str) -> Option<(char, &str)>
     ensures { IsFront text.now result }
 {

@@ -34,7 +34,7 @@ fn hexadecimal_digits(first: u32, text: &str) -> Result<(u128, &str), &str>
     Ok((value, rest))
 }
 
-/// Reads what follows `0x`; `start` is the text from the number's start.
+/// Reads what follows `0x`; `start` is the input from the number's start.
 pub(crate) fn hexadecimal<'t>(
     start: &str,
     negative: bool,

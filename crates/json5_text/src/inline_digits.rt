@@ -28,7 +28,7 @@ impl Model for InlineDigits {
 }
 
 impl InlineDigits {
-    /// The digits of both texts, one after the other; none where there are more than 19.
+    /// The digits of both strings, one after the other; None if there are more than 19.
     pub(crate) fn new(first: &str, last: &str) -> Option<InlineDigits>
         requires first { Each is_digit first.now }
         requires last { Each is_digit last.now }

@@ -1,4 +1,4 @@
-//! Texts that are read.
+//! Inputs of a scanner.
 
 ghost use Rattle.std.specs.Prelude.{◌≡◌};
 
@@ -12,14 +12,14 @@ pub trait Input: Drop {
 
     ghost text: { Self → List ℕ };
 
-    /// Returns the text, for as long as this is borrowed.
+    /// Returns the input, for as long as this is borrowed.
     fn as_text(&self) -> &str
         ensures { result.now ≡ Self.text self.now };
 }
 
 /// A text that outlives its reader, as `&'de str`: what is read from it may be borrowed for as long as the text is.
 pub trait Borrows<'de>: Input {
-    /// Returns the text, for as long as it is there.
+    /// Returns the input, for as long as it lives.
     fn as_borrowed(&self) -> &'de str
         ensures { Self.text self.now ≡ result.now };
 }

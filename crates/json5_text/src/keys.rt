@@ -13,7 +13,7 @@ use crate::text_token::TextToken;
 use json5_grammar::code::ErrorCode;
 use std::alloc::Global;
 
-/// The key in front, and what follows it. `end` is the length in bytes of all that is read, which the text is the rest of.
+/// The key in front, and what follows it. `end` is the length in bytes of the whole input, of which `text` is the rest.
 pub(crate) fn read_key(alloc: Global, end: usize, text: &str) -> Result<(TextToken, &str), Refusal>
     requires { length text.now ≤ end }
     ensures { AnswersToken end (chars text.now) (key_ahead (chars text.now)) result }

@@ -45,7 +45,7 @@ pub(crate) fn after_sign(text: &str) -> (bool, &str)
     }
 }
 
-/// Whether a decimal run is in front, or goes on there.
+/// Whether a decimal run begins or continues in front.
 fn goes_on(text: &str) -> bool
     ensures { result ≡ begun numbers.in_run (chars text.now) }
 {
@@ -55,7 +55,7 @@ fn goes_on(text: &str) -> bool
     )
 }
 
-/// The digits of an exponent, with which the decimal run in front ends.
+/// The tail with the exponent whose digits are in front, if the decimal run ends with them.
 fn read_exponent_digits(negative: bool, text: &str) -> Option<Tail>
     ensures { ReadsTail (model.exponent_digits negative (run_of (chars text.now))) text.now result }
 {
@@ -72,7 +72,8 @@ fn read_exponent_digits(negative: bool, text: &str) -> Option<Tail>
     })
 }
 
-/// The exponent that is all of the decimal run in front, none where there is no such run; None where the run is another.
+/// The tail whose exponent is all of the decimal run in front, or that has no exponent if there is no such run; None if the
+/// run is no exponent.
 fn read_exponent(text: &str) -> Option<Tail>
     ensures { ReadsTail (model.exponent_at (run_of (chars text.now))) text.now result }
 {
@@ -89,7 +90,7 @@ fn read_exponent(text: &str) -> Option<Tail>
     read_exponent_digits(negative, digits)
 }
 
-/// `0`, or digits that begin with another one.
+/// Whether this is `0`, or digits that don't begin with a zero.
 fn is_integer(digits: &str) -> bool
     ensures { result ≡ model.is_integer digits.now }
 {
@@ -114,7 +115,7 @@ fn read_without_point<'t>(before: &'t str, text: &'t str) -> Option<Literal<'t>>
     })
 }
 
-/// An integer before the point, or digits after it alone.
+/// Whether there is an integer before the point, or digits after it alone.
 fn has_digits(before: &str, after: &str) -> bool
     ensures { result ≡ (model.is_integer before.now || (numbers.is_empty before.now && not (numbers.is_empty after.now))) }
 {

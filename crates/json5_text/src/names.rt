@@ -31,7 +31,7 @@ pub(crate) fn skip_name(text: &str) -> Result<&str, Refusal>
     skip_text(Kind::Name, text)
 }
 
-/// The character that an escape spells, which may be there in a name, and what follows the escape.
+/// The character that an escape spells, if a name may have it there, and what follows the escape.
 pub(crate) fn read_item<'t>(
     is_first: bool,
     escape: &str,
@@ -78,7 +78,7 @@ fn read_escape<'t>(escape: &str, after: &'t str) -> Result<(char, &'t str), Refu
     unicode_escape(escape, digits)
 }
 
-/// What follows the ASCII characters in front that go on a name.
+/// What follows the ASCII characters in front that continue a name.
 fn skip_ascii_parts(text: &str) -> &str
     ensures { SkipsSome is_raw_part text.now result.now }
 {
@@ -86,7 +86,7 @@ fn skip_ascii_parts(text: &str) -> &str
     text.split_at(len).1
 }
 
-/// What follows the characters in front that begin a name and stand for themselves.
+/// What follows the characters in front that begin a name and spell themselves.
 pub(crate) fn skip_start(text: &str) -> &str
     ensures { SkipsRaw Kind.Name text.now result.now }
 {
@@ -96,7 +96,7 @@ pub(crate) fn skip_start(text: &str) -> &str
     }
 }
 
-/// What follows the characters in front that go on a name and stand for themselves.
+/// What follows the characters in front that continue a name and spell themselves.
 pub(crate) fn skip_parts(text: &str) -> &str
     ensures { SkipsAll is_raw_part text.now result.now }
 {

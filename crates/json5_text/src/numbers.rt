@@ -78,7 +78,7 @@ fn word<'t>(
     Ok((number, rest))
 }
 
-/// A number without its sign; `start` is the text from the sign on, if there is one.
+/// A number without its sign; `start` is the input from the sign on, if there is one.
 fn unsigned<'t>(
     start: &str,
     negative: bool,
@@ -104,7 +104,7 @@ fn unsigned<'t>(
     }
 }
 
-/// The number in front, its digits a slice of the text, and what follows it.
+/// The number in front, its digits slices of the input, and what follows it.
 fn scan(text: &str) -> Result<(Scanned<'_>, &str), Refusal>
     ensures { AnswersAs scanned_of (model.number (chars text.now)) result }
 {
@@ -112,7 +112,7 @@ fn scan(text: &str) -> Result<(Scanned<'_>, &str), Refusal>
     unsigned(text, negative, rest)
 }
 
-/// The number in front, where it is a whole one of few digits, and what follows it.
+/// The number in front, if it is a whole one of few digits, and what follows it.
 #[inline(always)]
 fn short_whole(text: &str) -> Option<(Whole, &str)>
     ensures { IfSome result (λ p. GivesValue (model.number (chars text.now)) (numbers.whole p.0) p.1.now) }

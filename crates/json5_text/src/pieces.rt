@@ -1,4 +1,4 @@
-//! The text of a decimal, in pieces.
+//! The spelling of a decimal, in pieces.
 
 ghost use Rattle.std.specs.Prelude.{◌≡◌, ◌≤◌, ◌++◌, [], MatchOption};
 ghost use Rattle.json5_grammar.specs.Language.Characters.{is_digit, Each};
@@ -8,7 +8,7 @@ ghost use Rattle.json5_text.specs.NumberPieces.{BeginsWithPiece};
 use std::marker::Model;
 use std::mem;
 
-/// What is left of the text of a decimal: the four texts one after the other, and `count` zeros before the third.
+/// What is left of a decimal's spelling: the four strings one after the other, and `count` zeros before the third.
 ///
 /// ```text
 /// let mut pieces = decimal.pieces();

@@ -8,7 +8,7 @@ use std::alloc::AllocError;
 /// A fault with the number of bytes that are left at its position, or that memory ran out.
 #[derive(Clone, Copy)]
 pub(crate) enum Refusal {
-    /// A fault with a code; without a position where the end of the text shows it.
+    /// A fault with a code; without a position if the input ends too early.
     TokenError {
         code: ErrorCode,
         remaining: Option<usize>,
@@ -17,7 +17,7 @@ pub(crate) enum Refusal {
     InvalidNumber(usize),
     /// A hexadecimal number after a minus past -2^127.
     TooLarge(usize),
-    /// A surrogate's escape that is no part of a pair, and its value.
+    /// The escape of a surrogate without its other half, and the surrogate.
     UnpairedSurrogate(u16, usize),
     OutOfMemory,
 }

@@ -1,4 +1,4 @@
-//! Cutting a text after the digits or zeros in front, and before the zeros at its end.
+//! Cutting the input after the digits in front, and digits after the zeros in front and before the zeros at the end.
 
 ghost use Rattle.std.specs.Prelude.{◌≡◌, reverse};
 ghost use Rattle.std.specs.List.{prefix_len};
@@ -26,7 +26,7 @@ pub(crate) fn split_digits(text: &str) -> (&str, &str)
     text.split_at(digits_len(text.as_bytes()))
 }
 
-/// The text without the zeros in front.
+/// The digits without the zeros in front.
 pub(crate) fn without_front_zeros(text: &str) -> &str
     ensures { result.now ≡ numbers.without_front_zeros text.now }
 {
@@ -38,7 +38,7 @@ pub(crate) fn without_front_zeros(text: &str) -> &str
     text.split_at(start).1
 }
 
-/// The text without the zeros at its end.
+/// The digits without the zeros at the end.
 pub(crate) fn without_back_zeros(text: &str) -> &str
     ensures { result.now ≡ reverse (numbers.without_front_zeros (reverse text.now)) }
 {

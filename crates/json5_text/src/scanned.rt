@@ -1,4 +1,4 @@
-//! Numbers whose digits are slices of the text that is read.
+//! Numbers whose digits are slices of the input.
 
 ghost use Rattle.std.specs.Prelude.{◌≡◌, MatchResult, IfSome, IsSome, Some, ℕ, List, true, pos, ◌-ℤ◌, ◌↔◌};
 ghost use Rattle.std.specs.Str.{chars};
@@ -19,7 +19,7 @@ use crate::whole::Whole;
 use json5_grammar::code::ErrorCode;
 use std::alloc::{AllocError, Global};
 
-/// A number in front of a text; a finite decimal's digits are slices of it.
+/// A number as it is read from the input; a finite decimal's digits are slices of the input.
 #[derive(Drop)]
 pub(crate) enum Scanned<'t> {
     Whole(Whole),
@@ -31,7 +31,7 @@ pub(crate) enum Scanned<'t> {
 }
 
 impl<'t> Scanned<'t> {
-    /// The same number in memory of its own.
+    /// The same number with owned digits.
     pub(crate) fn to_number(&self, alloc: Global) -> Result<Number, AllocError>
         ensures { MatchResult result (λ n. number_of n ≡ scanned_of self.now) (λ _. keeps_digits (scanned_of self.now) ≡ true) }
     {
@@ -54,7 +54,7 @@ impl<'t> Scanned<'t> {
     }
 }
 
-/// The exponent as it is written, or `EXPONENT_LIMIT` after its sign where that is less.
+/// The exponent as it is written, or `EXPONENT_LIMIT` with its sign if that is nearer to zero.
 fn written_exponent(exponent: &Exponent) -> i128
     requires { HasExponentDigits exponent.now }
     ensures { result ≡ signed_limited EXPONENT_LIMIT exponent.now }
@@ -63,7 +63,7 @@ fn written_exponent(exponent: &Exponent) -> i128
     if exponent.negative { -value } else { value }
 }
 
-/// The written exponent, 0 where there is none, lowered by the count of digits after the point.
+/// The literal's exponent, 0 if it has none, lowered by the count of digits after the point.
 fn lowered_exponent(literal: &Literal, places: usize) -> i128
     requires { IfSome literal.now.exponent HasExponentDigits }
     ensures value { result ≡ limited_exponent EXPONENT_LIMIT literal.now.exponent -ℤ pos places }
@@ -89,7 +89,7 @@ fn whole_number(negative: bool, literal: &Literal) -> Option<Whole>
     Whole::from_parts(negative, magnitude)
 }
 
-/// The number that a literal means; `start` is the text from the number's start.
+/// The number that a literal means; `start` is the input from the number's start.
 pub(crate) fn judge<'t>(
     start: &str,
     negative: bool,

@@ -1,4 +1,4 @@
-//! The scanner: the tokens of a text, one after another.
+//! The scanner: the tokens of an input, one after another.
 
 ghost use Rattle.std.specs.Prelude.{◌≡◌, ℕ, List, [], ◌∷◌, ◌++◌, true, false, ◌==◌, drop, slice_get, IsTrue};
 ghost use Rattle.std.specs.Str.{all_scalars, chars};
@@ -23,7 +23,7 @@ use json5_grammar::code::ErrorCode;
 use std::alloc::Global;
 use std::marker::Model;
 
-/// Takes the token that is read, if it is: `$read` gives it and what follows it, or refuses.
+/// Takes a token: `$read` gives the token and what follows it, or refuses.
 macro_rules! take {
     ($scanner:ident, $read:expr) => {{
         let (token, left) = match $read {
@@ -35,7 +35,7 @@ macro_rules! take {
     }};
 }
 
-/// The same where nothing is kept of the token: `$skip` gives what follows it, or refuses.
+/// Passes over a token: `$skip` gives what follows it, or refuses.
 macro_rules! pass {
     ($scanner:ident, $skip:expr) => {{
         let left = match $skip {
@@ -68,9 +68,9 @@ mod faults;
 #[derive(Drop)]
 pub struct Scanner<I: Input> {
     pub(crate) input: I,
-    /// The text's length in bytes.
+    /// The input's length in bytes.
     pub(crate) end: usize,
-    /// The count of bytes that are read; a character begins there, or the text ends.
+    /// How many bytes are read; a character begins there, or the input ends.
     offset: usize,
     alloc: Global,
 }
@@ -267,7 +267,7 @@ impl<I: Input> Scanner<I> {
         take!(self, skip_number(self.rest(self.input.as_text())))
     }
 
-    /// Returns what is unread of the text.
+    /// Returns the unread part of the input.
     pub(crate) fn rest<'t>(&self, text: &'t str) -> &'t str
         requires { chars text.now ≡ self.now.input }
         ensures { chars result.now ≡ self.now.unread }

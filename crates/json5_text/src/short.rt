@@ -1,5 +1,5 @@
-//! Short ways: tokens that are taken at once where no fault can come. They answer numbers alone, so that no fault stands in the
-//! frame of the caller; where they answer nothing they take nothing, and the scanner's other calls say what is there.
+//! Short ways: tokens that are taken at once where no fault can come. They return numbers alone, so that the caller's frame
+//! holds no fault. When they return None they take nothing, and the scanner's other calls say what is there.
 
 ghost use Rattle.std.specs.Prelude.{◌<◌, true, false, IfSome};
 ghost use Rattle.json5_text.specs.Short.{FollowsBlanks, IsShortWhole, GivesSpaced, TakesShortWhole, IsInFront, FindsStep, TakesShortStep, FindsSign, TakesShortSign};
@@ -42,7 +42,7 @@ struct ShortWhole {
     left: usize,
 }
 
-/// The whole number in front, where it has few digits, and what follows it.
+/// The whole number in front, if it has few digits, and what follows it.
 #[inline(always)]
 fn front_whole(text: &str) -> Option<(i128, &str)>
     ensures { IfSome result (λ p. IsShortWhole text.now p.0 p.1.now) }
@@ -55,7 +55,7 @@ fn front_whole(text: &str) -> Option<(i128, &str)>
     Some((i128::from(magnitude), rest))
 }
 
-/// The whole number after ASCII blanks, where it has few digits.
+/// The whole number after ASCII blanks, if it has few digits.
 #[inline(always)]
 fn spaced_whole(text: &str) -> Option<ShortWhole>
     ensures { IfSome result (GivesSpaced text.now) }
@@ -127,7 +127,7 @@ fn comma_step(closing: u8, text: &str) -> Option<Step>
     member_step(closing, solid.split_at(1).1)
 }
 
-/// A step, where the closing sign is an ASCII character.
+/// A step, if the closing sign is an ASCII character.
 #[inline(always)]
 fn find_step(closing: u8, comma_due: bool, text: &str) -> Option<Step>
     ensures { IfSome result (FindsStep closing comma_due text.now) }
@@ -142,7 +142,7 @@ fn find_step(closing: u8, comma_due: bool, text: &str) -> Option<Step>
     }
 }
 
-/// How many bytes follow ASCII blanks and the sign, where the sign is an ASCII character.
+/// How many bytes follow ASCII blanks and the sign, if the sign is an ASCII character.
 #[inline(always)]
 fn after_sign(sign: u8, text: &str) -> Option<usize>
     ensures { IfSome result (FindsSign sign text.now) }

@@ -1,5 +1,5 @@
-//! Short ways: strings and keys without an escape, which are taken at once and stay where they stand in the text. Each answers
-//! numbers alone; where it answers nothing it takes nothing, and the scanner's other calls say what is there.
+//! Short ways: strings and keys without an escape, which are taken at once and aren't copied. Each returns numbers alone. When
+//! it returns None it takes nothing, and the scanner's other calls say what is there.
 
 ghost use Rattle.std.specs.Prelude.{◌≡◌, ◌∷◌, true, IfSome};
 ghost use Rattle.std.specs.Str.{chars};
@@ -15,14 +15,14 @@ use crate::short::is_in_front;
 use crate::strings::skip_raw;
 use crate::texts::Quote;
 
-/// Where a text stands in what is read, from `start` up to `end`, in bytes.
+/// The offsets of a text in the input, from `start` up to `end`, in bytes.
 #[derive(Clone, Copy, Debug, PartialEq, Eq)]
 pub struct Span {
     pub start: usize,
     pub end: usize,
 }
 
-/// A text in front: how many bytes are left where it begins, where it ends, and after the string or the key that it is.
+/// The body of a string or a key in front: how many bytes are left where it begins, where it ends, and after the whole token.
 #[derive(Clone, Copy)]
 struct FoundText {
     from: usize,
@@ -95,7 +95,7 @@ fn front_key(text: &str) -> Option<FoundText>
 }
 
 impl<I: Input> Scanner<I> {
-    /// Takes ASCII blanks and a string without an escape, and says where its text stands. Returns None where anything else is in
+    /// Takes ASCII blanks and a string without an escape, and returns the span of its text. Returns None where anything else is in
     /// front, and takes nothing then.
     #[inline(always)]
     pub fn short_string(&mut self) -> Option<Span>
@@ -111,7 +111,7 @@ impl<I: Input> Scanner<I> {
     }
 
     /// Takes ASCII blanks and a key: a string without an escape, or a name of ASCII characters alone up to an ASCII character that
-    /// can't go on with it. Says where its text stands. Returns None where anything else is in front, and takes nothing then.
+    /// can't continue it. Returns the span of its text. Returns None where anything else is in front, and takes nothing then.
     #[inline(always)]
     pub fn short_key(&mut self) -> Option<Span>
         ensures { TakesShortKey self.old self.new result }

@@ -17,7 +17,7 @@ use crate::texts::{Kind, Quote, read_text, skip_text};
 use json5_grammar::code::ErrorCode;
 use std::alloc::Global;
 
-/// The text of the string in front, and what follows the string. It is borrowed where the string holds no backslash.
+/// What the string in front spells, and what follows the string. It is borrowed if the string has no backslash.
 pub(crate) fn read_string<'t>(
     alloc: Global,
     text: &'t str,
@@ -28,7 +28,7 @@ pub(crate) fn read_string<'t>(
     read_text(alloc, Kind::String(quote), body)
 }
 
-/// The text of the string in front in a `String` of its own, and what follows the string.
+/// An owned copy of what the string in front spells, and what follows the string.
 pub(crate) fn read_string_owned(alloc: Global, text: &str) -> Result<(String, &str), Refusal>
     ensures { AnswersOwned (string_at (chars text.now)) result }
 {
@@ -39,8 +39,8 @@ pub(crate) fn read_string_owned(alloc: Global, text: &str) -> Result<(String, &s
     }
 }
 
-/// The token of the string in front, and what follows the string. `end` is the length in bytes of all that is read, which the
-/// text is the rest of.
+/// The token of the string in front, and what follows the string. `end` is the length in bytes of the whole input, of which
+/// `text` is the rest.
 pub(crate) fn read_string_token(
     alloc: Global,
     end: usize,
@@ -89,7 +89,7 @@ pub fn is_quote(c: char) -> bool
     matches!(c, '"' | '\'')
 }
 
-/// What follows the characters in front that stand for themselves between these quotes.
+/// What follows the characters in front that spell themselves between these quotes.
 #[inline(always)]
 pub(crate) fn skip_raw(quote: Quote, text: &str) -> &str
     ensures { SkipsAll (is_raw (quote_of quote)) text.now result.now }

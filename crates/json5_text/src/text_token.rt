@@ -1,4 +1,4 @@
-//! Texts of strings and keys, which a scanner gives back.
+//! Tokens of strings and keys, whose text a scanner finds again.
 
 ghost use Rattle.std.specs.Prelude.{◌≡◌, ◌≤◌, ◌-◌, true, length};
 ghost use Rattle.json5_text.specs.Cows.{cow_bytes, is_borrowed};
@@ -9,14 +9,14 @@ use crate::cow_str::CowStr;
 /// The text of a string or a key that a `Scanner` took. `Scanner::text_of` finds it, also after more was read.
 #[derive(Debug, Drop)]
 pub enum TextToken {
-    /// The text stands so in what is read, from `start` up to `end`, in bytes.
+    /// The input spells it as it is, from `start` up to `end`, in bytes.
     EscapeFree { start: usize, end: usize },
-    /// A text in memory of its own: an escape spells a part of it.
+    /// An owned copy: an escape spells a part of it.
     Escaped(String),
 }
 
 impl TextToken {
-    /// The token of this text in an input of so many bytes. It begins where so many bytes are left, if it is borrowed.
+    /// The token of this text in an input of `end` bytes. If the text is borrowed, it begins where `left` bytes are left.
     pub(crate) fn new(end: usize, left: usize, text: CowStr<'_>) -> TextToken
         requires inside { left ≤ end }
         requires fits { is_borrowed text ≡ true → length (cow_bytes text) ≤ left }

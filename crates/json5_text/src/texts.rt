@@ -1,4 +1,4 @@
-//! Strings and names: runs of characters that stand for themselves, and escapes (ECMAScript 5.1 sections 7.6 and 7.8.4).
+//! Strings and names: runs of characters that spell themselves, and escapes (ECMAScript 5.1 sections 7.6 and 7.8.4).
 
 ghost use Rattle.std.specs.Prelude.{◌≡◌, ◌++◌, OnOk, string_bytes};
 ghost use Rattle.std.specs.Str.{chars, encode_utf8_all};
@@ -76,7 +76,7 @@ impl Kind {
         if run.is_empty() { self } else { self.rest() }
     }
 
-    /// The code of a text that ends in it.
+    /// The code of an input that ends in it.
     fn ends_early(self) -> ErrorCode
         ensures { result ≡ ends_early self }
     {
@@ -87,12 +87,12 @@ impl Kind {
     }
 }
 
-/// Where a run of characters that stand for themselves ends.
+/// What ends a run of characters that spell themselves.
 #[derive(Clone, Copy)]
 enum Stop<'t> {
-    /// At the end of the string or name, which this follows.
+    /// The end of the string or name; this is what follows it.
     End(&'t str),
-    /// At the backslash of an escape: what is read there, the text from the backslash on, and the text after it.
+    /// An escape: the kind that it is read as, the input from the backslash on, and the input after the backslash.
     Escape(Kind, &'t str, &'t str),
 }
 
@@ -105,7 +105,7 @@ struct Step<'t> {
     stop: Stop<'t>,
 }
 
-/// The text of the string or name in front, and what follows it. It is borrowed where no backslash is in it.
+/// What the string or name in front spells, and what follows it. It is borrowed if there is no backslash in it.
 #[inline(always)]
 pub(crate) fn read_text<'t>(
     alloc: Global,
@@ -138,7 +138,7 @@ pub(crate) fn skip_text(kind: Kind, text: &str) -> Result<&str, Refusal>
     }
 }
 
-/// The text from its first escape on, after the run in front, and what follows it.
+/// The run in front with what the rest spells from the first escape on, and what follows the string or name.
 fn read_escaped<'t>(
     alloc: Global,
     run: &str,
@@ -198,7 +198,7 @@ fn read_item<'t>(
     }
 }
 
-/// The characters in front that stand for themselves, and where they end.
+/// The characters in front that spell themselves, and what ends them.
 #[inline(always)]
 fn read_run(kind: Kind, text: &str) -> Result<(&str, Stop<'_>), Refusal>
     ensures { AnswersRun kind text.now result }
@@ -209,7 +209,7 @@ fn read_run(kind: Kind, text: &str) -> Result<(&str, Stop<'_>), Refusal>
     Ok((run, stop))
 }
 
-/// What follows the characters in front that stand for themselves.
+/// What follows the characters in front that spell themselves.
 #[inline(always)]
 fn skip_run(kind: Kind, text: &str) -> &str
     ensures { SkipsRaw kind text.now result.now }

@@ -9,7 +9,7 @@ use crate::whole::Whole;
 
 /// What a JSON5 text holds (JSON5 section 2): null, a boolean, a number, a string, an array or an object, with equal keys kept.
 ///
-/// Two values are equal when they stand for the same: whole numbers and decimals are never equal, not-a-number equals itself,
+/// Two values are equal when they mean the same: whole numbers and decimals are never equal, not-a-number equals itself,
 /// and two strings are equal when their characters are, however they were spelled.
 ///
 /// ```text

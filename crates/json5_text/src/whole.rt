@@ -56,7 +56,7 @@ impl Whole {
         }
     }
 
-    /// Returns the number with this distance from zero, after a minus or not; none where it is below `i128::MIN`.
+    /// Returns the number with this sign and this distance from zero; None if it is below `i128::MIN`.
     pub(crate) fn from_parts(negative: bool, magnitude: u128) -> Option<Whole>
         ensures in_range { IsSome result ↔ InWhole (signed negative magnitude) }
         ensures value { IfSome result (λ w. w ≡ signed negative magnitude) }

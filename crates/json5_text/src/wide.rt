@@ -7,7 +7,7 @@ use std::marker::Model;
 
 const HALF: u128 = 1 << 64;
 
-/// A number of 128 bits. Where it stands in a struct, the struct is smaller than with a `u128`, which lies at every sixteenth byte.
+/// A number of 128 bits. It makes a struct smaller than a `u128` does, which is aligned to 16 bytes.
 #[derive(Clone, Copy, PartialEq, Eq, Hash)]
 pub(crate) struct Wide {
     high: u64,

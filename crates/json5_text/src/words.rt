@@ -8,8 +8,8 @@ use crate::front::front;
 use crate::refusal::Refusal;
 use json5_grammar::code::ErrorCode;
 
-/// What follows the word in the text: `differs` at the first character that is another one than the word's, `ends` where the
-/// text ends in the word.
+/// What follows the word in front: `differs` at the first character that isn't the word's, `ends` if the input ends in the
+/// word.
 #[tactic(auto, using(crate::proofs::ScanSteps::word_steps))]
 pub(crate) fn skip_word<'t>(
     word: &str,

@@ -43,7 +43,7 @@ some_from : (o : Option ℕ) (b : Bool) → is_some o ≡ not b → b ≡ false 
 some_from None b e is = let clash : false ≡ true = e ∙ ap not is in absurd (cc)
 some_from (Some c) b e is = (c, refl)
 
--- the text has ended
+-- the input has ended
 pub no_key_left : {V : Type 0} {Is : V → List ℕ × Bool → Type 0} (old : Cursor) (next : Option ℕ) (none : Bool) (e : Error) → next ≡ slice_get old.unread 0 → is_some next ≡ not none → none ≡ true → kind_of e ≡ code codes.EofParsingObject → place_of e ≡ None → Keeps Is (key old.unread) old old (Err e)
 no_key_left old next none e peeked test is says place =
     not_taken old old (key old.unread) e
@@ -71,7 +71,7 @@ key_taken old new next none (Err e) peeked test is ready scalars t = not_taken o
         let (r, x) = some_next old.unread c (sym peeked ∙ found) in
         inr (blames_refused old (key old.unread) e ready key_lacks (λ reason place g. key_refuses c r old.unread reason place x g) f)
 
--- its text is in memory of its own, or memory ran out for it
+-- the key's text is copied, or memory ran out for the copy
 pub key_kept : (old mid : Cursor) (k : TextToken) (result : Result (String Global) Error) (given : (a : List ℕ × Bool) × IsFoundKey old.input k a × Gave (key old.unread) a old mid) → OwnsKey mid.input k result
     → Keeps IsKeyText (key old.unread) old mid result
 key_kept old mid k (Ok t) (a, (is, same), g) copied =

@@ -61,7 +61,7 @@ element_kept : (vs : List Value) (v : Value) (xs : Items) → elements_before (v
 element_kept [] v xs = refl
 element_kept (w ∷ vs) v xs = ap (item (value_of w)) (element_kept vs v xs)
 
--- an element was put to the others
+-- an element was added to the others
 pub array_grown : (vs ws : List Value) (v : Value) (d : ℕ) (y : List ℕ) → ws ≡ vs ++ v ∷ [] → rest_of_array ws true d y ≡ array_with (λ xs. elements_before vs (item (value_of v) xs)) (trees_after d y)
 array_grown vs ws v d y grown = ap (λ us. rest_of_array us true d y) grown ∙ by_answer (trees_after d y)
   where
@@ -124,7 +124,7 @@ member_kept : (fs : List (String Global × Value)) (f : String Global × Value) 
 member_kept [] f xs = refl
 member_kept (g ∷ fs) f xs = ap (field (chars (string_bytes g.0)) (value_of g.1)) (member_kept fs f xs)
 
--- a member was put to the others
+-- a member was added to the others
 pub object_grown : (fs gs : List (String Global × Value)) (key : String Global) (v : Value) (d : ℕ) (y : List ℕ) → gs ≡ fs ++ (key, v) ∷ []
     → rest_of_object gs true d y ≡ object_with (λ xs. members_before fs (field (chars (string_bytes key)) (value_of v) xs)) (pairs_after d y)
 object_grown fs gs key v d y grown = ap (λ us. rest_of_object us true d y) grown ∙ by_answer (pairs_after d y)

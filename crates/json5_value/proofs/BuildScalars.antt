@@ -1,4 +1,4 @@
--- How a value begins that is kept: as one of one token, or with an opening bracket.
+-- How a value that is kept begins: as a value of one token, or with an opening bracket.
 use Rattle.std.proofs.Common.{◌≡◌, ℕ, length, Bool, true, false, List, [], ◌∷◌, refl, ap, sym, ◌∙◌, subst, arith, inl, inr, Option, Some, None, String, string_bytes}
 use Rattle.std.specs.Prelude.{◌||◌, slice_get, Ok, Err}
 use Rattle.std.specs.declared.alloc.Global.{Global}
@@ -72,7 +72,7 @@ tree_blamed room old e b = blames_as old.input old.input (value_at room old) (tr
 pub datum_blamed : (room : ℕ) (old : Cursor) (e : Error) → RefusesRead old.input (tree_at room old) e → RefusesRead old.input (datum_at room old) e
 datum_blamed room old e b = blames_as old.input old.input (tree_at room old) (datum_at room old) e refl (λ c p is. ap as_datum is) b
 
--- one of this tree was taken
+-- a value of this tree was taken
 pub scalar_taken : (room : ℕ) (old new : Cursor) (s : List ℕ) (t : Tree) (v : Value) → depth t ≡ 0 → Took old s new → Val s t → Stops s new.unread → value_of v ≡ datum_of t → Keeps IsOfTree (tree_at room old) old new (Ok v)
 scalar_taken room old new s t v flat took val stops is =
     takes old new (tree_at room old) t v is

@@ -1,4 +1,4 @@
--- One step that keeps what it reads after another.
+-- Steps that keep what they read, one after another.
 use Rattle.std.proofs.Common.{◌≡◌, ℕ, List, ap, sym, ◌∙◌, subst, inl, inr}
 use Rattle.std.specs.Prelude.{Result, Ok, Err}
 use Rattle.json5_grammar.specs.Model.Reading.{Read, got, and_then}

@@ -1,4 +1,4 @@
--- The turns of the loop that reads a value of any kind: going on in an array or an object.
+-- The turns of the loop that reads a value of any kind: continuing an array or an object.
 use Rattle.std.proofs.Common.{◌≡◌, ℕ, ◌-◌, ◌<◌, Bool, true, false, List, [], ◌∷◌, ◌++◌, length, refl, ap, sym, ◌∙◌, subst, arith, length-append, ◌⊎◌, inl, inr, Option, Some, None, Vec, String}
 use Rattle.std.specs.Prelude.{Result, Ok, Err}
 use Rattle.std.specs.declared.alloc.Global.{Global}
@@ -26,7 +26,7 @@ use Rattle.json5_value.proofs.SkipTurns.{no_more_left}
 use Rattle.json5_value.proofs.Steps.{blames_as}
 use Rattle.json5_value.proofs.BuildKeys.{key_shorter}
 
--- ---- going on within an array or an object
+-- ---- continuing an array or an object
 
 room_within : (room : ℕ) (fs : List Unfinished) (f : Unfinished) → room - length (fs ++ f ∷ []) ≡ room - length fs - 1
 room_within room fs f = omega (arith, length-append fs (f ∷ []))

@@ -40,7 +40,7 @@ first_scalar room fs after old new v g same less = record {
   shorter = less;
 }
 
--- after its bracket m is left of it
+-- after the value's bracket, m is left of the value
 module _ (room : ℕ) (fs : List Unfinished) (f : OpenBracket) (m : ℕ → Read Datum) (old mid : Cursor) (ready : IsInside old) (o : OpenedAt (room - length fs) f old mid)
     (reads : (d : ℕ) → as_datum (read (suc d) (opening (bracket_of f.kind) ∷ mid.unread)) ≡ placed (opening (bracket_of f.kind) ∷ mid.unread) (m d)) where
   inside_of : (w : Read Datum) → Building room w fs None old → BuildingInside room w fs f.start m old.unread mid
@@ -63,7 +63,7 @@ module _ (room : ℕ) (fs : List Unfinished) (f : OpenBracket) (m : ℕ → Read
       by_cause (inl memory) = inl memory
       by_cause (inr k) = inr (λ w h. subst (λ z. RefusesRead z w e) o.same_text (k room w old.unread (inside_of w h)))
 
--- an array or an object without a member so far is what stands after its bracket
+-- an array without elements or an object without members so far is what follows its bracket
 pub array_begun : (room : ℕ) (fs after : List Unfinished) (f : OpenBracket) (elements : Vec Value Global) (old mid new : Cursor) (result : Result (Option Value) Error) → IsInside old → OpenedAt (room - length fs) f old mid → f.kind ≡ bracket.Array → elements.items ≡ []
     → length mid.unread < length old.unread → TurnsBuildingInside (array_at elements.items false mid) f.start false fs after mid new result → TurnsBuilding room fs after old new result
 array_begun room fs after f elements old mid new result ready o is none less t =
@@ -100,7 +100,7 @@ value_read room old now fs v none same h =
     let k = read_sound room old.unread now.unread t is in
     record { given = record { reads = reads; taken = k.0; took = record { split = k.1; same = same } }; refused = tt; same_text = same }
 
--- what stands round a value that ended
+-- what is round a value that ended
 pub ended_inside : (room : ℕ) (w : Read Datum) (now : Cursor) (gs fs : List Unfinished) (f : Unfinished) (v : Value) → gs ≡ fs ++ f ∷ [] → Building room w gs (Some v) now → (q : List ℕ) × BuildingInside room w fs (start_of f) (value_in_at f v now) q now
 ended_inside room w now gs fs f v is h = ends_inside start_of value_in room now w gs fs f (value_of v) is h
 

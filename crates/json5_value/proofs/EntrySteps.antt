@@ -1,4 +1,4 @@
--- What stands round an entry of brackets is passed over: the colon of a member, commas, and the blanks before an entry.
+-- What is round an entry of brackets is passed over: the colon of a member, commas, and the blanks before an entry.
 use Rattle.std.proofs.Common.{◌≡◌, ℕ, Bool, true, false, cond, List, [], ◌∷◌, refl, ap, ◌∙◌, subst}
 use Rattle.std.specs.Prelude.{◌==◌, Result, Ok, Err, not}
 use Rattle.json5_grammar.specs.declared.code.ErrorCode.TheVariants as codes
@@ -21,7 +21,7 @@ use Rattle.json5_value.proofs.Steps.{same_of, ready_next, then_step, first_step_
 pub colon_blanks : (old new : Cursor) (e : Error) → RefusesRead old.input (skip between old.unread) e → SameText old new → Steps (colon_after old.unread) old new (Err e)
 colon_blanks old new e b g = first_step_refused old new (skip between old.unread) _ e b g
 
--- no colon stands there
+-- the colon is missing
 pub colon_missing : (old mid at : Cursor) (u : Unit {0}) (e : Error) → IsInside old → Gave (skip between old.unread) u old mid → at ≡ mid → NotBegun (λ d. d == 58) mid.unread → Refused (Unexpected codes.EofParsingObject codes.ExpectedColon) at e
     → Steps (colon_after old.unread) old at (Err e)
 colon_missing old mid at u e r g same n f =
@@ -67,7 +67,7 @@ comma_missing k old mid at last u c ends e r g same n same2 is n2 eof f =
     after_blanks k old mid last u (Err e) g
     (refused_step mid last (comma_at k mid.unread) e (no_comma k mid e (ready_next old mid r g) n no_close (subst (λ z. Refused (Unexpected z codes.ExpectedComma) mid e) eof (refused_there mid last e there f))) (same_of there))
 
--- where one is due
+-- a comma is due
 pub after_comma_due : (k : BracketKind) (comma_due : Bool) (old new : Cursor) (result : Result Bool Error) → comma_due ≡ true → Steps (separator k old.unread) old new result → Steps (due_comma k comma_due old.unread) old new result
 after_comma_due k comma_due old new result is s = same_step old new (due_comma k comma_due old.unread) (separator k old.unread) result (ap (λ b. due_comma k b old.unread) is) s
 
@@ -87,7 +87,7 @@ front_goes k (c ∷ r) n = rw n refl
 abbrev pub start_or_end : BracketKind → Bool → List ℕ → Read Bool
 start_or_end k more y = cond more (entry_start k y) (got false y)
 
--- the comma is refused, or the bracket was closed in its place
+-- the comma is refused, or the bracket is closed instead
 pub comma_refused : (k : BracketKind) (comma_due : Bool) (old new : Cursor) (e : Error) → RefusesRead old.input (due_comma k comma_due old.unread) e → SameText old new → Steps (next_entry k comma_due old.unread) old new (Err e)
 comma_refused k comma_due old new e b g = first_step_refused old new (due_comma k comma_due old.unread) (start_or_end k) e b g
 

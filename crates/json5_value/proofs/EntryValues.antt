@@ -22,7 +22,7 @@ pub key_missing : key [] ≡ bad (Some codes.EofParsingObject) inner
 unfolding key
 key_missing = refl
 
--- what stands before the value of a member that begins here
+-- what comes before the value of an entry that begins here
 abbrev pub head_of : BracketKind → List ℕ → Read Bool
 head_of of_array y = got true y
 head_of of_object y = pair_head y

@@ -1,4 +1,4 @@
--- What stands open round a value, and what it makes of what is read within.
+-- What is open round a value, and what it makes of what is read within.
 use Rattle.std.proofs.Common.{◌≡◌, ℕ, ◌-◌, ◌<◌, List, [], ◌∷◌, ◌++◌, length, refl, ap, sym, ◌∙◌, subst, arith, length-append, ◌⊎◌, inl, inr, Option, Some, None}
 use Rattle.json5_grammar.specs.declared.code.ErrorCode.{ErrorCode}
 use Rattle.json5_grammar.specs.Model.Reading.{Read, Place, here, inner, got, bad, and_then, placed}
@@ -10,13 +10,13 @@ use Rattle.json5_value.specs.Places.{StartsAfter, PlacedAt, CountsTo}
 use Rattle.json5_value.specs.Steps.{IsInside, SameText, HasPositionAt, RefusesRead, Gave}
 use Rattle.json5_value.proofs.Steps.{ready_after, blames_as}
 
--- ---- places
+-- ---- positions
 
 says_same : (reason : Option ErrorCode) (own e : Error) → kind_of e ≡ kind_of own → Says reason own → Says reason e
 says_same (Some c) own e k s = k ∙ s
 says_same None own e k (text, s) = (text, k ∙ s)
 
--- a fault without a place gets the bracket's
+-- a fault without a position gets the bracket's
 blames_placed : {A : Type 0} (input q : List ℕ) (start : ℕ) (m : Read A) (own e : Error) → CountsTo input start q → PlacedAt (StartsAfter input start) own e → RefusesRead input m own → RefusesRead input (placed q m) e
 blames_placed {A = A} input q start m own e (before, split, counted) k b = by_place b.place b.is_bad b.says
   where
@@ -61,7 +61,7 @@ module _ {F D : Type 0} (start : F → ℕ) (after : F → ℕ → D → List �
       let (q, at, k) = nested_pop input (d - 1) n fs f m v (omega (arith, e)) h in
       (q, at, (p, v, counted, k, is))
 
-  -- a fault that has a place is that of the whole
+  -- a fault that has a position is that of the whole
   nested_fault : (input : List ℕ) (d : ℕ) (fs : List F) (w : Read D) (c : Option ErrorCode) (q : List ℕ) → Nested start after input d fs (bad c (here q)) w → w ≡ bad c (here q)
   nested_fault input d [] w c q h = h
   nested_fault input d (f ∷ fs) w c q (p, v, counted, h, is) = is ∙ ap (λ z. placed p (and_then z (after f (d - 1)))) (nested_fault input (d - 1) fs v c q h)

@@ -1,4 +1,4 @@
--- The place of a fault is counted only where it has none.
+-- The position of a fault is counted only if it has none yet.
 use Rattle.std.proofs.Common.{◌≡◌, ℕ, zero, suc, ◌+◌, ◌-◌, List, [], ◌∷◌, ◌++◌, length, refl, ap, sym, ◌∙◌, arith, length-append, Some, None}
 use Rattle.std.specs.Str.{encode_utf8_all}
 use Rattle.std.proofs.lemmas.Str.{encodes-append, length-le-encodes}
@@ -8,7 +8,7 @@ use Rattle.json5_text.specs.declared.error.Error.{Error}
 use Rattle.json5_text.specs.Errors.{kind_of, place_of, or_place}
 use Rattle.json5_value.specs.Places.{StartsAfter, PlacedAt}
 
--- the text before so many bytes
+-- the characters within the first so many bytes
 abbrev text_before : ℕ → List ℕ → List ℕ
 text_before zero x = []
 text_before (suc n) [] = []

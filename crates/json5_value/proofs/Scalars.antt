@@ -1,4 +1,4 @@
--- How a value begins that is passed over: as a scalar, or with an opening bracket.
+-- How a value that is passed over begins: as a scalar, or with an opening bracket.
 use Rattle.std.proofs.Common.{◌≡◌, ◌≢◌, ℕ, ◌<◌, Bool, true, false, cond, ◌||◌, List, [], ◌∷◌, ◌++◌, length, refl, ap, sym, ◌∙◌, subst, arith, length-append, Option, Some, None}
 use Rattle.std.specs.Prelude.{◌==◌, ℤ, slice_get, Result, Ok, Err}
 use Rattle.std.specs.Str.{encode_utf8_all}
@@ -131,7 +131,7 @@ value_missing room old next e peeked is kind place = record {
   shorter = tt;
 }
 
--- ---- a value's beginning
+-- ---- how a value begins
 
 pub value_shorter : (d : ℕ) (x r : List ℕ) (u : Unit {0}) → forget (read d x) ≡ got u r → length r < length x
 value_shorter d x r u e = let (t, is) = forget_got (read d x) u r e in shorter t (read_sound d x r t is)

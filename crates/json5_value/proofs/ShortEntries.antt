@@ -65,7 +65,7 @@ start_goes k x y g n = ap (λ m. and_then m (λ u y. entry_front k y)) (ap (skip
 start_closes : (k : BracketKind) (x r : List ℕ) → IsSign (closing k) x r → entry_start k x ≡ got false r
 start_closes k x r s = ap (λ m. and_then m (λ u y. entry_front k y)) (sign_read (closing k) x r (closing_solid k) s) ∙ front_closes k r
 
--- the text that is taken
+-- something is taken: y is the end of x
 abbrev Taken : List ℕ → List ℕ → Type 0
 Taken x y = (s : List ℕ) × (x ≡ s ++ y)
 
@@ -133,7 +133,7 @@ same_front reading old mid new result same k = subst (λ (s : Cursor). Steps (re
 
 -- ---- numbers
 
--- no blanks stand before a number
+-- a number has no blanks before it
 number_took : (old new : Cursor) (c : ℕ) (found : ValueKind) (z : ℤ) → AtScalar c old → found ≡ kind_at c → found ≡ kinds.Number → (k : TookWhole old new z) → Took old k.literal new
 number_took old new c found z at is number k =
     let (r, x) = some_next old.unread c at.first in

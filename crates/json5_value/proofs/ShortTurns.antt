@@ -83,7 +83,7 @@ member_refused f bs after old new own e b same k = record {
   no_longer = tt;
 }
 
--- ---- going on in a bracket
+-- ---- continuing a bracket
 
 pub value_resumed : (f : OpenBracket) (comma_due : Bool) (bs after : List OpenBracket) (old new : Cursor) → Gave (next_value (bracket_of f.kind) comma_due old.unread) true old new → after ≡ bs ++ f ∷ [] → ResumesShort f comma_due bs after old new short.Value
 value_resumed f comma_due bs after old new g grown =
@@ -111,7 +111,7 @@ not_resumed f comma_due bs old new same = subst (λ (s : Cursor). ResumesShort f
   no_longer = omega arith;
 })
 
--- ---- a value's beginning
+-- ---- how a value begins
 
 strictly : (t : ShortTurn) (old new : Cursor) → length new.unread < length old.unread → Advanced t old new
 strictly short.Value old new l = l

@@ -70,7 +70,7 @@ short_member k x = short_then (length x) (skip between x) (λ u y. member_head k
     head fronts.of_array (c ∷ r) = closes (c == 93) c r (got true (c ∷ r)) (omega arith)
     head fronts.of_object (c ∷ r) = closes (c == 125) c r (pair_head (c ∷ r)) (pair (c ∷ r))
 
--- less is left where something was taken
+-- less is left after something was taken
 abbrev Shorter : {A : Type 0} → ℕ → Read A → Type 0
 Shorter n (got a r) = length r < n
 Shorter n (bad e p) = Unit {0}

@@ -1,4 +1,4 @@
--- What stands here isn't expected; and the signs of brackets, commas and colons.
+-- Characters that aren't expected; and the signs of brackets, commas and colons.
 use Rattle.std.proofs.Common.{◌≡◌, ◌≢◌, ℕ, List, [], ◌∷◌, ◌++◌, refl, ap, sym, ◌∙◌, subst, Option, Some, None}
 use Rattle.std.specs.Prelude.{◌==◌, slice_get}
 use Rattle.std.proofs.lemmas.List.{append-nil}
@@ -23,7 +23,7 @@ use Rattle.json5_value.specs.Steps.{IsInside, RefusesRead, Unexpected, at_end, a
 use Rattle.json5_value.proofs.OtherCodes.{Lacks}
 use Rattle.json5_value.proofs.Steps.{none_next, some_next, blames_refused}
 
--- ---- what stands here
+-- ---- what is next
 
 -- the end is refused
 pub refused_end : {ends differs : ErrorCode} (s : Cursor) (e : Error) (next : Option ℕ) → next ≡ slice_get s.unread 0 → next ≡ None → kind_of e ≡ code ends → place_of e ≡ None → Refused (Unexpected ends differs) s e

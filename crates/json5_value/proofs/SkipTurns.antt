@@ -20,7 +20,7 @@ use Rattle.json5_value.proofs.Nesting.{value_reached, closed, inside_blamed, val
 use Rattle.json5_value.proofs.Shorter.{next_shorter}
 use Rattle.json5_value.proofs.Steps.{blames_as, forget_got}
 
--- ---- going on in a bracket
+-- ---- continuing a bracket
 
 module _ (room : ℕ) (bs : List OpenBracket) (f : OpenBracket) (comma_due : Bool) (old : Cursor) where
   abbrev left : ℕ
@@ -74,7 +74,7 @@ inside_refused comma_due f bs after old new own e b same k = record {
   no_longer = tt;
 }
 
--- ---- a value's beginning within brackets
+-- ---- how a value within brackets begins
 
 pub first_scalar : (room : ℕ) (bs after : List OpenBracket) (old new : Cursor) (u : Unit {0}) → Gave (value_at (room - length bs) old) u old new → after ≡ bs → length new.unread < length old.unread → TurnsSkipping room bs after old new (Ok false)
 first_scalar room bs after old new u g same less = record {
@@ -84,7 +84,7 @@ first_scalar room bs after old new u g same less = record {
   shorter = less;
 }
 
--- after an opening bracket the rest is the end of the text too
+-- after an opening bracket the rest is still the end of the input
 pub ready_opened : (room : ℕ) (f : OpenBracket) (old mid : Cursor) → IsInside old → OpenedAt room f old mid → IsInside mid
 ready_opened room f old mid r o = record {
   before = r.before ++ opening (bracket_of f.kind) ∷ [];

@@ -1,4 +1,4 @@
--- Steps over a text do what reading on lists does: what is refused, and one step after another.
+-- Steps over the input do what reading on lists does: what is refused, and one step after another.
 use Rattle.std.proofs.Common.{◌≡◌, ◌≢◌, ℕ, ◌+◌, List, [], ◌∷◌, ◌++◌, length, refl, ap, sym, ◌∙◌, subst, append_assoc, arith, length-append, ◌⊎◌, inl, inr, Option, Some, None}
 use Rattle.std.specs.Prelude.{Result, Ok, Err, slice_get}
 use Rattle.std.specs.Str.{encode_utf8_all}
@@ -27,7 +27,7 @@ some_next (d ∷ x) c e = let same : d ≡ c = cc in (x, ap (λ k. k ∷ x) same
 bytes_apart : (x y : List ℕ) → length (encode_utf8_all (x ++ y)) ≡ length (encode_utf8_all x) + length (encode_utf8_all y)
 bytes_apart x y = ap length (encodes-append x y) ∙ length-append (encode_utf8_all x) (encode_utf8_all y)
 
--- the offset counts what stands before
+-- the offset counts what comes before
 pub counted_before : (s : Cursor) (before : List ℕ) (offset : ℕ) → offset ≡ offset_of s → s.input ≡ before ++ s.unread → offset ≡ length (encode_utf8_all before)
 counted_before s before offset e split =
     let apart = ap (λ x. length (encode_utf8_all x)) split ∙ bytes_apart before s.unread in
@@ -68,13 +68,13 @@ forget_got (bad c p) u r e = absurd (cc)
 pub forget_refuses : {A : Type 0} (m : Read A) (x : List ℕ) (reason : Option ErrorCode) (place : Option (List ℕ)) → Refuses m x reason place → Refuses (forget m) x reason place
 forget_refuses m x reason place (p, is, at) = (p, ap forget is, at)
 
--- a fault that was made with a code of its own
+-- a fault that was made with this code
 pub blames_made : {A : Type 0} (input : List ℕ) (m : Read A) (e : Error) (c : ErrorCode) (p : Place) → m ≡ bad (Some c) p → Some c ≢ Some codes.Failed → kind_of e ≡ code c → HasPositionAt input p e → RefusesRead input m e
 blames_made input m e c p is other kind there = record { reason = Some c; place = p; is_bad = is; says = inr (kind, there); unprompted = other_says (Some c) e other kind }
 
 -- ---- one step after another
 
--- after a text was taken the rest is the end of the text too
+-- after characters were taken the rest is still the end of the input
 pub ready_after : (old new : Cursor) (s : List ℕ) → IsInside old → Took old s new → IsInside new
 ready_after old new s r t = record {
   before = r.before ++ s;
@@ -117,7 +117,7 @@ pub same_step : {A : Type 0} (old new : Cursor) (m n : Read A) (result : Result 
 same_step old new m n (Ok a) e k = record { given = record { reads = e ∙ k.given.reads; taken = k.given.taken; took = k.given.took }; refused = tt; same_text = tt }
 same_step old new m n (Err f) e k = record { given = tt; refused = blames_as old.input old.input n m f refl (λ c p is. e ∙ is) k.refused; same_text = k.same_text }
 
--- a step that takes this text
+-- a step that takes these characters
 pub took_step : {A : Type 0} (old new : Cursor) (m : Read A) (a : A) (s : List ℕ) → m ≡ got a new.unread → Took old s new → Steps m old new (Ok a)
 took_step old new m a s e t = record { given = record { reads = e; taken = s; took = t }; refused = tt; same_text = tt }
 
@@ -135,7 +135,7 @@ refused_there {F = F} mid at e same f = subst (λ (s : Cursor). Refused F s e) s
 
 -- ---- after a step
 
--- the rest is the end of the text
+-- after a step the rest is still the end of the input
 pub ready_next : {A : Type 0} {m : Read A} {a : A} (old mid : Cursor) → IsInside old → Gave m a old mid → IsInside mid
 ready_next old mid r g = ready_after old mid g.taken r g.took
 

@@ -109,7 +109,7 @@ number_fault_refuses c r h y reason place e (tokens.FaultyNumber.faulty f) = num
 number_fault_refuses c r h y reason place e (no_number d q k) = absurd (let same : c ≡ d = cc in both_ways (is_sign d || begins_number d) k (subst (λ z. (is_sign z || begins_number z) ≡ true) same h))
 number_fault_refuses c r h y reason place e number_missing = absurd (cc)
 
--- the answer without the number
+-- the result without the number
 abbrev pub without : {A : Type 0} → Result A Error → Result (Unit {0}) Error
 without (Ok a) = Ok tt
 without (Err e) = Err e

@@ -44,7 +44,7 @@ abbrev pub rest_of_object : List (String Global × Value) → Bool → ℕ → L
 rest_of_object fs false d x = object_with (members_before fs) (read_pairs d x)
 rest_of_object fs true d x = object_with (members_before fs) (pairs_after d x)
 
--- the same of a scanner, by how many brackets may be open at once in a value
+-- the same for a scanner, by how many brackets may be open at once in a value
 abbrev pub array_at : List Value → Bool → Cursor → ℕ → Read Datum
 array_at vs comma_due s d = rest_of_array vs comma_due d s.unread
 
@@ -57,7 +57,7 @@ abbrev pub start_of : Unfinished → ℕ
 start_of (unfinished.Array start elements) = start
 start_of (unfinished.Object start members key) = start
 
--- what a value makes of the one that it stands in
+-- what a value makes of the array or object that it is in
 abbrev pub value_in : Unfinished → ℕ → Datum → List ℕ → Read Datum
 value_in (unfinished.Array start elements) d x y = array_with (λ xs. elements_before elements.items (item x xs)) (trees_after d y)
 value_in (unfinished.Object start members key) d x y = object_with (λ xs. members_before members.items (field (chars (string_bytes key)) x xs)) (pairs_after d y)
@@ -78,13 +78,13 @@ Building room w fs ended now = Within start_of value_in room w fs (ended_or_next
 abbrev pub BuildingInside : ℕ → Read Datum → List Unfinished → ℕ → (ℕ → Read Datum) → List ℕ → Cursor → Type 0
 BuildingInside room w fs start m q now = WithinInner start_of value_in room w fs start (m (room - length fs - 1)) q now
 
--- the fault gets the place of the innermost that is unfinished, where it has none
+-- the fault gets the position of the innermost unfinished value if it has none
 abbrev pub PlacedIn : List ℕ → List Unfinished → Error → Error → Type 0
 PlacedIn input fs own e = ((fs ≡ []) × (e ≡ own)) ⊎ ((gs : List Unfinished) × (f : Unfinished) × (fs ≡ gs ++ f ∷ []) × PlacedAt (StartsAfter input (start_of f)) own e)
 
 -- ---- turns
 
--- a turn goes on, and answers the value that ended if one did; or what is refused makes a fault of the whole, or memory ran out
+-- a turn succeeds, and returns the value that ended if one did; or what is refused makes a fault of the whole, or memory ran out
 pub record TurnsBuilding (room : ℕ) (fs after : List Unfinished) (old new : Cursor) (result : Result (Option Value) Error) : Type 0 where
   pub goes : IfOk result (λ ended. (w : Read Datum) → Building room w fs None old → Building room w after ended new)
   pub refused : IfErr result (λ e. IsOutOfMemory e ⊎ ((w : Read Datum) → Building room w fs None old → RefusesRead old.input w e))

@@ -1,4 +1,4 @@
--- What a tree stands for, without the marks.
+-- What a tree means, without the marks.
 use Rattle.json5_grammar.specs.Language.Trees.{Tree, Trees, Pairs, null, boolean, number, text, array, object, no_more, more, no_pair, pair}
 use Rattle.json5_text.specs.ValueViews.{Datum, Items, Fields, no_item, item, no_field, field}
 use Rattle.json5_text.specs.ValueViews as datum

@@ -5,7 +5,7 @@ use Rattle.json5_grammar.specs.Model.Reading.{Read, got, and_then}
 use Rattle.json5_grammar.specs.Model.ReadBlanks.{skip, between}
 use Rattle.json5_grammar.specs.Model.ReadSteps.{separator}
 
--- past the closing bracket, or an entry begins here
+-- false and past the closing bracket, if that is in front; else true, with nothing taken
 abbrev pub entry_front : BracketKind → List ℕ → Read Bool
 entry_front k [] = got true []
 entry_front k (c ∷ r) = cond (c == closing k) (got false r) (got true (c ∷ r))
@@ -14,11 +14,11 @@ entry_front k (c ∷ r) = cond (c == closing k) (got false r) (got true (c ∷ r
 abbrev pub entry_start : BracketKind → List ℕ → Read Bool
 entry_start k x = and_then (skip between x) (λ u y. entry_front k y)
 
--- a comma, or past the closing bracket, where one is due
+-- the comma if one is due, or the closing bracket; true if an entry may follow
 abbrev pub due_comma : BracketKind → Bool → List ℕ → Read Bool
 due_comma k false x = got true x
 due_comma k true x = separator k x
 
--- where the next entry begins, after a comma where one is due, or past the closing bracket
+-- up to the next entry, after a comma if one is due, or past the closing bracket
 abbrev pub next_entry : BracketKind → Bool → List ℕ → Read Bool
 next_entry k comma_due x = and_then (due_comma k comma_due x) (λ more y. cond more (entry_start k y) (got false y))

@@ -35,7 +35,7 @@ pub record Keeps {V A : Type 0} (Is : V → A → Type 0) (reading : Read A) (ol
 
 -- ---- keys
 
--- the text of a key in memory of its own, or memory ran out
+-- an owned copy of a key's text, or memory ran out
 abbrev pub OwnsKey : List ℕ → TextToken → Result (String Global) Error → Type 0
 OwnsKey input key result = (u : List ℕ) (escape_free : Bool) → Spells input u escape_free key → MatchResult result (λ t. string_bytes t ≡ encode_utf8_all u) LacksMemory
 
@@ -46,20 +46,20 @@ IsFoundKey input key a = Spells input a.0 a.1 key × (chars (encode_utf8_all a.0
 abbrev pub IsKeyText : String Global → List ℕ × Bool → Type 0
 IsKeyText text a = chars (string_bytes text) ≡ a.0
 
--- None where the brace was closed
+-- None if the brace was closed
 abbrev pub IsNextKey : Option (String Global) → Option (List ℕ × Bool) → Type 0
 IsNextKey None None = Unit {0}
 IsNextKey (Some text) (Some a) = IsKeyText text a
 IsNextKey _ _ = ⊥
 
--- the next member's key, after a comma where one is due
+-- the next member's key, after a comma if one is due
 abbrev pub next_key : Bool → List ℕ → Read (Option (List ℕ × Bool))
 next_key false x = key_at x
 next_key true x = and_then (separator of_object x) (λ goes y. cond goes (key_at y) (got None y))
 
 -- ---- values
 
--- what the value in front is read as, in which so many brackets may be open at once
+-- what the value in front is read as; at most `room` brackets may be open at once in it
 abbrev pub tree_at : ℕ → Cursor → Read Tree
 tree_at room s = read room s.unread
 

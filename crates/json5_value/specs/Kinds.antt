@@ -21,12 +21,12 @@ word_of literal.Null = null_text
 word_of literal.True = true_text
 word_of literal.False = false_text
 
--- the code where the text ends within it
+-- the code if the input ends within it
 abbrev pub ends_of : Literal → ErrorCode
 ends_of literal.Null = codes.EofParsingNull
 ends_of _ = codes.EofParsingBool
 
--- the code at a character that differs from its own
+-- the code at a character that differs from the literal's
 abbrev pub differs_of : Literal → ErrorCode
 differs_of literal.Null = codes.ExpectedNull
 differs_of _ = codes.ExpectedBool

@@ -5,7 +5,7 @@ use Rattle.json5_text.specs.Cursor.{Cursor}
 use Rattle.json5_value.specs.Places.{CountsTo}
 use Rattle.json5_value.specs.Steps.{IsInside}
 
--- where these are open, the outermost first, their values nested so deep at most, what is read of a value makes w of the whole
+-- these are open, the outermost first; at most d brackets may be open at once; and what m reads makes w of the whole
 abbrev pub Nested : {F D : Type 0} → (F → ℕ) → (F → ℕ → D → List ℕ → Read D) → List ℕ → ℕ → List F → Read D → Read D → Type 0
 Nested start after input d [] m w = w ≡ m
 Nested {F = F} {D = D} start after input d (f ∷ fs) m w = (q : List ℕ) × (v : Read D) × CountsTo input (start f) q × Nested {F = F} {D = D} start after input (d - 1) fs m v × (w ≡ placed q (and_then v (after f (d - 1))))

@@ -1,4 +1,4 @@
--- How a value begins: with a character of its own, or with an opening bracket.
+-- How a value begins: with the first character of a scalar, or with an opening bracket.
 use Rattle.std.specs.Prelude.{◌≡◌, ℕ, ◌<◌, false, ◌∷◌, Some, Result, IfOk, IfErr, OnErr, ◌==◌, ◌||◌, slice_get}
 use Rattle.json5_grammar.specs.Faults.Fronts.{of_array, of_object, opening}
 use Rattle.json5_text.specs.declared.error.Error.{Error}

@@ -1,4 +1,4 @@
--- Places of a text, and faults that get one.
+-- Offsets in the input, and faults that get a position.
 use Rattle.std.specs.Prelude.{◌≡◌, ℕ, List, ◌++◌, length}
 use Rattle.std.specs.Str.{encode_utf8_all}
 use Rattle.json5_grammar.specs.declared.position.Position.{Position}
@@ -6,17 +6,17 @@ use Rattle.json5_grammar.specs.Faults.Positions.{position_after}
 use Rattle.json5_text.specs.declared.error.Error.{Error}
 use Rattle.json5_text.specs.Errors.{kind_of, place_of, or_place}
 
--- so many bytes stand before this rest of the text
+-- so many bytes come before this rest of the input
 abbrev pub CountsTo : List ℕ → ℕ → List ℕ → Type 0
 CountsTo input start q = (before : List ℕ) × (input ≡ before ++ q) × (start ≡ length (encode_utf8_all before))
 
--- the offset counts the bytes before this text's place in the input
+-- the input begins with these characters, and the offset counts their bytes
 pub record StartsAfter (input : List ℕ) (offset : ℕ) (before : List ℕ) : Type 0 where
   pub rest : List ℕ
   pub split : input ≡ before ++ rest
   pub counted : offset ≡ length (encode_utf8_all before)
 
--- the same fault, which gets this place where it had none: a place of the text before which one of these texts stands
+-- the same fault, which gets a position if it had none: the one after input for which IsBefore holds
 pub record PlacedAt (IsBefore : List ℕ → Type 0) (own e : Error) : Type 0 where
   pub kind : kind_of e ≡ kind_of own
   pub there : Position

@@ -42,7 +42,7 @@ name_at x = and_then (forget (key x)) (λ u r. colon_after r)
 abbrev pub member_left : ℕ → List OpenBracket → OpenBracket → Cursor → Read (Unit {0})
 member_left room brackets bracket now = and_then (name_at now.unread) (λ u y. value_and_rest (bracket_of bracket.kind) (room - length brackets - 1) y)
 
--- these are open, and an object within them, which was opened before q, goes on with a member
+-- these are open, and an object within them, which was opened before q, continues with a member
 abbrev pub SkippingMember : ℕ → Read (Unit {0}) → List OpenBracket → OpenBracket → List ℕ → Cursor → Type 0
 SkippingMember room w brackets bracket q now = WithinInner start_of rest_in room w brackets bracket.start (member_left room brackets bracket now) q now
 
@@ -55,7 +55,7 @@ pub record TurnsMember (bracket : OpenBracket) (brackets after : List OpenBracke
 
 -- ---- turns
 
--- where a short turn went so far, what is next makes w of the whole
+-- after so much of a short turn, what is next makes w of the whole
 abbrev pub Reached : ℕ → Read (Unit {0}) → List OpenBracket → ShortTurn → Cursor → Type 0
 Reached room w brackets turn.Value now = Skipping room w brackets true now
 Reached room w brackets turn.Ended now = Skipping room w brackets false now
@@ -64,7 +64,7 @@ Reached room w brackets (turn.Within bracket comma_due) now = (q : List ℕ) × 
 Reached room w brackets (turn.AtKey bracket) now = (q : List ℕ) × SkippingMember room w brackets bracket q now
 Reached room w brackets turn.Whole now = (brackets ≡ []) × Skipping room w brackets false now
 
--- less is left than before, or will be once the longer way has done the rest of the turn
+-- less is left than before, or will be after the longer way has done the rest of the turn
 abbrev pub Advanced : ShortTurn → Cursor → Cursor → Type 0
 Advanced turn.Value old new = length new.unread < length old.unread
 Advanced turn.Ended old new = length new.unread < length old.unread

@@ -11,7 +11,7 @@ use Rattle.json5_value.specs.Opening.{OpenedAt}
 use Rattle.json5_value.specs.Places.{StartsAfter, PlacedAt}
 use Rattle.json5_value.specs.Steps.{SameText, RefusesRead, Gave, value_at}
 
--- ---- a value's beginning
+-- ---- how a value begins
 
 -- a value that is no collection was taken, or an opening bracket
 abbrev pub SkippedOrOpened : ℕ → Cursor → Cursor → Option OpenBracket → Type 0
@@ -49,20 +49,20 @@ rest_at room brackets bracket comma_due now = rest_of_bracket (bracket_of bracke
 abbrev pub SkippingInside : ℕ → Read (Unit {0}) → List OpenBracket → OpenBracket → Bool → List ℕ → Cursor → Type 0
 SkippingInside room w brackets bracket comma_due q now = WithinInner start_of rest_in room w brackets bracket.start (rest_at room brackets bracket comma_due now) q now
 
--- the fault gets the innermost bracket's place where it has none and one is open
+-- the fault gets the innermost open bracket's position if it has none and there is such a bracket
 abbrev pub PlacedWithin : List ℕ → List OpenBracket → Error → Error → Type 0
 PlacedWithin input brackets own e = ((brackets ≡ []) × (e ≡ own)) ⊎ ((fs : List OpenBracket) × (f : OpenBracket) × (brackets ≡ fs ++ f ∷ []) × PlacedAt (StartsAfter input f.start) own e)
 
 -- ---- turns
 
--- a turn goes on, and says whether a value is next; or what is refused makes a fault of the whole
+-- a turn succeeds, and returns whether a value is next; or what is refused makes a fault of the whole
 pub record TurnsSkipping (room : ℕ) (brackets after : List OpenBracket) (old new : Cursor) (result : Result Bool Error) : Type 0 where
   pub goes : IfOk result (λ at_value. (w : Read (Unit {0})) → Skipping room w brackets true old → Skipping room w after at_value new)
   pub refused : IfErr result (λ e. (w : Read (Unit {0})) → Skipping room w brackets true old → RefusesRead old.input w e)
   pub same_text : SameText old new
   pub shorter : IfOk result (λ at_value. length new.unread < length old.unread)
 
--- the same within a bracket, which is open afterwards where a value is next
+-- the same within a bracket, which is open afterwards if a value is next
 pub record TurnsSkippingInside (comma_due : Bool) (bracket : OpenBracket) (brackets after : List OpenBracket) (old new : Cursor) (result : Result Bool Error) : Type 0 where
   pub goes : IfOk result (λ at_value. (room : ℕ) (w : Read (Unit {0})) (q : List ℕ) → SkippingInside room w brackets bracket comma_due q old → Skipping room w after at_value new)
   pub refused : IfErr result (λ e. (room : ℕ) (w : Read (Unit {0})) (q : List ℕ) → SkippingInside room w brackets bracket comma_due q old → RefusesRead old.input w e)

@@ -1,4 +1,4 @@
--- A step over a text does what reading on lists does.
+-- A step over the input does what reading on lists does.
 use Rattle.std.specs.Prelude.{◌≡◌, ◌≢◌, ◌⊎◌, ℕ, List, [], ◌∷◌, ◌++◌, Option, Some, None, Result, IfOk, IfErr, OnErr}
 use Rattle.json5_grammar.specs.declared.code.ErrorCode.{ErrorCode}
 use Rattle.json5_grammar.specs.declared.code.ErrorCode.TheVariants as codes
@@ -10,7 +10,7 @@ use Rattle.json5_text.specs.declared.error.Error.{Error}
 use Rattle.json5_text.specs.Cursor.{Cursor, Took, Says, Refused, IsOutOfMemory}
 use Rattle.json5_text.specs.Errors.{LacksMemory, code, kind_of, place_of}
 
--- what is unread is the end of the text
+-- the unread part is the end of the input
 pub record IsInside (s : Cursor) : Type 0 where
   pub before : List ℕ
   pub inside : s.input ≡ before ++ s.unread
@@ -22,12 +22,12 @@ SameText old new = new.input ≡ old.input
 abbrev pub IsUnprompted : Error → Type 0
 IsUnprompted e = kind_of e ≢ code codes.Failed
 
--- the fault's place is where this rest of the text begins, or it has none
+-- the fault's position is where this rest of the input begins, or it has none
 abbrev pub HasPositionAt : List ℕ → Place → Error → Type 0
 HasPositionAt input (here q) e = (before : List ℕ) × (input ≡ before ++ q) × (place_of e ≡ Some (position_after before))
 HasPositionAt input inner e = place_of e ≡ None
 
--- reading gives this fault, or memory ran out for its text
+-- reading gives this fault, or memory ran out for its message
 pub record RefusesRead {A : Type 0} (input : List ℕ) (reading : Read A) (e : Error) : Type 0 where
   pub reason : Option ErrorCode
   pub place : Place
@@ -47,11 +47,11 @@ pub record Steps {A : Type 0} (reading : Read A) (old new : Cursor) (result : Re
   pub refused : IfErr result (RefusesRead old.input reading)
   pub same_text : OnErr result (SameText old new)
 
--- what the value in front is read as, in which so many brackets may be open at once
+-- what the value in front is read as, its tree forgotten; at most `room` brackets may be open at once in it
 abbrev pub value_at : ℕ → Cursor → Read (Unit {0})
 value_at room s = forget (read room s.unread)
 
--- what stands here isn't expected
+-- what is next isn't expected
 pub data Unexpected (ends differs : ErrorCode) : List ℕ → Option ErrorCode → Option (List ℕ) → Type 0 where
   at_end : Unexpected ends differs [] (Some ends) None
   at_char : (c : ℕ) (r : List ℕ) → Unexpected ends differs (c ∷ r) (Some differs) (Some [])

@@ -76,7 +76,7 @@ impl Default for OpenBracket {
     }
 }
 
-/// Takes the opening bracket in front, where there is room for one more.
+/// Takes the opening bracket in front, if there is room for one more.
 pub(crate) fn open_bracket<I: Input>(
     scanner: &mut Scanner<I>,
     room: usize,

@@ -55,7 +55,7 @@ pub(crate) fn skip_name<I: Input>(scanner: &mut Scanner<I>) -> Result<()>
     skip_colon(scanner)
 }
 
-/// Where a comma is due, passes over it and says true, or over the closing bracket and says false. Says true where none is.
+/// If a comma is due, passes over it and returns true, or over the closing bracket and returns false. Else returns true.
 fn skip_comma<I: Input>(
     scanner: &mut Scanner<I>,
     kind: BracketKind,
@@ -78,7 +78,7 @@ fn skip_comma<I: Input>(
     Err(unexpected_here(scanner, brackets.ends, ErrorCode::ExpectedComma))
 }
 
-/// Goes to the next entry, after a comma where one is due, and says true; or passes over the closing bracket and says false.
+/// Goes to the next entry, after a comma if one is due, and returns true; or passes over the closing bracket and returns false.
 pub(crate) fn skip_to_entry<I: Input>(
     scanner: &mut Scanner<I>,
     kind: BracketKind,
@@ -98,7 +98,7 @@ pub(crate) fn skip_to_entry<I: Input>(
     }
 }
 
-/// The same, whatever stands before the entry.
+/// The same as `skip_to_entry`, whatever comes before the entry.
 #[inline(never)]
 fn skip_to_entry_slowly<I: Input>(
     scanner: &mut Scanner<I>,

@@ -11,7 +11,7 @@ use json5_text::error::Error;
 use json5_text::input::Input;
 use json5_text::scanner::Scanner;
 
-/// Makes the fault of what is next and isn't expected: `differs` at the character, or `ends` at the end of the text, without a
+/// Makes the fault of what is next and isn't expected: `differs` at the character, or `ends` at the end of the input, without a
 /// position.
 #[cold]
 #[inline(never)]
@@ -35,7 +35,7 @@ pub fn fault_here<I: Input>(scanner: &Scanner<I>, code: ErrorCode) -> Error
     Error::new_at(scanner.position_of(offset), code)
 }
 
-/// Gives a fault that has no position that of the bracket, which begins after so many bytes. Lines are counted only then.
+/// Gives a fault without a position that of the bracket, which begins after so many bytes. Lines are counted only then.
 #[cold]
 #[inline(never)]
 pub fn place_at<I: Input>(scanner: &Scanner<I>, start: usize, error: Error) -> Error

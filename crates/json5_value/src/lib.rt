@@ -1,4 +1,4 @@
-//! Values of any kind in a text: read, or passed over.
+//! Values of any kind in the input: read, or passed over.
 //!
 //! Both go over a `Scanner`, with no recursion. Their faults are listed in the comment of `Value`.
 #![tactic(auto)]

@@ -70,7 +70,7 @@ fn read_or_open<I: Input>(scanner: &mut Scanner<I>, room: usize) -> Result<Value
     Ok(ValueStart::Scalar(value))
 }
 
-/// The fault, at the innermost bracket where it has no position and one is open.
+/// The fault; without a position, it gets that of the innermost open bracket, if there is one.
 #[cold]
 #[inline(never)]
 fn place_at_innermost<I: Input>(
@@ -86,7 +86,7 @@ fn place_at_innermost<I: Input>(
     }
 }
 
-/// Goes on in an array with these elements: to the next, and then the array is on the stack; or the array ends.
+/// Continues an array with these elements: goes to the next element and pushes the array; or the array ends and is returned.
 fn resume_array<I: Input>(
     scanner: &mut Scanner<I>,
     stack: &mut Vec<Unfinished>,
@@ -107,7 +107,8 @@ fn resume_array<I: Input>(
     }
 }
 
-/// Goes on in an object with these members: to the value of the next, and then the object is on the stack; or the object ends.
+/// Continues an object with these members: goes to the next member's value and pushes the object; or the object ends and is
+/// returned.
 fn resume_object<I: Input>(
     scanner: &mut Scanner<I>,
     stack: &mut Vec<Unfinished>,
@@ -132,7 +133,7 @@ fn resume_object<I: Input>(
     }
 }
 
-/// Begins the value in front, and returns it where it ends at once.
+/// Begins the value in front, and returns it if it ends at once.
 fn begin_value<I: Input>(
     scanner: &mut Scanner<I>,
     room: usize,
@@ -167,7 +168,7 @@ fn reserve_first(members: &mut Vec<(String, Value)>) -> bool
     !members.is_empty() || members.reserve_exact(1).is_ok()
 }
 
-/// Puts the value into the array or the object round it, and goes on there.
+/// Puts the value into the array or the object round it, and continues that one.
 fn attach_value<I: Input>(
     scanner: &mut Scanner<I>,
     stack: &mut Vec<Unfinished>,

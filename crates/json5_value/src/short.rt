@@ -1,5 +1,5 @@
-//! Short ways: values and entries that are passed over at once where no fault can come. They answer small values, so that no fault
-//! stands in the frame of the caller; where they take nothing, the longer ways say what is there.
+//! Short ways: values and entries that are passed over at once where no fault can come. They return small values, so that the
+//! caller's frame holds no fault. When they take nothing, the longer ways say what is there.
 
 ghost use Rattle.json5_value.specs.Opening.{AtScalar};
 ghost use Rattle.json5_value.specs.Short.{EntersShort, PassesShort};
@@ -23,7 +23,7 @@ pub(crate) enum ShortEntry {
     Other,
 }
 
-/// Goes to the value of the next entry, after a comma where one is due, or past the closing bracket; to the key of a member at most.
+/// Goes to the next element or to the key of the next member, after a comma if one is due, or past the closing bracket.
 #[inline(always)]
 pub(crate) fn short_entry<I: Input>(
     scanner: &mut Scanner<I>,

@@ -59,7 +59,7 @@ fn skip_or_open<I: Input>(scanner: &mut Scanner<I>, room: usize) -> Result<Optio
     Ok(None)
 }
 
-/// The fault, at the innermost bracket where it has no position and one is open.
+/// The fault; without a position, it gets that of the innermost open bracket, if there is one.
 #[cold]
 #[inline(never)]
 fn place_at_innermost<I: Input>(
@@ -75,8 +75,8 @@ fn place_at_innermost<I: Input>(
     }
 }
 
-/// Goes on in a bracket that isn't among the open ones: to a value, which the answer true says, and then the bracket is
-/// among them; or past its closing sign.
+/// Continues a bracket that isn't among the open ones: goes to its next value, pushes the bracket and returns true; or passes
+/// over its closing sign and returns false.
 #[inline(never)]
 fn resume_bracket<I: Input>(
     scanner: &mut Scanner<I>,
@@ -98,7 +98,7 @@ fn resume_bracket<I: Input>(
     }
 }
 
-/// Begins the value in front within the open brackets, and says whether a value is next.
+/// Begins the value in front within the open brackets, and returns whether a value is next.
 #[inline(never)]
 fn begin_value<I: Input>(
     scanner: &mut Scanner<I>,
@@ -121,7 +121,7 @@ fn begin_value<I: Input>(
     resume_bracket(scanner, brackets, bracket, false)
 }
 
-/// Goes on with a member that has been reached, its object not among the open ones: to its value, and then the object is among them.
+/// Continues a member whose key is next and whose object isn't among the open ones: goes to its value and pushes the object.
 #[inline(never)]
 fn resume_member<I: Input>(
     scanner: &mut Scanner<I>,
@@ -150,7 +150,7 @@ enum ShortTurn {
     Ended,
     /// A value is next that must be begun the longer way.
     Begins,
-    /// The bracket isn't among the open ones, and must be gone on with the longer way, after a comma where one is due.
+    /// The bracket isn't among the open ones, and must be continued the longer way, after a comma if one is due.
     Within {
         bracket: OpenBracket,
         comma_due: bool,
@@ -161,7 +161,7 @@ enum ShortTurn {
     Whole,
 }
 
-/// Goes on in a bracket that isn't among the open ones.
+/// Continues a bracket that isn't among the open ones.
 #[inline(always)]
 fn short_resume<I: Input>(
     scanner: &mut Scanner<I>,
@@ -231,7 +231,7 @@ fn short_begin<I: Input>(
     }
 }
 
-/// Begins the value in front, or goes on in the innermost bracket after a value.
+/// Begins the value in front, or continues the innermost bracket after a value.
 #[inline(always)]
 fn short_turn<I: Input>(
     scanner: &mut Scanner<I>,

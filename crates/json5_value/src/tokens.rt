@@ -37,7 +37,7 @@ pub fn key_owned<I: Input>(scanner: &Scanner<I>, key: TextToken) -> Result<Strin
     Ok(text)
 }
 
-/// Takes the key in front, its text in memory of its own.
+/// Takes the key in front, and returns a copy of its text.
 fn read_key<I: Input>(scanner: &mut Scanner<I>) -> Result<String>
     requires { IsInside scanner.old }
     ensures { Keeps IsKeyText (key scanner.old.unread) scanner.old scanner.new result }

@@ -1,4 +1,4 @@
-//! Texts of strings, identifiers and keys: slices of the scanner's text, where they can be.
+//! What strings, identifiers and keys spell: slices of the scanner's input if they have no escape.
 
 ghost use Rattle.std.specs.Prelude.{◌≡◌, ℕ, List};
 ghost use Rattle.std.specs.Str.{chars, encode_utf8_all};
@@ -72,7 +72,7 @@ impl<'de, I: Borrows<'de>> Scanner<I> {
         }
     }
 
-    /// The same as `text_of_span`, for as long as the text is there.
+    /// The same as `text_of_span`, for as long as the input lives.
     #[inline(always)]
     pub fn borrowed_text_of_span(&self, span: Span) -> &'de str
         ensures { IsTextAt self.now.input span result.now }
@@ -93,8 +93,8 @@ impl<I: Input> Scanner<I> {
         }
     }
 
-    /// The text of a span that this scanner answered. Of another scanner's span it may be any part of the text that is read, or
-    /// empty where the span's offsets are no places between characters.
+    /// The text of a span that this scanner returned. Of another scanner's span it may be any part of the input, or empty where
+    /// one of the span's offsets is past the end or within a character.
     #[inline(always)]
     pub fn text_of_span(&self, span: Span) -> &str
         ensures { IsTextAt self.now.input span result.now }
@@ -103,7 +103,7 @@ impl<I: Input> Scanner<I> {
     }
 }
 
-/// The part of a text between two offsets in bytes; the empty text where they are out of order or within a character.
+/// The part of the input between two offsets in bytes; empty if they are out of order, past the end or within a character.
 fn between(text: &str, start: usize, end: usize) -> &str
     ensures { (u : List ℕ) → IsSliceAt (chars text.now) u start end → result.now ≡ encode_utf8_all u }
 {

@@ -1,4 +1,4 @@
-//! Positions in a scanner's text, and the faults that are made at them.
+//! Positions in a scanner's input, and the faults that are made at them.
 
 ghost use Rattle.std.specs.Prelude.{◌⊎◌, Some};
 ghost use Rattle.json5_text.specs.Cursor.{Locates};
@@ -69,7 +69,7 @@ impl<I: Input> Scanner<I> {
         }
     }
 
-    /// The custom fault with this message at this position; `OutOfMemory` where there is no memory for the message.
+    /// The custom fault with this message at this position; `OutOfMemory` if there is no memory for the message.
     fn custom<D: Display + Drop>(&self, position: Position, message: D) -> Error
         ensures { LacksMemory result ⊎ IsCustomAt (Some position) result }
     {

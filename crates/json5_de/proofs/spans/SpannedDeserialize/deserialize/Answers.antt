@@ -11,7 +11,7 @@ use Rattle.json5_de.proofs.Taken.{input_of}
 use Rattle.json5_de.proofs.Refinement.{reads_content}
 use Rattle.json5_de.proofs.spans.SpannedDeserialize.deserialize.Goals as goal
 
--- what can be read stands after the blanks
+-- what can be read follows the blanks
 stands_after : (old at : State) (t : Tree) (r : List ℕ) → PassedGap old at → old.failed ≡ false → Reads old.unread t r → old.level + depth t ≤ max_depth → (at.failed ≡ false) × Reads at.unread t r × (at.level + depth t ≤ max_depth)
 stands_after old at t r p live reads shallow = let level = level_of p.rest in (failed_of p.rest ∙ live, value_next old at t r p reads, omega (arith, shallow, level))
 
