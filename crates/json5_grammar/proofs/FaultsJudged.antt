@@ -158,8 +158,8 @@ module _ (s : Scope) where
   -- ---- tokens
 
   -- a word, a number, a string where a value is expected
-  pub word_judged : {o : List Bracket} {a : Expects} (w y : List ℕ) (t : Tree) (m : Read (Unit {0})) → At limit x y o a → takes_value a ≡ true
-      → WordSound w y m → Judged s o (as_leaf (λ u. t) m)
+  pub word_judged : {o : List Bracket} {a : Expects} (w y : List ℕ) (t : Tree) (m : Read Tree) → At limit x y o a → takes_value a ≡ true
+      → WordSound t w y m → Judged s o m
   word_judged w y t (got u r) h k sound = tt
   word_judged w y t (bad e p) h k b = blame y b.place b.shown p h (takes_where _ k) (in_word k b.fault) b.is_at
 

@@ -22,15 +22,15 @@ use Rattle.json5_grammar.proofs.ValueHeads.{ValueHead, number_head, val_head, sk
 
 -- the word `null` is read
 pub read_null : (d : ℕ) (r : List ℕ) → read d (null_text ++ r) ≡ got null r
-read_null d r = read_step d (null_text ++ r) ∙ ap (as_leaf (λ u. null)) (word_complete EofParsingNull ExpectedNull null_text r)
+read_null d r = read_step d (null_text ++ r) ∙ word_complete EofParsingNull ExpectedNull null null_text r
 
 -- the word `true` is read
 pub read_true : (d : ℕ) (r : List ℕ) → read d (true_text ++ r) ≡ got (boolean true) r
-read_true d r = read_step d (true_text ++ r) ∙ ap (as_leaf (λ u. boolean true)) (word_complete EofParsingBool ExpectedBool true_text r)
+read_true d r = read_step d (true_text ++ r) ∙ word_complete EofParsingBool ExpectedBool (boolean true) true_text r
 
 -- the word `false` is read
 pub read_false : (d : ℕ) (r : List ℕ) → read d (false_text ++ r) ≡ got (boolean false) r
-read_false d r = read_step d (false_text ++ r) ∙ ap (as_leaf (λ u. boolean false)) (word_complete EofParsingBool ExpectedBool false_text r)
+read_false d r = read_step d (false_text ++ r) ∙ word_complete EofParsingBool ExpectedBool (boolean false) false_text r
 
 -- a number is read, where it stops
 pub read_number : {s : List ℕ} {n : Number} (d : ℕ) (r : List ℕ) → Num s n → Stops s r → read d (s ++ r) ≡ got (number n) r

@@ -77,8 +77,8 @@ false_stops : (r : List ℕ) → Stops false_text r
 false_stops [] = tt
 false_stops (c ∷ r) = refl
 
-leaf_word : (d : ℕ) (w x : List ℕ) (t : Tree) (m : Read (Unit {0})) → Val w t → ((r : List ℕ) → Stops w r) → depth t ≡ 0 → WordSound w x m → Found (IsValue d x) x (as_leaf (λ u. t) m)
-leaf_word d w x t (got u r) v st l e = (w, e, v, st r, omega (arith, l))
+leaf_word : (d : ℕ) (w x : List ℕ) (t : Tree) (m : Read Tree) → Val w t → ((r : List ℕ) → Stops w r) → depth t ≡ 0 → WordSound t w x m → Found (IsValue d x) x m
+leaf_word d w x t (got u r) v st l (i, e) = rw i (w, e, v, st r, omega (arith, l))
 leaf_word d w x t (bad e p) v st l b = in_at x b.place p b.is_at
 
 number_place : (x : List ℕ) (p : Place) (place : _) → PlaceIs x p place → IsIn x p
@@ -342,9 +342,9 @@ module _ (d : ℕ) (arrays objects : List ℕ → List ℕ → Read Tree) (array
   with_found : (x : List ℕ) → Found (IsValue d x) x (value_with arrays objects x)
   with_found [] = tt
   with_found (c ∷ r) =
-      by_test (Found (IsValue d (c ∷ r)) (c ∷ r)) (c == 110) _ _ (λ h. leaf_word d null_text (c ∷ r) null _ is_null null_stops refl (word_sound 110 _ c r null_word h))
-      (λ n. by_test (Found (IsValue d (c ∷ r)) (c ∷ r)) (c == 116) _ _ (λ h. leaf_word d true_text (c ∷ r) (boolean true) _ is_true true_stops refl (word_sound 116 _ c r true_word h))
-      (λ t. by_test (Found (IsValue d (c ∷ r)) (c ∷ r)) (c == 102) _ _ (λ h. leaf_word d false_text (c ∷ r) (boolean false) _ is_false false_stops refl (word_sound 102 _ c r false_word h))
+      by_test (Found (IsValue d (c ∷ r)) (c ∷ r)) (c == 110) _ _ (λ h. leaf_word d null_text (c ∷ r) null _ is_null null_stops refl (word_sound null 110 _ c r null_word h))
+      (λ n. by_test (Found (IsValue d (c ∷ r)) (c ∷ r)) (c == 116) _ _ (λ h. leaf_word d true_text (c ∷ r) (boolean true) _ is_true true_stops refl (word_sound (boolean true) 116 _ c r true_word h))
+      (λ t. by_test (Found (IsValue d (c ∷ r)) (c ∷ r)) (c == 102) _ _ (λ h. leaf_word d false_text (c ∷ r) (boolean false) _ is_false false_stops refl (word_sound (boolean false) 102 _ c r false_word h))
       (λ f. by_test (Found (IsValue d (c ∷ r)) (c ∷ r)) (is_quote c) _ _ (λ h. text_found c r h)
       (λ q. by_test (Found (IsValue d (c ∷ r)) (c ∷ r)) (is_sign c || begins_number c) _ _ (λ h. leaf_number d (c ∷ r) (numbers.number (c ∷ r)) (sound (c ∷ r) h))
       (λ m. by_test (Found (IsValue d (c ∷ r)) (c ∷ r)) (c == 91) (arrays (c ∷ r) r) _ (λ h. at_bracket c 91 r arrays h (array_is r))

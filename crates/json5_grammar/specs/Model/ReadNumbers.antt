@@ -5,14 +5,7 @@ use lib.Chars.{codes}
 use Rattle.json5_grammar.specs.Language.Characters.{capital_e, capital_i, capital_n, digit_zero, letter_e, minus_sign, plus_sign, point_sign, is_digit, is_hex_digit}
 use Rattle.json5_grammar.specs.Faults.Codes.{EofParsingNumber, ExpectedNumber, LeadingZero, OverflowParsingNumber}
 use Rattle.json5_grammar.specs.Language.Numbers.{Number, signed, spelled, without_zeros, is_empty, all_digits, exponent_of, hex_start, infinite, nan, finite, whole, decimal, in_run, begins_run}
-use Rattle.json5_grammar.specs.Model.Reading.{Read, here, inner, got, bad}
-
--- ---- words
-
-unfoldable pub word : Number → List ℕ → List ℕ → Read Number
-word n [] x = got n x
-word n (k ∷ ks) [] = bad (Some EofParsingNumber) inner
-word n (k ∷ ks) (c ∷ r) = cond (c == k) (word n ks r) (bad (Some ExpectedNumber) (here (c ∷ r)))
+use Rattle.json5_grammar.specs.Model.Reading.{Read, here, inner, got, bad, word_at}
 
 -- ---- hexadecimal numbers
 
@@ -121,8 +114,8 @@ at_zero q m (c ∷ r) =
 unfoldable pub unsigned : List ℕ → Bool → List ℕ → Read Number
 unsigned q m [] = bad (Some EofParsingNumber) inner
 unsigned q m (c ∷ r) =
-    cond (c == capital_i) (word (decimal (infinite m)) (codes "nfinity") r)
-    (cond (c == capital_n) (word (decimal (nan m)) (codes "aN") r)
+    cond (c == capital_i) (word_at EofParsingNumber ExpectedNumber (decimal (infinite m)) (codes "nfinity") r)
+    (cond (c == capital_n) (word_at EofParsingNumber ExpectedNumber (decimal (nan m)) (codes "aN") r)
     (cond (c == digit_zero) (at_zero q m r)
     (cond (begins_run c) (decimal_run q m (c ∷ r))
     (bad (Some ExpectedNumber) (here (c ∷ r))))))

@@ -8,14 +8,8 @@ use Rattle.json5_grammar.specs.Language.Trees.{Tree, Trees, Pairs, null, boolean
 use Rattle.json5_grammar.specs.Model.ReadNumbers.{number}
 use Rattle.json5_grammar.specs.Language.Values.{null_text, true_text, false_text}
 use Rattle.json5_grammar.specs.Model.ReadTexts.{key, string}
-use Rattle.json5_grammar.specs.Model.Reading.{Read, and_then, placed, here, inner, got, bad}
+use Rattle.json5_grammar.specs.Model.Reading.{Read, and_then, placed, here, inner, got, bad, word_at}
 use Rattle.json5_grammar.specs.Model.ReadBlanks.{skip, between}
-
--- the rest of a word, and the codes for a character that differs and for the end
-unfoldable pub word_at : ErrorCode → ErrorCode → List ℕ → List ℕ → Read (Unit {0})
-word_at eof bad_code [] x = got tt x
-word_at eof bad_code (k ∷ ks) [] = bad (Some eof) inner
-word_at eof bad_code (k ∷ ks) (c ∷ r) = cond (c == k) (word_at eof bad_code ks r) (bad (Some bad_code) (here (c ∷ r)))
 
 -- ---- members of arrays
 
@@ -68,9 +62,9 @@ as_leaf f m = and_then m (λ a r. got (f a) r)
 abbrev pub value_with : (List ℕ → List ℕ → Read Tree) → (List ℕ → List ℕ → Read Tree) → List ℕ → Read Tree
 value_with array_at object_at [] = bad (Some EofParsingValue) inner
 value_with array_at object_at (c ∷ r) =
-    cond (c == letter_n) (as_leaf (λ u. null) (word_at EofParsingNull ExpectedNull null_text (c ∷ r)))
-    (cond (c == letter_t) (as_leaf (λ u. boolean true) (word_at EofParsingBool ExpectedBool true_text (c ∷ r)))
-    (cond (c == letter_f) (as_leaf (λ u. boolean false) (word_at EofParsingBool ExpectedBool false_text (c ∷ r)))
+    cond (c == letter_n) (word_at EofParsingNull ExpectedNull null null_text (c ∷ r))
+    (cond (c == letter_t) (word_at EofParsingBool ExpectedBool (boolean true) true_text (c ∷ r))
+    (cond (c == letter_f) (word_at EofParsingBool ExpectedBool (boolean false) false_text (c ∷ r))
     (cond (is_quote c) (as_leaf (λ a. text a.0 a.1) (string (c ∷ r)))
     (cond (is_sign c || begins_number c) (as_leaf Tree.number (number (c ∷ r)))
     (cond (c == left_bracket) (array_at (c ∷ r) r)

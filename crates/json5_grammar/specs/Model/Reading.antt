@@ -1,7 +1,7 @@
 -- Reading as functions on lists, which give what is at the front and what follows it, or the fault. Private clauses and proofs cite them.
 -- No public clause of a refusal does: these cite the fault table. Of the public words one does, `document_of` of json5_de, which says what
 -- a key converts to, and the law `document_keys` says of it which keys are documents.
-use Rattle.std.specs.Prelude.{◌≡◌, ℕ, List, ◌++◌, Option, Some, None}
+use Rattle.std.specs.Prelude.{◌≡◌, ℕ, cond, ◌==◌, List, [], ◌∷◌, ◌++◌, Option, Some, None}
 use Rattle.json5_grammar.specs.Faults.Codes.{ErrorCode}
 
 -- a place: where this rest of the text begins, or the innermost open bracket
@@ -30,3 +30,9 @@ abbrev pub placed : {A : Type 0} → List ℕ → Read A → Read A
 placed q (got a r) = got a r
 placed q (bad e (here p)) = bad e (here p)
 placed q (bad e inner) = bad e (here q)
+
+-- the answer, after the word; the codes for the end of the text in the word and for a character that differs
+unfoldable pub word_at : {A : Type 0} → ErrorCode → ErrorCode → A → List ℕ → List ℕ → Read A
+word_at eof wrong a [] x = got a x
+word_at eof wrong a (k ∷ ks) [] = bad (Some eof) inner
+word_at eof wrong a (k ∷ ks) (c ∷ r) = cond (c == k) (word_at eof wrong a ks r) (bad (Some wrong) (here (c ∷ r)))
