@@ -136,8 +136,8 @@ impl ErrorCode {
 /// Prints the code in words, such as `expected comma`.
 impl fmt::Display for ErrorCode {
     ghost use Rattle.json5_grammar.specs.Faults.CodeTexts.{code_text};
-    ghost output = { λ c. Some (code_text c) };
 
+    ghost output = { λ c. Some (code_text c) };
 
     fn fmt<W: fmt::Write>(&self, f: &mut fmt::Formatter<W>) -> fmt::Result {
         f.write_str(self.as_str())
