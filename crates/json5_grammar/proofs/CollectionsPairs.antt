@@ -234,7 +234,7 @@ pub pairs_go : (ps : Pairs) (comma_due : Bool) (x r : List ℕ) → PairsTail ps
 pairs_go no_pair comma_due x r c = inl (refl, c)
 pairs_go (pair u escape_free t ps) comma_due x r (y, z, key, value, tl) = inr (u, escape_free, t, ps, y, z, refl, key, value, tl)
 
--- after a key that was read stands its value, and what is left after that
+-- after a key that was read comes its value, and what is left after that
 pub value_left : (ps : Pairs) (comma_due : Bool) (x y r u : List ℕ) (escape_free : Bool) → IsKey comma_due x u escape_free y → PairsTail ps comma_due x r
     → (t : Tree) × (qs : Pairs) × (z : List ℕ) × (ps ≡ pair u escape_free t qs) × IsKeyValue y t z × PairsTail qs true z r
 value_left no_pair comma_due x y r u escape_free key c = absurd (key_or_brace comma_due x y r u escape_free key c)

@@ -1,4 +1,4 @@
--- What reading refuses a value or a document with is a fault of the table, with its code and its place.
+-- What reading refuses a value or a document with is a fault of the table, with its code and its position.
 use Rattle.std.proofs.Common.{◌≡◌, ℕ, zero, suc, ◌+◌, true, false, ◌||◌, List, [], ◌∷◌, length, refl, sym, arith, subst, Some}
 use Rattle.std.specs.Prelude.{◌==◌}
 use Rattle.std.proofs.lemmas.Bool.Decides.{nat_tests}

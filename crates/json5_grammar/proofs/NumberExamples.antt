@@ -1,4 +1,4 @@
--- What is read at some texts.
+-- Examples: numbers that are read, refused and written.
 use Rattle.std.proofs.Common.{◌≡◌, ◌^◌, ◌-◌, true, false, [], refl, Some, None}
 use Rattle.std.specs.Prelude.{pos, negsuc, neg_ℤ}
 use lib.Chars.{codes}

@@ -17,7 +17,7 @@ use Rattle.json5_grammar.proofs.Literals.{literal_found, literal_is, LiteralIs, 
 use Rattle.json5_grammar.proofs.WordsRead.{WordIs, word_is}
 use Rattle.json5_grammar.proofs.NumbersRead.{number_bare, lengthens_bare, lengthens_longer, lengthens_hex, stops_same, signed_zero, run_read, Bare, bare, longer_bare, head_bare, complete}
 
--- where a place is in the text x: pl is what stands before it
+-- in the input x, pl is what comes before the place
 abbrev pub PlaceIs : List ℕ → Place → Option (List ℕ) → Type 0
 PlaceIs x (here q) pl = (b : List ℕ) × (pl ≡ Some b) × (x ≡ b ++ q)
 PlaceIs x inner pl = pl ≡ None

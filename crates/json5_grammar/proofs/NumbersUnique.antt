@@ -1,4 +1,4 @@
--- A number's fault is what the reader answers, so a text has one code and place, and no number.
+-- A number's fault is what the reader answers; so it has one code and one position, and no number is in front.
 use Rattle.std.proofs.Common.{◌≡◌, ℕ, ◌+◌, ◌*◌, ◌^◌, ◌<◌, ◌≤◌, Bool, true, false, ◌||◌, List, [], ◌∷◌, ◌++◌, refl, ap, sym, ◌∙◌, append_assoc, arith, ◌≢◌, subst, Option, Some, None}
 use Rattle.std.specs.Prelude.{◌==◌, ℤ, nat_le, nat_lt}
 use Rattle.std.specs.Char.{digit_value}
@@ -20,7 +20,7 @@ use Rattle.json5_grammar.proofs.NumbersSound.{PlaceIs, unsigned_bad, unsigned_en
 use Rattle.json5_grammar.proofs.Refusals.{same_bad}
 use Rattle.json5_grammar.proofs.WordsRead.{differs_at, ends_in}
 
--- the reader answers this code at this place
+-- the reader answers this code at this position
 pub record Refused (x : List ℕ) (e : Option ErrorCode) (pl : Option (List ℕ)) : Type 0 where
   pub place : Place
   pub answer : number x ≡ bad e place

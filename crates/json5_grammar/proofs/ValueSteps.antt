@@ -64,7 +64,7 @@ forget_pair : (k : List ℕ → Read Pairs) (a : List ℕ × Bool) (m : Read Tre
 forget_pair k a (got t r) = forget_after_pair k a t (skip between r)
 forget_pair k a (bad e p) = refl
 
--- a key's value is what stands after its colon
+-- a key's value is what comes after its colon
 pub value_after_colon : (val : List ℕ → Read Tree) (x : List ℕ) → value_after val x ≡ and_then (colon_after x) (λ u q. val q)
 value_after_colon val x = by_gap (skip between x)
   where

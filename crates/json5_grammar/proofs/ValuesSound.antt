@@ -1,4 +1,4 @@
--- What is read is in the grammar, and a fault's place is in the text.
+-- What is read is in the grammar, and a fault's position is in the input.
 use Rattle.std.proofs.Common.{◌≡◌, ℕ, zero, suc, ◌≤◌, Bool, true, false, cond, ◌||◌, List, [], ◌∷◌, ◌++◌, length, refl, ap, sym, ◌∙◌, append_assoc, arith, subst, inl, inr, ◌⊎◌, Option, Some}
 use Rattle.std.specs.Prelude.{◌==◌}
 use Rattle.std.proofs.lemmas.Bool.Decides.{nat_tests}
@@ -42,7 +42,7 @@ IsValue d x t r = (s : List ℕ) × (x ≡ s ++ r) × Val s t × Stops s r × (d
 abbrev pub IsPhrase : ℕ → List ℕ → Tree → List ℕ → Type 0
 IsPhrase d x t r = Reads x t r × (depth t ≤ d)
 
--- members and the closing bracket, after a comma where one is due
+-- elements and the closing bracket, after a comma where one is due
 abbrev pub AreMembers : ℕ → Bool → List ℕ → Trees → List ℕ → Type 0
 AreMembers d comma_due x ts r = Tail ts comma_due x r × (depths ts ≤ d)
 
@@ -363,6 +363,6 @@ read_found (suc d) x = rw (read_step (suc d) x) (with_found (suc d) (array_reade
 pub read_sound : (d : ℕ) (x r : List ℕ) (t : Tree) → read d x ≡ got t r → IsValue d x t r
 read_sound d x r t e = found (IsValue d x) x (read d x) t r (read_found d x) e
 
--- the place of a fault is in the text
+-- the position of a fault is in the input
 pub read_place : (d : ℕ) (x : List ℕ) (e : Option ErrorCode) (p : Place) → read d x ≡ bad e p → IsIn x p
 read_place d x e p h = refused_in (IsValue d x) x (read d x) e p (read_found d x) h

@@ -19,7 +19,7 @@ word_complete eof wrong a (k ∷ w) r = rw (same_char k) (word_complete eof wron
 
 -- ---- sound
 
--- x has a fault of a word with this code at this place
+-- x has a fault of a word with this code at this position
 pub record WordBlamed (x : List ℕ) (code : Option ErrorCode) (p : Place) : Type 0 where
   pub place : Option (List ℕ)
   pub part : List ℕ
@@ -104,7 +104,7 @@ same_first : (w p q y : List ℕ) → p ≢ [] → w ≡ p ++ q → SameFirst w 
 same_first w [] q y n e = absurd (n refl)
 same_first w (k ∷ p) q y n e = (k, p ++ q, p ++ y, e, refl)
 
--- a fault of a word is refused with its code at its place
+-- a fault of a word is refused with its code at its position
 pub word_refused : {x part : List ℕ} {code : Option ErrorCode} {place : Option (List ℕ)} {shown : Shown} → WordFault x code place part shown → WordRefused x code place
 word_refused (word_differs r w p {bad = wrong} {eof = eof} d c k (q, e) n ne) = record {
   the_word = w;
@@ -136,7 +136,7 @@ by_word false_word (k, ks, r, e, f) = let a : k ≡ 102 = cc in rw (f, a) refl
 first_refused : {x part : List ℕ} {code : Option ErrorCode} {place : Option (List ℕ)} {shown : Shown} → WordFault x code place part shown → Refuses (by_first x) x code place
 first_refused {x = x} {code = code} {place = place} f = let k = word_refused f in subst (λ z. Refuses z x code place) (sym (by_word k.is_word k.first)) k.refuses
 
--- two faults of words of one text have one code and one place
+-- two faults of words of one input have one code and one position
 pub one_word_fault : {x p q : List ℕ} {e f : Option ErrorCode} {pl pm : Option (List ℕ)} {h i : Shown} → WordFault x e pl p h → WordFault x f pm q i → (e ≡ f) × (pl ≡ pm)
 one_word_fault {x = x} {e = e} {f = f} {pl = pl} {pm = pm} a b = one_refusal (by_first x) x e f pl pm (first_refused a) (first_refused b)
 

@@ -1,4 +1,4 @@
--- What the laws of members say is left, and what doesn't stand there.
+-- What the laws of arrays and objects say is left, and what doesn't come next.
 use Rattle.std.specs.Prelude.{◌≡◌, ◌⊎◌, ◌==◌, ℕ, Bool, true, List}
 use Rattle.json5_grammar.specs.Language.Characters.{NotBegun}
 use Rattle.json5_grammar.specs.Model.Collections.{IsElement, IsClose, Tail, IsKey, IsKeyValue, PairsTail, PairsPassed, joined_trees, joined_pairs, snoc_pair}
@@ -17,7 +17,7 @@ NoValue y = (t : Tree) (r : List ℕ) → Reads y t r → ⊥
 abbrev pub RestOf : Trees → Trees → Bool → List ℕ → List ℕ → Type 0
 RestOf us ts now y r = (vs : Trees) × (ts ≡ joined_trees us vs) × Tail vs now y r
 
--- there is no member and x is closed, or one more is there and then the others
+-- there is no element and x is closed, or x goes on with the first, and then with the others
 abbrev pub ClosesOrGoesOn : Trees → Bool → List ℕ → List ℕ → Type 0
 ClosesOrGoesOn ts comma_due x r = ((ts ≡ no_more) × IsClose comma_due x r) ⊎ ((t : Tree) × (us : Trees) × (y : List ℕ) × (ts ≡ more t us) × IsElement comma_due x t y × Tail us true y r)
 

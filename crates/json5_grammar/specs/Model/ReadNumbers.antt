@@ -13,7 +13,7 @@ unfoldable pub hex_digits : ℕ → List ℕ → Read ℕ
 hex_digits n [] = got n []
 hex_digits n (c ∷ r) = cond (is_hex_digit c) (cond (nat_lt (n * 16 + digit_value c) (2 ^ 128)) (hex_digits (n * 16 + digit_value c) r) (bad (Some OverflowParsingNumber) (here (c ∷ r)))) (got n (c ∷ r))
 
--- q is the text from the number's start on; true after a minus
+-- q is the input from the number's start on; true after a minus
 abbrev pub hex_judged : List ℕ → Bool → Read ℕ → Read Number
 hex_judged q false (got n r) = got (whole (pos n)) r
 hex_judged q true (got n r) = cond (nat_le n (2 ^ 127)) (got (whole (neg_ℤ (pos n))) r) (bad None (here q))

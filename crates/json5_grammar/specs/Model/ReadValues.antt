@@ -11,7 +11,7 @@ use Rattle.json5_grammar.specs.Model.ReadTexts.{key, string}
 use Rattle.json5_grammar.specs.Model.Reading.{Read, and_then, placed, here, inner, got, bad, word_at}
 use Rattle.json5_grammar.specs.Model.ReadBlanks.{skip, between}
 
--- ---- members of arrays
+-- ---- elements of arrays
 
 abbrev pub after_member : (List ℕ → Read Trees) → List ℕ → Read Trees
 after_member k [] = bad (Some EofParsingArray) inner
@@ -24,7 +24,7 @@ close_or m (c ∷ r) = cond (c == right_bracket) (got no_more r) m
 abbrev pub member : (List ℕ → Read Tree) → (List ℕ → Read Trees) → List ℕ → Read Trees
 member val k x = and_then (val x) (λ t r. and_then (skip between r) (λ u y. and_then (after_member k y) (λ ts z. got (more t ts) z)))
 
--- the number bounds the turns; more than the length of the text is enough
+-- the number bounds the turns; any above the length of x is enough
 unfoldable pub read_elements : (List ℕ → Read Tree) → ℕ → List ℕ → Read Trees
 read_elements val zero x = bad (Some EofParsingArray) inner
 read_elements val (suc n) x = and_then (skip between x) (λ u y. close_or (member val (read_elements val n) y) y)

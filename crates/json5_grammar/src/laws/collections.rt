@@ -14,7 +14,7 @@ pub fn array_from_front()
     ensures together { (x y r : List ℕ) (ts : Trees) → Opens x y → Tail ts false y r → Reads x (array ts) r }
 {}
 
-/// A text goes on in one way: with one element or the closing bracket, and one rest is left.
+/// An input goes on in one way: with one element or the closing bracket, and one rest is left.
 pub fn one_way_on()
     ensures opening { (x r q : List ℕ) → Opens x r → Opens x q → r ≡ q }
     ensures element { (comma_due : Bool) (x r q : List ℕ) (t u : Tree) → IsElement comma_due x t r → IsElement comma_due x u q → (t ≡ u) × (r ≡ q) }
@@ -30,7 +30,7 @@ pub fn members_shorten()
     ensures value { (x r : List ℕ) (t : Tree) → IsKeyValue x t r → length r < length x }
 {}
 
-/// Where the closing bracket was found it can be taken, and the array goes on so from before.
+/// Where the closing bracket was found it can be taken, and what came before goes on to it.
 pub fn close_after_found()
     ensures can { (comma_due now : Bool) (x y : List ℕ) → IsAtClose comma_due x y → (r : List ℕ) × IsClose now y r }
     ensures same { (comma_due now : Bool) (x y r : List ℕ) → IsAtClose comma_due x y → IsClose now y r → IsClose comma_due x r }
