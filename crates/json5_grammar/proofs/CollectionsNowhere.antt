@@ -1,4 +1,4 @@
--- What a text goes on with, from what stands after the gap in front.
+-- What an array or an object goes on with, seen from what follows the gap in front.
 use Rattle.std.proofs.Common.{◌≡◌, ℕ, Bool, true, false, List, [], ◌∷◌, ◌++◌, refl, ap, sym, ◌∙◌, inl, inr, subst, Option}
 use Rattle.std.specs.Prelude.{◌==◌}
 use Rattle.std.proofs.lemmas.Bool.{both_ways}
@@ -46,7 +46,7 @@ pub no_sign_in_blanks : (sign : ℕ) (x b p r : List ℕ) (code : Option ErrorCo
 no_sign_in_blanks sign x b p r code place shown h f a =
     no_blank_fault (Gap.blanks a.blank) (begins_solid sign r h) (subst (λ z. BlankFault z code place b p shown) a.split f)
 
--- no phrase stands where a comment is at fault
+-- no phrase begins where a comment is at fault
 pub no_reads_in_blanks : (x b p r : List ℕ) (t : Tree) (code : Option ErrorCode) (place : Option (List ℕ)) (shown : Shown) → BlankFault x code place b p shown → Reads x t r → ⊥
 no_reads_in_blanks x b p r t code place shown f a =
     no_blank_fault (Gap.blanks a.blank) (value_solid r (val_head a.value)) (subst (λ z. BlankFault z code place b p shown) a.split f)
@@ -60,14 +60,6 @@ nowhere_due x m n = record { no_element = λ t r a. m a.0 a.1; no_close = λ r c
     by_close : (r : List ℕ) → IsClose true x r → ⊥
     by_close r (inl c) = n r c
     by_close r (inr (y, c, d)) = m y c
-
--- nothing after the comma
-pub nowhere_comma : (x y : List ℕ) → IsSign 44 x y → GoesNowhere false y → ((r : List ℕ) → IsSign 93 x r → ⊥) → GoesNowhere true x
-nowhere_comma x y s h n = record { no_element = λ t r a. h.no_element t r (after_same_comma (λ k. Reads k t r) x y a.0 s a.1 a.2); no_close = λ r c. by_close r c }
-  where
-    by_close : (r : List ℕ) → IsClose true x r → ⊥
-    by_close r (inl c) = n r c
-    by_close r (inr (y2, c, d)) = h.no_close r (after_same_comma (λ k. IsSign 93 k r) x y y2 s c d)
 
 -- a faulty comment
 pub nowhere_blanks : (comma_due : Bool) (x b p : List ℕ) (code : Option ErrorCode) (place : Option (List ℕ)) (shown : Shown) → BlankFault x code place b p shown → GoesNowhere comma_due x
