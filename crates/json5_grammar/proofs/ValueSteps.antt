@@ -28,7 +28,7 @@ all_entries d z = read_members (read d) (suc (length z)) z
 abbrev pub turn : BracketKind → ℕ → Bool → List ℕ → Read (Unit {0})
 turn k d goes y = cond goes (value_and_rest k d y) (got tt y)
 
--- ---- one member
+-- ---- one element
 
 forget_last : (t : Tree) (m : Read Trees) → forget (and_then m (λ ts z. got (more t ts) z)) ≡ forget m
 forget_last t (got ts z) = refl
@@ -96,7 +96,7 @@ object_member d n c r l =
     ap forget (pair_same d (read_members (read d) n) (all_entries d) c r (λ z s. same_entries d n (suc (length z)) z (omega arith) (omega arith)))
     ∙ object_key d (key (c ∷ r))
 
--- ---- a member, or the closing bracket
+-- ---- an element or a pair, or the closing bracket
 
 closes_or : {A : Type 0} (k : BracketKind) (d : ℕ) (b : Bool) (nothing : A) (r : List ℕ) (m : Read A) (n : Read Bool) → forget m ≡ and_then n (turn k d) → forget (cond b (got nothing r) m) ≡ and_then (cond b (got false r) n) (turn k d)
 closes_or k d true nothing r m n e = refl
@@ -123,7 +123,7 @@ unfolding rest_of_bracket member_at read_elements read_members
 first_step of_array d x = after_gap of_array d x (λ y. close_or (member (read d) (read_elements (read d) (length x)) y) y) (member_head of_array) (array_head d (length x))
 first_step of_object d x = after_gap of_object d x (λ y. key_or (pair_at (read d) (read_members (read d) (length x)) y) y) (member_head of_object) (object_head d (length x))
 
--- ---- after a member
+-- ---- after an element or a pair
 
 comma_or : {A : Type 0} (k : BracketKind) (d : ℕ) (a b : Bool) (nothing : A) (c : ℕ) (r : List ℕ) (m : Read A) → forget m ≡ rest_of_bracket k false d r
     → forget (cond a m (cond b (got nothing r) (bad (Some ExpectedComma) (here (c ∷ r)))))

@@ -84,7 +84,7 @@ unfolding read_members
 entries_close val zero r l b = absurd (omega arith)
 entries_close val (suc n) r l b = rw (skip_blanks (125 ∷ r) b, skip_brace r) refl
 
--- ---- members
+-- ---- elements
 
 close_head : {s : List ℕ} (m : Read Trees) (r : List ℕ) → ValueHead s → close_or m (s ++ r) ≡ m
 close_head m r h = rw h.is (rw (begins_others h.char h.begins).3 refl)

@@ -176,7 +176,7 @@ pairs_gap no_pair true w x y r e g (inr (z, c, s)) = inr (z, sign_gap 44 w x y z
 pairs_gap (pair u escape_free t ps) false w x y r e g (k, z, a, v, tl) = (k, z, key_gap w x y u k escape_free e g a, v, tl)
 pairs_gap (pair u escape_free t ps) true w x y r e g (k, z, (q, c, a), v, tl) = (k, z, (q, sign_gap 44 w x y q e g c, a), v, tl)
 
--- ---- steps between members
+-- ---- steps between elements
 
 sign_here : (c : ℕ) (r : List ℕ) → IsSign c (c ∷ r) r
 sign_here c r = record { front = []; split = refl; blank = Blanks.empty }

@@ -1,7 +1,7 @@
 -- The faults of each kind of token, from its first character on: the code (None: custom), what comes before the position (None: it is the
 -- end's), the part at fault, and what shows it.
-use Rattle.std.specs.Prelude.{◌≡◌, ◌≢◌, ℕ, Bool, true, false, not, ◌||◌, ◌==◌, List, [], ◌∷◌, ◌++◌, Option, Some, None, ◌<◌, ◌&&◌, length, ◌^◌, ◌≤◌, ℤ}
-use Rattle.json5_grammar.specs.Language.Characters.{is_terminator, is_blank, slash_sign, star_sign, NotBegun, Each, line_feed, carriage_return, digit_zero, digit_one, digit_nine, backslash, letter_u, letter_x, is_in, is_digit, is_hex_digit, first_high_surrogate, last_low_surrogate, is_identifier_start, is_identifier_part, capital_e, capital_i, capital_n, letter_e, plus_sign, minus_sign, point_sign}
+use Rattle.std.specs.Prelude.{◌≡◌, ◌≢◌, ℕ, Bool, true, false, ◌||◌, ◌==◌, List, [], ◌∷◌, ◌++◌, Option, Some, None, ◌<◌, ◌&&◌, length, ◌^◌, ◌≤◌, ℤ}
+use Rattle.json5_grammar.specs.Language.Characters.{slash_sign, star_sign, Each, line_feed, carriage_return, digit_zero, digit_one, digit_nine, backslash, letter_u, letter_x, is_in, is_digit, is_hex_digit, first_high_surrogate, last_low_surrogate, is_identifier_start, is_identifier_part, capital_e, capital_i, capital_n, letter_e, plus_sign, minus_sign, point_sign}
 use Rattle.json5_grammar.specs.Faults.Codes.{ErrorCode, ExpectedComment, EofParsingComment, Shown, by_char, by_end, after_text, EofParsingEscapeSequence, EofParsingString, InvalidEscapeSequence, LineTerminatorInString, EofParsingIdentifier, ExpectedIdentifier, EofParsingNumber, ExpectedNumber, LeadingZero, OverflowParsingNumber, EofParsingBool, EofParsingNull, ExpectedBool, ExpectedNull}
 use Rattle.json5_grammar.specs.Language.Blanks.{Blanks, Inside}
 use Rattle.json5_grammar.specs.Language.Strings.{Hex4, is_high, is_low, Items, is_quote, Unicode}

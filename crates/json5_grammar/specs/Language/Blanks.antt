@@ -1,8 +1,7 @@
 -- Blanks: white space and comments, which are allowed around every token.
 -- JSON5 section 7 (comments) and section 8 (white space).
-use Rattle.std.specs.Prelude.{◌≡◌, ◌≢◌, ℕ, Bool, true, false, not, ◌||◌, ◌==◌, List, [], ◌∷◌, ◌++◌, Option, Some, None}
+use Rattle.std.specs.Prelude.{◌≡◌, ◌≢◌, ℕ, Bool, true, not, ◌||◌, ◌==◌, List, [], ◌∷◌, ◌++◌}
 use Rattle.json5_grammar.specs.Language.Characters.{is_terminator, is_blank, slash_sign, star_sign, NotBegun, Each}
-use Rattle.json5_grammar.specs.Faults.Codes.{ErrorCode, ExpectedComment, EofParsingComment, Shown, by_char, by_end, after_text}
 
 -- x, where `x*/` holds `*/` at its end only
 pub data Inside : List ℕ → Type 0 where

@@ -1,7 +1,7 @@
 -- Reading a value and a document as functions on lists.
 use Rattle.std.specs.Prelude.{ℕ, zero, suc, true, false, cond, ◌||◌, ◌==◌, List, [], ◌∷◌, length, Some}
 use Rattle.json5_grammar.specs.Language.Characters.{comma_sign, colon_sign, left_bracket, right_bracket, left_brace, right_brace, letter_f, letter_n, letter_t}
-use Rattle.json5_grammar.specs.Faults.Codes.{ErrorCode, EofParsingArray, EofParsingBool, EofParsingNull, EofParsingObject, EofParsingValue, ExpectedBool, ExpectedColon, ExpectedComma, ExpectedNull, ExpectedValue, TrailingCharacters, TooDeep}
+use Rattle.json5_grammar.specs.Faults.Codes.{EofParsingArray, EofParsingBool, EofParsingNull, EofParsingObject, EofParsingValue, ExpectedBool, ExpectedColon, ExpectedComma, ExpectedNull, ExpectedValue, TrailingCharacters, TooDeep}
 use Rattle.json5_grammar.specs.Faults.Tokens.{is_sign, begins_number}
 use Rattle.json5_grammar.specs.Language.Strings.{is_quote}
 use Rattle.json5_grammar.specs.Language.Trees.{Tree, Trees, Pairs, null, boolean, text, array, object, no_more, more, no_pair, pair}
