@@ -1,10 +1,8 @@
 -- The contents of an object's pairs, one at a time.
-use Rattle.std.proofs.Common.{◌≡◌, ℕ, ◌+◌, ◌≤◌, ◌<◌, Bool, true, false, List, [], ◌∷◌, ◌++◌, refl, ap, sym, ◌∙◌, arith, ◌⊎◌, inl, inr, subst, Option, Some, None}
-use Rattle.json5_grammar.specs.Language.Trees.{Tree, Pairs, null, boolean, number, text, array, object, no_pair, pair, depth, pair_depths}
-use Rattle.json5_grammar.specs.Language.Values.{Reads}
-use Rattle.json5_grammar.specs.Model.Collections.{OpensObject, IsKey, IsKeyValue, IsBrace, PairsTail, PairsPassed, joined_pairs, snoc_pair, joint, pair_contents, object_of}
+use Rattle.std.proofs.Common.{◌≡◌, ℕ, Bool, List, [], ◌∷◌, ◌++◌, refl, ap, Option, Some, None}
+use Rattle.json5_grammar.specs.Language.Trees.{Tree, Pairs, null, boolean, number, text, array, object, no_pair, pair}
+use Rattle.json5_grammar.specs.Model.Collections.{joined_pairs, snoc_pair, joint, pair_contents, object_of}
 use Rattle.json5_grammar.proofs.CollectionsConverted.{both_parts, one_after}
-use Rattle.json5_grammar.proofs.CollectionsPairs.{one_key, key_or_brace, object_front, object_closed, object_left, pairs_more, pairs_go, shallow_snoc_pair, pair_shallow}
 
 joint_parts : {K V : Type 0} (o : Option K) (p : Option V) (c : K × V) → joint o p ≡ Some c → (o ≡ Some c.0) × (p ≡ Some c.1)
 joint_parts None p c h = absurd (cc)

@@ -3,12 +3,12 @@ use Rattle.std.proofs.Common.{◌≡◌, ℕ, ◌+◌, ◌≤◌, ◌<◌, max, 
 use Rattle.std.specs.Prelude.{◌==◌}
 use Rattle.json5_grammar.specs.Language.Trees.{Tree, Trees, array, no_more, more, depth, depths}
 use Rattle.json5_grammar.specs.Language.Values.{Reads}
-use Rattle.json5_grammar.specs.Model.Collections.{IsSign, Opens, IsElement, IsEnd, IsClose, IsAtClose, Tail, Passed, GoesNowhere, joined_trees, snoc}
+use Rattle.json5_grammar.specs.Model.Collections.{IsSign, Opens, IsElement, IsEnd, IsClose, IsAtClose, Tail, Passed, joined_trees, snoc}
 use Rattle.json5_grammar.specs.Language.Blanks.{is_solid, Blanks}
 use Rattle.json5_grammar.proofs.Basics.{neq_from}
 use Rattle.json5_grammar.proofs.Unique.{one_phrase}
 use Rattle.json5_grammar.proofs.ValueHeads.{val_head}
-use Rattle.json5_grammar.proofs.CollectionsRead.{comma_solid, bracket_solid, opening_solid, one_sign, sign_no_value, array_front, array_reads}
+use Rattle.json5_grammar.proofs.CollectionsRead.{comma_solid, bracket_solid, opening_solid, one_sign, sign_no_value, array_reads}
 
 -- ---- one way to go on
 
@@ -83,7 +83,7 @@ found_closes comma_due now x y (r, c, e) = (r, subst (λ z. IsClose now z r) (sy
 pub close_found : (comma_due now : Bool) (x y r : List ℕ) → IsAtClose comma_due x y → IsClose now y r → IsClose comma_due x r
 close_found comma_due now x y r (q, c, e) k = subst (λ z. IsClose comma_due x z) (one_close now (93 ∷ q) q r (bracket_closes now q) (subst (λ z. IsClose now z r) e k)) c
 
--- ---- members that were passed
+-- ---- elements that were passed
 
 -- one more element
 pub passed_more : (ts : Trees) (comma_due now : Bool) (x y z : List ℕ) (t : Tree) → Passed ts comma_due x now y → IsElement now y t z → Passed (snoc ts t) comma_due x true z
@@ -112,7 +112,7 @@ passed_rest (more u us) (more t ts) comma_due now x y r (w, e, p) (z, f, tl) =
     let (vs, k, rest) = passed_rest us ts true now w y r p (subst (λ k. Tail ts true k r) one.1 tl) in
     (vs, more_same t u ts (joined_trees us vs) one.0 k, rest)
 
--- ---- a member or the bracket, or nothing
+-- ---- an element or the bracket
 
 -- what is left of an array is the closing bracket, or an element and what is left after it
 pub tail_goes : (ts : Trees) (comma_due : Bool) (x r : List ℕ) → Tail ts comma_due x r
@@ -127,28 +127,11 @@ element_left (more u ts) comma_due x y r t e (z, f, tl) =
     let one = one_element comma_due x z y u t f e in
     (ts, more_same u t ts ts one.0 refl, subst (λ k. Tail ts true k r) one.1 tl)
 
--- where neither goes on no array does
-pub nowhere_tail : (ts : Trees) (comma_due : Bool) (x r : List ℕ) → GoesNowhere comma_due x → Tail ts comma_due x r → ⊥
-nowhere_tail no_more comma_due x r n c = n.no_close r c
-nowhere_tail (more t ts) comma_due x r n (y, e, tl) = n.no_element t y e
-
--- ---- arrays of which members were passed
+-- ---- arrays of which elements were passed
 
 -- the array that was opened, whose elements were passed, and which was closed
 pub array_closed : (x y z r : List ℕ) (ts : Trees) (comma_due : Bool) → Opens x y → Passed ts false y comma_due z → IsClose comma_due z r → Reads x (array ts) r
 array_closed x y z r ts comma_due o p c = array_reads x y r ts o (passed_close ts false comma_due y z r p c)
-
--- what is left of an array that was opened, after the elements that were passed
-pub array_left : (x y z r : List ℕ) (us ts : Trees) (comma_due : Bool) → Opens x y → Passed us false y comma_due z → Reads x (array ts) r → (vs : Trees) × (ts ≡ joined_trees us vs) × Tail vs comma_due z r
-array_left x y z r us ts comma_due o p reads =
-    let (q, b, tl) = array_front x r ts reads in
-    passed_rest us ts false comma_due y z r p (subst (λ k. Tail ts false k r) (one_opening x q y b o) tl)
-
--- an array can't be read where, after elements that were passed, nothing of one goes on
-pub array_nowhere : (x y z r : List ℕ) (us ts : Trees) (comma_due : Bool) → Opens x y → Passed us false y comma_due z → GoesNowhere comma_due z → Reads x (array ts) r → ⊥
-array_nowhere x y z r us ts comma_due o p n reads =
-    let (vs, e, tl) = array_left x y z r us ts comma_due o p reads in
-    nowhere_tail vs comma_due z r n tl
 
 -- ---- lengths
 

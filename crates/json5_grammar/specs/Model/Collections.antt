@@ -47,11 +47,6 @@ abbrev pub Passed : Trees → Bool → List ℕ → Bool → List ℕ → Type 0
 Passed no_more comma_due x now y = (comma_due ≡ now) × (x ≡ y)
 Passed (more t ts) comma_due x now y = (z : List ℕ) × IsElement comma_due x t z × Passed ts true z now y
 
--- x goes on with no element and no closing bracket
-pub record GoesNowhere (comma_due : Bool) (x : List ℕ) : Type 0 where
-  pub no_element : (t : Tree) (r : List ℕ) → IsElement comma_due x t r → ⊥
-  pub no_close : (r : List ℕ) → IsClose comma_due x r → ⊥
-
 -- ---- objects
 
 -- x begins with blanks and a key that means u, and r is left
