@@ -34,7 +34,7 @@ Gap-append a (at_end l) = at_end (LastBlanks-append a l)
 
 -- ---- sound
 
--- x has a fault of blanks with this code at this place
+-- x has a fault of blanks with this code at this position
 pub record BlankBlamed (x : List ℕ) (code : Option ErrorCode) (p : Place) : Type 0 where
   pub place : Option (List ℕ)
   pub before : List ℕ
@@ -168,7 +168,7 @@ mutual
   star_open (star k i) h = star_open i k
   star_open (other {c = c} ne i) h = rw (h, not_eq c 42 ne) (block_open i)
 
--- a faulty comment is refused with its code at its place
+-- a faulty comment is refused with its code at its position
 pub comment_refused : {x part : List ℕ} {code : Option ErrorCode} {place : Option (List ℕ)} {shown : Shown} → CommentFault x code place part shown → Refuses (skip between x) x code place
 unfolding skip
 comment_refused (no_comment c r h) = (here (c ∷ r), skip_slash (c ∷ r) ∙ fails (c == 47) (c == 42) h, refl)
@@ -180,12 +180,12 @@ comment_refused (no_comment c r h) = (here (c ∷ r), skip_slash (c ∷ r) ∙ f
 comment_refused slash_ends = (inner, skip_slash [], tt)
 comment_refused (block_ends {x = x} i) = (inner, skip_slash (42 ∷ x) ∙ block_open i, tt)
 
--- a fault of blanks is refused with its code at its place
+-- a fault of blanks is refused with its code at its position
 pub blank_refused : {x before part : List ℕ} {code : Option ErrorCode} {place : Option (List ℕ)} {shown : Shown} → BlankFault x code place before part shown → Refuses (skip between x) x code place
 blank_refused (in_comment {w = w} {x = x} {code = code} {place = place} b f) =
     refuses_after w x (skip between x) (skip between (w ++ x)) code place (λ p e. skip_blanks x b ∙ e) (comment_refused f)
 
--- two faults of blanks of one text have one code and one place
+-- two faults of blanks of one input have one code and one position
 pub one_blank_fault : {x b c p q : List ℕ} {e f : Option ErrorCode} {pl pm : Option (List ℕ)} {h i : Shown} → BlankFault x e pl b p h → BlankFault x f pm c q i → (e ≡ f) × (pl ≡ pm)
 one_blank_fault {x = x} {e = e} {f = f} {pl = pl} {pm = pm} a b = one_refusal (skip between x) x e f pl pm (blank_refused a) (blank_refused b)
 

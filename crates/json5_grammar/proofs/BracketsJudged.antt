@@ -26,12 +26,12 @@ rest_no_longer y w r e = omega (arith, ap length e, length-append w r)
 pub solid_char : (c : ℕ) (r : List ℕ) → Solid (c ∷ r) → is_solid c ≡ true
 solid_char c r solid = not-false (is_solid c) solid
 
--- where a value alone is expected no closing bracket may stand
+-- where a value alone is expected no closing bracket is allowed
 pub no_close : (z : List ℕ) → NotBegun (is_allowed_close value) z
 no_close [] = tt
 no_close (c ∷ z) = refl
 
--- y begins with neither a blank nor a comment, nor with a closing bracket that may stand here
+-- y begins with neither a blank nor a comment, nor with a closing bracket that is allowed here
 abbrev pub BeginsValue : Expects → List ℕ → Type 0
 BeginsValue a y = (takes_value a ≡ true) × Solid y × NotBegun (is_allowed_close a) y
 
@@ -50,7 +50,7 @@ module _ (s : Scope) where
     abbrev within : BracketKind → List Bracket
     within k = record { kind = k; before = g } ∷ o
 
-    -- f is judged on each rest that is shorter than y, where a member may begin
+    -- f is judged on each rest that is shorter than y, where an element or a pair may begin
     abbrev Later : {A : Type 0} → BracketKind → (List ℕ → Read A) → List ℕ → Type 0
     Later k f y = (z : List ℕ) → length z < length y → At limit x z (within k) (member_of k) → Judged s (within k) (f z)
 
@@ -59,7 +59,7 @@ module _ (s : Scope) where
         → At limit x (c ∷ r) (within k) comma → Judged s (within k) (f r)
     comma_later k f c r j i h = j r (omega arith) (at_comma limit x r (subst (λ z. At limit x (z ∷ r) (within k) comma) (eq_from c 44 i) h))
 
-    -- at a character after a member
+    -- at a character after an element or a pair
     sign_judged : {A : Type 0} (k : BracketKind) (nothing : A) (f : List ℕ → Read A) (c : ℕ) (r : List ℕ) → Later k f (c ∷ r) → is_solid c ≡ true
         → At limit x (c ∷ r) (within k) comma
         → Judged s (within k) (cond (c == 44) (f r) (cond (c == closing k) (got nothing r) (bad (Some ExpectedComma) (here (c ∷ r)))))
@@ -95,7 +95,7 @@ module _ (s : Scope) where
         (λ i. tt)
         (λ i. member_judged f (c ∷ r) j (refl, solid, i) h)
 
-    -- the members of an array, up to its closing bracket
+    -- the elements of an array, up to its closing bracket
     pub items_judged : (n : ℕ) (y : List ℕ) → length y < n → At limit x y (within of_array) element → Judged s (within of_array) (read_elements (read d) n y)
     unfolding read_elements
     items_judged zero y l h = absurd (omega arith)

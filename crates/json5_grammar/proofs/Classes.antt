@@ -171,10 +171,6 @@ slash_ends_values = ends_values 47 refl refl refl
 pub comma_ends_values : EndsValues 44
 comma_ends_values = ends_values 44 refl refl refl
 
--- a colon lengthens no value
-pub colon_ends_values : EndsValues 58
-colon_ends_values = ends_values 58 refl refl refl
-
 -- a closing bracket lengthens no value
 pub bracket_ends_values : EndsValues 93
 bracket_ends_values = ends_values 93 refl refl refl

@@ -1,4 +1,4 @@
--- The contents of an array's members, one at a time.
+-- The contents of an array's elements, one at a time.
 use Rattle.std.proofs.Common.{◌≡◌, List, [], ◌∷◌, ◌++◌, refl, Option, Some, None}
 use Rattle.json5_grammar.specs.Language.Trees.{Tree, Trees, no_more, more}
 use Rattle.json5_grammar.specs.Model.Collections.{snoc, both, contents}
@@ -13,7 +13,7 @@ both_parts (Some c) (Some rest) cs h = (c, rest, refl, refl, cc)
 pub one_after : {C : Type 0} (d c : C) (rest cs : List C) (o : Option C) (q : Option (List C)) → o ≡ Some d → q ≡ Some (rest ++ c ∷ []) → cs ≡ d ∷ rest → both o q ≡ Some (cs ++ c ∷ [])
 one_after d c rest cs o q a b e = rw (a, b, e) refl
 
--- one more member's content
+-- one more element's content
 pub contents_snoc : {C : Type 0} (f : Tree → Option C) (ts : Trees) (t : Tree) (cs : List C) (c : C) → contents f ts ≡ Some cs → f t ≡ Some c → contents f (snoc ts t) ≡ Some (cs ++ c ∷ [])
 contents_snoc f no_more t cs c h e = let none : [] ≡ cs = cc in rw (e, ← none) refl
 contents_snoc f (more u us) t cs c h e =

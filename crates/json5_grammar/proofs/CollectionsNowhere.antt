@@ -1,5 +1,5 @@
--- What a text goes on with, from what stands after the gap in front.
-use Rattle.std.proofs.Common.{◌≡◌, ℕ, Bool, true, false, List, [], ◌∷◌, ◌++◌, refl, ap, sym, ◌∙◌, inl, inr, subst, Option}
+-- What an array or an object goes on with, seen from what follows the gap in front.
+use Rattle.std.proofs.Common.{◌≡◌, ℕ, true, List, [], ◌∷◌, ◌++◌, refl, ap, sym, ◌∙◌, subst, Option}
 use Rattle.std.specs.Prelude.{◌==◌}
 use Rattle.std.proofs.lemmas.Bool.{both_ways}
 use Rattle.json5_grammar.specs.Language.Characters.{NotBegun}
@@ -8,13 +8,12 @@ use Rattle.json5_grammar.specs.Language.Blanks.{Blanks, Gap, is_solid, Solid}
 use Rattle.json5_grammar.specs.Faults.Tokens.{BlankFault}
 use Rattle.json5_grammar.specs.Language.Trees.{Tree}
 use Rattle.json5_grammar.specs.Language.Values.{Reads}
-use Rattle.json5_grammar.specs.Model.Collections.{IsSign, IsClose, GoesNowhere}
+use Rattle.json5_grammar.specs.Model.Collections.{IsSign}
 use Rattle.json5_grammar.proofs.Basics.{same_char}
 use Rattle.json5_grammar.proofs.BlanksRead.{begins_solid}
 use Rattle.json5_grammar.proofs.BlanksSound.{gap_blanks, no_blank_fault}
 use Rattle.json5_grammar.proofs.ValueHeads.{val_head, value_solid}
-use Rattle.json5_grammar.proofs.CollectionsRead.{comma_solid, bracket_solid, sign_found, reads_after, reads_found}
-use Rattle.json5_grammar.proofs.CollectionsPassed.{after_same_comma}
+use Rattle.json5_grammar.proofs.CollectionsRead.{sign_found, reads_after}
 
 -- ---- what goes on
 
@@ -46,39 +45,7 @@ pub no_sign_in_blanks : (sign : ℕ) (x b p r : List ℕ) (code : Option ErrorCo
 no_sign_in_blanks sign x b p r code place shown h f a =
     no_blank_fault (Gap.blanks a.blank) (begins_solid sign r h) (subst (λ z. BlankFault z code place b p shown) a.split f)
 
--- no phrase stands where a comment is at fault
+-- no phrase begins where a comment is at fault
 pub no_reads_in_blanks : (x b p r : List ℕ) (t : Tree) (code : Option ErrorCode) (place : Option (List ℕ)) (shown : Shown) → BlankFault x code place b p shown → Reads x t r → ⊥
 no_reads_in_blanks x b p r t code place shown f a =
     no_blank_fault (Gap.blanks a.blank) (value_solid r (val_head a.value)) (subst (λ z. BlankFault z code place b p shown) a.split f)
-
--- ---- nothing of an array goes on
-
--- neither a comma nor the bracket where a comma is due
-pub nowhere_due : (x : List ℕ) → ((y : List ℕ) → IsSign 44 x y → ⊥) → ((r : List ℕ) → IsSign 93 x r → ⊥) → GoesNowhere true x
-nowhere_due x m n = record { no_element = λ t r a. m a.0 a.1; no_close = λ r c. by_close r c }
-  where
-    by_close : (r : List ℕ) → IsClose true x r → ⊥
-    by_close r (inl c) = n r c
-    by_close r (inr (y, c, d)) = m y c
-
--- nothing after the comma
-pub nowhere_comma : (x y : List ℕ) → IsSign 44 x y → GoesNowhere false y → ((r : List ℕ) → IsSign 93 x r → ⊥) → GoesNowhere true x
-nowhere_comma x y s h n = record { no_element = λ t r a. h.no_element t r (after_same_comma (λ k. Reads k t r) x y a.0 s a.1 a.2); no_close = λ r c. by_close r c }
-  where
-    by_close : (r : List ℕ) → IsClose true x r → ⊥
-    by_close r (inl c) = n r c
-    by_close r (inr (y2, c, d)) = h.no_close r (after_same_comma (λ k. IsSign 93 k r) x y y2 s c d)
-
--- a faulty comment
-pub nowhere_blanks : (comma_due : Bool) (x b p : List ℕ) (code : Option ErrorCode) (place : Option (List ℕ)) (shown : Shown) → BlankFault x code place b p shown → GoesNowhere comma_due x
-nowhere_blanks false x b p code place shown f = record { no_element = λ t r a. no_reads_in_blanks x b p r t code place shown f a; no_close = λ r c. no_sign_in_blanks 93 x b p r code place shown bracket_solid f c }
-nowhere_blanks true x b p code place shown f =
-    nowhere_due x (λ y c. no_sign_in_blanks 44 x b p y code place shown comma_solid f c) (λ r c. no_sign_in_blanks 93 x b p r code place shown bracket_solid f c)
-
--- the end or another character, where a comma is due
-pub nowhere_other : (x w y : List ℕ) → x ≡ w ++ y → Gap w y → Solid y → NotBegun (λ c. c == 44) y → NotBegun (λ c. c == 93) y → GoesNowhere true x
-nowhere_other x w y e g s m n = nowhere_due x (λ z c. no_sign 44 x w y z comma_solid e g s m c) (λ r c. no_sign 93 x w y r bracket_solid e g s n c)
-
--- no value and no bracket, where no comma is due
-pub nowhere_begun : (x w y : List ℕ) → x ≡ w ++ y → Gap w y → Solid y → ((t : Tree) (r : List ℕ) → Reads y t r → ⊥) → NotBegun (λ c. c == 93) y → GoesNowhere false x
-nowhere_begun x w y e g s m n = record { no_element = λ t r a. m t r (reads_found x w y r t e g s a); no_close = λ r c. no_sign 93 x w y r bracket_solid e g s n c }

@@ -5,7 +5,7 @@ use Rattle.std.proofs.lemmas.Bool.{both_ways}
 use Rattle.json5_grammar.specs.Language.Blanks.{Blanks, Gap, is_solid}
 use Rattle.json5_grammar.specs.Language.Trees.{Tree, Pairs, object, no_pair, pair, depth, pair_depths}
 use Rattle.json5_grammar.specs.Language.Values.{no_last_comma, last_comma, Val, is_empty_object, is_object, MemberList, last_pair, next_pair, Member, entry, Stops, Reads}
-use Rattle.json5_grammar.specs.Model.Collections.{IsSign, OpensObject, ReadsKey, IsKey, IsKeyValue, IsBrace, IsAtBrace, PairsTail, PairsPassed, NoPairGoes, joined_pairs, snoc_pair}
+use Rattle.json5_grammar.specs.Model.Collections.{IsSign, OpensObject, ReadsKey, IsKey, IsKeyValue, IsBrace, IsAtBrace, PairsTail, PairsPassed, joined_pairs, snoc_pair}
 use Rattle.json5_grammar.proofs.Basics.{first_same}
 use Rattle.json5_grammar.proofs.BlanksRead.{begins_solid, printable_solid}
 use Rattle.json5_grammar.proofs.BlanksSound.{one_gap}
@@ -234,18 +234,13 @@ pub pairs_go : (ps : Pairs) (comma_due : Bool) (x r : List ℕ) → PairsTail ps
 pairs_go no_pair comma_due x r c = inl (refl, c)
 pairs_go (pair u escape_free t ps) comma_due x r (y, z, key, value, tl) = inr (u, escape_free, t, ps, y, z, refl, key, value, tl)
 
--- after a key that was read stands its value, and what is left after that
+-- after a key that was read comes its value, and what is left after that
 pub value_left : (ps : Pairs) (comma_due : Bool) (x y r u : List ℕ) (escape_free : Bool) → IsKey comma_due x u escape_free y → PairsTail ps comma_due x r
     → (t : Tree) × (qs : Pairs) × (z : List ℕ) × (ps ≡ pair u escape_free t qs) × IsKeyValue y t z × PairsTail qs true z r
 value_left no_pair comma_due x y r u escape_free key c = absurd (key_or_brace comma_due x y r u escape_free key c)
 value_left (pair v m t ps) comma_due x y r u escape_free key (k, z, other, value, tl) =
     let one = one_key comma_due x k y v u m escape_free other key in
     (t, ps, z, pair_same v u m escape_free t t ps ps one.0 one.1 refl refl, subst (λ s. IsKeyValue s t z) one.2 value, tl)
-
--- where neither a key nor the brace goes on no object does
-pub no_pairs_tail : (ps : Pairs) (comma_due : Bool) (x r : List ℕ) → NoPairGoes comma_due x → PairsTail ps comma_due x r → ⊥
-no_pairs_tail no_pair comma_due x r n c = n.no_brace r c
-no_pairs_tail (pair u escape_free t ps) comma_due x r n (y, z, key, value, tl) = n.no_key u escape_free y key
 
 -- ---- lengths
 

@@ -1,4 +1,4 @@
--- An array from its front: it is opened, its members are read one after another, and it is closed.
+-- An array from its front: it is opened, its elements are read one after another, and it is closed.
 use Rattle.std.proofs.Common.{◌≡◌, ℕ, true, false, List, [], ◌∷◌, ◌++◌, refl, ap, sym, ◌∙◌, append_assoc, inl, inr}
 use Rattle.std.proofs.lemmas.Bool.{both_ways}
 use Rattle.json5_grammar.specs.Language.Blanks.{Blanks, Gap, is_solid, Solid}
@@ -38,19 +38,19 @@ sign_no_value c x r q t h n a p =
     let e : head.char ≡ c = first_same head.char c (head.more ++ r) q (sym (ap (λ z. z ++ r) head.is) ∙ g.1) in
     both_ways (begins_value head.char) (ap begins_value e ∙ n) head.begins
 
--- after a gap stands the sign
+-- after a gap comes the sign
 pub sign_here : (c : ℕ) (x w r : List ℕ) → x ≡ w ++ c ∷ r → Gap w (c ∷ r) → IsSign c x r
 sign_here c x w r e g = record { front = w; split = e; blank = gap_blanks c r g }
 
--- blanks may stand before a sign
+-- blanks are allowed before a sign
 pub sign_after : (c : ℕ) (w x r : List ℕ) → Blanks w → IsSign c x r → IsSign c (w ++ x) r
 sign_after c w x r b a = record { front = w ++ a.front; split = ap (λ z. w ++ z) a.split ∙ sym (append_assoc w a.front (c ∷ r)); blank = Blanks-append b a.blank }
 
--- after the gap before a sign it stands alone
+-- after the gap the sign comes without blanks
 pub sign_found : (c : ℕ) (x w y r : List ℕ) → is_solid c ≡ true → x ≡ w ++ y → Gap w y → Solid y → IsSign c x r → y ≡ c ∷ r
 sign_found c x w y r h e g s a = (one_gap a.front (c ∷ r) w y (Gap.blanks a.blank) (begins_solid c r h) g s (sym a.split ∙ e)).1
 
--- blanks may stand before a phrase
+-- blanks are allowed before a phrase
 pub reads_after : (w x r : List ℕ) (t : Tree) → Blanks w → Reads x t r → Reads (w ++ x) t r
 reads_after w x r t b p = record {
   front = w ++ p.front;
@@ -65,7 +65,7 @@ reads_after w x r t b p = record {
 pub phrase_found : (x w y r : List ℕ) (t : Tree) → x ≡ w ++ y → Gap w y → Solid y → (p : Reads x t r) → y ≡ p.phrase ++ r
 phrase_found x w y r t e g s p = (one_gap p.front (p.phrase ++ r) w y (Gap.blanks p.blank) (value_solid r (val_head p.value)) g s (sym p.split ∙ e)).1
 
--- and stands alone
+-- and comes without them
 pub reads_found : (x w y r : List ℕ) (t : Tree) → x ≡ w ++ y → Gap w y → Solid y → Reads x t r → Reads y t r
 reads_found x w y r t e g s p = record {
   front = [];
@@ -78,12 +78,12 @@ reads_found x w y r t e g s p = record {
 
 -- ---- arrays from the front
 
--- members may stand after the comma that is due
+-- elements may follow the comma that is due
 pub tail_comma : (ts : Trees) (x y r : List ℕ) → IsSign 44 x y → Tail ts false y r → Tail ts true x r
 tail_comma no_more x y r s c = inr (y, s, c)
 tail_comma (more t ts) x y r s (z, e, tl) = (z, (y, s, e), tl)
 
--- members and the bracket are read one after another
+-- elements and the bracket are read one after another
 pub members_tail : {m : List ℕ} {ts : Trees} (r : List ℕ) → ElementList m ts → Tail ts false (m ++ 93 ∷ r) r
 members_tail r (last {w = w} {s = s} {v = v} bw vs bv no_last_comma) = (
   v ++ 93 ∷ r,
@@ -101,7 +101,7 @@ members_tail r (next {w = w} {s = s} {v = v} {m = m} {ts = ts} bw vs bv ms) = (
   tail_comma ts (v ++ 44 ∷ (m ++ 93 ∷ r)) (m ++ 93 ∷ r) r (record { front = v; split = refl; blank = bv }) (members_tail r ms),
 )
 
--- what is read one after another are members and the bracket
+-- what is read one after another are elements and the bracket
 pub tail_members : (t : Tree) (ts : Trees) (x r : List ℕ) → Tail (more t ts) false x r → (m : List ℕ) × (x ≡ m ++ 93 ∷ r) × ElementList m (more t ts)
 tail_members t no_more x r (y, e, inl c) = (
   e.front ++ (e.phrase ++ (c.front ++ [])),
@@ -126,7 +126,7 @@ array_stops m [] = tt
 array_stops [] (c ∷ r) = refl
 array_stops (b ∷ m) (c ∷ r) = refl
 
--- an array is opened, its members are read, and it is closed
+-- an array is opened, its elements are read, and it is closed
 pub array_front : (x r : List ℕ) (ts : Trees) → Reads x (array ts) r → (y : List ℕ) × Opens x y × Tail ts false y r
 array_front x r ts p = by_value p.front p.phrase p.split p.blank p.value
   where

@@ -1,4 +1,4 @@
--- A text is a document, or it has a fault of the table, and not both.
+-- An input is a document, or it has a fault of the table, and not both.
 use Rattle.std.proofs.Common.{◌≡◌, ℕ, List, [], ◌∷◌, ◌++◌, refl, ap, sym, ◌∙◌, subst, ◌⊎◌, inl, inr, Option, Some, None}
 use Rattle.std.proofs.lemmas.List.{append-nil}
 use Rattle.json5_grammar.specs.Faults.Blames.{IsBlamed, TextBlame, ValueBlame, IsDocument, HasValue}
@@ -63,14 +63,14 @@ module _ (limit : ℕ) (x : List ℕ) (t : Tree) (r : List ℕ) where
 
 -- ---- judged
 
--- x has a fault of this code at this place, where something is expected that the test allows
+-- x has a fault of this code at this position, where something is expected that the test allows
 pub record Faulty (Where : Expects → Type 0) (limit : ℕ) (x : List ℕ) (code : Option ErrorCode) (place : Option (List ℕ)) : Type 0 where
   pub before : List ℕ
   pub part : List ℕ
   pub shown : Shown
   pub found : FaultWhere Where limit x code place before part shown
 
--- outside of brackets the place is that of reading
+-- outside of brackets the position is that of reading
 stood : (x : List ℕ) (there : Option (List ℕ)) (p : Place) → Stands x [] there p → IsAt x there p
 stood x (Some b) (here q) k = k
 stood x (Some b) inner k = absurd (cc)
@@ -116,7 +116,7 @@ pub no_fault : {limit : ℕ} {x b p : List ℕ} {e : Option ErrorCode} {pl : Opt
     → Fault limit x e pl b p h → ⊥
 no_fault {limit = limit} {x = x} {e = e} {pl = pl} t d f = not_both (document limit x) x [] t e pl (document_complete limit x t d) (fault_refused f)
 
--- of one code and one place
+-- of one code and one position
 pub one_fault : {limit : ℕ} {x b c p q : List ℕ} {e d : Option ErrorCode} {pl pm : Option (List ℕ)} {h k : Shown} → Fault limit x e pl b p h
     → Fault limit x d pm c q k → (e ≡ d) × (pl ≡ pm)
 one_fault {limit = limit} {x = x} {e = e} {d = d} {pl = pl} {pm = pm} f g =

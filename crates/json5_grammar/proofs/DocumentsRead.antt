@@ -1,4 +1,4 @@
--- A whole text: a document is read as its tree, and each part of another text that is refused refuses the whole.
+-- A whole input: a document is read as its tree, and an input of which a part is refused is refused.
 use Rattle.std.proofs.Common.{◌≡◌, ℕ, ◌≤◌, List, [], ◌∷◌, ◌++◌, refl, ap, sym, ◌∙◌, append_assoc, subst, Option, Some}
 use Rattle.json5_grammar.specs.Language.Blanks.{Gap, Solid}
 use Rattle.json5_grammar.specs.Faults.Codes.{after_text}
@@ -67,7 +67,7 @@ character_refused {w = w} t c r g s =
     refuses_after w (c ∷ r) (at_end t (c ∷ r)) (to_end t (w ++ c ∷ r)) (Some TrailingCharacters) (Some [])
     (λ p is. ap (λ m. and_then m (λ v q. at_end t q)) (gap_read g s) ∙ is) (here (c ∷ r), refl, refl)
 
--- what stands after the value
+-- what comes after the value
 pub rest_refused : {x r : List ℕ} {t : Tree} (limit : ℕ) (e : Option ErrorCode) (place : Option (List ℕ)) (p : Reads x t r) → depth t ≤ limit
     → Refuses (to_end t r) r e place → Refuses (document limit x) x e (after_text (p.front ++ p.phrase) place)
 rest_refused {x = x} {r = r} {t = t} limit e place p low k =

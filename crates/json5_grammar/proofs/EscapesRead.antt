@@ -1,4 +1,4 @@
--- An escape is read as it is spelled, and a faulty one is refused with its code and place.
+-- An escape is read as it is spelled, and a faulty one is refused with its code and position.
 use Rattle.std.proofs.Common.{◌≡◌, ℕ, ◌<◌, Bool, true, false, List, [], ◌∷◌, ◌++◌, length, refl, ap, sym, ◌∙◌, append_assoc, arith, ◌≢◌, ◌⊎◌, inl, inr, Option, Some, None}
 use Rattle.std.specs.Prelude.{◌==◌}
 use Rattle.std.proofs.lemmas.Bool.Decides.{nat_tests}

@@ -12,7 +12,7 @@ use Rattle.json5_grammar.specs.Model.ReadTexts.{hex, paired, second, second_u, f
 use Rattle.json5_grammar.proofs.Basics.{by_test, eq_from, neq_from}
 use Rattle.json5_grammar.proofs.Hexes.{wrong, cut, Hex4Sound, hex4_sound, Hex2Sound, hex2_sound}
 
--- x begins with a faulty escape of this code at this place
+-- x begins with a faulty escape of this code at this position
 pub record Blamed (m : Bool) (x : List ℕ) (code : Option ErrorCode) (p : Place) : Type 0 where
   pub place : Option (List ℕ)
   pub part : List ℕ

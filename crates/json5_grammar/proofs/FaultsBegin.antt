@@ -1,4 +1,4 @@
--- What stands before a fault's part begins a document.
+-- What comes before a fault's part begins a document.
 use Rattle.std.proofs.Common.{◌≡◌, ℕ, ◌≤◌, Bool, true, List, [], ◌∷◌, ◌++◌, length, refl, ap, sym, ◌∙◌, append_assoc, arith, subst, ◌⊎◌, inl, inr, Option}
 use Rattle.std.proofs.lemmas.List.{append-nil}
 use Rattle.json5_grammar.specs.Faults.Codes.{ErrorCode, Shown}
@@ -32,7 +32,7 @@ begins_before limit f g b =
     record { more = g ++ b.more; tree = b.tree; document = subst (λ z. Doc limit z b.tree) (append_assoc f g b.more) b.document }
 
 module _ (limit : ℕ) (f : List ℕ) (o : List Bracket) (a : Expects) where
-  -- nothing stands between the front and the part
+  -- nothing is between the front and the part
   before_nothing : {y : List ℕ} → Front limit f y o a → (b : List ℕ) → b ≡ [] → Begins limit (f ++ b)
   before_nothing h b e = subst (Begins limit) (sym (append-nil f) ∙ ap (λ z. f ++ z) (sym e)) (front_begins h)
 
@@ -123,7 +123,7 @@ row_begins h (in_number t w) = whole_front h
 row_begins h (in_a_string t w) = string_begins h t w
 row_begins h (in_a_name w) = name_fault_begins h w
 
--- what stands before a fault's part begins a document
+-- what comes before a fault's part begins a document
 pub fault_begins : {Where : Expects → Type 0} {limit : ℕ} {x b p : List ℕ} {e : Option ErrorCode} {pl : Option (List ℕ)} {how : Shown}
     → FaultWhere Where limit x e pl b p how → Begins limit b
 fault_begins (fault h w t) = row_begins h t

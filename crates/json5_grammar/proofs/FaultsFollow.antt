@@ -1,4 +1,4 @@
--- A fault that a character shows stands, whatever follows that character; so no document goes through it.
+-- A fault that a character shows remains, whatever follows that character; so no document goes through it.
 use Rattle.std.proofs.Common.{◌≡◌, ℕ, List, [], ◌∷◌, ◌++◌, refl, ap, sym, ◌∙◌, append_assoc, subst, Option, Some}
 use Rattle.json5_grammar.specs.Faults.Codes.{ErrorCode, by_char}
 use Rattle.json5_grammar.specs.Faults.Blames.{StandsIn, Shows}
@@ -52,7 +52,7 @@ row_follows z (in_number t w) = in_number t (whatever_follows z w)
 row_follows z (in_a_string t w) = in_a_string t (string_follows z w)
 row_follows z (in_a_name w) = in_a_name (name_follows z w)
 
--- a fault that a character shows stands, whatever follows that character
+-- a fault that a character shows remains, whatever follows that character
 pub fault_follows : {Where : Expects → Type 0} {limit : ℕ} {x b p : List ℕ} {e : Option ErrorCode} {pl : Option (List ℕ)} (z : List ℕ)
     → FaultWhere Where limit x e pl b p by_char → FaultWhere Where limit ((b ++ p) ++ z) e pl b p by_char
 fault_follows {Where = Where} {limit = limit} z (fault {f = f} {b = b} {p = p} {o = o} {code = code} {place = place} h w t) =

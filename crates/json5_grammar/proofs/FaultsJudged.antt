@@ -1,4 +1,4 @@
--- What reading refuses between tokens and within one is a fault of the table, with its code and its place.
+-- What reading refuses between tokens and within one is a fault of the table, with its code and its position.
 use Rattle.std.proofs.Common.{◌≡◌, ℕ, Bool, true, false, ◌||◌, List, [], ◌∷◌, ◌++◌, refl, ap, sym, ◌∙◌, append_assoc, subst, inl, inr, Option, Some, None, ◌≢◌}
 use Rattle.std.specs.Prelude.{◌==◌}
 use Rattle.std.proofs.lemmas.List.{append_cancel_left}
@@ -32,13 +32,13 @@ pub record Scope : Type 1 where
   pub limit : ℕ
   pub text : List ℕ
 
--- the place that reading gives, in the text x: where it gives none, that of the innermost bracket
+-- the position that reading gives, in the input x; if it gives none, that of the innermost bracket
 abbrev pub Stands : List ℕ → List Bracket → Option (List ℕ) → Place → Type 0
 Stands x o (Some b) (here q) = x ≡ b ++ q
 Stands x o None (here q) = ⊥
 Stands x o place inner = place ≡ innermost o
 
--- the text has a fault of this code, at the place that reading gives
+-- the input has a fault of this code, at the position that reading gives
 pub record Blamed (s : Scope) (o : List Bracket) (code : Option ErrorCode) (p : Place) : Type 0 where
   pub place : Option (List ℕ)
   pub before : List ℕ
@@ -52,7 +52,7 @@ abbrev pub Judged : {A : Type 0} → Scope → List Bracket → Read A → Type 
 Judged s o (got a r) = Unit {0}
 Judged s o (bad code p) = Blamed s o code p
 
--- a token's place, f standing before it
+-- a token's position, after f
 lifted_stands : (f y : List ℕ) (o : List Bracket) (place : Option (List ℕ)) (p : Place) → IsAt y place p
     → Stands (f ++ y) o (lifted f o place) p
 lifted_stands f y o (Some b) (here q) e = ap (λ z. f ++ z) e ∙ sym (append_assoc f b q)
@@ -60,7 +60,7 @@ lifted_stands f y o (Some b) inner e = absurd e
 lifted_stands f y o None (here q) e = absurd e
 lifted_stands f y o None inner e = refl
 
--- the place of a number's fault
+-- the position of a number's fault
 pub number_at : (y : List ℕ) (p : Place) (place : Option (List ℕ)) → PlaceIs y p place → IsAt y place p
 number_at y (here q) place (b, is, e) = rw is e
 number_at y inner place e = rw e tt
@@ -109,7 +109,7 @@ module _ (s : Scope) where
 
   -- ---- the faults where reading stands
 
-  -- the fault of what stands here
+  -- the fault of what comes here
   pub blame : {part b : List ℕ} {o : List Bracket} {a : Expects} {code : Option ErrorCode} (y : List ℕ) (place : Option (List ℕ))
       (shown : Shown) (p : Place)
       (h : At limit x y o a) → Where a → FaultAt limit o a y code place b part shown → IsAt y place p → Blamed s o code p
@@ -158,8 +158,8 @@ module _ (s : Scope) where
   -- ---- tokens
 
   -- a word, a number, a string where a value is expected
-  pub word_judged : {o : List Bracket} {a : Expects} (w y : List ℕ) (t : Tree) (m : Read (Unit {0})) → At limit x y o a → takes_value a ≡ true
-      → WordSound w y m → Judged s o (as_leaf (λ u. t) m)
+  pub word_judged : {o : List Bracket} {a : Expects} (w y : List ℕ) (t : Tree) (m : Read Tree) → At limit x y o a → takes_value a ≡ true
+      → WordSound t w y m → Judged s o m
   word_judged w y t (got u r) h k sound = tt
   word_judged w y t (bad e p) h k b = blame y b.place b.shown p h (takes_where _ k) (in_word k b.fault) b.is_at
 
@@ -173,7 +173,7 @@ module _ (s : Scope) where
   text_judged y (got a r) h k sound = tt
   text_judged y (bad e p) h k b = blame y b.place b.shown p h (takes_where _ k) (in_a_string (inl k) b.fault) b.is_at
 
-  -- a key, where no closing brace stands
+  -- a key, where no closing brace comes
   pub key_judged : {o : List Bracket} (c : ℕ) (r : List ℕ) → At limit x (c ∷ r) o key → is_solid c ≡ true → (c == 125) ≡ false
       → Judged s o (texts.key (c ∷ r))
   key_judged {o = o} c r h solid n = split (is_quote c || ((c == 92) || is_identifier_start c)) refl

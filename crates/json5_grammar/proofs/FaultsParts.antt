@@ -1,4 +1,4 @@
--- Where a fault's part stands in the text, and that it has the form of a part.
+-- Where a fault's part is in the input, and that it has the form of a part.
 use Rattle.std.proofs.Common.{◌≡◌, ℕ, Bool, List, [], ◌∷◌, ◌++◌, refl, ap, sym, ◌∙◌, append_assoc, Option}
 use Rattle.std.proofs.lemmas.List.{append-nil}
 use Rattle.json5_grammar.specs.Faults.Codes.{ErrorCode, Shown, by_char, by_end}
@@ -99,7 +99,7 @@ row_in (in_number t w) = number_in w
 row_in (in_a_string t w) = string_in w
 row_in (in_a_name w) = name_in w
 
--- the part stands in the text, after what stands before it
+-- the input has the part after what comes before it
 pub fault_in : {Where : Expects → Type 0} {limit : ℕ} {x b p : List ℕ} {e : Option ErrorCode} {pl : Option (List ℕ)} {how : Shown}
     → FaultWhere Where limit x e pl b p how → StandsIn x b p how
 fault_in (fault {f = f} {b = b} {p = p} h w t) = let (q, e, k) = row_in t in (q, ap (λ z. f ++ z) e ∙ in_front_of f b p q, k)

@@ -1,4 +1,4 @@
--- What reading refuses a value or a document with is a fault of the table, with its code and its place.
+-- What reading refuses a value or a document with is a fault of the table, with its code and its position.
 use Rattle.std.proofs.Common.{◌≡◌, ℕ, zero, suc, ◌+◌, true, false, ◌||◌, List, [], ◌∷◌, length, refl, sym, arith, subst, Some}
 use Rattle.std.specs.Prelude.{◌==◌}
 use Rattle.std.proofs.lemmas.Bool.Decides.{nat_tests}
@@ -58,11 +58,11 @@ module _ (s : Scope) where
       with_judged [] h solid n = the_end s EofParsingValue h (takes_where s a takes) (value_missing takes)
       with_judged (c ∷ r) h solid n =
           by_test (Judged s o) (c == 110) _ _
-          (λ i. word_judged s null_text (c ∷ r) null _ h takes (word_sound 110 _ c r null_word i))
+          (λ i. word_judged s null_text (c ∷ r) null _ h takes (word_sound null 110 _ c r null_word i))
           (λ i. by_test (Judged s o) (c == 116) _ _
-          (λ j. word_judged s true_text (c ∷ r) (boolean true) _ h takes (word_sound 116 _ c r true_word j))
+          (λ j. word_judged s true_text (c ∷ r) (boolean true) _ h takes (word_sound (boolean true) 116 _ c r true_word j))
           (λ j. by_test (Judged s o) (c == 102) _ _
-          (λ k. word_judged s false_text (c ∷ r) (boolean false) _ h takes (word_sound 102 _ c r false_word k))
+          (λ k. word_judged s false_text (c ∷ r) (boolean false) _ h takes (word_sound (boolean false) 102 _ c r false_word k))
           (λ k. by_test (Judged s o) (is_quote c) _ _
           (λ q. text_judged s (c ∷ r) (string (c ∷ r)) h takes (string_sound c r q))
           (λ q. by_test (Judged s o) (is_sign c || begins_number c) _ _

@@ -1,4 +1,4 @@
--- A fault of the table is what reading refuses the text with: its code, at its place.
+-- A fault of the table is what reading refuses the input with: its code, at its position.
 use Rattle.std.proofs.Common.{◌≡◌, ℕ, suc, ◌-◌, Bool, true, false, cond, ◌||◌, List, [], ◌∷◌, length, refl, ap, sym, ◌∙◌, arith, subst, ◌⊎◌, inl, inr, Option, Some, ◌≢◌}
 use Rattle.std.specs.Prelude.{◌==◌}
 use Rattle.std.proofs.lemmas.Bool.{or_parts}
@@ -66,7 +66,7 @@ no_value_left finish limit o colon t f = absurd (cc)
 no_value_left finish limit o comma t f = absurd (cc)
 no_value_left finish limit o end t f = absurd (cc)
 
--- after a member
+-- after an element or a pair
 comma_left : (finish : Finish) (limit : ℕ) (k : BracketKind) (o : List Bracket) (y : List ℕ) (e : Option ErrorCode) (p : Place) → IsIn k o
     → skip between y ≡ got tt y → comma_at k y ≡ bad e p → left_at finish limit o comma y ≡ bad e p
 unfolding separator
@@ -191,7 +191,7 @@ where_refused : {Where : Expects → Type 0} {limit : ℕ} {x b part : List ℕ}
     → Refuses (phrase_then finish limit x) x code place
 where_refused finish g (fault {a = a} {place = place} h w t) = refused_at finish place h (row_refused finish (g a w) (front_fits h) t)
 
--- a fault of the table is refused with its code at its place
+-- a fault of the table is refused with its code at its position
 pub fault_refused : {limit : ℕ} {x b part : List ℕ} {code : Option ErrorCode} {place : Option (List ℕ)} {shown : Shown}
     → Fault limit x code place b part shown → Refuses (document limit x) x code place
 fault_refused {limit = limit} {x = x} {code = code} t =

@@ -1,4 +1,4 @@
--- The part of a fault that a character shows ends with that character, and the place is there or before it, within the part.
+-- The part of a fault that a character shows ends with that character, and the position is there or before it, within the part.
 use Rattle.std.proofs.Common.{◌≡◌, ℕ, Bool, List, [], ◌∷◌, ◌++◌, refl, ap, sym, ◌∙◌, append_assoc, subst, Option, Some}
 use Rattle.std.proofs.lemmas.List.{append-nil}
 use Rattle.json5_grammar.specs.Faults.Codes.{ErrorCode, by_char, after_text}
@@ -97,7 +97,7 @@ row_shows (in_number t w) = number_shows w
 row_shows (in_a_string t w) = string_shows w
 row_shows (in_a_name w) = name_shows w
 
--- the part ends with the character that shows the fault, and the place is at that character or before it, within the part
+-- the part ends with the character that shows the fault, and the position is at that character or before it, within the part
 pub fault_shows : {Where : Expects → Type 0} {limit : ℕ} {x b p : List ℕ} {e : Option ErrorCode} {pl : Option (List ℕ)}
     → FaultWhere Where limit x e pl b p by_char → Shows b p pl
 fault_shows (fault {f = f} {b = b} {o = o} k w t) =

@@ -1,4 +1,4 @@
--- What is found at the front, and a fault's place in the text: steps one after another.
+-- What is found at the front, and a fault's position in the input: steps one after another.
 use Rattle.std.proofs.Common.{◌≡◌, ℕ, List, [], ◌++◌, refl, ap, sym, ◌∙◌, append_assoc, Option, Some, None}
 use Rattle.json5_grammar.specs.Model.Reading.{Place, here, inner, Read, got, bad, and_then, placed, IsAt}
 

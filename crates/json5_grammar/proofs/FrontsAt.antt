@@ -1,4 +1,4 @@
--- Where reading stands in a text: what was read is a front, and each step leads to the next front.
+-- How far an input was read: what was read is a front, and each step leads to the next front.
 use Rattle.std.proofs.Common.{◌≡◌, ℕ, ◌+◌, ◌<◌, Bool, true, List, [], ◌∷◌, ◌++◌, length, refl, ap, sym, ◌∙◌, append_assoc, arith, subst}
 use Rattle.std.proofs.lemmas.List.{append-nil}
 use Rattle.json5_grammar.specs.Language.Blanks.{Blanks, Gap, at_end}

@@ -95,7 +95,7 @@ module _ (limit : ℕ) where
   end_goes y q (got u (c ∷ r)) f k = absurd (cc)
   end_goes y q (bad c p) f k = absurd (cc)
 
-  -- what reading members and pairs finds, from their start and after one
+  -- what reading elements and pairs finds, from their start and after one
   members_found : (d : ℕ) (z : List ℕ) → Found (AreMembers d false z) z (read_elements (read d) (suc (length z)) z)
   members_found d z = items_found d (read d) (read_found d) (suc (length z)) z
 

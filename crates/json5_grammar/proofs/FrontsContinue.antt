@@ -114,7 +114,7 @@ goes_on o colon = 58 ∷ null_text ++ closers o
 goes_on o comma = closers o
 goes_on o end = []
 
--- a closing bracket is read where a comma is expected, and where a member is
+-- a closing bracket is read where a comma is expected, and where an element or a pair is
 close_solid : (k : BracketKind) (y : List ℕ) → skip between (closing k ∷ y) ≡ got tt (closing k ∷ y)
 close_solid of_array y = skip_rest (93 ∷ y) (begins_solid 93 y (printable_solid 93 refl refl))
 close_solid of_object y = skip_rest (125 ∷ y) (begins_solid 125 y (printable_solid 125 refl refl))

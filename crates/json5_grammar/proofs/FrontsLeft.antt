@@ -1,4 +1,4 @@
--- What is left to read where a front ends: in its innermost bracket, and then in those round it.
+-- What is left to read where a front ends: in its innermost bracket, and then in those around it.
 use Rattle.std.proofs.Common.{◌≡◌, ℕ, ◌-◌, Bool, true, false, cond, List, [], ◌∷◌, ◌++◌, length, refl, ap, sym, ◌∙◌}
 use Rattle.std.specs.Prelude.{drop}
 use Rattle.json5_grammar.specs.Language.Blanks.{Gap}
@@ -57,7 +57,7 @@ gap_then finish limit o m = and_then m (λ u z. value_then finish limit o z)
 abbrev pub colon_then : Finish → ℕ → List Bracket → Read (Unit {0}) → Read (Unit {0})
 colon_then finish limit o m = and_then (and_then m (λ u y. and_then (colon_at y) (λ v z. skip between z))) (λ u z. value_then finish limit o z)
 
--- a member or the closing bracket, and a comma or the closing bracket
+-- an element, a pair or the closing bracket; a comma or the closing bracket
 abbrev pub member_turn : BracketKind → ℕ → Read (Unit {0}) → Read (Unit {0})
 member_turn k d m = and_then (and_then m (λ u y. member_head k y)) (turn k d)
 
@@ -71,7 +71,7 @@ whole_of finish limit x (b ∷ o) m = whole_of finish limit x o (rest_then finis
 
 -- ---- blanks change nothing
 
--- before a member, a comma, the next value and the rest of a bracket
+-- before an element or a pair, a comma, the next value and the rest of a bracket
 gap_member : (k : BracketKind) (w r : List ℕ) → Gap w r → member_at k (w ++ r) ≡ member_at k r
 unfolding member_at
 gap_member k w r g = ap (λ m. and_then m (λ u y. member_head k y)) (skip_gap g)
@@ -87,15 +87,11 @@ gap_next k true w r g = ap (λ m. and_then m (λ more y. cond more (member_at k 
 pub gap_rest : (k : BracketKind) (comma_due : Bool) (d : ℕ) (w r : List ℕ) → Gap w r → rest_of_bracket k comma_due d (w ++ r) ≡ rest_of_bracket k comma_due d r
 gap_rest k comma_due d w r g = rest_step k comma_due d (w ++ r) ∙ ap (λ m. and_then m (turn k d)) (gap_next k comma_due w r g) ∙ sym (rest_step k comma_due d r)
 
--- after a value, and where a member may begin
+-- after a value, and where an element or a pair may begin
 pub gap_after : (finish : Finish) (limit : ℕ) (o : List Bracket) (w r : List ℕ) → Gap w r
     → rest_after finish limit o (w ++ r) ≡ rest_after finish limit o r
 gap_after finish limit [] w r g = finish.gap w r g
 gap_after finish limit (b ∷ o) w r g = gap_rest b.kind true (room limit (b ∷ o)) w r g
-
-gap_members : (finish : Finish) (limit : ℕ) (b : Bracket) (o : List Bracket) (w r : List ℕ) → Gap w r
-    → members_at finish limit (b ∷ o) (w ++ r) ≡ members_at finish limit (b ∷ o) r
-gap_members finish limit b o w r g = gap_rest b.kind false (room limit (b ∷ o)) w r g
 
 -- ---- what is expected fits the bracket
 

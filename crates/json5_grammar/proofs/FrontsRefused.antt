@@ -1,4 +1,4 @@
--- What is refused where a front ends is refused in the whole text, at the place within it.
+-- What is refused where a front ends is refused in the whole input, at the position within it.
 use Rattle.std.proofs.Common.{◌≡◌, ℕ, List, [], ◌∷◌, ◌++◌, length, refl, ap, sym, ◌∙◌, append_assoc, Option, Some, None}
 use Rattle.std.specs.Prelude.{drop}
 use Rattle.std.proofs.lemmas.List.{drop_at}
@@ -12,13 +12,13 @@ use Rattle.json5_grammar.proofs.FrontsReached.{front_reached}
 
 -- ---- what is refused in a bracket is refused in the whole
 
--- a place within the text stays
+-- a position within the input stays
 whole_here : (finish : Finish) (limit : ℕ) (x : List ℕ) (o : List Bracket) (e : Option ErrorCode) (q : List ℕ)
     → whole_of finish limit x o (bad e (here q)) ≡ bad e (here q)
 whole_here finish limit x [] e q = refl
 whole_here finish limit x (b ∷ o) e q = whole_here finish limit x o e q
 
--- the text of the innermost bracket's place
+-- what comes before the innermost bracket
 pub bracket_before : {limit : ℕ} {f r : List ℕ} {o : List Bracket} {a : Expects} → Front limit f r o a → (b : Bracket) (p : List Bracket)
     → o ≡ b ∷ p → (q : List ℕ) × (f ≡ b.before ++ q)
 bracket_before (start g) b p e = absurd (cc)

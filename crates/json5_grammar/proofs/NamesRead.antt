@@ -1,4 +1,4 @@
--- A name is read as it is spelled, and a faulty one is refused with its code and place.
+-- A name is read as it is spelled, and a faulty one is refused with its code and position.
 use Rattle.std.proofs.Common.{◌≡◌, ℕ, zero, suc, ◌<◌, Bool, true, false, ◌&&◌, ◌||◌, List, [], ◌∷◌, ◌++◌, length, refl, ap, sym, ◌∙◌, append_assoc, arith, ◌≢◌, Option, Some, length-append}
 use Rattle.std.specs.Prelude.{◌==◌}
 use Rattle.std.proofs.lemmas.List.{append-nil}
@@ -155,7 +155,7 @@ name_refused (name_ends {t = t} {u = u} {escape_free = escape_free} i) =
     (inner, ap identifier (sym (append-nil t)) ∙ j.2 ∙ ap (put u escape_free) (at_end j.0), tt)
 name_refused (backslash_ends k) = (inner, named_bad [] _ _ k (cut_off (92 ∷ [])), tt)
 
--- the code and the place are the only ones
+-- the code and the position are the only ones
 pub one_name_fault : {x b c p q : List ℕ} {e f : Option ErrorCode} {pl pm : Option (List ℕ)} {h i : Shown} → NameFault x e pl b p h → NameFault x f pm c q i → (e ≡ f) × (pl ≡ pm)
 one_name_fault {x = x} {e = e} {f = f} {pl = pl} {pm = pm} a b = one_refusal (identifier x) x e f pl pm (name_refused a) (name_refused b)
 

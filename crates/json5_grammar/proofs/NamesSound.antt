@@ -78,7 +78,7 @@ parts_sound (suc n) (c ∷ r) l =
 
 -- ---- whole names
 
--- x has a fault of a name with this code at this place
+-- x has a fault of a name with this code at this position
 pub record NameBlamed (x : List ℕ) (code : Option ErrorCode) (p : Place) : Type 0 where
   pub place : Option (List ℕ)
   pub before : List ℕ

@@ -1,11 +1,11 @@
--- What is read at some texts.
+-- Examples: numbers that are read, refused and written.
 use Rattle.std.proofs.Common.{◌≡◌, ◌^◌, ◌-◌, true, false, [], refl, Some, None}
 use Rattle.std.specs.Prelude.{pos, negsuc, neg_ℤ}
 use lib.Chars.{codes}
 use Rattle.json5_grammar.specs.Language.Numbers.{whole, decimal, finite}
 use Rattle.json5_grammar.specs.Faults.Codes.{ExpectedNumber, EofParsingNumber, OverflowParsingNumber, LeadingZero}
-use Rattle.json5_grammar.specs.Model.Reading.{got, bad, here, inner}
-use Rattle.json5_grammar.specs.Model.ReadNumbers.{number, unsigned, word, hex_digits, front_of, rest_of, literal_at, judged}
+use Rattle.json5_grammar.specs.Model.Reading.{got, bad, here, inner, word_at}
+use Rattle.json5_grammar.specs.Model.ReadNumbers.{number, unsigned, hex_digits, front_of, rest_of, literal_at, judged}
 use Rattle.json5_grammar.specs.Written.NumberText.{decimal_text}
 
 minus_zero : number (codes "-0") ≡ got (whole (pos 0)) []
@@ -61,7 +61,7 @@ unfolding number unsigned
 two_signs = refl
 
 word_cut : number (codes "-Infi") ≡ bad (Some EofParsingNumber) inner
-unfolding number unsigned word
+unfolding number unsigned word_at
 word_cut = refl
 
 hex : number (codes "-0X80000000000000000000000000000000g") ≡ got (whole (neg_ℤ (pos (2 ^ 127)))) (codes "g")

@@ -1,4 +1,4 @@
--- A number's fault that a character shows stands whatever follows it.
+-- A number's fault that a character shows remains, whatever follows it.
 use Rattle.std.proofs.Common.{◌≡◌, ℕ, Bool, List, [], ◌∷◌, ◌++◌, refl, ap, sym, ◌∙◌, append_assoc, Option}
 use Rattle.std.proofs.lemmas.List.{append-nil}
 use Rattle.json5_grammar.specs.Faults.Codes.{ErrorCode, Shown, by_char}

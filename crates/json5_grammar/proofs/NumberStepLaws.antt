@@ -62,7 +62,7 @@ past false n f g cap h k l = out_of_exponents (pos n -ℤ pos f +ℤ pos g) (inl
 le_or : (a b : ℕ) → (a ≤ b) ⊎ (b ≤ a)
 le_or a b = grind arith
 
--- a capped exponent is in range exactly when the written one is, f digits standing after the point and g zeros gone at the end
+-- a capped exponent is in range exactly when the written one is, with f digits after the point and g zeros gone at the end
 pub capped_range : (m : Bool) (w f g cap : ℕ) → f + 32768 ≤ cap → g + 32769 ≤ cap → in_exponents (signed m (min cap w) -ℤ pos f +ℤ pos g) ≡ in_exponents (signed m w -ℤ pos f +ℤ pos g)
 capped_range m w f g cap k l = by (le_or w cap)
   where

@@ -6,8 +6,8 @@ use Rattle.std.proofs.lemmas.Int.{ints}
 use Rattle.json5_grammar.specs.Language.Characters.{is_digit, is_hex_digit, NotBegun, Each, char}
 use Rattle.json5_grammar.specs.Language.Numbers.{Sign, no_sign, plus, minus, signed, spelled, Literal, Number, whole, decimal, finite, Num, is_infinite, is_nan, is_hexadecimal, is_integer, is_decimal, hex_start, InWhole, InExponents, IsWholeLiteral, all_digits, without_zeros, exponent_of, in_run, begins_run, after_zero, lengthens_body, lengthens}
 use Rattle.json5_grammar.specs.Faults.Tokens.{is_sign}
-use Rattle.json5_grammar.specs.Model.Reading.{got}
-use Rattle.json5_grammar.specs.Model.ReadNumbers.{Parts, front_of, rest_of, literal_at, in_whole, is_whole, judged, if_literal, hex_judged, hexadecimal, hex_digits, word, unsigned, number}
+use Rattle.json5_grammar.specs.Model.Reading.{got, word_at}
+use Rattle.json5_grammar.specs.Model.ReadNumbers.{Parts, front_of, rest_of, literal_at, in_whole, is_whole, judged, if_literal, hex_judged, hexadecimal, hex_digits, unsigned, number}
 use Rattle.json5_grammar.proofs.NumberTests.{in_whole_yes, in_whole_true, in_exponents_true, begins_run_others, dot_or_e_others, hex_start_no_digit, front_all, rest_all}
 use Rattle.json5_grammar.proofs.Hexadecimal.{hex_over, hex_stop}
 use Rattle.json5_grammar.proofs.Literals.{literal_found, literal_run, literal_head, Head, alone, longer, Longer, zero_more, begun}
@@ -178,7 +178,7 @@ pub lengthens_bare : {s l : List ℕ} {m : Bool} → Sign s m → Bare l → (d 
 lengthens_bare g (bare {c = c} {t = t} h) d = lengthens_unsigned c t d g h
 
 pub complete : {s : List ℕ} {n : Number} → Num s n → (r : List ℕ) → NotBegun (lengthens s) r → number (s ++ r) ≡ got n r
-unfolding unsigned word
+unfolding unsigned word_at
 complete (is_infinite g) r st = number_bare r g (bare refl)
 complete (is_nan g) r st = number_bare r g (bare refl)
 complete (is_hexadecimal {s = s} {h = h} x {d = d} {m = m} g k e b) r st =

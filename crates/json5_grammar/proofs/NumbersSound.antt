@@ -1,5 +1,5 @@
 -- What is read is a number, and a fault is one of the table.
-use Rattle.std.proofs.Common.{◌≡◌, ℕ, ◌+◌, ◌*◌, ◌^◌, ◌<◌, ◌≤◌, Bool, true, false, ◌||◌, List, [], ◌∷◌, ◌++◌, refl, ap, sym, ◌∙◌, append_assoc, arith, ◌≢◌, ◌⊎◌, inl, inr, subst, Option, Some, None}
+use Rattle.std.proofs.Common.{◌≡◌, ℕ, ◌+◌, ◌*◌, ◌^◌, ◌<◌, ◌≤◌, Bool, true, false, ◌||◌, List, [], ◌∷◌, ◌++◌, refl, ap, sym, ◌∙◌, append_assoc, arith, ◌≢◌, inl, inr, subst, Option, Some, None}
 use Rattle.std.specs.Prelude.{◌==◌, ℤ, pos, nat_le, nat_lt}
 use Rattle.std.specs.Char.{digit_value}
 use Rattle.std.proofs.lemmas.Bool.Decides.{nat_tests}
@@ -9,14 +9,15 @@ use Rattle.json5_grammar.specs.Language.Characters.{is_digit, is_hex_digit, NotB
 use Rattle.json5_grammar.specs.Language.Numbers.{Sign, no_sign, plus, minus, signed, spelled, integer, lone_zero, no_exponent, Literal, literal, Number, whole, decimal, infinite, nan, finite, Num, is_infinite, is_nan, is_hexadecimal, is_integer, is_decimal, hex_start, InWhole, IsWholeLiteral, all_digits, without_zeros, exponent_of, in_run, begins_run, after_zero, lengthens_body, lengthens}
 use Rattle.json5_grammar.specs.Faults.Codes.{ErrorCode, Shown, by_char, by_end, ExpectedNumber, EofParsingNumber, OverflowParsingNumber, LeadingZero}
 use Rattle.json5_grammar.specs.Faults.Tokens.{is_sign, begins_number, NumberWord, DecimalRun, run, zero_run, RunEnd, run_at_end, run_at_char, NumberFault, number_word_differs, number_word_ends, sign_without_number, sign_ends, no_hexadecimal_digit, hexadecimal_ends, hexadecimal_overflows, negative_too_large, not_a_literal, literal_overflows, leading_zero}
-use Rattle.json5_grammar.specs.Model.Reading.{Place, Read, got, bad, here, inner}
-use Rattle.json5_grammar.specs.Model.ReadNumbers.{Parts, front_of, rest_of, literal_at, in_exponents, is_whole, judged, if_literal, decimal_run, at_zero, hex_judged, hexadecimal, hex_digits, word, unsigned, number}
+use Rattle.json5_grammar.specs.Model.Reading.{Place, Read, got, bad, here, inner, word_at}
+use Rattle.json5_grammar.specs.Model.ReadNumbers.{Parts, front_of, rest_of, literal_at, in_exponents, is_whole, judged, if_literal, decimal_run, at_zero, hex_judged, hexadecimal, hex_digits, unsigned, number}
 use Rattle.json5_grammar.proofs.Basics.{by_test, eq_from, neq_from, rest_same, cons_not_nil, lt_from, le_from}
 use Rattle.json5_grammar.proofs.NumberTests.{in_whole_yes, in_whole_true, in_exponents_yes, begins_run_in_run, dot_or_e_in_run, front_each, rest_stops, front_rest}
 use Rattle.json5_grammar.proofs.Literals.{literal_found, literal_is, LiteralIs, literal_head, Longer, zero_more, begun}
+use Rattle.json5_grammar.proofs.WordsRead.{WordIs, word_is}
 use Rattle.json5_grammar.proofs.NumbersRead.{number_bare, lengthens_bare, lengthens_longer, lengthens_hex, stops_same, signed_zero, run_read, Bare, bare, longer_bare, head_bare, complete}
 
--- where a place is in the text x: pl is what stands before it
+-- in the input x, pl is what comes before the place
 abbrev pub PlaceIs : List ℕ → Place → Option (List ℕ) → Type 0
 PlaceIs x (here q) pl = (b : List ℕ) × (pl ≡ Some b) × (x ≡ b ++ q)
 PlaceIs x inner pl = pl ≡ None
@@ -39,28 +40,8 @@ stops_none p f (d ∷ r) = f d
 
 -- ---- words
 
-abbrev WordIs : Number → List ℕ → List ℕ → Read Number → Type 0
-WordIs n ks x (got k r) = (k ≡ n) × (x ≡ ks ++ r)
-WordIs n ks x (bad e p) =
-    ((v : List ℕ) × (d : ℕ) × (q : List ℕ) × (c : ℕ) × (r : List ℕ) × (ks ≡ v ++ d ∷ q) × (x ≡ v ++ c ∷ r) × (c ≢ d) × (e ≡ Some ExpectedNumber) × (p ≡ here (c ∷ r)))
-    ⊎ ((d : ℕ) × (q : List ℕ) × (ks ≡ x ++ d ∷ q) × (e ≡ Some EofParsingNumber) × (p ≡ inner))
-
-word_more : (n : Number) (k : ℕ) (ks x : List ℕ) (res : Read Number) → WordIs n ks x res → WordIs n (k ∷ ks) (k ∷ x) res
-word_more n k ks x (got m r) (a, e) = (a, ap (λ z. k ∷ z) e)
-word_more n k ks x (bad e p) (inl (v, d, q, c, r, a, b, t, i, j)) = inl (k ∷ v, d, q, c, r, ap (λ z. k ∷ z) a, ap (λ z. k ∷ z) b, t, i, j)
-word_more n k ks x (bad e p) (inr (d, q, a, i, j)) = inr (d, q, ap (λ z. k ∷ z) a, i, j)
-
-word_is : (n : Number) (ks x : List ℕ) → WordIs n ks x (word n ks x)
-unfolding word
-word_is n [] x = (refl, refl)
-word_is n (k ∷ ks) [] = inr (k, ks, refl, refl, refl)
-word_is n (k ∷ ks) (c ∷ r) =
-    by_test (WordIs n (k ∷ ks) (c ∷ r)) (c == k) (word n ks r) (bad (Some ExpectedNumber) (here (c ∷ r)))
-    (λ h. subst (λ z. WordIs n (k ∷ ks) (z ∷ r) (word n ks r)) (sym (eq_from c k h)) (word_more n k ks r (word n ks r) (word_is n ks r)))
-    (λ h. inl ([], k, ks, c, r, refl, refl, neq_from c k h, refl, refl))
-
 word_sound : {s : List ℕ} {m : Bool} (k : ℕ) (ks : List ℕ) (n : Number) (r : List ℕ) (res : Read Number) → Sign s m → NumberWord (k ∷ ks) → Num (s ++ k ∷ ks) n → ((y : List ℕ) → NotBegun (lengthens (s ++ k ∷ ks)) y)
-    → WordIs n ks r res → SoundNumber (s ++ k ∷ r) res
+    → WordIs EofParsingNumber ExpectedNumber n ks r res → SoundNumber (s ++ k ∷ r) res
 word_sound {s = s} k ks n r (got i y) g w a st (e, f) = (s ++ k ∷ ks, ap (λ z. s ++ k ∷ z) f ∙ sym (append_assoc s (k ∷ ks) y), rw e a, st y)
 word_sound {s = s} k ks n r (bad e p) g w a st (inl (v, d, q, c, y, i, j, t, u, l)) =
     rw (u, l) (subst (λ z. Faulted (s ++ k ∷ z) (Some ExpectedNumber) (here (c ∷ y))) (sym j) (record {
@@ -290,12 +271,12 @@ body_sound : {s : List ℕ} {m : Bool} (c : ℕ) (r : List ℕ) → Sign s m →
 unfolding unsigned
 body_sound {s = s} {m = m} c r g h =
     let q = s ++ c ∷ r in
-    by_test (SoundNumber q) (c == 73) (word (decimal (infinite m)) (codes "nfinity") r) _
-    (λ a. subst (λ z. SoundNumber (s ++ z ∷ r) (word (decimal (infinite m)) (codes "nfinity") r)) (sym (eq_from c 73 a))
-    (word_sound 73 (codes "nfinity") (decimal (infinite m)) r (word (decimal (infinite m)) (codes "nfinity") r) g NumberWord.infinity (is_infinite g) (word_stops 73 (codes "nfinity") refl (λ d. refl) g) (word_is (decimal (infinite m)) (codes "nfinity") r)))
-    (λ a. by_test (SoundNumber q) (c == 78) (word (decimal (nan m)) (codes "aN") r) _
-    (λ b. subst (λ z. SoundNumber (s ++ z ∷ r) (word (decimal (nan m)) (codes "aN") r)) (sym (eq_from c 78 b))
-    (word_sound 78 (codes "aN") (decimal (nan m)) r (word (decimal (nan m)) (codes "aN") r) g NumberWord.nan (is_nan g) (word_stops 78 (codes "aN") refl (λ d. refl) g) (word_is (decimal (nan m)) (codes "aN") r)))
+    by_test (SoundNumber q) (c == 73) (word_at EofParsingNumber ExpectedNumber (decimal (infinite m)) (codes "nfinity") r) _
+    (λ a. subst (λ z. SoundNumber (s ++ z ∷ r) (word_at EofParsingNumber ExpectedNumber (decimal (infinite m)) (codes "nfinity") r)) (sym (eq_from c 73 a))
+    (word_sound 73 (codes "nfinity") (decimal (infinite m)) r (word_at EofParsingNumber ExpectedNumber (decimal (infinite m)) (codes "nfinity") r) g NumberWord.infinity (is_infinite g) (word_stops 73 (codes "nfinity") refl (λ d. refl) g) (word_is EofParsingNumber ExpectedNumber (decimal (infinite m)) (codes "nfinity") r)))
+    (λ a. by_test (SoundNumber q) (c == 78) (word_at EofParsingNumber ExpectedNumber (decimal (nan m)) (codes "aN") r) _
+    (λ b. subst (λ z. SoundNumber (s ++ z ∷ r) (word_at EofParsingNumber ExpectedNumber (decimal (nan m)) (codes "aN") r)) (sym (eq_from c 78 b))
+    (word_sound 78 (codes "aN") (decimal (nan m)) r (word_at EofParsingNumber ExpectedNumber (decimal (nan m)) (codes "aN") r) g NumberWord.nan (is_nan g) (word_stops 78 (codes "aN") refl (λ d. refl) g) (word_is EofParsingNumber ExpectedNumber (decimal (nan m)) (codes "aN") r)))
     (λ b. by_test (SoundNumber q) (c == 48) (at_zero q m r) _
     (λ z. subst (λ d. SoundNumber (s ++ d ∷ r) (at_zero (s ++ d ∷ r) m r)) (sym (eq_from c 48 z)) (at_zero_sound r g))
     (λ z. by_test (SoundNumber q) (begins_run c) (decimal_run q m (c ∷ r)) (bad (Some ExpectedNumber) (here (c ∷ r)))

@@ -1,4 +1,4 @@
--- A number's fault is what the reader answers, so a text has one code and place, and no number.
+-- A number's fault is what the reader answers; so it has one code and one position, and no number is in front.
 use Rattle.std.proofs.Common.{◌≡◌, ℕ, ◌+◌, ◌*◌, ◌^◌, ◌<◌, ◌≤◌, Bool, true, false, ◌||◌, List, [], ◌∷◌, ◌++◌, refl, ap, sym, ◌∙◌, append_assoc, arith, ◌≢◌, subst, Option, Some, None}
 use Rattle.std.specs.Prelude.{◌==◌, ℤ, nat_le, nat_lt}
 use Rattle.std.specs.Char.{digit_value}
@@ -9,17 +9,18 @@ use Rattle.json5_grammar.specs.Language.Characters.{is_digit, is_hex_digit, NotB
 use Rattle.json5_grammar.specs.Language.Numbers.{Sign, minus, spelled, Literal, Number, decimal, infinite, nan, Num, is_decimal, exponent_of, in_run, lengthens}
 use Rattle.json5_grammar.specs.Faults.Codes.{ErrorCode, Shown, ExpectedNumber, EofParsingNumber, OverflowParsingNumber}
 use Rattle.json5_grammar.specs.Faults.Tokens.{is_sign, NumberWord, Cut, DecimalRun, run, zero_run, RunEnd, run_at_end, run_at_char, NumberFault, number_word_differs, number_word_ends, sign_without_number, sign_ends, no_hexadecimal_digit, hexadecimal_ends, hexadecimal_overflows, negative_too_large, not_a_literal, literal_overflows, leading_zero}
-use Rattle.json5_grammar.specs.Model.Reading.{Place, got, bad, here, inner}
-use Rattle.json5_grammar.specs.Model.ReadNumbers.{Parts, literal_at, in_exponents, is_whole, if_literal, hex_judged, hexadecimal, hex_digits, word, unsigned, number}
-use Rattle.json5_grammar.proofs.Basics.{not_eq, same_char}
+use Rattle.json5_grammar.specs.Model.Reading.{Place, got, bad, here, inner, word_at}
+use Rattle.json5_grammar.specs.Model.ReadNumbers.{Parts, literal_at, in_exponents, is_whole, if_literal, hex_judged, hexadecimal, hex_digits, unsigned, number}
+use Rattle.json5_grammar.proofs.Basics.{not_eq}
 use Rattle.json5_grammar.proofs.NumberTests.{in_exponents_yes, begins_run_in_run, dot_or_e_in_run}
 use Rattle.json5_grammar.proofs.Hexadecimal.{spelled-append, hex_stop, hex_over}
 use Rattle.json5_grammar.proofs.Literals.{literal_is, LiteralIs, literal_head, Longer, zero_more, begun}
 use Rattle.json5_grammar.proofs.NumbersRead.{number_unsigned, number_bare, unsigned_hex, unsigned_run, run_read, longer_bare, head_bare, complete}
 use Rattle.json5_grammar.proofs.NumbersSound.{PlaceIs, unsigned_bad, unsigned_end, sign_split, whole_num, whole_true, judged_bad, got_not_bad, true_not_false}
 use Rattle.json5_grammar.proofs.Refusals.{same_bad}
+use Rattle.json5_grammar.proofs.WordsRead.{differs_at, ends_in}
 
--- the reader answers this code at this place
+-- the reader answers this code at this position
 pub record Refused (x : List ℕ) (e : Option ErrorCode) (pl : Option (List ℕ)) : Type 0 where
   pub place : Place
   pub answer : number x ≡ bad e place
@@ -41,30 +42,20 @@ record WordHead (w : List ℕ) (m : Bool) : Type 0 where
   means : Number
   is : w ≡ head ∷ tail
   no_sign : is_sign head ≡ false
-  reads : (q y : List ℕ) → unsigned q m (head ∷ y) ≡ word means tail y
+  reads : (q y : List ℕ) → unsigned q m (head ∷ y) ≡ word_at EofParsingNumber ExpectedNumber means tail y
 
 word_head : {w : List ℕ} (m : Bool) → NumberWord w → WordHead w m
 unfolding unsigned
 word_head m NumberWord.infinity = record { head = 73; tail = codes "nfinity"; means = decimal (infinite m); is = refl; no_sign = refl; reads = λ q y. refl }
 word_head m NumberWord.nan = record { head = 78; tail = codes "aN"; means = decimal (nan m); is = refl; no_sign = refl; reads = λ q y. refl }
 
-word_differs : (n : Number) (v : List ℕ) (d c : ℕ) (q r : List ℕ) → c ≢ d → word n (v ++ d ∷ q) (v ++ c ∷ r) ≡ bad (Some ExpectedNumber) (here (c ∷ r))
-unfolding word
-word_differs n [] d c q r h = rw (not_eq c d h)
-word_differs n (k ∷ v) d c q r h = rw (same_char k) (word_differs n v d c q r h)
-
-word_ends : (n : Number) (v : List ℕ) (d : ℕ) (q : List ℕ) → word n (v ++ d ∷ q) v ≡ bad (Some EofParsingNumber) inner
-unfolding word
-word_ends n [] d q = refl
-word_ends n (k ∷ v) d q = rw (same_char k) (word_ends n v d q)
-
-word_number : {s w : List ℕ} {m : Bool} (k : ℕ) (v y : List ℕ) → Sign s m → (h : WordHead w m) → w ≡ k ∷ v → number (s ++ k ∷ y) ≡ word h.means v y
+word_number : {s w : List ℕ} {m : Bool} (k : ℕ) (v y : List ℕ) → Sign s m → (h : WordHead w m) → w ≡ k ∷ v → number (s ++ k ∷ y) ≡ word_at EofParsingNumber ExpectedNumber h.means v y
 word_number {s = s} {m = m} k v y g h e =
     let t : h.head ∷ h.tail ≡ k ∷ v = sym h.is ∙ e in
     let a : h.head ≡ k = ap first t in
     let b : h.tail ≡ v = ap without_first t in
     number_unsigned k y g (subst (λ z. is_sign z ≡ false) a h.no_sign)
-    ∙ ap (λ z. unsigned (s ++ k ∷ y) m (z ∷ y)) (sym a) ∙ h.reads (s ++ k ∷ y) y ∙ ap (λ z. word h.means z y) b
+    ∙ ap (λ z. unsigned (s ++ k ∷ y) m (z ∷ y)) (sym a) ∙ h.reads (s ++ k ∷ y) y ∙ ap (λ z. word_at EofParsingNumber ExpectedNumber h.means z y) b
 
 word_refused_char : {s w : List ℕ} {m : Bool} (r p : List ℕ) (d c : ℕ) → NumberWord w → Sign s m → Cut w p d → p ≢ [] → c ≢ d → Refused (s ++ (p ++ c ∷ r)) (Some ExpectedNumber) (Some (s ++ p))
 word_refused_char r [] d c w g (q, i) n h = absurd (n refl)
@@ -72,13 +63,13 @@ word_refused_char {s = s} {m = m} r (k ∷ v) d c w g (q, i) n h =
     let o = word_head m w in
     record {
       place = here (c ∷ r);
-      answer = word_number k (v ++ d ∷ q) (v ++ c ∷ r) g o i ∙ word_differs o.means v d c q r h;
+      answer = word_number k (v ++ d ∷ q) (v ++ c ∷ r) g o i ∙ differs_at EofParsingNumber ExpectedNumber o.means v q r d c h;
       is_place = (s ++ k ∷ v, refl, sym (append_assoc s (k ∷ v) (c ∷ r)));
     }
 
 word_refused_end : {s w : List ℕ} {m : Bool} (p : List ℕ) (d : ℕ) → NumberWord w → Sign s m → Cut w p d → p ≢ [] → Refused (s ++ p) (Some EofParsingNumber) None
 word_refused_end [] d w g (q, i) n = absurd (n refl)
-word_refused_end {m = m} (k ∷ v) d w g (q, i) n = let o = word_head m w in record { place = inner; answer = word_number k (v ++ d ∷ q) v g o i ∙ word_ends o.means v d q; is_place = refl }
+word_refused_end {m = m} (k ∷ v) d w g (q, i) n = let o = word_head m w in record { place = inner; answer = word_number k (v ++ d ∷ q) v g o i ∙ ends_in EofParsingNumber ExpectedNumber o.means v q d; is_place = refl }
 
 -- ---- after a sign
 

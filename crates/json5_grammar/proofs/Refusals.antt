@@ -1,11 +1,11 @@
--- A refusal has one code and one place.
+-- A refusal has one code and one position.
 use Rattle.std.proofs.Common.{◌≡◌, ℕ, List, ◌++◌, refl, ap, sym, ◌∙◌, subst, Option, Some, None}
 use Rattle.std.proofs.lemmas.List.{append_cancel_right}
 use Rattle.json5_grammar.specs.Faults.Codes.{ErrorCode, after_text}
 use Rattle.json5_grammar.specs.Model.Reading.{Place, here, inner, Read, got, bad, IsAt}
 use Rattle.json5_grammar.proofs.Basics.{at_after}
 
--- the reader's answer res on x is this code at this place
+-- the reader's answer res on x is this code at this position
 abbrev pub Refuses : {A : Type 0} → Read A → List ℕ → Option ErrorCode → Option (List ℕ) → Type 0
 Refuses res x code place = (p : Place) × (res ≡ bad code p) × IsAt x place p
 

@@ -1,4 +1,4 @@
--- A string is read as it is spelled, and a faulty one is refused with its code and place.
+-- A string is read as it is spelled, and a faulty one is refused with its code and position.
 use Rattle.std.proofs.Common.{◌≡◌, ℕ, zero, suc, ◌<◌, Bool, true, false, ◌||◌, List, [], ◌∷◌, ◌++◌, length, refl, ap, sym, ◌∙◌, append_assoc, arith, Option, Some, length-append}
 use Rattle.std.specs.Prelude.{◌==◌}
 use Rattle.std.proofs.lemmas.Bool.Decides.{nat_tests}
@@ -133,7 +133,7 @@ string_refused (StringFault.in_string_escape {q = q} {s = s} {u = u} {x = x} {es
     let j = string_through x k i in
     refuses_after (q ∷ s) x (escape_from true x) (string (q ∷ s ++ x)) code place (λ p e. j.2 ∙ ap (put u pl) (at_escape j.0 q x code p j.1 k (fault_head f) e)) (escape_refused f)
 
--- the code and the place are the only ones
+-- the code and the position are the only ones
 pub one_string_fault : {x b c p q : List ℕ} {e f : Option ErrorCode} {pl pm : Option (List ℕ)} {h i : Shown} → StringFault x e pl b p h → StringFault x f pm c q i → (e ≡ f) × (pl ≡ pm)
 one_string_fault {x = x} {e = e} {f = f} {pl = pl} {pm = pm} a b = one_refusal (string x) x e f pl pm (string_refused a) (string_refused b)
 

@@ -54,7 +54,7 @@ items_sound (suc n) q (c ∷ r) l =
     (λ t. ([], c ∷ r, [], true, refl, no_item, line t))
     (λ no_line. raw_more q c r (items n q r) (raw_from q c not_q not_slash no_line) (items_sound n q r (omega arith)))))
 
--- x has a fault of a string with this code at this place
+-- x has a fault of a string with this code at this position
 pub record StringBlamed (x : List ℕ) (code : Option ErrorCode) (p : Place) : Type 0 where
   pub place : Option (List ℕ)
   pub before : List ℕ

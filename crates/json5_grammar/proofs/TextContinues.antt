@@ -1,4 +1,4 @@
--- What stands before a token's fault can be continued to a token; through the character that shows it nothing can.
+-- What comes before a token's fault can be continued to a token; through the character that shows the fault nothing can.
 use Rattle.std.proofs.Common.{◌≡◌, ℕ, Bool, true, false, List, [], ◌∷◌, ◌++◌, refl, ◌⊎◌, inl, inr, arith, subst, Option}
 use Rattle.std.specs.Prelude.{◌==◌}
 use Rattle.std.proofs.lemmas.Bool.Decides.{nat_tests}

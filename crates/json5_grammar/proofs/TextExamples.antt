@@ -1,4 +1,4 @@
--- Worked texts, read.
+-- Examples: strings and names that are read and refused.
 use Rattle.std.proofs.Common.{◌≡◌, true, false, [], ◌∷◌, ◌++◌, refl, Some, None}
 use lib.Chars.{codes}
 use Rattle.ucd_category.specs.GeneralCategory.{general_category}

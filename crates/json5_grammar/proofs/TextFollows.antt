@@ -1,4 +1,4 @@
--- A fault of a string or name that a character shows stands, whatever follows that character.
+-- A fault of a string or name that a character shows remains, whatever follows that character.
 use Rattle.std.proofs.Common.{◌≡◌, ℕ, Bool, List, [], ◌∷◌, ◌++◌, refl, sym, append_assoc, subst, Option}
 use Rattle.json5_grammar.specs.Faults.Codes.{ErrorCode, Shown, by_char}
 use Rattle.json5_grammar.specs.Faults.Tokens.{EscapeFault, digit_after_nul, escaped_digit, no_escape_digit, no_second_escape, unpaired, StringFault, raw_terminator, NameFault, no_unicode_escape, escaped_no_start, escaped_no_part}

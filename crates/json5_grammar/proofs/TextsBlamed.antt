@@ -1,4 +1,4 @@
--- What reading refuses with is the text's one fault, with all that is said of it.
+-- What reading refuses with is the input's one fault, with all that is said of it.
 use Rattle.std.proofs.Common.{ℕ, List, subst, Option}
 use Rattle.json5_grammar.specs.Faults.Codes.{ErrorCode}
 use Rattle.json5_grammar.specs.Language.Documents.{Doc}

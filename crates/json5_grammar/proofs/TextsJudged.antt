@@ -1,4 +1,4 @@
--- A text that begins as a string or a name does begins with one or has a fault of one.
+-- What begins as a string or a name does begins with a whole one, or has a fault of one.
 use Rattle.std.proofs.Common.{◌≡◌, ℕ, Bool, true, ◌||◌, List, ◌∷◌, ◌++◌, ap, ◌∙◌, ◌⊎◌, inl, inr}
 use Rattle.std.specs.Prelude.{◌==◌}
 use Rattle.json5_grammar.specs.Language.Characters.{is_identifier_start}

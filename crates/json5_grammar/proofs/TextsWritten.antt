@@ -1,4 +1,4 @@
--- What is written of a text reads back.
+-- What is written of a string reads back.
 use Rattle.std.proofs.Common.{◌≡◌, ℕ, Bool, true, false, ◌&&◌, List, [], ◌∷◌, ◌++◌, refl, ap, sym, ◌∙◌, arith, ◌≢◌, subst}
 use Rattle.std.specs.Prelude.{◌==◌, not}
 use Rattle.std.specs.List.{list_any, list_all}
@@ -48,7 +48,7 @@ self_quote q c k h = grind (arith, nat_tests)
 raw_from : (q c : ℕ) → (c == q) ≡ false → (c == 92) ≡ false → (c == 10) ≡ false → (c == 13) ≡ false → is_raw q c ≡ true
 raw_from q c a b d e = grind (arith, nat_tests)
 
--- items that stand for u
+-- items that mean u
 abbrev WrittenItems : ℕ → List ℕ → List ℕ → List ℕ → Type 0
 WrittenItems q r u s = (p : Bool) × Items q r s u p
 

@@ -12,9 +12,9 @@ use Rattle.json5_grammar.specs.Language.Strings.{is_quote}
 use Rattle.json5_grammar.specs.Faults.Fronts.{of_object, Bracket, Expects, takes_value, key}
 use Rattle.json5_grammar.specs.Faults.{begins_value, is_allowed_close}
 use Rattle.json5_grammar.specs.Language.Values.{KeyText}
-use Rattle.json5_grammar.specs.Model.Reading.{Place, got, bad, and_then, IsAt}
+use Rattle.json5_grammar.specs.Model.Reading.{Place, got, bad, and_then, IsAt, word_at}
 use Rattle.json5_grammar.specs.Model.ReadTexts as texts
-use Rattle.json5_grammar.specs.Model.ReadValues.{word_at, read}
+use Rattle.json5_grammar.specs.Model.ReadValues.{read}
 use Rattle.json5_grammar.specs.Model.ReadSteps.{forget, colon_after, pair_head, member_at, rest_of_bracket}
 use Rattle.json5_grammar.proofs.BlanksRead.{skip_rest, solid_from, begins_solid}
 use Rattle.json5_grammar.proofs.Classes.{number_begins, quote_begins, begins_others}
@@ -53,15 +53,15 @@ word_fault {y = y} {code = code} {place = place} finish limit o a h t w = let k 
   where
     at_letter : (the_word : List ℕ) (wrong eof : ErrorCode) (letter : ℕ) → SameFirst the_word y
         → ((c : ℕ) (ks : List ℕ) → the_word ≡ c ∷ ks → c ≡ letter) → begins_value letter ≡ true
-        → ((r : List ℕ) → forget (read (room limit o) (letter ∷ r)) ≡ word_at eof wrong the_word (letter ∷ r))
-        → Refuses (word_at eof wrong the_word y) y code place → Refuses (left_at finish limit o a y) y code place
+        → ((r : List ℕ) → forget (read (room limit o) (letter ∷ r)) ≡ word_at eof wrong (tt {0}) the_word (letter ∷ r))
+        → Refuses (word_at eof wrong (tt {0}) the_word y) y code place → Refuses (left_at finish limit o a y) y code place
     at_letter v wrong eof letter (c, ks, r, e, i) same begins reads (p, m, j) =
         let first : y ≡ letter ∷ r = i ∙ ap (λ z. z ∷ r) (same c ks e) in
         begun_refused_at finish limit o a y place h t (subst (Begun begins_value) (sym first) begins)
-        (p, ap (λ z. forget (read (room limit o) z)) first ∙ reads r ∙ ap (word_at eof wrong v) (sym first) ∙ m, j)
+        (p, ap (λ z. forget (read (room limit o) z)) first ∙ reads r ∙ ap (word_at eof wrong tt v) (sym first) ∙ m, j)
 
     by_word : {the_word : List ℕ} {wrong eof : ErrorCode} → Word the_word wrong eof → SameFirst the_word y
-        → Refuses (word_at eof wrong the_word y) y code place → Refuses (left_at finish limit o a y) y code place
+        → Refuses (word_at eof wrong (tt {0}) the_word y) y code place → Refuses (left_at finish limit o a y) y code place
     by_word null_word first k = at_letter _ _ _ 110 first (λ c ks e. cc) refl (read_word_null (room limit o)) k
     by_word true_word first k = at_letter _ _ _ 116 first (λ c ks e. cc) refl (read_word_true (room limit o)) k
     by_word false_word first k = at_letter _ _ _ 102 first (λ c ks e. cc) refl (read_word_false (room limit o)) k

@@ -43,7 +43,7 @@ array_head : (d n : ℕ) (y : List ℕ) → length y ≤ n → close_or (member 
 array_head d n [] l = first_member d n [] l
 array_head d n (c ∷ r) l = closes_or (c == 93) no_more c r (member (read d) (read_elements (read d) n) (c ∷ r)) (first_of_trees d) (first_member d n (c ∷ r) l)
 
--- members are one and the others, or the closing bracket
+-- elements are one and the others, or the closing bracket
 pub trees_step : (d : ℕ) (x : List ℕ) → trees_of d x ≡ and_then (member_at of_array x) (goes_on_with no_more (first_of_trees d))
 unfolding read_elements member_at
 trees_step d x = after_gap x (λ y. close_or (member (read d) (read_elements (read d) (length x)) y) y) (member_head of_array) (goes_on_with no_more (first_of_trees d)) (array_head d (length x))
@@ -58,7 +58,7 @@ array_comma : (d : ℕ) (y : List ℕ) → after_member (trees_of d) y ≡ and_t
 array_comma d [] = refl
 array_comma d (c ∷ r) = comma_or (c == 44) (c == 93) no_more c r (trees_of d)
 
--- after a member others come after a comma, or the closing bracket
+-- after an element come a comma and the others, or the closing bracket
 pub trees_later : (d : ℕ) (x : List ℕ) → trees_after d x ≡ and_then (separator of_array x) (goes_on_with no_more (trees_of d))
 unfolding separator
 trees_later d x = after_gap x (after_member (trees_of d)) (comma_at of_array) (goes_on_with no_more (trees_of d)) (λ y l. array_comma d y)

@@ -1,4 +1,4 @@
--- A text has at most one tree, and at most one front that is a value.
+-- An input has at most one tree, and at most one front that is a value.
 use Rattle.std.proofs.Common.{◌≡◌, ℕ, ◌≤◌, max, List, ◌++◌, ap, sym, ◌∙◌, arith}
 use Rattle.json5_grammar.specs.Language.Blanks.{LastBlanks}
 use Rattle.json5_grammar.specs.Language.Trees.{Tree, depth}

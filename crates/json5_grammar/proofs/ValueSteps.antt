@@ -1,17 +1,17 @@
 -- What is read of a value and of what is left of a bracket, step by step, the trees forgotten.
 use Rattle.std.proofs.Common.{◌≡◌, ℕ, suc, ◌≤◌, Bool, true, false, cond, ◌||◌, List, [], ◌∷◌, length, refl, ap, ◌∙◌, arith, Some}
 use Rattle.std.specs.Prelude.{◌==◌}
-use Rattle.json5_grammar.specs.Faults.Codes.{EofParsingBool, EofParsingNull, EofParsingValue, ExpectedBool, ExpectedNull, ExpectedValue, ExpectedComma, TooDeep}
+use Rattle.json5_grammar.specs.Faults.Codes.{ErrorCode, EofParsingBool, EofParsingNull, EofParsingValue, ExpectedBool, ExpectedNull, ExpectedValue, ExpectedComma, TooDeep}
 use Rattle.json5_grammar.specs.Faults.Fronts.{BracketKind, of_array, of_object, opening}
 use Rattle.json5_grammar.specs.Faults.Tokens.{is_sign, begins_number}
 use Rattle.json5_grammar.specs.Language.Strings.{is_quote}
 use Rattle.json5_grammar.specs.Language.Trees.{Tree, Trees, Pairs, null, boolean, text, array, object, no_more, more, no_pair, pair}
 use Rattle.json5_grammar.specs.Language.Values.{null_text, true_text, false_text}
-use Rattle.json5_grammar.specs.Model.Reading.{Read, got, bad, here, inner, and_then, placed}
+use Rattle.json5_grammar.specs.Model.Reading.{Read, got, bad, here, inner, and_then, placed, word_at}
 use Rattle.json5_grammar.specs.Model.ReadBlanks.{skip, between}
 use Rattle.json5_grammar.specs.Model.ReadNumbers as numbers
 use Rattle.json5_grammar.specs.Model.ReadTexts.{key, string}
-use Rattle.json5_grammar.specs.Model.ReadValues.{word_at, read_elements, read_members, close_or, member, after_member, colon_at, value_after, pair_at, key_or, after_pair, as_leaf, value_with, read}
+use Rattle.json5_grammar.specs.Model.ReadValues.{read_elements, read_members, close_or, member, after_member, colon_at, value_after, pair_at, key_or, after_pair, as_leaf, value_with, read}
 use Rattle.json5_grammar.specs.Model.ReadSteps.{forget, colon_after, pair_head, member_head, member_at, comma_at, separator, next_value, rest_of_bracket, value_and_rest}
 use Rattle.json5_grammar.proofs.ValueHeads.{array_reader, object_reader, read_step, value_text, value_number}
 use Rattle.json5_grammar.proofs.ValuesSound.{IsGap, gap_found}
@@ -28,7 +28,7 @@ all_entries d z = read_members (read d) (suc (length z)) z
 abbrev pub turn : BracketKind → ℕ → Bool → List ℕ → Read (Unit {0})
 turn k d goes y = cond goes (value_and_rest k d y) (got tt y)
 
--- ---- one member
+-- ---- one element
 
 forget_last : (t : Tree) (m : Read Trees) → forget (and_then m (λ ts z. got (more t ts) z)) ≡ forget m
 forget_last t (got ts z) = refl
@@ -64,7 +64,7 @@ forget_pair : (k : List ℕ → Read Pairs) (a : List ℕ × Bool) (m : Read Tre
 forget_pair k a (got t r) = forget_after_pair k a t (skip between r)
 forget_pair k a (bad e p) = refl
 
--- a key's value is what stands after its colon
+-- a key's value is what comes after its colon
 pub value_after_colon : (val : List ℕ → Read Tree) (x : List ℕ) → value_after val x ≡ and_then (colon_after x) (λ u q. val q)
 value_after_colon val x = by_gap (skip between x)
   where
@@ -96,7 +96,7 @@ object_member d n c r l =
     ap forget (pair_same d (read_members (read d) n) (all_entries d) c r (λ z s. same_entries d n (suc (length z)) z (omega arith) (omega arith)))
     ∙ object_key d (key (c ∷ r))
 
--- ---- a member, or the closing bracket
+-- ---- an element or a pair, or the closing bracket
 
 closes_or : {A : Type 0} (k : BracketKind) (d : ℕ) (b : Bool) (nothing : A) (r : List ℕ) (m : Read A) (n : Read Bool) → forget m ≡ and_then n (turn k d) → forget (cond b (got nothing r) m) ≡ and_then (cond b (got false r) n) (turn k d)
 closes_or k d true nothing r m n e = refl
@@ -123,7 +123,7 @@ unfolding rest_of_bracket member_at read_elements read_members
 first_step of_array d x = after_gap of_array d x (λ y. close_or (member (read d) (read_elements (read d) (length x)) y) y) (member_head of_array) (array_head d (length x))
 first_step of_object d x = after_gap of_object d x (λ y. key_or (pair_at (read d) (read_members (read d) (length x)) y) y) (member_head of_object) (object_head d (length x))
 
--- ---- after a member
+-- ---- after an element or a pair
 
 comma_or : {A : Type 0} (k : BracketKind) (d : ℕ) (a b : Bool) (nothing : A) (c : ℕ) (r : List ℕ) (m : Read A) → forget m ≡ rest_of_bracket k false d r
     → forget (cond a m (cond b (got nothing r) (bad (Some ExpectedComma) (here (c ∷ r)))))
@@ -195,23 +195,32 @@ forget_leaf : {A : Type 0} (f : A → Tree) (m : Read A) → forget (as_leaf f m
 forget_leaf f (got a r) = refl
 forget_leaf f (bad e p) = refl
 
-unit_leaf : (f : Unit {0} → Tree) (m : Read (Unit {0})) → forget (as_leaf f m) ≡ m
-unit_leaf f (got u r) = refl
-unit_leaf f (bad e p) = refl
+forget_if : {A : Type 0} (b : Bool) (m k : Read A) → forget (cond b m k) ≡ cond b (forget m) (forget k)
+forget_if true m k = refl
+forget_if false m k = refl
+
+-- a word is read as it is for any other answer
+pub forget_word : {A : Type 0} (eof wrong : ErrorCode) (a : A) (ks x : List ℕ) → forget (word_at eof wrong a ks x) ≡ word_at eof wrong (tt {0}) ks x
+unfolding word_at
+forget_word eof wrong a [] x = refl
+forget_word eof wrong a (k ∷ ks) [] = refl
+forget_word eof wrong a (k ∷ ks) (c ∷ r) =
+    forget_if (c == k) (word_at eof wrong a ks r) (bad (Some wrong) (here (c ∷ r)))
+    ∙ ap (λ m. cond (c == k) m (bad (Some wrong) (here (c ∷ r)))) (forget_word eof wrong a ks r)
 
 -- nothing is left
 pub read_missing : (d : ℕ) → forget (read d []) ≡ bad (Some EofParsingValue) inner
 read_missing d = ap forget (read_step d [])
 
 -- an `n`, a `t` or an `f` begins a word
-pub read_word_null : (d : ℕ) (r : List ℕ) → forget (read d (110 ∷ r)) ≡ word_at EofParsingNull ExpectedNull null_text (110 ∷ r)
-read_word_null d r = ap forget (read_step d (110 ∷ r)) ∙ unit_leaf (λ u. null) (word_at EofParsingNull ExpectedNull null_text (110 ∷ r))
+pub read_word_null : (d : ℕ) (r : List ℕ) → forget (read d (110 ∷ r)) ≡ word_at EofParsingNull ExpectedNull tt null_text (110 ∷ r)
+read_word_null d r = ap forget (read_step d (110 ∷ r)) ∙ forget_word EofParsingNull ExpectedNull null null_text (110 ∷ r)
 
-pub read_word_true : (d : ℕ) (r : List ℕ) → forget (read d (116 ∷ r)) ≡ word_at EofParsingBool ExpectedBool true_text (116 ∷ r)
-read_word_true d r = ap forget (read_step d (116 ∷ r)) ∙ unit_leaf (λ u. boolean true) (word_at EofParsingBool ExpectedBool true_text (116 ∷ r))
+pub read_word_true : (d : ℕ) (r : List ℕ) → forget (read d (116 ∷ r)) ≡ word_at EofParsingBool ExpectedBool tt true_text (116 ∷ r)
+read_word_true d r = ap forget (read_step d (116 ∷ r)) ∙ forget_word EofParsingBool ExpectedBool (boolean true) true_text (116 ∷ r)
 
-pub read_word_false : (d : ℕ) (r : List ℕ) → forget (read d (102 ∷ r)) ≡ word_at EofParsingBool ExpectedBool false_text (102 ∷ r)
-read_word_false d r = ap forget (read_step d (102 ∷ r)) ∙ unit_leaf (λ u. boolean false) (word_at EofParsingBool ExpectedBool false_text (102 ∷ r))
+pub read_word_false : (d : ℕ) (r : List ℕ) → forget (read d (102 ∷ r)) ≡ word_at EofParsingBool ExpectedBool tt false_text (102 ∷ r)
+read_word_false d r = ap forget (read_step d (102 ∷ r)) ∙ forget_word EofParsingBool ExpectedBool (boolean false) false_text (102 ∷ r)
 
 -- a quote begins a text
 pub read_quote : (d c : ℕ) (r : List ℕ) → is_quote c ≡ true → forget (read d (c ∷ r)) ≡ forget (string (c ∷ r))

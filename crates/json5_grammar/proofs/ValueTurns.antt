@@ -1,4 +1,4 @@
--- The number of turns doesn't matter where it is enough, for the members of arrays and objects.
+-- The number of turns doesn't matter where it is enough, for the elements of arrays and the pairs of objects.
 use Rattle.std.proofs.Common.{◌≡◌, ℕ, zero, suc, ◌<◌, ◌≤◌, Bool, List, [], ◌∷◌, ◌++◌, length, refl, ap, arith, length-append}
 use Rattle.json5_grammar.specs.Language.Trees.{Trees, Pairs, more, pair}
 use Rattle.json5_grammar.specs.Model.Reading.{Read, got, bad, and_then}

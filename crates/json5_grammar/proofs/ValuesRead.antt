@@ -22,15 +22,15 @@ use Rattle.json5_grammar.proofs.ValueHeads.{ValueHead, number_head, val_head, sk
 
 -- the word `null` is read
 pub read_null : (d : ℕ) (r : List ℕ) → read d (null_text ++ r) ≡ got null r
-read_null d r = read_step d (null_text ++ r) ∙ ap (as_leaf (λ u. null)) (word_complete EofParsingNull ExpectedNull null_text r)
+read_null d r = read_step d (null_text ++ r) ∙ word_complete EofParsingNull ExpectedNull null null_text r
 
 -- the word `true` is read
 pub read_true : (d : ℕ) (r : List ℕ) → read d (true_text ++ r) ≡ got (boolean true) r
-read_true d r = read_step d (true_text ++ r) ∙ ap (as_leaf (λ u. boolean true)) (word_complete EofParsingBool ExpectedBool true_text r)
+read_true d r = read_step d (true_text ++ r) ∙ word_complete EofParsingBool ExpectedBool (boolean true) true_text r
 
 -- the word `false` is read
 pub read_false : (d : ℕ) (r : List ℕ) → read d (false_text ++ r) ≡ got (boolean false) r
-read_false d r = read_step d (false_text ++ r) ∙ ap (as_leaf (λ u. boolean false)) (word_complete EofParsingBool ExpectedBool false_text r)
+read_false d r = read_step d (false_text ++ r) ∙ word_complete EofParsingBool ExpectedBool (boolean false) false_text r
 
 -- a number is read, where it stops
 pub read_number : {s : List ℕ} {n : Number} (d : ℕ) (r : List ℕ) → Num s n → Stops s r → read d (s ++ r) ≡ got (number n) r
@@ -84,16 +84,16 @@ unfolding read_members
 entries_close val zero r l b = absurd (omega arith)
 entries_close val (suc n) r l b = rw (skip_blanks (125 ∷ r) b, skip_brace r) refl
 
--- ---- members
+-- ---- elements
 
 close_head : {s : List ℕ} (m : Read Trees) (r : List ℕ) → ValueHead s → close_or m (s ++ r) ≡ m
 close_head m r h = rw h.is (rw (begins_others h.char h.begins).3 refl)
 
--- what is read after a member
+-- what is read after an element
 abbrev pub after_member_blanks : (List ℕ → Read Trees) → Tree → List ℕ → Read Trees
 after_member_blanks k t y = and_then (skip between y) (λ u z. and_then (after_member k z) (λ ts x. got (more t ts) x))
 
--- one member, and what follows it
+-- one element, and what follows it
 pub items_member : {w s v : List ℕ} {t : Tree} (d k : ℕ) (y : List ℕ) → Blanks w → ValueHead s → Blanks v → read d (s ++ (v ++ y)) ≡ got t (v ++ y)
     → read_elements (read d) (suc k) (w ++ (s ++ (v ++ y))) ≡ after_member_blanks (read_elements (read d) k) t y
 unfolding read_elements
@@ -168,7 +168,7 @@ mutual
   read_complete (is_object ps) r st zero l = absurd (omega arith)
   read_complete (is_object {m = m} {ps = qs} ps) r st (suc d) l = read_brace d m r qs (λ n h. entries_complete ps r d (omega arith) n h)
 
-  -- members and the closing bracket are read; more turns than characters are enough
+  -- elements and the closing bracket are read; more turns than characters are enough
   pub members_complete : {m : List ℕ} {ts : Trees} → ElementList m ts → (r : List ℕ) → (d : ℕ) → depths ts ≤ d → (n : ℕ) → length (m ++ 93 ∷ r) < n → read_elements (read d) n (m ++ 93 ∷ r) ≡ got ts r
   members_complete (last bw vs bv lc) r d l zero h = absurd (omega arith)
   members_complete (last {w = w} {s = s} {v = v} {t = t} bw vs bv no_last_comma) r d l (suc k) h =

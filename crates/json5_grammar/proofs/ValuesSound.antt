@@ -1,4 +1,4 @@
--- What is read is in the grammar, and a fault's place is in the text.
+-- What is read is in the grammar, and a fault's position is in the input.
 use Rattle.std.proofs.Common.{◌≡◌, ℕ, zero, suc, ◌≤◌, Bool, true, false, cond, ◌||◌, List, [], ◌∷◌, ◌++◌, length, refl, ap, sym, ◌∙◌, append_assoc, arith, subst, inl, inr, ◌⊎◌, Option, Some}
 use Rattle.std.specs.Prelude.{◌==◌}
 use Rattle.std.proofs.lemmas.Bool.Decides.{nat_tests}
@@ -42,7 +42,7 @@ IsValue d x t r = (s : List ℕ) × (x ≡ s ++ r) × Val s t × Stops s r × (d
 abbrev pub IsPhrase : ℕ → List ℕ → Tree → List ℕ → Type 0
 IsPhrase d x t r = Reads x t r × (depth t ≤ d)
 
--- members and the closing bracket, after a comma where one is due
+-- elements and the closing bracket, after a comma where one is due
 abbrev pub AreMembers : ℕ → Bool → List ℕ → Trees → List ℕ → Type 0
 AreMembers d comma_due x ts r = Tail ts comma_due x r × (depths ts ≤ d)
 
@@ -77,8 +77,8 @@ false_stops : (r : List ℕ) → Stops false_text r
 false_stops [] = tt
 false_stops (c ∷ r) = refl
 
-leaf_word : (d : ℕ) (w x : List ℕ) (t : Tree) (m : Read (Unit {0})) → Val w t → ((r : List ℕ) → Stops w r) → depth t ≡ 0 → WordSound w x m → Found (IsValue d x) x (as_leaf (λ u. t) m)
-leaf_word d w x t (got u r) v st l e = (w, e, v, st r, omega (arith, l))
+leaf_word : (d : ℕ) (w x : List ℕ) (t : Tree) (m : Read Tree) → Val w t → ((r : List ℕ) → Stops w r) → depth t ≡ 0 → WordSound t w x m → Found (IsValue d x) x m
+leaf_word d w x t (got u r) v st l (i, e) = rw i (w, e, v, st r, omega (arith, l))
 leaf_word d w x t (bad e p) v st l b = in_at x b.place p b.is_at
 
 number_place : (x : List ℕ) (p : Place) (place : _) → PlaceIs x p place → IsIn x p
@@ -176,7 +176,7 @@ pairs_gap no_pair true w x y r e g (inr (z, c, s)) = inr (z, sign_gap 44 w x y z
 pairs_gap (pair u escape_free t ps) false w x y r e g (k, z, a, v, tl) = (k, z, key_gap w x y u k escape_free e g a, v, tl)
 pairs_gap (pair u escape_free t ps) true w x y r e g (k, z, (q, c, a), v, tl) = (k, z, (q, sign_gap 44 w x y q e g c, a), v, tl)
 
--- ---- steps between members
+-- ---- steps between elements
 
 sign_here : (c : ℕ) (r : List ℕ) → IsSign c (c ∷ r) r
 sign_here c r = record { front = []; split = refl; blank = Blanks.empty }
@@ -342,9 +342,9 @@ module _ (d : ℕ) (arrays objects : List ℕ → List ℕ → Read Tree) (array
   with_found : (x : List ℕ) → Found (IsValue d x) x (value_with arrays objects x)
   with_found [] = tt
   with_found (c ∷ r) =
-      by_test (Found (IsValue d (c ∷ r)) (c ∷ r)) (c == 110) _ _ (λ h. leaf_word d null_text (c ∷ r) null _ is_null null_stops refl (word_sound 110 _ c r null_word h))
-      (λ n. by_test (Found (IsValue d (c ∷ r)) (c ∷ r)) (c == 116) _ _ (λ h. leaf_word d true_text (c ∷ r) (boolean true) _ is_true true_stops refl (word_sound 116 _ c r true_word h))
-      (λ t. by_test (Found (IsValue d (c ∷ r)) (c ∷ r)) (c == 102) _ _ (λ h. leaf_word d false_text (c ∷ r) (boolean false) _ is_false false_stops refl (word_sound 102 _ c r false_word h))
+      by_test (Found (IsValue d (c ∷ r)) (c ∷ r)) (c == 110) _ _ (λ h. leaf_word d null_text (c ∷ r) null _ is_null null_stops refl (word_sound null 110 _ c r null_word h))
+      (λ n. by_test (Found (IsValue d (c ∷ r)) (c ∷ r)) (c == 116) _ _ (λ h. leaf_word d true_text (c ∷ r) (boolean true) _ is_true true_stops refl (word_sound (boolean true) 116 _ c r true_word h))
+      (λ t. by_test (Found (IsValue d (c ∷ r)) (c ∷ r)) (c == 102) _ _ (λ h. leaf_word d false_text (c ∷ r) (boolean false) _ is_false false_stops refl (word_sound (boolean false) 102 _ c r false_word h))
       (λ f. by_test (Found (IsValue d (c ∷ r)) (c ∷ r)) (is_quote c) _ _ (λ h. text_found c r h)
       (λ q. by_test (Found (IsValue d (c ∷ r)) (c ∷ r)) (is_sign c || begins_number c) _ _ (λ h. leaf_number d (c ∷ r) (numbers.number (c ∷ r)) (sound (c ∷ r) h))
       (λ m. by_test (Found (IsValue d (c ∷ r)) (c ∷ r)) (c == 91) (arrays (c ∷ r) r) _ (λ h. at_bracket c 91 r arrays h (array_is r))
@@ -363,6 +363,6 @@ read_found (suc d) x = rw (read_step (suc d) x) (with_found (suc d) (array_reade
 pub read_sound : (d : ℕ) (x r : List ℕ) (t : Tree) → read d x ≡ got t r → IsValue d x t r
 read_sound d x r t e = found (IsValue d x) x (read d x) t r (read_found d x) e
 
--- the place of a fault is in the text
+-- the position of a fault is in the input
 pub read_place : (d : ℕ) (x : List ℕ) (e : Option ErrorCode) (p : Place) → read d x ≡ bad e p → IsIn x p
 read_place d x e p h = refused_in (IsValue d x) x (read d x) e p (read_found d x) h

@@ -1,4 +1,4 @@
--- The fault table: the faults of a text, each with its code, its place, the part that is blamed, and what shows it.
+-- The fault table: the faults of an input, each with its code, its position, the part that is blamed, and what shows it.
 pub mod Codes
 pub mod CodeTexts
 pub mod Positions
@@ -16,7 +16,7 @@ use Rattle.json5_grammar.specs.Faults.Tokens.{CommentFault, begins_number, Numbe
 use Rattle.json5_grammar.specs.Language.Strings.{is_quote}
 use Rattle.json5_grammar.specs.Faults.Fronts.{BracketKind, Bracket, Expects, takes_value, closing, Front, of_array, of_object, value, element, key, colon, comma, end}
 
--- the place of an Eof code
+-- the position of an Eof code: that of the innermost open bracket, if there is one
 abbrev pub innermost : List Bracket → Option (List ℕ)
 innermost [] = None
 innermost (b ∷ o) = Some b.before
@@ -28,7 +28,7 @@ begins_value c =
     || ((c == double_quote) || ((c == single_quote) || ((c == plus_sign) || ((c == minus_sign)
     || ((c == left_bracket) || (c == left_brace)))))))))
 
--- `]` may stand where an element is expected
+-- `]` is allowed where an element is expected
 abbrev pub is_allowed_close : Expects → ℕ → Bool
 is_allowed_close value c = false
 is_allowed_close element c = c == right_bracket
@@ -37,7 +37,7 @@ is_allowed_close colon c = false
 is_allowed_close comma c = false
 is_allowed_close end c = false
 
--- the place of a token's fault in the whole text, f standing before the token
+-- the position of a token's fault in the input, if f comes before the token
 abbrev pub lifted : List ℕ → List Bracket → Option (List ℕ) → Option (List ℕ)
 lifted f o None = innermost o
 lifted f o (Some p) = Some (f ++ p)
@@ -47,15 +47,15 @@ abbrev pub IsIn : BracketKind → List Bracket → Type 0
 IsIn k [] = ⊥
 IsIn k (b ∷ o) = b.kind ≡ k
 
--- the end's code after a member
+-- the code of the end after an element or a pair
 abbrev pub eof_in : BracketKind → ErrorCode
 eof_in of_array = EofParsingArray
 eof_in of_object = EofParsingObject
 
--- The fault of what goes on with x where the brackets o are open and a is expected: its code (None: custom), the text of x before its
--- place (None: the place of the innermost bracket), the text of x before the faulty part, the part, and what shows it.
+-- The fault of an input that goes on with x where the brackets o are open and a is expected: its code (None: custom), what x has before its
+-- position (None: it is that of the innermost bracket), what x has before the faulty part, the part, and what shows it.
 pub data FaultAt (limit : ℕ) (o : List Bracket) : Expects → List ℕ → Option ErrorCode → Option (List ℕ) → List ℕ → List ℕ → Shown → Type 0 where
-  -- where blanks may stand
+  -- wherever blanks are allowed
   in_comment : {x p : List ℕ} {a : Expects} {code : Option ErrorCode} {place : Option (List ℕ)} {shown : Shown} → CommentFault x code place p shown
       → FaultAt limit o a x code place [] p shown
   -- between tokens
@@ -102,8 +102,8 @@ pub data FaultAt (limit : ℕ) (o : List Bracket) : Expects → List ℕ → Opt
   in_a_name : {x b p : List ℕ} {code : Option ErrorCode} {place : Option (List ℕ)} {shown : Shown} → NameFault x code place b p shown
       → FaultAt limit o key x code place b p shown
 
--- x has this fault where something is expected that the test allows: its code (None: custom), the text before its place (None: no
--- place), the text before the faulty part, the part, and what shows it
+-- the input has this fault, where what is expected passes the test: its code (None: custom), what comes before its position (None: it has
+-- none), what comes before the faulty part, the part, and what shows it
 pub data FaultWhere (Where : Expects → Type 0) (limit : ℕ) : List ℕ → Option ErrorCode → Option (List ℕ) → List ℕ → List ℕ → Shown → Type 0 where
   fault : {f x b p : List ℕ} {o : List Bracket} {a : Expects} {code : Option ErrorCode} {place : Option (List ℕ)} {shown : Shown}
       → Front limit f x o a → Where a
@@ -116,10 +116,10 @@ Anywhere a = ⊤
 abbrev pub InValue : Expects → Type 0
 InValue a = a ≢ end
 
--- the text x has this fault
+-- the input has this fault
 abbrev pub Fault : ℕ → List ℕ → Option ErrorCode → Option (List ℕ) → List ℕ → List ℕ → Shown → Type 0
 Fault = FaultWhere Anywhere
 
--- the value that x begins with has this fault
+-- the value that the input begins with has this fault
 abbrev pub ValueFault : ℕ → List ℕ → Option ErrorCode → Option (List ℕ) → List ℕ → List ℕ → Shown → Type 0
 ValueFault = FaultWhere InValue

@@ -8,4 +8,3 @@ pub mod ReadSteps
 pub mod NumberSteps
 pub mod PositionSteps
 pub mod Collections
-pub mod CollectionsLeft

@@ -1,3 +1,3 @@
--- The spellings of written numbers and texts.
+-- How numbers and strings are written.
 pub mod NumberText
 pub mod Quoting

@@ -6,12 +6,12 @@ use lib.Chars.{codes}
 use Rattle.json5_grammar.specs.declared.code.ErrorCode.TheVariants.{EofParsingNumber, ExpectedNumber, LeadingZero}
 use Rattle.json5_grammar.specs.Language.Characters.{is_digit}
 use Rattle.json5_grammar.specs.Language.Numbers.{decimal, infinite, nan, in_run, begins_run}
-use Rattle.json5_grammar.specs.Model.Reading.{bad, here, inner}
+use Rattle.json5_grammar.specs.Model.Reading.{bad, here, inner, word_at}
 use Rattle.std.specs.Str.{chars}
 use Rattle.json5_grammar.proofs.Basics.{not_eq}
 use Rattle.json5_text.proofs.NumberSteps.{infinity_rest, nan_rest}
 use Rattle.json5_text.specs.NumberParts.{after_sign}
-use Rattle.json5_grammar.specs.Model.ReadNumbers.{word, front_of, rest_of, literal_at, if_literal, decimal_run, at_zero, unsigned, number}
+use Rattle.json5_grammar.specs.Model.ReadNumbers.{front_of, rest_of, literal_at, if_literal, decimal_run, at_zero, unsigned, number}
 
 -- ---- decimal runs
 
@@ -29,19 +29,19 @@ pub unsigned_ends : (q : List ℕ) (m : Bool) (x : List ℕ) → x ≡ [] → un
 unfolding unsigned
 unsigned_ends q m x e = rw e refl
 
-infinity_at : (q : List ℕ) (m : Bool) (x y : List ℕ) (c : ℕ) → x ≡ c ∷ y → c ≡ 73 → unsigned q m x ≡ word (decimal (infinite m)) (codes "nfinity") y
+infinity_at : (q : List ℕ) (m : Bool) (x y : List ℕ) (c : ℕ) → x ≡ c ∷ y → c ≡ 73 → unsigned q m x ≡ word_at EofParsingNumber ExpectedNumber (decimal (infinite m)) (codes "nfinity") y
 unfolding unsigned
 infinity_at q m x y c e h = rw (e, h) refl
 
-pub unsigned_infinity : (q : List ℕ) (m : Bool) (x y : List ℕ) (c : ℕ) → x ≡ c ∷ y → c ≡ 73 → unsigned q m x ≡ word (decimal (infinite m)) (chars (codes "nfinity")) y
-unsigned_infinity q m x y c e h = infinity_at q m x y c e h ∙ ap (λ z. word (decimal (infinite m)) z y) (sym infinity_rest)
+pub unsigned_infinity : (q : List ℕ) (m : Bool) (x y : List ℕ) (c : ℕ) → x ≡ c ∷ y → c ≡ 73 → unsigned q m x ≡ word_at EofParsingNumber ExpectedNumber (decimal (infinite m)) (chars (codes "nfinity")) y
+unsigned_infinity q m x y c e h = infinity_at q m x y c e h ∙ ap (λ z. word_at EofParsingNumber ExpectedNumber (decimal (infinite m)) z y) (sym infinity_rest)
 
-nan_at : (q : List ℕ) (m : Bool) (x y : List ℕ) (c : ℕ) → x ≡ c ∷ y → c ≡ 78 → unsigned q m x ≡ word (decimal (nan m)) (codes "aN") y
+nan_at : (q : List ℕ) (m : Bool) (x y : List ℕ) (c : ℕ) → x ≡ c ∷ y → c ≡ 78 → unsigned q m x ≡ word_at EofParsingNumber ExpectedNumber (decimal (nan m)) (codes "aN") y
 unfolding unsigned
 nan_at q m x y c e h = rw (e, h) refl
 
-pub unsigned_nan : (q : List ℕ) (m : Bool) (x y : List ℕ) (c : ℕ) → x ≡ c ∷ y → c ≡ 78 → unsigned q m x ≡ word (decimal (nan m)) (chars (codes "aN")) y
-unsigned_nan q m x y c e h = nan_at q m x y c e h ∙ ap (λ z. word (decimal (nan m)) z y) (sym nan_rest)
+pub unsigned_nan : (q : List ℕ) (m : Bool) (x y : List ℕ) (c : ℕ) → x ≡ c ∷ y → c ≡ 78 → unsigned q m x ≡ word_at EofParsingNumber ExpectedNumber (decimal (nan m)) (chars (codes "aN")) y
+unsigned_nan q m x y c e h = nan_at q m x y c e h ∙ ap (λ z. word_at EofParsingNumber ExpectedNumber (decimal (nan m)) z y) (sym nan_rest)
 
 pub unsigned_zero : (q : List ℕ) (m : Bool) (x y : List ℕ) (c : ℕ) → x ≡ c ∷ y → c ≡ 48 → unsigned q m x ≡ at_zero q m y
 unfolding unsigned

@@ -9,9 +9,8 @@ use Rattle.std.proofs.lemmas.Str.{encodes-chars}
 use Rattle.json5_grammar.specs.declared.code.ErrorCode.{ErrorCode}
 use Rattle.json5_grammar.specs.declared.code.ErrorCode.TheVariants.{EofParsingNumber, ExpectedNumber, OverflowParsingNumber}
 use Rattle.json5_grammar.specs.Language.Numbers.{Number, signed, whole, InWhole}
-use Rattle.json5_grammar.specs.Model.Reading.{Read, Place, got, bad, here}
-use Rattle.json5_grammar.specs.Model.ReadNumbers.{word, hex_digits, hex_judged, hexadecimal}
-use Rattle.json5_grammar.specs.Model.ReadValues.{word_at}
+use Rattle.json5_grammar.specs.Model.Reading.{Read, Place, got, bad, here, word_at}
+use Rattle.json5_grammar.specs.Model.ReadNumbers.{hex_digits, hex_judged, hexadecimal}
 use Rattle.json5_grammar.proofs.Basics.{hex_value, no_hex}
 use Rattle.json5_text.specs.declared.refusal.Refusal.{Refusal}
 use Rattle.json5_text.specs.declared.refusal.Refusal.TheVariants as refusal
@@ -86,15 +85,15 @@ with_if : (n : Number) (b : Bool) (x y : Read (Unit {0})) → with_number n (con
 with_if n true x y = refl
 with_if n false x y = refl
 
-pub word_is : (n : Number) (ks x : List ℕ) → word n ks x ≡ with_number n (word_at EofParsingNumber ExpectedNumber ks x)
-unfolding word word_at
+word_is : (n : Number) (ks x : List ℕ) → word_at EofParsingNumber ExpectedNumber n ks x ≡ with_number n (word_at EofParsingNumber ExpectedNumber (tt {0}) ks x)
+unfolding word_at
 word_is n [] x = refl
 word_is n (k ∷ ks) [] = refl
 word_is n (k ∷ ks) (c ∷ r) =
     ap (λ z. cond (c == k) z (bad (Some ExpectedNumber) (here (c ∷ r)))) (word_is n ks r)
-    ∙ sym (with_if n (c == k) (word_at EofParsingNumber ExpectedNumber ks r) (bad (Some ExpectedNumber) (here (c ∷ r))))
+    ∙ sym (with_if n (c == k) (word_at EofParsingNumber ExpectedNumber tt ks r) (bad (Some ExpectedNumber) (here (c ∷ r))))
 
-pub word_read : (n : Number) (ks x r : List ℕ) → word_at EofParsingNumber ExpectedNumber ks x ≡ got tt r → word n ks x ≡ got n r
+pub word_read : (n : Number) (ks x r : List ℕ) → word_at EofParsingNumber ExpectedNumber (tt {0}) ks x ≡ got tt r → word_at EofParsingNumber ExpectedNumber n ks x ≡ got n r
 word_read n ks x r e = word_is n ks x ∙ ap (with_number n) e
 
 -- what is refused stays so where only what was read changes
@@ -113,8 +112,8 @@ outcome_is : (n : Number) (y : Read (Unit {0})) → outcome (with_number n y) �
 outcome_is n (got u r) = refl
 outcome_is n (bad e p) = refl
 
-pub word_refused : (n : Number) (ks x : List ℕ) (e : Refusal) → Refuses e (outcome (word_at EofParsingNumber ExpectedNumber ks x)) → Refuses e (outcome (word n ks x))
-word_refused n ks x e h = subst (Refuses e) (sym (ap outcome (word_is n ks x) ∙ outcome_is n (word_at EofParsingNumber ExpectedNumber ks x))) (refuses_still (outcome_with n) (λ c l. refl) e (outcome (word_at EofParsingNumber ExpectedNumber ks x)) h)
+pub word_refused : (n : Number) (ks x : List ℕ) (e : Refusal) → Refuses e (outcome (word_at EofParsingNumber ExpectedNumber (tt {0}) ks x)) → Refuses e (outcome (word_at EofParsingNumber ExpectedNumber n ks x))
+word_refused n ks x e h = subst (Refuses e) (sym (ap outcome (word_is n ks x) ∙ outcome_is n (word_at EofParsingNumber ExpectedNumber tt ks x))) (refuses_still (outcome_with n) (λ c l. refl) e (outcome (word_at EofParsingNumber ExpectedNumber tt ks x)) h)
 
 pub infinity_rest : chars (codes "nfinity") ≡ codes "nfinity"
 unfolding chars

@@ -9,11 +9,10 @@ use Rattle.std.proofs.lemmas.Bool.Decides.{nat_tests}
 use Rattle.json5_grammar.specs.Language.Characters.{is_terminator, is_digit}
 use Rattle.json5_grammar.specs.declared.code.ErrorCode.{ErrorCode}
 use Rattle.json5_grammar.specs.declared.code.ErrorCode.TheVariants.{EofParsingEscapeSequence, InvalidEscapeSequence}
-use Rattle.json5_grammar.specs.Model.Reading.{Read, Place, got, bad, here, inner, and_then}
+use Rattle.json5_grammar.specs.Model.Reading.{Read, Place, got, bad, here, inner, and_then, word_at}
 use Rattle.json5_grammar.specs.Language.Strings.{short_escape, is_high, is_low, pair_value}
 use Rattle.json5_grammar.specs.Faults.Tokens.{is_surrogate}
 use Rattle.json5_grammar.specs.Model.ReadTexts.{hex, paired, second_u, second, first, unicode_at, after_nul, not_short, escape_at}
-use Rattle.json5_grammar.specs.Model.ReadValues.{word_at}
 use Rattle.json5_grammar.proofs.Basics.{hex_value, no_hex}
 use Rattle.json5_text.specs.declared.refusal.Refusal.{Refusal}
 use Rattle.json5_text.specs.declared.refusal.Refusal.TheVariants as refusal
@@ -173,15 +172,15 @@ word_then false m k f e p h = refl
 abbrev pub other_half : ℕ → List ℕ → Unit {0} → List ℕ → Read ℕ
 other_half n b u y = and_then (hex 4 0 b y) (paired n b)
 
-second_u_word : (n : ℕ) (b xs : List ℕ) → second_u n b xs ≡ and_then (word_at EofParsingEscapeSequence InvalidEscapeSequence (117 ∷ []) xs) (other_half n b)
+second_u_word : (n : ℕ) (b xs : List ℕ) → second_u n b xs ≡ and_then (word_at EofParsingEscapeSequence InvalidEscapeSequence tt (117 ∷ []) xs) (other_half n b)
 unfolding word_at
 second_u_word n b [] = refl
 second_u_word n b (c ∷ r) = word_then (c == 117) (other_half n b tt r) (got tt r) (other_half n b) (Some InvalidEscapeSequence) (here (c ∷ r)) refl
 
-second_list : (n : ℕ) (b xs : List ℕ) → second n b xs ≡ and_then (word_at EofParsingEscapeSequence InvalidEscapeSequence (92 ∷ 117 ∷ []) xs) (other_half n b)
+second_list : (n : ℕ) (b xs : List ℕ) → second n b xs ≡ and_then (word_at EofParsingEscapeSequence InvalidEscapeSequence tt (92 ∷ 117 ∷ []) xs) (other_half n b)
 unfolding word_at
 second_list n b [] = refl
-second_list n b (c ∷ r) = word_then (c == 92) (second_u n b r) (word_at EofParsingEscapeSequence InvalidEscapeSequence (117 ∷ []) r) (other_half n b) (Some InvalidEscapeSequence) (here (c ∷ r)) (second_u_word n b r)
+second_list n b (c ∷ r) = word_then (c == 92) (second_u n b r) (word_at EofParsingEscapeSequence InvalidEscapeSequence tt (117 ∷ []) r) (other_half n b) (Some InvalidEscapeSequence) (here (c ∷ r)) (second_u_word n b r)
 
 -- the word `\u`
 abbrev pub escape_sign : List ℕ
@@ -191,17 +190,17 @@ sign_chars : escape_sign ≡ 92 ∷ 117 ∷ []
 unfolding lib.Utf8.encode
 sign_chars = chars-encodes (92 ∷ 117 ∷ []) refl
 
-pub second_word : (n : ℕ) (b xs : List ℕ) → second n b xs ≡ and_then (word_at EofParsingEscapeSequence InvalidEscapeSequence escape_sign xs) (other_half n b)
-second_word n b xs = second_list n b xs ∙ ap (λ w. and_then (word_at EofParsingEscapeSequence InvalidEscapeSequence w xs) (other_half n b)) (sym sign_chars)
+pub second_word : (n : ℕ) (b xs : List ℕ) → second n b xs ≡ and_then (word_at EofParsingEscapeSequence InvalidEscapeSequence tt escape_sign xs) (other_half n b)
+second_word n b xs = second_list n b xs ∙ ap (λ w. and_then (word_at EofParsingEscapeSequence InvalidEscapeSequence tt w xs) (other_half n b)) (sym sign_chars)
 
 -- `\u` is there, and four digits follow it
-pub second_digits : (n : ℕ) (b xs ys : List ℕ) → word_at EofParsingEscapeSequence InvalidEscapeSequence escape_sign xs ≡ got tt ys → second n b xs ≡ and_then (hex 4 0 b ys) (paired n b)
+pub second_digits : (n : ℕ) (b xs ys : List ℕ) → word_at EofParsingEscapeSequence InvalidEscapeSequence (tt {0}) escape_sign xs ≡ got tt ys → second n b xs ≡ and_then (hex 4 0 b ys) (paired n b)
 second_digits n b xs ys e = second_word n b xs ∙ ap (λ z. and_then z (other_half n b)) e
 
-pub second_pair : (n k : ℕ) (b xs ys zs : List ℕ) → word_at EofParsingEscapeSequence InvalidEscapeSequence escape_sign xs ≡ got tt ys → hex 4 0 b ys ≡ got k zs → (is_high n && is_low k) ≡ true → second n b xs ≡ got (pair_value n k) zs
+pub second_pair : (n k : ℕ) (b xs ys zs : List ℕ) → word_at EofParsingEscapeSequence InvalidEscapeSequence (tt {0}) escape_sign xs ≡ got tt ys → hex 4 0 b ys ≡ got k zs → (is_high n && is_low k) ≡ true → second n b xs ≡ got (pair_value n k) zs
 second_pair n k b xs ys zs e f h = second_digits n b xs ys e ∙ ap (λ z. and_then z (paired n b)) f ∙ rw h refl
 
-pub second_unpaired : (n k : ℕ) (b xs ys zs : List ℕ) → word_at EofParsingEscapeSequence InvalidEscapeSequence escape_sign xs ≡ got tt ys → hex 4 0 b ys ≡ got k zs → (is_high n && is_low k) ≡ false → second n b xs ≡ bad None (here b)
+pub second_unpaired : (n k : ℕ) (b xs ys zs : List ℕ) → word_at EofParsingEscapeSequence InvalidEscapeSequence (tt {0}) escape_sign xs ≡ got tt ys → hex 4 0 b ys ≡ got k zs → (is_high n && is_low k) ≡ false → second n b xs ≡ bad None (here b)
 second_unpaired n k b xs ys zs e f h = second_digits n b xs ys e ∙ ap (λ z. and_then z (paired n b)) f ∙ rw h refl
 
 -- ---- after the backslash

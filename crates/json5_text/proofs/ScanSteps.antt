@@ -3,10 +3,9 @@ use Rattle.std.proofs.Common.{Some, ◌≡◌, ℕ, true, false, List, [], ◌�
 use Rattle.std.specs.Prelude.{◌==◌}
 use Rattle.json5_grammar.specs.Language.Characters.{is_blank, is_terminator, NotBegun}
 use Rattle.json5_grammar.specs.declared.code.ErrorCode.TheVariants.{EofParsingComment, ExpectedComment}
-use Rattle.json5_grammar.specs.Model.ReadValues.{word_at}
 use Rattle.json5_grammar.specs.declared.code.ErrorCode.{ErrorCode}
 use Rattle.json5_grammar.proofs.BlanksRead.{skip_slash}
-use Rattle.json5_grammar.specs.Model.Reading.{got, bad, here, inner}
+use Rattle.json5_grammar.specs.Model.Reading.{got, bad, here, inner, word_at}
 use Rattle.json5_grammar.specs.Model.ReadBlanks.{skip, between, slash, Mode}
 
 pub line_end : (c : ℕ) (xs ys : List ℕ) → xs ≡ c ∷ ys → is_terminator c ≡ true → skip Mode.line xs ≡ skip between ys
@@ -80,19 +79,19 @@ pub ruleset line_steps = (line_end, line_more, line_none, blank_more, at_slash, 
 
 -- ---- words
 
-pub word_none : (e d : ErrorCode) (ks xs : List ℕ) → ks ≡ [] → word_at e d ks xs ≡ got tt xs
+pub word_none : (e d : ErrorCode) (ks xs : List ℕ) → ks ≡ [] → word_at e d (tt {0}) ks xs ≡ got tt xs
 unfolding word_at
 word_none e d ks xs h = rw h
 
-pub word_ends : (e d : ErrorCode) (k : ℕ) (ks ls xs : List ℕ) → ks ≡ k ∷ ls → xs ≡ [] → word_at e d ks xs ≡ bad (Some e) inner
+pub word_ends : (e d : ErrorCode) (k : ℕ) (ks ls xs : List ℕ) → ks ≡ k ∷ ls → xs ≡ [] → word_at e d (tt {0}) ks xs ≡ bad (Some e) inner
 unfolding word_at
 word_ends e d k ks ls xs h i = rw (h, i)
 
-pub word_more : (e d : ErrorCode) (k c : ℕ) (ks ls xs ys : List ℕ) → ks ≡ k ∷ ls → xs ≡ c ∷ ys → c ≡ k → word_at e d ks xs ≡ word_at e d ls ys
+pub word_more : (e d : ErrorCode) (k c : ℕ) (ks ls xs ys : List ℕ) → ks ≡ k ∷ ls → xs ≡ c ∷ ys → c ≡ k → word_at e d (tt {0}) ks xs ≡ word_at e d tt ls ys
 unfolding word_at
 word_more e d k c ks ls xs ys h i j = let t : (c == k) ≡ true = grind arith in rw (h, i) (rw t)
 
-pub word_differs : (e d : ErrorCode) (k c : ℕ) (ks ls xs ys : List ℕ) → ks ≡ k ∷ ls → xs ≡ c ∷ ys → (c ≡ k → ⊥) → word_at e d ks xs ≡ bad (Some d) (here xs)
+pub word_differs : (e d : ErrorCode) (k c : ℕ) (ks ls xs ys : List ℕ) → ks ≡ k ∷ ls → xs ≡ c ∷ ys → (c ≡ k → ⊥) → word_at e d (tt {0}) ks xs ≡ bad (Some d) (here xs)
 unfolding word_at
 word_differs e d k c ks ls xs ys h i j = let t : (c == k) ≡ false = grind arith in rw (h, i) (rw t)
 

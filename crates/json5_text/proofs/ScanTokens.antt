@@ -5,9 +5,8 @@ use Rattle.std.specs.Str.{IsUtf8, chars}
 use Rattle.std.proofs.lemmas.Str.{encodes-chars}
 use Rattle.json5_grammar.specs.declared.code.ErrorCode.{ErrorCode}
 use Rattle.json5_grammar.specs.Language.Blanks.{Gap, Solid}
-use Rattle.json5_grammar.specs.Model.Reading.{Read, here, inner, got, bad}
+use Rattle.json5_grammar.specs.Model.Reading.{Read, here, inner, got, bad, word_at}
 use Rattle.json5_grammar.specs.Model.ReadBlanks.{skip, between}
-use Rattle.json5_grammar.specs.Model.ReadValues.{word_at}
 use Rattle.json5_grammar.specs.Language.Characters.{is_identifier_start}
 use Rattle.json5_grammar.specs.declared.code.ErrorCode.TheVariants.{EofParsingIdentifier, ExpectedIdentifier}
 use Rattle.json5_grammar.specs.Language.Names.{Ident, goes_on_name}
@@ -58,10 +57,10 @@ blanks_faulty x y e = subst (λ z. FaultyIn FaultyBlanks y (skip between z)) (sy
 
 -- ---- words
 
-pub word_passed : (ends differs : ErrorCode) (w x y r : List ℕ) → x ≡ y → word_at ends differs w x ≡ got tt r → y ≡ w ++ r
-word_passed ends differs w x y r f e = subst (WordIs ends differs w y) (ap (word_at ends differs w) (sym f) ∙ e) (word_is ends differs w y)
+pub word_passed : (ends differs : ErrorCode) (w x y r : List ℕ) → x ≡ y → word_at ends differs (tt {0}) w x ≡ got tt r → y ≡ w ++ r
+word_passed ends differs w x y r f e = (subst (WordIs ends differs tt w y) (ap (word_at ends differs tt w) (sym f) ∙ e) (word_is ends differs tt w y)).1
 
-faulty_word : (ends differs : ErrorCode) (w x : List ℕ) (res : Read (Unit {0})) → WordIs ends differs w x res → FaultyIn (FaultyWord w ends differs) x res
+faulty_word : (ends differs : ErrorCode) (w x : List ℕ) (res : Read (Unit {0})) → WordIs ends differs tt w x res → FaultyIn (FaultyWord w ends differs) x res
 faulty_word ends differs w x (got u r) k = tt
 faulty_word ends differs w x (bad e p) (inl (v, d, q, c, r, i, j, n, f, g)) =
     subst (λ z. FaultAt (FaultyWord w ends differs) x z p) (sym f)
@@ -72,8 +71,8 @@ faulty_word ends differs w x (bad e p) (inr (d, q, i, f, g)) =
     subst (λ z. FaultAt (FaultyWord w ends differs) x z p) (sym f)
     (subst (λ z. FaultAt (FaultyWord w ends differs) x (Some ends) z) (sym g) (record { place = None; fault = word_ends x q d i; is_at = tt }))
 
-pub word_faulty : (ends differs : ErrorCode) (w x y : List ℕ) → x ≡ y → FaultyIn (FaultyWord w ends differs) y (word_at ends differs w x)
-word_faulty ends differs w x y e = subst (λ z. FaultyIn (FaultyWord w ends differs) y (word_at ends differs w z)) (sym e) (faulty_word ends differs w y (word_at ends differs w y) (word_is ends differs w y))
+pub word_faulty : (ends differs : ErrorCode) (w x y : List ℕ) → x ≡ y → FaultyIn (FaultyWord w ends differs) y (word_at ends differs (tt {0}) w x)
+word_faulty ends differs w x y e = subst (λ z. FaultyIn (FaultyWord w ends differs) y (word_at ends differs tt w z)) (sym e) (faulty_word ends differs w y (word_at ends differs tt w y) (word_is ends differs tt w y))
 
 -- ---- strings
 

@@ -2,9 +2,11 @@
 
 ghost use Rattle.std.specs.Prelude.{◌≡◌, ◌∷◌, IfSome};
 ghost use Rattle.std.specs.Str.{IsUtf8, chars};
+ghost use Rattle.json5_grammar.specs.declared.code.ErrorCode.TheVariants.{EofParsingNumber, ExpectedNumber};
 ghost use Rattle.json5_grammar.specs.Language.Characters.{digit_zero};
 ghost use Rattle.json5_grammar.specs.Language.Numbers as numbers;
 ghost use Rattle.json5_grammar.specs.Model.ReadNumbers as model;
+ghost use Rattle.json5_grammar.specs.Model.Reading.{word_at};
 ghost use Rattle.json5_text.specs.TokenResults.{GivesValue, AnswersAs, AnswersNumber, AnswersWhole};
 ghost use Rattle.json5_text.specs.NumberViews.{number_of};
 ghost use Rattle.json5_text.specs.NumberParts.{scanned_of};
@@ -67,7 +69,7 @@ fn word<'t>(
     letters: &str,
     text: &'t str,
 ) -> Result<(Scanned<'t>, &'t str), Refusal>
-    ensures { AnswersAs scanned_of (model.word (scanned_of number.entry) (chars letters.now) (chars text.now)) result }
+    ensures { AnswersAs scanned_of (word_at EofParsingNumber ExpectedNumber (scanned_of number.entry) (chars letters.now) (chars text.now)) result }
 {
     let rest = skip_word(
         letters,

@@ -1,7 +1,7 @@
 //! Words, such as the literals `null`, `true` and `false` (JSON5 section 2, ECMAScript 5.1 sections 7.8.1 and 7.8.2).
 
 ghost use Rattle.std.specs.Str.{chars};
-ghost use Rattle.json5_grammar.specs.Model.ReadValues.{word_at};
+ghost use Rattle.json5_grammar.specs.Model.Reading.{word_at};
 ghost use Rattle.json5_text.specs.TokenResults.{Skips};
 
 use crate::front::front;
@@ -17,7 +17,7 @@ pub(crate) fn skip_word<'t>(
     ends: ErrorCode,
     differs: ErrorCode,
 ) -> Result<&'t str, Refusal>
-    ensures { Skips (word_at ends differs (chars word.now) (chars text.now)) result }
+    ensures { Skips (word_at ends differs tt (chars word.now) (chars text.now)) result }
 {
     let mut wanted = word;
     let mut rest = text;

@@ -8,11 +8,11 @@ use Rattle.json5_grammar.specs.Language.Characters.{NotBegun}
 use Rattle.json5_grammar.specs.Faults.Fronts.{BracketKind, opening}
 use Rattle.json5_grammar.specs.Faults.Tokens.{is_sign, begins_number}
 use Rattle.json5_grammar.specs.Faults.Positions.{position_after}
-use Rattle.json5_grammar.specs.Model.Reading.{here, inner, got, bad}
+use Rattle.json5_grammar.specs.Model.Reading.{here, inner, got, bad, word_at}
 use Rattle.json5_grammar.specs.Model.ReadNumbers as reading
 use Rattle.json5_grammar.specs.Model.ReadSteps.{forget}
 use Rattle.json5_grammar.specs.Model.ReadTexts.{string}
-use Rattle.json5_grammar.specs.Model.ReadValues.{read, word_at}
+use Rattle.json5_grammar.specs.Model.ReadValues.{read}
 use Rattle.json5_grammar.specs.Language.Strings.{is_quote}
 use Rattle.json5_grammar.specs.Language.Trees.{Tree}
 use Rattle.json5_grammar.proofs.Basics.{eq_from, same_char}
@@ -74,7 +74,7 @@ literal_first literal.Null c t = eq_from c 110 t
 literal_first literal.True c t = eq_from c 116 t
 literal_first literal.False c t = eq_from c 102 t
 
-literal_read : (l : Literal) (room : ℕ) (r : List ℕ) → forget (read room (letter_of l ∷ r)) ≡ word_at (ends_of l) (differs_of l) (word_of l) (letter_of l ∷ r)
+literal_read : (l : Literal) (room : ℕ) (r : List ℕ) → forget (read room (letter_of l ∷ r)) ≡ word_at (ends_of l) (differs_of l) tt (word_of l) (letter_of l ∷ r)
 literal_read literal.Null room r = read_word_null room r
 literal_read literal.True room r = read_word_true room r
 literal_read literal.False room r = read_word_false room r
@@ -94,8 +94,8 @@ module _ (room : ℕ) (old new : Cursor) (c : ℕ) (first : slice_get old.unread
   literal_value l result ready is k =
       let (r, x) = some_next old.unread c first in
       let whole : old.unread ≡ letter_of l ∷ r = x ∙ ap (λ z. z ∷ r) (literal_first l c (tests_of c found (kind.Literal l) at is)) in
-      same_step old new (value_at room old) (word_at (ends_of l) (differs_of l) (word_of l) old.unread) result
-      (ap (λ z. forget (read room z)) whole ∙ literal_read l room r ∙ ap (word_at (ends_of l) (differs_of l) (word_of l)) (sym whole))
+      same_step old new (value_at room old) (word_at (ends_of l) (differs_of l) tt (word_of l) old.unread) result
+      (ap (λ z. forget (read room z)) whole ∙ literal_read l room r ∙ ap (word_at (ends_of l) (differs_of l) tt (word_of l)) (sym whole))
       (word_step (word_of l) (ends_of l) (differs_of l) old new result (literal_ends l) (literal_differs l) ready k)
 
   pub string_value : (result : Result (Unit {0}) Error) → IsInside old → found ≡ kind.String → PassesString old new result → Steps (value_at room old) old new result

@@ -9,12 +9,11 @@ use Rattle.json5_grammar.specs.Language.Names.{Ident, goes_on_name}
 use Rattle.json5_grammar.specs.Language.Numbers as numbers
 use Rattle.json5_grammar.specs.Language.Numbers.{Num, lengthens}
 use Rattle.json5_grammar.specs.Faults.Tokens.{is_sign, begins_number}
-use Rattle.json5_grammar.specs.Model.Reading.{Read, Place, here, inner, got, bad, IsAt}
+use Rattle.json5_grammar.specs.Model.Reading.{Read, Place, here, inner, got, bad, IsAt, word_at}
 use Rattle.json5_grammar.specs.Model.ReadBlanks.{skip, between}
 use Rattle.json5_grammar.specs.Model.ReadNumbers as reading
 use Rattle.json5_grammar.specs.Model.ReadSteps.{forget}
 use Rattle.json5_grammar.specs.Model.ReadTexts.{string, identifier}
-use Rattle.json5_grammar.specs.Model.ReadValues.{word_at}
 use Rattle.json5_grammar.specs.Language.Strings.{Str, is_quote}
 use Rattle.json5_grammar.proofs.BlanksSound.{gap_read, blank_refused}
 use Rattle.json5_grammar.proofs.NamesRead.{name_complete, name_refused}
@@ -186,10 +185,10 @@ name_step old new result ready k =
 
 -- ---- words
 
-pub word_refuses : (w : List ℕ) (ends differs : ErrorCode) (x : List ℕ) (reason : Option ErrorCode) (place : Option (List ℕ)) → FaultyWord w ends differs x reason place → Refuses (word_at ends differs w x) x reason place
-word_refuses w ends differs x reason place (word_differs p q r c d e h) = (here (c ∷ r), ap (λ z. word_at ends differs z (p ++ c ∷ r)) e ∙ differs_at ends differs p q r d c h, refl)
-word_refuses w ends differs x reason place (word_ends p q d e) = (inner, ap (λ z. word_at ends differs z p) e ∙ ends_in ends differs p q d, tt)
+pub word_refuses : (w : List ℕ) (ends differs : ErrorCode) (x : List ℕ) (reason : Option ErrorCode) (place : Option (List ℕ)) → FaultyWord w ends differs x reason place → Refuses (word_at ends differs (tt {0}) w x) x reason place
+word_refuses w ends differs x reason place (word_differs p q r c d e h) = (here (c ∷ r), ap (λ z. word_at ends differs tt z (p ++ c ∷ r)) e ∙ differs_at ends differs tt p q r d c h, refl)
+word_refuses w ends differs x reason place (word_ends p q d e) = (inner, ap (λ z. word_at ends differs tt z p) e ∙ ends_in ends differs tt p q d, tt)
 
-pub word_step : (w : List ℕ) (ends differs : ErrorCode) (old new : Cursor) (result : Result (Unit {0}) Error) → ends ≢ codes.Failed → differs ≢ codes.Failed → IsInside old → TakesWord w ends differs old new result → Steps (word_at ends differs w old.unread) old new result
-word_step w ends differs old new (Ok u) a b ready k = let took = k.taken in record { given = record { reads = ap (word_at ends differs w) took.split ∙ word_complete ends differs w new.unread; taken = w; took = took }; refused = tt; same_text = tt }
-word_step w ends differs old new (Err e) a b ready k = record { given = tt; refused = blames_refused old (word_at ends differs w old.unread) e ready (word_lacks w ends differs a b) (word_refuses w ends differs old.unread) k.refused; same_text = same_of k.kept }
+pub word_step : (w : List ℕ) (ends differs : ErrorCode) (old new : Cursor) (result : Result (Unit {0}) Error) → ends ≢ codes.Failed → differs ≢ codes.Failed → IsInside old → TakesWord w ends differs old new result → Steps (word_at ends differs (tt {0}) w old.unread) old new result
+word_step w ends differs old new (Ok u) a b ready k = let took = k.taken in record { given = record { reads = ap (word_at ends differs tt w) took.split ∙ word_complete ends differs tt w new.unread; taken = w; took = took }; refused = tt; same_text = tt }
+word_step w ends differs old new (Err e) a b ready k = record { given = tt; refused = blames_refused old (word_at ends differs tt w old.unread) e ready (word_lacks w ends differs a b) (word_refuses w ends differs old.unread) k.refused; same_text = same_of k.kept }

@@ -12,7 +12,7 @@ use Rattle.json5_grammar.specs.Faults.{Fault, ValueFault}
 use Rattle.json5_grammar.specs.Language.Trees.{Tree, depth}
 use Rattle.json5_grammar.specs.Language.Values.{Reads}
 
--- the code (None: custom), the text before its place (None: no place), the text before the faulty part, the part, and what shows it
+-- the code (None: custom), what comes before the position (None: it has none), what comes before the faulty part, the part, and what shows it
 pub record Blame : Type 0 where
   pub code : Option ErrorCode
   pub place : Option (List ℕ)
@@ -31,21 +31,21 @@ StringBlame x b = StringFault x b.code b.place b.before b.part b.shown
 abbrev pub NameBlame : List ℕ → Blame → Type 0
 NameBlame x b = NameFault x b.code b.place b.before b.part b.shown
 
--- the text begins with its faulty part
+-- x begins with the faulty part
 abbrev pub WordBlame : List ℕ → Blame → Type 0
 WordBlame x b = (b.before ≡ []) × WordFault x b.code b.place b.part b.shown
 
 abbrev pub NumberBlame : List ℕ → Blame → Type 0
 NumberBlame x b = (b.before ≡ []) × NumberFault x b.code b.place b.part b.shown
 
--- of a whole text, and of the value in front of one; nested no deeper than the limit
+-- of a whole input, and of the value in front of one; nested no deeper than the limit
 abbrev pub TextBlame : ℕ → List ℕ → Blame → Type 0
 TextBlame limit x b = Fault limit x b.code b.place b.before b.part b.shown
 
 abbrev pub ValueBlame : ℕ → List ℕ → Blame → Type 0
 ValueBlame limit x b = ValueFault limit x b.code b.place b.before b.part b.shown
 
--- ---- what stands in front of a text
+-- ---- what an input begins with
 
 abbrev pub IsDocument : ℕ → List ℕ → Type 0
 IsDocument limit x = (t : Tree) × Doc limit x t
@@ -74,7 +74,7 @@ IsBlamed HasFault x = (b : Blame) × HasFault x b
 
 -- ---- laws of a kind of faults
 
--- the faults of one text have one code and one place
+-- the faults of one input have one code and one position
 abbrev pub BlamesOnce : (List ℕ → Blame → Type 0) → Type 0
 BlamesOnce HasFault = (x : List ℕ) (b c : Blame) → HasFault x b → HasFault x c → (b.code ≡ c.code) × (b.place ≡ c.place)
 
@@ -83,22 +83,22 @@ pub record ShownByChar (HasFault : List ℕ → Blame → Type 0) (x : List ℕ)
   pub fault : HasFault x b
   pub shown : b.shown ≡ by_char
 
--- a fault that a character shows stands, whatever follows the part
+-- a fault that a character shows remains, whatever follows the part
 abbrev pub StandsByChar : (List ℕ → Blame → Type 0) → Type 0
 StandsByChar HasFault = (x z : List ℕ) (b : Blame) → ShownByChar HasFault x b → HasFault ((b.before ++ b.part) ++ z) b
 
--- ---- where the part stands
+-- ---- where the part is
 
 -- what follows the part: nothing where the end shows the fault
 abbrev pub IsRest : Shown → List ℕ → Type 0
 IsRest by_char q = Unit {0}
 IsRest by_end q = q ≡ []
 
--- x is what stands before the part, the part and the rest
+-- x is what comes before the part, the part, and the rest
 abbrev pub StandsIn : List ℕ → List ℕ → List ℕ → Shown → Type 0
 StandsIn x before part how = (q : List ℕ) × (x ≡ (before ++ part) ++ q) × IsRest how q
 
--- the part ends with the character that shows the fault, and the place is at that character or before it, within the part
+-- the part ends with the character that shows the fault, and the position is at that character or before it, within the part
 pub record Shows (before part : List ℕ) (place : Option (List ℕ)) : Type 0 where
   pub front : List ℕ
   pub char : ℕ

@@ -3,12 +3,12 @@ use Rattle.std.specs.Prelude.{ℕ, List, ◌++◌, Option, Some, None}
 pub use Rattle.json5_grammar.specs.declared.code.ErrorCode.{ErrorCode}
 pub use Rattle.json5_grammar.specs.declared.code.ErrorCode.TheVariants.{EofParsingArray, EofParsingBool, EofParsingComment, EofParsingEscapeSequence, EofParsingIdentifier, EofParsingNull, EofParsingNumber, EofParsingObject, EofParsingString, EofParsingValue, ExpectedBool, ExpectedColon, ExpectedComma, ExpectedComment, ExpectedIdentifier, ExpectedNull, ExpectedNumber, ExpectedValue, InvalidEscapeSequence, LeadingZero, LineTerminatorInString, OverflowParsingNumber, TrailingCharacters, TooDeep}
 
--- what shows a fault: the last character of the faulty part, or the end of the text
+-- what shows a fault: the last character of the faulty part, or the end of the input
 pub data Shown : Type 0 where
   by_char : Shown
   by_end : Shown
 
--- a place within what follows t, as a place within the whole; a place is the text before it, and None is the end
+-- a position within what follows t, as a position within the whole; a position is given by what comes before it, and None is the end
 abbrev pub after_text : List ℕ → Option (List ℕ) → Option (List ℕ)
 after_text t None = None
 after_text t (Some p) = Some (t ++ p)

@@ -26,7 +26,7 @@ FrontsCommit limit =
     (f r : List ℕ) (o : List Bracket) (a : Expects) (h : ℕ) (z : List ℕ) (t : Tree)
     → Front limit f (h ∷ r) o a → Doc limit (f ++ h ∷ z) t → GoesOn o a (h ∷ z)
 
--- a front begins a document, also with whole items of a string where one may stand, and of a name where a key is expected
+-- a front begins a document, also with whole items of a string where one may begin, and of a name where a key is expected
 abbrev pub FrontsContinue : ℕ → Type 0
 FrontsContinue limit = (f r : List ℕ) (o : List Bracket) (a : Expects) → Front limit f r o a → Begins limit f
 

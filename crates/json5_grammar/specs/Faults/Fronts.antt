@@ -10,7 +10,7 @@ pub data BracketKind : Type 0 where
   of_array : BracketKind
   of_object : BracketKind
 
--- an open bracket, and the text before it
+-- an open bracket, and what comes before it
 pub record Bracket : Type 0 where
   pub kind : BracketKind
   pub before : List ℕ
@@ -48,7 +48,7 @@ abbrev pub closing : BracketKind → ℕ
 closing of_array = right_bracket
 closing of_object = right_brace
 
--- f is a document's prefix and r the rest of the text; the open brackets, the innermost first; what is expected
+-- f is a document's prefix and r the rest of the input; the open brackets, the innermost first; what is expected
 pub data Front (limit : ℕ) : List ℕ → List ℕ → List Bracket → Expects → Type 0 where
   start : {f r : List ℕ} → Gap f r → Front limit f r [] value
   after_value : {g s w r : List ℕ} {o : List Bracket} {a : Expects} {t : Tree} → Front limit g (s ++ (w ++ r)) o a → takes_value a ≡ true

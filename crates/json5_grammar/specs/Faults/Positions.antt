@@ -1,4 +1,4 @@
--- Positions: the line and the column after a prefix of a text, both counted from 0.
+-- Positions: the line and the column after a prefix of the input, both counted from 0.
 -- ECMAScript 5.1 section 7.3: LF, CR, U+2028 and U+2029 end a line, and CR LF is one end.
 use Rattle.std.specs.Prelude.{ℕ, suc, ◌+◌, Bool, false, if◌then◌else◌, ◌&&◌, not, ◌==◌, List, [], ◌∷◌, length}
 use Rattle.std.specs.List.{list_any}
@@ -19,6 +19,6 @@ abbrev pub column_of : List ℕ → ℕ
 column_of [] = 0
 column_of (c ∷ s) = if list_any is_terminator (c ∷ s) then column_of s else suc (length s)
 
--- the position after this prefix of the text
+-- the position after this prefix of the input
 abbrev pub position_after : List ℕ → Position
 position_after s = record { line = line_of s; column = column_of s }

@@ -1,7 +1,7 @@
--- The faults of each kind of token, from its first character on: its code (None: custom), its place as the text before it (None: the
--- end), the part at fault, and what shows it.
-use Rattle.std.specs.Prelude.{◌≡◌, ◌≢◌, ℕ, Bool, true, false, not, ◌||◌, ◌==◌, List, [], ◌∷◌, ◌++◌, Option, Some, None, ◌<◌, ◌&&◌, length, ◌^◌, ◌≤◌, ℤ}
-use Rattle.json5_grammar.specs.Language.Characters.{is_terminator, is_blank, slash_sign, star_sign, NotBegun, Each, line_feed, carriage_return, digit_zero, digit_one, digit_nine, backslash, letter_u, letter_x, is_in, is_digit, is_hex_digit, first_high_surrogate, last_low_surrogate, is_identifier_start, is_identifier_part, capital_e, capital_i, capital_n, letter_e, plus_sign, minus_sign, point_sign}
+-- The faults of each kind of token, from its first character on: the code (None: custom), what comes before the position (None: it is the
+-- end's), the part at fault, and what shows it.
+use Rattle.std.specs.Prelude.{◌≡◌, ◌≢◌, ℕ, Bool, true, false, ◌||◌, ◌==◌, List, [], ◌∷◌, ◌++◌, Option, Some, None, ◌<◌, ◌&&◌, length, ◌^◌, ◌≤◌, ℤ}
+use Rattle.json5_grammar.specs.Language.Characters.{slash_sign, star_sign, Each, line_feed, carriage_return, digit_zero, digit_one, digit_nine, backslash, letter_u, letter_x, is_in, is_digit, is_hex_digit, first_high_surrogate, last_low_surrogate, is_identifier_start, is_identifier_part, capital_e, capital_i, capital_n, letter_e, plus_sign, minus_sign, point_sign}
 use Rattle.json5_grammar.specs.Faults.Codes.{ErrorCode, ExpectedComment, EofParsingComment, Shown, by_char, by_end, after_text, EofParsingEscapeSequence, EofParsingString, InvalidEscapeSequence, LineTerminatorInString, EofParsingIdentifier, ExpectedIdentifier, EofParsingNumber, ExpectedNumber, LeadingZero, OverflowParsingNumber, EofParsingBool, EofParsingNull, ExpectedBool, ExpectedNull}
 use Rattle.json5_grammar.specs.Language.Blanks.{Blanks, Inside}
 use Rattle.json5_grammar.specs.Language.Strings.{Hex4, is_high, is_low, Items, is_quote, Unicode}
@@ -11,16 +11,16 @@ use Rattle.json5_grammar.specs.Language.Numbers.{Number, Sign, spelled, Literal,
 
 -- ---- comments
 
--- x begins with a slash that begins no whole comment: the code, the text before its place (None: the end), the part, and what shows it
+-- x begins with a slash that begins no whole comment: the code, what comes before the position (None: it is the end's), the part, and what shows it
 pub data CommentFault : List ℕ → Option ErrorCode → Option (List ℕ) → List ℕ → Shown → Type 0 where
   -- ExpectedComment at a character after the slash that is neither `/` nor `*`
   no_comment : (c : ℕ) (r : List ℕ) → ((c == slash_sign) || (c == star_sign)) ≡ false
       → CommentFault (slash_sign ∷ c ∷ r) (Some ExpectedComment) (Some (slash_sign ∷ [])) (slash_sign ∷ c ∷ []) by_char
-  -- EofParsingComment: the text ends after the slash, or within `/*`
+  -- EofParsingComment: the input ends after the slash, or within `/*`
   slash_ends : CommentFault (slash_sign ∷ []) (Some EofParsingComment) None (slash_sign ∷ []) by_end
   block_ends : {x : List ℕ} → Inside x → CommentFault (slash_sign ∷ star_sign ∷ x) (Some EofParsingComment) None (slash_sign ∷ star_sign ∷ x) by_end
 
--- blanks, and then a faulty comment, its place and part being within the whole
+-- blanks, and then a faulty comment; its position and its part have the blanks before them
 pub data BlankFault : List ℕ → Option ErrorCode → Option (List ℕ) → List ℕ → List ℕ → Shown → Type 0 where
   in_comment : {w x part : List ℕ} {code : Option ErrorCode} {place : Option (List ℕ)} {shown : Shown} → Blanks w
       → CommentFault x code place part shown
@@ -38,7 +38,7 @@ pub data InDigits : Bool → List ℕ → Type 0 where
   in_second : {h d : List ℕ} {n : ℕ} {in_string : Bool} → Hex4 h n → is_surrogate n ≡ true → Each is_hex_digit d → length d < 4
       → InDigits in_string (backslash ∷ letter_u ∷ h ++ backslash ∷ letter_u ∷ d)
 
--- after a surrogate's escape, up to where `\` or `u` must stand
+-- after a surrogate's escape, up to where `\` or `u` must follow, and which of them
 pub data AfterSurrogate : List ℕ → ℕ → Type 0 where
   no_backslash : {h : List ℕ} {n : ℕ} → Hex4 h n → is_surrogate n ≡ true → AfterSurrogate (backslash ∷ letter_u ∷ h) backslash
   no_u : {h : List ℕ} {n : ℕ} → Hex4 h n → is_surrogate n ≡ true → AfterSurrogate (backslash ∷ letter_u ∷ h ++ backslash ∷ []) letter_u
@@ -49,7 +49,7 @@ pub data CutEscape : Bool → List ℕ → Type 0 where
   digits_missing : {e : List ℕ} {in_string : Bool} → InDigits in_string e → CutEscape in_string e
   second_missing : {e : List ℕ} {c : ℕ} {in_string : Bool} → AfterSurrogate e c → CutEscape in_string e
 
--- x begins with a faulty escape: the code (None: custom), the text before the place (None: no place), the part, what shows it
+-- x begins with a faulty escape: the code (None: custom), what comes before the position (None: it is the end's), the part, and what shows it
 pub data EscapeFault : Bool → List ℕ → Option ErrorCode → Option (List ℕ) → List ℕ → Shown → Type 0 where
   -- InvalidEscapeSequence at the backslash: a digit after `\0`
   digit_after_nul : {c : ℕ} (r : List ℕ) → is_digit c ≡ true
@@ -60,24 +60,24 @@ pub data EscapeFault : Bool → List ℕ → Option ErrorCode → Option (List �
   -- InvalidEscapeSequence at the (first) backslash: no hexadecimal digit within `\x` or `\u`
   no_escape_digit : {e : List ℕ} {in_string : Bool} (c : ℕ) (r : List ℕ) → InDigits in_string e → is_hex_digit c ≡ false
       → EscapeFault in_string (e ++ c ∷ r) (Some InvalidEscapeSequence) (Some []) (e ++ c ∷ []) by_char
-  -- InvalidEscapeSequence at the character where a surrogate's second `\u` must stand
+  -- InvalidEscapeSequence at the character where a surrogate's second `\u` must follow
   no_second_escape : {e : List ℕ} {wanted : ℕ} {in_string : Bool} (c : ℕ) (r : List ℕ) → AfterSurrogate e wanted → c ≢ wanted
       → EscapeFault in_string (e ++ c ∷ r) (Some InvalidEscapeSequence) (Some e) (e ++ c ∷ []) by_char
   -- custom, at the first backslash: two `\u` escapes that are no pair, the first a surrogate
   unpaired : {h l : List ℕ} {n k : ℕ} {in_string : Bool} (r : List ℕ) → Hex4 h n → Hex4 l k → is_surrogate n ≡ true → (is_high n && is_low k) ≡ false
       → EscapeFault in_string (backslash ∷ letter_u ∷ h ++ backslash ∷ letter_u ∷ l ++ r) None (Some [])
       (backslash ∷ letter_u ∷ h ++ backslash ∷ letter_u ∷ l) by_char
-  -- EofParsingEscapeSequence: the text ends in an escape
+  -- EofParsingEscapeSequence: the input ends in an escape
   escape_ends : {e : List ℕ} {in_string : Bool} → CutEscape in_string e → EscapeFault in_string e (Some EofParsingEscapeSequence) None e by_end
 
--- x, which begins with a string's quote, has this fault: its code (None: custom), the text before its place (None: no place), the text
--- before the faulty part, the part, what shows it
+-- x, which begins with a string's quote, has this fault: the code (None: custom), what comes before the position (None: it is the end's),
+-- what comes before the faulty part, the part, and what shows it
 pub data StringFault : List ℕ → Option ErrorCode → Option (List ℕ) → List ℕ → List ℕ → Shown → Type 0 where
   -- LineTerminatorInString at a raw LF or CR
   raw_terminator : {q c : ℕ} {s u : List ℕ} {escape_free : Bool} (r : List ℕ) → is_quote q ≡ true → Items q (c ∷ r) s u escape_free
       → ((c == line_feed) || (c == carriage_return)) ≡ true
       → StringFault (q ∷ s ++ c ∷ r) (Some LineTerminatorInString) (Some (q ∷ s)) (q ∷ s) (c ∷ []) by_char
-  -- EofParsingString: the text ends in a string
+  -- EofParsingString: the input ends in a string
   string_ends : {q : ℕ} {s u : List ℕ} {escape_free : Bool} → is_quote q ≡ true → Items q [] s u escape_free
       → StringFault (q ∷ s) (Some EofParsingString) None [] (q ∷ s) by_end
   -- in an escape
@@ -105,13 +105,13 @@ pub data NameFault : List ℕ → Option ErrorCode → Option (List ℕ) → Lis
   -- ExpectedIdentifier at the (first) backslash: an escaped character that may not begin a name
   escaped_no_start : {e : List ℕ} {n : ℕ} (r : List ℕ) → Unicode e n → is_identifier_start n ≡ false
       → NameFault (e ++ r) (Some ExpectedIdentifier) (Some []) [] e by_char
-  -- ExpectedIdentifier at the (first) backslash: an escaped character that may not stand in a name
+  -- ExpectedIdentifier at the (first) backslash: an escaped character that isn't allowed in a name
   escaped_no_part : {t u e : List ℕ} {n : ℕ} {escape_free : Bool} (r : List ℕ) → Ident t u escape_free → Unicode e n → is_identifier_part n ≡ false
       → NameFault (t ++ (e ++ r)) (Some ExpectedIdentifier) (Some t) t e by_char
-  -- EofParsingIdentifier: the text ends in a name
+  -- EofParsingIdentifier: the input ends in a name
   name_ends : {t u : List ℕ} {escape_free : Bool} → Ident t u escape_free
       → NameFault t (Some EofParsingIdentifier) None [] t by_end
-  -- EofParsingIdentifier: the text ends after a backslash in a name
+  -- EofParsingIdentifier: the input ends after a backslash in a name
   backslash_ends : {t : List ℕ} → Named t
       → NameFault (t ++ backslash ∷ []) (Some EofParsingIdentifier) None [] (t ++ backslash ∷ []) by_end
 
@@ -138,30 +138,30 @@ pub data DecimalRun : List ℕ → Type 0 where
   zero_run : {s n : List ℕ} {m : Bool} (c : ℕ) → Sign s m → ((c == point_sign) || ((c == letter_e) || (c == capital_e))) ≡ true → Each in_run n
       → DecimalRun (s ++ digit_zero ∷ c ∷ n)
 
--- the text r ends or begins with a character that fails the test: that character, or nothing
+-- r is empty or begins with a character that fails the test: nothing, or that character
 pub data RunEnd (p : ℕ → Bool) : List ℕ → List ℕ → Shown → Type 0 where
   run_at_end : RunEnd p [] [] by_end
   run_at_char : {c : ℕ} (r : List ℕ) → p c ≡ false → RunEnd p (c ∷ r) (c ∷ []) by_char
 
--- The text begins with a faulty number: its code (None: custom), its place as the text before it
--- (None: the end), the part from the number's start through what shows the fault, and what shows it.
+-- x begins with a faulty number: the code (None: custom), what comes before the position (None: it is the end's), the part from the number's
+-- start through what shows the fault, and what shows it
 pub data NumberFault : List ℕ → Option ErrorCode → Option (List ℕ) → List ℕ → Shown → Type 0 where
   -- ExpectedNumber at the first character that differs, in `Infinity` or `NaN`
   number_word_differs : (r w p s : List ℕ) {m : Bool} (d c : ℕ) → NumberWord w → Sign s m → Cut w p d → p ≢ [] → c ≢ d
       → NumberFault (s ++ (p ++ c ∷ r)) (Some ExpectedNumber) (Some (s ++ p)) (s ++ (p ++ c ∷ [])) by_char
-  -- EofParsingNumber: the text ends in `Infinity` or `NaN`
+  -- EofParsingNumber: the input ends in `Infinity` or `NaN`
   number_word_ends : (w p s : List ℕ) {m : Bool} (d : ℕ) → NumberWord w → Sign s m → Cut w p d → p ≢ []
       → NumberFault (s ++ p) (Some EofParsingNumber) None (s ++ p) by_end
   -- ExpectedNumber at the character after a sign that begins no number
   sign_without_number : (r : List ℕ) {sign c : ℕ} → is_sign sign ≡ true → begins_number c ≡ false
       → NumberFault (sign ∷ c ∷ r) (Some ExpectedNumber) (Some (sign ∷ [])) (sign ∷ c ∷ []) by_char
-  -- EofParsingNumber: the text ends after a sign
+  -- EofParsingNumber: the input ends after a sign
   sign_ends : {sign : ℕ} → is_sign sign ≡ true
       → NumberFault (sign ∷ []) (Some EofParsingNumber) None (sign ∷ []) by_end
   -- ExpectedNumber at the character after `0x` that is no hexadecimal digit
   no_hexadecimal_digit : (r s : List ℕ) {m : Bool} (x c : ℕ) → Sign s m → hex_start x ≡ true → is_hex_digit c ≡ false
       → NumberFault (s ++ digit_zero ∷ x ∷ c ∷ r) (Some ExpectedNumber) (Some (s ++ digit_zero ∷ x ∷ [])) (s ++ digit_zero ∷ x ∷ c ∷ []) by_char
-  -- EofParsingNumber: the text ends after `0x`
+  -- EofParsingNumber: the input ends after `0x`
   hexadecimal_ends : (s : List ℕ) {m : Bool} (x : ℕ) → Sign s m → hex_start x ≡ true
       → NumberFault (s ++ digit_zero ∷ x ∷ []) (Some EofParsingNumber) None (s ++ digit_zero ∷ x ∷ []) by_end
   -- OverflowParsingNumber at the digit that takes a hexadecimal number past 128 bits
@@ -202,6 +202,6 @@ pub data WordFault : List ℕ → Option ErrorCode → Option (List ℕ) → Lis
   -- ExpectedNull or ExpectedBool at the character that differs
   word_differs : (r w p : List ℕ) {bad eof : ErrorCode} (d c : ℕ) → Word w bad eof → Cut w p d → p ≢ [] → c ≢ d
       → WordFault (p ++ c ∷ r) (Some bad) (Some p) (p ++ c ∷ []) by_char
-  -- EofParsingNull or EofParsingBool: the text ends in the word
+  -- EofParsingNull or EofParsingBool: the input ends in the word
   word_ends : (w p : List ℕ) {bad eof : ErrorCode} (d : ℕ) → Word w bad eof → Cut w p d → p ≢ []
       → WordFault p (Some eof) None p by_end

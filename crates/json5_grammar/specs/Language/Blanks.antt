@@ -1,8 +1,7 @@
--- Blanks: white space and comments, which may stand round every token.
+-- Blanks: white space and comments, which are allowed around every token.
 -- JSON5 section 7 (comments) and section 8 (white space).
-use Rattle.std.specs.Prelude.{◌≡◌, ◌≢◌, ℕ, Bool, true, false, not, ◌||◌, ◌==◌, List, [], ◌∷◌, ◌++◌, Option, Some, None}
+use Rattle.std.specs.Prelude.{◌≡◌, ◌≢◌, ℕ, Bool, true, not, ◌||◌, ◌==◌, List, [], ◌∷◌, ◌++◌}
 use Rattle.json5_grammar.specs.Language.Characters.{is_terminator, is_blank, slash_sign, star_sign, NotBegun, Each}
-use Rattle.json5_grammar.specs.Faults.Codes.{ErrorCode, ExpectedComment, EofParsingComment, Shown, by_char, by_end, after_text}
 
 -- x, where `x*/` holds `*/` at its end only
 pub data Inside : List ℕ → Type 0 where
@@ -18,12 +17,12 @@ pub data Blanks : List ℕ → Type 0 where
       → Blanks (slash_sign ∷ slash_sign ∷ x ++ c ∷ s)
   block : {x s : List ℕ} → Inside x → Blanks s → Blanks (slash_sign ∷ star_sign ∷ x ++ star_sign ∷ slash_sign ∷ s)
 
--- blanks at the end of a text, the last of which may be a `//` comment that the end closes
+-- blanks at the end of the input, the last of which may be a `//` comment that the end closes
 pub data LastBlanks : List ℕ → Type 0 where
   blanks : {w : List ℕ} → Blanks w → LastBlanks w
   open_line : {w x : List ℕ} → Blanks w → Each (λ d. not (is_terminator d)) x → LastBlanks (w ++ slash_sign ∷ slash_sign ∷ x)
 
--- w is blank before r: where r is empty, an open `//` comment may stand
+-- w is blank before r; if r is empty, w may end with an open `//` comment
 pub data Gap : List ℕ → List ℕ → Type 0 where
   blanks : {w r : List ℕ} → Blanks w → Gap w r
   at_end : {w : List ℕ} → LastBlanks w → Gap w []

@@ -9,7 +9,7 @@ pub data NameItem : List ℕ → ℕ → Bool → Type 0 where
   raw_name : {c : ℕ} → c ≢ backslash → NameItem (c ∷ []) c true
   escaped_name : {e : List ℕ} {n : ℕ} → Unicode e n → NameItem e n false
 
--- items that stand for part characters
+-- items whose characters may follow a name's first, these characters, and whether all items are raw
 pub data NameParts : List ℕ → List ℕ → Bool → Type 0 where
   no_part : NameParts [] [] true
   part : {s v u : List ℕ} {c : ℕ} {p escape_free : Bool} → NameItem v c p → is_identifier_part c ≡ true → NameParts s u escape_free → NameParts (v ++ s) (c ∷ u) (p && escape_free)
@@ -20,12 +20,12 @@ pub data Ident : List ℕ → List ℕ → Bool → Type 0 where
 abbrev pub goes_on_name : ℕ → Bool
 goes_on_name c = is_identifier_part c || (c == backslash)
 
--- a key before r, with its text
+-- a key before r, the string that it means, and whether it is escape-free
 pub data Key : List ℕ → List ℕ → List ℕ → Bool → Type 0 where
   string_key : {k r u : List ℕ} {escape_free : Bool} → Str k u escape_free → Key k r u escape_free
   name_key : {k r u : List ℕ} {c : ℕ} {escape_free : Bool} → Ident k u escape_free → goes_on_name c ≡ false → Key k (c ∷ r) u escape_free
 
--- a text that is some name
+-- the spelling of some name
 abbrev pub IsName : List ℕ → Type 0
 IsName s = (u : List ℕ) × (escape_free : Bool) × Ident s u escape_free
 

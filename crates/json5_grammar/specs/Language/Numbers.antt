@@ -120,11 +120,11 @@ lengthens_body [] c = false
 lengthens_body (a ∷ []) c = if a == digit_zero then after_zero c else begins_run a && in_run c
 lengthens_body (a ∷ b ∷ s) c = if (a == digit_zero) && hex_start b then is_hex_digit c else begins_run a && in_run c
 
--- the character lengthens the value's text
+-- the character lengthens the value's spelling
 abbrev pub lengthens : List ℕ → ℕ → Bool
 lengthens [] c = false
 lengthens (a ∷ s) c = if (a == plus_sign) || (a == minus_sign) then lengthens_body s c else lengthens_body (a ∷ s) c
 
--- a number with the text s ends before r
+-- a number with the spelling s ends before r
 abbrev pub EndsAt : List ℕ → List ℕ → Type 0
 EndsAt s r = NotBegun (lengthens s) r

@@ -1,4 +1,4 @@
--- String literals and their escapes, with the text that they stand for; escape-free where no backslash was used.
+-- String literals and their escapes, with the characters that they mean; escape-free if they hold no backslash.
 -- JSON5 section 5 (strings), ECMAScript 5.1 section 7.8.4.
 use Rattle.std.specs.Prelude.{◌≡◌, ◌≢◌, ℕ, ◌+◌, ◌-◌, ◌*◌, Bool, true, false, if◌then◌else◌, ◌||◌, not, ◌==◌, List, [], ◌∷◌, ◌++◌, Option, Some, None}
 use Rattle.std.specs.Char.{digit_value}
@@ -31,7 +31,7 @@ pub data Unicode : List ℕ → ℕ → Type 0 where
   single : {h : List ℕ} {n : ℕ} → Hex4 h n → is_in first_high_surrogate last_low_surrogate n ≡ false → Unicode (backslash ∷ letter_u ∷ h) n
   surrogates : {h l : List ℕ} {n k : ℕ} → Hex4 h n → Hex4 l k → is_high n ≡ true → is_low k ≡ true → Unicode (backslash ∷ letter_u ∷ h ++ backslash ∷ letter_u ∷ l) (pair_value n k)
 
--- an escape, its text, and what follows it
+-- an escape, the characters that it means, and what follows it
 pub data Escape : List ℕ → List ℕ → List ℕ → Type 0 where
   short : {c d : ℕ} {r : List ℕ} → short_escape c ≡ Some d → Escape (backslash ∷ c ∷ []) (d ∷ []) r
   nul : {r : List ℕ} → NotBegun is_digit r → Escape (backslash ∷ digit_zero ∷ []) (0 ∷ []) r
@@ -62,6 +62,6 @@ pub data Str : List ℕ → List ℕ → Bool → Type 0 where
 abbrev pub holds_backslash : List ℕ → Bool
 holds_backslash s = list_any (λ c. c == backslash) s
 
--- a text that one more quote makes a string
+-- the spelling of a string without its last quote
 abbrev pub IsOpenString : List ℕ → Type 0
 IsOpenString s = (q : ℕ) × (u : List ℕ) × (escape_free : Bool) × Str (s ++ q ∷ []) u escape_free

@@ -1,4 +1,4 @@
--- Marked trees: what a text says, apart from the type that it is read as. A text is escape-free where no backslash was used.
+-- Trees: what an input says, whatever type it is read as. A string or a key has a mark, whether it was spelled without an escape.
 use Rattle.std.specs.Prelude.{ℕ, suc, max, Bool, List}
 use Rattle.json5_grammar.specs.Language.Numbers.{Number}
 
@@ -15,7 +15,7 @@ mutual
     no_more : Trees
     more : Tree → Trees → Trees
 
-  -- a key's text, whether it is escape-free, its value
+  -- a key's string, whether it is escape-free, its value, and the pairs after it
   pub data Pairs : Type 0 where
     no_pair : Pairs
     pair : List ℕ → Bool → Tree → Pairs → Pairs

@@ -40,7 +40,7 @@ mutual
     is_empty_object : {w : List ℕ} → Blanks w → Val (left_brace ∷ w ++ right_brace ∷ []) (object no_pair)
     is_object : {m : List ℕ} {ps : Pairs} → MemberList m ps → Val (left_brace ∷ m ++ right_brace ∷ []) (object ps)
 
-  -- one or more members, and the optional comma
+  -- one or more elements, and the optional last comma
   pub data ElementList : List ℕ → Trees → Type 0 where
     last : {w s v c : List ℕ} {t : Tree} → Blanks w → Val s t → Blanks v → LastComma c → ElementList (w ++ (s ++ (v ++ c))) (more t no_more)
     next : {w s v m : List ℕ} {t : Tree} {ts : Trees} → Blanks w → Val s t → Blanks v → ElementList m ts → ElementList (w ++ (s ++ (v ++ comma_sign ∷ m))) (more t ts)
@@ -54,7 +54,7 @@ mutual
     entry : {a k b w s v u : List ℕ} {escape_free : Bool} {t : Tree} → Blanks a → KeyText k u escape_free → Blanks b → Blanks w → Val s t → Blanks v
         → Member (a ++ (k ++ (b ++ colon_sign ∷ (w ++ (s ++ v))))) u escape_free t
 
--- r doesn't begin with a character that lengthens the value's text s
+-- r doesn't begin with a character that lengthens the value's spelling s
 abbrev pub Stops : List ℕ → List ℕ → Type 0
 Stops s r = NotBegun (lengthens s) r
 

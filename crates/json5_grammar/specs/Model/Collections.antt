@@ -1,5 +1,5 @@
--- Arrays and objects from their front: the members one after another, and the closing sign.
--- JSON5 sections 3 and 4 (objects and arrays; a comma may stand after the last member).
+-- Arrays and objects from their front: the elements or pairs one after another, and the closing sign.
+-- JSON5 sections 3 and 4 (objects and arrays; a comma is allowed after the last element or pair).
 use Rattle.std.specs.Prelude.{◌≡◌, ◌⊎◌, ℕ, Bool, true, false, List, [], ◌∷◌, ◌++◌, Option, Some, None}
 use Rattle.json5_grammar.specs.Language.Characters.{comma_sign, colon_sign, left_bracket, right_bracket, left_brace, right_brace}
 use Rattle.json5_grammar.specs.Language.Blanks.{Blanks}
@@ -24,7 +24,7 @@ IsEnd sign true x r = IsSign sign x r ⊎ ((y : List ℕ) × IsSign comma_sign x
 abbrev pub Opens : List ℕ → List ℕ → Type 0
 Opens x r = IsSign left_bracket x r
 
--- x goes on with a member of the tree t, after blanks and a comma where one is due, and r is left
+-- x goes on with an element of the tree t, after blanks and a comma where one is due, and r is left
 abbrev pub IsElement : Bool → List ℕ → Tree → List ℕ → Type 0
 IsElement false x t r = Reads x t r
 IsElement true x t r = (y : List ℕ) × IsSign comma_sign x y × Reads y t r
@@ -37,24 +37,19 @@ IsClose comma_due x r = IsEnd right_bracket comma_due x r
 abbrev pub IsAtClose : Bool → List ℕ → List ℕ → Type 0
 IsAtClose comma_due x y = (r : List ℕ) × IsClose comma_due x r × (y ≡ right_bracket ∷ r)
 
--- x goes on with these members and the closing bracket, and r is left after it
+-- x goes on with these elements and the closing bracket, and r is left after it
 abbrev pub Tail : Trees → Bool → List ℕ → List ℕ → Type 0
 Tail no_more comma_due x r = IsClose comma_due x r
 Tail (more t ts) comma_due x r = (y : List ℕ) × IsElement comma_due x t y × Tail ts true y r
 
--- from x these members are read, and y is left; a comma is due before them, and then after them
+-- from x these elements are read, and y is left; a comma is due before them, and then after them
 abbrev pub Passed : Trees → Bool → List ℕ → Bool → List ℕ → Type 0
 Passed no_more comma_due x now y = (comma_due ≡ now) × (x ≡ y)
 Passed (more t ts) comma_due x now y = (z : List ℕ) × IsElement comma_due x t z × Passed ts true z now y
 
--- x goes on with no member and no closing bracket
-pub record GoesNowhere (comma_due : Bool) (x : List ℕ) : Type 0 where
-  pub no_element : (t : Tree) (r : List ℕ) → IsElement comma_due x t r → ⊥
-  pub no_close : (r : List ℕ) → IsClose comma_due x r → ⊥
-
 -- ---- objects
 
--- x begins with blanks and a key with the text u, and r is left
+-- x begins with blanks and a key that means u, and r is left
 pub record ReadsKey (x u : List ℕ) (escape_free : Bool) (r : List ℕ) : Type 0 where
   pub front : List ℕ
   pub spelling : List ℕ
@@ -66,7 +61,7 @@ pub record ReadsKey (x u : List ℕ) (escape_free : Bool) (r : List ℕ) : Type 
 abbrev pub OpensObject : List ℕ → List ℕ → Type 0
 OpensObject x r = IsSign left_brace x r
 
--- x goes on with a key with the text u, after blanks and a comma where one is due, and r is left
+-- x goes on with a key that means u, after blanks and a comma where one is due, and r is left
 abbrev pub IsKey : Bool → List ℕ → List ℕ → Bool → List ℕ → Type 0
 IsKey false x u escape_free r = ReadsKey x u escape_free r
 IsKey true x u escape_free r = (y : List ℕ) × IsSign comma_sign x y × ReadsKey y u escape_free r
@@ -132,7 +127,7 @@ abbrev pub contents : {C : Type 0} → (Tree → Option C) → Trees → Option 
 contents convert no_more = Some []
 contents convert (more t ts) = both (convert t) (contents convert ts)
 
--- an array's content, from its members
+-- an array's content, from its elements
 abbrev pub array_of : {C : Type 0} → (Trees → Option C) → Tree → Option C
 array_of convert null = None
 array_of convert (boolean b) = None

@@ -5,14 +5,7 @@ use lib.Chars.{codes}
 use Rattle.json5_grammar.specs.Language.Characters.{capital_e, capital_i, capital_n, digit_zero, letter_e, minus_sign, plus_sign, point_sign, is_digit, is_hex_digit}
 use Rattle.json5_grammar.specs.Faults.Codes.{EofParsingNumber, ExpectedNumber, LeadingZero, OverflowParsingNumber}
 use Rattle.json5_grammar.specs.Language.Numbers.{Number, signed, spelled, without_zeros, is_empty, all_digits, exponent_of, hex_start, infinite, nan, finite, whole, decimal, in_run, begins_run}
-use Rattle.json5_grammar.specs.Model.Reading.{Read, here, inner, got, bad}
-
--- ---- words
-
-unfoldable pub word : Number → List ℕ → List ℕ → Read Number
-word n [] x = got n x
-word n (k ∷ ks) [] = bad (Some EofParsingNumber) inner
-word n (k ∷ ks) (c ∷ r) = cond (c == k) (word n ks r) (bad (Some ExpectedNumber) (here (c ∷ r)))
+use Rattle.json5_grammar.specs.Model.Reading.{Read, here, inner, got, bad, word_at}
 
 -- ---- hexadecimal numbers
 
@@ -20,7 +13,7 @@ unfoldable pub hex_digits : ℕ → List ℕ → Read ℕ
 hex_digits n [] = got n []
 hex_digits n (c ∷ r) = cond (is_hex_digit c) (cond (nat_lt (n * 16 + digit_value c) (2 ^ 128)) (hex_digits (n * 16 + digit_value c) r) (bad (Some OverflowParsingNumber) (here (c ∷ r)))) (got n (c ∷ r))
 
--- q is the text from the number's start on; true after a minus
+-- q is the input from the number's start on; true after a minus
 abbrev pub hex_judged : List ℕ → Bool → Read ℕ → Read Number
 hex_judged q false (got n r) = got (whole (pos n)) r
 hex_judged q true (got n r) = cond (nat_le n (2 ^ 127)) (got (whole (neg_ℤ (pos n))) r) (bad None (here q))
@@ -121,8 +114,8 @@ at_zero q m (c ∷ r) =
 unfoldable pub unsigned : List ℕ → Bool → List ℕ → Read Number
 unsigned q m [] = bad (Some EofParsingNumber) inner
 unsigned q m (c ∷ r) =
-    cond (c == capital_i) (word (decimal (infinite m)) (codes "nfinity") r)
-    (cond (c == capital_n) (word (decimal (nan m)) (codes "aN") r)
+    cond (c == capital_i) (word_at EofParsingNumber ExpectedNumber (decimal (infinite m)) (codes "nfinity") r)
+    (cond (c == capital_n) (word_at EofParsingNumber ExpectedNumber (decimal (nan m)) (codes "aN") r)
     (cond (c == digit_zero) (at_zero q m r)
     (cond (begins_run c) (decimal_run q m (c ∷ r))
     (bad (Some ExpectedNumber) (here (c ∷ r))))))

@@ -1,4 +1,4 @@
--- The steps of reading a value, the trees forgotten: what stands round the members of arrays and objects.
+-- The steps of reading a value, the trees forgotten: what comes before and after the values in a bracket.
 use Rattle.std.specs.Prelude.{ℕ, suc, Bool, true, false, cond, ◌==◌, List, [], ◌∷◌, length, Option, Some, None}
 use Rattle.json5_grammar.specs.Language.Characters.{comma_sign}
 use Rattle.json5_grammar.specs.Faults.Codes.{EofParsingObject, ExpectedComma}
@@ -25,7 +25,7 @@ colon_after x = and_then (skip between x) (λ u y. and_then (colon_at y) (λ v z
 abbrev pub pair_head : List ℕ → Read Bool
 pair_head x = and_then (key x) (λ a r. and_then (colon_after r) (λ u y. got true y))
 
--- where a member may begin, after the blanks: what its value has before it is passed over
+-- where an element or a pair may begin, after the blanks; a pair's key and colon are passed over
 abbrev pub member_head : BracketKind → List ℕ → Read Bool
 member_head of_array [] = got true []
 member_head of_object [] = bad (Some EofParsingObject) inner
@@ -35,7 +35,7 @@ member_head of_object (c ∷ r) = cond (c == closing of_object) (got false r) (p
 unfoldable pub member_at : BracketKind → List ℕ → Read Bool
 member_at k x = and_then (skip between x) (λ u y. member_head k y)
 
--- after a member: true where a comma was taken
+-- after an element or a pair: true where a comma was taken
 abbrev pub comma_at : BracketKind → List ℕ → Read Bool
 comma_at k [] = bad (Some (eof_in k)) inner
 comma_at k (c ∷ r) = cond (c == comma_sign) (got true r) (cond (c == closing k) (got false r) (bad (Some ExpectedComma) (here (c ∷ r))))
@@ -62,14 +62,14 @@ value_and_rest k d x = and_then (forget (read d x)) (λ u y. rest_of_bracket k t
 
 -- ---- the same with the trees
 
--- members and the closing bracket; and after a member
+-- elements and the closing bracket; and the same after an element
 abbrev pub trees_of : ℕ → List ℕ → Read Trees
 trees_of d x = read_elements (read d) (suc (length x)) x
 
 abbrev pub trees_after : ℕ → List ℕ → Read Trees
 trees_after d x = and_then (skip between x) (λ u y. after_member (trees_of d) y)
 
--- pairs and the closing brace; and after a pair
+-- pairs and the closing brace; and the same after a pair
 abbrev pub read_pairs : ℕ → List ℕ → Read Pairs
 read_pairs d x = read_members (read d) (suc (length x)) x
 
@@ -84,7 +84,7 @@ key_head (c ∷ r) = cond (c == closing of_object) (got None r) (and_then (key (
 unfoldable pub key_at : List ℕ → Read (Option (List ℕ × Bool))
 key_at x = and_then (skip between x) (λ u y. key_head y)
 
--- a value and the members after it
+-- a value and the elements after it
 abbrev pub first_of_trees : ℕ → List ℕ → Read Trees
 first_of_trees d x = and_then (read d x) (λ t y. and_then (trees_after d y) (λ ts z. got (more t ts) z))
 
@@ -92,7 +92,7 @@ first_of_trees d x = and_then (read d x) (λ t y. and_then (trees_after d y) (λ
 abbrev pub first_of_pairs : ℕ → List ℕ × Bool → List ℕ → Read Pairs
 first_of_pairs d a x = and_then (read d x) (λ t y. and_then (pairs_after d y) (λ ps z. got (pair a.0 a.1 t ps) z))
 
--- a member comes next, or the array was closed
+-- a value comes next, or the bracket was closed
 abbrev pub goes_on_with : {A : Type 0} → A → (List ℕ → Read A) → Bool → List ℕ → Read A
 goes_on_with nothing f goes y = cond goes (f y) (got nothing y)
 

@@ -58,12 +58,12 @@ unfoldable pub escape_at : List ℕ → List ℕ → Read (List ℕ)
 escape_at b [] = bad (Some EofParsingEscapeSequence) inner
 escape_at b (c ∷ r) = not_short (short_escape c) b c r
 
--- an item's text and whether it is raw, and then the rest
+-- an item's characters and whether it is raw, before those of the rest
 abbrev pub put : List ℕ → Bool → Read (List ℕ × Bool) → Read (List ℕ × Bool)
 put v p (bad e x) = bad e x
 put v p (got a r) = got (v ++ a.0, p && a.1) r
 
--- the items of a string and its quote; the number bounds the turns, more than the length of the text is enough
+-- the items of a string and its quote; the number bounds the turns, and any above the length of x is enough
 unfoldable pub items : ℕ → ℕ → List ℕ → Read (List ℕ × Bool)
 items zero q x = bad (Some EofParsingString) inner
 items (suc n) q [] = bad (Some EofParsingString) inner
@@ -73,7 +73,7 @@ items (suc n) q (c ∷ r) =
     (cond ((c == line_feed) || (c == carriage_return)) (bad (Some LineTerminatorInString) (here (c ∷ r)))
     (put (c ∷ []) true (items n q r))))
 
--- a string, its text and whether it is escape-free
+-- a string: its characters, and whether it is escape-free
 unfoldable pub string : List ℕ → Read (List ℕ × Bool)
 string [] = bad (Some EofParsingString) inner
 string (q ∷ r) = items (suc (length r)) q r
@@ -83,7 +83,7 @@ unfoldable pub name_escape : List ℕ → List ℕ → Read ℕ
 name_escape b [] = bad (Some EofParsingIdentifier) inner
 name_escape b (c ∷ r) = cond (c == letter_u) (unicode_at b r) (bad (Some InvalidEscapeSequence) (here (c ∷ r)))
 
--- the escape's character fits its place
+-- the escape's character passes the test of a name's first or later characters
 abbrev pub fit : (ℕ → Bool) → List ℕ → ℕ → List ℕ → Read ℕ
 fit p b n r = cond (p n) (got n r) (bad (Some ExpectedIdentifier) (here b))
 
@@ -100,7 +100,7 @@ parts (suc n) (c ∷ r) =
     (cond (is_identifier_part c) (put (c ∷ []) true (parts n r))
     (got ([], true) (c ∷ r)))
 
--- a name, its text and whether it is escape-free
+-- a name: its characters, and whether it is escape-free
 unfoldable pub identifier : List ℕ → Read (List ℕ × Bool)
 identifier [] = bad (Some EofParsingIdentifier) inner
 identifier (c ∷ r) =

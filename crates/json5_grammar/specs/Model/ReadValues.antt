@@ -1,23 +1,17 @@
 -- Reading a value and a document as functions on lists.
 use Rattle.std.specs.Prelude.{ℕ, zero, suc, true, false, cond, ◌||◌, ◌==◌, List, [], ◌∷◌, length, Some}
 use Rattle.json5_grammar.specs.Language.Characters.{comma_sign, colon_sign, left_bracket, right_bracket, left_brace, right_brace, letter_f, letter_n, letter_t}
-use Rattle.json5_grammar.specs.Faults.Codes.{ErrorCode, EofParsingArray, EofParsingBool, EofParsingNull, EofParsingObject, EofParsingValue, ExpectedBool, ExpectedColon, ExpectedComma, ExpectedNull, ExpectedValue, TrailingCharacters, TooDeep}
+use Rattle.json5_grammar.specs.Faults.Codes.{EofParsingArray, EofParsingBool, EofParsingNull, EofParsingObject, EofParsingValue, ExpectedBool, ExpectedColon, ExpectedComma, ExpectedNull, ExpectedValue, TrailingCharacters, TooDeep}
 use Rattle.json5_grammar.specs.Faults.Tokens.{is_sign, begins_number}
 use Rattle.json5_grammar.specs.Language.Strings.{is_quote}
 use Rattle.json5_grammar.specs.Language.Trees.{Tree, Trees, Pairs, null, boolean, text, array, object, no_more, more, no_pair, pair}
 use Rattle.json5_grammar.specs.Model.ReadNumbers.{number}
 use Rattle.json5_grammar.specs.Language.Values.{null_text, true_text, false_text}
 use Rattle.json5_grammar.specs.Model.ReadTexts.{key, string}
-use Rattle.json5_grammar.specs.Model.Reading.{Read, and_then, placed, here, inner, got, bad}
+use Rattle.json5_grammar.specs.Model.Reading.{Read, and_then, placed, here, inner, got, bad, word_at}
 use Rattle.json5_grammar.specs.Model.ReadBlanks.{skip, between}
 
--- the rest of a word, and the codes for a character that differs and for the end
-unfoldable pub word_at : ErrorCode → ErrorCode → List ℕ → List ℕ → Read (Unit {0})
-word_at eof bad_code [] x = got tt x
-word_at eof bad_code (k ∷ ks) [] = bad (Some eof) inner
-word_at eof bad_code (k ∷ ks) (c ∷ r) = cond (c == k) (word_at eof bad_code ks r) (bad (Some bad_code) (here (c ∷ r)))
-
--- ---- members of arrays
+-- ---- elements of arrays
 
 abbrev pub after_member : (List ℕ → Read Trees) → List ℕ → Read Trees
 after_member k [] = bad (Some EofParsingArray) inner
@@ -30,7 +24,7 @@ close_or m (c ∷ r) = cond (c == right_bracket) (got no_more r) m
 abbrev pub member : (List ℕ → Read Tree) → (List ℕ → Read Trees) → List ℕ → Read Trees
 member val k x = and_then (val x) (λ t r. and_then (skip between r) (λ u y. and_then (after_member k y) (λ ts z. got (more t ts) z)))
 
--- the number bounds the turns; more than the length of the text is enough
+-- the number bounds the turns; any above the length of x is enough
 unfoldable pub read_elements : (List ℕ → Read Tree) → ℕ → List ℕ → Read Trees
 read_elements val zero x = bad (Some EofParsingArray) inner
 read_elements val (suc n) x = and_then (skip between x) (λ u y. close_or (member val (read_elements val n) y) y)
@@ -68,9 +62,9 @@ as_leaf f m = and_then m (λ a r. got (f a) r)
 abbrev pub value_with : (List ℕ → List ℕ → Read Tree) → (List ℕ → List ℕ → Read Tree) → List ℕ → Read Tree
 value_with array_at object_at [] = bad (Some EofParsingValue) inner
 value_with array_at object_at (c ∷ r) =
-    cond (c == letter_n) (as_leaf (λ u. null) (word_at EofParsingNull ExpectedNull null_text (c ∷ r)))
-    (cond (c == letter_t) (as_leaf (λ u. boolean true) (word_at EofParsingBool ExpectedBool true_text (c ∷ r)))
-    (cond (c == letter_f) (as_leaf (λ u. boolean false) (word_at EofParsingBool ExpectedBool false_text (c ∷ r)))
+    cond (c == letter_n) (word_at EofParsingNull ExpectedNull null null_text (c ∷ r))
+    (cond (c == letter_t) (word_at EofParsingBool ExpectedBool (boolean true) true_text (c ∷ r))
+    (cond (c == letter_f) (word_at EofParsingBool ExpectedBool (boolean false) false_text (c ∷ r))
     (cond (is_quote c) (as_leaf (λ a. text a.0 a.1) (string (c ∷ r)))
     (cond (is_sign c || begins_number c) (as_leaf Tree.number (number (c ∷ r)))
     (cond (c == left_bracket) (array_at (c ∷ r) r)

@@ -1,10 +1,10 @@
 -- Reading as functions on lists, which give what is at the front and what follows it, or the fault. Private clauses and proofs cite them.
--- No public clause of a refusal does: these cite the fault table. Of the public words one does, `document_of` of json5_de, which says what
--- a key converts to, and the law `document_keys` says of it which keys are documents.
-use Rattle.std.specs.Prelude.{◌≡◌, ℕ, List, ◌++◌, Option, Some, None}
+-- Public clauses cite the fault table instead. Only `document_of` of json5_de, which says what a key converts to, cites reading; the law
+-- `document_keys` says which keys are documents.
+use Rattle.std.specs.Prelude.{◌≡◌, ℕ, cond, ◌==◌, List, [], ◌∷◌, ◌++◌, Option, Some, None}
 use Rattle.json5_grammar.specs.Faults.Codes.{ErrorCode}
 
--- a place: where this rest of the text begins, or the innermost open bracket
+-- where a fault is: where this rest of the input begins, or at the innermost open bracket
 pub data Place : Type 0 where
   here : List ℕ → Place
   inner : Place
@@ -18,15 +18,21 @@ abbrev pub and_then : {A B : Type 0} → Read A → (A → List ℕ → Read B) 
 and_then (got a r) f = f a r
 and_then (bad e p) f = bad e p
 
--- where a place is in the text x: what stands before it
+-- what comes before the place in x (None: the place is the innermost bracket)
 abbrev pub IsAt : List ℕ → Option (List ℕ) → Place → Type 0
 IsAt x (Some p) (here q) = x ≡ p ++ q
 IsAt x (Some p) inner = ⊥
 IsAt x None (here q) = ⊥
 IsAt x None inner = Unit {0}
 
--- a fault without a place gets this one
+-- a fault at the innermost bracket, which q begins with, is where q begins
 abbrev pub placed : {A : Type 0} → List ℕ → Read A → Read A
 placed q (got a r) = got a r
 placed q (bad e (here p)) = bad e (here p)
 placed q (bad e inner) = bad e (here q)
+
+-- the answer after this word; the codes are those of the input's end and of a character that differs
+unfoldable pub word_at : {A : Type 0} → ErrorCode → ErrorCode → A → List ℕ → List ℕ → Read A
+word_at eof wrong a [] x = got a x
+word_at eof wrong a (k ∷ ks) [] = bad (Some eof) inner
+word_at eof wrong a (k ∷ ks) (c ∷ r) = cond (c == k) (word_at eof wrong a ks r) (bad (Some wrong) (here (c ∷ r)))

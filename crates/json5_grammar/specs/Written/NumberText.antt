@@ -1,4 +1,4 @@
--- The written text of a number: a whole number's digits, a decimal in plain notation with a point.
+-- How a number is written: a whole number as its digits, a decimal as digits with a point and without an exponent.
 use Rattle.std.specs.Prelude.{◌≡◌, ℕ, suc, ◌-◌, cond, nat_lt, List, [], ◌∷◌, ◌++◌, length, take, drop, replicate, ℤ, pos, negsuc, ⊤}
 use Rattle.std.specs.Fmt.{sign_text, signed_decimal}
 use lib.Chars.{codes}
@@ -8,7 +8,7 @@ use Rattle.json5_grammar.specs.Language.Numbers.{Decimal, Number, without_zeros,
 abbrev pub zeros : ℕ → List ℕ
 zeros n = replicate n digit_zero
 
--- digits that don't begin with the point's place moved j to the left
+-- the digits with a point before the last j of them, after zeros if they are fewer
 abbrev pub pointed : List ℕ → ℕ → List ℕ
 pointed ds j = cond (nat_lt j (length ds)) (take (length ds - j) ds ++ point_sign ∷ drop (length ds - j) ds) (digit_zero ∷ point_sign ∷ (zeros (j - length ds) ++ ds))
 

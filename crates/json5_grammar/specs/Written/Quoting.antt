@@ -1,10 +1,10 @@
--- How a text is written: between quotes, or bare where it is an identifier and stands as a key.
+-- How a string is written: between quotes; as a key bare, if it is an identifier.
 use Rattle.std.specs.Prelude.{ℕ, Bool, false, if◌then◌else◌, ◌&&◌, not, ◌==◌, List, [], ◌∷◌, ◌++◌}
 use Rattle.std.specs.List.{list_any, list_all}
 use lib.Chars.{codes}
 use Rattle.json5_grammar.specs.Language.Characters.{line_feed, carriage_return, double_quote, single_quote, backslash, is_identifier_start, is_identifier_part, line_separator, paragraph_separator}
 
--- `escape`
+-- a character between the quotes q
 abbrev pub escaped : ℕ → ℕ → List ℕ
 escaped q c = if c == q then backslash ∷ c ∷ [] else if c == backslash then codes "\\\\" else if c == line_feed then codes "\\n" else if c == carriage_return then codes "\\r" else if c == line_separator then codes "\\u2028" else if c == paragraph_separator then codes "\\u2029" else c ∷ []
 
@@ -12,7 +12,7 @@ abbrev pub escaped_all : ℕ → List ℕ → List ℕ
 escaped_all q [] = []
 escaped_all q (c ∷ s) = escaped q c ++ escaped_all q s
 
--- `'` where the text has `"` and no `'`
+-- `'` if the string has `"` and no `'`
 abbrev pub quote_for : List ℕ → ℕ
 quote_for u = if list_any (λ c. c == double_quote) u && not (list_any (λ c. c == single_quote) u) then single_quote else double_quote
 

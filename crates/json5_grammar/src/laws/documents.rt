@@ -13,17 +13,17 @@ ghost use Rattle.json5_grammar.specs.Language.Trees.{Tree, null, boolean, number
 ghost use Rattle.json5_grammar.specs.Language.Values.{Val, Stops, Reads, null_text, true_text, false_text};
 ghost use Rattle.json5_grammar.specs.Language.Documents.{Doc};
 
-/// A text has at most one tree, whatever the nesting limits.
+/// An input has at most one tree, whatever the nesting limits.
 pub fn one_tree()
     ensures { (limit other : ℕ) (x : List ℕ) (t u : Tree) → Doc limit x t → Doc other x u → t ≡ u }
 {}
 
-/// A text has at most one front that is a value and stops there.
+/// An input has at most one front that is a value and stops there.
 pub fn one_front()
     ensures { (s u r q : List ℕ) (t v : Tree) → Val s t → Val u v → Stops s r → Stops u q → s ++ r ≡ u ++ q → (s ≡ u) × (t ≡ v) × (r ≡ q) }
 {}
 
-/// A text begins with at most one phrase, and one rest is left.
+/// An input begins with at most one phrase, and one rest is left.
 pub fn one_phrase()
     ensures { (x r q : List ℕ) (t u : Tree) → Reads x t r → Reads x u q → (t ≡ u) × (r ≡ q) }
 {}
@@ -41,14 +41,14 @@ pub fn one_gap()
     ensures last { (x v r : List ℕ) → LastBlanks x → Gap v r → Solid r → x ≡ v ++ r → (v ≡ x) × (r ≡ []) }
 {}
 
-/// Each text begins with blanks up to such a rest, or has a faulty comment, of one code and one position.
+/// Each input begins with blanks up to such a rest, or has a faulty comment, of one code and one position.
 pub fn blanks()
     ensures judged { (x : List ℕ) → HasGap x ⊎ IsBlamed BlankBlame x }
     ensures same { BlamesOnce BlankBlame }
     ensures refused { (w r : List ℕ) (b : Blame) → Gap w r → Solid r → BlankBlame (w ++ r) b → ⊥ }
 {}
 
-/// A text that begins with a word's first letter begins with the word, or has a fault of it, of one code and one position.
+/// An input that begins with a word's first letter begins with the word, or has a fault of it, of one code and one position.
 pub fn words()
     ensures judged { (k : ℕ) (ks r : List ℕ) (wrong eof : ErrorCode) → Word (k ∷ ks) wrong eof → IsPrefix (k ∷ ks) (k ∷ r) ⊎ IsBlamed WordBlame (k ∷ r) }
     ensures same { BlamesOnce WordBlame }
@@ -63,7 +63,7 @@ pub fn written()
     ensures text { (u : List ℕ) → Val (quoted_text u) (text u (not (holds_backslash (quoted_text u)))) }
 {}
 
-/// What is written for a scalar is a document alone, whatever the limit; so is each value that is nested within the limit.
+/// What is written for a scalar is by itself a document, whatever the limit; so is each value that is nested within the limit.
 pub fn written_alone()
     ensures null { (limit : ℕ) → Doc limit null_text null }
     ensures boolean { (limit : ℕ) (b : Bool) → Doc limit (if b then true_text else false_text) (boolean b) }

@@ -8,18 +8,18 @@ ghost use Rattle.json5_grammar.specs.Faults.Tokens.{is_sign, begins_number};
 ghost use Rattle.json5_grammar.specs.Written.NumberText.{decimal_text, number_text, Normal, IsNumber};
 ghost use Rattle.json5_grammar.specs.Faults.Parts.{IsPrefix, NumberPart};
 
-/// A text has at most one front that is a number.
+/// An input has at most one front that is a number.
 pub fn one_number()
     ensures { (s t r q : List ℕ) (n k : Number) → Num s n → Num t k → EndsAt s r → EndsAt t q → s ++ r ≡ t ++ q → (s ≡ t) × (n ≡ k) × (r ≡ q) }
 {}
 
-/// A text that begins as a number does has a number in front or a fault.
+/// An input that begins as a number does has a number in front, or a fault of one.
 pub fn number_or_fault()
     ensures { (x : List ℕ) → Begun (λ c. is_sign c || begins_number c) x → HasNumber x ⊎ IsBlamed NumberBlame x }
 {}
 
-/// A text has one number fault's code and position at most, and then no number in front; the blamed part is a begun number at
-/// the text's front, and what a character shows holds whatever follows.
+/// A number's fault has one code and one position, and then no number is in front. The faulty part is a begun number at the
+/// front. A fault that a character shows remains, whatever follows.
 pub fn one_number_fault()
     ensures same { BlamesOnce NumberBlame }
     ensures refused { (x s r : List ℕ) (n : Number) (b : Blame) → NumberBlame x b → x ≡ s ++ r → Num s n → EndsAt s r → ⊥ }
@@ -28,7 +28,7 @@ pub fn one_number_fault()
     ensures follows { StandsByChar NumberBlame }
 {}
 
-/// What is written for a number is a number of that value, and a number's value is in range and in normal form.
+/// What is written for a number is a literal that means it. What a literal means is in range, and a decimal is in normal form.
 pub fn number_written()
     ensures wholes { (z : ℤ) → InWhole z → Num (signed_decimal z) (whole z) }
     ensures decimals { (d : Decimal) → Normal d → Num (decimal_text d) (decimal d) }

@@ -7,7 +7,7 @@ ghost use Rattle.json5_grammar.specs.Language.Names.{Ident, Key, EndedName, IsNa
 ghost use Rattle.json5_grammar.specs.Faults.Parts.{Part};
 ghost use Rattle.json5_grammar.specs.Written.Quoting.{quoted_text, is_name, key_text};
 
-/// A string or a name is escape-free where it holds no backslash, and then its text is what is written there itself.
+/// A string or a name is escape-free if it holds no backslash, and then it means the very characters that spell it.
 pub fn escape_free_texts()
     ensures strings { (s u : List ℕ) (p : Bool) → Str s u p → p ≡ not (holds_backslash s) }
     ensures names { (s u : List ℕ) (p : Bool) → Ident s u p → p ≡ not (holds_backslash s) }
@@ -15,13 +15,13 @@ pub fn escape_free_texts()
     ensures whole { (s u : List ℕ) → Ident s u true → s ≡ u }
 {}
 
-/// A text has at most one front that is a string, and at most one that is a name.
+/// An input has at most one front that is a string, and at most one that is a name.
 pub fn one_text()
     ensures strings { (s u t v r y : List ℕ) (p q : Bool) → Str s u p → Str t v q → s ++ r ≡ t ++ y → (s ≡ t) × (u ≡ v) × (p ≡ q) × (r ≡ y) }
     ensures names { (s u t v r y : List ℕ) (p q : Bool) → EndedName s u p r → EndedName t v q y → s ++ r ≡ t ++ y → (s ≡ t) × (u ≡ v) × (p ≡ q) × (r ≡ y) }
 {}
 
-/// A text has at most one front that is a key.
+/// An input has at most one front that is a key.
 pub fn one_key()
     ensures { (s u t v r y : List ℕ) (p q : Bool) → Key s r u p → Key t y v q → s ++ r ≡ t ++ y → (s ≡ t) × (u ≡ v) × (p ≡ q) × (r ≡ y) }
 {}
@@ -46,21 +46,21 @@ pub fn blamed_parts()
     ensures names { (x : List ℕ) (b : Blame) → NameBlame x b → Part b.part }
 {}
 
-/// A fault that a character shows holds, whatever follows that character.
+/// A fault that a character shows remains, whatever follows that character.
 pub fn fault_stands()
     ensures strings { StandsByChar StringBlame }
     ensures names { StandsByChar NameBlame }
 {}
 
-/// What is written of a text is a string of it, bare a name of it, and in either form a key.
+/// What is written of a string is that string; as a key it is bare if it is a name, and in either form that key.
 pub fn text_written()
     ensures texts { (u : List ℕ) → Str (quoted_text u) u (not (holds_backslash (quoted_text u))) }
     ensures names { (u : List ℕ) → is_name u ≡ true → Ident u u true }
     ensures keys { (u r : List ℕ) → (escape_free : Bool) × Key (key_text u) (colon_sign ∷ r) u escape_free }
 {}
 
-/// What comes before a fault is nothing, or is made a whole string by a quote, or is a name; through the character that shows
-/// the fault no string and no name goes on.
+/// What comes before a fault is nothing, or a string without its last quote, or a name. No string and no name goes on through
+/// the character that shows the fault.
 pub fn text_beginnings()
     ensures strings { (x : List ℕ) (b : Blame) → StringBlame x b → (b.before ≡ []) ⊎ IsOpenString b.before }
     ensures names { (x : List ℕ) (b : Blame) → NameBlame x b → (b.before ≡ []) ⊎ IsName b.before }

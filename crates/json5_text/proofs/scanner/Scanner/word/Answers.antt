@@ -1,6 +1,6 @@
 use Rattle.std.proofs.Common.{refl}
 use Rattle.std.specs.Str.{chars}
-use Rattle.json5_grammar.specs.Model.ReadValues.{word_at}
+use Rattle.json5_grammar.specs.Model.Reading.{word_at}
 use Rattle.json5_text.specs.Tokens.{FaultyWord}
 use Rattle.json5_text.proofs.ScanFaults.{refusal_in, coded}
 use Rattle.json5_text.proofs.ScanTokens.{left_counted, leaves_rest, word_passed, word_faulty}
@@ -8,13 +8,13 @@ use Rattle.json5_text.proofs.scanner.Scanner.word.Goals as goal
 
 pub fault-requires : goal.fault-requires
 fault-requires g c =
-    refusal_in (FaultyWord (chars c.args.word.now) c.args.ends c.args.differs) c.args.self.now c.in-Err.refusal (word_at c.args.ends c.args.differs (chars c.args.word.now) (chars c.rest.result.now))
+    refusal_in (FaultyWord (chars c.args.word.now) c.args.ends c.args.differs) c.args.self.now c.in-Err.refusal (word_at c.args.ends c.args.differs tt (chars c.args.word.now) (chars c.rest.result.now))
     (word_faulty _ _ _ _ _ c.rest.ensures) c.in-Err.ensures.refused
 
 pub returns-in-Err : goal.returns-in-Err
 returns-in-Err g c = record {
   taken = tt;
-  refused = coded (FaultyWord (chars c.args.word.now) c.args.ends c.args.differs) c.args.self.now c.fault.result c.in-Err.refusal (word_at c.args.ends c.args.differs (chars c.args.word.now) (chars c.rest.result.now))
+  refused = coded (FaultyWord (chars c.args.word.now) c.args.ends c.args.differs) c.args.self.now c.fault.result c.in-Err.refusal (word_at c.args.ends c.args.differs tt (chars c.args.word.now) (chars c.rest.result.now))
       (word_faulty _ _ _ _ _ c.rest.ensures) c.in-Err.ensures.refused c.in-Err.ensures.known c.fault.ensures;
   kept = refl;
 }
