@@ -4,7 +4,7 @@
 ghost use Rattle.std.specs.Prelude.{◌+◌, ◌≤ℤ◌, pos, nat_abs, string_bytes, IfSome};
 ghost use Rattle.json5_value.specs.Brackets.{brackets_of};
 ghost use Rattle.json5_de.specs.Convert.{IsUpTo, IsWithin};
-ghost use Rattle.json5_de.specs.TokenKinds.{natural_kind, integer_kind};
+ghost use Rattle.json5_de.specs.TokenKinds.{natural_kind, integer_kind, decimal_kind};
 ghost use Rattle.json5_text.specs.Cows.{cow_bytes, is_borrowed};
 ghost use Rattle.json5_text.specs.ShortTexts.{IsTextAt};
 ghost use Rattle.json5_de.specs.KeyKinds.{ReadsKeyAs, escape_free_key, cow_key, string_key};
@@ -13,6 +13,7 @@ ghost use Rattle.json5_de.specs.Short.{ReadsShort, StepsShort, ReadsShortText, R
 use crate::de::Deserializer;
 use json5_text::ErrorCode;
 use json5_text::cow_str::CowStr;
+use json5_text::decimal::Decimal;
 use json5_text::error::{Error, Result};
 use json5_text::input::{Borrows, Input};
 use json5_text::short::ShortStep;
@@ -46,6 +47,17 @@ impl<I: Input> Deserializer<I> {
         self.scanner.short_whole(-1 - max, max)
     }
 
+    /// Reads a decimal with a point or an exponent whose digits take no memory, or nothing.
+    #[inline(always)]
+    pub(crate) fn short_decimal(&mut self) -> Option<Decimal>
+        ensures { ReadsShort decimal_kind (λ d. d) self.old self.new result }
+    {
+        if self.failed {
+            return None;
+        }
+        self.scanner.short_decimal()
+    }
+
     /// Goes to the next member or to the closing bracket, or nowhere.
     #[inline(always)]
     pub(crate) fn short_step(&mut self, kind: BracketKind, comma_due: bool) -> ShortStep
@@ -54,7 +66,8 @@ impl<I: Input> Deserializer<I> {
         if self.failed {
             return ShortStep::Other;
         }
-        self.scanner.short_step(kind.brackets().closing as u8, comma_due)
+        self.scanner
+            .short_step(kind.brackets().closing as u8, comma_due)
     }
 
     /// Reads a text without an escape, and answers where it stands, or nothing.
