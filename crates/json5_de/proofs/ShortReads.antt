@@ -146,6 +146,10 @@ pub short_key : (before after : Cursor) (level : ℕ) (failed : Bool) (old : Sta
 short_key before after level failed old None e live k = same_reader before after level failed old e k
 short_key before after level failed old (Some span) e live k = subst (λ s. ReadsShortKey s (reader_at after level failed) (Some span)) e (took_key before after level failed span live k)
 
+-- a part of what the reader reads is that of its scanner
+pub slice_at : {level : ℕ} {failed : Bool} {old : State} {u : List ℕ} {span : Span} (s : Cursor) → reader_at s level failed ≡ old → IsSliceAt old.input u span.start span.end → IsSliceAt s.input u span.start span.end
+slice_at {u = u} {span = span} s e k = subst (λ x. IsSliceAt x u span.start span.end) (sym (ap (λ (r : State). r.input) e)) k
+
 -- ---- a colon
 
 pub short_colon : (before after : Cursor) (level : ℕ) (failed : Bool) (old : State) (b : Bool) → reader_at before level failed ≡ old → failed ≡ false → TakesShortSign 58 before after b → PassesShortColon old (reader_at after level failed) b

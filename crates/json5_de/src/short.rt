@@ -1,12 +1,11 @@
-//! Short ways: values and steps that are read at once where no fault can come. They answer numbers alone, so that no fault stands in
-//! the frame of the caller. Where they answer nothing, nothing has changed, and the reader's other calls say what is there.
+//! Short ways: values and steps that are read at once where no fault can come. They return small values, so that the caller's frame
+//! holds no fault. Where they return nothing, nothing has changed, and the reader's other calls say what is in front.
 
 ghost use Rattle.std.specs.Prelude.{◌+◌, ◌≤ℤ◌, pos, nat_abs, string_bytes, IfSome};
 ghost use Rattle.json5_value.specs.Brackets.{brackets_of};
 ghost use Rattle.json5_de.specs.Convert.{IsUpTo, IsWithin};
 ghost use Rattle.json5_de.specs.TokenKinds.{natural_kind, integer_kind, decimal_kind};
 ghost use Rattle.json5_text.specs.Cows.{cow_bytes, is_borrowed};
-ghost use Rattle.json5_text.specs.ShortTexts.{IsTextAt};
 ghost use Rattle.json5_de.specs.KeyKinds.{ReadsKeyAs, escape_free_key, cow_key, string_key};
 ghost use Rattle.json5_de.specs.Short.{ReadsShort, StepsShort, ReadsShortText, ReadsShortKey, ReadsEscapeFreeText, TakesEscapeFreeKey, PassesShortColon, OwnsTextAt};
 
@@ -70,7 +69,7 @@ impl<I: Input> Deserializer<I> {
             .short_step(kind.brackets().closing as u8, comma_due)
     }
 
-    /// Reads a text without an escape, and answers where it stands, or nothing.
+    /// Reads a text without an escape and returns its span, or nothing.
     #[inline(always)]
     pub(crate) fn short_string(&mut self) -> Option<Span>
         ensures { ReadsShortText self.old self.new result }
@@ -81,7 +80,7 @@ impl<I: Input> Deserializer<I> {
         self.scanner.short_string()
     }
 
-    /// Takes a key without an escape, and answers where its text stands, or nothing.
+    /// Takes a key without an escape and returns the span of its text, or nothing.
     #[inline(always)]
     pub(crate) fn short_key(&mut self) -> Option<Span>
         ensures { ReadsShortKey self.old self.new result }
@@ -103,19 +102,11 @@ impl<I: Input> Deserializer<I> {
         self.scanner.short_sign(b':')
     }
 
-    /// The text that stands there.
-    #[inline(always)]
-    fn text_at(&self, span: Span) -> &str
-        ensures { IsTextAt self.now.input span result.now }
-    {
-        self.scanner.text_of_span(span)
-    }
-
-    /// The text that stands there, in memory of its own. Where there is none, it refuses for good.
+    /// The text at the span, in memory of its own. Where there is none, it refuses for good.
     pub(crate) fn own_text(&mut self, span: Span) -> Result<String>
         ensures { OwnsTextAt span self.old self.new result }
     {
-        match String::from_str(self.allocator(), self.text_at(span)) {
+        match String::from_str(self.allocator(), self.scanner.text_of_span(span)) {
             Ok(text) => Ok(text),
             Err(_) => self.refuse(Error::new(ErrorCode::OutOfMemory)),
         }
@@ -135,21 +126,13 @@ impl<I: Input> Deserializer<I> {
 
 // What is borrowed from the text.
 impl<'de, I: Borrows<'de>> Deserializer<I> {
-    /// The text that stands there.
-    #[inline(always)]
-    fn borrowed_text_at(&self, span: Span) -> &'de str
-        ensures { IsTextAt self.now.input span result.now }
-    {
-        self.scanner.borrowed_text_of_span(span)
-    }
-
     /// Reads a text without an escape, or nothing.
     #[inline(always)]
     pub(crate) fn short_str(&mut self) -> Option<&'de str>
         ensures { ReadsEscapeFreeText self.old self.new result }
     {
         let span = self.short_string()?;
-        Some(self.borrowed_text_at(span))
+        Some(self.scanner.borrowed_text_of_span(span))
     }
 
     /// Takes a key without an escape, or nothing.
@@ -158,7 +141,7 @@ impl<'de, I: Borrows<'de>> Deserializer<I> {
         ensures { TakesEscapeFreeKey self.old self.new result }
     {
         let span = self.short_key()?;
-        Some(self.borrowed_text_at(span))
+        Some(self.scanner.borrowed_text_of_span(span))
     }
 
     /// Reads a key as a text, borrowed where no escape is used.

@@ -1,5 +1,5 @@
-//! Short ways: tokens that are taken at once where no fault can come. They answer numbers alone, so that no fault stands in the
-//! frame of the caller; where they answer nothing they take nothing, and the scanner's other calls say what is there.
+//! Short ways: tokens that are taken at once where no fault can come. They return numbers alone, so that the caller's frame holds
+//! no fault. Where they return nothing they take nothing, and the scanner's other calls say what is in front.
 
 ghost use Rattle.std.specs.Prelude.{◌<◌, true, false, IfSome};
 ghost use Rattle.std.specs.Str.{chars};

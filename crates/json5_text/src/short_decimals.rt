@@ -1,5 +1,5 @@
 //! A short way for decimals: one that takes no memory is taken at once. Where the call returns none it takes nothing, and the
-//! scanner's other calls say what is there.
+//! scanner's other calls say what is in front.
 
 ghost use Rattle.std.specs.Prelude.{◌≡◌, true, IfSome};
 ghost use Rattle.std.specs.Str.{chars};

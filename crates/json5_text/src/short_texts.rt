@@ -1,5 +1,5 @@
-//! Short ways: strings and keys without an escape, which are taken at once and stay where they stand in the text. Each answers
-//! numbers alone; where it answers nothing it takes nothing, and the scanner's other calls say what is there.
+//! Short ways: strings and keys without an escape are taken at once, and their texts are found by their offsets. Each returns
+//! numbers alone. Where it returns nothing it takes nothing, and the scanner's other calls say what is in front.
 
 ghost use Rattle.std.specs.Prelude.{◌≡◌, ◌∷◌, true, IfSome};
 ghost use Rattle.std.specs.Str.{chars};
@@ -15,7 +15,7 @@ use crate::short::is_in_front;
 use crate::strings::skip_raw;
 use crate::texts::Quote;
 
-/// Where a text stands in what is read, from `start` up to `end`, in bytes.
+/// A part of what is read, from `start` up to `end`, in bytes.
 #[derive(Clone, Copy, Debug, PartialEq, Eq)]
 pub struct Span {
     pub start: usize,
@@ -69,11 +69,14 @@ fn front_string(text: &str) -> Option<FoundText>
     quoted(quote, text.split_at(1).1)
 }
 
-/// The name of ASCII characters in front, after which an ASCII character follows.
+/// The key without an escape in front: a string, or a name of ASCII characters that an ASCII character follows.
 #[inline(always)]
-fn front_name(text: &str) -> Option<FoundText>
+fn front_key(text: &str) -> Option<FoundText>
     ensures { IfSome result (FindsFirst IsEscapeFreeKey (chars text.now)) }
 {
+    if let Some(quote) = front_quote(text) {
+        return quoted(quote, text.split_at(1).1);
+    }
     let len = ascii_name_len(text.as_bytes())?;
     let left = text.len() - len;
     Some(FoundText {
@@ -83,19 +86,8 @@ fn front_name(text: &str) -> Option<FoundText>
     })
 }
 
-/// The key without an escape in front.
-#[inline(always)]
-fn front_key(text: &str) -> Option<FoundText>
-    ensures { IfSome result (FindsFirst IsEscapeFreeKey (chars text.now)) }
-{
-    match front_quote(text) {
-        Some(quote) => quoted(quote, text.split_at(1).1),
-        None => front_name(text),
-    }
-}
-
 impl<I: Input> Scanner<I> {
-    /// Takes ASCII blanks and a string without an escape, and says where its text stands. Returns None where anything else is in
+    /// Takes ASCII blanks and a string without an escape, and returns the span of its text. Returns None where anything else is in
     /// front, and takes nothing then.
     #[inline(always)]
     pub fn short_string(&mut self) -> Option<Span>
@@ -111,7 +103,7 @@ impl<I: Input> Scanner<I> {
     }
 
     /// Takes ASCII blanks and a key: a string without an escape, or a name of ASCII characters alone up to an ASCII character that
-    /// can't go on with it. Says where its text stands. Returns None where anything else is in front, and takes nothing then.
+    /// can't go on with it. Returns the span of its text, or None where anything else is in front, and takes nothing then.
     #[inline(always)]
     pub fn short_key(&mut self) -> Option<Span>
         ensures { TakesShortKey self.old self.new result }

@@ -5,12 +5,13 @@ ghost use Rattle.json5_text.specs.Cows.{cow_bytes, is_borrowed};
 ghost use Rattle.json5_text.specs.ScanTextTokens.{IsTokenOf};
 
 use crate::cow_str::CowStr;
+use crate::short_texts::Span;
 
 /// The text of a string or a key that a `Scanner` took. `Scanner::text_of` finds it, also after more was read.
 #[derive(Debug, Drop)]
 pub enum TextToken {
-    /// The text stands so in what is read, from `start` up to `end`, in bytes.
-    EscapeFree { start: usize, end: usize },
+    /// The text is a part of what is read.
+    EscapeFree(Span),
     /// A text in memory of its own: an escape spells a part of it.
     Escaped(String),
 }
@@ -24,10 +25,10 @@ impl TextToken {
     {
         let start = end - left;
         match text {
-            CowStr::Borrowed(text) => TextToken::EscapeFree {
+            CowStr::Borrowed(text) => TextToken::EscapeFree(Span {
                 start,
                 end: start + text.len(),
-            },
+            }),
             CowStr::Owned(text) => TextToken::Escaped(text),
         }
     }

@@ -63,11 +63,7 @@ impl<'de, I: Borrows<'de>> Scanner<I> {
         ensures { IsCowOf self.now.input token result }
     {
         match token {
-            TextToken::EscapeFree { start, end } => CowStr::Borrowed(between(
-                self.input.as_borrowed(),
-                start,
-                end,
-            )),
+            TextToken::EscapeFree(span) => CowStr::Borrowed(self.borrowed_text_of_span(span)),
             TextToken::Escaped(text) => CowStr::Owned(text),
         }
     }
@@ -88,13 +84,13 @@ impl<I: Input> Scanner<I> {
         ensures { IsTextOf self.now.input token.now result.now }
     {
         match token {
-            TextToken::EscapeFree { start, end } => between(self.input.as_text(), *start, *end),
+            TextToken::EscapeFree(span) => self.text_of_span(*span),
             TextToken::Escaped(text) => text.as_str(),
         }
     }
 
-    /// The text of a span that this scanner answered. Of another scanner's span it may be any part of the text that is read, or
-    /// empty where the span's offsets are no places between characters.
+    /// The text of a span that this scanner returned. Of another scanner's span it may be any part of the text that is read, or
+    /// empty where no character begins at the span's offsets.
     #[inline(always)]
     pub fn text_of_span(&self, span: Span) -> &str
         ensures { IsTextAt self.now.input span result.now }
