@@ -6,11 +6,11 @@ use Rattle.std.proofs.lemmas.Int.{ints, to_z-of_z}
 use mir.Syntax.{w128}
 use mir.Val.{to_z, of_z, SFits}
 use Rattle.json5_grammar.specs.Language.Documents.{max_depth}
-use Rattle.json5_grammar.specs.Language.Numbers.{whole}
+use Rattle.json5_grammar.specs.Language.Numbers.{Number, Decimal, whole, decimal}
 use Rattle.json5_grammar.specs.Language.Trees.{number, text}
 use Rattle.json5_grammar.specs.Language.Values.{is_number}
 use Rattle.json5_text.specs.Cursor.{Cursor}
-use Rattle.json5_text.specs.Short.{TookWhole, TookInRange, StepsTo, TakesShortStep, TakesShortSign}
+use Rattle.json5_text.specs.Short.{TookNumber, TookWhole, TookInRange, TakesShortDecimal, StepsTo, TakesShortStep, TakesShortSign}
 use Rattle.json5_text.specs.ShortTexts.{ReadsEscapeFreeString, TookEscapeFree, TakesShortString, TakesShortKey}
 use Rattle.json5_text.specs.ShortTexts as texts
 use Rattle.json5_text.specs.TextTokens.{IsSliceAt}
@@ -22,7 +22,7 @@ use Rattle.json5_de.specs.Convert.{natural_below, integer_below, every_text}
 use Rattle.json5_de.specs.KeyKinds.{ReadsKeyAs, string_key}
 use Rattle.json5_de.specs.Keys.{TookKey}
 use Rattle.json5_de.specs.Law.{TookValue}
-use Rattle.json5_de.specs.TokenKinds.{ReadsAs, whole_kind, natural_kind, integer_kind, string_kind}
+use Rattle.json5_de.specs.TokenKinds.{ReadsAs, whole_kind, natural_kind, integer_kind, decimal_kind, string_kind}
 use Rattle.json5_de.specs.Seq.{IsMemberStart}
 use Rattle.json5_de.specs.Short.{ReadsShort, StepsShort, ReadsShortText, ReadsShortKey, PassesShortColon, OwnsTextAt}
 use Rattle.json5_de.specs.State.{State}
@@ -37,10 +37,10 @@ use Rattle.json5_text.specs.declared.error.Error.{Error}
 abbrev pub reader_at : Cursor → ℕ → Bool → State
 reader_at s level failed = record { input = s.input; unread = s.unread; level = level; failed = failed }
 
--- ---- whole numbers
+-- ---- numbers
 
-took_whole : (before after : Cursor) (level : ℕ) (failed : Bool) (z : ℤ) → level ≤ max_depth → failed ≡ false → TookWhole before after z → TookValue (reader_at before level failed) (number (whole z)) (reader_at after level failed)
-took_whole before after level failed z room live k = record {
+took_number : (before after : Cursor) (level : ℕ) (failed : Bool) (n : Number) → level ≤ max_depth → failed ≡ false → TookNumber before after n → TookValue (reader_at before level failed) (number n) (reader_at after level failed)
+took_number before after level failed n room live k = record {
   live = live;
   reads = record {
     front = k.gap;
@@ -58,7 +58,7 @@ reads_whole : {V C : Type 0} (f : ℤ → Option C) (content : V → C) (before 
     → f z ≡ Some (content v) → ReadsAs (whole_kind f) content old (reader_at after level failed) (Ok v)
 reads_whole f content before after level failed old z v e room live k is =
     subst (λ s. ReadsAs (whole_kind f) content s (reader_at after level failed) (Ok v)) e
-    (reads_ok (whole_kind f) content (reader_at before level failed) (reader_at after level failed) v (number (whole z), took_whole before after level failed z room live k, is))
+    (reads_ok (whole_kind f) content (reader_at before level failed) (reader_at after level failed) v (number (whole z), took_number before after level failed (whole z) room live k, is))
 
 natural_in : (m : ℕ) (z : ℤ) → pos 0 ≤ℤ z → z ≤ℤ pos m → natural_below (m + 1) z ≡ Some (nat_abs z)
 natural_in m (pos n) l h = let below : nat_lt n (m + 1) ≡ true = grind (arith, nat_tests, ints, h) in rw below refl
@@ -95,6 +95,13 @@ short_integer before after level failed old max (Some z) e room live fits p k =
     let low : (negsuc 0 -ℤ max) ≤ℤ z = rw bottom at k.low in
     let high : z ≤ℤ max = rw top at k.high in
     reads_whole (integer_below (nat_abs max + 1)) (λ n. n) before after level failed old z z e room live k.took (integer_in max z p low high)
+
+pub short_decimal : (before after : Cursor) (level : ℕ) (failed : Bool) (old : State) (o : Option Decimal) → reader_at before level failed ≡ old → level ≤ max_depth → failed ≡ false → TakesShortDecimal before after o
+    → ReadsShort decimal_kind (λ d. d) old (reader_at after level failed) o
+short_decimal before after level failed old None e room live k = same_reader before after level failed old e k
+short_decimal before after level failed old (Some d) e room live k =
+    subst (λ s. ReadsAs decimal_kind (λ d. d) s (reader_at after level failed) (Ok d)) e
+    (reads_ok decimal_kind (λ d. d) (reader_at before level failed) (reader_at after level failed) d (number (decimal d), took_number before after level failed (decimal d) room live k, refl))
 
 -- ---- a step to the next member
 
@@ -138,6 +145,10 @@ took_key before after level failed span live k = (
 pub short_key : (before after : Cursor) (level : ℕ) (failed : Bool) (old : State) (o : Option Span) → reader_at before level failed ≡ old → failed ≡ false → TakesShortKey before after o → ReadsShortKey old (reader_at after level failed) o
 short_key before after level failed old None e live k = same_reader before after level failed old e k
 short_key before after level failed old (Some span) e live k = subst (λ s. ReadsShortKey s (reader_at after level failed) (Some span)) e (took_key before after level failed span live k)
+
+-- a part of what the reader reads is that of its scanner
+pub slice_at : {level : ℕ} {failed : Bool} {old : State} {u : List ℕ} {span : Span} (s : Cursor) → reader_at s level failed ≡ old → IsSliceAt old.input u span.start span.end → IsSliceAt s.input u span.start span.end
+slice_at {u = u} {span = span} s e k = subst (λ x. IsSliceAt x u span.start span.end) (sym (ap (λ (r : State). r.input) e)) k
 
 -- ---- a colon
 

@@ -60,7 +60,20 @@ impl<I: Input> Deserializer<I> {
     /// # Errors
     ///
     /// As every call that reads a number: see [`Deserializer`].
+    #[inline(always)]
     pub fn deserialize_decimal(&mut self) -> Result<Decimal>
+        ensures { ReadsAs decimal_kind (λ d. d) self.old self.new result }
+    {
+        if let Some(decimal) = self.short_decimal() {
+            return Ok(decimal);
+        }
+        self.decimal_slowly()
+    }
+
+    /// The same of any number.
+    #[cold]
+    #[inline(never)]
+    fn decimal_slowly(&mut self) -> Result<Decimal>
         ensures { ReadsAs decimal_kind (λ d. d) self.old self.new result }
     {
         self.skip_blank()?;

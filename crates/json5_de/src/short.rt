@@ -1,18 +1,18 @@
-//! Short ways: values and steps that are read at once where no fault can come. They return numbers alone, so that the caller's
+//! Short ways: values and steps that are read at once where no fault can come. They return small values, so that the caller's
 //! frame holds no fault. When they return None or `Other`, nothing has changed, and the reader's other calls say what is there.
 
 ghost use Rattle.std.specs.Prelude.{◌+◌, ◌≤ℤ◌, pos, nat_abs, string_bytes, IfSome};
 ghost use Rattle.json5_value.specs.Brackets.{brackets_of};
 ghost use Rattle.json5_de.specs.Convert.{IsUpTo, IsWithin};
-ghost use Rattle.json5_de.specs.TokenKinds.{natural_kind, integer_kind};
+ghost use Rattle.json5_de.specs.TokenKinds.{natural_kind, integer_kind, decimal_kind};
 ghost use Rattle.json5_text.specs.Cows.{cow_bytes, is_borrowed};
-ghost use Rattle.json5_text.specs.ShortTexts.{IsTextAt};
 ghost use Rattle.json5_de.specs.KeyKinds.{ReadsKeyAs, escape_free_key, cow_key, string_key};
 ghost use Rattle.json5_de.specs.Short.{ReadsShort, StepsShort, ReadsShortText, ReadsShortKey, ReadsEscapeFreeText, TakesEscapeFreeKey, PassesShortColon, OwnsTextAt};
 
 use crate::de::Deserializer;
 use json5_text::ErrorCode;
 use json5_text::cow_str::CowStr;
+use json5_text::decimal::Decimal;
 use json5_text::error::{Error, Result};
 use json5_text::input::{Borrows, Input};
 use json5_text::short::ShortStep;
@@ -44,6 +44,17 @@ impl<I: Input> Deserializer<I> {
             return None;
         }
         self.scanner.short_whole(-1 - max, max)
+    }
+
+    /// Reads a decimal with a point or an exponent whose digits take no memory, or returns None.
+    #[inline(always)]
+    pub(crate) fn short_decimal(&mut self) -> Option<Decimal>
+        ensures { ReadsShort decimal_kind (λ d. d) self.old self.new result }
+    {
+        if self.failed {
+            return None;
+        }
+        self.scanner.short_decimal()
     }
 
     /// Goes to the next element or member or to the closing bracket, or nowhere.
@@ -91,19 +102,11 @@ impl<I: Input> Deserializer<I> {
         self.scanner.short_sign(b':')
     }
 
-    /// The text of the span.
-    #[inline(always)]
-    fn text_at(&self, span: Span) -> &str
-        ensures { IsTextAt self.now.input span result.now }
-    {
-        self.scanner.text_of_span(span)
-    }
-
     /// An owned copy of the text of the span. If memory runs out, the reader has failed.
     pub(crate) fn own_text(&mut self, span: Span) -> Result<String>
         ensures { OwnsTextAt span self.old self.new result }
     {
-        match String::from_str(self.allocator(), self.text_at(span)) {
+        match String::from_str(self.allocator(), self.scanner.text_of_span(span)) {
             Ok(text) => Ok(text),
             Err(_) => self.refuse(Error::new(ErrorCode::OutOfMemory)),
         }
@@ -123,21 +126,13 @@ impl<I: Input> Deserializer<I> {
 
 // What is borrowed from the input.
 impl<'de, I: Borrows<'de>> Deserializer<I> {
-    /// The text of the span, borrowed from the input.
-    #[inline(always)]
-    fn borrowed_text_at(&self, span: Span) -> &'de str
-        ensures { IsTextAt self.now.input span result.now }
-    {
-        self.scanner.borrowed_text_of_span(span)
-    }
-
     /// Reads a string without an escape and returns its text, or returns None.
     #[inline(always)]
     pub(crate) fn short_str(&mut self) -> Option<&'de str>
         ensures { ReadsEscapeFreeText self.old self.new result }
     {
         let span = self.short_string()?;
-        Some(self.borrowed_text_at(span))
+        Some(self.scanner.borrowed_text_of_span(span))
     }
 
     /// Takes a key without an escape, or nothing.
@@ -146,7 +141,7 @@ impl<'de, I: Borrows<'de>> Deserializer<I> {
         ensures { TakesEscapeFreeKey self.old self.new result }
     {
         let span = self.short_key()?;
-        Some(self.borrowed_text_at(span))
+        Some(self.scanner.borrowed_text_of_span(span))
     }
 
     /// Reads a key as a string, borrowed if no escape is used.

@@ -1,11 +1,11 @@
 -- Reading a number by its first characters.
 use Rattle.std.proofs.Common.{◌≡◌, ℕ, Bool, true, false, cond, List, [], ◌∷◌, refl, ap, sym, ◌∙◌, ◌≢◌, arith, Some, None}
 use Rattle.std.proofs.lemmas.Bool.Decides.{nat_tests}
-use Rattle.std.specs.Prelude.{◌==◌}
+use Rattle.std.specs.Prelude.{◌==◌, ◌||◌}
 use lib.Chars.{codes}
 use Rattle.json5_grammar.specs.declared.code.ErrorCode.TheVariants.{EofParsingNumber, ExpectedNumber, LeadingZero}
 use Rattle.json5_grammar.specs.Language.Characters.{is_digit}
-use Rattle.json5_grammar.specs.Language.Numbers.{decimal, infinite, nan, in_run, begins_run}
+use Rattle.json5_grammar.specs.Language.Numbers.{decimal, infinite, nan, hex_start, in_run, begins_run}
 use Rattle.json5_grammar.specs.Model.Reading.{bad, here, inner, word_at}
 use Rattle.std.specs.Str.{chars}
 use Rattle.json5_grammar.proofs.Basics.{not_eq}
@@ -54,6 +54,15 @@ unsigned_run q m x y c e z h =
     let p : (c == 78) ≡ false = grind (arith, nat_tests) in
     let r = not_eq c 48 z in
     rw e (rw (o, p, r, h) refl)
+
+at_point : (q : List ℕ) (m : Bool) (x y : List ℕ) (c : ℕ) → x ≡ c ∷ y → ((c == 46) || ((c == 101) || (c == 69))) ≡ true → at_zero q m x ≡ decimal_run q m (48 ∷ x)
+at_point q m x y c e h =
+    let d : is_digit c ≡ false = grind (arith, nat_tests) in
+    let s : hex_start c ≡ false = grind (arith, nat_tests) in
+    rw e (rw (d, s, h) refl)
+
+pub zero_run : (q : List ℕ) (m : Bool) (x y z : List ℕ) (c d : ℕ) → x ≡ c ∷ y → c ≡ 48 → y ≡ d ∷ z → ((d == 46) || ((d == 101) || (d == 69))) ≡ true → unsigned q m x ≡ decimal_run q m x
+zero_run q m x y z c d e h f k = unsigned_zero q m x y c e h ∙ at_point q m y z d f k ∙ ap (decimal_run q m) (sym (e ∙ ap (λ n. n ∷ y) h))
 
 pub unsigned_other : (q : List ℕ) (m : Bool) (x y : List ℕ) (c : ℕ) → x ≡ c ∷ y → c ≢ 73 → c ≢ 78 → c ≢ 48 → begins_run c ≡ false → unsigned q m x ≡ bad (Some ExpectedNumber) (here x)
 unfolding unsigned

@@ -15,7 +15,9 @@ use Rattle.json5_grammar.proofs.NumberTests.{in_exponents_yes, in_exponents_true
 use Rattle.json5_grammar.proofs.NumberStepLaws.{IsChecked, checked_is, capped_range, capped_same}
 use Rattle.json5_text.specs.declared.literals.Exponent.{Exponent}
 use Rattle.json5_text.specs.declared.literals.Literal.{Literal}
-use Rattle.json5_text.specs.NumberParts.{raised_of, parts_of, limited_exponent, is_whole_literal}
+use Rattle.json5_text.specs.NumberParts.{raised_of, parts_of, limited_exponent, is_whole_literal, MeansDecimal}
+use Rattle.json5_text.specs.NumberDecimals.{IsFiniteIfInRange}
+use mathlib.Core.Bool.{true≢false}
 use Rattle.json5_grammar.proofs.DecimalsWritten.{length-front}
 
 -- ---- whole numbers
@@ -127,3 +129,7 @@ literal_decimal q m r l after e d h w k g =
 pub literal_past : (q : List ℕ) (m : Bool) (r : List ℕ) (l : Literal) (after : List ℕ) (e : ℤ) → Found l after e → is_whole_literal m l ≡ false → (InExponents (normal_exponent (l.before.now ++ after) e) → ⊥)
     → if_literal q m r (Some (parts_of l)) ≡ bad (Some OverflowParsingNumber) (here q)
 literal_past q m r l after e h w n = judged_past q m r (parts_of l).before (parts_of l).after (parts_of l).raised (normal_exponent (l.before.now ++ after) e) w (agree_found l after e h) n
+
+pub means_decimal : (m : Bool) (l : Literal) (after : List ℕ) (e : ℤ) (o : Option Decimal) → Found l after e → is_whole_literal m l ≡ false → IsFiniteIfInRange m (l.before.now ++ after) e o → MeansDecimal m l o
+means_decimal m l after e None h w k = λ q r. literal_past q m r l after e h w (λ i. true≢false (sym (k.in_range.1 i)))
+means_decimal m l after e (Some d) h w k = λ q r. literal_decimal q m r l after e d h w (k.in_range.0 refl) k.value

@@ -5,7 +5,9 @@ use Rattle.std.specs.Str.{IsUtf8, chars}
 use Rattle.json5_grammar.specs.Language.Characters.{plus_sign, minus_sign, is_digit, Each}
 use Rattle.json5_grammar.specs.Language.Numbers as numbers
 use Rattle.json5_grammar.specs.Language.Numbers.{signed, spelled, in_run}
-use Rattle.json5_grammar.specs.Model.ReadNumbers.{Parts, is_whole, front_of, rest_of}
+use Rattle.json5_grammar.specs.Model.ReadNumbers.{Parts, is_whole, front_of, rest_of, if_literal, unsigned, decimal_run}
+use Rattle.json5_grammar.specs.Model.Reading.{got, bad, here}
+use Rattle.json5_grammar.specs.declared.code.ErrorCode.TheVariants.{OverflowParsingNumber}
 use Rattle.json5_text.specs.declared.literals.Exponent.{Exponent}
 use Rattle.json5_text.specs.declared.literals.Literal.{Literal}
 use Rattle.json5_text.specs.declared.scanned.Scanned.{Scanned}
@@ -46,6 +48,11 @@ pub record HasDigits (l : Literal) : Type 0 where
   pub after : IfSome l.after (λ digits. Each is_digit digits.now)
   pub exponent : IfSome l.exponent HasExponentDigits
 
+-- the literal means this decimal; or its exponent is out of range
+abbrev pub MeansDecimal : Bool → Literal → Option numbers.Decimal → Type 0
+MeansDecimal negative l None = (start rest : List ℕ) → if_literal start negative rest (Some (parts_of l)) ≡ bad (Some OverflowParsingNumber) (here start)
+MeansDecimal negative l (Some d) = (start rest : List ℕ) → if_literal start negative rest (Some (parts_of l)) ≡ got (numbers.decimal d) rest
+
 -- ---- a decimal run in front of the input
 
 -- the list begins with a character that passes the test
@@ -66,6 +73,10 @@ pub record SplitsDigits (whole start after : List ℕ) : Type 0 where
   pub front_bytes : start ≡ front_of is_digit whole
   pub rest_bytes : after ≡ rest_of is_digit whole
   pub text : IsUtf8 after
+
+-- an unsigned number in front of the text is a decimal run
+abbrev pub IsAtRun : List ℕ → Type 0
+IsAtRun x = (start : List ℕ) (negative : Bool) → unsigned start negative x ≡ decimal_run start negative x
 
 abbrev pub run_of : List ℕ → List ℕ
 run_of x = front_of in_run x

@@ -13,7 +13,7 @@ use Rattle.json5_text.specs.TextTokens.{Spells}
 
 -- the token of a text that begins at this offset, if it is borrowed
 abbrev pub IsTokenOf : ℕ → CowStr → TextToken → Type 0
-IsTokenOf start (cow.Borrowed text) t = t ≡ token.EscapeFree start (start + length text.now)
+IsTokenOf start (cow.Borrowed text) t = t ≡ token.EscapeFree (record { start = start; end = start + length text.now })
 IsTokenOf start (cow.Owned text) t = t ≡ token.Escaped text
 
 -- the token spells u in each input of so many bytes that ends in x

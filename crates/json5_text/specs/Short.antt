@@ -5,7 +5,7 @@ use Rattle.std.specs.Str.{IsUtf8, IsCharBoundary, chars}
 use Rattle.json5_grammar.specs.Language.Characters.{NotBegun, comma_sign}
 use Rattle.json5_grammar.specs.Language.Blanks.{Gap, Solid}
 use Rattle.json5_grammar.specs.Model.Collections.{IsSign, IsEnd}
-use Rattle.json5_grammar.specs.Language.Numbers.{Num, whole, lengthens}
+use Rattle.json5_grammar.specs.Language.Numbers.{Number, Decimal, Num, whole, decimal, lengthens}
 use Rattle.json5_grammar.specs.Model.ReadBlanks.{skip, between}
 use Rattle.json5_grammar.specs.Model.ReadNumbers as model
 use Rattle.json5_text.specs.declared.short.ShortStep.{ShortStep}
@@ -16,15 +16,18 @@ use Rattle.json5_text.specs.TokenResults.{GivesValue}
 use Rattle.json5_text.specs.Cursor.{Cursor}
 use Rattle.json5_text.specs.Outcome.{bytes_in}
 
--- blanks and then a whole number were taken
-pub record TookWhole (old new : Cursor) (number : ℤ) : Type 0 where
+-- blanks and then the number were taken
+pub record TookNumber (old new : Cursor) (number : Number) : Type 0 where
   pub gap : List ℕ
   pub literal : List ℕ
   pub split : old.unread ≡ gap ++ (literal ++ new.unread)
   pub is_gap : Gap gap (literal ++ new.unread)
-  pub is_number : Num literal (whole number)
+  pub is_number : Num literal number
   pub stops : NotBegun (lengthens literal) new.unread
   pub same : new.input ≡ old.input
+
+abbrev pub TookWhole : Cursor → Cursor → ℤ → Type 0
+TookWhole old new number = TookNumber old new (whole number)
 
 -- that, and the number is in range
 pub record TookInRange (min max : ℤ) (old new : Cursor) (number : ℤ) : Type 0 where
@@ -35,6 +38,10 @@ pub record TookInRange (min max : ℤ) (old new : Cursor) (number : ℤ) : Type 
 -- a whole number in range is taken, or nothing
 abbrev pub TakesShortWhole : ℤ → ℤ → Cursor → Cursor → Option ℤ → Type 0
 TakesShortWhole min max old new result = MatchOption result (new ≡ old) (λ number. TookInRange min max old new number)
+
+-- a decimal is taken, or nothing
+abbrev pub TakesShortDecimal : Cursor → Cursor → Option Decimal → Type 0
+TakesShortDecimal old new result = MatchOption result (new ≡ old) (λ d. TookNumber old new (decimal d))
 
 -- the number is read in front and leaves this rest; it has at most 19 digits
 pub record IsShortWhole (text : List ℕ) (number : ℤ) (rest : List ℕ) : Type 0 where

@@ -16,7 +16,7 @@ pub record IsSliceAt (input u : List ℕ) (start end : ℕ) : Type 0 where
 
 -- the token spells u: by a part of the input if it is escape-free, else by an owned copy
 abbrev pub Spells : List ℕ → List ℕ → Bool → TextToken → Type 0
-Spells input u escape_free (token.EscapeFree start end) = (escape_free ≡ true) × IsSliceAt input u start end
+Spells input u escape_free (token.EscapeFree span) = (escape_free ≡ true) × IsSliceAt input u span.start span.end
 Spells input u escape_free (token.Escaped text) = (escape_free ≡ false) × (string_bytes text ≡ encode_utf8_all u)
 
 -- these are the bytes of the text that the token spells

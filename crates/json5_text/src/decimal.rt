@@ -117,6 +117,17 @@ fn joined(alloc: Global, first: &str, last: &str) -> std::result::Result<String,
     Ok(text)
 }
 
+/// The finite decimal with the digits of both strings, one after the other; None if they are more than 19.
+fn keep_few(negative: bool, exponent: i16, first: &str, last: &str) -> Option<Decimal>
+    requires { IsNormal (first.now ++ last.now) exponent }
+    ensures { IfSome result (λ d. d ≡ numbers.finite negative (first.now ++ last.now) exponent) }
+{
+    let digits = InlineDigits::new(first, last)?;
+    Some(Decimal {
+        kept: Kept::Few(negative, exponent, digits),
+    })
+}
+
 /// The finite decimal with the digits of both strings, one after the other. It takes memory if they are more than 19.
 fn keep(
     alloc: Global,
@@ -128,10 +139,8 @@ fn keep(
     requires { IsNormal (first.now ++ last.now) exponent }
     ensures { IfOk result (λ d. d ≡ numbers.finite negative (first.now ++ last.now) exponent) }
 {
-    if let Some(digits) = InlineDigits::new(first, last) {
-        return Ok(Decimal {
-            kept: Kept::Few(negative, exponent, digits),
-        });
+    if let Some(decimal) = keep_few(negative, exponent, first, last) {
+        return Ok(decimal);
     }
     let digits = Box::new(alloc, joined(alloc, first, last)?)?;
     Ok(Decimal {
@@ -184,6 +193,13 @@ impl<'a> DecimalRef<'a> {
             last,
             exponent,
         })
+    }
+
+    /// The same number with owned digits, which take no memory; None if they are more than 19.
+    pub(crate) fn to_short_decimal(&self) -> Option<Decimal>
+        ensures { IfSome result (λ d. d ≡ self.now) }
+    {
+        keep_few(self.negative, self.exponent, self.first, self.last)
     }
 
     /// The same number with owned digits.

@@ -32,6 +32,7 @@ mod runs;
 mod scanned;
 pub mod scanner;
 pub mod short;
+mod short_decimals;
 pub mod short_texts;
 pub mod strings;
 pub mod text_token;

@@ -1,13 +1,13 @@
 //! Numbers whose digits are slices of the input.
 
-ghost use Rattle.std.specs.Prelude.{◌≡◌, MatchResult, IfSome, IsSome, Some, ℕ, List, true, pos, ◌-ℤ◌, ◌↔◌};
+ghost use Rattle.std.specs.Prelude.{◌≡◌, MatchResult, IfSome, IsSome, Some, ℕ, List, true, false, pos, ◌-ℤ◌, ◌↔◌};
 ghost use Rattle.std.specs.Str.{chars};
 ghost use Rattle.json5_grammar.specs.Language.Characters.{is_digit, Each};
 ghost use Rattle.json5_grammar.specs.Language.Numbers as numbers;
 ghost use Rattle.json5_grammar.specs.Model.ReadNumbers as model;
 ghost use Rattle.json5_text.specs.TokenResults.{JudgesNumber};
 ghost use Rattle.json5_text.specs.NumberViews.{number_of, keeps_digits, whole_in};
-ghost use Rattle.json5_text.specs.NumberParts.{scanned_of, parts_of, signed_limited, limited_exponent, is_whole_literal, HasExponentDigits, HasDigits};
+ghost use Rattle.json5_text.specs.NumberParts.{scanned_of, parts_of, signed_limited, limited_exponent, is_whole_literal, HasExponentDigits, HasDigits, MeansDecimal};
 ghost use Rattle.json5_text.specs.NumberSteps.{IsSmallExponent};
 
 use crate::decimal::{Decimal, DecimalRef};
@@ -89,6 +89,17 @@ fn whole_number(negative: bool, literal: &Literal) -> Option<Whole>
     Whole::from_parts(negative, magnitude)
 }
 
+/// The decimal that a literal means which is no whole number in range; None if its exponent is out of range.
+pub(crate) fn finite_decimal<'t>(negative: bool, literal: &Literal<'t>) -> Option<DecimalRef<'t>>
+    requires digits { HasDigits literal.now }
+    requires other { is_whole_literal negative literal.now ≡ false }
+    ensures { MeansDecimal negative literal.now result }
+{
+    let after = literal.after.unwrap_or("");
+    let exponent = lowered_exponent(literal, after.len());
+    DecimalRef::new(negative, literal.before, after, exponent)
+}
+
 /// The number that a literal means; `start` is the input from the number's start.
 pub(crate) fn judge<'t>(
     start: &str,
@@ -101,9 +112,7 @@ pub(crate) fn judge<'t>(
     if let Some(whole) = whole_number(negative, literal) {
         return Ok(Scanned::Whole(whole));
     }
-    let after = literal.after.unwrap_or("");
-    let exponent = lowered_exponent(literal, after.len());
-    let Some(decimal) = DecimalRef::new(negative, literal.before, after, exponent) else {
+    let Some(decimal) = finite_decimal(negative, literal) else {
         return Err(Refusal::TokenError {
             code: ErrorCode::OverflowParsingNumber,
             remaining: Some(start.len()),

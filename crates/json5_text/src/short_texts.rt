@@ -69,11 +69,14 @@ fn front_string(text: &str) -> Option<FoundText>
     quoted(quote, text.split_at(1).1)
 }
 
-/// The name of ASCII characters in front, after which an ASCII character follows.
+/// The key without an escape in front: a string, or a name of ASCII characters that an ASCII character follows.
 #[inline(always)]
-fn front_name(text: &str) -> Option<FoundText>
+fn front_key(text: &str) -> Option<FoundText>
     ensures { IfSome result (FindsFirst IsEscapeFreeKey (chars text.now)) }
 {
+    if let Some(quote) = front_quote(text) {
+        return quoted(quote, text.split_at(1).1);
+    }
     let len = ascii_name_len(text.as_bytes())?;
     let left = text.len() - len;
     Some(FoundText {
@@ -81,17 +84,6 @@ fn front_name(text: &str) -> Option<FoundText>
         to: left,
         left,
     })
-}
-
-/// The key without an escape in front.
-#[inline(always)]
-fn front_key(text: &str) -> Option<FoundText>
-    ensures { IfSome result (FindsFirst IsEscapeFreeKey (chars text.now)) }
-{
-    match front_quote(text) {
-        Some(quote) => quoted(quote, text.split_at(1).1),
-        None => front_name(text),
-    }
 }
 
 impl<I: Input> Scanner<I> {

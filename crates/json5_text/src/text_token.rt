@@ -5,12 +5,13 @@ ghost use Rattle.json5_text.specs.Cows.{cow_bytes, is_borrowed};
 ghost use Rattle.json5_text.specs.ScanTextTokens.{IsTokenOf};
 
 use crate::cow_str::CowStr;
+use crate::short_texts::Span;
 
 /// The text of a string or a key that a `Scanner` took. `Scanner::text_of` finds it, also after more was read.
 #[derive(Debug, Drop)]
 pub enum TextToken {
-    /// The input spells it as it is, from `start` up to `end`, in bytes.
-    EscapeFree { start: usize, end: usize },
+    /// The input spells it as it is, at these offsets.
+    EscapeFree(Span),
     /// An owned copy: an escape spells a part of it.
     Escaped(String),
 }
@@ -24,10 +25,10 @@ impl TextToken {
     {
         let start = end - left;
         match text {
-            CowStr::Borrowed(text) => TextToken::EscapeFree {
+            CowStr::Borrowed(text) => TextToken::EscapeFree(Span {
                 start,
                 end: start + text.len(),
-            },
+            }),
             CowStr::Owned(text) => TextToken::Escaped(text),
         }
     }

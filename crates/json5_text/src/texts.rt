@@ -25,16 +25,6 @@ pub(crate) enum Quote {
 
 impl Quote {
     #[inline(always)]
-    pub(crate) fn char(self) -> char
-        ensures { result ≡ quote_of self }
-    {
-        match self {
-            Quote::Double => '"',
-            Quote::Single => '\'',
-        }
-    }
-
-    #[inline(always)]
     pub(crate) fn byte(self) -> u8
         ensures { result ≡ quote_of self }
     {
@@ -243,7 +233,7 @@ fn read_stop(kind: Kind, text: &str) -> Result<Stop<'_>, Refusal>
         }),
         Kind::NameRest => Ok(Stop::End(text)),
         Kind::String(quote) => {
-            if c == quote.char() {
+            if c == char::from(quote.byte()) {
                 Ok(Stop::End(next))
             } else {
                 Err(Refusal::TokenError {

@@ -63,11 +63,7 @@ impl<'de, I: Borrows<'de>> Scanner<I> {
         ensures { IsCowOf self.now.input token result }
     {
         match token {
-            TextToken::EscapeFree { start, end } => CowStr::Borrowed(between(
-                self.input.as_borrowed(),
-                start,
-                end,
-            )),
+            TextToken::EscapeFree(span) => CowStr::Borrowed(self.borrowed_text_of_span(span)),
             TextToken::Escaped(text) => CowStr::Owned(text),
         }
     }
@@ -88,7 +84,7 @@ impl<I: Input> Scanner<I> {
         ensures { IsTextOf self.now.input token.now result.now }
     {
         match token {
-            TextToken::EscapeFree { start, end } => between(self.input.as_text(), *start, *end),
+            TextToken::EscapeFree(span) => self.text_of_span(*span),
             TextToken::Escaped(text) => text.as_str(),
         }
     }

@@ -21,16 +21,16 @@ returns-in-NameRest c =
     let stops = subst (λ k. NotBegun (is_raw_in k) (chars c.args.text.now)) c.in-NameRest.is c.requires in
     rw c.in-NameRest.is (record { read = no_part c.in-Some.c _ _ c.in-Some.ensures.chars stops c.if-c-eq92.false; text = c.utf8.text }, omega arith)
 
-pub returns-then-c-char : goal.returns-then-c-char
-returns-then-c-char c =
-    rw c.in-String.is (record { read = at_quote c.in-String.quote c.in-Some.c _ _ c.in-Some.ensures.chars (c.if-c-char.true ∙ c.char.ensures); text = c.in-Some.ensures.text }, omega arith)
+pub returns-then-c-from : goal.returns-then-c-from
+returns-then-c-from c =
+    rw c.in-String.is (record { read = at_quote c.in-String.quote c.in-Some.c _ _ c.in-Some.ensures.chars (c.if-c-from.true ∙ c.from.ensures ∙ c.byte.ensures); text = c.in-Some.ensures.text }, omega arith)
 
-pub returns-else-c-char : goal.returns-else-c-char
-returns-else-c-char c =
+pub returns-else-c-from : goal.returns-else-c-from
+returns-else-c-from c =
     let stops = subst (λ k. NotBegun (is_raw_in k) (chars c.args.text.now)) c.in-String.is c.requires in
     rw c.in-String.is
     (record {
       refused = refused_here _ LineTerminatorInString c.args.text.now c.utf8.text
-          (at_line_end c.in-String.quote c.in-Some.c _ _ c.in-Some.ensures.chars stops (λ e. c.if-c-char.false (e ∙ sym c.char.ensures)) c.if-c-eq92.false);
+          (at_line_end c.in-String.quote c.in-Some.c _ _ c.in-Some.ensures.chars stops (λ e. c.if-c-from.false (e ∙ sym (c.from.ensures ∙ c.byte.ensures))) c.if-c-eq92.false);
       known = tt;
     })

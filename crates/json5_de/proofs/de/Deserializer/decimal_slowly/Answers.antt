@@ -8,7 +8,7 @@ use Rattle.json5_de.specs.Faults.{faulty_number}
 use Rattle.json5_de.proofs.Taken.{took_leaf, refused_or_memory}
 use Rattle.json5_de.specs.TokenKinds.{decimal_kind}
 use Rattle.json5_de.proofs.TokenKinds.{lawful_decimal, not_begun, refuses_value, reads_ok}
-use Rattle.json5_de.proofs.de.Deserializer.deserialize_decimal.Goals as goal
+use Rattle.json5_de.proofs.de.Deserializer.decimal_slowly.Goals as goal
 
 pub returns-in_err-skip_blank : goal.returns-in_err-skip_blank
 returns-in_err-skip_blank g c =
