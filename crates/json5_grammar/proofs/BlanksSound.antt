@@ -1,4 +1,4 @@
--- What is passed over is blank, and where that fails a comment is at fault; one way to pass, one fault.
+-- What is passed over is blank; if that fails, a comment is at fault. There is one way to pass, and one fault.
 use Rattle.std.proofs.Common.{◌≡◌, ℕ, Bool, true, false, cond, ◌||◌, not, List, [], ◌∷◌, ◌++◌, refl, ap, sym, ◌∙◌, append_assoc, ◌≢◌, ◌⊎◌, inl, inr, subst, Option, Some, None}
 use Rattle.std.specs.Prelude.{◌==◌}
 use Rattle.std.proofs.lemmas.List.{append-nil}

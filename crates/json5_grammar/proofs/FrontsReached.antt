@@ -1,4 +1,4 @@
--- Reading a text leads to each front of it: it is what is left to read there.
+-- Reading an input leads to each of its fronts, and goes on there with what is left.
 use Rattle.std.proofs.Common.{◌≡◌, ℕ, suc, ◌+◌, ◌-◌, ◌<◌, ◌≤◌, Bool, true, false, cond, List, [], ◌∷◌, ◌++◌, length, refl, ap, sym, ◌∙◌, append_assoc, arith}
 use Rattle.std.specs.Prelude.{◌==◌, drop}
 use Rattle.std.proofs.lemmas.List.{drop_at}

@@ -1,4 +1,4 @@
--- Keys: complete, refused, sound; and the faults of tokens as those of a text after a front.
+-- Keys: complete, refused, sound; and the faults of tokens as those of an input after a front.
 use Rattle.std.proofs.Common.{◌≡◌, ℕ, Bool, true, false, ◌||◌, List, [], ◌∷◌, ◌++◌, refl, ap, sym, ◌∙◌, arith, ◌⊎◌, inl, inr, subst, Option}
 use Rattle.std.specs.Prelude.{◌==◌}
 use Rattle.std.proofs.lemmas.Bool.Decides.{nat_tests}

@@ -1,4 +1,4 @@
--- A decimal literal is found in its text, and what is found is one.
+-- A decimal literal is found by its characters, and what is found is one.
 use Rattle.std.proofs.Common.{◌≡◌, ℕ, Bool, true, false, ◌&&◌, ◌||◌, List, [], ◌∷◌, ◌++◌, refl, ap, sym, ◌∙◌, append_assoc, subst, Option, Some, None}
 use Rattle.std.specs.Prelude.{◌==◌, ⊤, ℤ, not}
 use Rattle.json5_grammar.specs.Language.Characters.{is_digit, NotBegun, Each, no_char, char}

@@ -1,4 +1,4 @@
--- A text that begins as a number does has a number in front or a fault.
+-- What begins as a number does has a number in front, or a fault of one.
 use Rattle.std.proofs.Common.{ℕ, ◌||◌, List, [], refl, ◌⊎◌, inl, inr}
 use Rattle.json5_grammar.specs.Language.Characters.{Begun}
 use Rattle.json5_grammar.specs.Language.Numbers.{Number}

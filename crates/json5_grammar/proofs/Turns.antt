@@ -1,4 +1,4 @@
--- The number of turns doesn't matter where it is enough; so a reader's rest is read by equations without it, as a loop needs.
+-- Reading doesn't depend on the number of turns, if it is enough; so what is left is read by equations without it, as a loop needs.
 use Rattle.std.proofs.Common.{◌≡◌, ℕ, zero, suc, ◌<◌, Bool, true, false, cond, ◌||◌, List, [], ◌∷◌, length, refl, ap, sym, ◌∙◌, arith, subst, Option, Some}
 use Rattle.std.specs.Prelude.{◌==◌}
 use Rattle.json5_grammar.specs.Language.Characters.{is_identifier_start, is_identifier_part}

@@ -1,4 +1,4 @@
--- The number of turns doesn't matter where it is enough, for the elements of arrays and the pairs of objects.
+-- Reading the elements of arrays and the pairs of objects doesn't depend on the number of turns, if it is enough.
 use Rattle.std.proofs.Common.{◌≡◌, ℕ, zero, suc, ◌<◌, ◌≤◌, Bool, List, [], ◌∷◌, ◌++◌, length, refl, ap, arith, length-append}
 use Rattle.json5_grammar.specs.Language.Trees.{Trees, Pairs, more, pair}
 use Rattle.json5_grammar.specs.Model.Reading.{Read, got, bad, and_then}

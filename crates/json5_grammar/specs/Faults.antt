@@ -1,4 +1,4 @@
--- The fault table: the faults of an input, each with its code, its position, the part that is blamed, and what shows it.
+-- The fault table: the faults of an input, each with its code, its position, the part at fault, and what shows it.
 pub mod Codes
 pub mod CodeTexts
 pub mod Positions

@@ -1,4 +1,4 @@
--- How documents go on from a front: with what is expected there, and each front has such a one.
+-- How documents go on from a front: with what is expected there; and each front begins a document.
 use Rattle.std.specs.Prelude.{◌≡◌, ◌⊎◌, ℕ, Bool, true, List, [], ◌∷◌, ◌++◌}
 use Rattle.json5_grammar.specs.Language.Characters.{comma_sign, colon_sign, right_bracket, right_brace}
 use Rattle.json5_grammar.specs.Language.Blanks.{LastBlanks}

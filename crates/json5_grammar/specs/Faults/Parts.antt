@@ -1,4 +1,4 @@
--- Parts: what a fault blames, a begun token with at most one character after it.
+-- Parts: what can be at fault, a begun token with at most one character after it.
 use Rattle.std.specs.Prelude.{◌≡◌, ℕ, Bool, true, List, [], ◌∷◌, ◌++◌}
 use Rattle.json5_grammar.specs.Language.Characters.{star_sign, slash_sign, digit_zero, backslash, is_hex_digit, Each}
 use Rattle.json5_grammar.specs.Faults.Codes.{ErrorCode}

@@ -33,7 +33,7 @@ IsElement true x t r = (y : List ℕ) × IsSign comma_sign x y × Reads y t r
 abbrev pub IsClose : Bool → List ℕ → List ℕ → Type 0
 IsClose comma_due x r = IsEnd right_bracket comma_due x r
 
--- x goes on so, but the bracket itself is still unread in y
+-- the same, but the bracket is still unread: y begins with it
 abbrev pub IsAtClose : Bool → List ℕ → List ℕ → Type 0
 IsAtClose comma_due x y = (r : List ℕ) × IsClose comma_due x r × (y ≡ right_bracket ∷ r)
 
@@ -74,7 +74,7 @@ IsKeyValue x t r = (y : List ℕ) × IsSign colon_sign x y × Reads y t r
 abbrev pub IsBrace : Bool → List ℕ → List ℕ → Type 0
 IsBrace comma_due x r = IsEnd right_brace comma_due x r
 
--- x goes on so, but the brace itself is still unread in y
+-- the same, but the brace is still unread: y begins with it
 abbrev pub IsAtBrace : Bool → List ℕ → List ℕ → Type 0
 IsAtBrace comma_due x y = (r : List ℕ) × IsBrace comma_due x r × (y ≡ right_brace ∷ r)
 

@@ -55,7 +55,7 @@ pub fn words()
     ensures refused { (w r : List ℕ) (wrong eof : ErrorCode) (b : Blame) → Word w wrong eof → WordBlame (w ++ r) b → ⊥ }
 {}
 
-/// What is written for a scalar is its value.
+/// What is written for a scalar is a value that means it.
 pub fn written()
     ensures null { Val null_text null }
     ensures boolean { (b : Bool) → Val (if b then true_text else false_text) (boolean b) }

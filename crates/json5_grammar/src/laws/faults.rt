@@ -34,8 +34,8 @@ pub fn beginnings()
     ensures through { (limit : ℕ) (x : List ℕ) (b : Blame) → ShownByChar (TextBlame limit) x b → Begins limit (b.before ++ b.part) → ⊥ }
 {}
 
-/// Each front begins a document, also with whole items of the string or the name that is expected there, and what goes on from
-/// it in one is what is expected.
+/// Each front begins a document, also with whole items of the string or the name that is expected there. A document goes on
+/// from a front with what is expected.
 pub fn fronts()
     ensures begin { (limit : ℕ) → FrontsContinue limit }
     ensures strings { (limit : ℕ) → StringsContinue limit }
