@@ -81,7 +81,7 @@ pub fn values_read_back()
 
 /// What the clauses of `from_str_within` come to at `Value`, for every limit. Exactly the documents within it are read, each as
 /// the value of its tree, unless memory runs out. Any other text is refused with its one fault of the fault table, at its
-/// position; what comes before the faulty part begins a document, and no document goes on past the character that shows the
+/// position; what comes before the faulty part begins a document, and no document continues past the character that shows the
 /// fault.
 pub fn values_read<I: Input>()
     ensures { ReadsEachText ⟦<Value as Deserialize<I>>⟧.convert ⟦<Value as Deserialize<I>>⟧.refuses }

@@ -13,7 +13,7 @@
 //! ```
 //!
 //! What is read has `Deserialize`, what is written `Serialize`, and the key of a member `DeserializeKey` and `SerializeKey`. A
-//! document of unknown shape is read as a `Value`. Each call that may be refused answers an `Error`: a code or a custom
+//! document of unknown shape is read as a `Value`. Each call that may be refused returns an `Error`: a code or a custom
 //! message, and mostly a position. What allocates is handed the allocator.
 #![tactic(auto)]
 

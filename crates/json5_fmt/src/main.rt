@@ -1,4 +1,4 @@
-//! Formats JSON5, or checks it. What it does stands in json5_formatter.
+//! Formats JSON5, or checks it. What it does is in json5_formatter.
 #![tactic(auto)]
 
 use std::process::ExitCode;

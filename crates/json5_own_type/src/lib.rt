@@ -122,7 +122,7 @@ impl<I: Input, T: Deserialize<I>> Deserialize<I> for Point<T> {
     }
 }
 
-/// Drops the access after one element: from then on the reader answers `Failed`.
+/// Drops the access after one element: from then on the reader returns `Failed`.
 pub fn gives_up<I: Input>(de: &mut Deserializer<I>) -> Result<()>
     ensures { de.new.failed ≡ true }
 {

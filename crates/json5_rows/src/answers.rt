@@ -1,4 +1,4 @@
-//! What calls answer, as text. Values are printed as Rust's `Debug` prints them, but for decimals.
+//! What calls return, as text. Values are printed as Rust's `Debug` prints them, but for decimals.
 
 use json5::{Decimal, Error, Position, Result, Value};
 use std::alloc::{AllocError, Global};
@@ -29,7 +29,7 @@ pub fn by_message(alloc: Global, answer: Answer) -> Printed<String> {
     }
 }
 
-/// The answer, its fault by code and place: `ExpectedComma at 0:3`.
+/// The answer, its fault by code and position: `ExpectedComma at 0:3`.
 pub fn by_code(alloc: Global, answer: Answer) -> Printed<String> {
     match answer {
         Ok(text) => Ok(text),

@@ -38,7 +38,7 @@ impl<I: Input> Fields<I> for PersonFound {
     }
 }
 
-/// An object with both fields; one that isn't known is passed over, and one that stands twice is refused.
+/// An object with both fields; one that isn't known is passed over, and one that is there twice is refused.
 impl<I: Input> Deserialize<I> for Person {
     ghost use Rattle.std.specs.Prelude.{ℕ, List, string_bytes};
     ghost use Rattle.json5.specs.Collections.{object_of};
@@ -98,7 +98,7 @@ impl<I: Input> Fields<I> for LettersFound {
     }
 }
 
-/// An object with both fields; one that isn't known is passed over, and one that stands twice is refused.
+/// An object with both fields; one that isn't known is passed over, and one that is there twice is refused.
 impl<I: Input> Deserialize<I> for Letters {
     ghost use Rattle.std.specs.Prelude.{ℕ};
     ghost use Rattle.json5.specs.Collections.{object_of};
@@ -155,7 +155,7 @@ impl<'de, I: Borrows<'de>> Fields<I> for ConfigFound<'de> {
     }
 }
 
-/// An object with both fields; one that isn't known is passed over, and one that stands twice is refused.
+/// An object with both fields; one that isn't known is passed over, and one that is there twice is refused.
 impl<'de, I: Borrows<'de>> Deserialize<I> for Config<'de> {
     ghost use Rattle.std.specs.Prelude.{ℕ, List};
     ghost use Rattle.json5.specs.Collections.{object_of};

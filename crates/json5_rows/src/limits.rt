@@ -94,7 +94,7 @@ fn write_scalar(alloc: Global, limit: Limit, name: &str, text: &str) -> Answer {
     }
 }
 
-/// What `to_string_within` and `to_writer_within` answer, and then what the writer holds.
+/// What `to_string_within` and `to_writer_within` return, and then what the writer holds.
 fn write_as<'de, T: Deserialize<&'de str> + Serialize>(
     alloc: Global,
     limit: Limit,

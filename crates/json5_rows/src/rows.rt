@@ -10,7 +10,7 @@ pub fn is_row(line: &str) -> bool {
     !line.is_empty() && !line.starts_with('#')
 }
 
-/// What the row's call answers, long runs of zeros shortened.
+/// What the row's call returns, long runs of zeros shortened.
 pub fn answer_of(alloc: Global, row: &str) -> Result<String, AllocError> {
     let (call, spelled) = row.split_once('|').unwrap_or((row, ""));
     let text = unescaped(alloc, spelled)?;

@@ -7,7 +7,7 @@ use json5_text::scanner::Scanner;
 use json5_text::whole::Whole;
 use std::alloc::Global;
 
-/// What each call answers.
+/// What each call returns.
 pub fn scan(alloc: Global, names: &str, text: &str) -> Answer {
     let mut scanner = Scanner::new(alloc, text);
     let mut answers = String::new(alloc);

@@ -10,7 +10,7 @@ use json5::{Deserializer, Error, ErrorCode, SeqAccess};
 use std::alloc::Global;
 use std::mem::forget;
 
-/// What each call answers.
+/// What each call returns.
 pub fn sequence(alloc: Global, names: &str, text: &str) -> Answer {
     let mut de = Deserializer::from_str(alloc, text);
     let mut answers = String::new(alloc);

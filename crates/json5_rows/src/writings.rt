@@ -14,7 +14,7 @@ use std::mem::forget;
 
 type Collection<'a> = SerializeCollection<'a, Vec<u8>>;
 
-/// What each call answers, and then what the writer holds.
+/// What each call returns, and then what the writer holds.
 pub fn writing(alloc: Global, names: &str) -> Answer {
     let mut ser = Serializer::new(Vec::new(alloc));
     let mut answers = String::new(alloc);
@@ -197,7 +197,7 @@ impl Write for Stopping {
     }
 }
 
-/// What `to_writer` answers for the text's value over a writer that fails at this call, and then what the writer holds.
+/// What `to_writer` returns for the text's value over a writer that fails at this call, and then what the writer holds.
 pub fn stops(alloc: Global, call: &str, text: &str) -> Answer {
     let value = from_str::<Value>(alloc, text)?;
     let call = call.parse::<usize>().unwrap_or(1);

@@ -18,7 +18,7 @@ fn refuses<'de, T: Deserialize<&'de str>>(
     }
 }
 
-/// Whether 0 is refused where it stands: alone, in a list, and as the port of an endpoint.
+/// Whether 0 is refused where it is: alone, in a list, and as the port of an endpoint.
 fn port_0_is_refused(alloc: Global) -> Result<bool> {
     Ok(
         refuses::<OpenPort>(
@@ -64,7 +64,7 @@ fn others_are_refused(alloc: Global) -> Result<bool> {
     )
 }
 
-/// Whether a fourth value of at most three is refused where it stands, before what follows it, and three are read.
+/// Whether a fourth value of at most three is refused where it is, before what follows it, and three are read.
 fn fourth_is_refused(alloc: Global) -> Result<bool> {
     let most = from_str::<AtMost<u8, 3>>(alloc, "[1, 2, 3, ]")?;
     let empty = from_str::<AtMost<u8, 3>>(alloc, "[]")?;
@@ -154,7 +154,7 @@ fn spans_count_bytes(rt: HostRuntime) -> std::result::Result<(), Fail> {
     Ok(())
 }
 
-/// Whether colors are read and written as keys, and another name is refused where the key stands.
+/// Whether colors are read and written as keys, and another name is refused where the key is.
 fn colors_are_keys(alloc: Global) -> Result<bool> {
     let shares = from_str::<BTreeMap<Color, u8>>(alloc, "{blue: 2, 'red': 1}")?;
     Ok(

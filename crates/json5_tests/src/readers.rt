@@ -1,4 +1,4 @@
-//! Readers: what outlives them, and what they answer once an access was dropped.
+//! Readers: what outlives them, and what they return once an access was dropped.
 
 use json5::{CowStr, Deserializer, Error, ErrorCode, Result};
 use json5_own_type::gives_up;

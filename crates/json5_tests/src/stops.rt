@@ -26,7 +26,7 @@ fn brackets(alloc: Global, count: usize) -> Result<String> {
     Ok(text)
 }
 
-/// Whether 129 arrays are refused without a place, after all that stands before the last bracket.
+/// Whether 129 arrays are refused without a position, after all that is before the last bracket.
 fn stops_at_the_129th(alloc: Global) -> Result<bool> {
     let mut bytes = Vec::new(alloc);
     let written = to_writer(&mut bytes, &arrays(alloc, 129)?);

@@ -90,7 +90,7 @@ fn second_port(settings: &Value) -> Option<Whole> {
     settings.get("ports")?.get(1usize)?.as_whole()
 }
 
-/// The name, the last where it stands more than once.
+/// The name, the last where it is there more than once.
 fn name(settings: &Value) -> Option<&str> {
     settings.get("name")?.as_str()
 }

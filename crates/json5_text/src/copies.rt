@@ -11,7 +11,7 @@ use json5_grammar::code::ErrorCode;
 use std::alloc::Global;
 
 impl Value {
-    /// Returns an equal value, in memory of its own.
+    /// Returns an equal value, which owns its memory.
     ///
     /// # Errors
     ///

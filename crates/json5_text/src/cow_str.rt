@@ -11,7 +11,7 @@ ghost use Rattle.std.proofs.Common.{rules};
 use std::cmp::Ordering;
 use std::hash::{Hash, Hasher};
 
-/// The text of a string or a key: borrowed from the input where it has no escape, else in memory of its own. Equality, order
+/// The text of a string or a key: borrowed from the input where it has no escape, else owned. Equality, order
 /// and hash are those of the text's bytes, borrowed or not.
 ///
 /// ```text

@@ -11,7 +11,7 @@ use std::alloc::{AllocError, AllocFailed, Global};
 use std::fmt::{self, Write};
 use std::io;
 
-/// What reading and writing answer: the value, or a fault.
+/// What reading and writing return: the value, or a fault.
 pub type Result<T> = std::result::Result<T, Error>;
 
 /// What a fault says.

@@ -64,7 +64,7 @@ mod faults;
 ///
 /// # Errors
 ///
-/// Every call that may take memory may answer `OutOfMemory`, without a position.
+/// Every call that may take memory may return `OutOfMemory`, without a position.
 #[derive(Drop)]
 pub struct Scanner<I: Input> {
     pub(crate) input: I,
@@ -186,7 +186,7 @@ impl<I: Input> Scanner<I> {
         take!(self, number(self.alloc, self.rest(self.input.as_text())))
     }
 
-    /// Takes a string and returns its text, escapes replaced, in memory of its own (JSON5 section 5, ECMAScript 5.1 section
+    /// Takes a string and returns its text, escapes replaced, as a `String` (JSON5 section 5, ECMAScript 5.1 section
     /// 7.8.4).
     ///
     /// # Errors

@@ -25,7 +25,7 @@ pub fn object_from_front()
     ensures together { (x y r : List ℕ) (ps : Pairs) → OpensObject x y → PairsTail ps false y r → Reads x (object ps) r }
 {}
 
-/// An object goes on in one way: with one key and its value or the closing brace, and one rest is left.
+/// An object continues in one way: with one key and its value or the closing brace, and one rest is left.
 pub fn one_way_on_in_object()
     ensures opening { (x r q : List ℕ) → OpensObject x r → OpensObject x q → r ≡ q }
     ensures key { (comma_due : Bool) (x r y u v : List ℕ) (p q : Bool) → IsKey comma_due x u p r → IsKey comma_due x v q y → (u ≡ v) × (p ≡ q) × (r ≡ y) }
