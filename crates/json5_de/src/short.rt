@@ -104,6 +104,17 @@ impl<I: Input> Deserializer<I> {
             Err(_) => self.refuse(Error::new(ErrorCode::OutOfMemory)),
         }
     }
+
+    /// The same in the memory of a spare text.
+    pub(crate) fn text_in(&mut self, span: Span, mut spare: String) -> Result<String>
+        ensures { OwnsTextAt span self.old self.new result }
+    {
+        spare.clear();
+        match spare.push_str(self.text_at(span)) {
+            Ok(()) => Ok(spare),
+            Err(_) => self.refuse(Error::new(ErrorCode::OutOfMemory)),
+        }
+    }
 }
 
 // What is borrowed from the text.
