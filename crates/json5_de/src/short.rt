@@ -51,7 +51,8 @@ impl<I: Input> Deserializer<I> {
         if self.failed {
             return ShortStep::Other;
         }
-        self.scanner.short_step(kind.brackets().closing as u8, comma_due)
+        self.scanner
+            .short_step(kind.brackets().closing as u8, comma_due)
     }
 
     /// Reads a text without an escape, and answers where it stands, or nothing.
