@@ -38,6 +38,7 @@ pub record AtKey (comma_due : Bool) (old new : State) : Type 0 where
   pub member : AtMember curly comma_due old new
   pub begins : BeginsKey new.unread
 
+-- the reader goes to a key, which begins after so many bytes, or to the closing brace
 abbrev pub GoesToKey : Bool → State → State → Option ℕ → Type 0
 GoesToKey comma_due old new (Some start) = AtKey comma_due old new × IsCount new start
 GoesToKey comma_due old new None = AtClose curly comma_due old new

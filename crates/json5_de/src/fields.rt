@@ -67,7 +67,7 @@ pub trait Fields<I: Input>: Sized + Drop {
 }
 
 impl<I: Input> Deserializer<I> {
-    /// Reads a key as a text, in the memory of a spare one where it is short.
+    /// Reads a key as a text. A key of the short way is put into the memory of a spare text.
     fn key_in(&mut self, spare: String) -> Result<String>
         ensures { ReadsKeyAs string_key string_bytes self.old self.new result }
     {

@@ -80,7 +80,7 @@ impl<I: Input> Deserializer<I> {
         Ok(Some(self.offset()))
     }
 
-    /// A key that was read from there. A fault gets the key's position where it has none and may have one.
+    /// A key that was read at this offset. A fault gets the key's position where it has none and may have one.
     pub(crate) fn placed_key<K>(&self, read: Result<K>, start: usize) -> Result<Option<K>>
         ensures { PlacesKey (StartsAfter self.now.input start) read result }
     {
