@@ -26,10 +26,11 @@ use Rattle.json5_text.specs.Tokens.{FaultyBlanks, FaultyKey}
 use Rattle.json5_de.specs.declared.found_text.FoundText.{FoundText}
 use Rattle.json5_de.specs.State.{State, GivesUp, cursor_of}
 use Rattle.json5_de.specs.Law.{StaysFailed, IsUnprompted}
+use Rattle.json5_de.specs.Convert.{index_of}
 use Rattle.json5_de.specs.ConvertLists.{if_some}
 use Rattle.json5_de.specs.Faults.{AfterBlanks, in_blanks, after_gap, RefusedBy, RefusedByOrMemory}
 use Rattle.json5_de.specs.Keys.{TookKey, KeyConversion, GivesKey, CompletesKey, OneKeyAnswer, ReadsOneKey, every_key}
-use Rattle.json5_de.specs.KeyKinds.{KeyFault, KeyKind, NotKey, no_key, other_key, ReadsKeyAs, not_converted, coded_text_key, text_key, document_key, document_of, NotDocument, some_of}
+use Rattle.json5_de.specs.KeyKinds.{KeyFault, KeyKind, NotKey, no_key, other_key, ReadsKeyAs, not_converted, coded_text_key, text_key, document_key, document_of, NotDocument, some_of, variant_key}
 use Rattle.json5_de.specs.FoundTexts.{TookKeyAt, JudgesText, OfFound}
 use Rattle.json5_de.specs.KeySteps.{IsTextFault, no_memory, at_key, is_out_of_memory}
 use Rattle.json5_de.specs.TokenKinds.{Kind, RefusedAs}
@@ -181,6 +182,10 @@ key_judged {V = V} {C = C} lacks of_other unlike f content old new last key (Err
     by_cause : ((lacks ≡ true) × LacksMemory e) ⊎ OfFound new key (λ u escape_free. f u escape_free ≡ None) → ReadsKeyAs (coded_text_key of_other f) content old last (Err e)
     by_cause (inl (may, memory)) = key_lacks_memory (coded_text_key of_other f) content old new last key e k memory j.failed
     by_cause (inr none) = key_not_coded of_other f content old new last key e unlike k (none k.text k.escape_free k.is_text k.scalars) j.refused j.failed
+
+-- the same of the name of a variant
+pub variant_key_judged : (names : List (List ℕ)) (old new last : State) (key : FoundText) (result : Result ℕ Error) → TookKeyAt old new key → JudgesText false None (index_of names) (λ n. n) key new last result → ReadsKeyAs (variant_key names) (λ n. n) old last result
+variant_key_judged names old new last key result k j = key_judged false None (λ e. absurd (cc)) (index_of names) (λ n. n) old new last key result k j
 
 -- the bytes of the key's text have the text's characters
 pub key_characters : (old new : State) (key : FoundText) (bytes : List ℕ) → (k : TookKeyAt old new key) → bytes ≡ encode_utf8_all k.text → chars bytes ≡ k.text

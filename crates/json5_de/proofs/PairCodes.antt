@@ -1,8 +1,9 @@
 -- How a key and its value begin, and how they are refused.
 use Rattle.std.proofs.Common.{◌≡◌, ◌≢◌, ℕ, Bool, true, false, List, [], ◌∷◌, ◌++◌, length, refl, ap, sym, ◌∙◌, subst, arith, Option, Some, None, Ok, Err}
-use Rattle.std.specs.Prelude.{◌==◌, is_some}
+use Rattle.std.specs.Prelude.{◌==◌, is_some, Result}
 use Rattle.std.specs.Str.{encode_utf8_all}
 use Rattle.std.proofs.lemmas.Bool.{or_parts}
+use Rattle.std.proofs.lemmas.Result.{err_from_is_err_and}
 use Rattle.json5_grammar.specs.declared.code.ErrorCode.{ErrorCode}
 use Rattle.json5_grammar.specs.declared.code.ErrorCode.TheVariants as codes
 use Rattle.json5_grammar.specs.Faults.Codes.{after_text}
@@ -24,8 +25,8 @@ use Rattle.json5_text.specs.Cursor.{Refused}
 use Rattle.json5_text.specs.Tokens.{FaultyBlanks}
 use Rattle.json5_de.specs.State.{State, OnlyRead, SameText, cursor_of}
 use Rattle.json5_de.specs.Law.{TookValue, Steady, IsUnprompted}
-use Rattle.json5_de.specs.ReaderSteps.{PassedGap, TookText}
-use Rattle.json5_de.specs.Keys.{KeyConversion, TookKey, GivesKey, CompletesKey}
+use Rattle.json5_de.specs.ReaderSteps.{PassedGap, TookText, IsCount}
+use Rattle.json5_de.specs.Keys.{KeyConversion, TookKey, GivesKey, CompletesKey, ReadsKeyOf}
 use Rattle.json5_value.specs.Brackets.{curly}
 use Rattle.json5_de.specs.Faults.{AfterBlanks, in_blanks, after_gap, RefusedBy, AtEnd, AtOther, IsUnplaced, IsAfter}
 use Rattle.json5_de.specs.Access.{AtClose, PlacedAtBracket}
@@ -34,7 +35,7 @@ use Rattle.json5_value.specs.Places.{StartsAfter}
 use Rattle.json5_de.specs.Seq.{IsAfterGap, IsMemberStart, AtMember, NothingNext, NoNext, no_comma, comma_missing, in_blanks_after}
 use Rattle.json5_de.specs.Objects.{MapAccessState, bare_map, TookPairKey, AfterColon, TookPairValue, GivesPairKey, GivesPairValue, CompletesPairKey}
 use Rattle.json5_de.proofs.Offsets.{placed_where}
-use Rattle.json5_de.specs.ObjectFaults.{begins_key, AtKey, NoKeyHere, no_key, key_missing, NoKey, no_next, not_here, not_after_comma, PlacedAtKey, at_key, as_it_is, RefusesPairKey, not_reached, in_key, ReadsKeyOfPair, begins_next_key, no_key_code, RefusesNextKey, NoColon, no_colon, colon_missing, is_colon, RefusesPairValue, no_value, in_value, RefusesNextValue}
+use Rattle.json5_de.specs.ObjectFaults.{begins_key, AtKey, NoKeyHere, no_key, key_missing, NoKey, no_next, not_here, not_after_comma, PlacedAtKey, at_key, as_it_is, PlacesKey, RefusesPairKey, not_reached, in_key, ReadsKeyOfPair, begins_next_key, no_key_code, RefusesNextKey, NoColon, no_colon, colon_missing, is_colon, RefusesPairValue, no_value, in_value, RefusesNextValue}
 use Rattle.json5_de.proofs.Expected.{Expected, end_fault, other_fault}
 use Rattle.json5_de.proofs.Taken.{input_of, placed_after, refused_token}
 use Rattle.json5_de.proofs.Places.{refused_as, refused_after}
@@ -308,7 +309,7 @@ module _ {K C : Type 0} (content : K → C) (convert : KeyConversion C) (refuses
       in_key mid own at r (placed_before mid end offset own e same counted placed)
 
   -- a key was read
-  pub read_key_given : (more : Bool) (k : K) → Steady {V = Bool} s mid (Ok more) → GivesKey content convert mid end k → SameText mid end → ReadsKeyOfPair content convert refuses comma_due s end (Ok (Some k))
+  read_key_given : (more : Option ℕ) (k : K) → Steady {V = Option ℕ} s mid (Ok more) → GivesKey content convert mid end k → SameText mid end → ReadsKeyOfPair content convert refuses comma_due s end (Ok (Some k))
   read_key_given more k before gives same = record {
     sound = key_given k gives;
     complete = λ u escape_free r c live key is. tt;
@@ -318,7 +319,7 @@ module _ {K C : Type 0} (content : K → C) (convert : KeyConversion C) (refuses
   }
 
   -- or refused
-  pub read_key_refused : (more : Bool) (own e : Error) (offset : ℕ) → Steady {V = Bool} s mid (Ok more) → CompletesKey {V = K} convert mid (Err own) → refuses mid own end → (mid.failed ≡ false → IsUnprompted own) → SameText mid end
+  read_key_refused : (more : Option ℕ) (own e : Error) (offset : ℕ) → Steady {V = Option ℕ} s mid (Ok more) → CompletesKey {V = K} convert mid (Err own) → refuses mid own end → (mid.failed ≡ false → IsUnprompted own) → SameText mid end
       → ((before : List ℕ) → mid.input ≡ before ++ mid.unread → offset ≡ length (encode_utf8_all before)) → PlacedAtKey (StartsAfter end.input offset) own e → ReadsKeyOfPair content convert refuses comma_due s end (Err e)
   read_key_refused more own e offset before complete refused unprompted same counted placed =
       let kind = key_kind _ own e placed in
@@ -333,6 +334,14 @@ module _ {K C : Type 0} (content : K → C) (convert : KeyConversion C) (refuses
           before = λ h. absurd (before.before h);
         };
       }
+
+  -- it is given, or its fault where it is placed
+  pub read_key_placed : (more : Option ℕ) (read : Result K Error) (result : Result (Option K) Error) (offset : ℕ) → Steady {V = Option ℕ} s mid (Ok more) → ReadsKeyOf content convert refuses mid end read → IsCount mid offset → PlacesKey (StartsAfter end.input offset) read result
+      → ReadsKeyOfPair content convert refuses comma_due s end result
+  read_key_placed more (Ok k) result offset before reads count is = subst (ReadsKeyOfPair content convert refuses comma_due s end) (sym is) (read_key_given more k before reads.sound reads.same_text)
+  read_key_placed more (Err own) result offset before reads count is =
+      let (e, same, placed) = err_from_is_err_and result is in
+      subst (ReadsKeyOfPair content convert refuses comma_due s end) (sym same) (read_key_refused more own e offset before reads.complete reads.refused reads.unprompted reads.same_text count.counted placed)
 
 -- ---- a colon and a value
 

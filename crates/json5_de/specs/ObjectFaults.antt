@@ -1,5 +1,5 @@
 -- How the calls of an access to an object refuse.
-use Rattle.std.specs.Prelude.{◌≡◌, ℕ, Bool, true, false, ◌==◌, ◌||◌, List, [], ◌∷◌, ◌++◌, Option, Some, None, is_some, Result, IfOk, IfErr, OnOk, OnErr, IsOk}
+use Rattle.std.specs.Prelude.{◌≡◌, ℕ, Bool, true, false, ◌==◌, ◌||◌, List, [], ◌∷◌, ◌++◌, Option, Some, None, is_some, Result, Ok, IfOk, IfErr, OnOk, OnErr, IsOk, IsErrAnd, MatchResult}
 use Rattle.json5_grammar.specs.declared.code.ErrorCode.{ErrorCode}
 use Rattle.json5_grammar.specs.declared.code.ErrorCode.TheVariants as codes
 use Rattle.json5_grammar.specs.Faults.Codes.{after_text}
@@ -11,6 +11,7 @@ use Rattle.json5_grammar.specs.Model.Collections.{IsKeyValue}
 use Rattle.json5_grammar.specs.Language.Trees.{Tree}
 use Rattle.json5_de.specs.State.{State, GivesUp}
 use Rattle.json5_de.specs.Law.{Steady}
+use Rattle.json5_de.specs.ReaderSteps.{IsCount}
 use Rattle.json5_value.specs.Places.{PlacedAt}
 use Rattle.json5_value.specs.Brackets.{curly}
 use Rattle.json5_de.specs.Faults.{AfterBlanks, RefusedBy}
@@ -37,9 +38,10 @@ pub record AtKey (comma_due : Bool) (old new : State) : Type 0 where
   pub member : AtMember curly comma_due old new
   pub begins : BeginsKey new.unread
 
-abbrev pub GoesToKey : Bool → State → State → Bool → Type 0
-GoesToKey comma_due old new true = AtKey comma_due old new
-GoesToKey comma_due old new false = AtClose curly comma_due old new
+-- the reader goes to a key, which begins after so many bytes, or to the closing brace
+abbrev pub GoesToKey : Bool → State → State → Option ℕ → Type 0
+GoesToKey comma_due old new (Some start) = AtKey comma_due old new × IsCount new start
+GoesToKey comma_due old new None = AtClose curly comma_due old new
 
 -- what is refused where a key may begin
 pub data NoKeyHere : List ℕ → Option ErrorCode → Option (List ℕ) → Type 0 where
@@ -77,6 +79,10 @@ is_unplaced failed_write = false
 pub data PlacedAtKey (IsBefore : List ℕ → Type 0) (own e : Error) : Type 0 where
   at_key : is_unplaced (kind_of own) ≡ false → PlacedAt IsBefore own e → PlacedAtKey IsBefore own e
   as_it_is : is_unplaced (kind_of own) ≡ true → kind_of e ≡ kind_of own → place_of e ≡ place_of own → PlacedAtKey IsBefore own e
+
+-- a key that was read is given, and a fault so placed
+abbrev pub PlacesKey : {K : Type 0} → (List ℕ → Type 0) → Result K Error → Result (Option K) Error → Type 0
+PlacesKey IsBefore read result = MatchResult read (λ k. result ≡ Ok (Some k)) (λ own. IsErrAnd result (PlacedAtKey IsBefore own))
 
 -- the fault of a call for a key: no key was reached, or the key's own
 pub data RefusesPairKey (refuses : State → Error → State → Type 0) (comma_due : Bool) (old : State) (e : Error) (after : State) : Type 0 where

@@ -3,7 +3,6 @@
 ghost use Rattle.std.specs.Prelude.{◌≡◌, true, false, Some, IfOk, OnOk, string_bytes};
 ghost use Rattle.json5_grammar.specs.declared.code.ErrorCode.TheVariants as codes;
 ghost use Rattle.json5_text.specs.Errors.{code};
-ghost use Rattle.json5_value.specs.Keeping.{OwnsKey};
 ghost use Rattle.json5_de.specs.Access.{IsFailedAtBracket};
 ghost use Rattle.json5_de.specs.Convert.{every_text};
 ghost use Rattle.json5_de.specs.KeyKinds.{ReadsKeyAs, RefusedAsKey, string_key};
@@ -21,7 +20,6 @@ use crate::map::MapAccess;
 use json5_text::ErrorCode;
 use json5_text::error::{Error, Result};
 use json5_text::input::Input;
-use json5_text::text_token::TextToken;
 use std::fmt;
 
 /// The fields of a struct, as far as they were read: what [`MapAccess::read_fields`] fills.
@@ -69,41 +67,25 @@ pub trait Fields<I: Input>: Sized + Drop {
 }
 
 impl<I: Input> Deserializer<I> {
-    /// Reads a key as a string, in the memory of a spare one.
+    /// Reads a key as a string. A key of the short way is put into the memory of a spare string.
     fn key_in(&mut self, spare: String) -> Result<String>
         ensures { ReadsKeyAs string_key string_bytes self.old self.new result }
     {
-        let key = self.found_key()?;
-        match self.token_in(key.token, spare) {
-            Ok(text) => Ok(text),
-            Err(e) => self.refuse(e),
+        match self.short_key() {
+            Some(span) => self.text_in(span, spare),
+            None => self.key_string_slowly(),
         }
-    }
-
-    /// The text of a token that was taken: the token's own copy, or one in the memory of a spare string.
-    fn token_in(&self, token: TextToken, mut spare: String) -> Result<String>
-        ensures { OwnsKey self.now.input token result }
-    {
-        if let TextToken::Escaped(text) = token {
-            return Ok(text);
-        }
-        spare.clear();
-        spare.push_str(self.token_text(&token))?;
-        Ok(spare)
     }
 
     /// The next key of an object, as `pair_key::<String>` returns it, in the memory of a spare string.
     fn pair_name(&mut self, comma_due: bool, spare: String) -> Result<Option<String>>
         ensures { ReadsKeyOfPair string_bytes every_text (RefusedAsKey string_key) comma_due self.old self.new result }
     {
-        if !self.advance_to_key(comma_due)? {
+        let Some(start) = self.advance_to_key(comma_due)? else {
             return Ok(None);
-        }
-        let start = self.offset();
-        match self.key_in(spare) {
-            Ok(name) => Ok(Some(name)),
-            Err(e) => Err(self.key_fault(e, start)),
-        }
+        };
+        let read = self.key_in(spare);
+        self.placed_key(read, start)
     }
 }
 

@@ -16,6 +16,8 @@ mod index_map;
 mod integer_types;
 mod integers;
 mod key;
+mod key_documents;
+mod key_texts;
 mod key_types;
 mod laws;
 mod lists;

@@ -8,7 +8,7 @@ ghost use Rattle.json5_value.specs.Places.{StartsAfter};
 ghost use Rattle.json5_de.specs.Law.{Steady};
 ghost use Rattle.json5_de.specs.Faults.{RefusedBy};
 ghost use Rattle.json5_de.specs.ObjectFaults as faults;
-ghost use Rattle.json5_de.specs.ObjectFaults.{BeginsKey, GoesToKey, NoKey, PlacedAtKey, ReadsKeyOfPair, is_unplaced};
+ghost use Rattle.json5_de.specs.ObjectFaults.{BeginsKey, GoesToKey, NoKey, PlacesKey, ReadsKeyOfPair, is_unplaced};
 
 use crate::de::Deserializer;
 use crate::key::DeserializeKey;
@@ -61,15 +61,15 @@ impl<I: Input> Deserializer<I> {
         }
     }
 
-    /// Goes to the next key and returns true, or to the closing brace and returns false.
-    pub(crate) fn advance_to_key(&mut self, comma_due: bool) -> Result<bool>
-        ensures sound { IfOk result (λ more. GoesToKey comma_due self.old self.new more) }
+    /// Goes to the next key and returns its offset, or to the closing brace and returns None.
+    pub(crate) fn advance_to_key(&mut self, comma_due: bool) -> Result<Option<usize>>
+        ensures sound { IfOk result (GoesToKey comma_due self.old self.new) }
         ensures refused { IfErr result (RefusedBy (NoKey comma_due) self.old) }
         ensures nowhere { OnErr result (self.old.failed ≡ false → NoPairGoes comma_due self.old.unread) }
         ensures steady { Steady self.old self.new result }
     {
         if !self.advance_to_entry(BracketKind::Object, comma_due)? {
-            return Ok(false);
+            return Ok(None);
         }
         if !self.at_key() {
             return Err(self.fail_unexpected(
@@ -77,17 +77,17 @@ impl<I: Input> Deserializer<I> {
                 ErrorCode::ExpectedIdentifier,
             ));
         }
-        Ok(true)
+        Ok(Some(self.offset()))
     }
 
-    /// A key's fault; without a position, it gets that of the key if its code may have one.
-    pub(crate) fn key_fault(&self, error: Error, start: usize) -> Error
-        ensures { PlacedAtKey (StartsAfter self.now.input start) error result }
+    /// A key that was read at this offset. A fault gets the key's position if it has none and may have one.
+    pub(crate) fn placed_key<K>(&self, read: Result<K>, start: usize) -> Result<Option<K>>
+        ensures { PlacesKey (StartsAfter self.now.input start) read result }
     {
-        if is_unplaced(&error) {
-            error
-        } else {
-            self.place_at(start, error)
+        match read {
+            Ok(key) => Ok(Some(key)),
+            Err(e) if is_unplaced(&e) => Err(e),
+            Err(e) => Err(self.place_at(start, e)),
         }
     }
 
@@ -95,13 +95,10 @@ impl<I: Input> Deserializer<I> {
     pub(crate) fn pair_key<K: DeserializeKey<I>>(&mut self, comma_due: bool) -> Result<Option<K>>
         ensures { ReadsKeyOfPair K.content K.convert K.refuses comma_due self.old self.new result }
     {
-        if !self.advance_to_key(comma_due)? {
+        let Some(start) = self.advance_to_key(comma_due)? else {
             return Ok(None);
-        }
-        let start = self.offset();
-        match self.read_key::<K>() {
-            Ok(key) => Ok(Some(key)),
-            Err(e) => Err(self.key_fault(e, start)),
-        }
+        };
+        let read = self.read_key::<K>();
+        self.placed_key(read, start)
     }
 }

@@ -1,17 +1,14 @@
 //! Short ways: values and steps that are read at once where no fault can come. They return small values, so that the caller's
 //! frame holds no fault. When they return None or `Other`, nothing has changed, and the reader's other calls say what is there.
 
-ghost use Rattle.std.specs.Prelude.{◌+◌, ◌≤ℤ◌, pos, nat_abs, string_bytes, IfSome};
+ghost use Rattle.std.specs.Prelude.{◌+◌, ◌≤ℤ◌, pos, nat_abs, IfSome};
 ghost use Rattle.json5_value.specs.Brackets.{brackets_of};
 ghost use Rattle.json5_de.specs.Convert.{IsUpTo, IsWithin};
 ghost use Rattle.json5_de.specs.TokenKinds.{natural_kind, integer_kind, decimal_kind};
-ghost use Rattle.json5_text.specs.Cows.{cow_bytes, is_borrowed};
-ghost use Rattle.json5_de.specs.KeyKinds.{ReadsKeyAs, escape_free_key, cow_key, string_key};
 ghost use Rattle.json5_de.specs.Short.{ReadsShort, StepsShort, ReadsShortText, ReadsShortKey, ReadsEscapeFreeText, TakesEscapeFreeKey, PassesShortColon, OwnsTextAt};
 
 use crate::de::Deserializer;
 use json5_text::ErrorCode;
-use json5_text::cow_str::CowStr;
 use json5_text::decimal::Decimal;
 use json5_text::error::{Error, Result};
 use json5_text::input::{Borrows, Input};
@@ -112,14 +109,14 @@ impl<I: Input> Deserializer<I> {
         }
     }
 
-    /// Reads a key as a string.
-    #[inline(always)]
-    pub(crate) fn key_string(&mut self) -> Result<String>
-        ensures { ReadsKeyAs string_key string_bytes self.old self.new result }
+    /// The same in the memory of a spare string.
+    pub(crate) fn text_in(&mut self, span: Span, mut spare: String) -> Result<String>
+        ensures { OwnsTextAt span self.old self.new result }
     {
-        match self.short_key() {
-            Some(span) => self.own_text(span),
-            None => self.key_string_slowly(),
+        spare.clear();
+        match spare.push_str(self.scanner.text_of_span(span)) {
+            Ok(()) => Ok(spare),
+            Err(_) => self.refuse(Error::new(ErrorCode::OutOfMemory)),
         }
     }
 }
@@ -137,32 +134,10 @@ impl<'de, I: Borrows<'de>> Deserializer<I> {
 
     /// Takes a key without an escape, or nothing.
     #[inline(always)]
-    fn short_key_str(&mut self) -> Option<&'de str>
+    pub(crate) fn short_key_str(&mut self) -> Option<&'de str>
         ensures { TakesEscapeFreeKey self.old self.new result }
     {
         let span = self.short_key()?;
         Some(self.scanner.borrowed_text_of_span(span))
-    }
-
-    /// Reads a key as a string, borrowed if no escape is used.
-    #[inline(always)]
-    pub(crate) fn key_cow(&mut self) -> Result<CowStr<'de>>
-        ensures { ReadsKeyAs cow_key (λ t. (cow_bytes t, is_borrowed t)) self.old self.new result }
-    {
-        match self.short_key_str() {
-            Some(text) => Ok(CowStr::Borrowed(text)),
-            None => self.key_cow_slowly(),
-        }
-    }
-
-    /// Reads a key without an escape.
-    #[inline(always)]
-    pub(crate) fn key_str(&mut self) -> Result<&'de str>
-        ensures { ReadsKeyAs escape_free_key (λ t. t.now) self.old self.new result }
-    {
-        match self.short_key_str() {
-            Some(text) => Ok(text),
-            None => self.key_str_slowly(),
-        }
     }
 }

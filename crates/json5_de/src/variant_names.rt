@@ -38,7 +38,8 @@ impl<I: Input> Deserializer<I> {
                 ErrorCode::ExpectedIdentifier,
             ));
         }
-        let variant = self.key_variant(variants)?;
+        let key = self.found_key()?;
+        let variant = self.variant_of(&key, variants)?;
         self.colon()?;
         Ok(variant)
     }

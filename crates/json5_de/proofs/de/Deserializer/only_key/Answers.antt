@@ -1,6 +1,9 @@
 use Rattle.std.proofs.Common.{refl}
+use Rattle.std.specs.Prelude.{Ok, Err}
 use Rattle.std.proofs.lemmas.Result.{err_from_is_err_and}
 use Rattle.json5_de.specs.Convert.{names_bytes}
+use Rattle.json5_de.specs.KeyKinds.{variant_key}
+use Rattle.json5_de.proofs.FoundKeys.{not_found, variant_key_judged}
 use Rattle.json5_de.proofs.VariantNames.{no_key_begun_faulty, no_key_begun_other, key_refused, colon_refused, only_key_read}
 use Rattle.json5_de.proofs.de.Deserializer.only_key.Goals as goal
 
@@ -13,16 +16,27 @@ pub returns-then-not-at_key : goal.returns-then-not-at_key
 returns-then-not-at_key g c =
     no_key_begun_other (names_bytes c.args.variants.now) c.args.self.now c.skip_blank.new.self c.fail_unexpected.new.self c.fail_unexpected.result c.in_ok-skip_blank.ensures.passed (c.if-not-at_key.ensures.other refl) c.fail_unexpected.ensures.fault c.fail_unexpected.ensures.state
 
+pub returns-in_err-key : goal.returns-in_err-key
+returns-in_err-key g c =
+    let (y, is, from) = err_from_is_err_and c.from_residual-in_err-key.result c.from_residual-in_err-key.ensures.1 in
+    let e = c.in_err-key.ensures in
+    rw (is, from) (key_refused (names_bytes c.args.variants.now) c.args.self.now c.skip_blank.new.self c.found_key.new.self c.in_err-key.field-0.0 c.in_ok-skip_blank.ensures.passed (c.if-not-at_key.ensures.found refl)
+    (not_found (variant_key (names_bytes c.args.variants.now)) (λ n. n) c.skip_blank.new.self c.found_key.new.self c.in_err-key.field-0.0 e.refused e.complete e.failed e.before))
+
 pub returns-in_err-variant : goal.returns-in_err-variant
 returns-in_err-variant g c =
     let (y, is, from) = err_from_is_err_and c.from_residual-in_err-variant.result c.from_residual-in_err-variant.ensures.1 in
-    rw (is, from) (key_refused (names_bytes c.args.variants.now) c.args.self.now c.skip_blank.new.self c.key_variant.new.self c.in_err-variant.field-0.0 c.in_ok-skip_blank.ensures.passed (c.if-not-at_key.ensures.found refl) c.in_err-variant.ensures)
+    rw (is, from) (key_refused (names_bytes c.args.variants.now) c.args.self.now c.skip_blank.new.self c.variant_of.new.self c.in_err-variant.field-0.0 c.in_ok-skip_blank.ensures.passed (c.if-not-at_key.ensures.found refl)
+    (variant_key_judged (names_bytes c.args.variants.now) c.skip_blank.new.self c.found_key.new.self c.variant_of.new.self c.in_ok-key.key (Err c.in_err-variant.field-0.0) c.in_ok-key.ensures.taken c.in_err-variant.ensures))
 
 pub returns-in_err-colon : goal.returns-in_err-colon
 returns-in_err-colon g c =
     let (y, is, from) = err_from_is_err_and c.from_residual-in_err-colon.result c.from_residual-in_err-colon.ensures.1 in
     let e = c.in_err-colon.ensures in
-    rw (is, from) (colon_refused (names_bytes c.args.variants.now) c.args.self.now c.skip_blank.new.self c.key_variant.new.self c.colon.new.self c.in_ok-variant.variant c.in_ok-skip_blank.ensures.passed c.in_ok-variant.ensures.sound c.in_err-colon.field-0.0 e.refused e.complete e.failed e.steady.unprompted)
+    let read = variant_key_judged (names_bytes c.args.variants.now) c.skip_blank.new.self c.found_key.new.self c.variant_of.new.self c.in_ok-key.key (Ok c.in_ok-variant.variant) c.in_ok-key.ensures.taken c.in_ok-variant.ensures in
+    rw (is, from) (colon_refused (names_bytes c.args.variants.now) c.args.self.now c.skip_blank.new.self c.variant_of.new.self c.colon.new.self c.in_ok-variant.variant c.in_ok-skip_blank.ensures.passed read.sound c.in_err-colon.field-0.0 e.refused e.complete e.failed e.steady.unprompted)
 
 pub returns : goal.returns
-returns g c = only_key_read (names_bytes c.args.variants.now) c.args.self.now c.skip_blank.new.self c.key_variant.new.self c.colon.new.self c.in_ok-variant.variant c.in_ok-skip_blank.ensures.passed c.in_ok-variant.ensures.sound c.in_ok-colon.ensures.passed
+returns g c =
+    let read = variant_key_judged (names_bytes c.args.variants.now) c.skip_blank.new.self c.found_key.new.self c.variant_of.new.self c.in_ok-key.key (Ok c.in_ok-variant.variant) c.in_ok-key.ensures.taken c.in_ok-variant.ensures in
+    only_key_read (names_bytes c.args.variants.now) c.args.self.now c.skip_blank.new.self c.variant_of.new.self c.colon.new.self c.in_ok-variant.variant c.in_ok-skip_blank.ensures.passed read.sound c.in_ok-colon.ensures.passed

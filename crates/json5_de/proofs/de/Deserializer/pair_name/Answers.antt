@@ -1,17 +1,12 @@
 use Rattle.std.proofs.Common.{Global, string_bytes}
 use Rattle.json5_de.specs.Convert.{every_text}
 use Rattle.json5_de.specs.KeyKinds.{RefusedAsKey, string_key}
-use Rattle.json5_de.proofs.PairCodes.{read_key_given, read_key_refused}
+use Rattle.json5_de.proofs.PairCodes.{read_key_placed}
 use Rattle.json5_de.proofs.de.Deserializer.pair_name.Goals as goal
 
-pub returns-in-Ok : goal.returns-in-Ok
-returns-in-Ok g c =
-    let at = rw c.if-not-branch.false at c.in_ok-advance_to_key.ensures.sound in
-    read_key_given (string_bytes {Z = Global}) every_text (RefusedAsKey string_key) c.args.comma_due c.args.self.now c.advance_to_key.new.self c.key_in.new.self at _ c.in-Ok.name
-    c.in_ok-advance_to_key.ensures.steady c.in-Ok.ensures.sound c.in-Ok.ensures.same_text
-
-pub returns-in-Err : goal.returns-in-Err
-returns-in-Err g c =
-    let at = rw c.if-not-branch.false at c.in_ok-advance_to_key.ensures.sound in
-    read_key_refused (string_bytes {Z = Global}) every_text (RefusedAsKey string_key) c.args.comma_due c.args.self.now c.advance_to_key.new.self c.key_in.new.self at _ c.in-Err.e c.key_fault.result c.offset-start.result
-    c.in_ok-advance_to_key.ensures.steady c.in-Err.ensures.complete c.in-Err.ensures.refused c.in-Err.ensures.unprompted c.in-Err.ensures.same_text c.offset-start.ensures.counted c.key_fault.ensures
+pub returns : goal.returns
+returns g c =
+    let (at, count) = rw c.in-Some.is at c.in_ok-start.ensures.sound in
+    let k = c.key_in-read.ensures in
+    read_key_placed (string_bytes {Z = Global}) every_text (RefusedAsKey string_key) c.args.comma_due c.args.self.now c.advance_to_key.new.self c.key_in-read.new.self at _ c.key_in-read.result c.placed_key.result c.in-Some.start
+    c.in_ok-start.ensures.steady (record { sound = k.sound; complete = k.complete; refused = k.refused; unprompted = k.unprompted; same_text = k.same_text }) count c.placed_key.ensures

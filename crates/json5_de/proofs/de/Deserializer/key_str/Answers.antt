@@ -1,9 +1,0 @@
-use Rattle.std.proofs.Common.{Some, ap, sym, true}
-use Rattle.json5_de.specs.Convert.{if_escape_free}
-use Rattle.json5_de.proofs.FoundKeys.{key_ok}
-use Rattle.json5_de.proofs.de.Deserializer.key_str.Goals as goal
-
-pub returns-in-Some : goal.returns-in-Some
-returns-in-Some g c =
-    let (u, took, bytes) = c.in-Some.ensures in
-    key_ok (λ t. t.now) if_escape_free _ c.args.self.now c.short_key_str.new.self _ (u, true, took, ap Some (sym bytes))

@@ -1,0 +1,10 @@
+use Rattle.std.proofs.Common.{Some, ap, sym, true, refl}
+use Rattle.json5_de.specs.Convert.{if_escape_free}
+use Rattle.json5_de.specs.Lending.{reader_of_key}
+use Rattle.json5_de.proofs.FoundKeys.{key_ok}
+use Rattle.json5_de.proofs.key.MapKey.deserialize_str.Goals as goal
+
+pub returns-in-Some : goal.returns-in-Some
+returns-in-Some g c =
+    let (u, took, bytes) = c.in-Some.ensures in
+    record { reads = key_ok (λ t. t.now) if_escape_free _ (reader_of_key c.args.self.now) c.short_key_str.new.self _ (u, true, took, ap Some (sym bytes)); same_reference = refl }

@@ -1,0 +1,210 @@
+//! Keys that are read as a document of their own: the key is a string or an identifier, and its text a value.
+
+ghost use Rattle.std.specs.Prelude.{◌≡◌, ◌^◌};
+ghost use Rattle.json5_text.specs.Errors.{kind_of};
+ghost use Rattle.json5_de.specs.TokenKinds.{bool_kind, natural_kind, integer_kind, decimal_kind};
+ghost use Rattle.json5_de.specs.KeyKinds.{ReadsKeyAs, document_key};
+ghost use Rattle.json5_de.specs.KeySteps.{IsTextFault, is_out_of_memory};
+
+use crate::de::Deserializer;
+use crate::key::MapKey;
+use crate::key_types::FromText;
+use json5_text::ErrorCode;
+use json5_text::decimal::Decimal;
+use json5_text::error::{Error, Result};
+use json5_text::input::Input;
+
+impl<I: Input> MapKey<'_, I> {
+    ghost use Rattle.json5_de.specs.Lending.{KeyReads, ReadsNullKey};
+
+    /// Reads a key whose text is `null`, blanks and comments round it included: `{null: 1}`, `{' null ': 1}`.
+    ///
+    /// # Errors
+    ///
+    /// As every call that reads a document: see [`MapKey`].
+    pub fn deserialize_unit(&mut self) -> Result<()>
+        ensures { ReadsNullKey self.old self.new result }
+    {
+        self.de.key_document()
+    }
+
+    /// Reads a key whose text is `null`, as a struct without fields. The name changes nothing.
+    ///
+    /// # Errors
+    ///
+    /// As every call that reads a document: see [`MapKey`].
+    pub fn deserialize_unit_struct(&mut self, _name: &'static str) -> Result<()>
+        ensures { ReadsNullKey self.old self.new result }
+    {
+        self.deserialize_unit()
+    }
+
+    /// Reads a key whose text is `true` or `false`, blanks and comments round it included.
+    ///
+    /// # Errors
+    ///
+    /// As every call that reads a document: see [`MapKey`].
+    pub fn deserialize_bool(&mut self) -> Result<bool>
+        ensures { KeyReads (document_key bool_kind) (λ b. b) self.old self.new result }
+    {
+        self.de.key_document()
+    }
+
+    /// Reads a key whose text is a whole number from 0 to 255, blanks and comments round it included.
+    ///
+    /// ```text
+    /// key.deserialize_u8()?    // 16 of the keys `'16'`, `'0x10'` and `' 16 '`
+    /// ```
+    ///
+    /// # Errors
+    ///
+    /// As every call that reads a document: see [`MapKey`].
+    pub fn deserialize_u8(&mut self) -> Result<u8>
+        ensures { KeyReads (document_key (natural_kind (2 ^ 8))) (λ n. n) self.old self.new result }
+    {
+        self.de.key_document()
+    }
+
+    /// Reads a key whose text is a whole number from 0 to 65535.
+    ///
+    /// # Errors
+    ///
+    /// As every call that reads a document: see [`MapKey`].
+    pub fn deserialize_u16(&mut self) -> Result<u16>
+        ensures { KeyReads (document_key (natural_kind (2 ^ 16))) (λ n. n) self.old self.new result }
+    {
+        self.de.key_document()
+    }
+
+    /// Reads a key whose text is a whole number from 0 to 2^32 - 1.
+    ///
+    /// # Errors
+    ///
+    /// As every call that reads a document: see [`MapKey`].
+    pub fn deserialize_u32(&mut self) -> Result<u32>
+        ensures { KeyReads (document_key (natural_kind (2 ^ 32))) (λ n. n) self.old self.new result }
+    {
+        self.de.key_document()
+    }
+
+    /// Reads a key whose text is a whole number from 0 to 2^64 - 1.
+    ///
+    /// # Errors
+    ///
+    /// As every call that reads a document: see [`MapKey`].
+    pub fn deserialize_u64(&mut self) -> Result<u64>
+        ensures { KeyReads (document_key (natural_kind (2 ^ 64))) (λ n. n) self.old self.new result }
+    {
+        self.de.key_document()
+    }
+
+    /// Reads a key whose text is a whole number from 0 to 2^128 - 1.
+    ///
+    /// # Errors
+    ///
+    /// As every call that reads a document: see [`MapKey`].
+    pub fn deserialize_u128(&mut self) -> Result<u128>
+        ensures { KeyReads (document_key (natural_kind (2 ^ 128))) (λ n. n) self.old self.new result }
+    {
+        self.de.key_document()
+    }
+
+    /// Reads a key whose text is a whole number from -128 to 127.
+    ///
+    /// # Errors
+    ///
+    /// As every call that reads a document: see [`MapKey`].
+    pub fn deserialize_i8(&mut self) -> Result<i8>
+        ensures { KeyReads (document_key (integer_kind (2 ^ 7))) (λ n. n) self.old self.new result }
+    {
+        self.de.key_document()
+    }
+
+    /// Reads a key whose text is a whole number from -32768 to 32767.
+    ///
+    /// # Errors
+    ///
+    /// As every call that reads a document: see [`MapKey`].
+    pub fn deserialize_i16(&mut self) -> Result<i16>
+        ensures { KeyReads (document_key (integer_kind (2 ^ 15))) (λ n. n) self.old self.new result }
+    {
+        self.de.key_document()
+    }
+
+    /// Reads a key whose text is a whole number from -2^31 to 2^31 - 1.
+    ///
+    /// # Errors
+    ///
+    /// As every call that reads a document: see [`MapKey`].
+    pub fn deserialize_i32(&mut self) -> Result<i32>
+        ensures { KeyReads (document_key (integer_kind (2 ^ 31))) (λ n. n) self.old self.new result }
+    {
+        self.de.key_document()
+    }
+
+    /// Reads a key whose text is a whole number from -2^63 to 2^63 - 1.
+    ///
+    /// # Errors
+    ///
+    /// As every call that reads a document: see [`MapKey`].
+    pub fn deserialize_i64(&mut self) -> Result<i64>
+        ensures { KeyReads (document_key (integer_kind (2 ^ 63))) (λ n. n) self.old self.new result }
+    {
+        self.de.key_document()
+    }
+
+    /// Reads a key whose text is a whole number from -2^127 to 2^127 - 1.
+    ///
+    /// # Errors
+    ///
+    /// As every call that reads a document: see [`MapKey`].
+    pub fn deserialize_i128(&mut self) -> Result<i128>
+        ensures { KeyReads (document_key (integer_kind (2 ^ 127))) (λ n. n) self.old self.new result }
+    {
+        self.de.key_document()
+    }
+
+    /// Reads a key whose text is a number of any kind, as a decimal.
+    ///
+    /// # Errors
+    ///
+    /// As every call that reads a document: see [`MapKey`].
+    pub fn deserialize_decimal(&mut self) -> Result<Decimal>
+        ensures { KeyReads (document_key decimal_kind) (λ d. d) self.old self.new result }
+    {
+        self.de.key_document()
+    }
+}
+
+/// Whether the fault says that memory ran out.
+fn is_out_of_memory(error: &Error) -> bool
+    ensures { result ≡ is_out_of_memory (kind_of error.now) }
+{
+    matches!(error.code(), Some(ErrorCode::OutOfMemory))
+}
+
+impl<I: Input> Deserializer<I> {
+    /// Reads a key as a document of its own.
+    pub(crate) fn key_document<T: FromText>(&mut self) -> Result<T>
+        ensures { ReadsKeyAs (document_key T.kind) T.content self.old self.new result }
+    {
+        let key = self.found_key()?;
+        match T::from_text(self.allocator(), self.token_text(&key.token)) {
+            Ok(value) => Ok(value),
+            Err(e) => {
+                let error = self.text_fault(e, key.start);
+                self.refuse(error)
+            }
+        }
+    }
+
+    /// The fault of a key's text, at the key. That memory ran out has no place.
+    fn text_fault(&self, error: Error, start: usize) -> Error
+        ensures { IsTextFault self.now.input start error result }
+    {
+        if is_out_of_memory(&error) {
+            return Error::new(ErrorCode::OutOfMemory);
+        }
+        error.at(self.position_of(start))
+    }
+}

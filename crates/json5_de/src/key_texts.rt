@@ -1,0 +1,182 @@
+//! Keys that are read as their text, or as what it spells (JSON5 section 3).
+
+ghost use Rattle.std.specs.Prelude.{◌≡◌, string_bytes};
+ghost use Rattle.json5_text.specs.Cows.{cow_bytes, is_borrowed};
+ghost use Rattle.json5_de.specs.Convert.{names_bytes};
+ghost use Rattle.json5_de.specs.KeyKinds.{ReadsKeyAs, string_key, char_key, escape_free_key, cow_key, variant_key, ignored_key};
+
+use crate::de::Deserializer;
+use crate::key::MapKey;
+use crate::mismatch::Mismatch;
+use json5_text::byte_buf::ByteBuf;
+use json5_text::cow_str::CowStr;
+use json5_text::error::Result;
+use json5_text::input::{Borrows, Input};
+
+impl<I: Input> MapKey<'_, I> {
+    ghost use Rattle.json5_de.specs.Lending.{KeyReads, ReadsBytesKey};
+
+    /// Reads the key and returns its text, escapes replaced, in a `String` of its own.
+    ///
+    /// # Errors
+    ///
+    /// As every call: see [`MapKey`].
+    pub fn deserialize_string(&mut self) -> Result<String>
+        ensures { KeyReads string_key string_bytes self.old self.new result }
+    {
+        match self.de.short_key() {
+            Some(span) => self.de.own_text(span),
+            None => self.de.key_string_slowly(),
+        }
+    }
+
+    /// Reads a key of exactly one character.
+    ///
+    /// # Errors
+    ///
+    /// - A custom fault at the key where it has no character or several.
+    /// - The codes of every call: see [`MapKey`].
+    pub fn deserialize_char(&mut self) -> Result<char>
+        ensures { KeyReads char_key (λ c. c) self.old self.new result }
+    {
+        let key = self.de.found_key()?;
+        self.de.character_of(&key)
+    }
+
+    /// Reads a key that is one of the variants, and returns its index among them, counted from 0; of equal names it is the
+    /// first. The name of the enum changes nothing.
+    ///
+    /// ```text
+    /// let color = key.deserialize_enum("Color", &["red", "green", "blue"])?;    // 2 for the key `blue`
+    /// ```
+    ///
+    /// # Errors
+    ///
+    /// - A custom fault that lists the variants, at any other key.
+    /// - The codes of every call: see [`MapKey`].
+    pub fn deserialize_enum(&mut self, _name: &'static str, variants: &[&str]) -> Result<usize>
+        ensures { KeyReads (variant_key (names_bytes variants.now)) (λ n. n) self.old self.new result }
+    {
+        let key = self.de.found_key()?;
+        self.de.variant_of(&key, variants)
+    }
+
+    /// Reads a key of any text, and keeps nothing of it.
+    ///
+    /// # Errors
+    ///
+    /// As every call: see [`MapKey`].
+    pub fn deserialize_ignored_any(&mut self) -> Result<()>
+        ensures { KeyReads ignored_key (λ _. tt) self.old self.new result }
+    {
+        self.de.found_key()?;
+        Ok(())
+    }
+
+    /// Reads a key as bytes: its text is an even number of ASCII hexadecimal digits, in either case, two a byte.
+    ///
+    /// # Errors
+    ///
+    /// - `InvalidBytes` at a key of any other text.
+    /// - The codes of every call: see [`MapKey`].
+    pub fn deserialize_bytes(&mut self) -> Result<ByteBuf>
+        ensures { ReadsBytesKey self.old self.new result }
+    {
+        let key = self.de.found_key()?;
+        self.de.bytes_of(&key)
+    }
+
+    /// Reads a key as bytes, as [`deserialize_bytes`](MapKey::deserialize_bytes) does.
+    ///
+    /// # Errors
+    ///
+    /// As `deserialize_bytes`.
+    pub fn deserialize_byte_buf(&mut self) -> Result<ByteBuf>
+        ensures { ReadsBytesKey self.old self.new result }
+    {
+        self.deserialize_bytes()
+    }
+}
+
+// What is borrowed from the text.
+impl<'de, I: Borrows<'de>> MapKey<'_, I> {
+    ghost use Rattle.json5_de.specs.Lending.{KeyReads, ReadsCowKey};
+
+    /// Reads a key without an escape, and returns its slice of the input, without quotes.
+    ///
+    /// # Errors
+    ///
+    /// - A custom fault at a key that has an escape.
+    /// - The codes of every call: see [`MapKey`].
+    pub fn deserialize_str(&mut self) -> Result<&'de str>
+        ensures { KeyReads escape_free_key (λ t. t.now) self.old self.new result }
+    {
+        match self.de.short_key_str() {
+            Some(text) => Ok(text),
+            None => self.de.key_str_slowly(),
+        }
+    }
+
+    /// Reads the key and returns its text, borrowed from the input where the key has no escape.
+    ///
+    /// # Errors
+    ///
+    /// As every call: see [`MapKey`].
+    pub fn deserialize_identifier(&mut self) -> Result<CowStr<'de>>
+        ensures { ReadsCowKey self.old self.new result }
+    {
+        match self.de.short_key_str() {
+            Some(text) => Ok(CowStr::Borrowed(text)),
+            None => self.de.key_cow_slowly(),
+        }
+    }
+
+    /// Reads a key of any text, as [`deserialize_identifier`](MapKey::deserialize_identifier) does.
+    ///
+    /// # Errors
+    ///
+    /// As every call: see [`MapKey`].
+    pub fn deserialize_any(&mut self) -> Result<CowStr<'de>>
+        ensures { ReadsCowKey self.old self.new result }
+    {
+        self.deserialize_identifier()
+    }
+}
+
+impl<I: Input> Deserializer<I> {
+    /// Reads any key as a text.
+    #[inline(never)]
+    pub(crate) fn key_string_slowly(&mut self) -> Result<String>
+        ensures { ReadsKeyAs string_key string_bytes self.old self.new result }
+    {
+        let key = self.found_key()?;
+        match self.own_key_text(key.token) {
+            Ok(text) => Ok(text),
+            Err(e) => self.refuse(e),
+        }
+    }
+}
+
+// What is borrowed from the text.
+impl<'de, I: Borrows<'de>> Deserializer<I> {
+    /// Reads a key as a text, borrowed where no escape is used.
+    #[inline(never)]
+    fn key_cow_slowly(&mut self) -> Result<CowStr<'de>>
+        ensures { ReadsKeyAs cow_key (λ t. (cow_bytes t, is_borrowed t)) self.old self.new result }
+    {
+        let key = self.found_key()?;
+        Ok(self.borrowed_key_text(key.token))
+    }
+
+    /// Reads a key without an escape.
+    #[inline(never)]
+    fn key_str_slowly(&mut self) -> Result<&'de str>
+        ensures { ReadsKeyAs escape_free_key (λ t. t.now) self.old self.new result }
+    {
+        let key = self.found_key()?;
+        match self.borrowed_key_text(key.token) {
+            CowStr::Borrowed(text) => Ok(text),
+            CowStr::Owned(text) => self.mismatch(key.start, &Mismatch::Escaped(text.as_str())),
+        }
+    }
+}
