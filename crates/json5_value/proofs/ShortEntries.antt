@@ -1,6 +1,9 @@
 -- The short ways to entries and past values take what reading on lists takes.
-use Rattle.std.proofs.Common.{◌≡◌, ℕ, Bool, true, false, List, [], ◌∷◌, ◌++◌, length, refl, ap, sym, ◌∙◌, subst, append_assoc, arith, length-append, inl, inr, Option, Some, None}
-use Rattle.std.specs.Prelude.{◌==◌, ℤ, Ok, Result, is_some, not}
+use Rattle.std.proofs.Common.{◌≡◌, ℕ, Bool, true, false, List, [], ◌∷◌, ◌++◌, length, refl, ap, sym, ◌∙◌, subst, append_assoc, arith, length-append, inl, inr, Option, Some, None, String, string_bytes}
+use Rattle.std.specs.Prelude.{◌==◌, ℤ, Ok, Result, Err, is_some, not}
+use Rattle.std.specs.declared.alloc.Global.{Global}
+use Rattle.std.specs.Str.{all_scalars, chars}
+use Rattle.std.proofs.lemmas.Str.{chars-encodes}
 use Rattle.std.proofs.lemmas.Bool.{both_ways}
 use Rattle.json5_grammar.specs.Language.Blanks as blanks
 use Rattle.json5_grammar.specs.Language.Blanks.{is_solid, Gap, Solid}
@@ -14,8 +17,8 @@ use Rattle.json5_grammar.specs.Model.ReadSteps.{forget, colon_after, separator, 
 use Rattle.json5_grammar.specs.Model.ReadTexts.{key}
 use Rattle.json5_grammar.specs.Model.ReadValues.{read, colon_at}
 use Rattle.json5_grammar.specs.Language.Trees as trees
-use Rattle.json5_grammar.specs.Language.Strings.{is_quote}
-use Rattle.json5_grammar.specs.Language.Values.{Reads, is_number}
+use Rattle.json5_grammar.specs.Language.Strings.{Str, is_quote}
+use Rattle.json5_grammar.specs.Language.Values.{Reads, Val, is_number, is_text}
 use Rattle.json5_grammar.proofs.Basics.{same_char}
 use Rattle.json5_grammar.proofs.BlanksRead.{begins_solid}
 use Rattle.json5_grammar.proofs.BlanksSound.{gap_read, gap_before, one_gap}
@@ -26,6 +29,7 @@ use Rattle.json5_grammar.proofs.KeysRead.{key_complete}
 use Rattle.json5_grammar.proofs.ValueHeads.{val_head, value_solid, begins_value_solid, key_head, key_solid}
 use Rattle.json5_grammar.proofs.ValuesRead.{read_complete}
 use Rattle.json5_text.specs.declared.value.Value.{Value}
+use Rattle.json5_text.specs.declared.value.Value as value
 use Rattle.json5_text.specs.ValueViews.{value_of}
 use Rattle.json5_text.specs.ValueViews as datum
 use Rattle.json5_text.specs.Cursor.{Cursor, Took}
@@ -34,7 +38,10 @@ use Rattle.json5_text.specs.declared.short.ShortStep.{ShortStep}
 use Rattle.json5_text.specs.declared.short.ShortStep.TheVariants as steps
 use Rattle.json5_text.specs.declared.short_texts.Span.{Span}
 use Rattle.json5_text.specs.Short.{AfterGap, StepsTo, IsStep, Stepped, TookWhole, TakesShortWhole, TakesShortStep, TakesShortSign}
-use Rattle.json5_text.specs.ShortTexts.{TakesShortKey, TakesShortString}
+use Rattle.json5_text.specs.ShortTexts.{TakesShortKey, TakesShortString, IsTextAt}
+use Rattle.json5_text.specs.TextTokens.{IsSliceAt}
+use Rattle.json5_text.specs.Errors.{LacksMemory}
+use Rattle.json5_text.proofs.TextScalars.{key_scalars}
 use Rattle.json5_value.specs.declared.brackets.Brackets.{Brackets}
 use Rattle.json5_value.specs.declared.brackets.BracketKind.{BracketKind as OwnKind}
 use Rattle.json5_value.specs.declared.brackets.BracketKind.TheVariants as kind
@@ -46,11 +53,12 @@ use Rattle.json5_value.specs.declared.short.ShortEntry.TheVariants as entry
 use Rattle.json5_value.specs.Brackets.{bracket_of, brackets_of}
 use Rattle.json5_value.specs.Entries.{entry_front, entry_start, next_entry}
 use Rattle.json5_value.specs.Kinds.{kind_at}
-use Rattle.json5_value.specs.Keeping.{Keeps, IsOfTree, tree_at}
-use Rattle.json5_value.specs.Opening.{AtScalar, AtNumber}
+use Rattle.json5_value.specs.Keeping.{Keeps, IsOfTree, IsKeyText, OwnsText, tree_at}
+use Rattle.json5_value.specs.Opening.{AtScalar, AtKind}
 use Rattle.json5_value.specs.Short.{EntersShort, ReachesMember, PassesShort, PassesTo, name_at, name_left}
 use Rattle.json5_value.specs.Steps.{IsInside, Gave, Steps}
-use Rattle.json5_value.proofs.BuildScalars.{scalar_taken}
+use Rattle.json5_value.proofs.BuildScalars.{scalar_taken, text_taken}
+use Rattle.json5_value.proofs.BuildSteps.{takes, not_taken, gave_text}
 use Rattle.json5_value.proofs.EntrySteps.{separator_is, front_closes, front_goes, closes_here, start_or_end}
 use Rattle.json5_value.proofs.EntryValues.{next_is, head_or_end, head_of, head_named, next_closed, element_reached}
 use Rattle.json5_value.proofs.Scalars.{number_value, tests_of}
@@ -220,11 +228,16 @@ same_front reading old mid new result same k = subst (λ (s : Cursor). Steps (re
 
 -- ---- strings
 
-string_passed : (old new : Cursor) (c : ℕ) (found : ValueKind) (span : Span) → AtScalar c old → found ≡ kind_at c → found ≡ kinds.String → TakesShortString old new (Some span) → PassesShort old new true
-string_passed old new c found span at is string k room =
+-- no blanks stand before it
+string_split : (old new : Cursor) (c : ℕ) (found : ValueKind) (span : Span) → AtScalar c old → found ≡ kind_at c → found ≡ kinds.String → (k : TakesShortString old new (Some span)) → old.unread ≡ k.read.phrase ++ new.unread
+string_split old new c found span at is string k =
     let (r, x) = some_next old.unread c at.first in
     let solid : Solid old.unread = subst Solid (sym x) (begins_solid c r (begins_value_solid c (quote_begins c (tests_of c found kinds.String is string)))) in
-    let split = phrase_found old.unread [] old.unread new.unread (trees.text k.spelled true) refl (blanks.Gap.blanks blanks.Blanks.empty) solid k.read in
+    phrase_found old.unread [] old.unread new.unread (trees.text k.spelled true) refl (blanks.Gap.blanks blanks.Blanks.empty) solid k.read
+
+string_passed : (old new : Cursor) (c : ℕ) (found : ValueKind) (span : Span) → AtScalar c old → found ≡ kind_at c → found ≡ kinds.String → TakesShortString old new (Some span) → PassesShort old new true
+string_passed old new c found span at is string k room =
+    let split = string_split old new c found span at is string k in
     record {
       reads = ap (λ z. forget (read room z)) split ∙ ap forget (read_complete k.read.value new.unread k.read.stops room (omega arith));
       taken = k.read.phrase;
@@ -257,13 +270,38 @@ pub number_short : (low high : ℤ) (old new : Cursor) (c : ℕ) (found : ValueK
 number_short low high old new c found None b at is number same e = subst (PassesShort old new) (sym e) same
 number_short low high old new c found (Some z) b at is number k e = subst (PassesShort old new) (sym e) (number_passed old new c found z at is number k.took)
 
+-- ---- texts, which are kept
+
+str_of : {s u : List ℕ} {escape_free : Bool} → Val s (trees.text u escape_free) → Str s u escape_free
+str_of (is_text k) = k
+
+pub string_kept : (room : ℕ) (old new : Cursor) (span : Span) (t : String Global) → AtKind kinds.String old → all_scalars old.unread ≡ true → TakesShortString old new (Some span) → IsTextAt new.input span (string_bytes t) → Keeps IsOfTree (tree_at room old) old new (Ok (value.String t))
+string_kept room old new span t at scalars k is =
+    let split = string_split old new at.char (kind_at at.char) span at.scalar refl at.is k in
+    text_taken room old new t scalars (k.read.phrase, k.spelled, true, record { split = split; same = k.same }, str_of k.read.value, is k.spelled (subst (λ z. IsSliceAt z k.spelled span.start span.end) (sym k.same) k.stands))
+
+-- memory ran out for the text
+pub string_lost : (room : ℕ) (old new : Cursor) (span : Span) (e : Error) → TakesShortString old new (Some span) → LacksMemory e → Keeps IsOfTree (tree_at room old) old new (Err e)
+string_lost room old new span e k lacks = not_taken old new (tree_at room old) e (inl lacks.kind) k.same
+
+pub short_key_kept : (old new : Cursor) (span : Span) (result : Result (String Global) Error) → Solid old.unread → all_scalars old.unread ≡ true → TakesShortKey old new (Some span) → OwnsText new.input span result → Keeps IsKeyText (key old.unread) old new result
+short_key_kept old new span (Ok t) solid scalars k is =
+    let split = key_spelled old.unread k.spelled new.unread solid k.read in
+    takes old new (key old.unread) (k.spelled, true) t
+    (ap chars (is k.spelled (subst (λ z. IsSliceAt z k.spelled span.start span.end) (sym k.same) k.stands)) ∙ chars-encodes k.spelled (key_scalars old.unread new.unread split scalars k.read.key))
+    (gave_text old new (key old.unread) (k.spelled, true) k.read.spelling (ap key split ∙ key_complete k.read.key) (record { split = split; same = k.same }))
+short_key_kept old new span (Err e) solid scalars k lacks = not_taken old new (key old.unread) e (inl lacks.kind) k.same
+
+pub key_front : (old mid new : Cursor) (result : Result (String Global) Error) → mid ≡ old → Keeps IsKeyText (key mid.unread) mid new result → Keeps IsKeyText (key old.unread) old new result
+key_front old mid new result same k = subst (λ (s : Cursor). Keeps IsKeyText (key s.unread) s new result) same k
+
 -- ---- numbers, which are kept
 
-pub number_kept : (room : ℕ) (old new : Cursor) (c : ℕ) (z : ℤ) (v : Value) → AtNumber c old → TookWhole old new z → value_of v ≡ datum.number (whole z) → Keeps IsOfTree (tree_at room old) old new (Ok v)
-number_kept room old new c z v at k is = scalar_taken room old new k.literal (trees.number (whole z)) v refl (number_took old new c (kind_at c) z at.scalar refl at.number k) (is_number k.is_number) k.stops is
+pub number_kept : (room : ℕ) (old new : Cursor) (z : ℤ) (v : Value) → AtKind kinds.Number old → TookWhole old new z → value_of v ≡ datum.number (whole z) → Keeps IsOfTree (tree_at room old) old new (Ok v)
+number_kept room old new z v at k is = scalar_taken room old new k.literal (trees.number (whole z)) v refl (number_took old new at.char (kind_at at.char) z at.scalar refl at.is k) (is_number k.is_number) k.stops is
 
-pub number_front : (old mid : Cursor) (c : ℕ) → mid ≡ old → AtNumber c old → AtNumber c mid
-number_front old mid c same at = subst (AtNumber c) (sym same) at
+pub kind_front : (k : ValueKind) (old mid : Cursor) → mid ≡ old → AtKind k old → AtKind k mid
+kind_front k old mid same at = subst (AtKind k) (sym same) at
 
 pub kept_front : (room : ℕ) (old mid new : Cursor) (result : Result Value Error) → mid ≡ old → Keeps IsOfTree (tree_at room mid) mid new result → Keeps IsOfTree (tree_at room old) old new result
 kept_front room old mid new result same k = subst (λ (s : Cursor). Keeps IsOfTree (tree_at room s) s new result) same k
