@@ -12,9 +12,12 @@ use Rattle.json5_grammar.specs.Model.Reading.{Read, inner, got, bad, and_then}
 use Rattle.json5_grammar.specs.Model.ReadBlanks.{skip, between}
 use Rattle.json5_grammar.specs.Model.ReadSteps.{colon_after, key_head, key_at, member_head, member_at, next_value, separator}
 use Rattle.json5_grammar.specs.Model.ReadTexts.{key, string, identifier}
+use Rattle.json5_grammar.specs.Language.Blanks.{Solid}
 use Rattle.json5_grammar.specs.Language.Strings.{is_quote}
+use Rattle.json5_grammar.proofs.Found.{Found}
 use Rattle.json5_grammar.proofs.KeysRead.{key_complete}
 use Rattle.json5_grammar.proofs.Refusals.{Refuses}
+use Rattle.json5_grammar.proofs.ValuesSound.{IsGap, gap_found}
 use Rattle.json5_text.specs.declared.error.Error.{Error}
 use Rattle.json5_text.specs.declared.text_token.TextToken.{TextToken}
 use Rattle.json5_text.specs.Cursor.{Cursor}
@@ -140,6 +143,35 @@ module _ (comma_due goes : Bool) (old mid : Cursor) (is : goes ≡ true) (g : Ga
       key_next new (Ok (Some t))
       (takes_then mid last new (key mid.unread) a key_and_colon (Ok (Some t)) k
       (takes last new (key_and_colon a last.unread) (Some a) (Some t) same (gave_text last new (key_and_colon a last.unread) (Some a) c.taken (ap (λ m. and_then m (λ u y. got (Some a) y)) c.reads) c.took)))
+
+-- ---- an entry begins with no blank
+
+entry_solid : (x y : List ℕ) → entry_start of_object x ≡ got true y → Solid y
+entry_solid x y e = by_gap (skip between x) (gap_found x) e
+  where
+    front : (z : List ℕ) → Solid z → entry_front of_object z ≡ got true y → Solid y
+    front [] s k = let same : [] ≡ y = cc in subst Solid same s
+    front (c ∷ r) s k = by_test (c == closing of_object) k
+      where
+        by_test : (b : Bool) → cond b (got false r) (got true (c ∷ r)) ≡ got true y → Solid y
+        by_test true k = absurd (cc)
+        by_test false k = let same : c ∷ r ≡ y = cc in subst Solid same s
+
+    by_gap : (m : Read (Unit {0})) → Found (IsGap x) x m → and_then m (λ u z. entry_front of_object z) ≡ got true y → Solid y
+    by_gap (got u z) g k = front z g.3 k
+    by_gap (bad c p) g k = absurd (cc)
+
+pub next_solid : (comma_due goes : Bool) (x y : List ℕ) → next_entry of_object comma_due x ≡ got goes y → goes ≡ true → Solid y
+next_solid comma_due goes x y e is = by_due comma_due (e ∙ ap (λ b. got b y) is)
+  where
+    by_due : (comma_due : Bool) → next_entry of_object comma_due x ≡ got true y → Solid y
+    by_due false k = entry_solid x y k
+    by_due true k = by_comma (separator of_object x) k
+      where
+        by_comma : (m : Read Bool) → and_then m (λ more z. cond more (entry_start of_object z) (got false z)) ≡ got true y → Solid y
+        by_comma (got true z) k = entry_solid z y k
+        by_comma (got false z) k = absurd (cc)
+        by_comma (bad c p) k = absurd (cc)
 
 -- ---- a key takes something
 

@@ -12,6 +12,7 @@ use Rattle.json5_text.specs.declared.error.Error.{Error}
 use Rattle.json5_text.specs.Errors.{code, kind_of, place_of}
 use Rattle.json5_text.specs.Cursor.{Cursor}
 use Rattle.json5_value.specs.Entries.{entry_front, entry_start, next_entry}
+use Rattle.json5_value.specs.Short.{name_at}
 use Rattle.json5_value.specs.Steps.{SameText, RefusesRead, Gave, Steps}
 use Rattle.json5_value.proofs.EntrySteps.{start_or_end}
 use Rattle.json5_value.proofs.Steps.{none_next, some_next, blames_made, then_step, first_step_refused, same_step, took_step, refused_step, took_nothing}
@@ -78,31 +79,26 @@ next_found k l comma_due goes old mid new result e is g s =
 pub element_reached : (k : BracketKind) (comma_due goes : Bool) (old mid : Cursor) → k ≡ of_array → goes ≡ true → Gave (next_entry k comma_due old.unread) goes old mid → Steps (next_value k comma_due old.unread) old mid (Ok true)
 element_reached k comma_due goes old mid e is g = next_found k of_array comma_due goes old mid mid (Ok true) e is g (took_step mid mid (got true mid.unread) true [] refl (took_nothing mid mid refl))
 
-forget_then : {A B : Type 0} (m : Read A) (f : List ℕ → Read B) → and_then m (λ a r. f r) ≡ and_then (forget m) (λ u r. f r)
-forget_then (got a r) f = refl
-forget_then (bad e p) f = refl
-
-abbrev after_key : List ℕ → Read Bool
-after_key r = and_then (colon_after r) (λ u y. got true y)
+-- a member is a key, a colon and its value
+pub head_named : (y : List ℕ) → pair_head y ≡ and_then (name_at y) (λ u z. got true z)
+head_named y = by_key (key y)
+  where
+    by_key : (m : Read (List ℕ × Bool)) → and_then m (λ a r. and_then (colon_after r) (λ u y. got true y)) ≡ and_then (and_then (forget m) (λ u r. colon_after r)) (λ u z. got true z)
+    by_key (got a r) = refl
+    by_key (bad e p) = refl
 
 module _ (k : BracketKind) (comma_due goes : Bool) (old mid : Cursor) (e : k ≡ of_object) (is : goes ≡ true) (g : Gave (next_entry k comma_due old.unread) goes old mid) where
-  of_member : (new : Cursor) (result : Result Bool Error) → Steps (and_then (forget (key mid.unread)) (λ v r. after_key r)) mid new result → Steps (next_value k comma_due old.unread) old new result
-  of_member new result s = next_found k of_object comma_due goes old mid new result e is g (same_step mid new (pair_head mid.unread) _ result (forget_then (key mid.unread) after_key) s)
+  of_member : (new : Cursor) (result : Result Bool Error) → Steps (and_then (name_at mid.unread) (λ u y. got true y)) mid new result → Steps (next_value k comma_due old.unread) old new result
+  of_member new result s = next_found k of_object comma_due goes old mid new result e is g (same_step mid new (pair_head mid.unread) _ result (head_named mid.unread) s)
 
-  -- its key is refused
-  pub key_refused : (new : Cursor) (own : Error) → RefusesRead mid.input (forget (key mid.unread)) own → SameText mid new → Steps (next_value k comma_due old.unread) old new (Err own)
-  key_refused new own b f = of_member new (Err own) (first_step_refused mid new (forget (key mid.unread)) (λ v r. after_key r) own b f)
-
-  -- its colon is refused
-  pub colon_refused : (last new : Cursor) (v : Unit {0}) (own : Error) → Gave (forget (key mid.unread)) v mid last → RefusesRead last.input (colon_after last.unread) own → SameText last new → Steps (next_value k comma_due old.unread) old new (Err own)
-  colon_refused last new v own name b f =
-      of_member new (Err own) (then_step mid last new (forget (key mid.unread)) v (λ v r. after_key r) (Err own) name (first_step_refused last new (colon_after last.unread) (λ u y. got true y) own b f))
+  -- its name is refused
+  pub name_refused : (new : Cursor) (own : Error) → RefusesRead mid.input (name_at mid.unread) own → SameText mid new → Steps (next_value k comma_due old.unread) old new (Err own)
+  name_refused new own b f = of_member new (Err own) (first_step_refused mid new (name_at mid.unread) (λ u y. got true y) own b f)
 
   -- its value is next
-  pub member_reached : (last new : Cursor) (v w : Unit {0}) → Gave (forget (key mid.unread)) v mid last → Gave (colon_after last.unread) w last new → Steps (next_value k comma_due old.unread) old new (Ok true)
-  member_reached last new v w name colon =
-      of_member new (Ok true) (then_step mid last new (forget (key mid.unread)) v (λ v r. after_key r) (Ok true) name
-      (took_step last new (after_key last.unread) true colon.taken (ap (λ m. and_then m (λ u y. got true y)) colon.reads) colon.took))
+  pub member_reached : (new : Cursor) (u : Unit {0}) → Gave (name_at mid.unread) u mid new → Steps (next_value k comma_due old.unread) old new (Ok true)
+  member_reached new u name =
+      of_member new (Ok true) (took_step mid new (and_then (name_at mid.unread) (λ u y. got true y)) true name.taken (ap (λ m. and_then m (λ u y. got true y)) name.reads) name.took)
 
 -- ---- keys
 

@@ -1,50 +1,70 @@
 -- The short ways to entries and past values take what reading on lists takes.
-use Rattle.std.proofs.Common.{◌≡◌, ℕ, Bool, true, false, List, [], ◌∷◌, ◌++◌, refl, ap, sym, ◌∙◌, subst, append_assoc, inl, inr, Option, Some, None}
-use Rattle.std.specs.Prelude.{◌==◌, ℤ, Ok, Result, is_some}
+use Rattle.std.proofs.Common.{◌≡◌, ℕ, Bool, true, false, List, [], ◌∷◌, ◌++◌, length, refl, ap, sym, ◌∙◌, subst, append_assoc, arith, length-append, inl, inr, Option, Some, None, String, string_bytes}
+use Rattle.std.specs.Prelude.{◌==◌, ℤ, Ok, Result, Err, is_some, not}
+use Rattle.std.specs.declared.alloc.Global.{Global}
+use Rattle.std.specs.Str.{all_scalars, chars}
+use Rattle.std.proofs.lemmas.Str.{chars-encodes}
 use Rattle.std.proofs.lemmas.Bool.{both_ways}
 use Rattle.json5_grammar.specs.Language.Blanks as blanks
 use Rattle.json5_grammar.specs.Language.Blanks.{is_solid, Gap, Solid}
 use Rattle.json5_grammar.specs.Language.Characters.{NotBegun}
 use Rattle.json5_grammar.specs.Faults.Fronts.{BracketKind, of_array, of_object, closing}
-use Rattle.json5_grammar.specs.Model.Collections.{IsSign, IsEnd}
+use Rattle.json5_grammar.specs.Model.Collections.{IsSign, IsEnd, ReadsKey}
 use Rattle.json5_grammar.specs.Language.Numbers.{whole}
 use Rattle.json5_grammar.specs.Model.Reading.{Read, got, and_then}
 use Rattle.json5_grammar.specs.Model.ReadBlanks.{skip, between}
-use Rattle.json5_grammar.specs.Model.ReadSteps.{separator, comma_at}
+use Rattle.json5_grammar.specs.Model.ReadSteps.{forget, colon_after, separator, comma_at, next_value}
+use Rattle.json5_grammar.specs.Model.ReadTexts.{key}
+use Rattle.json5_grammar.specs.Model.ReadValues.{read, colon_at}
 use Rattle.json5_grammar.specs.Language.Trees as trees
-use Rattle.json5_grammar.specs.Language.Values.{is_number}
+use Rattle.json5_grammar.specs.Language.Strings.{Str, is_quote}
+use Rattle.json5_grammar.specs.Language.Values.{Reads, Val, is_number, is_text}
 use Rattle.json5_grammar.proofs.Basics.{same_char}
 use Rattle.json5_grammar.proofs.BlanksRead.{begins_solid}
-use Rattle.json5_grammar.proofs.BlanksSound.{gap_read, gap_before}
-use Rattle.json5_grammar.proofs.Classes.{number_begins}
-use Rattle.json5_grammar.proofs.CollectionsPairs.{brace_solid}
-use Rattle.json5_grammar.proofs.CollectionsRead.{comma_solid, bracket_solid}
-use Rattle.json5_grammar.proofs.ValueHeads.{val_head, value_solid, begins_value_solid}
+use Rattle.json5_grammar.proofs.BlanksSound.{gap_read, gap_before, one_gap}
+use Rattle.json5_grammar.proofs.Classes.{number_begins, quote_begins}
+use Rattle.json5_grammar.proofs.CollectionsPairs.{brace_solid, colon_solid}
+use Rattle.json5_grammar.proofs.CollectionsRead.{comma_solid, bracket_solid, phrase_found}
+use Rattle.json5_grammar.proofs.KeysRead.{key_complete}
+use Rattle.json5_grammar.proofs.ValueHeads.{val_head, value_solid, begins_value_solid, key_head, key_solid}
+use Rattle.json5_grammar.proofs.ValuesRead.{read_complete}
 use Rattle.json5_text.specs.declared.value.Value.{Value}
+use Rattle.json5_text.specs.declared.value.Value as value
 use Rattle.json5_text.specs.ValueViews.{value_of}
 use Rattle.json5_text.specs.ValueViews as datum
 use Rattle.json5_text.specs.Cursor.{Cursor, Took}
 use Rattle.json5_text.specs.declared.error.Error.{Error}
-use Rattle.json5_text.specs.Short.{AfterGap, StepsTo, Stepped, TookWhole, TakesShortWhole}
+use Rattle.json5_text.specs.declared.short.ShortStep.{ShortStep}
+use Rattle.json5_text.specs.declared.short.ShortStep.TheVariants as steps
+use Rattle.json5_text.specs.declared.short_texts.Span.{Span}
+use Rattle.json5_text.specs.Short.{AfterGap, StepsTo, IsStep, Stepped, TookWhole, TakesShortWhole, TakesShortStep, TakesShortSign}
+use Rattle.json5_text.specs.ShortTexts.{TakesShortKey, TakesShortString, IsTextAt}
+use Rattle.json5_text.specs.TextTokens.{IsSliceAt}
+use Rattle.json5_text.specs.Errors.{LacksMemory}
+use Rattle.json5_text.proofs.TextScalars.{key_scalars}
 use Rattle.json5_value.specs.declared.brackets.Brackets.{Brackets}
 use Rattle.json5_value.specs.declared.brackets.BracketKind.{BracketKind as OwnKind}
 use Rattle.json5_value.specs.declared.brackets.BracketKind.TheVariants as kind
 use Rattle.json5_value.specs.declared.kinds.ValueKind.{ValueKind}
 use Rattle.json5_value.specs.declared.kinds.ValueKind.TheVariants as kinds
+use Rattle.json5_value.specs.declared.short.NameLeft.{NameLeft}
+use Rattle.json5_value.specs.declared.short.NameLeft.TheVariants as names
 use Rattle.json5_value.specs.declared.short.ShortEntry.TheVariants as entry
 use Rattle.json5_value.specs.Brackets.{bracket_of, brackets_of}
 use Rattle.json5_value.specs.Entries.{entry_front, entry_start, next_entry}
 use Rattle.json5_value.specs.Kinds.{kind_at}
-use Rattle.json5_value.specs.Keeping.{Keeps, IsOfTree, tree_at}
-use Rattle.json5_value.specs.Opening.{AtScalar, AtNumber}
-use Rattle.json5_value.specs.Short.{EntersShort, PassesShort}
+use Rattle.json5_value.specs.Keeping.{Keeps, IsOfTree, IsKeyText, OwnsText, tree_at}
+use Rattle.json5_value.specs.Opening.{AtScalar, AtKind}
+use Rattle.json5_value.specs.Short.{EntersShort, ReachesMember, PassesShort, PassesTo, name_at, name_left}
 use Rattle.json5_value.specs.Steps.{IsInside, Gave, Steps}
-use Rattle.json5_value.proofs.BuildScalars.{scalar_taken}
+use Rattle.json5_value.proofs.BuildScalars.{scalar_taken, text_taken}
+use Rattle.json5_value.proofs.BuildSteps.{takes, not_taken, gave_text}
 use Rattle.json5_value.proofs.EntrySteps.{separator_is, front_closes, front_goes, closes_here, start_or_end}
-use Rattle.json5_value.proofs.EntryValues.{next_closed, element_reached}
+use Rattle.json5_value.proofs.EntryValues.{next_is, head_or_end, head_of, head_named, next_closed, element_reached}
 use Rattle.json5_value.proofs.Scalars.{number_value, tests_of}
+use Rattle.json5_value.proofs.Shorter.{entry_shorter}
 use Rattle.json5_value.proofs.Signs.{closing_is}
-use Rattle.json5_value.proofs.Steps.{some_next}
+use Rattle.json5_value.proofs.Steps.{some_next, took_both, took_nothing, same_step, then_step}
 
 -- ---- a step on lists
 
@@ -84,6 +104,67 @@ ends_read k true x r (inl s) =
     (ap (λ m. and_then m (start_or_end k)) (separator_is k x ∙ ap (λ m. and_then m (λ u y. comma_at k y)) (sign_read (closing k) x r (closing_solid k) s) ∙ closes_here k r), sign_taken (closing k) x r r s ([], refl))
 ends_read k true x r (inr (y, comma, s)) = (ap (λ m. and_then m (start_or_end k)) (comma_read k x y comma) ∙ start_closes k y r s, sign_taken 44 x y r comma (sign_taken (closing k) y r r s ([], refl)))
 
+-- ---- names
+
+colon_read : (x r : List ℕ) → IsSign 58 x r → colon_after x ≡ skip between r
+colon_read x r s = ap (λ m. and_then m (λ u y. and_then (colon_at y) (λ v z. skip between z))) (sign_read 58 x r colon_solid s)
+
+colon_took : (old new : Cursor) → (k : TakesShortSign 58 old new true) → Took old (k.0.front ++ 58 ∷ []) new
+colon_took old new k = record { split = k.0.split ∙ sym (append_assoc k.0.front (58 ∷ []) new.unread); same = k.1 }
+
+-- a step where no comma is due passes over the blanks
+blanks_read : (b : Bool) (x y : List ℕ) → IsStep 125 false b x y → (skip between x ≡ got tt y) × Taken x y
+blanks_read true x y (r, s, e) = (sign_read 125 x r brace_solid s ∙ ap (got tt) (sym e), (s.front, s.split ∙ ap (λ z. s.front ++ z) (sym e)))
+blanks_read false x y (g, n) = (ap (skip between) g.split ∙ gap_read g.is_gap g.solid, (g.gap, g.split))
+
+blanks_passed : (b : Bool) (old mid new : Cursor) → TakesShortSign 58 old mid true → Stepped 125 false b mid new → PassesTo (colon_after old.unread) names.Nothing old new
+blanks_passed b old mid new colon s =
+    let (reads, (taken, split)) = blanks_read b mid.unread new.unread s.step in
+    record {
+      reads = colon_read old.unread mid.unread colon.0 ∙ reads;
+      taken = (colon.0.front ++ 58 ∷ []) ++ taken;
+      took = took_both old mid new (colon.0.front ++ 58 ∷ []) taken (colon_took old mid colon) (record { split = split; same = s.same });
+    }
+
+-- no sign is in front
+pub colon_left : (reading : List ℕ → Read (Unit {0})) (left : NameLeft) (old new : Cursor) → reading old.unread ≡ name_left left old.unread → new ≡ old → PassesTo (reading old.unread) left old new
+colon_left reading left old new is same = record { reads = is ∙ ap (λ (s : Cursor). name_left left s.unread) (sym same); taken = []; took = took_nothing old new same }
+
+pub blanks_left : (old mid new : Cursor) → TakesShortSign 58 old mid true → new ≡ mid → PassesTo (colon_after old.unread) names.Blanks old new
+blanks_left old mid new colon same =
+    let left = colon_took old mid colon in
+    record {
+      reads = colon_read old.unread mid.unread colon.0 ∙ ap (λ (s : Cursor). skip between s.unread) (sym same);
+      taken = (colon.0.front ++ 58 ∷ []) ++ [];
+      took = took_both old mid new (colon.0.front ++ 58 ∷ []) [] left (took_nothing mid new same);
+    }
+
+pub nothing_left : (old mid new : Cursor) (step : ShortStep) → TakesShortSign 58 old mid true → (step ≡ steps.Other → ⊥) → TakesShortStep 125 false mid new step → PassesTo (colon_after old.unread) names.Nothing old new
+nothing_left old mid new steps.Member colon other s = blanks_passed false old mid new colon s
+nothing_left old mid new steps.Closing colon other s = blanks_passed true old mid new colon s
+nothing_left old mid new steps.Other colon other s = absurd (other refl)
+
+-- what is left is passed over by a longer way
+pub rest_passed : (reading : Read (Unit {0})) (left : NameLeft) (old mid new : Cursor) (result : Result (Unit {0}) Error) → PassesTo reading left old mid → Steps (name_left left mid.unread) mid new result → Steps reading old new result
+rest_passed reading left old mid new result p s =
+    let passed : Gave {A = Unit {0}} (got tt mid.unread) tt old mid = record { reads = refl; taken = p.taken; took = p.took } in
+    same_step old new reading (name_left left mid.unread) result p.reads
+    (then_step {A = Unit {0}} {B = Unit {0}} old mid new (got tt mid.unread) tt (λ u y. name_left left y) result passed s)
+
+-- no blanks stand before a key
+key_spelled : (x u r : List ℕ) → Solid x → (k : ReadsKey x u true r) → x ≡ k.spelling ++ r
+key_spelled x u r solid k = (one_gap k.front (k.spelling ++ r) [] x (blanks.Gap.blanks k.blank) (key_solid r (key_head k.key)) (blanks.Gap.blanks blanks.Blanks.empty) solid (sym k.split)).1
+
+pub name_passed : (old mid new : Cursor) (o : Option Span) (none : Bool) (left : NameLeft) → Solid old.unread → TakesShortKey old mid o → is_some o ≡ not none → none ≡ false → PassesTo (colon_after mid.unread) left mid new → PassesTo (name_at old.unread) left old new
+name_passed old mid new None none left solid k some is p = absurd (cc)
+name_passed old mid new (Some span) none left solid k some is p =
+    let split = key_spelled old.unread k.spelled mid.unread solid k.read in
+    record {
+      reads = ap (λ z. and_then (forget (key z)) (λ u r. colon_after r)) split ∙ ap (λ m. and_then (forget m) (λ u r. colon_after r)) (key_complete k.read.key) ∙ p.reads;
+      taken = k.read.spelling ++ p.taken;
+      took = took_both old mid new k.read.spelling p.taken (record { split = split; same = k.same }) p.took;
+    }
+
 -- ---- entries
 
 entry_gave : (k : OwnKind) (b : Brackets) (comma_due : Bool) (old new : Cursor) → b ≡ brackets_of k → Stepped b.closing comma_due false old new → Gave (next_entry (bracket_of k) comma_due old.unread) true old new
@@ -94,8 +175,22 @@ entry_gave k b comma_due old new e s =
 pub element_entered : (k : OwnKind) (b : Brackets) (comma_due : Bool) (old new : Cursor) → b ≡ brackets_of k → k ≡ kind.Array → Stepped b.closing comma_due false old new → EntersShort k comma_due old new entry.Value
 element_entered k b comma_due old new e is s = (element_reached (bracket_of k) comma_due true old new (ap bracket_of is) refl (entry_gave k b comma_due old new e s)).given
 
-pub member_entered : (k : OwnKind) (b : Brackets) (comma_due : Bool) (old new : Cursor) → b ≡ brackets_of k → k ≡ kind.Object → Stepped b.closing comma_due false old new → EntersShort k comma_due old new entry.Key
-member_entered k b comma_due old new e is s = (is, entry_gave k b comma_due old new e s)
+object_head : (k : OwnKind) (y : List ℕ) → k ≡ kind.Object → head_of (bracket_of k) y ≡ and_then (name_at y) (λ u z. got true z)
+object_head kind.Array y e = absurd (cc)
+object_head kind.Object y e = head_named y
+
+pub member_entered : (k : OwnKind) (b : Brackets) (comma_due : Bool) (left : NameLeft) (old mid new : Cursor) → b ≡ brackets_of k → k ≡ kind.Object → Stepped b.closing comma_due false old mid → PassesTo (name_at mid.unread) left mid new → ReachesMember k comma_due left old new
+member_entered k b comma_due left old mid new e is s p =
+    let g = entry_gave k b comma_due old mid e s in
+    record {
+      reads = next_is (bracket_of k) comma_due old.unread ∙ ap (λ m. and_then m (head_or_end (bracket_of k))) g.reads ∙ object_head k mid.unread is ∙ ap (λ m. and_then m (λ u z. got true z)) p.reads;
+      taken = g.taken ++ p.taken;
+      took = took_both old mid new g.taken p.taken g.took p.took;
+      shorter = λ d. (let l = entry_shorter (bracket_of k) comma_due true old.unread mid.unread g.reads d in omega (arith, l, ap length p.took.split, length-append p.taken new.unread));
+    }
+
+pub named_entered : (k : OwnKind) (comma_due : Bool) (left : NameLeft) (old new : Cursor) → left ≡ names.Nothing → ReachesMember k comma_due left old new → EntersShort k comma_due old new entry.Value
+named_entered k comma_due left old new is m = record { reads = m.reads ∙ ap (λ l. and_then (name_left l new.unread) (λ u z. got true z)) is; taken = m.taken; took = m.took }
 
 -- the sign is next, so it is taken
 pub sign_eaten : (c : ℕ) (r : List ℕ) (mid new : Cursor) (b : Bool) → mid.unread ≡ c ∷ r → (b ≡ true → Took mid (c ∷ []) new) → (b ≡ false → (new ≡ mid) × NotBegun (λ d. d == c) mid.unread) → Took mid (c ∷ []) new
@@ -131,6 +226,28 @@ inside_here old mid same r = subst (λ (s : Cursor). IsInside s) (sym same) r
 pub same_front : {A : Type 0} (reading : List ℕ → Read A) (old mid new : Cursor) (result : Result A Error) → mid ≡ old → Steps (reading mid.unread) mid new result → Steps (reading old.unread) old new result
 same_front reading old mid new result same k = subst (λ (s : Cursor). Steps (reading s.unread) s new result) same k
 
+-- ---- strings
+
+-- no blanks stand before it
+string_split : (old new : Cursor) (c : ℕ) (found : ValueKind) (span : Span) → AtScalar c old → found ≡ kind_at c → found ≡ kinds.String → (k : TakesShortString old new (Some span)) → old.unread ≡ k.read.phrase ++ new.unread
+string_split old new c found span at is string k =
+    let (r, x) = some_next old.unread c at.first in
+    let solid : Solid old.unread = subst Solid (sym x) (begins_solid c r (begins_value_solid c (quote_begins c (tests_of c found kinds.String is string)))) in
+    phrase_found old.unread [] old.unread new.unread (trees.text k.spelled true) refl (blanks.Gap.blanks blanks.Blanks.empty) solid k.read
+
+string_passed : (old new : Cursor) (c : ℕ) (found : ValueKind) (span : Span) → AtScalar c old → found ≡ kind_at c → found ≡ kinds.String → TakesShortString old new (Some span) → PassesShort old new true
+string_passed old new c found span at is string k room =
+    let split = string_split old new c found span at is string k in
+    record {
+      reads = ap (λ z. forget (read room z)) split ∙ ap forget (read_complete k.read.value new.unread k.read.stops room (omega arith));
+      taken = k.read.phrase;
+      took = record { split = split; same = k.same };
+    }
+
+pub string_short : (old new : Cursor) (c : ℕ) (found : ValueKind) (o : Option Span) (b : Bool) → AtScalar c old → found ≡ kind_at c → found ≡ kinds.String → TakesShortString old new o → b ≡ is_some o → PassesShort old new b
+string_short old new c found None b at is string same e = subst (PassesShort old new) (sym e) same
+string_short old new c found (Some span) b at is string k e = subst (PassesShort old new) (sym e) (string_passed old new c found span at is string k)
+
 -- ---- numbers
 
 -- a number has no blanks before it
@@ -153,13 +270,38 @@ pub number_short : (low high : ℤ) (old new : Cursor) (c : ℕ) (found : ValueK
 number_short low high old new c found None b at is number same e = subst (PassesShort old new) (sym e) same
 number_short low high old new c found (Some z) b at is number k e = subst (PassesShort old new) (sym e) (number_passed old new c found z at is number k.took)
 
+-- ---- texts, which are kept
+
+str_of : {s u : List ℕ} {escape_free : Bool} → Val s (trees.text u escape_free) → Str s u escape_free
+str_of (is_text k) = k
+
+pub string_kept : (room : ℕ) (old new : Cursor) (span : Span) (t : String Global) → AtKind kinds.String old → all_scalars old.unread ≡ true → TakesShortString old new (Some span) → IsTextAt new.input span (string_bytes t) → Keeps IsOfTree (tree_at room old) old new (Ok (value.String t))
+string_kept room old new span t at scalars k is =
+    let split = string_split old new at.char (kind_at at.char) span at.scalar refl at.is k in
+    text_taken room old new t scalars (k.read.phrase, k.spelled, true, record { split = split; same = k.same }, str_of k.read.value, is k.spelled (subst (λ z. IsSliceAt z k.spelled span.start span.end) (sym k.same) k.stands))
+
+-- memory ran out for the text
+pub string_lost : (room : ℕ) (old new : Cursor) (span : Span) (e : Error) → TakesShortString old new (Some span) → LacksMemory e → Keeps IsOfTree (tree_at room old) old new (Err e)
+string_lost room old new span e k lacks = not_taken old new (tree_at room old) e (inl lacks.kind) k.same
+
+pub short_key_kept : (old new : Cursor) (span : Span) (result : Result (String Global) Error) → Solid old.unread → all_scalars old.unread ≡ true → TakesShortKey old new (Some span) → OwnsText new.input span result → Keeps IsKeyText (key old.unread) old new result
+short_key_kept old new span (Ok t) solid scalars k is =
+    let split = key_spelled old.unread k.spelled new.unread solid k.read in
+    takes old new (key old.unread) (k.spelled, true) t
+    (ap chars (is k.spelled (subst (λ z. IsSliceAt z k.spelled span.start span.end) (sym k.same) k.stands)) ∙ chars-encodes k.spelled (key_scalars old.unread new.unread split scalars k.read.key))
+    (gave_text old new (key old.unread) (k.spelled, true) k.read.spelling (ap key split ∙ key_complete k.read.key) (record { split = split; same = k.same }))
+short_key_kept old new span (Err e) solid scalars k lacks = not_taken old new (key old.unread) e (inl lacks.kind) k.same
+
+pub key_front : (old mid new : Cursor) (result : Result (String Global) Error) → mid ≡ old → Keeps IsKeyText (key mid.unread) mid new result → Keeps IsKeyText (key old.unread) old new result
+key_front old mid new result same k = subst (λ (s : Cursor). Keeps IsKeyText (key s.unread) s new result) same k
+
 -- ---- numbers, which are kept
 
-pub number_kept : (room : ℕ) (old new : Cursor) (c : ℕ) (z : ℤ) (v : Value) → AtNumber c old → TookWhole old new z → value_of v ≡ datum.number (whole z) → Keeps IsOfTree (tree_at room old) old new (Ok v)
-number_kept room old new c z v at k is = scalar_taken room old new k.literal (trees.number (whole z)) v refl (number_took old new c (kind_at c) z at.scalar refl at.number k) (is_number k.is_number) k.stops is
+pub number_kept : (room : ℕ) (old new : Cursor) (z : ℤ) (v : Value) → AtKind kinds.Number old → TookWhole old new z → value_of v ≡ datum.number (whole z) → Keeps IsOfTree (tree_at room old) old new (Ok v)
+number_kept room old new z v at k is = scalar_taken room old new k.literal (trees.number (whole z)) v refl (number_took old new at.char (kind_at at.char) z at.scalar refl at.is k) (is_number k.is_number) k.stops is
 
-pub number_front : (old mid : Cursor) (c : ℕ) → mid ≡ old → AtNumber c old → AtNumber c mid
-number_front old mid c same at = subst (AtNumber c) (sym same) at
+pub kind_front : (k : ValueKind) (old mid : Cursor) → mid ≡ old → AtKind k old → AtKind k mid
+kind_front k old mid same at = subst (AtKind k) (sym same) at
 
 pub kept_front : (room : ℕ) (old mid new : Cursor) (result : Result Value Error) → mid ≡ old → Keeps IsOfTree (tree_at room mid) mid new result → Keeps IsOfTree (tree_at room old) old new result
 kept_front room old mid new result same k = subst (λ (s : Cursor). Keeps IsOfTree (tree_at room s) s new result) same k

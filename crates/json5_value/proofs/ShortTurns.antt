@@ -1,84 +1,68 @@
 -- Short turns leave what is next as the longer ways would find it.
 use Rattle.std.proofs.Common.{◌≡◌, ℕ, ◌-◌, ◌<◌, Bool, true, false, List, [], ◌∷◌, ◌++◌, length, refl, ap, sym, ◌∙◌, subst, arith}
 use Rattle.std.specs.Prelude.{Ok, Err}
-use Rattle.json5_grammar.specs.Faults.Fronts.{BracketKind, of_array, of_object}
+use Rattle.json5_grammar.specs.Faults.Fronts.{BracketKind}
 use Rattle.json5_grammar.specs.Model.Reading.{Read, got, bad, and_then}
-use Rattle.json5_grammar.specs.Model.ReadSteps.{forget, colon_after, pair_head, next_value, value_and_rest}
-use Rattle.json5_grammar.specs.Model.ReadTexts.{key}
+use Rattle.json5_grammar.specs.Model.ReadSteps.{next_value, value_and_rest}
 use Rattle.json5_grammar.proofs.ValueSteps.{turn, rest_step}
 use Rattle.json5_text.specs.declared.error.Error.{Error}
 use Rattle.json5_text.specs.Cursor.{Cursor}
 use Rattle.json5_value.specs.declared.brackets.OpenBracket.{OpenBracket}
-use Rattle.json5_value.specs.declared.brackets.BracketKind.TheVariants as kind
+use Rattle.json5_value.specs.declared.short.NameLeft.{NameLeft}
 use Rattle.json5_value.specs.declared.skip.ShortTurn.{ShortTurn}
 use Rattle.json5_value.specs.declared.skip.ShortTurn.TheVariants as short
 use Rattle.json5_value.specs.Brackets.{bracket_of}
-use Rattle.json5_value.specs.Entries.{next_entry}
 use Rattle.json5_value.specs.Nesting.{Within}
 use Rattle.json5_value.specs.Opening.{OpenedAt}
 use Rattle.json5_value.specs.Places.{StartsAfter, PlacedAt}
-use Rattle.json5_value.specs.Short.{PassesShort, name_at, member_left, SkippingMember, TurnsMember, Advanced, TurnsShort, ResumesShort}
+use Rattle.json5_value.specs.Short.{ReachesMember, PassesShort, name_left, member_left, SkippingMember, TurnsMember, Advanced, TurnsShort, ResumesShort}
 use Rattle.json5_value.specs.SkipSteps.{start_of, rest_in, rest_at, Skipping, SkippingInside}
 use Rattle.json5_value.specs.Steps.{SameText, RefusesRead, Gave, value_at}
-use Rattle.json5_value.proofs.EntryValues.{next_is, head_or_end, head_of}
 use Rattle.json5_value.proofs.Nesting.{value_reached, inside_blamed, moved}
-use Rattle.json5_value.proofs.Shorter.{entry_shorter}
 use Rattle.json5_value.proofs.SkipTurns.{room_within, no_more_left, inside_goes, inside_closed, inside_of, ended_inside, first_scalar}
 use Rattle.json5_value.proofs.Scalars.{scalar_passed}
 use Rattle.json5_value.proofs.Steps.{blames_as}
 
 -- ---- members
 
--- a member is a key, a colon and its value
-head_named : (y : List ℕ) → pair_head y ≡ and_then (name_at y) (λ u z. got true z)
-head_named y = by_key (key y)
-  where
-    by_key : (m : Read (List ℕ × Bool)) → and_then m (λ a r. and_then (colon_after r) (λ u y. got true y)) ≡ and_then (and_then (forget m) (λ u r. colon_after r)) (λ u z. got true z)
-    by_key (got a r) = refl
-    by_key (bad e p) = refl
-
 then_turn : (k : BracketKind) (d : ℕ) (m : Read (Unit {0})) → and_then (and_then m (λ u z. got true z)) (turn k d) ≡ and_then m (λ u y. value_and_rest k d y)
 then_turn k d (got u y) = refl
 then_turn k d (bad e p) = refl
 
-object_head : (k : BracketKind) (d : ℕ) (y : List ℕ) → k ≡ of_object → and_then (head_of k y) (turn k d) ≡ and_then (name_at y) (λ u z. value_and_rest k d z)
-object_head of_array d y e = absurd (cc)
-object_head of_object d y e = ap (λ m. and_then m (turn of_object d)) (head_named y) ∙ then_turn of_object d (name_at y)
-
-module _ (room : ℕ) (w : Read (Unit {0})) (bs : List OpenBracket) (f : OpenBracket) (q : List ℕ) where
-  -- the key of a member was reached
-  pub key_reached : (comma_due : Bool) (old new : Cursor) → f.kind ≡ kind.Object → Gave (next_entry (bracket_of f.kind) comma_due old.unread) true old new → SkippingInside room w bs f comma_due q old → SkippingMember room w bs f q new
-  key_reached comma_due old new is g h =
+module _ (room : ℕ) (w : Read (Unit {0})) (bs : List OpenBracket) (f : OpenBracket) (left : NameLeft) (q : List ℕ) where
+  -- a member was reached
+  pub member_reached : (comma_due : Bool) (old new : Cursor) → ReachesMember f.kind comma_due left old new → SkippingInside room w bs f comma_due q old → SkippingMember room w bs f left q new
+  member_reached comma_due old new m h =
       let k : BracketKind = bracket_of f.kind in
-      let left : ℕ = room - length bs - 1 in
-      moved start_of rest_in room old w (rest_at room bs f comma_due old) bs f.start q h new (member_left room bs f new) g.taken g.took
-      (rest_step k comma_due left old.unread ∙ ap (λ m. and_then m (turn k left)) (next_is k comma_due old.unread ∙ ap (λ m. and_then m (head_or_end k)) g.reads) ∙ object_head k left new.unread (ap bracket_of is))
+      let deep : ℕ = room - length bs - 1 in
+      moved start_of rest_in room old w (rest_at room bs f comma_due old) bs f.start q h new (member_left room bs f left new) m.taken m.took
+      (rest_step k comma_due deep old.unread ∙ ap (λ n. and_then n (turn k deep)) m.reads ∙ then_turn k deep (name_left left new.unread))
 
   -- its value was reached
-  pub named : (old new : Cursor) → Gave (name_at old.unread) tt old new → SkippingMember room w bs f q old → Skipping room w (bs ++ f ∷ []) true new
+  pub named : (old new : Cursor) → Gave (name_left left old.unread) tt old new → SkippingMember room w bs f left q old → Skipping room w (bs ++ f ∷ []) true new
   named old new g h =
       subst (λ d. Within start_of rest_in room w (bs ++ f ∷ []) (value_at d new) new) (sym (room_within room bs f))
-      (value_reached start_of rest_in room old w (member_left room bs f old) bs f.start q h f new (value_at (room - length bs - 1) new) g.taken refl g.took
+      (value_reached start_of rest_in room old w (member_left room bs f left old) bs f.start q h f new (value_at (room - length bs - 1) new) g.taken refl g.took
       (ap (λ m. and_then m (λ u y. value_and_rest (bracket_of f.kind) (room - length bs - 1) y)) g.reads))
 
-  -- its key or its colon is refused
-  pub not_named : (old new : Cursor) (own e : Error) → RefusesRead old.input (name_at old.unread) own → SameText old new → PlacedAt (StartsAfter new.input f.start) own e → SkippingMember room w bs f q old → RefusesRead old.input w e
+  -- its name is refused
+  pub not_named : (old new : Cursor) (own e : Error) → RefusesRead old.input (name_left left old.unread) own → SameText old new → PlacedAt (StartsAfter new.input f.start) own e → SkippingMember room w bs f left q old → RefusesRead old.input w e
   not_named old new own e b same k h =
-      inside_blamed start_of rest_in room old w (member_left room bs f old) bs f.start q h new.input own e
-      (blames_as old.input old.input (name_at old.unread) (member_left room bs f old) own refl (λ c p is. ap (λ m. and_then m (λ u y. value_and_rest (bracket_of f.kind) (room - length bs - 1) y)) is) b) k same
+      inside_blamed start_of rest_in room old w (member_left room bs f left old) bs f.start q h new.input own e
+      (blames_as old.input old.input (name_left left old.unread) (member_left room bs f left old) own refl (λ c p is. ap (λ m. and_then m (λ u y. value_and_rest (bracket_of f.kind) (room - length bs - 1) y)) is) b) k same
 
-pub member_goes : (f : OpenBracket) (bs after : List OpenBracket) (old new : Cursor) (u : Unit {0}) → Gave (name_at old.unread) u old new → after ≡ bs ++ f ∷ [] → TurnsMember f bs after old new (Ok true)
-member_goes f bs after old new u g grown = record {
-  goes = λ room w q h. subst (λ z. Skipping room w z true new) (sym grown) (named room w bs f q old new g h);
+pub member_goes : (left : NameLeft) (f : OpenBracket) (bs after : List OpenBracket) (old new : Cursor) (u : Unit {0}) → Gave (name_left left old.unread) u old new → after ≡ bs ++ f ∷ [] → TurnsMember left f bs after old new (Ok true)
+member_goes left f bs after old new u g grown = record {
+  goes = λ room w q h. subst (λ z. Skipping room w z true new) (sym grown) (named room w bs f left q old new g h);
   refused = tt;
   same_text = g.took.same;
   no_longer = no_more_left old new g.taken g.took;
 }
 
-pub member_refused : (f : OpenBracket) (bs after : List OpenBracket) (old new : Cursor) (own e : Error) → RefusesRead old.input (name_at old.unread) own → SameText old new → PlacedAt (StartsAfter new.input f.start) own e → TurnsMember f bs after old new (Err e)
-member_refused f bs after old new own e b same k = record {
+pub member_refused : (left : NameLeft) (f : OpenBracket) (bs after : List OpenBracket) (old new : Cursor) (own e : Error) → RefusesRead old.input (name_left left old.unread) own → SameText old new → PlacedAt (StartsAfter new.input f.start) own e → TurnsMember left f bs after old new (Err e)
+member_refused left f bs after old new own e b same k = record {
   goes = tt;
-  refused = λ room w q h. not_named room w bs f q old new own e b same k h;
+  refused = λ room w q h. not_named room w bs f left q old new own e b same k h;
   same_text = same;
   no_longer = tt;
 }
@@ -95,12 +79,12 @@ bracket_closed f comma_due bs old new g =
     let t = inside_closed comma_due false f bs old new refl g in
     record { goes = t.goes; same_text = t.same_text; advanced = t.shorter; no_longer = t.no_longer }
 
-pub key_resumed : (f : OpenBracket) (comma_due : Bool) (bs : List OpenBracket) (old new : Cursor) → f.kind ≡ kind.Object → Gave (next_entry (bracket_of f.kind) comma_due old.unread) true old new → ResumesShort f comma_due bs bs old new (short.AtKey f)
-key_resumed f comma_due bs old new is g = record {
-  goes = λ room w q h. (q, key_reached room w bs f q comma_due old new is g h);
-  same_text = g.took.same;
-  advanced = λ d. entry_shorter (bracket_of f.kind) comma_due true old.unread new.unread g.reads d;
-  no_longer = no_more_left old new g.taken g.took;
+pub member_resumed : (f : OpenBracket) (comma_due : Bool) (left : NameLeft) (bs : List OpenBracket) (old new : Cursor) → ReachesMember f.kind comma_due left old new → ResumesShort f comma_due bs bs old new (short.Member f left)
+member_resumed f comma_due left bs old new m = record {
+  goes = λ room w q h. (q, member_reached room w bs f left q comma_due old new m h);
+  same_text = m.took.same;
+  advanced = m.shorter;
+  no_longer = no_more_left old new m.taken m.took;
 }
 
 pub not_resumed : (f : OpenBracket) (comma_due : Bool) (bs : List OpenBracket) (old new : Cursor) → new ≡ old → ResumesShort f comma_due bs bs old new (short.Within f comma_due)
@@ -118,7 +102,7 @@ strictly short.Value old new l = l
 strictly short.Ended old new l = l
 strictly short.Begins old new l = omega (arith, l)
 strictly (short.Within f comma_due) old new l = ((λ e. l), omega (arith, l))
-strictly (short.AtKey f) old new l = l
+strictly (short.Member f left) old new l = l
 strictly short.Whole old new l = tt
 
 pub opened_short : (room : ℕ) (bs after : List OpenBracket) (f : OpenBracket) (old mid new : Cursor) (t : ShortTurn) → OpenedAt (room - length bs) f old mid → ResumesShort f false bs after mid new t → TurnsShort room true bs after old new t

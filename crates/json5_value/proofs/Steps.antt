@@ -81,7 +81,7 @@ ready_after old new s r t = record {
   inside = t.same ∙ r.inside ∙ ap (λ z. r.before ++ z) t.split ∙ sym (append_assoc r.before s new.unread);
 }
 
-took_both : (old mid new : Cursor) (s w : List ℕ) → Took old s mid → Took mid w new → Took old (s ++ w) new
+pub took_both : (old mid new : Cursor) (s w : List ℕ) → Took old s mid → Took mid w new → Took old (s ++ w) new
 took_both old mid new s w a b = record {
   split = a.split ∙ ap (λ z. s ++ z) b.split ∙ sym (append_assoc s w new.unread);
   same = b.same ∙ a.same;

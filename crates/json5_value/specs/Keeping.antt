@@ -8,10 +8,12 @@ use Rattle.json5_grammar.specs.Model.ReadSteps.{separator, key_at}
 use Rattle.json5_grammar.specs.Model.ReadValues.{read}
 use Rattle.json5_grammar.specs.Language.Trees.{Tree}
 use Rattle.json5_text.specs.declared.error.Error.{Error}
+use Rattle.json5_text.specs.declared.short_texts.Span.{Span}
 use Rattle.json5_text.specs.declared.text_token.TextToken.{TextToken}
 use Rattle.json5_text.specs.declared.value.Value.{Value}
 use Rattle.json5_text.specs.Cursor.{Cursor, IsOutOfMemory}
 use Rattle.json5_text.specs.Errors.{LacksMemory}
+use Rattle.json5_text.specs.ShortTexts.{IsTextAt}
 use Rattle.json5_text.specs.TextTokens.{Spells}
 use Rattle.json5_text.specs.ValueViews.{Datum, value_of}
 use Rattle.json5_text.specs.ValueViews as datum
@@ -38,6 +40,10 @@ pub record Keeps {V A : Type 0} (Is : V → A → Type 0) (reading : Read A) (ol
 -- an owned copy of a key's text, or memory ran out
 abbrev pub OwnsKey : List ℕ → TextToken → Result (String Global) Error → Type 0
 OwnsKey input key result = (u : List ℕ) (escape_free : Bool) → Spells input u escape_free key → MatchResult result (λ t. string_bytes t ≡ encode_utf8_all u) LacksMemory
+
+-- the same of the text of a span
+abbrev pub OwnsText : List ℕ → Span → Result (String Global) Error → Type 0
+OwnsText input span result = MatchResult result (λ t. IsTextAt input span (string_bytes t)) LacksMemory
 
 -- a key that was found, or its text
 abbrev pub IsFoundKey : List ℕ → TextToken → List ℕ × Bool → Type 0

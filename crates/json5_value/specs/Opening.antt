@@ -4,7 +4,7 @@ use Rattle.json5_grammar.specs.Faults.Fronts.{of_array, of_object, opening}
 use Rattle.json5_text.specs.declared.error.Error.{Error}
 use Rattle.json5_text.specs.Cursor.{Cursor}
 use Rattle.json5_value.specs.declared.brackets.OpenBracket.{OpenBracket}
-use Rattle.json5_value.specs.declared.kinds.ValueKind.TheVariants as kind
+use Rattle.json5_value.specs.declared.kinds.ValueKind.{ValueKind}
 use Rattle.json5_value.specs.Brackets.{bracket_of}
 use Rattle.json5_value.specs.Kinds.{kind_at}
 use Rattle.json5_value.specs.Places.{CountsTo}
@@ -16,10 +16,11 @@ pub record AtScalar (c : ℕ) (s : Cursor) : Type 0 where
   pub first : slice_get s.unread 0 ≡ Some c
   pub other : ((c == opening of_array) || (c == opening of_object)) ≡ false
 
--- it is a number
-pub record AtNumber (c : ℕ) (s : Cursor) : Type 0 where
-  pub scalar : AtScalar c s
-  pub number : kind_at c ≡ kind.Number
+-- one of this kind begins here
+pub record AtKind (k : ValueKind) (s : Cursor) : Type 0 where
+  pub char : ℕ
+  pub scalar : AtScalar char s
+  pub is : kind_at char ≡ k
 
 -- an opening bracket was taken
 pub record OpenedAt (room : ℕ) (bracket : OpenBracket) (old new : Cursor) : Type 0 where

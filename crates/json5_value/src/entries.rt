@@ -4,11 +4,12 @@ ghost use Rattle.json5_grammar.specs.Model.ReadSteps.{forget, colon_after, next_
 ghost use Rattle.json5_grammar.specs.Model.ReadTexts.{key};
 ghost use Rattle.json5_value.specs.Brackets.{bracket_of};
 ghost use Rattle.json5_value.specs.Entries.{due_comma, next_entry};
-ghost use Rattle.json5_value.specs.Short.{name_at};
+ghost use Rattle.json5_value.specs.Short.{name_left};
 ghost use Rattle.json5_value.specs.Steps.{IsInside, Steps};
 
 use crate::brackets::BracketKind;
 use crate::faults::unexpected_here;
+use crate::short::{NameLeft, short_colon};
 use json5_text::ErrorCode;
 use json5_text::error::{Error, Result};
 use json5_text::input::Input;
@@ -31,7 +32,19 @@ fn skip_key<I: Input>(scanner: &mut Scanner<I>) -> Result<()>
 }
 
 /// Passes over blanks, a colon and blanks.
+#[inline(always)]
 pub(crate) fn skip_colon<I: Input>(scanner: &mut Scanner<I>) -> Result<()>
+    requires { IsInside scanner.old }
+    ensures { Steps (colon_after scanner.old.unread) scanner.old scanner.new result }
+{
+    match short_colon(scanner) {
+        NameLeft::Nothing => Ok(()),
+        left => skip_name(scanner, left),
+    }
+}
+
+/// The same, whatever is round the colon.
+fn skip_colon_slowly<I: Input>(scanner: &mut Scanner<I>) -> Result<()>
     requires { IsInside scanner.old }
     ensures { Steps (colon_after scanner.old.unread) scanner.old scanner.new result }
 {
@@ -46,13 +59,21 @@ pub(crate) fn skip_colon<I: Input>(scanner: &mut Scanner<I>) -> Result<()>
     scanner.skip_blank()
 }
 
-/// Passes over the key of a member, and over blanks, a colon and blanks.
-pub(crate) fn skip_name<I: Input>(scanner: &mut Scanner<I>) -> Result<()>
+/// Passes over what is left of the name of a member: its key, and blanks, a colon and blanks.
+#[inline(never)]
+pub(crate) fn skip_name<I: Input>(scanner: &mut Scanner<I>, left: NameLeft) -> Result<()>
     requires { IsInside scanner.old }
-    ensures { Steps (name_at scanner.old.unread) scanner.old scanner.new result }
+    ensures { Steps (name_left left scanner.old.unread) scanner.old scanner.new result }
 {
-    skip_key(scanner)?;
-    skip_colon(scanner)
+    match left {
+        NameLeft::Key => {
+            skip_key(scanner)?;
+            skip_colon_slowly(scanner)
+        }
+        NameLeft::Colon => skip_colon_slowly(scanner),
+        NameLeft::Blanks => scanner.skip_blank(),
+        NameLeft::Nothing => Ok(()),
+    }
 }
 
 /// If a comma is due, passes over it and returns true, or over the closing bracket and returns false. Else returns true.
@@ -132,8 +153,7 @@ pub(crate) fn skip_to_value<I: Input>(
     match kind {
         BracketKind::Array => Ok(true),
         BracketKind::Object => {
-            skip_key(scanner)?;
-            skip_colon(scanner)?;
+            skip_name(scanner, NameLeft::Key)?;
             Ok(true)
         }
     }

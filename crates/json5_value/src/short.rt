@@ -1,8 +1,10 @@
 //! Short ways: values and entries that are passed over at once where no fault can come. They return small values, so that the
 //! caller's frame holds no fault. When they take nothing, the longer ways say what is there.
 
+ghost use Rattle.json5_grammar.specs.Language.Blanks.{Solid};
+ghost use Rattle.json5_grammar.specs.Model.ReadSteps.{colon_after};
 ghost use Rattle.json5_value.specs.Opening.{AtScalar};
-ghost use Rattle.json5_value.specs.Short.{EntersShort, PassesShort};
+ghost use Rattle.json5_value.specs.Short.{EntersShort, PassesShort, PassesTo, name_at};
 
 use crate::brackets::BracketKind;
 use crate::kinds::{ValueKind, kind_at};
@@ -10,20 +12,60 @@ use json5_text::input::Input;
 use json5_text::scanner::Scanner;
 use json5_text::short::ShortStep;
 
+/// What is left to pass over of the name of a member: its key, a colon and the blanks round it.
+#[derive(Clone, Copy)]
+pub(crate) enum NameLeft {
+    /// The whole name.
+    Key,
+    /// The colon and the blanks round it.
+    Colon,
+    /// The blanks after the colon.
+    Blanks,
+    /// Nothing: the value is next.
+    Nothing,
+}
+
 /// How far a short way to the value of an entry went.
 #[derive(Clone, Copy)]
 pub(crate) enum ShortEntry {
     /// The value is next.
     Value,
-    /// The key of a member is next.
-    Key,
+    /// A member was reached, and this is left of its name.
+    Member(NameLeft),
     /// The closing bracket was taken.
     Closed,
     /// Nothing was taken.
     Other,
 }
 
-/// Goes to the next element or to the key of the next member, after a comma if one is due, or past the closing bracket.
+/// Passes over blanks, a colon and blanks, as far as no fault is possible.
+#[inline(always)]
+pub(crate) fn short_colon<I: Input>(scanner: &mut Scanner<I>) -> NameLeft
+    ensures { PassesTo (colon_after scanner.old.unread) result scanner.old scanner.new }
+{
+    if !scanner.short_sign(b':') {
+        return NameLeft::Colon;
+    }
+    match scanner.short_step(b'}', false) {
+        ShortStep::Other => NameLeft::Blanks,
+        _ => NameLeft::Nothing,
+    }
+}
+
+/// Passes over the name of the member in front, as far as no fault is possible.
+#[inline(always)]
+fn short_name<I: Input>(scanner: &mut Scanner<I>) -> NameLeft
+    requires { Solid scanner.old.unread }
+    ensures { PassesTo (name_at scanner.old.unread) result scanner.old scanner.new }
+{
+    if scanner.short_key().is_none() {
+        return NameLeft::Key;
+    }
+    short_colon(scanner)
+}
+
+/// Goes to the value of the next entry, after a comma if one is due, or past the closing bracket. Stops in the name of a
+/// member if a fault may be there.
 #[inline(always)]
 pub(crate) fn short_entry<I: Input>(
     scanner: &mut Scanner<I>,
@@ -41,18 +83,22 @@ pub(crate) fn short_entry<I: Input>(
         }
         ShortStep::Member => match kind {
             BracketKind::Array => ShortEntry::Value,
-            BracketKind::Object => ShortEntry::Key,
+            BracketKind::Object => match short_name(scanner) {
+                NameLeft::Nothing => ShortEntry::Value,
+                left => ShortEntry::Member(left),
+            },
         },
     }
 }
 
-/// Passes over a whole number of few digits, and says whether one is in front.
+/// Passes over a string without an escape or a whole number of few digits, and says whether one is in front.
 #[inline(always)]
-pub(crate) fn short_number<I: Input>(scanner: &mut Scanner<I>, c: char) -> bool
+pub(crate) fn short_scalar<I: Input>(scanner: &mut Scanner<I>, c: char) -> bool
     requires { AtScalar c scanner.old }
     ensures { PassesShort scanner.old scanner.new result }
 {
     match kind_at(c) {
+        ValueKind::String => scanner.short_string().is_some(),
         ValueKind::Number => scanner.short_whole(i128::MIN, i128::MAX).is_some(),
         _ => false,
     }

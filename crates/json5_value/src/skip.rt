@@ -13,7 +13,7 @@ use crate::brackets::{BracketKind, OpenBracket, open_bracket};
 use crate::entries::{skip_name, skip_to_value};
 use crate::faults::{fault_here, place_at};
 use crate::kinds::{ValueKind, kind_at, skip_literal};
-use crate::short::{ShortEntry, short_entry, short_number};
+use crate::short::{NameLeft, ShortEntry, short_entry, short_scalar};
 use arrayvec::ArrayVec;
 use json5_text::ErrorCode;
 use json5_text::error::{Error, Result};
@@ -121,18 +121,20 @@ fn begin_value<I: Input>(
     resume_bracket(scanner, brackets, bracket, false)
 }
 
-/// Continues a member whose key is next and whose object isn't among the open ones: goes to its value and pushes the object.
+/// Continues a member that was reached and whose object isn't among the open ones: passes over what is left of its name, and pushes the
+/// object.
 #[inline(never)]
 fn resume_member<I: Input>(
     scanner: &mut Scanner<I>,
     brackets: &mut OpenBrackets,
     bracket: OpenBracket,
+    left: NameLeft,
 ) -> Result<bool>
     requires ready { IsInside scanner.old }
     requires place { length brackets.old.items < 128 }
-    ensures { TurnsMember bracket brackets.old.items brackets.new.items scanner.old scanner.new result }
+    ensures { TurnsMember left bracket brackets.old.items brackets.new.items scanner.old scanner.new result }
 {
-    match skip_name(scanner) {
+    match skip_name(scanner, left) {
         Ok(()) => {
             brackets.push(bracket);
             Ok(true)
@@ -155,8 +157,11 @@ enum ShortTurn {
         bracket: OpenBracket,
         comma_due: bool,
     },
-    /// The object isn't among the open ones, and the key of its member is next.
-    AtKey(OpenBracket),
+    /// The object isn't among the open ones, and this is left of its member's name.
+    Member {
+        bracket: OpenBracket,
+        left: NameLeft,
+    },
     /// The value that was to be passed over has ended.
     Whole,
 }
@@ -177,7 +182,7 @@ fn short_resume<I: Input>(
             brackets.push(bracket);
             ShortTurn::Value
         }
-        ShortEntry::Key => ShortTurn::AtKey(bracket),
+        ShortEntry::Member(left) => ShortTurn::Member { bracket, left },
         ShortEntry::Closed => ShortTurn::Ended,
         ShortEntry::Other => ShortTurn::Within { bracket, comma_due },
     }
@@ -224,7 +229,7 @@ fn short_begin<I: Input>(
     if c == '{' {
         return short_open(scanner, room, brackets, BracketKind::Object);
     }
-    if short_number(scanner, c) {
+    if short_scalar(scanner, c) {
         ShortTurn::Ended
     } else {
         ShortTurn::Begins
@@ -273,7 +278,9 @@ pub fn skip_value<I: Input>(scanner: &mut Scanner<I>, room: usize) -> Result<()>
             ShortTurn::Within { bracket, comma_due } => {
                 resume_bracket(scanner, &mut brackets, bracket, comma_due)?
             }
-            ShortTurn::AtKey(bracket) => resume_member(scanner, &mut brackets, bracket)?,
+            ShortTurn::Member { bracket, left } => {
+                resume_member(scanner, &mut brackets, bracket, left)?
+            }
             ShortTurn::Whole => return Ok(()),
         };
     }

@@ -1,12 +1,14 @@
 //! Keys and values of one token, which are kept.
 
 ghost use Rattle.std.specs.Prelude.{◌≡◌};
+ghost use Rattle.json5_grammar.specs.Language.Blanks.{Solid};
 ghost use Rattle.json5_grammar.specs.Model.ReadTexts.{key};
 ghost use Rattle.json5_text.specs.NumberViews.{number_of};
 ghost use Rattle.json5_text.specs.ValueViews as datum;
 ghost use Rattle.json5_text.specs.ValueViews.{value_of};
-ghost use Rattle.json5_value.specs.Keeping.{Keeps, OwnsKey, IsKeyText, IsNextKey, ReadsScalar, datum_of_literal, next_key};
-ghost use Rattle.json5_value.specs.Opening.{AtScalar, AtNumber};
+ghost use Rattle.json5_value.specs.Keeping.{Keeps, OwnsKey, OwnsText, IsKeyText, IsNextKey, ReadsScalar, datum_of_literal, next_key};
+ghost use Rattle.json5_value.specs.declared.kinds.ValueKind.TheVariants as kind;
+ghost use Rattle.json5_value.specs.Opening.{AtScalar, AtKind};
 ghost use Rattle.json5_value.specs.Steps.{IsInside};
 
 use crate::brackets::BracketKind;
@@ -18,6 +20,7 @@ use json5_text::error::{Error, Result};
 use json5_text::input::Input;
 use json5_text::number::Number;
 use json5_text::scanner::Scanner;
+use json5_text::short_texts::Span;
 use json5_text::text_token::TextToken;
 use json5_text::value::Value;
 use json5_text::whole::Whole;
@@ -37,8 +40,31 @@ pub fn key_owned<I: Input>(scanner: &Scanner<I>, key: TextToken) -> Result<Strin
     Ok(text)
 }
 
+/// Returns an owned copy of the text of a span.
+fn own_text<I: Input>(scanner: &Scanner<I>, span: Span) -> Result<String>
+    ensures { OwnsText scanner.now.input span result }
+{
+    let text = String::from_str(scanner.allocator(), scanner.text_of_span(span))?;
+    Ok(text)
+}
+
 /// Takes the key in front, and returns a copy of its text.
+#[inline(always)]
 fn read_key<I: Input>(scanner: &mut Scanner<I>) -> Result<String>
+    requires ready { IsInside scanner.old }
+    requires solid { Solid scanner.old.unread }
+    ensures { Keeps IsKeyText (key scanner.old.unread) scanner.old scanner.new result }
+{
+    let _offset = scanner.offset();
+    match scanner.short_key() {
+        Some(span) => own_text(scanner, span),
+        None => read_key_slowly(scanner),
+    }
+}
+
+/// The same, whatever the key is.
+#[inline(never)]
+fn read_key_slowly<I: Input>(scanner: &mut Scanner<I>) -> Result<String>
     requires { IsInside scanner.old }
     ensures { Keeps IsKeyText (key scanner.old.unread) scanner.old scanner.new result }
 {
@@ -88,18 +114,51 @@ fn value_of_number(number: Number) -> Value
     }
 }
 
-/// Takes a number, which begins with the character: a whole one of few digits the short way.
-fn read_number<I: Input>(scanner: &mut Scanner<I>, c: char) -> Result<Value>
-    requires { AtNumber c scanner.old }
+/// Takes a string.
+fn read_string<I: Input>(scanner: &mut Scanner<I>) -> Result<Value>
+    requires { AtKind kind.String scanner.old }
+    ensures { ReadsScalar scanner.old scanner.new result }
+{
+    let _offset = scanner.offset();
+    match scanner.short_string() {
+        Some(span) => {
+            let text = own_text(scanner, span)?;
+            Ok(Value::String(text))
+        }
+        None => read_string_slowly(scanner),
+    }
+}
+
+/// The same, whatever the string holds.
+#[inline(never)]
+fn read_string_slowly<I: Input>(scanner: &mut Scanner<I>) -> Result<Value>
+    requires { AtKind kind.String scanner.old }
+    ensures { ReadsScalar scanner.old scanner.new result }
+{
+    let _offset = scanner.offset();
+    let text = scanner.string_owned()?;
+    Ok(Value::String(text))
+}
+
+/// Takes a number.
+fn read_number<I: Input>(scanner: &mut Scanner<I>) -> Result<Value>
+    requires { AtKind kind.Number scanner.old }
     ensures { ReadsScalar scanner.old scanner.new result }
 {
     match scanner.short_whole(i128::MIN, i128::MAX) {
         Some(number) => Ok(value_of_number(Number::Whole(Whole::from_i128(number)))),
-        None => {
-            let number = scanner.number()?;
-            Ok(value_of_number(number))
-        }
+        None => read_number_slowly(scanner),
     }
+}
+
+/// The same, whatever the number is.
+#[inline(never)]
+fn read_number_slowly<I: Input>(scanner: &mut Scanner<I>) -> Result<Value>
+    requires { AtKind kind.Number scanner.old }
+    ensures { ReadsScalar scanner.old scanner.new result }
+{
+    let number = scanner.number()?;
+    Ok(value_of_number(number))
 }
 
 /// Takes a value that is no collection and begins with the character.
@@ -112,12 +171,8 @@ pub(crate) fn read_scalar<I: Input>(scanner: &mut Scanner<I>, c: char) -> Result
             skip_literal(scanner, literal)?;
             Ok(value_of_literal(literal))
         }
-        ValueKind::String => {
-            let _offset = scanner.offset();
-            let text = scanner.string_owned()?;
-            Ok(Value::String(text))
-        }
-        ValueKind::Number => read_number(scanner, c),
+        ValueKind::String => read_string(scanner),
+        ValueKind::Number => read_number(scanner),
         ValueKind::Other => Err(fault_here(scanner, ErrorCode::ExpectedValue)),
     }
 }

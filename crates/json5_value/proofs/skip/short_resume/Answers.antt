@@ -1,11 +1,11 @@
-use Rattle.json5_value.proofs.ShortTurns.{value_resumed, key_resumed, bracket_closed}
+use Rattle.json5_value.proofs.ShortTurns.{value_resumed, member_resumed, bracket_closed}
 use Rattle.json5_value.proofs.skip.short_resume.Goals as goal
 
 pub returns-in-Value : goal.returns-in-Value
 returns-in-Value g c = value_resumed c.args.bracket c.args.comma_due c.args.brackets.now.items c.push.new.self.items c.args.scanner.now c.short_entry.new.scanner (rw c.in-Value.is at c.short_entry.ensures) c.push.ensures.items
 
-pub returns-in-Key : goal.returns-in-Key
-returns-in-Key g c = let (is, entry) = rw c.in-Key.is at c.short_entry.ensures in key_resumed c.args.bracket c.args.comma_due c.args.brackets.now.items c.args.scanner.now c.short_entry.new.scanner is entry
+pub returns-in-Member : goal.returns-in-Member
+returns-in-Member g c = member_resumed c.args.bracket c.args.comma_due c.in-Member.left c.args.brackets.now.items c.args.scanner.now c.short_entry.new.scanner (rw c.in-Member.is at c.short_entry.ensures)
 
 pub returns-in-Closed : goal.returns-in-Closed
 returns-in-Closed g c = bracket_closed c.args.bracket c.args.comma_due c.args.brackets.now.items c.args.scanner.now c.short_entry.new.scanner (rw c.in-Closed.is at c.short_entry.ensures)

@@ -1,5 +1,0 @@
-use Rattle.json5_value.proofs.ShortEntries.{number_short}
-use Rattle.json5_value.proofs.short.short_number.Goals as goal
-
-pub returns-in-Number : goal.returns-in-Number
-returns-in-Number g c = number_short _ _ c.args.scanner.now c.short_whole.new.self c.args.c c.kind_at.result c.short_whole.result c.is_some.result c.requires c.kind_at.ensures c.in-Number.is c.short_whole.ensures c.is_some.ensures
