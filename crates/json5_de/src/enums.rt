@@ -114,7 +114,12 @@ impl<I: Input> Deserializer<I> {
 
     /// Takes the closing bracket of a variant's content, and then the variant's brace, which begins at this offset. A fault of
     /// the bracket without a position gets that of the brace.
-    pub(crate) fn close_content(&mut self, kind: BracketKind, comma_due: bool, brace: usize) -> Result<()>
+    pub(crate) fn close_content(
+        &mut self,
+        kind: BracketKind,
+        comma_due: bool,
+        brace: usize,
+    ) -> Result<()>
         ensures { ClosesContent (brackets_of kind) comma_due brace self.old self.new result }
     {
         match self.close_or_fail(kind, comma_due) {

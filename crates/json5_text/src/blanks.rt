@@ -48,7 +48,10 @@ fn skip_block(text: &str) -> Option<&str>
 fn skip_comment(text: &str) -> Result<&str, Refusal>
     ensures { MatchResult result (λ rest. Continues slash text.now rest.now) (λ e. RefusesByCode e (skip slash (chars text.now))) }
 {
-    let missing = Refusal::TokenError { code: ErrorCode::EofParsingComment, remaining: None };
+    let missing = Refusal::TokenError {
+        code: ErrorCode::EofParsingComment,
+        remaining: None,
+    };
     let Some((c, next)) = front(text) else {
         return Err(missing);
     };
@@ -60,7 +63,10 @@ fn skip_comment(text: &str) -> Result<&str, Refusal>
         };
         Ok(rest)
     } else {
-        Err(Refusal::TokenError { code: ErrorCode::ExpectedComment, remaining: Some(text.len()) })
+        Err(Refusal::TokenError {
+            code: ErrorCode::ExpectedComment,
+            remaining: Some(text.len()),
+        })
     }
 }
 

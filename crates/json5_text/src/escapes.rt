@@ -18,7 +18,10 @@ use json5_grammar::code::ErrorCode;
 fn invalid(escape: &str) -> Refusal
     ensures { result ≡ Refusal.TokenError ErrorCode.InvalidEscapeSequence (Some (length escape.now)) }
 {
-    Refusal::TokenError { code: ErrorCode::InvalidEscapeSequence, remaining: Some(escape.len()) }
+    Refusal::TokenError {
+        code: ErrorCode::InvalidEscapeSequence,
+        remaining: Some(escape.len()),
+    }
 }
 
 /// The character that a string's escape spells, None where it spells none, and what follows it: `escape` begins with the
@@ -30,7 +33,10 @@ pub(crate) fn read_escape<'t>(
     ensures { AnswersAs in_list (escape_at (chars escape.now) (chars text.now)) result }
 {
     let Some((c, rest)) = front(text) else {
-        return Err(Refusal::TokenError { code: ErrorCode::EofParsingEscapeSequence, remaining: None });
+        return Err(Refusal::TokenError {
+            code: ErrorCode::EofParsingEscapeSequence,
+            remaining: None,
+        });
     };
     match short_escape(c) {
         Some(spelled) => Ok((Some(spelled), rest)),
@@ -147,7 +153,10 @@ fn hexadecimal<'t>(count: u32, escape: &str, text: &'t str) -> Result<(u32, &'t 
     let mut rest = text;
     while wanted > 0 {
         let Some(byte) = rest.as_bytes().first() else {
-            return Err(Refusal::TokenError { code: ErrorCode::EofParsingEscapeSequence, remaining: None });
+            return Err(Refusal::TokenError {
+                code: ErrorCode::EofParsingEscapeSequence,
+                remaining: None,
+            });
         };
         let Some(digit) = char::from(*byte).to_digit(16) else {
             return Err(invalid(escape));

@@ -43,16 +43,25 @@ pub(crate) fn hexadecimal<'t>(
     ensures { AnswersAs scanned_of (model.hexadecimal (chars start.now) negative (chars text.now)) result }
 {
     let Some((first, digits)) = front(text) else {
-        return Err(Refusal::TokenError { code: ErrorCode::EofParsingNumber, remaining: None });
+        return Err(Refusal::TokenError {
+            code: ErrorCode::EofParsingNumber,
+            remaining: None,
+        });
     };
     let Some(digit) = first.to_digit(16) else {
-        return Err(Refusal::TokenError { code: ErrorCode::ExpectedNumber, remaining: Some(text.len()) });
+        return Err(Refusal::TokenError {
+            code: ErrorCode::ExpectedNumber,
+            remaining: Some(text.len()),
+        });
     };
     match hexadecimal_digits(digit, digits) {
         Ok((magnitude, rest)) => match Whole::from_parts(negative, magnitude) {
             Some(whole) => Ok((Scanned::Whole(whole), rest)),
             None => Err(Refusal::TooLarge(start.len())),
         },
-        Err(rest) => Err(Refusal::TokenError { code: ErrorCode::OverflowParsingNumber, remaining: Some(rest.len()) }),
+        Err(rest) => Err(Refusal::TokenError {
+            code: ErrorCode::OverflowParsingNumber,
+            remaining: Some(rest.len()),
+        }),
     }
 }

@@ -19,7 +19,10 @@ pub(crate) fn read_key(alloc: Global, end: usize, text: &str) -> Result<(TextTok
     ensures { AnswersToken end (chars text.now) (key_ahead (chars text.now)) result }
 {
     let Some((c, _)) = front(text) else {
-        return Err(Refusal::TokenError { code: ErrorCode::EofParsingIdentifier, remaining: None });
+        return Err(Refusal::TokenError {
+            code: ErrorCode::EofParsingIdentifier,
+            remaining: None,
+        });
     };
     if is_quote(c) {
         return read_string_token(alloc, end, text);

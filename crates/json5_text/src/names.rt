@@ -41,7 +41,10 @@ pub(crate) fn read_item<'t>(
 {
     let (c, rest) = read_escape(escape, after)?;
     if !fits(is_first, c) {
-        return Err(Refusal::TokenError { code: ErrorCode::ExpectedIdentifier, remaining: Some(escape.len()) });
+        return Err(Refusal::TokenError {
+            code: ErrorCode::ExpectedIdentifier,
+            remaining: Some(escape.len()),
+        });
     }
     Ok((Some(c), rest))
 }
@@ -61,10 +64,16 @@ fn read_escape<'t>(escape: &str, after: &'t str) -> Result<(char, &'t str), Refu
     ensures { ReturnsReading (name_escape (chars escape.now) (chars after.now)) result }
 {
     let Some((c, digits)) = front(after) else {
-        return Err(Refusal::TokenError { code: ErrorCode::EofParsingIdentifier, remaining: None });
+        return Err(Refusal::TokenError {
+            code: ErrorCode::EofParsingIdentifier,
+            remaining: None,
+        });
     };
     if c != 'u' {
-        return Err(Refusal::TokenError { code: ErrorCode::InvalidEscapeSequence, remaining: Some(after.len()) });
+        return Err(Refusal::TokenError {
+            code: ErrorCode::InvalidEscapeSequence,
+            remaining: Some(after.len()),
+        });
     }
     unicode_escape(escape, digits)
 }

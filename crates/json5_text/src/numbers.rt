@@ -51,7 +51,10 @@ fn after_zero<'t>(
         return Ok((Scanned::Whole(Whole::from_u128(0)), rest));
     };
     match c {
-        '0'..='9' => Err(Refusal::TokenError { code: ErrorCode::LeadingZero, remaining: Some(start.len()) }),
+        '0'..='9' => Err(Refusal::TokenError {
+            code: ErrorCode::LeadingZero,
+            remaining: Some(start.len()),
+        }),
         'x' | 'X' => hexadecimal(start, negative, after),
         '.' | 'e' | 'E' => decimal_run(start, negative, text),
         _ => Ok((Scanned::Whole(Whole::from_u128(0)), rest)),
@@ -84,14 +87,20 @@ fn unsigned<'t>(
     ensures { AnswersAs scanned_of (model.unsigned (chars start.now) negative (chars text.now)) result }
 {
     let Some((first, rest)) = front(text) else {
-        return Err(Refusal::TokenError { code: ErrorCode::EofParsingNumber, remaining: None });
+        return Err(Refusal::TokenError {
+            code: ErrorCode::EofParsingNumber,
+            remaining: None,
+        });
     };
     match first {
         'I' => word(Scanned::Infinite(negative), "nfinity", rest),
         'N' => word(Scanned::NotANumber(negative), "aN", rest),
         '0' => after_zero(start, negative, text, rest),
         '1'..='9' | '.' => decimal_run(start, negative, text),
-        _ => Err(Refusal::TokenError { code: ErrorCode::ExpectedNumber, remaining: Some(text.len()) }),
+        _ => Err(Refusal::TokenError {
+            code: ErrorCode::ExpectedNumber,
+            remaining: Some(text.len()),
+        }),
     }
 }
 

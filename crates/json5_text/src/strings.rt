@@ -67,12 +67,18 @@ fn read_quote(text: &str) -> Result<(Quote, &str), Refusal>
     ensures { AnswersQuote (chars text.now) result }
 {
     let Some((c, body)) = front(text) else {
-        return Err(Refusal::TokenError { code: ErrorCode::EofParsingString, remaining: None });
+        return Err(Refusal::TokenError {
+            code: ErrorCode::EofParsingString,
+            remaining: None,
+        });
     };
     match c {
         '"' => Ok((Quote::Double, body)),
         '\'' => Ok((Quote::Single, body)),
-        _ => Err(Refusal::TokenError { code: ErrorCode::ExpectedString, remaining: Some(text.len()) }),
+        _ => Err(Refusal::TokenError {
+            code: ErrorCode::ExpectedString,
+            remaining: Some(text.len()),
+        }),
     }
 }
 

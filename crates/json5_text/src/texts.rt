@@ -218,19 +218,28 @@ fn read_stop(kind: Kind, text: &str) -> Result<Stop<'_>, Refusal>
     ensures { AnswersStop kind text.now result }
 {
     let Some((c, next)) = front(text) else {
-        return Err(Refusal::TokenError { code: kind.ends_early(), remaining: None });
+        return Err(Refusal::TokenError {
+            code: kind.ends_early(),
+            remaining: None,
+        });
     };
     if c == '\\' {
         return Ok(Stop::Escape(kind, text, next));
     }
     match kind {
-        Kind::Name => Err(Refusal::TokenError { code: ErrorCode::ExpectedIdentifier, remaining: Some(text.len()) }),
+        Kind::Name => Err(Refusal::TokenError {
+            code: ErrorCode::ExpectedIdentifier,
+            remaining: Some(text.len()),
+        }),
         Kind::NameRest => Ok(Stop::End(text)),
         Kind::String(quote) => {
             if c == char::from(quote.byte()) {
                 Ok(Stop::End(next))
             } else {
-                Err(Refusal::TokenError { code: ErrorCode::LineTerminatorInString, remaining: Some(text.len()) })
+                Err(Refusal::TokenError {
+                    code: ErrorCode::LineTerminatorInString,
+                    remaining: Some(text.len()),
+                })
             }
         }
     }

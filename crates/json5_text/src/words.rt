@@ -23,10 +23,16 @@ pub(crate) fn skip_word<'t>(
     let mut rest = text;
     while let Some((letter, letters)) = front(wanted) {
         let Some((c, next)) = front(rest) else {
-            return Err(Refusal::TokenError { code: ends, remaining: None });
+            return Err(Refusal::TokenError {
+                code: ends,
+                remaining: None,
+            });
         };
         if c != letter {
-            return Err(Refusal::TokenError { code: differs, remaining: Some(rest.len()) });
+            return Err(Refusal::TokenError {
+                code: differs,
+                remaining: Some(rest.len()),
+            });
         }
         wanted = letters;
         rest = next;

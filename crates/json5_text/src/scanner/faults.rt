@@ -41,8 +41,14 @@ impl<I: Input> Scanner<I> {
         ensures { MadeOf self.now refusal result }
     {
         match refusal {
-            Refusal::TokenError { code, remaining: None } => Error::new(code),
-            Refusal::TokenError { code, remaining: Some(left) } => Error::new_at(self.position_where_left(left), code),
+            Refusal::TokenError {
+                code,
+                remaining: None,
+            } => Error::new(code),
+            Refusal::TokenError {
+                code,
+                remaining: Some(left),
+            } => Error::new_at(self.position_where_left(left), code),
             Refusal::InvalidNumber(left) => self.custom(
                 self.position_where_left(left),
                 "invalid number",
