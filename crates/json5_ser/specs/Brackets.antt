@@ -1,18 +1,14 @@
--- The brackets as characters.
-use Rattle.std.specs.Prelude.{ℕ, Bool, true, false}
-use Rattle.json5_grammar.specs.Language.Characters.{left_bracket, right_bracket, left_brace, right_brace}
+-- The kinds of brackets, in the words of the grammar.
+use Rattle.std.specs.Prelude.{Bool, true, false}
+use Rattle.json5_grammar.specs.Faults.Fronts.{BracketKind, of_array, of_object}
 use Rattle.json5_ser.specs.declared.brackets.Brackets.{Brackets}
 use Rattle.json5_ser.specs.declared.brackets.Brackets.TheVariants as brackets
 
-abbrev pub opening_sign : Brackets → ℕ
-opening_sign brackets.Square = left_bracket
-opening_sign brackets.Curly = left_brace
+abbrev pub bracket_of : Brackets → BracketKind
+bracket_of brackets.Square = of_array
+bracket_of brackets.Curly = of_object
 
-abbrev pub closing_sign : Brackets → ℕ
-closing_sign brackets.Square = right_bracket
-closing_sign brackets.Curly = right_brace
-
--- whether they stand round a list
+-- whether they are round a list
 abbrev pub is_square : Brackets → Bool
 is_square brackets.Square = true
 is_square brackets.Curly = false

@@ -4,10 +4,10 @@ ghost use Rattle.std.specs.Prelude.{◌≡◌, true, false, IfOk};
 ghost use Rattle.std.specs.Borrow.{sem};
 ghost use Rattle.std.specs.Str.{chars};
 ghost use Rattle.json5_grammar.specs.Language.Characters.{left_bracket, left_brace};
-ghost use Rattle.json5_ser.specs.Brackets.{opening_sign};
 ghost use Rattle.json5_ser.specs.WrittenTrees.{named};
 ghost use Rattle.json5_ser.specs.Out.{out, element_out, key_part, value_part, entry_out};
 ghost use Rattle.json5_ser.specs.Writes.{Writes};
+ghost use Rattle.json5_ser.specs.Commas.{comma_before, element_line};
 
 use crate::brackets::Brackets;
 use crate::stage::Stage;
@@ -65,9 +65,17 @@ impl<W: Write + Drop> Serializer<W> {
     fn element<T: Serialize>(&mut self, value: &T) -> Result<()>
         ensures { Writes (element_out self.old.depth (out self.old.limit (T.tree value.now) self.old.depth)) self.old result self.new }
     {
-        self.start_line()?;
+        self.start_line(false)?;
         value.serialize(self)?;
         self.put(",")
+    }
+
+    /// The line of an element, without the comma after it.
+    pub(crate) fn element_line<T: Serialize>(&mut self, comma_due: bool, value: &T) -> Result<()>
+        ensures { Writes (comma_before comma_due (element_line self.old.limit self.old.depth (T.tree value.now))) self.old result self.new }
+    {
+        self.start_line(comma_due)?;
+        value.serialize(self)
     }
 
     /// Opens an array, and lends the serializer to the collection that writes its elements. The length changes nothing.
@@ -224,7 +232,7 @@ impl<W: Write + Drop> Serializer<W> {
 }
 
 impl<W: Write + Drop> SerializeCollection<'_, W> {
-    ghost use Rattle.json5_ser.specs.Lending.{state_of, is_list, key_pending, Steps, Settles, ending, outside};
+    ghost use Rattle.json5_ser.specs.Lending.{state_of, is_list, key_pending, ExpectsKey, Steps, Settles, ending, outside};
 
     /// Says whether it is an array, for code that gets a collection of either kind. It still answers after a refusal.
     pub fn is_list(&self) -> bool
@@ -278,8 +286,7 @@ impl<W: Write + Drop> SerializeCollection<'_, W> {
     ///
     /// As every call: see [`SerializeCollection`]. `InvalidKey` comes after the start of the line was written.
     pub fn serialize_key<K: SerializeKey>(&mut self, key: &K) -> Result<()>
-        requires object { is_list self.old ≡ false }
-        requires no_key { key_pending self.old ≡ false }
+        requires { ExpectsKey self.old }
         ensures { Steps (key_part (state_of self.old).depth (K.as_key key.now)) true self.old result self.new }
     {
         self.ser.set_failed(self.failed);
@@ -311,8 +318,7 @@ impl<W: Write + Drop> SerializeCollection<'_, W> {
         key: &K,
         value: &T,
     ) -> Result<()>
-        requires object { is_list self.old ≡ false }
-        requires no_key { key_pending self.old ≡ false }
+        requires { ExpectsKey self.old }
         ensures { Steps (entry_out (state_of self.old).limit (state_of self.old).depth (K.as_key key.now) (T.tree value.now)) false self.old result self.new }
     {
         self.ser.set_failed(self.failed);
@@ -326,8 +332,7 @@ impl<W: Write + Drop> SerializeCollection<'_, W> {
     ///
     /// As every call: see [`SerializeCollection`].
     pub fn serialize_field<T: Serialize>(&mut self, key: &'static str, value: &T) -> Result<()>
-        requires object { is_list self.old ≡ false }
-        requires no_key { key_pending self.old ≡ false }
+        requires { ExpectsKey self.old }
         ensures { Steps (entry_out (state_of self.old).limit (state_of self.old).depth (named (chars key.now)) (T.tree value.now)) false self.old result self.new }
     {
         self.serialize_entry(&key, value)
@@ -355,6 +360,6 @@ impl<W: Write + Drop> SerializeCollection<'_, W> {
         if !in_variant {
             return Ok(());
         }
-        ser.close_variant()
+        ser.close_after(true, Brackets::Curly)
     }
 }

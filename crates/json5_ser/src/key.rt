@@ -6,9 +6,11 @@ ghost use Rattle.hex.specs.Hex.{encode_lower};
 ghost use Rattle.json5_grammar.specs.Written.NumberText.{decimal_text};
 ghost use Rattle.json5_ser.specs.WrittenTrees.{WrittenKey, named, option_key};
 ghost use Rattle.json5_ser.specs.Out.{out, key_part, value_part, entry_out, variant_opening, bool_text};
-ghost use Rattle.json5_ser.specs.Brackets.{opening_sign};
+ghost use Rattle.json5_grammar.specs.Faults.Fronts.{opening};
+ghost use Rattle.json5_ser.specs.Brackets.{bracket_of};
 ghost use Rattle.json5_ser.specs.Writes.{Writes, at_depth};
 ghost use Rattle.json5_ser.specs.Keys.{WritesKey};
+ghost use Rattle.json5_ser.specs.Commas.{comma_before, member_line};
 
 use crate::brackets::Brackets;
 use crate::names::is_identifier;
@@ -109,7 +111,7 @@ impl<W: Write + Drop> Serializer<W> {
     pub(crate) fn key<K: SerializeKey>(&mut self, key: &K) -> Result<()>
         ensures { Writes (key_part self.old.depth (K.as_key key.now)) self.old result self.new }
     {
-        self.start_line()?;
+        self.start_line(false)?;
         key.serialize_key(MapKey { ser: self })
     }
 
@@ -123,13 +125,28 @@ impl<W: Write + Drop> Serializer<W> {
 
     /// Opens the object of a variant, and what the variant holds.
     pub(crate) fn open_variant(&mut self, variant: &'static str, brackets: Brackets) -> Result<()>
-        ensures opens { Writes (variant_opening self.old.limit (chars variant.now) (opening_sign brackets) self.old.depth) self.old result (at_depth self.old.depth self.new) }
+        ensures opens { Writes (variant_opening self.old.limit (chars variant.now) (opening (bracket_of brackets)) self.old.depth) self.old result (at_depth self.old.depth self.new) }
         ensures deeper { OnOk result (self.new.depth ≡ self.old.depth + 1 + 1) }
     {
         self.open(Brackets::Curly)?;
         self.key(&variant)?;
         self.put(": ")?;
         self.open(brackets)
+    }
+
+    /// The line of a member, without the comma after it.
+    pub(crate) fn member_line<K: SerializeKey, T: Serialize>(
+        &mut self,
+        comma_due: bool,
+        key: &K,
+        value: &T,
+    ) -> Result<()>
+        ensures { Writes (comma_before comma_due (member_line self.old.limit self.old.depth (K.as_key key.now) (T.tree value.now))) self.old result self.new }
+    {
+        self.start_line(comma_due)?;
+        key.serialize_key(MapKey { ser: self })?;
+        self.put(": ")?;
+        value.serialize(self)
     }
 
     /// The value after a key.

@@ -3,6 +3,7 @@
 ghost use Rattle.json5_ser.specs.WrittenTrees.{array, elements_of};
 ghost use Rattle.json5_ser.specs.Writes.{WritesTree};
 
+use crate::brackets::Brackets;
 use crate::{Serialize, Serializer};
 use json5_text::error::Result;
 use std::io::Write;
@@ -11,11 +12,13 @@ use std::io::Write;
 fn write_items<T: Serialize, W: Write + Drop>(items: &[T], ser: &mut Serializer<W>) -> Result<()>
     ensures { WritesTree (array (elements_of T.tree items.now)) ser.old result ser.new }
 {
-    let mut list = ser.serialize_seq(Some(items.len()))?;
+    ser.open(Brackets::Square)?;
+    let mut comma_due = false;
     for item in items {
-        list.serialize_element(item)?;
+        ser.element_line(comma_due, item)?;
+        comma_due = true;
     }
-    list.end()
+    ser.close_after(comma_due, Brackets::Square)
 }
 
 /// Writes an array of the items.

@@ -6,19 +6,21 @@ ghost use Rattle.json5_ser.specs.Quotes.{delimiter};
 ghost use Rattle.json5_grammar.specs.Written.Quoting.{escaped_all, quoted_text};
 ghost use Rattle.json5_ser.specs.WrittenTrees.{null, boolean, text};
 ghost use Rattle.json5_grammar.specs.Language.Documents.{max_depth};
-ghost use Rattle.json5_ser.specs.Out.{piece, ◌then◌, stopped, line, opened_by, closed_by, invalid_key, too_deep};
+ghost use Rattle.json5_ser.specs.Out.{piece, stopped, line, opened_by, closed_by, invalid_key, too_deep};
 ghost use Rattle.json5_grammar.specs.declared.code.ErrorCode.TheVariants as codes;
 ghost use Rattle.json5_text.specs.Errors.{code, kind_of, place_of};
-ghost use Rattle.json5_grammar.specs.Language.Characters.{comma_sign, right_brace, double_quote};
-ghost use Rattle.json5_ser.specs.Brackets.{opening_sign, closing_sign};
+ghost use Rattle.json5_grammar.specs.Language.Characters.{double_quote};
+ghost use Rattle.json5_grammar.specs.Faults.Fronts.{opening, closing};
+ghost use Rattle.json5_ser.specs.Brackets.{bracket_of};
+ghost use Rattle.json5_ser.specs.Commas.{comma_before};
 ghost use Rattle.json5_ser.specs.Stages.{is_started};
-ghost use Rattle.json5_ser.specs.Writes.{SerializerState, Writes, WritesTree, fresh, fresh_within, at_depth};
+ghost use Rattle.json5_ser.specs.Writes.{SerializerState, Writes, WritesTree, fresh, fresh_within, at_depth, after_closing};
 
 use crate::Serialize;
 use crate::brackets::Brackets;
+use crate::escape_free::is_escape_free;
 use crate::lines::line;
 use crate::output::write_whole;
-use crate::escape_free::is_escape_free;
 use crate::quoting::{Quote, split_at_escape};
 use crate::stage::Stage;
 use itoa::{Buffer, Integer};
@@ -361,16 +363,16 @@ impl<W: Write + Drop> Serializer<W> {
         self.serialize_str(value.encode_utf8(&mut buffer))
     }
 
-    /// Starts the line of a member, or of the bracket that closes.
-    pub(crate) fn start_line(&mut self) -> Result<()>
-        ensures { Writes (piece (line self.old.depth)) self.old result self.new }
+    /// Starts the line of a member, or of the bracket that closes, after a comma where one is due.
+    pub(crate) fn start_line(&mut self, comma_due: bool) -> Result<()>
+        ensures { Writes (comma_before comma_due (piece (line self.old.depth))) self.old result self.new }
     {
-        self.put(line(self.depth))
+        self.put(line(comma_due, self.depth))
     }
 
     /// Opens a collection.
     pub(crate) fn open(&mut self, brackets: Brackets) -> Result<()>
-        ensures opens { Writes (opened_by self.old.limit self.old.depth (opening_sign brackets)) self.old result (at_depth self.old.depth self.new) }
+        ensures opens { Writes (opened_by self.old.limit self.old.depth (opening (bracket_of brackets))) self.old result (at_depth self.old.depth self.new) }
         ensures deeper { OnOk result (self.new.depth ≡ self.old.depth + 1) }
     {
         if self.depth >= self.limit.get() {
@@ -383,28 +385,32 @@ impl<W: Write + Drop> Serializer<W> {
 
     /// Counts one open bracket less.
     fn exit_bracket(&mut self)
-        ensures { self.new ≡ at_depth (self.old.depth - 1) self.old }
+        ensures { self.new ≡ after_closing self.old }
     {
         self.depth = self.depth.saturating_sub(1);
     }
 
     /// Closes a collection; its bracket is on a line of its own where something was written in it.
     pub(crate) fn close(&mut self, brackets: Brackets, stage: Stage) -> Result<()>
-        ensures { Writes (closed_by (self.old.depth - 1) (is_started stage) (closing_sign brackets)) (at_depth (self.old.depth - 1) self.old) result self.new }
+        ensures { Writes (closed_by (self.old.depth - 1) (is_started stage) (closing (bracket_of brackets))) (after_closing self.old) result self.new }
     {
         self.exit_bracket();
         if !stage.is_started() {
             return self.put(brackets.closing());
         }
-        self.start_line()?;
+        self.start_line(false)?;
         self.put(brackets.closing())
     }
 
-    /// Ends the only field of a variant's object, and closes the object.
-    pub(crate) fn close_variant(&mut self) -> Result<()>
-        ensures { Writes (piece (comma_sign ∷ []) then closed_by (self.old.depth - 1) true right_brace) (at_depth (self.old.depth - 1) self.old) result self.new }
+    /// Closes a collection whose last member lacks its comma, if it has one.
+    pub(crate) fn close_after(&mut self, comma_due: bool, brackets: Brackets) -> Result<()>
+        ensures { Writes (comma_before comma_due (closed_by (self.old.depth - 1) comma_due (closing (bracket_of brackets)))) (after_closing self.old) result self.new }
     {
-        self.put(",")?;
-        self.close(Brackets::Curly, Stage::Started)
+        self.exit_bracket();
+        if !comma_due {
+            return self.put(brackets.closing());
+        }
+        self.start_line(true)?;
+        self.put(brackets.closing())
     }
 }
