@@ -17,7 +17,7 @@ use Rattle.json5_ser.specs.declared.brackets.Brackets.TheVariants as brackets
 use Rattle.json5_ser.specs.declared.collection.SerializeCollection.{SerializeCollection}
 use Rattle.json5_ser.proofs.Joins.{Refuses-before, Writes-handed, Reaches, Reaches-first, Reaches-next, Reaches-last}
 
--- elements, fields, or the value of the key that stands last, and fields after it
+-- elements, fields, or the value of the key that was written last, and fields after it
 pub data Rest : Type 0 where
   elements : Elements → Rest
   fields : Fields → Rest
@@ -33,7 +33,7 @@ is_value (elements ts) = false
 is_value (fields fs) = false
 is_value (value t fs) = true
 
--- its text in a collection within d others; the test says that something stands in it already
+-- its text in a collection within d others; the test says that something was written in it already
 abbrev pub rest_out : ℕ → Rest → ℕ → Bool → Out
 rest_out limit (elements ts) d started = elements_out limit ts d started
 rest_out limit (fields fs) d started = fields_out limit fs d started
@@ -116,7 +116,7 @@ BeginsWith limit part rest r d started = rest_out limit r d started ≡ part the
 left_first : (all part : Out) (at o : SerializerState) (v : Bool) (r rest : Rest) (started : Bool) → BeginsWith at.limit part rest r (inner v at.depth) started → Reaches all at o (rest_in at.limit v at.depth r started) → Reaches all at o (part then rest_in at.limit v at.depth rest true)
 left_first all part at o v r rest started e h = subst (Reaches all at o) (ap (within_variant v at.depth) e ∙ variant_then v at.depth part (rest_out at.limit rest (inner v at.depth) true)) h
 
--- the serializer that a collection holds stands as failed after a refusal too
+-- the serializer that a collection holds has failed after a refusal too
 lender-by : (w : Out) (o n : SerializerState) (d : ℕ) (f : Bool) (r : Refusal) → n.failed ≡ true → RefusesBy w o r (record n { depth = d; failed = f }) → RefusesBy w o r n
 lender-by w o n d f by_key b p = record { was = p.was; stop = p.stop; bytes = p.bytes; failed = b }
 lender-by w o n d f by_depth b p = record { was = p.was; stop = p.stop; bytes = p.bytes; failed = b }

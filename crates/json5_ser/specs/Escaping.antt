@@ -10,7 +10,7 @@ pub record StartsWithScalar (t : List ℕ) (c : ℕ) (rest : List ℕ) : Type 0 
   pub scalar : IsScalar c
   pub utf8 : IsUtf8 rest
 
--- each character stands for itself
+-- each character is written as it is
 abbrev pub NeedsNoEscape : ℕ → List ℕ → Type 0
 NeedsNoEscape q t = escaped_all q (chars t) ≡ chars t
 
@@ -20,7 +20,7 @@ pub record SplitsAtEscape (q : ℕ) (t raw escape after : List ℕ) : Type 0 whe
   pub shorter : length after < length t
   pub utf8 : IsUtf8 after
 
--- the characters before rest are written as they stand
+-- the characters before rest are written as they are
 pub record WritesAsIs (q : ℕ) (t rest : List ℕ) : Type 0 where
   pub before : List ℕ
   pub scalars : all_scalars before ≡ true

@@ -18,7 +18,7 @@ abbrev pub within_variant : Bool → ℕ → Out → Out
 within_variant true d o = o then (piece (comma_sign ∷ []) then closed_by d true right_brace)
 within_variant false d o = o
 
--- how many brackets stand round a collection that was begun within d
+-- how many brackets are round a collection that was begun within d
 abbrev pub inner : Bool → ℕ → ℕ
 inner true d = d + 1
 inner false d = d

@@ -1,5 +1,5 @@
 -- The written text of a tree, and where it stops.
--- Each member of a collection stands on a line of its own, two spaces a level, and a comma follows it.
+-- Each member of a collection is on a line of its own, two spaces a level, and a comma follows it.
 use Rattle.std.specs.Prelude.{ℕ, ◌+◌, ◌*◌, List, [], ◌∷◌, ◌++◌, Bool, true, false, replicate, nat_lt, cond}
 use Rattle.json5_grammar.specs.Language.Characters.{line_feed, space, comma_sign, colon_sign, left_bracket, right_bracket, left_brace, right_brace}
 use Rattle.json5_grammar.specs.Language.Numbers.{Number}
@@ -59,7 +59,7 @@ key_out bad = stopped invalid_key
 abbrev pub opened_by : ℕ → ℕ → ℕ → Out
 opened_by limit d bracket = cond (nat_lt d limit) (piece (bracket ∷ [])) (stopped too_deep)
 
--- what closes it: the bracket alone where nothing stands in it
+-- what closes it: the bracket alone where nothing was written in it
 abbrev pub closed_by : ℕ → Bool → ℕ → Out
 closed_by d true bracket = piece (line d ++ bracket ∷ [])
 closed_by d false bracket = piece (bracket ∷ [])
@@ -85,7 +85,7 @@ abbrev mutual
   out limit (written.array ts) d = opened_by limit d left_bracket then elements_out limit ts d false
   out limit (written.object fs) d = opened_by limit d left_brace then fields_out limit fs d false
 
-  -- what follows the bracket that opens a list; the test says that something stands in it already
+  -- what follows the bracket that opens a list; the test says that something was written in it already
   pub elements_out : ℕ → Elements → ℕ → Bool → Out
   elements_out limit no_element d started = closed_by d started right_bracket
   elements_out limit (element t ts) d started = element_out (d + 1) (out limit t (d + 1)) then elements_out limit ts d true

@@ -3,7 +3,7 @@ use Rattle.std.specs.Prelude.{Bool, true, false}
 use Rattle.json5_ser.specs.declared.stage.Stage.{Stage}
 use Rattle.json5_ser.specs.declared.stage.Stage.TheVariants as stage
 
--- whether something stands in it
+-- whether something was written in it
 abbrev pub is_started : Stage → Bool
 is_started stage.Empty = false
 is_started stage.Started = true

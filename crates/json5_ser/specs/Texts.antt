@@ -21,7 +21,7 @@ StopsAs o (code _) = ⊥
 StopsAs o failed_write = ⊥
 StopsAs o (custom _) = ⊥
 
--- a refusal of `to_string`: it has no place
+-- a refusal of `to_string`: it has no position
 pub record RefusesToString (o : Out) (e : Error) : Type 0 where
   pub stops : StopsAs o (kind_of e)
   pub no_place : place_of e ≡ None

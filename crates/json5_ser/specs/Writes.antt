@@ -72,7 +72,7 @@ RefusesBy o old by_writer new = Broke o old new
 RefusesBy o old by_refusal new = Idled old new
 RefusesBy o old by_none new = ⊥
 
--- a refusal has no place
+-- a refusal has no position
 pub record RefusesWrite (o : Out) (old : SerializerState) (e : Error) (new : SerializerState) : Type 0 where
   pub leaves : RefusesBy o old (refusal_of (kind_of e)) new
   pub no_place : place_of e ≡ None

@@ -1,12 +1,23 @@
 //! Lists, written as arrays (JSON5 section 4).
 
 ghost use Rattle.json5_ser.specs.WrittenTrees.{array, elements_of};
-ghost use Rattle.json5_ser.specs.Writes.{WritesTree};
+ghost use Rattle.json5_ser.specs.Commas.{comma_before, element_line};
+ghost use Rattle.json5_ser.specs.Writes.{Writes, WritesTree};
 
 use crate::brackets::Brackets;
 use crate::{Serialize, Serializer};
 use json5_text::error::Result;
 use std::io::Write;
+
+impl<W: Write + Drop> Serializer<W> {
+    /// The line of an element, without the comma after it.
+    fn element_line<T: Serialize>(&mut self, comma_due: bool, value: &T) -> Result<()>
+        ensures { Writes (comma_before comma_due (element_line self.old.limit self.old.depth (T.tree value.now))) self.old result self.new }
+    {
+        self.start_line(comma_due)?;
+        value.serialize(self)
+    }
+}
 
 /// A list of the items.
 fn write_items<T: Serialize, W: Write + Drop>(items: &[T], ser: &mut Serializer<W>) -> Result<()>
