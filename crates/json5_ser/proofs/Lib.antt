@@ -16,6 +16,7 @@ pub mod Remains
 pub mod NamesFound
 pub mod VariantOpened
 pub mod Members
+pub mod Commas
 pub mod ValuesInside
 pub mod SpelledKeys
 pub mod HexPieces

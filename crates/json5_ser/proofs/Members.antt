@@ -61,7 +61,7 @@ variant_list_refused u ts at last e result p is = refused_first _ (variant_openi
 pub variant_object_refused : {A : Type 0} (u : List ℕ) (fs : Fields) (at last : SerializerState) (e : Error) (result : Result A Error) → RefusesWrite (variant_opening at.limit u left_brace at.depth) at e last → IsErrAnd result (λ y. y ≡ e) → WritesTree (struct_variant u fs) at result last
 variant_object_refused u fs at last e result p is = refused_first _ (variant_opening at.limit u left_brace at.depth) _ at last e result (variant_object at.limit u fs at.depth) p is
 
-item_first : {A : Type 0} (xs : List A) (i : ℕ) (x : A) → i < length xs → x ≡ get_or xs i x → drop i xs ≡ x ∷ drop (i + 1) xs
+pub item_first : {A : Type 0} (xs : List A) (i : ℕ) (x : A) → i < length xs → x ≡ get_or xs i x → drop i xs ≡ x ∷ drop (i + 1) xs
 item_first xs i x h e = rw add-one (drop-cons xs i x h ∙ ap (λ y. y ∷ drop (suc i) xs) (sym e))
 
 module _ {W : Type 0} where

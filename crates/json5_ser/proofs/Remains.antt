@@ -9,7 +9,8 @@ use Rattle.json5_ser.specs.WrittenTrees.{Written, Elements, Fields}
 use Rattle.json5_ser.specs.Out.{Out, Stop, whole, invalid_key, too_deep, no_number, followed_by, piece, ◌then◌, closed_by, out, elements_out, fields_out, value_part}
 use Rattle.json5_ser.specs.Writes.{SerializerState, Wrote, Refusal, by_key, by_depth, by_writer, by_refusal, by_none, refusal_of, RefusesBy, RefusesWrite, Writes, WritesTree, at_depth}
 use Rattle.json5_text.specs.Errors.{kind_of}
-use Rattle.json5_ser.specs.Brackets.{closing_sign, is_square}
+use Rattle.json5_grammar.specs.Faults.Fronts.{closing}
+use Rattle.json5_ser.specs.Brackets.{bracket_of, is_square}
 use Rattle.json5_ser.specs.Lending.{within_variant, inner, serializer_of, reference_of, state_of, is_list, key_pending, has_member, in_variant, Opened, Steps}
 use Rattle.json5_ser.specs.declared.brackets.Brackets.{Brackets}
 use Rattle.json5_ser.specs.declared.brackets.Brackets.TheVariants as brackets
@@ -172,11 +173,11 @@ module _ {W : Type 0} where
 
 -- ---- the end
 
-pub closes_list : (b : Brackets) → is_square b ≡ true → closing_sign b ≡ right_bracket
+pub closes_list : (b : Brackets) → is_square b ≡ true → closing (bracket_of b) ≡ right_bracket
 closes_list brackets.Square e = refl
 closes_list brackets.Curly e = absurd (cc)
 
-pub closes_object : (b : Brackets) → is_square b ≡ false → closing_sign b ≡ right_brace
+pub closes_object : (b : Brackets) → is_square b ≡ false → closing (bracket_of b) ≡ right_brace
 closes_object brackets.Square e = absurd (cc)
 closes_object brackets.Curly e = refl
 
@@ -187,10 +188,10 @@ outer_is false d e h = omega (arith, h)
 inner_is : (v : Bool) (d e : ℕ) → e ≡ inner v d + 1 → e - 1 ≡ inner v d
 inner_is v d e h = omega (arith, h)
 
-pub ends_whole : {A : Type 0} (v started : Bool) (b : Brackets) (sign : ℕ) (all : Out) (at o n : SerializerState) (r : Result A Error) → o.depth ≡ inner v at.depth + 1 → closing_sign b ≡ sign
-    → Reaches all at (at_depth at.depth o) (within_variant v at.depth (closed_by (inner v at.depth) started sign)) → Writes (within_variant v (o.depth - inner v 1) (closed_by (o.depth - 1) started (closing_sign b))) (at_depth (o.depth - inner v 1) o) r n → Writes all at r n
+pub ends_whole : {A : Type 0} (v started : Bool) (b : Brackets) (sign : ℕ) (all : Out) (at o n : SerializerState) (r : Result A Error) → o.depth ≡ inner v at.depth + 1 → closing (bracket_of b) ≡ sign
+    → Reaches all at (at_depth at.depth o) (within_variant v at.depth (closed_by (inner v at.depth) started sign)) → Writes (within_variant v (o.depth - inner v 1) (closed_by (o.depth - 1) started (closing (bracket_of b)))) (at_depth (o.depth - inner v 1) o) r n → Writes all at r n
 ends_whole v started b sign all at o n r same is h w =
-    let close = subst (λ k. Writes (within_variant v k (closed_by (o.depth - 1) started (closing_sign b))) (at_depth k o) r n) (outer_is v at.depth o.depth same) w in
-    let inside = subst (λ k. Writes (within_variant v at.depth (closed_by k started (closing_sign b))) (at_depth at.depth o) r n) (inner_is v at.depth o.depth same) close in
+    let close = subst (λ k. Writes (within_variant v k (closed_by (o.depth - 1) started (closing (bracket_of b)))) (at_depth k o) r n) (outer_is v at.depth o.depth same) w in
+    let inside = subst (λ k. Writes (within_variant v at.depth (closed_by k started (closing (bracket_of b)))) (at_depth at.depth o) r n) (inner_is v at.depth o.depth same) close in
     let signed = subst (λ k. Writes (within_variant v at.depth (closed_by (inner v at.depth) started k)) (at_depth at.depth o) r n) is inside in
     Reaches-last all (within_variant v at.depth (closed_by (inner v at.depth) started sign)) at (at_depth at.depth o) n r h signed

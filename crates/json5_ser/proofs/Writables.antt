@@ -8,12 +8,12 @@ use Rattle.std.specs.Cmp.Lexicographic.{bytes_decides}
 use Rattle.std.proofs.lemmas.Int.{ints}
 use lib.Signed.{le_z, mag}
 use Rattle.json5_grammar.specs.Language.Characters.{is_digit, Each, no_char, char}
-use Rattle.json5_grammar.specs.Language.Numbers.{Number, infinite, nan, finite, whole, decimal, without_zeros, is_empty, InWhole}
-use Rattle.json5_grammar.specs.Written.NumberText.{IsNumber, IsNormal, number_text}
+use Rattle.json5_grammar.specs.Language.Numbers.{Number, Decimal, infinite, nan, finite, whole, decimal, without_zeros, is_empty, InWhole}
+use Rattle.json5_grammar.specs.Written.NumberText.{IsNumber, IsNormal, number_text, decimal_text}
 use Rattle.json5_text.specs.declared.error.Error.{Error}
 use Rattle.json5_ser.specs.Writable.{is_within, is_normal, is_writable}
 use Rattle.json5_ser.specs.Out.{Out, whole as ended_whole, no_number, piece, stopped, number_out}
-use Rattle.json5_ser.specs.Writes.{SerializerState, Writes}
+use Rattle.json5_ser.specs.Writes.{SerializerState, Wrote, RefusesWrite, Writes}
 use Rattle.std.proofs.lemmas.Bool.{and_parts}
 
 both_from : (a b : Bool) → a ≡ true → b ≡ true → (a && b) ≡ true
@@ -91,3 +91,16 @@ unsigned_whole n l = (omega (arith, ints), omega (arith, ints, l))
 pub signed_whole : (z : ℤ) → mag z < 2 ^ 127 → InWhole z
 signed_whole (pos n) l = (omega (arith, ints), omega (arith, ints, l))
 signed_whole (negsuc n) l = (omega (arith, ints, l), omega (arith, ints))
+
+-- a decimal in normal form is written as its text
+pub Writes-decimal : {A : Type 0} (v : Decimal) (o m : SerializerState) (r : Result A Error) → IsNumber (decimal v) → Writes (number_out (decimal v)) o r m → Writes (piece (decimal_text v)) o r m
+Writes-decimal v o m r h w = subst (λ x. Writes x o r m) (number_piece (decimal v) h) w
+
+pub decimal_wrote : (v : Decimal) (o m : SerializerState) → IsNumber (decimal v) → Wrote (number_out (decimal v)) o m → Wrote (piece (decimal_text v)) o m
+decimal_wrote v o m h w = subst (λ x. Wrote x o m) (number_piece (decimal v) h) w
+
+pub decimal_refused : (v : Decimal) (o m : SerializerState) (e : Error) → IsNumber (decimal v) → RefusesWrite (number_out (decimal v)) o e m → RefusesWrite (piece (decimal_text v)) o e m
+decimal_refused v o m e h w = subst (λ x. RefusesWrite x o e m) (number_piece (decimal v) h) w
+
+pub number_wrote : (n : Number) (o m : SerializerState) → IsNumber n → Wrote (piece (number_text n)) o m → Wrote (number_out n) o m
+number_wrote n o m h w = subst (λ x. Wrote x o m) (sym (number_piece n h)) w

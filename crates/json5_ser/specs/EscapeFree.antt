@@ -1,5 +1,7 @@
 -- Characters that are written as they are between any quotes, and are no quotes themselves. Private clauses and proofs alone cite it.
-use Rattle.std.specs.Prelude.{ℕ, Bool, not, ◌&&◌, ◌||◌, ◌==◌}
+use Rattle.std.specs.Prelude.{ℕ, Bool, List, not, ◌&&◌, ◌||◌, ◌==◌}
+use Rattle.std.specs.Str.{IsUtf8}
+use Rattle.json5_text.specs.Scan.{SkipsAll}
 use Rattle.json5_text.specs.ByteRuns.{is_line_part}
 
 -- a byte at which a run of them ends
@@ -16,3 +18,8 @@ is_unmarked c = not (c == 34) && (not (c == 39) && not (c == 92))
 -- a character of which is_escape_free_byte holds of each byte
 abbrev pub is_escape_free : ℕ → Bool
 is_escape_free c = is_line_part c && is_unmarked c
+
+-- all of them in front are passed over
+pub record SkipsEscapeFree (whole rest : List ℕ) : Type 0 where
+  pub skips : SkipsAll is_escape_free whole rest
+  pub utf8 : IsUtf8 rest

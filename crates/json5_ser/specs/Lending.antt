@@ -6,7 +6,8 @@ use Rattle.json5_grammar.specs.Language.Characters.{comma_sign, left_bracket, le
 use Rattle.json5_text.specs.declared.error.Error.{Error}
 use Rattle.json5_ser.specs.Out.{Out, piece, ◌then◌, opened_by, closed_by, variant_opening}
 use Rattle.json5_ser.specs.Writes.{SerializerState, Wrote, RefusesWrite, Writes, at_depth}
-use Rattle.json5_ser.specs.Brackets.{closing_sign, is_square}
+use Rattle.json5_grammar.specs.Faults.Fronts.{closing}
+use Rattle.json5_ser.specs.Brackets.{bracket_of, is_square}
 use Rattle.json5_ser.specs.Stages.{is_started, is_pending}
 use Rattle.json5_ser.specs.declared.stage.Stage.{Stage}
 use Rattle.json5_ser.specs.declared.collection.SerializeCollection.{SerializeCollection}
@@ -48,6 +49,10 @@ module _ {W : Type 0} where
   -- whether a key waits for its value
   abbrev pub key_pending : SerializeCollection W → Bool
   key_pending c = is_pending c.stage
+
+  -- an object, in which no key waits for its value
+  abbrev pub ExpectsKey : SerializeCollection W → Type 0
+  ExpectsKey c = (is_list c ≡ false) × (key_pending c ≡ false)
 
   -- whether something was written in it
   abbrev pub has_member : SerializeCollection W → Bool
@@ -102,7 +107,7 @@ module _ {W : Type 0} where
 
   -- what closes the collection, and a variant's object round it
   abbrev pub ending : SerializeCollection W → Out
-  ending c = within_variant (in_variant c) (outer c) (closed_by ((state_of c).depth - 1) (has_member c) (closing_sign c.brackets))
+  ending c = within_variant (in_variant c) (outer c) (closed_by ((state_of c).depth - 1) (has_member c) (closing (bracket_of c.brackets)))
 
   -- the serializer is blocked again, and the collection reaches the next stage if nothing was refused
   pub record Settles (old : SerializeCollection W) (written : Result ⊤ Error) (next : Stage) (new : SerializeCollection W) (result : Result ⊤ Error) : Type 0 where

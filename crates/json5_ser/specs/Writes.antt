@@ -1,5 +1,5 @@
 -- What contracts see of a serializer, and what a call does to it.
-use Rattle.std.specs.Prelude.{◌≡◌, ℕ, List, ◌++◌, Bool, true, false, Option, None, Result, Ok, Err}
+use Rattle.std.specs.Prelude.{◌≡◌, ℕ, ◌-◌, List, ◌++◌, Bool, true, false, Option, None, Result, Ok, Err}
 use Rattle.std.specs.Str.{encode_utf8_all, all_scalars}
 use Rattle.std.specs.Io.KnownBytes.{Appends, Keeps}
 use Rattle.json5_grammar.specs.declared.code.ErrorCode.TheVariants as codes
@@ -104,3 +104,7 @@ ended = ended_within max_depth
 -- the same with so many brackets open
 abbrev pub at_depth : ℕ → SerializerState → SerializerState
 at_depth d s = record s { depth = d }
+
+-- the same with one bracket less open
+abbrev pub after_closing : SerializerState → SerializerState
+after_closing s = at_depth (s.depth - 1) s

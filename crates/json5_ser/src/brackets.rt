@@ -2,7 +2,8 @@
 
 ghost use Rattle.std.specs.Prelude.{◌≡◌, [], ◌∷◌};
 ghost use Rattle.std.specs.Str.{chars};
-ghost use Rattle.json5_ser.specs.Brackets.{opening_sign, closing_sign};
+ghost use Rattle.json5_grammar.specs.Faults.Fronts.{opening, closing};
+ghost use Rattle.json5_ser.specs.Brackets.{bracket_of};
 
 /// The brackets round a collection.
 #[derive(Clone, Copy)]
@@ -17,7 +18,7 @@ impl Brackets {
     /// The bracket that opens.
     #[tactic(auto, using(crate::proofs::PiecesWritten::chars_left_bracket, crate::proofs::PiecesWritten::chars_left_brace))]
     pub(crate) fn opening(self) -> &'static str
-        ensures { chars result.now ≡ opening_sign self ∷ [] }
+        ensures { chars result.now ≡ opening (bracket_of self) ∷ [] }
     {
         match self {
             Brackets::Square => "[",
@@ -28,7 +29,7 @@ impl Brackets {
     /// The bracket that closes.
     #[tactic(auto, using(crate::proofs::PiecesWritten::chars_right_bracket, crate::proofs::PiecesWritten::chars_right_brace))]
     pub(crate) fn closing(self) -> &'static str
-        ensures { chars result.now ≡ closing_sign self ∷ [] }
+        ensures { chars result.now ≡ closing (bracket_of self) ∷ [] }
     {
         match self {
             Brackets::Square => "]",

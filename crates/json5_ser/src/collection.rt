@@ -1,13 +1,12 @@
 //! Arrays and objects, written one element or member after another (JSON5 sections 3 and 4).
 
-ghost use Rattle.std.specs.Prelude.{◌≡◌, true, false, IfOk};
-ghost use Rattle.std.specs.Borrow.{sem};
+ghost use Rattle.std.specs.Prelude.{◌≡◌, true, false};
 ghost use Rattle.std.specs.Str.{chars};
-ghost use Rattle.json5_grammar.specs.Language.Characters.{left_bracket, left_brace};
-ghost use Rattle.json5_ser.specs.Brackets.{opening_sign};
 ghost use Rattle.json5_ser.specs.WrittenTrees.{named};
 ghost use Rattle.json5_ser.specs.Out.{out, element_out, key_part, value_part, entry_out};
 ghost use Rattle.json5_ser.specs.Writes.{Writes};
+
+mod opening;
 
 use crate::brackets::Brackets;
 use crate::stage::Stage;
@@ -59,172 +58,18 @@ impl<W: Write + Drop> Drop for SerializeCollection<'_, W> {
 }
 
 impl<W: Write + Drop> Serializer<W> {
-    ghost use Rattle.json5_ser.specs.Lending.{lends_list, lends_object, lends_variant, ListBegun, ObjectBegun, VariantListBegun, VariantObjectBegun};
-
     /// Writes an element of an array.
     fn element<T: Serialize>(&mut self, value: &T) -> Result<()>
         ensures { Writes (element_out self.old.depth (out self.old.limit (T.tree value.now) self.old.depth)) self.old result self.new }
     {
-        self.start_line()?;
+        self.start_line(false)?;
         value.serialize(self)?;
         self.put(",")
-    }
-
-    /// Opens an array, and lends the serializer to the collection that writes its elements. The length changes nothing.
-    ///
-    /// # Errors
-    ///
-    /// As every call: see [`Serializer`]. At `TooDeep` nothing was written.
-    pub fn serialize_seq(&mut self, _len: Option<usize>) -> Result<SerializeCollection<'_, W>>
-        ensures* lends { sem 𝓛 (lends_list W.row W.Write self.entry result) }
-        ensures begun { IfOk result (ListBegun self.entry) }
-    {
-        self.open(Brackets::Square)?;
-        self.set_failed(true);
-        Ok(SerializeCollection {
-            ser: self,
-            brackets: Brackets::Square,
-            stage: Stage::Empty,
-            in_variant: false,
-            failed: false,
-        })
-    }
-
-    /// Opens an array as [`serialize_seq`](Serializer::serialize_seq) does. The length changes nothing.
-    ///
-    /// # Errors
-    ///
-    /// As `serialize_seq`.
-    pub fn serialize_tuple(&mut self, _len: usize) -> Result<SerializeCollection<'_, W>>
-        ensures* lends { sem 𝓛 (lends_list W.row W.Write self.entry result) }
-        ensures begun { IfOk result (ListBegun self.entry) }
-    {
-        self.serialize_seq(None)
-    }
-
-    /// Opens an array as [`serialize_seq`](Serializer::serialize_seq) does. The name and the length change nothing.
-    ///
-    /// # Errors
-    ///
-    /// As `serialize_seq`.
-    pub fn serialize_tuple_struct(
-        &mut self,
-        _name: &'static str,
-        _len: usize,
-    ) -> Result<SerializeCollection<'_, W>>
-        ensures* lends { sem 𝓛 (lends_list W.row W.Write self.entry result) }
-        ensures begun { IfOk result (ListBegun self.entry) }
-    {
-        self.serialize_seq(None)
-    }
-
-    /// Opens an object, and lends the serializer to the collection that writes its keys and values. The length changes nothing.
-    ///
-    /// # Errors
-    ///
-    /// As every call: see [`Serializer`]. At `TooDeep` nothing was written.
-    pub fn serialize_map(&mut self, _len: Option<usize>) -> Result<SerializeCollection<'_, W>>
-        ensures* lends { sem 𝓛 (lends_object W.row W.Write self.entry result) }
-        ensures begun { IfOk result (ObjectBegun self.entry) }
-    {
-        self.open(Brackets::Curly)?;
-        self.set_failed(true);
-        Ok(SerializeCollection {
-            ser: self,
-            brackets: Brackets::Curly,
-            stage: Stage::Empty,
-            in_variant: false,
-            failed: false,
-        })
-    }
-
-    /// Opens an object as [`serialize_map`](Serializer::serialize_map) does. The name and the length change nothing.
-    ///
-    /// ```text
-    /// let mut fields = ser.serialize_struct("Settings", 2)?;
-    /// fields.serialize_field("host", &self.host)?;
-    /// fields.serialize_field("port", &self.port)?;
-    /// fields.end()
-    /// ```
-    ///
-    /// # Errors
-    ///
-    /// As `serialize_map`.
-    pub fn serialize_struct(
-        &mut self,
-        _name: &'static str,
-        _len: usize,
-    ) -> Result<SerializeCollection<'_, W>>
-        ensures* lends { sem 𝓛 (lends_object W.row W.Write self.entry result) }
-        ensures begun { IfOk result (ObjectBegun self.entry) }
-    {
-        self.serialize_map(None)
-    }
-
-    /// Opens an object of one member, the variant's name, and the array that is its value. The `end` of the array closes the
-    /// object too. The type's name, the index and the length change nothing.
-    ///
-    /// ```text
-    /// let mut content = ser.serialize_tuple_variant("Reminder", 2, "weekly", 2)?;    // { weekly: [1, 7] }, line by line
-    /// content.serialize_element(&1u8)?;
-    /// content.serialize_element(&7u8)?;
-    /// content.end()
-    /// ```
-    ///
-    /// # Errors
-    ///
-    /// As every call: see [`Serializer`]. `TooDeep` may come at the array's bracket, after the brace and the key were written.
-    pub fn serialize_tuple_variant(
-        &mut self,
-        _name: &'static str,
-        _index: u32,
-        variant: &'static str,
-        _len: usize,
-    ) -> Result<SerializeCollection<'_, W>>
-        ensures* lends { sem 𝓛 (lends_variant W.row W.Write (chars variant.now) left_bracket self.entry result) }
-        ensures begun { IfOk result (VariantListBegun (chars variant.now) self.entry) }
-    {
-        self.open_variant(variant, Brackets::Square)?;
-        self.set_failed(true);
-        Ok(SerializeCollection {
-            ser: self,
-            brackets: Brackets::Square,
-            stage: Stage::Empty,
-            in_variant: true,
-            failed: false,
-        })
-    }
-
-    /// Opens an object of one member, the variant's name, and the object that is its value. The `end` of the inner object
-    /// closes both. The type's name, the index and the length change nothing.
-    ///
-    /// # Errors
-    ///
-    /// As [`serialize_tuple_variant`](Serializer::serialize_tuple_variant).
-    pub fn serialize_struct_variant(
-        &mut self,
-        _name: &'static str,
-        _index: u32,
-        variant: &'static str,
-        _len: usize,
-    ) -> Result<SerializeCollection<'_, W>>
-        ensures* lends { sem 𝓛 (lends_variant W.row W.Write (chars variant.now) left_brace self.entry result) }
-        ensures begun { IfOk result (VariantObjectBegun (chars variant.now) self.entry) }
-    {
-        self.open_variant(variant, Brackets::Curly)?;
-        self.set_failed(true);
-        Ok(SerializeCollection {
-            ser: self,
-            brackets: Brackets::Curly,
-            stage: Stage::Empty,
-            in_variant: true,
-            failed: false,
-        })
     }
 }
 
 impl<W: Write + Drop> SerializeCollection<'_, W> {
-    ghost use Rattle.json5_ser.specs.Lending.{state_of, is_list, key_pending, Steps, Settles, ending, outside};
+    ghost use Rattle.json5_ser.specs.Lending.{state_of, is_list, key_pending, ExpectsKey, Steps, Settles, ending, outside};
 
     /// Says whether it is an array, for code that gets a collection of either kind. It still answers after a refusal.
     pub fn is_list(&self) -> bool
@@ -278,8 +123,7 @@ impl<W: Write + Drop> SerializeCollection<'_, W> {
     ///
     /// As every call: see [`SerializeCollection`]. `InvalidKey` comes after the start of the line was written.
     pub fn serialize_key<K: SerializeKey>(&mut self, key: &K) -> Result<()>
-        requires object { is_list self.old ≡ false }
-        requires no_key { key_pending self.old ≡ false }
+        requires { ExpectsKey self.old }
         ensures { Steps (key_part (state_of self.old).depth (K.as_key key.now)) true self.old result self.new }
     {
         self.ser.set_failed(self.failed);
@@ -311,8 +155,7 @@ impl<W: Write + Drop> SerializeCollection<'_, W> {
         key: &K,
         value: &T,
     ) -> Result<()>
-        requires object { is_list self.old ≡ false }
-        requires no_key { key_pending self.old ≡ false }
+        requires { ExpectsKey self.old }
         ensures { Steps (entry_out (state_of self.old).limit (state_of self.old).depth (K.as_key key.now) (T.tree value.now)) false self.old result self.new }
     {
         self.ser.set_failed(self.failed);
@@ -326,8 +169,7 @@ impl<W: Write + Drop> SerializeCollection<'_, W> {
     ///
     /// As every call: see [`SerializeCollection`].
     pub fn serialize_field<T: Serialize>(&mut self, key: &'static str, value: &T) -> Result<()>
-        requires object { is_list self.old ≡ false }
-        requires no_key { key_pending self.old ≡ false }
+        requires { ExpectsKey self.old }
         ensures { Steps (entry_out (state_of self.old).limit (state_of self.old).depth (named (chars key.now)) (T.tree value.now)) false self.old result self.new }
     {
         self.serialize_entry(&key, value)
@@ -355,6 +197,6 @@ impl<W: Write + Drop> SerializeCollection<'_, W> {
         if !in_variant {
             return Ok(());
         }
-        ser.close_variant()
+        ser.close_after(true, Brackets::Curly)
     }
 }

@@ -5,9 +5,8 @@ ghost use Rattle.json5_grammar.specs.Language.Numbers as numbers;
 ghost use Rattle.json5_grammar.specs.Written.NumberText.{decimal_text, Normal};
 ghost use Rattle.json5_grammar.specs.Written.Quoting.{is_name};
 ghost use Rattle.json5_ser.specs.WrittenTrees.{number, named};
-ghost use Rattle.json5_ser.specs.Writes.{Writes, WritesTree};
+ghost use Rattle.json5_ser.specs.Writes.{WritesTree};
 ghost use Rattle.json5_ser.specs.Keys.{WritesKey};
-ghost use Rattle.json5_ser.specs.Out.{piece};
 
 use crate::Serializer;
 use json5_text::decimal::Decimal;
@@ -26,18 +25,6 @@ fn is_word(value: &Decimal) -> bool
 }
 
 impl<W: Write + Drop> Serializer<W> {
-    /// Writes the number's pieces one after another.
-    fn put_pieces(&mut self, value: &Decimal) -> Result<()>
-        ensures text { Writes (piece (decimal_text value.now)) self.old result self.new }
-        ensures normal { Normal value.now }
-    {
-        let mut pieces = value.pieces();
-        while let Some(piece) = pieces.next_piece() {
-            self.put(piece)?;
-        }
-        Ok(())
-    }
-
     /// Writes a decimal in plain notation, always with a point; else `Infinity` or `NaN` (JSON5 section 6). A minus is before
     /// what is negative, zero too: `1.5`, `1000.0`, `-0.0`. A few digits with a large exponent have a long text.
     ///
@@ -47,7 +34,11 @@ impl<W: Write + Drop> Serializer<W> {
     pub fn serialize_decimal(&mut self, value: &Decimal) -> Result<()>
         ensures { WritesTree (number (numbers.decimal value.now)) self.old result self.new }
     {
-        self.put_pieces(value)
+        let mut pieces = value.pieces();
+        while let Some(piece) = pieces.next_piece() {
+            self.put(piece)?;
+        }
+        Ok(())
     }
 
     /// Writes the number's spelling as a key.
@@ -55,10 +46,10 @@ impl<W: Write + Drop> Serializer<W> {
         ensures { WritesKey (named (decimal_text value.now)) self.old result self.new }
     {
         if is_word(value) {
-            return self.put_pieces(value);
+            return self.serialize_decimal(value);
         }
         self.put("\"")?;
-        self.put_pieces(value)?;
+        self.serialize_decimal(value)?;
         self.put("\"")
     }
 }

@@ -1,12 +1,11 @@
 //! Runs of a string that are written as they are.
 
-ghost use Rattle.std.specs.Prelude.{◌≡◌, ◌≤◌, ◌+◌, length, drop, map, IsTrue};
+ghost use Rattle.std.specs.Prelude.{◌≡◌, map, IsTrue};
 ghost use Rattle.std.specs.List.{prefix_len};
-ghost use Rattle.std.specs.Str.{IsUtf8, chars};
+ghost use Rattle.std.specs.Str.{chars};
 ghost use Rattle.json5_grammar.specs.Language.Characters.{Each};
 ghost use Rattle.std.specs.Simd.Lanes.{mask_l};
-ghost use Rattle.json5_text.specs.Scan.{SkipsAll};
-ghost use Rattle.json5_ser.specs.EscapeFree.{ends_escape_free, is_escape_free_byte, is_escape_free};
+ghost use Rattle.json5_ser.specs.EscapeFree.{ends_escape_free, is_escape_free_byte, is_escape_free, SkipsEscapeFree};
 
 use std::simd::prelude::*;
 
@@ -31,12 +30,11 @@ fn is_escape_free_byte(byte: u8) -> bool
     !matches!(byte, b'\n' | b'\r' | 0xE2 | b'"' | b'\'' | b'\\')
 }
 
-/// The same as `escape_free_len` from this index on, byte by byte.
-fn escape_free_len_from(bytes: &[u8], from: usize) -> usize
-    requires { from ≤ length bytes.now }
-    ensures { result ≡ from + prefix_len is_escape_free_byte (drop from bytes.now) }
+/// The length of the run in front, byte by byte.
+fn escape_free_len_slowly(bytes: &[u8]) -> usize
+    ensures { result ≡ prefix_len is_escape_free_byte bytes.now }
 {
-    let mut i = from;
+    let mut i = 0;
     while i < bytes.len() && is_escape_free_byte(bytes[i]) {
         i += 1;
     }
@@ -45,8 +43,7 @@ fn escape_free_len_from(bytes: &[u8], from: usize) -> usize
 
 /// How long the run in front is.
 fn escape_free_len(bytes: &[u8]) -> usize
-    ensures value { result ≡ prefix_len is_escape_free_byte bytes.now }
-    ensures bound { result ≤ length bytes.now }
+    ensures { result ≡ prefix_len is_escape_free_byte bytes.now }
 {
     let mut i = 0;
     while bytes.len() - i >= 16 {
@@ -56,13 +53,12 @@ fn escape_free_len(bytes: &[u8]) -> usize
         }
         i += 16;
     }
-    escape_free_len_from(bytes, i)
+    i + escape_free_len_slowly(&bytes[i..])
 }
 
 /// What follows the characters in front that are written as they are between any quotes, and are no quotes themselves.
 pub(crate) fn skip_escape_free(text: &str) -> &str
-    ensures skips { SkipsAll is_escape_free text.now result.now }
-    ensures utf8 { IsUtf8 result.now }
+    ensures { SkipsEscapeFree text.now result.now }
 {
     let end = escape_free_len(text.as_bytes());
     text.split_at(end).1

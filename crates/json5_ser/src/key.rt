@@ -1,21 +1,18 @@
 //! Keys of objects, and what can be written as one (JSON5 section 3).
 
-ghost use Rattle.std.specs.Prelude.{◌≡◌, ◌+◌, [], ◌∷◌, Some, OnOk};
+ghost use Rattle.std.specs.Prelude.{◌≡◌, [], ◌∷◌, Some};
 ghost use Rattle.std.specs.Str.{chars};
 ghost use Rattle.hex.specs.Hex.{encode_lower};
-ghost use Rattle.json5_grammar.specs.Written.NumberText.{decimal_text};
 ghost use Rattle.json5_ser.specs.WrittenTrees.{WrittenKey, named, option_key};
-ghost use Rattle.json5_ser.specs.Out.{out, key_part, value_part, entry_out, variant_opening, bool_text};
-ghost use Rattle.json5_ser.specs.Brackets.{opening_sign};
-ghost use Rattle.json5_ser.specs.Writes.{Writes, at_depth};
+ghost use Rattle.json5_ser.specs.Out.{bool_text};
 ghost use Rattle.json5_ser.specs.Keys.{WritesKey};
 
-use crate::brackets::Brackets;
+mod members;
+mod numbers;
+mod refusals;
+
+use crate::Serializer;
 use crate::names::is_identifier;
-use crate::{Serialize, Serializer};
-use itoa::{Buffer, Integer};
-use json5_text::ErrorCode;
-use json5_text::decimal::Decimal;
 use json5_text::error::Result;
 use std::io::Write;
 
@@ -96,54 +93,10 @@ impl<W: Write + Drop> Serializer<W> {
             self.serialize_str(text)
         }
     }
-
-    fn put_digits<I: Integer>(&mut self, value: I) -> Result<()>
-        ensures { WritesKey (named (I.text value)) self.old result self.new }
-    {
-        let mut buffer = Buffer::new();
-        let digits = buffer.format(value);
-        self.put_name(digits)
-    }
-
-    /// Writes a line break and a key.
-    pub(crate) fn key<K: SerializeKey>(&mut self, key: &K) -> Result<()>
-        ensures { Writes (key_part self.old.depth (K.as_key key.now)) self.old result self.new }
-    {
-        self.start_line()?;
-        key.serialize_key(MapKey { ser: self })
-    }
-
-    /// A key, and its value.
-    pub(crate) fn entry<K: SerializeKey, T: Serialize>(&mut self, key: &K, value: &T) -> Result<()>
-        ensures { Writes (entry_out self.old.limit self.old.depth (K.as_key key.now) (T.tree value.now)) self.old result self.new }
-    {
-        self.key(key)?;
-        self.value(value)
-    }
-
-    /// Opens the object of a variant, and what the variant holds.
-    pub(crate) fn open_variant(&mut self, variant: &'static str, brackets: Brackets) -> Result<()>
-        ensures opens { Writes (variant_opening self.old.limit (chars variant.now) (opening_sign brackets) self.old.depth) self.old result (at_depth self.old.depth self.new) }
-        ensures deeper { OnOk result (self.new.depth ≡ self.old.depth + 1 + 1) }
-    {
-        self.open(Brackets::Curly)?;
-        self.key(&variant)?;
-        self.put(": ")?;
-        self.open(brackets)
-    }
-
-    /// The value after a key.
-    pub(crate) fn value<T: Serialize>(&mut self, value: &T) -> Result<()>
-        ensures { Writes (value_part (out self.old.limit (T.tree value.now) self.old.depth)) self.old result self.new }
-    {
-        self.put(": ")?;
-        value.serialize(self)?;
-        self.put(",")
-    }
 }
 
 impl<W: Write + Drop> MapKey<'_, W> {
-    ghost use Rattle.json5_ser.specs.Waiting.{serializer_of_key, WritesNull, RefusesKey};
+    ghost use Rattle.json5_ser.specs.Waiting.{serializer_of_key, WritesNull};
 
     /// Writes the key `true` or `false`.
     ///
@@ -155,126 +108,6 @@ impl<W: Write + Drop> MapKey<'_, W> {
     {
         let MapKey { ser } = self;
         ser.put_name(bool_name(value))
-    }
-
-    /// Writes the decimal digits as a key, between quotes: `"80"`.
-    ///
-    /// # Errors
-    ///
-    /// As every call: see [`MapKey`].
-    pub fn serialize_u8(self, value: u8) -> Result<()>
-        ensures { WritesKey (⟦<u8 as SerializeKey>⟧.as_key value) (serializer_of_key self.entry) result self.exit.0.now }
-    {
-        let MapKey { ser } = self;
-        ser.put_digits(value)
-    }
-
-    /// Writes the decimal digits as a key.
-    ///
-    /// # Errors
-    ///
-    /// As every call: see [`MapKey`].
-    pub fn serialize_u16(self, value: u16) -> Result<()>
-        ensures { WritesKey (⟦<u16 as SerializeKey>⟧.as_key value) (serializer_of_key self.entry) result self.exit.0.now }
-    {
-        let MapKey { ser } = self;
-        ser.put_digits(value)
-    }
-
-    /// Writes the decimal digits as a key.
-    ///
-    /// # Errors
-    ///
-    /// As every call: see [`MapKey`].
-    pub fn serialize_u32(self, value: u32) -> Result<()>
-        ensures { WritesKey (⟦<u32 as SerializeKey>⟧.as_key value) (serializer_of_key self.entry) result self.exit.0.now }
-    {
-        let MapKey { ser } = self;
-        ser.put_digits(value)
-    }
-
-    /// Writes the decimal digits as a key.
-    ///
-    /// # Errors
-    ///
-    /// As every call: see [`MapKey`].
-    pub fn serialize_u64(self, value: u64) -> Result<()>
-        ensures { WritesKey (⟦<u64 as SerializeKey>⟧.as_key value) (serializer_of_key self.entry) result self.exit.0.now }
-    {
-        let MapKey { ser } = self;
-        ser.put_digits(value)
-    }
-
-    /// Writes the decimal digits as a key.
-    ///
-    /// # Errors
-    ///
-    /// As every call: see [`MapKey`].
-    pub fn serialize_u128(self, value: u128) -> Result<()>
-        ensures { WritesKey (⟦<u128 as SerializeKey>⟧.as_key value) (serializer_of_key self.entry) result self.exit.0.now }
-    {
-        let MapKey { ser } = self;
-        ser.put_digits(value)
-    }
-
-    /// Writes the decimal digits as a key, after a minus where the number is negative: `"-1"`.
-    ///
-    /// # Errors
-    ///
-    /// As every call: see [`MapKey`].
-    pub fn serialize_i8(self, value: i8) -> Result<()>
-        ensures { WritesKey (⟦<i8 as SerializeKey>⟧.as_key value) (serializer_of_key self.entry) result self.exit.0.now }
-    {
-        let MapKey { ser } = self;
-        ser.put_digits(value)
-    }
-
-    /// Writes the decimal digits as a key, after a minus where the number is negative.
-    ///
-    /// # Errors
-    ///
-    /// As every call: see [`MapKey`].
-    pub fn serialize_i16(self, value: i16) -> Result<()>
-        ensures { WritesKey (⟦<i16 as SerializeKey>⟧.as_key value) (serializer_of_key self.entry) result self.exit.0.now }
-    {
-        let MapKey { ser } = self;
-        ser.put_digits(value)
-    }
-
-    /// Writes the decimal digits as a key, after a minus where the number is negative.
-    ///
-    /// # Errors
-    ///
-    /// As every call: see [`MapKey`].
-    pub fn serialize_i32(self, value: i32) -> Result<()>
-        ensures { WritesKey (⟦<i32 as SerializeKey>⟧.as_key value) (serializer_of_key self.entry) result self.exit.0.now }
-    {
-        let MapKey { ser } = self;
-        ser.put_digits(value)
-    }
-
-    /// Writes the decimal digits as a key, after a minus where the number is negative.
-    ///
-    /// # Errors
-    ///
-    /// As every call: see [`MapKey`].
-    pub fn serialize_i64(self, value: i64) -> Result<()>
-        ensures { WritesKey (⟦<i64 as SerializeKey>⟧.as_key value) (serializer_of_key self.entry) result self.exit.0.now }
-    {
-        let MapKey { ser } = self;
-        ser.put_digits(value)
-    }
-
-    /// Writes the decimal digits as a key, after a minus where the number is negative.
-    ///
-    /// # Errors
-    ///
-    /// As every call: see [`MapKey`].
-    pub fn serialize_i128(self, value: i128) -> Result<()>
-        ensures { WritesKey (⟦<i128 as SerializeKey>⟧.as_key value) (serializer_of_key self.entry) result self.exit.0.now }
-    {
-        let MapKey { ser } = self;
-        ser.put_digits(value)
     }
 
     /// Writes the text as a key.
@@ -299,19 +132,6 @@ impl<W: Write + Drop> MapKey<'_, W> {
     {
         let mut buffer = [0u8; 4];
         self.serialize_str(value.encode_utf8(&mut buffer))
-    }
-
-    /// Writes the text that `serialize_decimal` of a serializer writes, as a key: `Infinity` and `NaN` bare, any other between
-    /// quotes.
-    ///
-    /// # Errors
-    ///
-    /// As every call: see [`MapKey`].
-    pub fn serialize_decimal(self, value: &Decimal) -> Result<()>
-        ensures { WritesKey (named (decimal_text value.now)) (serializer_of_key self.entry) result self.exit.0.now }
-    {
-        let MapKey { ser } = self;
-        ser.put_decimal_name(value)
     }
 
     /// Writes the hexadecimal digits in lower case, two a byte, as a key: `ab0c`, `"0c"`.
@@ -393,130 +213,5 @@ impl<W: Write + Drop> MapKey<'_, W> {
         ensures { WritesKey (K.as_key key.now) (serializer_of_key self.entry) result self.exit.0.now }
     {
         key.serialize_key(self)
-    }
-
-    /// Refuses None, which is no key.
-    ///
-    /// # Errors
-    ///
-    /// `InvalidKey`, or `Failed`: see [`MapKey`].
-    pub fn serialize_none(self) -> Result<()>
-        ensures { RefusesKey self.entry result self.exit.0.now }
-    {
-        let MapKey { ser } = self;
-        ser.refuse(ErrorCode::InvalidKey)
-    }
-
-    /// Refuses a list, which is no key. The length changes nothing.
-    ///
-    /// # Errors
-    ///
-    /// `InvalidKey`, or `Failed`: see [`MapKey`].
-    pub fn serialize_seq(self, _len: Option<usize>) -> Result<()>
-        ensures { RefusesKey self.entry result self.exit.0.now }
-    {
-        let MapKey { ser } = self;
-        ser.refuse(ErrorCode::InvalidKey)
-    }
-
-    /// Refuses a tuple, which is no key. The length changes nothing.
-    ///
-    /// # Errors
-    ///
-    /// `InvalidKey`, or `Failed`: see [`MapKey`].
-    pub fn serialize_tuple(self, _len: usize) -> Result<()>
-        ensures { RefusesKey self.entry result self.exit.0.now }
-    {
-        let MapKey { ser } = self;
-        ser.refuse(ErrorCode::InvalidKey)
-    }
-
-    /// Refuses a struct of several values, which is no key. The name and the length change nothing.
-    ///
-    /// # Errors
-    ///
-    /// `InvalidKey`, or `Failed`: see [`MapKey`].
-    pub fn serialize_tuple_struct(self, _name: &'static str, _len: usize) -> Result<()>
-        ensures { RefusesKey self.entry result self.exit.0.now }
-    {
-        let MapKey { ser } = self;
-        ser.refuse(ErrorCode::InvalidKey)
-    }
-
-    /// Refuses a variant that holds a value, which is no key. The names and the index change nothing.
-    ///
-    /// # Errors
-    ///
-    /// `InvalidKey`, or `Failed`: see [`MapKey`].
-    pub fn serialize_newtype_variant(
-        self,
-        _name: &'static str,
-        _index: u32,
-        _variant: &'static str,
-    ) -> Result<()>
-        ensures { RefusesKey self.entry result self.exit.0.now }
-    {
-        let MapKey { ser } = self;
-        ser.refuse(ErrorCode::InvalidKey)
-    }
-
-    /// Refuses a variant that holds a list, which is no key. The names, the index and the length change nothing.
-    ///
-    /// # Errors
-    ///
-    /// `InvalidKey`, or `Failed`: see [`MapKey`].
-    pub fn serialize_tuple_variant(
-        self,
-        _name: &'static str,
-        _index: u32,
-        _variant: &'static str,
-        _len: usize,
-    ) -> Result<()>
-        ensures { RefusesKey self.entry result self.exit.0.now }
-    {
-        let MapKey { ser } = self;
-        ser.refuse(ErrorCode::InvalidKey)
-    }
-
-    /// Refuses a map, which is no key. The length changes nothing.
-    ///
-    /// # Errors
-    ///
-    /// `InvalidKey`, or `Failed`: see [`MapKey`].
-    pub fn serialize_map(self, _len: Option<usize>) -> Result<()>
-        ensures { RefusesKey self.entry result self.exit.0.now }
-    {
-        let MapKey { ser } = self;
-        ser.refuse(ErrorCode::InvalidKey)
-    }
-
-    /// Refuses a struct with fields, which is no key. The name and the length change nothing.
-    ///
-    /// # Errors
-    ///
-    /// `InvalidKey`, or `Failed`: see [`MapKey`].
-    pub fn serialize_struct(self, _name: &'static str, _len: usize) -> Result<()>
-        ensures { RefusesKey self.entry result self.exit.0.now }
-    {
-        let MapKey { ser } = self;
-        ser.refuse(ErrorCode::InvalidKey)
-    }
-
-    /// Refuses a variant with fields, which is no key. The names, the index and the length change nothing.
-    ///
-    /// # Errors
-    ///
-    /// `InvalidKey`, or `Failed`: see [`MapKey`].
-    pub fn serialize_struct_variant(
-        self,
-        _name: &'static str,
-        _index: u32,
-        _variant: &'static str,
-        _len: usize,
-    ) -> Result<()>
-        ensures { RefusesKey self.entry result self.exit.0.now }
-    {
-        let MapKey { ser } = self;
-        ser.refuse(ErrorCode::InvalidKey)
     }
 }

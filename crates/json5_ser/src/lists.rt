@@ -1,21 +1,35 @@
 //! Lists, written as arrays (JSON5 section 4).
 
 ghost use Rattle.json5_ser.specs.WrittenTrees.{array, elements_of};
-ghost use Rattle.json5_ser.specs.Writes.{WritesTree};
+ghost use Rattle.json5_ser.specs.Commas.{comma_before, element_line};
+ghost use Rattle.json5_ser.specs.Writes.{Writes, WritesTree};
 
+use crate::brackets::Brackets;
 use crate::{Serialize, Serializer};
 use json5_text::error::Result;
 use std::io::Write;
+
+impl<W: Write + Drop> Serializer<W> {
+    /// The line of an element, without the comma after it.
+    fn element_line<T: Serialize>(&mut self, comma_due: bool, value: &T) -> Result<()>
+        ensures { Writes (comma_before comma_due (element_line self.old.limit self.old.depth (T.tree value.now))) self.old result self.new }
+    {
+        self.start_line(comma_due)?;
+        value.serialize(self)
+    }
+}
 
 /// Writes an array of these elements.
 fn write_items<T: Serialize, W: Write + Drop>(items: &[T], ser: &mut Serializer<W>) -> Result<()>
     ensures { WritesTree (array (elements_of T.tree items.now)) ser.old result ser.new }
 {
-    let mut list = ser.serialize_seq(Some(items.len()))?;
+    ser.open(Brackets::Square)?;
+    let mut comma_due = false;
     for item in items {
-        list.serialize_element(item)?;
+        ser.element_line(comma_due, item)?;
+        comma_due = true;
     }
-    list.end()
+    ser.close_after(comma_due, Brackets::Square)
 }
 
 /// Writes an array of the elements.

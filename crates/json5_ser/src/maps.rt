@@ -1,5 +1,6 @@
 //! Maps, written as objects (JSON5 section 3).
 
+use crate::brackets::Brackets;
 use crate::{Serialize, SerializeKey, Serializer};
 use indexmap::IndexMap;
 use json5_text::error::Result;
@@ -14,11 +15,13 @@ impl<K: SerializeKey + Ord, V: Serialize> Serialize for BTreeMap<K, V> {
     ghost tree = { λ m. object (fields_of K.as_key V.tree m.entries) };
 
     fn serialize<W: Write + Drop>(&self, ser: &mut Serializer<W>) -> Result<()> {
-        let mut fields = ser.serialize_map(Some(self.len()))?;
+        ser.open(Brackets::Curly)?;
+        let mut comma_due = false;
         for (key, value) in self {
-            fields.serialize_entry(key, value)?;
+            ser.member_line(comma_due, key, value)?;
+            comma_due = true;
         }
-        fields.end()
+        ser.close_after(comma_due, Brackets::Curly)
     }
 }
 
@@ -29,10 +32,12 @@ impl<K: SerializeKey + Eq + Hash, V: Serialize> Serialize for IndexMap<K, V> {
     ghost tree = { λ m. object (fields_of K.as_key V.tree m.entries) };
 
     fn serialize<W: Write + Drop>(&self, ser: &mut Serializer<W>) -> Result<()> {
-        let mut fields = ser.serialize_map(Some(self.len()))?;
+        ser.open(Brackets::Curly)?;
+        let mut comma_due = false;
         for (key, value) in self {
-            fields.serialize_entry(key, value)?;
+            ser.member_line(comma_due, key, value)?;
+            comma_due = true;
         }
-        fields.end()
+        ser.close_after(comma_due, Brackets::Curly)
     }
 }

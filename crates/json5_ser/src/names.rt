@@ -2,10 +2,10 @@
 
 ghost use Rattle.std.specs.Prelude.{◌≡◌};
 ghost use Rattle.std.specs.List.{list_all, prefix_len};
-ghost use Rattle.std.specs.Str.{IsUtf8, chars};
+ghost use Rattle.std.specs.Str.{chars};
 ghost use Rattle.json5_grammar.specs.Language.Characters.{is_identifier_part};
 ghost use Rattle.json5_grammar.specs.Written.Quoting.{is_name};
-ghost use Rattle.json5_ser.specs.NameBytes.{is_name_byte};
+ghost use Rattle.json5_ser.specs.NameBytes.{is_name_byte, SkipsNameBytes};
 
 use crate::quoting::front;
 use json5_text::char::{is_json5_identifier, is_json5_identifier_start};
@@ -31,8 +31,7 @@ fn name_len(bytes: &[u8]) -> usize
 
 /// What follows the ASCII characters in front that may continue an identifier.
 fn skip_name_bytes(text: &str) -> &str
-    ensures same { list_all is_identifier_part (chars text.now) ≡ list_all is_identifier_part (chars result.now) }
-    ensures utf8 { IsUtf8 result.now }
+    ensures { SkipsNameBytes text.now result.now }
 {
     let len = name_len(text.as_bytes());
     text.split_at(len).1

@@ -1,27 +1,26 @@
 //! Writing values to a writer.
 
-ghost use Rattle.std.specs.Prelude.{◌≡◌, ◌≤◌, ◌+◌, ◌-◌, [], ◌∷◌, ◌++◌, true, false, None, IsErr, IfErr, OnOk};
+ghost use Rattle.std.specs.Prelude.{◌≡◌, ◌≤◌, ◌+◌, ◌-◌, true, false, None, IsErr, IfErr, OnOk};
 ghost use Rattle.std.specs.Str.{chars};
-ghost use Rattle.json5_ser.specs.Quotes.{delimiter};
-ghost use Rattle.json5_grammar.specs.Written.Quoting.{escaped_all, quoted_text};
-ghost use Rattle.json5_ser.specs.WrittenTrees.{null, boolean, text};
+ghost use Rattle.json5_ser.specs.WrittenTrees.{null, boolean};
 ghost use Rattle.json5_grammar.specs.Language.Documents.{max_depth};
-ghost use Rattle.json5_ser.specs.Out.{piece, ◌then◌, stopped, line, opened_by, closed_by, invalid_key, too_deep};
+ghost use Rattle.json5_ser.specs.Out.{piece, stopped, line, opened_by, closed_by, invalid_key, too_deep};
 ghost use Rattle.json5_grammar.specs.declared.code.ErrorCode.TheVariants as codes;
 ghost use Rattle.json5_text.specs.Errors.{code, kind_of, place_of};
-ghost use Rattle.json5_grammar.specs.Language.Characters.{comma_sign, right_brace, double_quote};
-ghost use Rattle.json5_ser.specs.Brackets.{opening_sign, closing_sign};
+ghost use Rattle.json5_grammar.specs.Faults.Fronts.{opening, closing};
+ghost use Rattle.json5_ser.specs.Brackets.{bracket_of};
+ghost use Rattle.json5_ser.specs.Commas.{comma_before, closed_after};
 ghost use Rattle.json5_ser.specs.Stages.{is_started};
-ghost use Rattle.json5_ser.specs.Writes.{SerializerState, Writes, WritesTree, fresh, fresh_within, at_depth};
+ghost use Rattle.json5_ser.specs.Writes.{SerializerState, Writes, WritesTree, fresh, fresh_within, at_depth, after_closing};
 
-use crate::Serialize;
+mod integers;
+mod strings;
+
 use crate::brackets::Brackets;
 use crate::escape_free::is_escape_free;
 use crate::lines::line;
 use crate::output::write_whole;
-use crate::quoting::{Quote, split_at_escape};
 use crate::stage::Stage;
-use itoa::{Buffer, Integer};
 use json5_text::ErrorCode;
 use json5_text::error::{Error, Result};
 use json5_text::nesting::Limit;
@@ -150,14 +149,6 @@ impl<W: Write + Drop> Serializer<W> {
         }
     }
 
-    fn put_integer<I: Integer>(&mut self, value: I) -> Result<()>
-        ensures { Writes (piece (I.text value)) self.old result self.new }
-    {
-        let mut buffer = Buffer::new();
-        let digits = buffer.format(value);
-        self.put(digits)
-    }
-
     /// Writes `null`.
     ///
     /// # Errors
@@ -184,193 +175,16 @@ impl<W: Write + Drop> Serializer<W> {
         }
     }
 
-    /// Writes the decimal digits of a `u8` (JSON5 section 6).
-    ///
-    /// # Errors
-    ///
-    /// As every call: see [`Serializer`].
-    pub fn serialize_u8(&mut self, value: u8) -> Result<()>
-        ensures { WritesTree (⟦<u8 as Serialize>⟧.tree value) self.old result self.new }
+    /// Starts the line of a member, or of the bracket that closes, after a comma where one is due.
+    pub(crate) fn start_line(&mut self, comma_due: bool) -> Result<()>
+        ensures { Writes (comma_before comma_due (piece (line self.old.depth))) self.old result self.new }
     {
-        self.serialize_u64(u64::from(value))
-    }
-
-    /// Writes the decimal digits of a `u16`.
-    ///
-    /// # Errors
-    ///
-    /// As every call: see [`Serializer`].
-    pub fn serialize_u16(&mut self, value: u16) -> Result<()>
-        ensures { WritesTree (⟦<u16 as Serialize>⟧.tree value) self.old result self.new }
-    {
-        self.serialize_u64(u64::from(value))
-    }
-
-    /// Writes the decimal digits of a `u32`.
-    ///
-    /// # Errors
-    ///
-    /// As every call: see [`Serializer`].
-    pub fn serialize_u32(&mut self, value: u32) -> Result<()>
-        ensures { WritesTree (⟦<u32 as Serialize>⟧.tree value) self.old result self.new }
-    {
-        self.serialize_u64(u64::from(value))
-    }
-
-    /// Writes the decimal digits of a `u64`.
-    ///
-    /// # Errors
-    ///
-    /// As every call: see [`Serializer`].
-    pub fn serialize_u64(&mut self, value: u64) -> Result<()>
-        ensures { WritesTree (⟦<u64 as Serialize>⟧.tree value) self.old result self.new }
-    {
-        self.put_integer(value)
-    }
-
-    /// Writes the decimal digits of a `u128`.
-    ///
-    /// # Errors
-    ///
-    /// As every call: see [`Serializer`].
-    pub fn serialize_u128(&mut self, value: u128) -> Result<()>
-        ensures { WritesTree (⟦<u128 as Serialize>⟧.tree value) self.old result self.new }
-    {
-        self.put_integer(value)
-    }
-
-    /// Writes the decimal digits of a `i8`, after a minus where it is negative (JSON5 section 6).
-    ///
-    /// # Errors
-    ///
-    /// As every call: see [`Serializer`].
-    pub fn serialize_i8(&mut self, value: i8) -> Result<()>
-        ensures { WritesTree (⟦<i8 as Serialize>⟧.tree value) self.old result self.new }
-    {
-        self.serialize_i64(i64::from(value))
-    }
-
-    /// Writes the decimal digits of a `i16`, after a minus where it is negative.
-    ///
-    /// # Errors
-    ///
-    /// As every call: see [`Serializer`].
-    pub fn serialize_i16(&mut self, value: i16) -> Result<()>
-        ensures { WritesTree (⟦<i16 as Serialize>⟧.tree value) self.old result self.new }
-    {
-        self.serialize_i64(i64::from(value))
-    }
-
-    /// Writes the decimal digits of a `i32`, after a minus where it is negative.
-    ///
-    /// # Errors
-    ///
-    /// As every call: see [`Serializer`].
-    pub fn serialize_i32(&mut self, value: i32) -> Result<()>
-        ensures { WritesTree (⟦<i32 as Serialize>⟧.tree value) self.old result self.new }
-    {
-        self.serialize_i64(i64::from(value))
-    }
-
-    /// Writes the decimal digits of a `i64`, after a minus where it is negative.
-    ///
-    /// # Errors
-    ///
-    /// As every call: see [`Serializer`].
-    pub fn serialize_i64(&mut self, value: i64) -> Result<()>
-        ensures { WritesTree (⟦<i64 as Serialize>⟧.tree value) self.old result self.new }
-    {
-        self.put_integer(value)
-    }
-
-    /// Writes the decimal digits of a `i128`, after a minus where it is negative.
-    ///
-    /// # Errors
-    ///
-    /// As every call: see [`Serializer`].
-    pub fn serialize_i128(&mut self, value: i128) -> Result<()>
-        ensures { WritesTree (⟦<i128 as Serialize>⟧.tree value) self.old result self.new }
-    {
-        self.put_integer(value)
-    }
-
-    /// Writes the string, and escapes the characters that these quotes don't allow as they are. What is between two
-    /// escapes is written in one piece.
-    fn put_escaped(&mut self, quote: Quote, text: &str) -> Result<()>
-        ensures { Writes (piece (escaped_all (delimiter quote) (chars text.now))) self.old result self.new }
-    {
-        let mut rest = text;
-        while let Some((raw, escaped, after)) = split_at_escape(quote, rest) {
-            self.put(raw)?;
-            self.put(escaped)?;
-            rest = after;
-        }
-        self.put(rest)
-    }
-
-    /// Writes the string between `"`.
-    fn put_escape_free(&mut self, text: &str) -> Result<()>
-        ensures { Writes (piece (double_quote ∷ chars text.now ++ double_quote ∷ [])) self.old result self.new }
-    {
-        self.put("\"")?;
-        self.put(text)?;
-        self.put("\"")
-    }
-
-    /// Writes the string between the quotes that `Quote::around` chooses.
-    #[inline(never)]
-    fn put_quoted(&mut self, text: &str) -> Result<()>
-        ensures { Writes (piece (quoted_text (chars text.now))) self.old result self.new }
-    {
-        let quote = Quote::around(text);
-        let mark = quote.text();
-        self.put(mark)?;
-        self.put_escaped(quote, text)?;
-        self.put(mark)
-    }
-
-    /// Writes a string (JSON5 section 5): between `'` where the text holds `"` and no `'`, else between `"`. That quote,
-    /// backslashes, LF, CR, U+2028 and U+2029 are escaped, and all other characters are written as they are.
-    ///
-    /// ```text
-    /// ser.serialize_str("it's")?          // "it's"
-    /// ser.serialize_str("say \"no\"")?    // 'say "no"'
-    /// ```
-    ///
-    /// # Errors
-    ///
-    /// As every call: see [`Serializer`].
-    pub fn serialize_str(&mut self, value: &str) -> Result<()>
-        ensures { WritesTree (text (chars value.now)) self.old result self.new }
-    {
-        if is_escape_free(value) {
-            return self.put_escape_free(value);
-        }
-        self.put_quoted(value)
-    }
-
-    /// Writes a string of one character, as [`serialize_str`](Serializer::serialize_str) does.
-    ///
-    /// # Errors
-    ///
-    /// As every call: see [`Serializer`].
-    pub fn serialize_char(&mut self, value: char) -> Result<()>
-        ensures { WritesTree (text (value ∷ [])) self.old result self.new }
-    {
-        let mut buffer = [0u8; 4];
-        self.serialize_str(value.encode_utf8(&mut buffer))
-    }
-
-    /// Starts the line of a member, or of the bracket that closes.
-    pub(crate) fn start_line(&mut self) -> Result<()>
-        ensures { Writes (piece (line self.old.depth)) self.old result self.new }
-    {
-        self.put(line(self.depth))
+        self.put(line(comma_due, self.depth))
     }
 
     /// Opens a collection.
     pub(crate) fn open(&mut self, brackets: Brackets) -> Result<()>
-        ensures opens { Writes (opened_by self.old.limit self.old.depth (opening_sign brackets)) self.old result (at_depth self.old.depth self.new) }
+        ensures opens { Writes (opened_by self.old.limit self.old.depth (opening (bracket_of brackets))) self.old result (at_depth self.old.depth self.new) }
         ensures deeper { OnOk result (self.new.depth ≡ self.old.depth + 1) }
     {
         if self.depth >= self.limit.get() {
@@ -383,28 +197,32 @@ impl<W: Write + Drop> Serializer<W> {
 
     /// Counts one open bracket less.
     fn exit_bracket(&mut self)
-        ensures { self.new ≡ at_depth (self.old.depth - 1) self.old }
+        ensures { self.new ≡ after_closing self.old }
     {
         self.depth = self.depth.saturating_sub(1);
     }
 
     /// Closes a collection; its bracket is on its own line if something was written in it.
     pub(crate) fn close(&mut self, brackets: Brackets, stage: Stage) -> Result<()>
-        ensures { Writes (closed_by (self.old.depth - 1) (is_started stage) (closing_sign brackets)) (at_depth (self.old.depth - 1) self.old) result self.new }
+        ensures { Writes (closed_by (self.old.depth - 1) (is_started stage) (closing (bracket_of brackets))) (after_closing self.old) result self.new }
     {
         self.exit_bracket();
         if !stage.is_started() {
             return self.put(brackets.closing());
         }
-        self.start_line()?;
+        self.start_line(false)?;
         self.put(brackets.closing())
     }
 
-    /// Ends the only field of a variant's object, and closes the object.
-    pub(crate) fn close_variant(&mut self) -> Result<()>
-        ensures { Writes (piece (comma_sign ∷ []) then closed_by (self.old.depth - 1) true right_brace) (at_depth (self.old.depth - 1) self.old) result self.new }
+    /// Closes a collection whose last member lacks its comma, if it has one.
+    pub(crate) fn close_after(&mut self, comma_due: bool, brackets: Brackets) -> Result<()>
+        ensures { Writes (closed_after comma_due (self.old.depth - 1) (closing (bracket_of brackets))) (after_closing self.old) result self.new }
     {
-        self.put(",")?;
-        self.close(Brackets::Curly, Stage::Started)
+        self.exit_bracket();
+        if !comma_due {
+            return self.put(brackets.closing());
+        }
+        self.start_line(true)?;
+        self.put(brackets.closing())
     }
 }

@@ -4,6 +4,7 @@ ghost use Rattle.json5_ser.specs.WrittenTrees.{integer, object, fields_of};
 ghost use Rattle.json5_ser.specs.ValueTrees.{value_tree, key_of_string};
 ghost use Rattle.json5_ser.specs.Writes.{WritesTree};
 
+use crate::brackets::Brackets;
 use crate::{Serialize, Serializer};
 use json5_text::error::Result;
 use json5_text::value::Value;
@@ -33,11 +34,13 @@ impl Serialize for Value {
 fn write_fields<W: Write + Drop>(fields: &[(String, Value)], ser: &mut Serializer<W>) -> Result<()>
     ensures { WritesTree (object (fields_of key_of_string value_tree fields.now)) ser.old result ser.new }
 {
-    let mut object = ser.serialize_map(Some(fields.len()))?;
+    ser.open(Brackets::Curly)?;
+    let mut comma_due = false;
     for (key, value) in fields {
-        object.serialize_entry(key, value)?;
+        ser.member_line(comma_due, key, value)?;
+        comma_due = true;
     }
-    object.end()
+    ser.close_after(comma_due, Brackets::Curly)
 }
 
 fn write_whole<W: Write + Drop>(value: Whole, ser: &mut Serializer<W>) -> Result<()>

@@ -1,28 +1,33 @@
-use Rattle.std.proofs.Common.{rules, ◌<◌, ◌≤◌, length}
+use Rattle.std.proofs.Common.{rules, ◌<◌, ◌≤◌, ◌+◌, false, length, drop, ap, drop_of_length-le}
+use Rattle.json5_grammar.specs.Language.Characters.{left_bracket, right_bracket}
 use Rattle.json5_ser.specs.WrittenTrees.{elements_of}
-use Rattle.json5_ser.proofs.Members.{list_refused, list_begun, in_loop, out_of_loop, next_item, no_item, element_on, element_refused, list_ended}
+use Rattle.json5_ser.specs.Out.{elements_out}
+use Rattle.json5_ser.proofs.Members.{item_first}
+use Rattle.json5_ser.proofs.Commas.{open_refused, left_first, elements_as, element_line_on, element_line_refused, left_ended}
 use Rattle.json5_ser.proofs.lists.write_items.Goals as goal
 
-pub returns-in_err-list : goal.returns-in_err-list
-returns-in_err-list g c = list_refused (elements_of g.T.Serialize.tree c.args.items.now) _ _ _ _ (rw c.in_err-list.was at c.serialize_seq.follows.holds-at-none) c.from_residual.ensures.1
+pub returns-in_err-open : goal.returns-in_err-open
+returns-in_err-open g c =
+    let at = c.args.ser.now in
+    open_refused left_bracket (elements_out at.limit (elements_of g.T.Serialize.tree c.args.items.now) at.depth false) at _ _ _ c.in_err-open.ensures.opens c.from_residual.ensures.1
 
 pub loop-item-init : goal.loop-item-init
-loop-item-init g c = record { remains = in_loop (list_begun _ c.in_ok-list.ensures.begun) }
+loop-item-init g c = record { left = left_first left_bracket _ _ _ c.in_ok-open.ensures.opens c.in_ok-open.ensures.deeper }
 
-pub returns-in_err-serialize_element : goal.returns-in_err-serialize_element
-returns-in_err-serialize_element g c =
+pub returns-in_err-element_line : goal.returns-in_err-element_line
+returns-in_err-element_line g c =
     let left : c.loop-item.item-index < length c.args.items.now = search rules in
-    let remains = next_item g.T.Serialize.tree c.args.items.now c.loop-item.item-index c.item-item.result left c.item-item.is c.loop-item.invariant.remains in
-    element_refused _ (out_of_loop c.in_ok-list.ensures.begun.same_reference remains) c.in_err-serialize_element.ensures c.from_residual-in_err-serialize_element.ensures.1 c.drop-list.ensures (search rules)
+    let next = elements_as c.loop-item.comma_due (ap (elements_of g.T.Serialize.tree) (item_first c.args.items.now c.loop-item.item-index c.item-item.result left c.item-item.is)) c.loop-item.invariant.left in
+    element_line_refused _ _ _ c.loop-item.comma_due next c.in_err-element_line.ensures c.from_residual-in_err-element_line.ensures.1
 
 pub loop-item-preserved : goal.loop-item-preserved
 loop-item-preserved g c =
     let left : c.loop-item.item-index < length c.args.items.now = search rules in
-    record {
-      remains = element_on (next_item g.T.Serialize.tree c.args.items.now c.loop-item.item-index c.item-item.result left c.item-item.is c.loop-item.invariant.remains) c.in_ok-serialize_element.ensures;
-    }
+    let next = elements_as c.loop-item.comma_due (ap (elements_of g.T.Serialize.tree) (item_first c.args.items.now c.loop-item.item-index c.item-item.result left c.item-item.is)) c.loop-item.invariant.left in
+    record { left = element_line_on _ _ c.loop-item.comma_due next c.in_ok-element_line.ensures }
 
 pub returns : goal.returns
 returns g c =
     let none : length c.args.items.now ≤ c.loop-item.item-index = search rules in
-    list_ended _ _ (out_of_loop c.in_ok-list.ensures.begun.same_reference (no_item g.T.Serialize.tree c.args.items.now c.loop-item.item-index none c.loop-item.invariant.remains)) c.end.ensures (search rules)
+    let last = elements_as c.loop-item.comma_due (ap (elements_of g.T.Serialize.tree) (drop_of_length-le c.args.items.now none)) c.loop-item.invariant.left in
+    left_ended right_bracket _ _ c.loop-item.comma_due last c.close_after.ensures

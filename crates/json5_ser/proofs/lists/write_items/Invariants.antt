@@ -1,9 +1,10 @@
 use Rattle.std.proofs.Common.{drop}
 use Rattle.json5_ser.specs.WrittenTrees.{array, elements_of}
-use Rattle.json5_ser.proofs.Remains.{Remains, elements}
+use Rattle.json5_ser.specs.Out.{out}
+use Rattle.json5_ser.proofs.Commas.{Left, elements_left}
 use Rattle.json5_ser.proofs.lists.write_items.Given as goal
 
 abbrev pub invariant-loop-item : goal.invariant-loop-item
 invariant-loop-item g l = record {
-  remains : Remains (array (elements_of g.T.Serialize.tree l.items)) l.initial.list.ser.ghost_name l.fn.ser l.list (elements (elements_of g.T.Serialize.tree (drop l.item-index l.items)));
+  left : Left (out l.fn.ser.limit (array (elements_of g.T.Serialize.tree l.items)) l.fn.ser.depth) l.fn.ser l.ser (elements_left l.fn.ser.limit (elements_of g.T.Serialize.tree (drop l.item-index l.items)) l.fn.ser.depth l.comma_due);
 }

@@ -1,10 +1,12 @@
-use Rattle.std.proofs.Common.{rules, sym, ap, subst, ◌∙◌, ◌≡◌, ◌<◌, length, drop, [], drop_of_length-le}
+use Rattle.std.proofs.Common.{rules, ◌+◌, false, sym, ap, subst, ◌∙◌, ◌≡◌, ◌<◌, length, drop, [], drop_of_length-le}
 use Rattle.std.specs.Str.{chars}
 use Rattle.json5_text.proofs.LookedUp.{from_here}
 use Rattle.json5_ser.specs.WrittenTrees.{text, fields_of}
 use Rattle.json5_ser.specs.ValueTrees.{value_tree, key_of_string}
 use Rattle.json5_ser.specs.Writes.{WritesTree}
-use Rattle.json5_ser.proofs.Members.{object_refused, object_begun, in_loop, out_of_loop, same_entries, field_on, field_refused, object_ended}
+use Rattle.json5_ser.specs.Out.{fields_out}
+use Rattle.json5_grammar.specs.Language.Characters.{left_brace, right_brace}
+use Rattle.json5_ser.proofs.Commas.{open_refused, left_first, fields_as, member_line_on, member_line_refused, left_ended}
 use Rattle.json5_ser.proofs.ValuesInside.{tree-String, tree-Array, tree-Object}
 use Rattle.json5_ser.proofs.value.+tree.Goals as goal
 
@@ -19,27 +21,28 @@ ValueSerialize::serialize-returns-in-Array g t c = rw (c.in-Array.is, tree-Array
 pub ValueSerialize::serialize-returns-in-Object : goal.ValueSerialize::serialize-returns-in-Object
 ValueSerialize::serialize-returns-in-Object g t c = rw (c.in-Object.is, tree-Object c.in-Object.fields, ← c.deref.ensures.value) c.write_fields.ensures
 
-pub write_fields-returns-in_err-object : goal.write_fields-returns-in_err-object
-write_fields-returns-in_err-object g t c =
-    object_refused (fields_of key_of_string value_tree c.args.fields.now) _ _ _ _ (rw c.in_err-object.was at c.serialize_map.follows.holds-at-none) c.from_residual.ensures.1
+pub write_fields-returns-in_err-open : goal.write_fields-returns-in_err-open
+write_fields-returns-in_err-open g t c =
+    let at = c.args.ser.now in
+    open_refused left_brace (fields_out at.limit (fields_of key_of_string value_tree c.args.fields.now) at.depth false) at _ _ _ c.in_err-open.ensures.opens c.from_residual.ensures.1
 
 pub write_fields-loop-key-init : goal.write_fields-loop-key-init
-write_fields-loop-key-init g t c = record { remains = in_loop (object_begun _ c.in_ok-object.ensures.begun) }
+write_fields-loop-key-init g t c = record { left = left_first left_brace _ _ _ c.in_ok-open.ensures.opens c.in_ok-open.ensures.deeper }
 
-pub write_fields-returns-in_err-serialize_entry : goal.write_fields-returns-in_err-serialize_entry
-write_fields-returns-in_err-serialize_entry g t c =
+pub write_fields-returns-in_err-member_line : goal.write_fields-returns-in_err-member_line
+write_fields-returns-in_err-member_line g t c =
     let left : c.loop-key.key-index < length c.args.fields.now = search rules in
-    let remains = same_entries key_of_string value_tree _ _ (from_here c.args.fields.now c.loop-key.key-index c.loop-key-item.result left c.loop-key-item.is) c.loop-key.invariant.remains in
-    field_refused _ (out_of_loop c.in_ok-object.ensures.begun.same_reference remains) c.in_err-serialize_entry.ensures c.from_residual-in_err-serialize_entry.ensures.1 c.drop-object.ensures (search rules)
+    let next = fields_as c.loop-key.comma_due (ap (fields_of key_of_string value_tree) (from_here c.args.fields.now c.loop-key.key-index c.loop-key-item.result left c.loop-key-item.is)) c.loop-key.invariant.left in
+    member_line_refused (key_of_string c.loop-key-item.result.0) (value_tree c.loop-key-item.result.1) (fields_of key_of_string value_tree (drop (c.loop-key.key-index + 1) c.args.fields.now)) _ c.loop-key.comma_due next c.in_err-member_line.ensures c.from_residual-in_err-member_line.ensures.1
 
 pub write_fields-loop-key-preserved : goal.write_fields-loop-key-preserved
 write_fields-loop-key-preserved g t c =
     let left : c.loop-key.key-index < length c.args.fields.now = search rules in
-    record {
-      remains = field_on (same_entries key_of_string value_tree _ _ (from_here c.args.fields.now c.loop-key.key-index c.loop-key-item.result left c.loop-key-item.is) c.loop-key.invariant.remains) c.in_ok-serialize_entry.ensures;
-    }
+    let next = fields_as c.loop-key.comma_due (ap (fields_of key_of_string value_tree) (from_here c.args.fields.now c.loop-key.key-index c.loop-key-item.result left c.loop-key-item.is)) c.loop-key.invariant.left in
+    record { left = member_line_on (key_of_string c.loop-key-item.result.0) (value_tree c.loop-key-item.result.1) (fields_of key_of_string value_tree (drop (c.loop-key.key-index + 1) c.args.fields.now)) c.loop-key.comma_due next c.in_ok-member_line.ensures }
 
 pub write_fields-returns : goal.write_fields-returns
 write_fields-returns g t c =
     let none : drop c.loop-key.key-index c.args.fields.now ≡ [] = drop_of_length-le c.args.fields.now (search rules) in
-    object_ended _ _ (out_of_loop c.in_ok-object.ensures.begun.same_reference (same_entries key_of_string value_tree _ _ none c.loop-key.invariant.remains)) c.end.ensures (search rules)
+    let last = fields_as c.loop-key.comma_due (ap (fields_of key_of_string value_tree) none) c.loop-key.invariant.left in
+    left_ended right_brace _ _ c.loop-key.comma_due last c.close_after.ensures

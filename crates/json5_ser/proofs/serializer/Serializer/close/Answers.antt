@@ -1,5 +1,6 @@
 use Rattle.std.proofs.Common.{[], ◌∷◌, ◌-◌}
-use Rattle.json5_ser.specs.Brackets.{closing_sign}
+use Rattle.json5_grammar.specs.Faults.Fronts.{closing}
+use Rattle.json5_ser.specs.Brackets.{bracket_of}
 use Rattle.json5_ser.specs.Out.{line, piece}
 use Rattle.json5_ser.proofs.Joins.{Writes-exit, Reaches-first, Reaches-last}
 use Rattle.json5_ser.proofs.serializer.Serializer.close.Goals as goal
@@ -7,11 +8,11 @@ use Rattle.json5_ser.proofs.serializer.Serializer.close.Goals as goal
 pub returns-in_err-start_line : goal.returns-in_err-start_line
 returns-in_err-start_line g c =
     let starts = rw c.exit_bracket.ensures at c.in_err-start_line.ensures in
-    let bracket = closing_sign c.args.brackets in
+    let bracket = closing (bracket_of c.args.brackets) in
     rw (← c.if-not-is_started.ensures) (Writes-exit (piece (line (c.args.self.now.depth - 1))) (piece (bracket ∷ [])) _ _ _ _ c.from_residual.ensures.1 starts)
 
 pub returns : goal.returns
 returns g c =
     let starts = rw c.exit_bracket.ensures at c.in_ok-start_line.ensures in
     let bracket = rw c.closing-2.ensures at c.put-2.ensures in
-    rw (← c.if-not-is_started.ensures) (Reaches-last _ (piece (closing_sign c.args.brackets ∷ [])) _ _ _ _ (Reaches-first (piece (line (c.args.self.now.depth - 1))) _ _ _ starts) bracket)
+    rw (← c.if-not-is_started.ensures) (Reaches-last _ (piece (closing (bracket_of c.args.brackets) ∷ [])) _ _ _ _ (Reaches-first (piece (line (c.args.self.now.depth - 1))) _ _ _ starts) bracket)

@@ -1,11 +1,11 @@
 use Rattle.std.proofs.Common.{◌≡◌, ◌+◌, ◌-◌, ◌≤◌, length, drop}
 use Rattle.std.specs.List.{prefix_len}
 use Rattle.json5_ser.specs.EscapeFree.{is_escape_free_byte}
-use Rattle.json5_ser.proofs.escape_free.escape_free_len_from.Given as goal
+use Rattle.json5_ser.proofs.escape_free.escape_free_len_slowly.Given as goal
 
 abbrev pub invariant-loop-i : goal.invariant-loop-i
 invariant-loop-i l =
-    (l.from + prefix_len is_escape_free_byte (drop l.from l.bytes) ≡ l.i + prefix_len is_escape_free_byte (drop l.i l.bytes)) × (l.i ≤ length l.bytes)
+    (prefix_len is_escape_free_byte l.bytes ≡ l.i + prefix_len is_escape_free_byte (drop l.i l.bytes)) × (l.i ≤ length l.bytes)
 
 abbrev pub decreases-loop-i : goal.decreases-loop-i
 decreases-loop-i l = length l.bytes - l.i

@@ -1,0 +1,66 @@
+//! The members of an object: keys with their values, each on a line of its own.
+
+ghost use Rattle.std.specs.Prelude.{◌≡◌, ◌+◌, OnOk};
+ghost use Rattle.std.specs.Str.{chars};
+ghost use Rattle.json5_ser.specs.Out.{out, key_part, value_part, entry_out};
+ghost use Rattle.json5_ser.specs.Brackets.{variant_of};
+ghost use Rattle.json5_ser.specs.Commas.{comma_before, member_line};
+ghost use Rattle.json5_ser.specs.Writes.{Writes, at_depth};
+
+use crate::brackets::Brackets;
+use crate::{MapKey, Serialize, SerializeKey, Serializer};
+use json5_text::error::Result;
+use std::io::Write;
+
+impl<W: Write + Drop> Serializer<W> {
+    /// A key on a line of its own.
+    pub(crate) fn key<K: SerializeKey>(&mut self, key: &K) -> Result<()>
+        ensures { Writes (key_part self.old.depth (K.as_key key.now)) self.old result self.new }
+    {
+        self.start_line(false)?;
+        key.serialize_key(MapKey { ser: self })
+    }
+
+    /// A key, and its value.
+    pub(crate) fn entry<K: SerializeKey, T: Serialize>(&mut self, key: &K, value: &T) -> Result<()>
+        ensures { Writes (entry_out self.old.limit self.old.depth (K.as_key key.now) (T.tree value.now)) self.old result self.new }
+    {
+        self.key(key)?;
+        self.value(value)
+    }
+
+    /// Opens the object of a variant, and what the variant holds.
+    pub(crate) fn open_variant(&mut self, variant: &'static str, brackets: Brackets) -> Result<()>
+        ensures opens { Writes (variant_of self.old (chars variant.now) brackets) self.old result (at_depth self.old.depth self.new) }
+        ensures deeper { OnOk result (self.new.depth ≡ self.old.depth + 1 + 1) }
+    {
+        self.open(Brackets::Curly)?;
+        self.key(&variant)?;
+        self.put(": ")?;
+        self.open(brackets)
+    }
+
+    /// The line of a member, without the comma after it.
+    pub(crate) fn member_line<K: SerializeKey, T: Serialize>(
+        &mut self,
+        comma_due: bool,
+        key: &K,
+        value: &T,
+    ) -> Result<()>
+        ensures { Writes (comma_before comma_due (member_line self.old.limit self.old.depth (K.as_key key.now) (T.tree value.now))) self.old result self.new }
+    {
+        self.start_line(comma_due)?;
+        key.serialize_key(MapKey { ser: self })?;
+        self.put(": ")?;
+        value.serialize(self)
+    }
+
+    /// The value after a key.
+    pub(crate) fn value<T: Serialize>(&mut self, value: &T) -> Result<()>
+        ensures { Writes (value_part (out self.old.limit (T.tree value.now) self.old.depth)) self.old result self.new }
+    {
+        self.put(": ")?;
+        value.serialize(self)?;
+        self.put(",")
+    }
+}

@@ -1,0 +1,129 @@
+//! Whole numbers (JSON5 section 6).
+
+ghost use Rattle.json5_ser.specs.Out.{piece};
+ghost use Rattle.json5_ser.specs.Writes.{Writes, WritesTree};
+
+use crate::{Serialize, Serializer};
+use itoa::{Buffer, Integer};
+use json5_text::error::Result;
+use std::io::Write;
+
+impl<W: Write + Drop> Serializer<W> {
+    fn put_integer<I: Integer>(&mut self, value: I) -> Result<()>
+        ensures { Writes (piece (I.text value)) self.old result self.new }
+    {
+        let mut buffer = Buffer::new();
+        let digits = buffer.format(value);
+        self.put(digits)
+    }
+
+    /// Writes the decimal digits of a `u8` (JSON5 section 6).
+    ///
+    /// # Errors
+    ///
+    /// As every call: see [`Serializer`].
+    pub fn serialize_u8(&mut self, value: u8) -> Result<()>
+        ensures { WritesTree (⟦<u8 as Serialize>⟧.tree value) self.old result self.new }
+    {
+        self.serialize_u64(u64::from(value))
+    }
+
+    /// Writes the decimal digits of a `u16`.
+    ///
+    /// # Errors
+    ///
+    /// As every call: see [`Serializer`].
+    pub fn serialize_u16(&mut self, value: u16) -> Result<()>
+        ensures { WritesTree (⟦<u16 as Serialize>⟧.tree value) self.old result self.new }
+    {
+        self.serialize_u64(u64::from(value))
+    }
+
+    /// Writes the decimal digits of a `u32`.
+    ///
+    /// # Errors
+    ///
+    /// As every call: see [`Serializer`].
+    pub fn serialize_u32(&mut self, value: u32) -> Result<()>
+        ensures { WritesTree (⟦<u32 as Serialize>⟧.tree value) self.old result self.new }
+    {
+        self.serialize_u64(u64::from(value))
+    }
+
+    /// Writes the decimal digits of a `u64`.
+    ///
+    /// # Errors
+    ///
+    /// As every call: see [`Serializer`].
+    pub fn serialize_u64(&mut self, value: u64) -> Result<()>
+        ensures { WritesTree (⟦<u64 as Serialize>⟧.tree value) self.old result self.new }
+    {
+        self.put_integer(value)
+    }
+
+    /// Writes the decimal digits of a `u128`.
+    ///
+    /// # Errors
+    ///
+    /// As every call: see [`Serializer`].
+    pub fn serialize_u128(&mut self, value: u128) -> Result<()>
+        ensures { WritesTree (⟦<u128 as Serialize>⟧.tree value) self.old result self.new }
+    {
+        self.put_integer(value)
+    }
+
+    /// Writes the decimal digits of a `i8`, after a minus where it is negative (JSON5 section 6).
+    ///
+    /// # Errors
+    ///
+    /// As every call: see [`Serializer`].
+    pub fn serialize_i8(&mut self, value: i8) -> Result<()>
+        ensures { WritesTree (⟦<i8 as Serialize>⟧.tree value) self.old result self.new }
+    {
+        self.serialize_i64(i64::from(value))
+    }
+
+    /// Writes the decimal digits of a `i16`, after a minus where it is negative.
+    ///
+    /// # Errors
+    ///
+    /// As every call: see [`Serializer`].
+    pub fn serialize_i16(&mut self, value: i16) -> Result<()>
+        ensures { WritesTree (⟦<i16 as Serialize>⟧.tree value) self.old result self.new }
+    {
+        self.serialize_i64(i64::from(value))
+    }
+
+    /// Writes the decimal digits of a `i32`, after a minus where it is negative.
+    ///
+    /// # Errors
+    ///
+    /// As every call: see [`Serializer`].
+    pub fn serialize_i32(&mut self, value: i32) -> Result<()>
+        ensures { WritesTree (⟦<i32 as Serialize>⟧.tree value) self.old result self.new }
+    {
+        self.serialize_i64(i64::from(value))
+    }
+
+    /// Writes the decimal digits of a `i64`, after a minus where it is negative.
+    ///
+    /// # Errors
+    ///
+    /// As every call: see [`Serializer`].
+    pub fn serialize_i64(&mut self, value: i64) -> Result<()>
+        ensures { WritesTree (⟦<i64 as Serialize>⟧.tree value) self.old result self.new }
+    {
+        self.put_integer(value)
+    }
+
+    /// Writes the decimal digits of a `i128`, after a minus where it is negative.
+    ///
+    /// # Errors
+    ///
+    /// As every call: see [`Serializer`].
+    pub fn serialize_i128(&mut self, value: i128) -> Result<()>
+        ensures { WritesTree (⟦<i128 as Serialize>⟧.tree value) self.old result self.new }
+    {
+        self.put_integer(value)
+    }
+}
