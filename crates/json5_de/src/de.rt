@@ -104,7 +104,7 @@ pub trait Deserialize<I: Input>: Sized + Drop {
 ///
 /// # Errors
 ///
-/// Every call may answer
+/// Every call may return
 /// - `Failed`, without a position, after a call that was refused, and where an access was dropped before its end.
 /// - `ExpectedComment` at the character after a `/` that is neither `/` nor `*`.
 /// - `EofParsingComment`, without a position, where the text ends after that `/` or inside `/* */`.

@@ -21,7 +21,7 @@ use json5_value::brackets::BracketKind;
 /// The variant of an enum: its name was read, and one of four calls reads its content. The caller chooses the call by
 /// `variant`; each of them takes the access.
 ///
-/// Until the content is read the reader's own calls answer `Failed`, and for good where the access is dropped or leaked.
+/// Until the content is read the reader's own calls return `Failed`, and for good where the access is dropped or leaked.
 ///
 /// ```text
 /// let access = de.deserialize_enum("Reminder", &["off", "daily", "weekly", "once"])?;
@@ -35,7 +35,7 @@ use json5_value::brackets::BracketKind;
 ///
 /// # Errors
 ///
-/// Every call that reads content may answer
+/// Every call that reads content may return
 /// - `ExpectedComment` and `EofParsingComment` for a comment, as in every call of a [`Deserializer`].
 ///
 /// Every call but `unit_variant` also

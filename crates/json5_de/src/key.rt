@@ -25,7 +25,7 @@ use std::alloc::Global;
 ///
 /// # Errors
 ///
-/// Every call may answer
+/// Every call may return
 /// - `Failed`, without a position, after a call of the reader that was refused.
 /// - Where a quote begins the key, the codes of a string: see [`Deserializer`].
 /// - `ExpectedIdentifier` at a character that begins no key, or at the backslash of an escape whose character may not be in an
@@ -37,7 +37,7 @@ use std::alloc::Global;
 /// - `OutOfMemory` where a request for memory was refused.
 ///
 /// A call that reads the key's text as a document of its own (`deserialize_unit`, `_unit_struct`, `_bool`, `_decimal`, `_u8` to
-/// `_i128`) also answers the faults of that document: their codes are those of `from_str`, and each has the position of the
+/// `_i128`) also returns the faults of that document: their codes are those of `from_str`, and each has the position of the
 /// key.
 pub struct MapKey<'a, I: Input> {
     pub(crate) de: &'a mut Deserializer<I>,

@@ -19,8 +19,8 @@ use json5_value::brackets::BracketKind;
 
 /// The members of an object, one after another: a key, then its value.
 ///
-/// `end` closes the object and frees the reader. Until then the reader's own calls answer `Failed`, and for good where the
-/// access is dropped or leaked before. After a call of the access that was refused, every later one answers `Failed`. Equal
+/// `end` closes the object and frees the reader. Until then the reader's own calls return `Failed`, and for good where the
+/// access is dropped or leaked before. After a call of the access that was refused, every later one returns `Failed`. Equal
 /// keys are given as often as they come.
 ///
 /// ```text
@@ -34,7 +34,7 @@ use json5_value::brackets::BracketKind;
 ///
 /// # Errors
 ///
-/// Every call that reads may answer
+/// Every call that reads may return
 /// - `ExpectedComment` and `EofParsingComment` for a comment, as in every call of a [`Deserializer`].
 /// - `Failed`, after a call of the access that was refused.
 pub struct MapAccess<'a, I: Input> {
@@ -233,7 +233,7 @@ impl<'a, I: Input> MapAccess<'a, I> {
     }
 
     /// Closes the object: takes `}`, and before it one comma where a member was read and the comma after it wasn't. Then the
-    /// reader goes on after the brace.
+    /// reader continues after the brace.
     ///
     /// Where the object is the content of a variant, the variant's `}` is taken too, before which one comma may be.
     ///

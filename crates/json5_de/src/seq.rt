@@ -22,8 +22,8 @@ use std::alloc::Global;
 
 /// The elements of an array, one after another.
 ///
-/// `end` closes the array and frees the reader. Until then the reader's own calls answer `Failed`, and for good where the
-/// access is dropped or leaked before. After a call of the access that was refused, every later one answers `Failed`.
+/// `end` closes the array and frees the reader. Until then the reader's own calls return `Failed`, and for good where the
+/// access is dropped or leaked before. After a call of the access that was refused, every later one returns `Failed`.
 ///
 /// ```text
 /// let mut seq = de.deserialize_seq()?;
@@ -35,7 +35,7 @@ use std::alloc::Global;
 ///
 /// # Errors
 ///
-/// Every call that reads may answer
+/// Every call that reads may return
 /// - `ExpectedComment` and `EofParsingComment` for a comment, as in every call of a [`Deserializer`].
 /// - `Failed`, after a call of the access that was refused.
 pub struct SeqAccess<'a, I: Input> {
@@ -240,7 +240,7 @@ impl<'a, I: Input> SeqAccess<'a, I> {
     }
 
     /// Closes the array: takes `]`, and before it one comma where an element was read and the comma after it wasn't. Then the
-    /// reader goes on after the bracket.
+    /// reader continues after the bracket.
     ///
     /// Where the array is the content of a variant, the variant's `}` is taken too, before which one comma may be.
     ///

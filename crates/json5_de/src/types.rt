@@ -103,7 +103,7 @@ impl<I: Input> Deserialize<I> for char {
     }
 }
 
-/// Reads a string into memory of its own, as `deserialize_string`.
+/// Reads a string into a `String`, as `deserialize_string`.
 impl<I: Input> Deserialize<I> for String {
     ghost use Rattle.std.specs.Prelude.{ℕ, List, string_bytes};
     ghost use Rattle.json5_de.specs.Convert.{text_of};

@@ -16,8 +16,8 @@ use std::io::Write;
 
 /// An array or an object that is written one element or member after another, each on a line of its own with a comma after it.
 ///
-/// `end` closes it and frees the serializer. Until then the serializer's own calls answer `Failed`, and for good where the
-/// collection is dropped or leaked before. After a call of the collection that was refused, every later one answers `Failed`.
+/// `end` closes it and frees the serializer. Until then the serializer's own calls return `Failed`, and for good where the
+/// collection is dropped or leaked before. After a call of the collection that was refused, every later one returns `Failed`.
 ///
 /// ```text
 /// let mut map = ser.serialize_map(None)?;
@@ -71,7 +71,7 @@ impl<W: Write + Drop> Serializer<W> {
 impl<W: Write + Drop> SerializeCollection<'_, W> {
     ghost use Rattle.json5_ser.specs.Lending.{state_of, is_list, key_pending, ExpectsKey, Steps, Settles, ending, outside};
 
-    /// Says whether it is an array, for code that gets a collection of either kind. It still answers after a refusal.
+    /// Says whether it is an array, for code that gets a collection of either kind. It also works after a refusal.
     pub fn is_list(&self) -> bool
         ensures { result ≡ is_list self.now }
     {
@@ -175,7 +175,7 @@ impl<W: Write + Drop> SerializeCollection<'_, W> {
         self.serialize_entry(&key, value)
     }
 
-    /// Closes the array or the object, and a variant's object round it. The serializer goes on after it. No key may wait for
+    /// Closes the array or the object, and a variant's object round it. The serializer continues after it. No key may wait for
     /// its value.
     ///
     /// # Errors

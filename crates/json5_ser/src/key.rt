@@ -26,11 +26,11 @@ use std::io::Write;
 ///
 /// # Errors
 ///
-/// No fault has a position. Every call may answer
+/// No fault has a position. Every call may return
 /// - A failed write, which has no code, where the writer failed or took no bytes: it holds a prefix of the key's text.
 /// - `Failed` after a call of the serializer that was refused: nothing is written.
 ///
-/// A call for what is no key answers
+/// A call for what is no key returns
 /// - `InvalidKey`: nothing of the key is written.
 pub struct MapKey<'a, W: Write + Drop> {
     ser: &'a mut Serializer<W>,
@@ -48,7 +48,7 @@ impl<W: Write + Drop> Drop for MapKey<'_, W> {
 }
 
 /// A value that can be written as a key. Each type says by `as_key` what is written of its values. An impl hands on what the
-/// methods of the key answer, and makes no refusal of its own.
+/// methods of the key return, and makes no refusal of its own.
 ///
 /// ```text
 /// impl SerializeKey for Id {

@@ -12,7 +12,7 @@ use std::io::{self, ErrorKind, Write};
 ///
 /// # Errors
 ///
-/// It ends at the first call of `write` that answers an error, `Interrupted` too, or takes nothing (`WriteZero`), and makes no
+/// It ends at the first call of `write` that returns an error, `Interrupted` too, or takes nothing (`WriteZero`), and makes no
 /// further call. Then a prefix of the bytes was written.
 pub fn write_whole<W: Write>(writer: &mut W, bytes: &[u8]) -> io::Result<()>
     ensures { Pushes (W.contents writer.old) (W.contents writer.new) bytes.now result }

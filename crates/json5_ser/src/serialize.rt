@@ -8,7 +8,7 @@ use json5_text::error::Result;
 use std::io::Write;
 
 /// A value that can be written. Each type says by `tree` what is written of its values. An impl hands on what the methods of
-/// the serializer answer, and makes no refusal of its own.
+/// the serializer return, and makes no refusal of its own.
 ///
 /// ```text
 /// impl Serialize for Port {

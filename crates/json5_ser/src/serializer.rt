@@ -28,7 +28,7 @@ use std::io::Write;
 use std::marker::Model;
 
 /// Writes values to `W`, one after another with nothing between them. Each call writes its text whole, in one or more pieces,
-/// and takes no memory of its own. `flush` is never called.
+/// and takes no memory itself. `flush` is never called.
 ///
 /// ```text
 /// let mut ser = Serializer::new(rt.stdout());
@@ -41,7 +41,7 @@ use std::marker::Model;
 ///
 /// # Errors
 ///
-/// No fault has a position. Every call may answer
+/// No fault has a position. Every call may return
 /// - A failed write, which has no code, where the writer failed or took no bytes: it holds a prefix of the call's text.
 /// - `Failed` after a call that was refused, before a collection is ended, and after one that was dropped: nothing is written.
 ///

@@ -1,7 +1,7 @@
 //! Where writing stops before its end: at the 129th bracket, and at what can't be a key.
 
 use indexmap::IndexMap;
-use json5::{Error, ErrorCode, Result, Value, to_writer};
+use json5::{Error, ErrorCode, Result, Value, from_str, to_string, to_writer};
 use std::alloc::Global;
 use std::test::Fail;
 
@@ -24,6 +24,30 @@ fn brackets(alloc: Global, count: usize) -> Result<String> {
         text.push_str("  ".repeat(alloc, level + 1)?.as_str())?;
     }
     Ok(text)
+}
+
+/// Whether the lines of two elements within 128 brackets, and of the bracket after them, have all their spaces.
+fn indents_the_deepest(alloc: Global) -> Result<bool> {
+    let mut value = from_str::<Value>(alloc, "[0,1]")?;
+    for _ in 1..128 {
+        let mut items = Vec::new(alloc);
+        items.push(value)?;
+        value = Value::Array(items);
+    }
+    let mut wanted = brackets(alloc, 128)?;
+    let spaces = "  ".repeat(alloc, 128)?;
+    wanted.push_str("0,\n")?;
+    wanted.push_str(spaces.as_str())?;
+    wanted.push_str("1,\n")?;
+    wanted.push_str("  ".repeat(alloc, 127)?.as_str())?;
+    wanted.push(']')?;
+    Ok(to_string(alloc, &value)?.starts_with(wanted.as_str()))
+}
+
+#[test]
+fn the_deepest_lines_have_all_their_spaces(rt: HostRuntime) -> std::result::Result<(), Fail> {
+    assert!(rt; indents_the_deepest(rt.alloc())?);
+    Ok(())
 }
 
 /// Whether 129 arrays are refused without a position, after all that is before the last bracket.

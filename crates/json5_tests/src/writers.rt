@@ -189,5 +189,7 @@ fn long_stretches_take_few_writes(rt: HostRuntime) -> std::result::Result<(), Fa
     assert_eq!(rt; stretches, (29, 5));
     let zeros = writes_of(rt.alloc(), &from_str::<Decimal>(rt.alloc(), "1e1000")?)?;
     assert_eq!(rt; zeros, (1003, 18));
+    let list = writes_of(rt.alloc(), &[1u8, 2, 3])?;
+    assert_eq!(rt; list, (18, 9));
     Ok(())
 }

@@ -25,7 +25,7 @@ use json5_text::text_token::TextToken;
 use json5_text::value::Value;
 use json5_text::whole::Whole;
 
-/// Returns the text of a key that the scanner took, in memory of its own.
+/// Returns the text of a key that the scanner took, as a `String`.
 ///
 /// # Errors
 ///
