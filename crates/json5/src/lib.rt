@@ -98,6 +98,7 @@ pub fn format_within(alloc: Global, limit: Limit, text: &str) -> Result<String>
 fn read_value(alloc: Global, limit: Limit, text: &str) -> Result<Value>
     ensures { ReadsText limit (chars text.now) result }
 {
+    // A goal below needs what `get` promises: the limit is at most 128.
     let _brackets = limit.get();
     from_str_within(alloc, limit, text)
 }

@@ -257,6 +257,7 @@ impl<I: Input> Deserializer<I> {
     pub(crate) fn string_owned(&mut self) -> Result<String>
         ensures { TakesOwnString self.old self.new result }
     {
+        // Goals below need what `offset` promises: what is unread is the end of the input.
         let _offset = self.offset();
         match self.scanner.string_owned() {
             Ok(text) => Ok(text),

@@ -214,6 +214,7 @@ fn attach_value<I: Input>(
 pub fn read_value<I: Input>(scanner: &mut Scanner<I>, room: usize) -> Result<Value>
     ensures { ReadsDatum room scanner.old scanner.new result }
 {
+    // Goals below need what `offset` promises: what is unread is the end of the input.
     let _offset = scanner.offset();
     let mut stack = Vec::new(scanner.allocator());
     let mut ended = None;

@@ -267,6 +267,7 @@ pub fn skip_value<I: Input>(scanner: &mut Scanner<I>, room: usize) -> Result<()>
     requires { room ≤ max_depth }
     ensures { SkipsValue room scanner.old scanner.new result }
 {
+    // Goals below need what `offset` promises: what is unread is the end of the input.
     let _offset = scanner.offset();
     let mut brackets = OpenBrackets::new();
     let mut at_value = true;

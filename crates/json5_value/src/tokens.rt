@@ -55,6 +55,7 @@ fn read_key<I: Input>(scanner: &mut Scanner<I>) -> Result<String>
     requires solid { Solid scanner.old.unread }
     ensures { Keeps IsKeyText (key scanner.old.unread) scanner.old scanner.new result }
 {
+    // Goals below need what `offset` promises: what is unread is the end of the input.
     let _offset = scanner.offset();
     match scanner.short_key() {
         Some(span) => own_text(scanner, span),
@@ -71,6 +72,7 @@ fn read_key_slowly<I: Input>(scanner: &mut Scanner<I>) -> Result<String>
     if scanner.peek().is_none() {
         return Err(Error::new(ErrorCode::EofParsingObject));
     }
+    // Goals below need what `offset` promises: what is unread is the end of the input.
     let _offset = scanner.offset();
     let key = scanner.key()?;
     key_owned(scanner, key)
@@ -119,6 +121,7 @@ fn read_string<I: Input>(scanner: &mut Scanner<I>) -> Result<Value>
     requires { AtKind kind.String scanner.old }
     ensures { ReadsScalar scanner.old scanner.new result }
 {
+    // Goals below need what `offset` promises: what is unread is the end of the input.
     let _offset = scanner.offset();
     match scanner.short_string() {
         Some(span) => {
@@ -135,6 +138,7 @@ fn read_string_slowly<I: Input>(scanner: &mut Scanner<I>) -> Result<Value>
     requires { AtKind kind.String scanner.old }
     ensures { ReadsScalar scanner.old scanner.new result }
 {
+    // Goals below need what `offset` promises: what is unread is the end of the input.
     let _offset = scanner.offset();
     let text = scanner.string_owned()?;
     Ok(Value::String(text))

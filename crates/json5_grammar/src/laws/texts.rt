@@ -65,5 +65,5 @@ pub fn text_beginnings()
     ensures strings { (x : List ℕ) (b : Blame) → StringBlame x b → (b.before ≡ []) ⊎ IsOpenString b.before }
     ensures names { (x : List ℕ) (b : Blame) → NameBlame x b → (b.before ≡ []) ⊎ IsName b.before }
     ensures no_string { (x s u z r : List ℕ) (escape_free : Bool) (b : Blame) → ShownByChar StringBlame x b → Str s u escape_free → (b.before ++ b.part) ++ z ≡ s ++ r → ⊥ }
-    ensures no_name { (x s u z r : List ℕ) (escape_free : Bool) (b : Blame) → ShownByChar NameBlame x b → EndedName s u escape_free r → (b.before ++ b.part) ++ z ≡ s ++ r → ⊥ }
+    ensures no_name { (x s u z r : List ℕ) (e : Bool) (b : Blame) → ShownByChar NameBlame x b → EndedName s u e r → (b.before ++ b.part) ++ z ≡ s ++ r → ⊥ }
 {}

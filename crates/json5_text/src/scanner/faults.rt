@@ -19,6 +19,7 @@ impl<I: Input> Scanner<I> {
     pub fn position_of(&self, offset: usize) -> Position
         ensures { Locates self.now.input offset result }
     {
+        // A goal below needs what is known of the field: it is the length of the input.
         let _end = self.end;
         let text = self.input.as_text();
         match text.split_at_checked(offset) {
