@@ -18,7 +18,7 @@ use Rattle.json5_grammar.proofs.CollectionsNowhere.{reads_here, no_sign, no_sign
 use Rattle.json5_text.specs.declared.error.Error.{Error}
 use Rattle.json5_text.specs.Cursor.{Refused}
 use Rattle.json5_text.specs.Tokens.{FaultyBlanks}
-use Rattle.json5_text.specs.Errors.{code, kind_of, place_of}
+use Rattle.json5_text.specs.Errors.{code, kind_of, error_position}
 use Rattle.json5_grammar.specs.declared.position.Position.{Position}
 use Rattle.json5_grammar.specs.Faults.Positions.{position_after}
 use Rattle.std.proofs.lemmas.List.{append-nil}
@@ -187,7 +187,7 @@ square_signs = record {
 }
 
 -- one open bracket too many
-pub too_deep_here : (b : Brackets) (level : ℕ) (s next : State) (e : Error) (p : Position) → level ≡ max_depth → TookText s (b.opening ∷ []) next → kind_of e ≡ code codes.TooDeep → place_of e ≡ Some p
+pub too_deep_here : (b : Brackets) (level : ℕ) (s next : State) (e : Error) (p : Position) → level ≡ max_depth → TookText s (b.opening ∷ []) next → kind_of e ≡ code codes.TooDeep → error_position e ≡ Some p
     → ((before : List ℕ) → s.input ≡ before ++ s.unread → p ≡ position_after before) → Refused (NotOpened b level) (cursor_of s) e
 too_deep_here b level s next e p full took kind place there = record {
   reason = Some codes.TooDeep;

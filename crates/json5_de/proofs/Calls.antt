@@ -1,14 +1,14 @@
 -- What a call of an access to an array means, from what its reader read.
 use Rattle.std.proofs.Common.{◌≡◌, ◌<◌, true, Bool, refl, sym, ap, ◌∙◌, subst, length, Option, Some, None, Ok, Err}
 use Rattle.json5_value.specs.Brackets.{square}
-use Rattle.json5_value.specs.Places.{StartsAfter, PlacedAt}
+use Rattle.json5_value.specs.Places.{StartsAfter, PositionedAt}
 use Rattle.std.specs.Prelude.{◌||◌, is_some, Result, IfSome}
 use Rattle.json5_grammar.specs.Language.Trees.{Tree}
 use Rattle.json5_grammar.proofs.CollectionsPassed.{element_shorter}
 use Rattle.json5_text.specs.declared.error.Error.{Error}
 use Rattle.json5_de.specs.State.{State, SameText}
 use Rattle.json5_de.specs.Law.{Steady}
-use Rattle.json5_de.specs.Access.{AccessState, bare, GivesElement, CompletesElement, CompletesClose, PlacedAtBracket}
+use Rattle.json5_de.specs.Access.{AccessState, bare, GivesElement, CompletesElement, CompletesClose, PositionedAtBracket}
 use Rattle.json5_de.specs.Seq.{RefusesElement}
 use Rattle.json5_de.specs.Lending.{state_of, blocking, Settles, KeepsAccess, ReadsNext}
 use Rattle.json5_de.specs.Stages.{is_comma_due, with_member}
@@ -28,7 +28,7 @@ given_on (Ok w) v s = (sym s.given, s.blocks)
 given_on (Err own) v s = absurd s.refused
 
 -- what was refused is refused at the bracket
-pub refused_on : {I V : Type 0} {mid new : SeqAccess I} (read : Result V Error) (e : Error) → Settles mid read new (Err e) → (own : Error) × (read ≡ Err own) × PlacedAtBracket (state_of mid) own e × (new ≡ blocking mid true)
+pub refused_on : {I V : Type 0} {mid new : SeqAccess I} (read : Result V Error) (e : Error) → Settles mid read new (Err e) → (own : Error) × (read ≡ Err own) × PositionedAtBracket (state_of mid) own e × (new ≡ blocking mid true)
 refused_on (Ok w) e s = let no : Err e ≡ Ok w = s.given in absurd (cc)
 refused_on (Err own) e s = (own, refl, s.refused, s.blocks)
 
@@ -62,11 +62,11 @@ module _ {I V C : Type 0} (content : V → C) (convert : Tree → Option C) (ref
       (given last o (kept old after (with_member old.stage some) old.failed text) (gives_seen content convert (state_of old) (state_of last) (state_of old).reader after o refl refl comma_due gives))
 
   -- the call was refused
-  pub next_refused : (after : State) (new : SeqAccess I) (own e : Error) → new ≡ blocking (lent old after) true → PlacedAtBracket (state_of (lent old after)) own e → RefusesElement refuses (is_comma_due old.stage) (state_of old).reader own after → Steady {V = Option V} (state_of old).reader after (Err own)
+  pub next_refused : (after : State) (new : SeqAccess I) (own e : Error) → new ≡ blocking (lent old after) true → PositionedAtBracket (state_of (lent old after)) own e → RefusesElement refuses (is_comma_due old.stage) (state_of old).reader own after → Steady {V = Option V} (state_of old).reader after (Err own)
       → CompletesElement {V = Option V} convert (bare (state_of old).reader (is_comma_due old.stage)) (Err own) → CompletesClose {V = Option V} square (bare (state_of old).reader (is_comma_due old.stage)) (Err own) → ReadsNext content convert refuses old new (Err e)
   next_refused after new own e same placed cause steady complete closing =
       let last = blocking (lent old after) true in
-      let at = subst (λ x. PlacedAt (StartsAfter x old.start) own e) steady.same_text placed in
+      let at = subst (λ x. PositionedAt (StartsAfter x old.start) own e) steady.same_text placed in
       subst (λ s. ReadsNext content convert refuses old s (Err e)) (sym same) (record {
         access = kept old after old.stage true steady.same_text;
         sound = tt;

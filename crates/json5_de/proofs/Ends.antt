@@ -7,7 +7,7 @@ use Rattle.json5_grammar.specs.Language.Blanks.{LastBlanks, Gap}
 use Rattle.json5_grammar.proofs.BlanksSound.{gap_last, gap_end}
 use Rattle.json5_text.specs.declared.error.Error.{Error}
 use Rattle.json5_text.specs.Errors.{code, kind_of}
-use Rattle.json5_text.specs.Cursor.{IsPlaced, Refused}
+use Rattle.json5_text.specs.Cursor.{IsPositioned, Refused}
 use Rattle.json5_text.specs.Tokens.{FaultyBlanks}
 use Rattle.json5_de.specs.State.{State, cursor_of}
 use Rattle.json5_de.specs.Faults.{AtEnd, Trailing, trailing, RefusedBy}
@@ -43,7 +43,7 @@ ended old mid o b p test is_it at =
       p.rest ∙ ap (λ y. record old { unread = y }) none,
     )
 
-pub refused_trailing : (old mid : State) (e : Error) (o : Option ℕ) (b : Bool) → PassedGap old mid → b ≡ true → b ≡ is_some o → o ≡ slice_get mid.unread 0 → kind_of e ≡ code TrailingCharacters → IsPlaced (cursor_of mid) (Some []) e → RefusedBy Trailing old e
+pub refused_trailing : (old mid : State) (e : Error) (o : Option ℕ) (b : Bool) → PassedGap old mid → b ≡ true → b ≡ is_some o → o ≡ slice_get mid.unread 0 → kind_of e ≡ code TrailingCharacters → IsPositioned (cursor_of mid) (Some []) e → RefusedBy Trailing old e
 refused_trailing old mid e o b p test is_it at says placed =
     let (c, r, split) = some_left mid.unread (peeked mid.unread o b true test is_it at) in
     refused_token old mid e p (record { reason = Some TrailingCharacters; place = Some []; fault = subst (λ x. Trailing x (Some TrailingCharacters) (Some [])) (sym split) (trailing c r); says = says; placed = placed })

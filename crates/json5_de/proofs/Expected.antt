@@ -12,11 +12,11 @@ use Rattle.json5_grammar.proofs.BlanksRead.{begins_solid}
 use Rattle.json5_grammar.proofs.BlanksSound.{one_gap, no_blank_fault, gap_last, gap_before}
 use Rattle.json5_grammar.proofs.ValueHeads.{val_head, value_solid}
 use Rattle.json5_text.specs.declared.error.Error.{Error}
-use Rattle.json5_text.specs.Cursor.{Says, IsPlaced}
+use Rattle.json5_text.specs.Cursor.{Says, IsPositioned}
 use Rattle.json5_text.specs.Tokens.{FaultyBlanks}
 use Rattle.json5_de.specs.State.{State, cursor_of}
 use Rattle.json5_de.specs.Law.{Gives, Completes}
-use Rattle.json5_de.specs.Faults.{AfterBlanks, in_blanks, after_gap, RefusedBy, RefusedByOr, RefusedByOrMemory, IsUnplaced, IsAfter, AtEnd, AtOther, EndsWith, EndsWithOr, DiffersWith, DiffersWithOr}
+use Rattle.json5_de.specs.Faults.{AfterBlanks, in_blanks, after_gap, RefusedBy, RefusedByOr, RefusedByOrMemory, IsPositionless, IsAfter, AtEnd, AtOther, EndsWith, EndsWithOr, DiffersWith, DiffersWithOr}
 use Rattle.json5_grammar.proofs.Basics.{first_same, true_false}
 
 -- a kind of value: what is refused where one is expected, its trees, what begins one, and the codes at the end and at another character
@@ -80,18 +80,18 @@ other_no_value {begins = begins} a x w q r c t v b s n e k h =
 -- ---- what a refusal says
 
 pub end_fault : {C : Type 0} {F : List ℕ → Option ErrorCode → Option (List ℕ) → Type 0} {convert : Tree → Option C} {begins : ℕ → Bool} {ends differs : ErrorCode} → Expected F convert begins ends differs
-    → (old : State) (e : Error) → AtEnd old → RefusedBy F old e → IsUnplaced ends e
+    → (old : State) (e : Error) → AtEnd old → RefusedBy F old e → IsPositionless ends e
 end_fault a old e (live, l) k =
     let f = k live in
     let is = after_end a old.unread f.reason f.place l f.fault in
-    (subst (λ z. Says z e) is.0 f.says, subst (λ z. IsPlaced (cursor_of old) z e) is.1 f.placed)
+    (subst (λ z. Says z e) is.0 f.says, subst (λ z. IsPositioned (cursor_of old) z e) is.1 f.placed)
 
 pub other_fault : {C : Type 0} {F : List ℕ → Option ErrorCode → Option (List ℕ) → Type 0} {convert : Tree → Option C} {begins : ℕ → Bool} {ends differs : ErrorCode} → Expected F convert begins ends differs
     → (old : State) (e : Error) (w : List ℕ) → AtOther begins old w → RefusedBy F old e → IsAfter differs old w e
 other_fault a old e w o k =
     let f = k o.live in
     let is = after_other a old.unread w o.more o.char f.reason f.place o.blank o.solid o.other o.split f.fault in
-    (subst (λ z. Says z e) is.0 f.says, subst (λ z. IsPlaced (cursor_of old) z e) is.1 f.placed)
+    (subst (λ z. Says z e) is.0 f.says, subst (λ z. IsPositioned (cursor_of old) z e) is.1 f.placed)
 
 pub wrongly_refused : {C : Type 0} {F : List ℕ → Option ErrorCode → Option (List ℕ) → Type 0} {convert : Tree → Option C} {begins : ℕ → Bool} {ends differs : ErrorCode} → Expected F convert begins ends differs
     → (old : State) (e : Error) (t : Tree) (r : List ℕ) (v : C) → old.failed ≡ false → Reads old.unread t r → convert t ≡ Some v → RefusedBy F old e → ⊥

@@ -20,7 +20,7 @@ use Rattle.json5_grammar.proofs.BlanksSound.{gap_blanks, no_blank_fault, one_gap
 use Rattle.json5_grammar.proofs.CollectionsPairs.{one_reads_key}
 use Rattle.json5_grammar.proofs.ValueHeads.{key_head, key_solid}
 use Rattle.json5_text.specs.declared.error.Error.{Error}
-use Rattle.json5_text.specs.Errors.{LacksMemory, code, custom, kind_of, place_of}
+use Rattle.json5_text.specs.Errors.{LacksMemory, code, custom, kind_of, error_position}
 use Rattle.json5_text.specs.Cursor.{Refused, Says, IsOutOfMemory}
 use Rattle.json5_text.specs.Tokens.{FaultyBlanks, FaultyKey}
 use Rattle.json5_de.specs.declared.found_text.FoundText.{FoundText}
@@ -134,13 +134,13 @@ refuses_found {C = C} kind content old new last key e k not refused other gives_
 
 -- a fault of the key's text, at the key
 refused_key : {IsFault : KeyFault} (old new : State) (key : FoundText) (e : Error) (reason : Option ErrorCode) → (k : TookKeyAt old new key) → IsFault k.text k.escape_free reason → Says reason e
-    → ((before rest : List ℕ) → new.input ≡ before ++ rest → key.start ≡ length (encode_utf8_all before) → place_of e ≡ Some (position_after before)) → RefusedBy (NotKey IsFault) old e
+    → ((before rest : List ℕ) → new.input ≡ before ++ rest → key.start ≡ length (encode_utf8_all before) → error_position e ≡ Some (position_after before)) → RefusedBy (NotKey IsFault) old e
 refused_key {IsFault = IsFault} old new key e reason k fault says placed = refused_token old k.between e k.passed (record {
   reason = reason;
   place = Some [];
   fault = subst (λ x. NotKey IsFault x reason (Some [])) (sym k.took.split) (other_key new.unread k.is_spelling fault);
   says = says;
-  placed = λ before whole. subst (λ z. place_of e ≡ Some (position_after z)) (sym (append-nil before)) (placed before k.between.unread (input_of k.took.rest ∙ whole) (k.counted before whole));
+  placed = λ before whole. subst (λ z. error_position e ≡ Some (position_after z)) (sym (append-nil before)) (placed before k.between.unread (input_of k.took.rest ∙ whole) (k.counted before whole));
 })
 
 -- memory ran out

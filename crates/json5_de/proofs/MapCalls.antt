@@ -1,7 +1,7 @@
 -- What a call of an access to an object means, from what its reader read.
 use Rattle.std.proofs.Common.{◌≡◌, ◌<◌, true, false, Bool, refl, sym, ◌∙◌, subst, length, Option, Some, None, Ok, Err}
 use Rattle.json5_value.specs.Brackets.{curly}
-use Rattle.json5_value.specs.Places.{StartsAfter, PlacedAt}
+use Rattle.json5_value.specs.Places.{StartsAfter, PositionedAt}
 use Rattle.std.specs.Prelude.{is_some, Result, IfSome}
 use Rattle.json5_grammar.specs.Language.Trees.{Tree}
 use Rattle.json5_grammar.proofs.CollectionsPairs.{key_shorter, key_value_shorter}
@@ -9,7 +9,7 @@ use Rattle.json5_text.specs.declared.error.Error.{Error}
 use Rattle.json5_de.specs.State.{State, SameText}
 use Rattle.json5_de.specs.Keys.{KeyConversion}
 use Rattle.json5_de.specs.Law.{Steady}
-use Rattle.json5_de.specs.Access.{bare, CompletesClose, PlacedAtBracket}
+use Rattle.json5_de.specs.Access.{bare, CompletesClose, PositionedAtBracket}
 use Rattle.json5_de.specs.Objects.{MapAccessState, bare_map, GivesPairKey, GivesPairValue, CompletesPairKey, CompletesPairValue}
 use Rattle.json5_de.specs.ObjectFaults.{RefusesPairKey, RefusesPairValue}
 use Rattle.json5_de.specs.Lending.{map_state_of, blocking_map, SettlesMap, KeepsMap, ReadsNextKey, ReadsNextValue}
@@ -31,7 +31,7 @@ given_on (Ok w) v s = (sym s.given, s.blocks)
 given_on (Err own) v s = absurd s.refused
 
 -- what was refused is refused at the brace
-pub refused_on : {I V : Type 0} {mid new : MapAccess I} (read : Result V Error) (e : Error) → SettlesMap mid read new (Err e) → (own : Error) × (read ≡ Err own) × PlacedAtBracket (map_state_of mid).at own e × (new ≡ blocking_map mid true)
+pub refused_on : {I V : Type 0} {mid new : MapAccess I} (read : Result V Error) (e : Error) → SettlesMap mid read new (Err e) → (own : Error) × (read ≡ Err own) × PositionedAtBracket (map_state_of mid).at own e × (new ≡ blocking_map mid true)
 refused_on (Ok w) e s = let no : Err e ≡ Ok w = s.given in absurd (cc)
 refused_on (Err own) e s = (own, refl, s.refused, s.blocks)
 
@@ -63,12 +63,12 @@ module _ {I K C : Type 0} (content : K → C) (convert : KeyConversion C) (refus
       })
 
   -- the call for one was refused
-  pub key_refused : (after : State) (new : MapAccess I) (own e : Error) → new ≡ blocking_map (lent old after) true → PlacedAtBracket (map_state_of (lent old after)).at own e → RefusesPairKey refuses (is_comma_due old.stage) (map_state_of old).at.reader own after
+  pub key_refused : (after : State) (new : MapAccess I) (own e : Error) → new ≡ blocking_map (lent old after) true → PositionedAtBracket (map_state_of (lent old after)).at own e → RefusesPairKey refuses (is_comma_due old.stage) (map_state_of old).at.reader own after
       → Steady {V = Option K} (map_state_of old).at.reader after (Err own) → CompletesPairKey {V = Option K} convert (bare_map (map_state_of old).at.reader (is_comma_due old.stage) false) (Err own)
       → CompletesClose {V = Option K} curly (bare (map_state_of old).at.reader (is_comma_due old.stage)) (Err own) → ReadsNextKey content convert refuses old new (Err e)
   key_refused after new own e same placed cause steady complete closing =
       let last = blocking_map (lent old after) true in
-      let at = subst (λ x. PlacedAt (StartsAfter x old.start) own e) steady.same_text placed in
+      let at = subst (λ x. PositionedAt (StartsAfter x old.start) own e) steady.same_text placed in
       subst (λ m. ReadsNextKey content convert refuses old m (Err e)) (sym same) (record {
         access = kept old after old.stage true steady.same_text;
         pending = record { given = tt; kept = refl };
@@ -101,11 +101,11 @@ module _ {I V C : Type 0} (content : V → C) (convert : Tree → Option C) (ref
       })
 
   -- the call for it was refused
-  pub value_refused : (after : State) (new : MapAccess I) (own e : Error) → new ≡ blocking_map (lent old after) true → PlacedAtBracket (map_state_of (lent old after)).at own e → RefusesPairValue refuses (map_state_of old).at.reader own after
+  pub value_refused : (after : State) (new : MapAccess I) (own e : Error) → new ≡ blocking_map (lent old after) true → PositionedAtBracket (map_state_of (lent old after)).at own e → RefusesPairValue refuses (map_state_of old).at.reader own after
       → Steady {V = V} (map_state_of old).at.reader after (Err own) → CompletesPairValue {V = V} convert (bare_map (map_state_of old).at.reader false true) (Err own) → ReadsNextValue content convert refuses old new (Err e)
   value_refused after new own e same placed cause steady complete =
       let last = blocking_map (lent old after) true in
-      let at = subst (λ x. PlacedAt (StartsAfter x old.start) own e) steady.same_text placed in
+      let at = subst (λ x. PositionedAt (StartsAfter x old.start) own e) steady.same_text placed in
       subst (λ m. ReadsNextValue content convert refuses old m (Err e)) (sym same) (record {
         access = kept old after old.stage true steady.same_text;
         pending = record { given = tt; kept = refl };

@@ -9,7 +9,7 @@ use Rattle.json5_grammar.specs.Language.Numbers.{Number, Num}
 use Rattle.json5_grammar.specs.Language.Strings.{Str}
 use Rattle.json5_grammar.specs.Language.Values.{Stops}
 use Rattle.json5_text.specs.declared.error.Error.{Error}
-use Rattle.json5_text.specs.Errors.{place_of}
+use Rattle.json5_text.specs.Errors.{error_position}
 use Rattle.json5_de.specs.State.{State}
 use Rattle.json5_de.specs.Faults.{RefusedByOrMemory, NotNumber, other_number, NotText, other_text}
 use Rattle.json5_de.specs.ReaderSteps.{PassedGap, TookText, IsMismatch, IsMismatchOf}
@@ -28,7 +28,7 @@ mismatched other old mid new e start s p k at fault (inr (says, placed)) =
       place = Some [];
       fault = fault;
       says = says;
-      placed = λ before whole. subst (λ z. place_of e ≡ Some (position_after z)) (sym (append-nil before)) (placed before mid.unread (input_of k.rest ∙ whole) (at before whole));
+      placed = λ before whole. subst (λ z. error_position e ≡ Some (position_after z)) (sym (append-nil before)) (placed before mid.unread (input_of k.rest ∙ whole) (at before whole));
     }))
 
 pub refused_number : {V C : Type 0} (f : Number → Option C) (old mid new : State) (result : Result V Error) (start : ℕ) (s : List ℕ) (n : Number) → PassedGap old mid → TookText mid s new → Num s n → Stops s new.unread → f n ≡ None

@@ -8,10 +8,10 @@ use Rattle.json5_grammar.specs.Model.Collections.{IsElement}
 use Rattle.json5_grammar.specs.Language.Trees.{Tree}
 use Rattle.json5_grammar.proofs.CollectionsRead.{comma_solid}
 use Rattle.json5_text.specs.declared.error.Error.{Error}
-use Rattle.json5_text.specs.Errors.{code, kind_of, place_of, or_place}
+use Rattle.json5_text.specs.Errors.{code, kind_of, error_position, or_position}
 use Rattle.json5_de.specs.State.{State, OnlyRead}
-use Rattle.json5_de.specs.Faults.{AtEnd, AtOther, IsUnplaced, IsAfter}
-use Rattle.json5_de.specs.Access.{AccessState, bare, Opened, TookElement, AtClose, GivesElement, PlacedAtBracket, IsAtBracket, is_comma_or_closing}
+use Rattle.json5_de.specs.Faults.{AtEnd, AtOther, IsPositionless, IsAfter}
+use Rattle.json5_de.specs.Access.{AccessState, bare, Opened, TookElement, AtClose, GivesElement, PositionedAtBracket, IsAtBracket, is_comma_or_closing}
 use Rattle.json5_value.specs.declared.brackets.Brackets.{Brackets}
 use Rattle.json5_value.specs.Brackets.{square}
 use Rattle.json5_de.specs.Seq.{Cause, RefusesCall, RefusesElement, not_reached, in_element, RefusesNext}
@@ -50,16 +50,16 @@ opened_seen b old first last start o blocked =
 
 -- ---- how a call refuses
 
-or_some : (o : Option Position) (p : Position) → or_place o p ≢ None
+or_some : (o : Option Position) (p : Position) → or_position o p ≢ None
 or_some None p e = absurd (cc)
 or_some (Some q) p e = absurd (cc)
 
-place_kept : (own e : Error) (p q : Position) → place_of e ≡ or_place (place_of own) p → place_of own ≡ Some q → place_of e ≡ Some q
-place_kept own e p q is k = is ∙ ap (λ o. or_place o p) k
+place_kept : (own e : Error) (p q : Position) → error_position e ≡ or_position (error_position own) p → error_position own ≡ Some q → error_position e ≡ Some q
+place_kept own e p q is k = is ∙ ap (λ o. or_position o p) k
 
 -- a fault without a position got the bracket's
-at_bracket : (old : AccessState) (own e : Error) → PlacedAtBracket old own e → place_of own ≡ None → IsAtBracket old e
-at_bracket old own e p none before starts = p.place ∙ ap (λ o. or_place o p.there) none ∙ ap Some (p.is_there before starts)
+at_bracket : (old : AccessState) (own e : Error) → PositionedAtBracket old own e → error_position own ≡ None → IsAtBracket old e
+at_bracket old own e p none before starts = p.place ∙ ap (λ o. or_position o p.there) none ∙ ap Some (p.is_there before starts)
 
 -- a call that returned a value
 pub answers_call : {V : Type 0} (IsCause : Cause) (asked : Bool) (begins : ℕ → Bool) (ends differs : ErrorCode) (old : AccessState) (new : State) (v : V) → (asked ≡ true → AtEnd old.reader → ⊥) → (asked ≡ true → (w : List ℕ) → AtOther begins old.reader w → ⊥)
@@ -75,12 +75,12 @@ answers_call IsCause asked begins ends differs old new v no_end no_other live = 
 }
 
 -- a call that was refused
-pub refuses_call : {V : Type 0} (IsCause : Cause) (asked : Bool) (begins : ℕ → Bool) (ends differs : ErrorCode) (old : AccessState) (new after : State) (own e : Error) → IsCause own after → (asked ≡ true → AtEnd old.reader → IsUnplaced ends own)
-    → (asked ≡ true → (w : List ℕ) → AtOther begins old.reader w → IsAfter differs old.reader w own) → (old.reader.failed ≡ false → kind_of own ≢ code codes.Failed) → (old.reader.failed ≡ true → IsUnplaced codes.Failed own) → PlacedAtBracket old own e
+pub refuses_call : {V : Type 0} (IsCause : Cause) (asked : Bool) (begins : ℕ → Bool) (ends differs : ErrorCode) (old : AccessState) (new after : State) (own e : Error) → IsCause own after → (asked ≡ true → AtEnd old.reader → IsPositionless ends own)
+    → (asked ≡ true → (w : List ℕ) → AtOther begins old.reader w → IsAfter differs old.reader w own) → (old.reader.failed ≡ false → kind_of own ≢ code codes.Failed) → (old.reader.failed ≡ true → IsPositionless codes.Failed own) → PositionedAtBracket old own e
     → new.failed ≡ true → RefusesCall {V = V} IsCause asked begins ends differs old new (Err e)
 refuses_call IsCause asked begins ends differs old new after own e cause at_end at_other other before p failed = record {
   cause = λ live. record { own = own; after = after; cause = cause; placed = p };
-  placed = λ none. or_some (place_of own) p.there (sym p.place ∙ none);
+  placed = λ none. or_some (error_position own) p.there (sym p.place ∙ none);
   ends = λ a at. let (says, none) = at_end a at in (p.kind ∙ says, at_bracket old own e p none);
   differs = λ a w o. let (says, placed) = at_other a w o in (p.kind ∙ says, λ b split. place_kept own e p.there _ p.place (placed b split));
   unprompted = λ live k. other live (sym p.kind ∙ k);
@@ -111,11 +111,11 @@ gives_next content convert refuses old new o gives =
     answers_call _ old.comma_due _ _ _ old new.reader o (λ d at. end_no_element content convert old new o d at gives) (λ d w at. other_no_element content convert old new o w d at gives) (λ h. gives_live content convert old new o h gives)
 
 pub refuses_next : {V : Type 0} (refuses : State → Error → State → Type 0) (old : AccessState) (new after : State) (own e : Error) → RefusesElement refuses old.comma_due old.reader own after → (old.reader.failed ≡ false → kind_of own ≢ code codes.Failed)
-    → (old.reader.failed ≡ true → IsUnplaced codes.Failed own) → PlacedAtBracket old own e → new.failed ≡ true → RefusesNext {V = V} refuses old new (Err e)
+    → (old.reader.failed ≡ true → IsPositionless codes.Failed own) → PositionedAtBracket old own e → new.failed ≡ true → RefusesNext {V = V} refuses old new (Err e)
 refuses_next refuses old new after own e cause other before p failed =
     refuses_call (RefusesElement refuses old.comma_due old.reader) old.comma_due (is_comma_or_closing square) codes.EofParsingArray codes.ExpectedComma old new after own e cause (λ d at. at_end cause d at) (λ d w o. at_other cause d w o) other before p failed
   where
-    at_end : RefusesElement refuses old.comma_due old.reader own after → old.comma_due ≡ true → AtEnd old.reader → IsUnplaced codes.EofParsingArray own
+    at_end : RefusesElement refuses old.comma_due old.reader own after → old.comma_due ≡ true → AtEnd old.reader → IsPositionless codes.EofParsingArray own
     at_end (not_reached f) d at = end_fault (expects_more square old.comma_due) old.reader own at f
     at_end (in_element start there k) d at = absurd (end_goes_nowhere square square_signs old.comma_due true old.reader start d at there)
 

@@ -3,7 +3,7 @@ use Rattle.std.proofs.Common.{◌≡◌, ℕ, true, List, ◌++◌, length, ap, 
 use Rattle.std.specs.Str.{all_scalars, encode_utf8_all}
 use Rattle.json5_text.specs.Cursor.{Cursor, IsOffset, offset_of}
 use Rattle.json5_de.specs.State.{State}
-use Rattle.json5_value.specs.Places.{PlacedAt}
+use Rattle.json5_value.specs.Places.{PositionedAt}
 use Rattle.json5_text.specs.declared.error.Error.{Error}
 use Rattle.json5_de.specs.ReaderSteps.{IsCount}
 use Rattle.json5_value.proofs.Steps.{counted_before}
@@ -27,5 +27,5 @@ is_count s cursor offset same_input same_unread counted (before, split) scalars 
     }
 
 -- the same for a narrower IsBefore
-pub placed_where : {IsBefore OtherBefore : List ℕ → Type 0} {own e : Error} → ((before : List ℕ) → OtherBefore before → IsBefore before) → PlacedAt IsBefore own e → PlacedAt OtherBefore own e
+pub placed_where : {IsBefore OtherBefore : List ℕ → Type 0} {own e : Error} → ((before : List ℕ) → OtherBefore before → IsBefore before) → PositionedAt IsBefore own e → PositionedAt OtherBefore own e
 placed_where is p = record { kind = p.kind; there = p.there; place = p.place; is_there = λ before b. p.is_there before (is before b) }

@@ -6,7 +6,7 @@ use Rattle.json5_grammar.specs.declared.code.ErrorCode.TheVariants as codes
 use Rattle.json5_grammar.specs.Model.Collections.{IsEnd}
 use Rattle.json5_text.specs.declared.error.Error.{Error}
 use Rattle.json5_de.specs.State.{State}
-use Rattle.json5_de.specs.Faults.{RefusedBy, IsUnplaced}
+use Rattle.json5_de.specs.Faults.{RefusedBy, IsPositionless}
 use Rattle.json5_value.specs.declared.brackets.Brackets.{Brackets}
 use Rattle.json5_de.specs.Brackets.{AreSigns}
 use Rattle.json5_de.specs.Access.{AccessState, Opened, Closed, NotOpened, NotClosed, OpensAs, ClosesAs}
@@ -34,7 +34,7 @@ opens b k state_of old a o comma_due start = record {
   before = λ h. absurd (true_false h o.live);
 }
 
-pub refuses_opening : {A : Type 0} (b : Brackets) → AreSigns b → (state_of : A → AccessState) (old : State) (e : Error) → RefusedBy (NotOpened b old.level) old e → (old.failed ≡ true → IsUnplaced codes.Failed e) → OpensAs b state_of old (Err e)
+pub refuses_opening : {A : Type 0} (b : Brackets) → AreSigns b → (state_of : A → AccessState) (old : State) (e : Error) → RefusedBy (NotOpened b old.level) old e → (old.failed ≡ true → IsPositionless codes.Failed e) → OpensAs b state_of old (Err e)
 refuses_opening b k state_of old e f before = record {
   opened = tt;
   start = tt;
@@ -62,7 +62,7 @@ closes b k comma_due old new c = record {
   before = λ h. absurd (true_false h c.live);
 }
 
-pub refuses_closing : (b : Brackets) → AreSigns b → (comma_due : Bool) (old new : State) (e : Error) → RefusedBy (NotClosed b comma_due) old e → ((r : List ℕ) → old.failed ≡ false → IsEnd b.closing comma_due old.unread r → IsOk {T = Unit {0}} {E = Error} (Err e)) → (old.failed ≡ true → IsUnplaced codes.Failed e) → ClosesAs b comma_due old new (Err e)
+pub refuses_closing : (b : Brackets) → AreSigns b → (comma_due : Bool) (old new : State) (e : Error) → RefusedBy (NotClosed b comma_due) old e → ((r : List ℕ) → old.failed ≡ false → IsEnd b.closing comma_due old.unread r → IsOk {T = Unit {0}} {E = Error} (Err e)) → (old.failed ≡ true → IsPositionless codes.Failed e) → ClosesAs b comma_due old new (Err e)
 refuses_closing b k comma_due old new e f complete before = record {
   closed = tt;
   complete = complete;

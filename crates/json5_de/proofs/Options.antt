@@ -15,16 +15,16 @@ use Rattle.json5_grammar.proofs.ValueHeads.{val_head, number_head}
 use Rattle.json5_grammar.proofs.CollectionsRead.{phrase_found, reads_found}
 use Rattle.json5_grammar.proofs.CollectionsNowhere.{reads_here, no_reads_in_blanks}
 use Rattle.json5_text.specs.declared.error.Error.{Error}
-use Rattle.json5_text.specs.Errors.{code, kind_of, place_of}
+use Rattle.json5_text.specs.Errors.{code, kind_of, error_position}
 use Rattle.json5_text.specs.Cursor.{Refused}
 use Rattle.json5_text.specs.Tokens.{FaultyBlanks}
 use Rattle.json5_de.specs.State.{State, SameText, GivesUp, cursor_of}
 use Rattle.json5_de.specs.Law.{TookValue, Gives, Completes, CompletesFree, Unprompted, ReadsValue}
 use Rattle.json5_de.specs.Options.{NoOption, option_missing, faulty_null, RefusesOption, option_free}
-use Rattle.json5_value.specs.Places.{PlacedAt}
+use Rattle.json5_value.specs.Places.{PositionedAt}
 use Rattle.json5_de.specs.Convert.{unit_of}
 use Rattle.json5_de.specs.ConvertLists.{option_of, if_some}
-use Rattle.json5_de.specs.Faults.{AtEnd, RefusedBy, IsUnplaced, FaultyNull}
+use Rattle.json5_de.specs.Faults.{AtEnd, RefusedBy, IsPositionless, FaultyNull}
 use Rattle.json5_de.specs.ReaderSteps.{PassedGap}
 use Rattle.json5_value.specs.Steps.{Unexpected, at_end, at_char}
 use Rattle.json5_de.proofs.Expected.{Expected}
@@ -154,7 +154,7 @@ took_after s mid new t p took = record {
 pub other_sign : (c d : ℕ) → (c ≡ d → ⊥) → (c == d) ≡ false
 other_sign c d n = grind arith
 
-pub missing_there : (old mid : State) (e : Error) → PassedGap old mid → mid.unread ≡ [] → kind_of e ≡ code codes.EofParsingValue → place_of e ≡ None → RefusedBy NoOption old e
+pub missing_there : (old mid : State) (e : Error) → PassedGap old mid → mid.unread ≡ [] → kind_of e ≡ code codes.EofParsingValue → error_position e ≡ None → RefusedBy NoOption old e
 missing_there old mid e p none kind place = refused_token old mid e p (record {
   reason = Some codes.EofParsingValue;
   place = None;
@@ -199,7 +199,7 @@ module _ {V C : Type 0} (content : V → C) (convert : Tree → Option C) (alloc
   }
 
   -- no T begins
-  pub refuses_option : (old new : State) (e : Error) → RefusedBy NoOption old e → GivesUp old new → (old.failed ≡ true → IsUnplaced codes.Failed e × (new ≡ old))
+  pub refuses_option : (old new : State) (e : Error) → RefusedBy NoOption old e → GivesUp old new → (old.failed ≡ true → IsPositionless codes.Failed e × (new ≡ old))
       → ((t : Tree) (r : List ℕ) → old.failed ≡ false → Reads old.unread t r → ⊥) → ReadsOption old new (Err e)
   refuses_option old new e f failed before nothing = record {
     sound = tt;
@@ -215,7 +215,7 @@ module _ {V C : Type 0} (content : V → C) (convert : Tree → Option C) (alloc
   -- T refuses
   pub refuses_some : (old start after new : State) (own e : Error) (c : ℕ) (m : List ℕ) → PassedGap old start → start.unread ≡ c ∷ m → (c == 110) ≡ false → refuses start own after → Completes {V = V} convert start (Err own)
       → CompletesFree {V = V} allocation_free convert start (Err own) → Unprompted {V = V} start (Err own) → SameText start after → new ≡ record after { failed = true }
-      → PlacedAt (λ before. start.input ≡ before ++ start.unread) own e → ReadsOption old new (Err e)
+      → PositionedAt (λ before. start.input ≡ before ++ start.unread) own e → ReadsOption old new (Err e)
   refuses_some old start after new own e c m p next no_null cause complete no_memory other same left placed = record {
     sound = tt;
     complete = λ t r v live reads shallow converts. let (k, is) = option_parts convert t v (is_no_null t r reads) converts in placed.kind ∙ complete t r k (at_start live) (there t r reads) (deep t shallow) is;

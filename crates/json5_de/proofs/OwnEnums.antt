@@ -17,7 +17,7 @@ use Rattle.json5_de.specs.Access.{AccessState, ElementsRead, ElementsLeft, Reads
 use Rattle.json5_de.specs.Objects.{MapAccessState, PairsLeft}
 use Rattle.json5_de.specs.Plans.{Plan, run, ReadsPairs}
 use Rattle.json5_de.specs.Enums.{EnumAccessState, NameRead, NamesVariant, ReadsVariant, GivesContent, AfterName, ContentLeft, OpensTuple, OpensStruct, ClosesTuple, ClosesStruct, enum_of, named_variant, content_of}
-use Rattle.json5_de.specs.Variants.{Variant, from_place, FinishesVariant}
+use Rattle.json5_de.specs.Variants.{Variant, from_index, FinishesVariant}
 use Rattle.json5_de.proofs.Loops.{handed_on}
 use Rattle.json5_de.proofs.Refinement.{parts}
 
@@ -32,10 +32,10 @@ pub other_place : {k : ℕ} (n : ℕ) → k ≢ n → (k == n) ≡ false
 other_place n not_it = grind arith
 
 -- the variant isn't the first of these, and so one of the others
-pub passed_place : {C : Type 0} (n : ℕ) (v w : Variant C) (vs : List (Variant C)) {k : ℕ} → k ≢ n → (t : Option Tree) → from_place n (v ∷ w ∷ vs) k t ≡ from_place (n + 1) (w ∷ vs) k t
+pub passed_place : {C : Type 0} (n : ℕ) (v w : Variant C) (vs : List (Variant C)) {k : ℕ} → k ≢ n → (t : Option Tree) → from_index n (v ∷ w ∷ vs) k t ≡ from_index (n + 1) (w ∷ vs) k t
 passed_place {C} n v w vs {k = k} not_it t = by (k == n) (other_place n not_it)
   where
-    by : (b : Bool) → b ≡ false → (if b then v.convert t else from_place (n + 1) (w ∷ vs) k t) ≡ from_place (n + 1) (w ∷ vs) k t
+    by : (b : Bool) → b ≡ false → (if b then v.convert t else from_index (n + 1) (w ∷ vs) k t) ≡ from_index (n + 1) (w ∷ vs) k t
     by true e = absurd (cc)
     by false e = refl
 

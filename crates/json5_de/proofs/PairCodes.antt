@@ -28,14 +28,14 @@ use Rattle.json5_de.specs.Law.{TookValue, Steady, IsUnprompted}
 use Rattle.json5_de.specs.ReaderSteps.{PassedGap, TookText, IsCount}
 use Rattle.json5_de.specs.Keys.{KeyConversion, TookKey, GivesKey, CompletesKey, ReadsKeyOf}
 use Rattle.json5_value.specs.Brackets.{curly}
-use Rattle.json5_de.specs.Faults.{AfterBlanks, in_blanks, after_gap, RefusedBy, AtEnd, AtOther, IsUnplaced, IsAfter}
-use Rattle.json5_de.specs.Access.{AtClose, PlacedAtBracket}
+use Rattle.json5_de.specs.Faults.{AfterBlanks, in_blanks, after_gap, RefusedBy, AtEnd, AtOther, IsPositionless, IsAfter}
+use Rattle.json5_de.specs.Access.{AtClose, PositionedAtBracket}
 use Rattle.json5_value.specs.Steps.{Unexpected, at_end, at_char}
 use Rattle.json5_value.specs.Places.{StartsAfter}
 use Rattle.json5_de.specs.Seq.{IsAfterGap, IsMemberStart, AtMember, NothingNext, NoNext, no_comma, comma_missing, in_blanks_after}
 use Rattle.json5_de.specs.Objects.{MapAccessState, bare_map, TookPairKey, AfterColon, TookPairValue, GivesPairKey, GivesPairValue, CompletesPairKey}
 use Rattle.json5_de.proofs.Offsets.{placed_where}
-use Rattle.json5_de.specs.ObjectFaults.{begins_key, AtKey, NoKeyHere, no_key, key_missing, NoKey, no_next, not_here, not_after_comma, PlacedAtKey, at_key, as_it_is, PlacesKey, RefusesPairKey, not_reached, in_key, ReadsKeyOfPair, begins_next_key, no_key_code, RefusesNextKey, NoColon, no_colon, colon_missing, is_colon, RefusesPairValue, no_value, in_value, RefusesNextValue}
+use Rattle.json5_de.specs.ObjectFaults.{begins_key, AtKey, NoKeyHere, no_key, key_missing, NoKey, no_next, not_here, not_after_comma, PositionedAtKey, at_key, as_it_is, PositionsKey, RefusesPairKey, not_reached, in_key, ReadsKeyOfPair, begins_next_key, no_key_code, RefusesNextKey, NoColon, no_colon, colon_missing, is_colon, RefusesPairValue, no_value, in_value, RefusesNextValue}
 use Rattle.json5_de.proofs.Expected.{Expected, end_fault, other_fault}
 use Rattle.json5_de.proofs.Taken.{input_of, placed_after, refused_token}
 use Rattle.json5_de.proofs.Places.{refused_as, refused_after}
@@ -271,11 +271,11 @@ gives_next_key {K = K} content convert refuses old new o gives =
     live None (close, comma_due, pending) h = true_false h close.live
 
 pub refuses_next_key : {K : Type 0} (refuses : State → Error → State → Type 0) (old : MapAccessState) (new after : State) (own e : Error) → RefusesPairKey refuses old.at.comma_due old.at.reader own after → (old.at.reader.failed ≡ false → kind_of own ≢ code codes.Failed)
-    → (old.at.reader.failed ≡ true → IsUnplaced codes.Failed own) → PlacedAtBracket old.at own e → new.failed ≡ true → RefusesNextKey {V = K} refuses old new (Err e)
+    → (old.at.reader.failed ≡ true → IsPositionless codes.Failed own) → PositionedAtBracket old.at own e → new.failed ≡ true → RefusesNextKey {V = K} refuses old new (Err e)
 refuses_next_key refuses old new after own e cause other before p failed =
     refuses_call (RefusesPairKey refuses old.at.comma_due old.at.reader) true (begins_next_key old.at.comma_due) codes.EofParsingObject (no_key_code old.at.comma_due) old.at new after own e cause (λ a at. ends cause at) (λ a w o. differs cause w o) other before p failed
   where
-    ends : RefusesPairKey refuses old.at.comma_due old.at.reader own after → AtEnd old.at.reader → IsUnplaced codes.EofParsingObject own
+    ends : RefusesPairKey refuses old.at.comma_due old.at.reader own after → AtEnd old.at.reader → IsPositionless codes.EofParsingObject own
     ends (not_reached f) at = end_fault (expects_key old.at.comma_due) old.at.reader own at f
     ends (in_key start k there c placed) at = absurd (end_at_key old.at.comma_due old.at.reader start at there)
 
@@ -284,13 +284,13 @@ refuses_next_key refuses old new after own e cause other before p failed =
     differs (in_key start k there c placed) w o = absurd (other_at_key old.at.comma_due old.at.reader start w o there)
 
 -- a key's fault keeps what it says, but for its position
-key_kind : (IsBefore : List ℕ → Type 0) (own e : Error) → PlacedAtKey IsBefore own e → kind_of e ≡ kind_of own
+key_kind : (IsBefore : List ℕ → Type 0) (own e : Error) → PositionedAtKey IsBefore own e → kind_of e ≡ kind_of own
 key_kind IsBefore own e (at_key h p) = p.kind
 key_kind IsBefore own e (as_it_is h kind place) = kind
 
 -- the key is where the reader was
-placed_before : (mid end : State) (offset : ℕ) (own e : Error) → SameText mid end → ((before : List ℕ) → mid.input ≡ before ++ mid.unread → offset ≡ length (encode_utf8_all before)) → PlacedAtKey (StartsAfter end.input offset) own e
-    → PlacedAtKey (λ before. mid.input ≡ before ++ mid.unread) own e
+placed_before : (mid end : State) (offset : ℕ) (own e : Error) → SameText mid end → ((before : List ℕ) → mid.input ≡ before ++ mid.unread → offset ≡ length (encode_utf8_all before)) → PositionedAtKey (StartsAfter end.input offset) own e
+    → PositionedAtKey (λ before. mid.input ≡ before ++ mid.unread) own e
 placed_before mid end offset own e same counted (at_key h p) = at_key h (placed_where (λ before split. record { rest = mid.unread; split = same ∙ split; counted = counted before split }) p)
 placed_before mid end offset own e same counted (as_it_is h kind place) = as_it_is h kind place
 
@@ -303,7 +303,7 @@ module _ {K C : Type 0} (content : K → C) (convert : KeyConversion C) (refuses
   key_completes own e same complete u p r c live key is =
       same ∙ complete u p r c (failed_of at.member.rest ∙ live) (pair_key_found comma_due s.unread mid.unread r u p at.member.begun key) is
 
-  key_cause : (own e : Error) (offset : ℕ) → SameText mid end → ((before : List ℕ) → mid.input ≡ before ++ mid.unread → offset ≡ length (encode_utf8_all before)) → PlacedAtKey (StartsAfter end.input offset) own e
+  key_cause : (own e : Error) (offset : ℕ) → SameText mid end → ((before : List ℕ) → mid.input ≡ before ++ mid.unread → offset ≡ length (encode_utf8_all before)) → PositionedAtKey (StartsAfter end.input offset) own e
       → refuses mid own end → RefusesPairKey refuses comma_due s e end
   key_cause own e offset same counted placed r =
       in_key mid own at r (placed_before mid end offset own e same counted placed)
@@ -320,7 +320,7 @@ module _ {K C : Type 0} (content : K → C) (convert : KeyConversion C) (refuses
 
   -- or refused
   read_key_refused : (more : Option ℕ) (own e : Error) (offset : ℕ) → Steady {V = Option ℕ} s mid (Ok more) → CompletesKey {V = K} convert mid (Err own) → refuses mid own end → (mid.failed ≡ false → IsUnprompted own) → SameText mid end
-      → ((before : List ℕ) → mid.input ≡ before ++ mid.unread → offset ≡ length (encode_utf8_all before)) → PlacedAtKey (StartsAfter end.input offset) own e → ReadsKeyOfPair content convert refuses comma_due s end (Err e)
+      → ((before : List ℕ) → mid.input ≡ before ++ mid.unread → offset ≡ length (encode_utf8_all before)) → PositionedAtKey (StartsAfter end.input offset) own e → ReadsKeyOfPair content convert refuses comma_due s end (Err e)
   read_key_refused more own e offset before complete refused unprompted same counted placed =
       let kind = key_kind _ own e placed in
       record {
@@ -336,7 +336,7 @@ module _ {K C : Type 0} (content : K → C) (convert : KeyConversion C) (refuses
       }
 
   -- it is given, or its fault where it is placed
-  pub read_key_placed : (more : Option ℕ) (read : Result K Error) (result : Result (Option K) Error) (offset : ℕ) → Steady {V = Option ℕ} s mid (Ok more) → ReadsKeyOf content convert refuses mid end read → IsCount mid offset → PlacesKey (StartsAfter end.input offset) read result
+  pub read_key_placed : (more : Option ℕ) (read : Result K Error) (result : Result (Option K) Error) (offset : ℕ) → Steady {V = Option ℕ} s mid (Ok more) → ReadsKeyOf content convert refuses mid end read → IsCount mid offset → PositionsKey (StartsAfter end.input offset) read result
       → ReadsKeyOfPair content convert refuses comma_due s end result
   read_key_placed more (Ok k) result offset before reads count is = subst (ReadsKeyOfPair content convert refuses comma_due s end) (sym is) (read_key_given more k before reads.sound reads.same_text)
   read_key_placed more (Err own) result offset before reads count is =
@@ -392,11 +392,11 @@ gives_next_value content convert refuses old new v (t, took, is, comma_due, pend
     answers_call _ true _ _ _ old.at new.at.reader v (λ a at. end_no_sign 58 old.at.reader y colon_solid at colon) (λ a w at. other_no_sign 58 old.at.reader w y colon_solid at at.other colon) (λ h. true_false h took.live)
 
 pub refuses_next_value : {V : Type 0} (refuses : State → Error → State → Type 0) (old : MapAccessState) (new after : State) (own e : Error) → RefusesPairValue refuses old.at.reader own after → (old.at.reader.failed ≡ false → kind_of own ≢ code codes.Failed)
-    → (old.at.reader.failed ≡ true → IsUnplaced codes.Failed own) → PlacedAtBracket old.at own e → new.failed ≡ true → RefusesNextValue {V = V} refuses old new (Err e)
+    → (old.at.reader.failed ≡ true → IsPositionless codes.Failed own) → PositionedAtBracket old.at own e → new.failed ≡ true → RefusesNextValue {V = V} refuses old new (Err e)
 refuses_next_value refuses old new after own e cause other before p failed =
     refuses_call (RefusesPairValue refuses old.at.reader) true is_colon codes.EofParsingObject codes.ExpectedColon old.at new after own e cause (λ a at. ends cause at) (λ a w o. differs cause w o) other before p failed
   where
-    ends : RefusesPairValue refuses old.at.reader own after → AtEnd old.at.reader → IsUnplaced codes.EofParsingObject own
+    ends : RefusesPairValue refuses old.at.reader own after → AtEnd old.at.reader → IsPositionless codes.EofParsingObject own
     ends (no_value f) at = end_fault expects_colon old.at.reader own at f
     ends (in_value start there c) at = absurd (end_no_sign 58 old.at.reader start.unread colon_solid at there.colon)
 

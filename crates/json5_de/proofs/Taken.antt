@@ -12,8 +12,8 @@ use Rattle.json5_grammar.specs.declared.code.ErrorCode.TheVariants as codes_of
 use Rattle.json5_grammar.proofs.BlanksSound.{gap_blanks}
 use Rattle.json5_grammar.proofs.ValueHeads.{val_head}
 use Rattle.json5_text.specs.declared.error.Error.{Error}
-use Rattle.json5_text.specs.Errors.{place_of}
-use Rattle.json5_text.specs.Cursor.{IsPlaced, Refused}
+use Rattle.json5_text.specs.Errors.{error_position}
+use Rattle.json5_text.specs.Cursor.{IsPositioned, Refused}
 use Rattle.json5_text.specs.Errors.{LacksMemory}
 use Rattle.json5_text.specs.Tokens.{FaultyBlanks, FaultyWord}
 use Rattle.json5_de.specs.State.{State, cursor_of}
@@ -46,11 +46,11 @@ took_leaf old mid new s t flat p k v stops = record {
 pub input_of : {s t : State} → s ≡ t → s.input ≡ t.input
 input_of e = ap (λ (s : State). s.input) e
 
-pub placed_after : (old mid : State) (e : Error) (w : List ℕ) (place : Option (List ℕ)) → old.unread ≡ w ++ mid.unread → mid.input ≡ old.input → IsPlaced (cursor_of mid) place e → IsPlaced (cursor_of old) (after_text w place) e
+pub placed_after : (old mid : State) (e : Error) (w : List ℕ) (place : Option (List ℕ)) → old.unread ≡ w ++ mid.unread → mid.input ≡ old.input → IsPositioned (cursor_of mid) place e → IsPositioned (cursor_of old) (after_text w place) e
 placed_after old mid e w None split same k = k
 placed_after old mid e w (Some p) split same k = λ before whole.
     let there : mid.input ≡ (before ++ w) ++ mid.unread = same ∙ whole ∙ ap (λ y. before ++ y) split ∙ sym (append_assoc before w mid.unread) in
-    subst (λ z. place_of e ≡ Some (position_after z)) (append_assoc before w p) (k (before ++ w) there)
+    subst (λ z. error_position e ≡ Some (position_after z)) (append_assoc before w p) (k (before ++ w) there)
 
 pub refused_blanks : {F : List ℕ → Option ErrorCode → Option (List ℕ) → Type 0} (old : State) (e : Error) → (old.failed ≡ false → Refused FaultyBlanks (cursor_of old) e) → RefusedBy F old e
 refused_blanks old e k live = let f = k live in record { reason = f.reason; place = f.place; fault = in_blanks f.fault; says = f.says; placed = f.placed }

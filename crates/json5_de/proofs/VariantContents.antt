@@ -11,7 +11,7 @@ use Rattle.json5_de.specs.State.{State, SameText, GivesUp}
 use Rattle.json5_de.specs.Law.{TookValue, Gives, Completes, CompletesFree, Unprompted}
 use Rattle.json5_de.specs.ReaderSteps.{IsMismatch}
 use Rattle.json5_de.specs.ConvertLists.{if_some}
-use Rattle.json5_value.specs.Places.{PlacedAt, StartsAfter}
+use Rattle.json5_value.specs.Places.{PositionedAt, StartsAfter}
 use Rattle.json5_value.specs.Brackets.{curly}
 use Rattle.json5_de.specs.Access.{ClosesAs}
 use Rattle.json5_de.specs.Enums.{EnumAccessState, AfterName, ContentLeft, RefusesContent, no_content, in_content, not_closed, ReadsInBrace, ReadsVariant, content_of, unit_content, content_free}
@@ -43,7 +43,7 @@ module _ {V C : Type 0} (content : V → C) (convert : Tree → Option C) (alloc
 
   -- the content was refused
   pub content_refused : (start : ℕ) (old after new : State) (own e : Error) → refuses old own after → Completes {V = V} convert old (Err own) → CompletesFree {V = V} allocation_free convert old (Err own) → Unprompted {V = V} old (Err own) → SameText old after
-      → new ≡ record after { failed = true } → PlacedAt (StartsAfter old.input start) own e → ReadsInBrace content convert allocation_free refuses start old new (Err e)
+      → new ≡ record after { failed = true } → PositionedAt (StartsAfter old.input start) own e → ReadsInBrace content convert allocation_free refuses start old new (Err e)
   content_refused start old after new own e cause complete no_memory other same left placed = record {
     sound = tt;
     complete = λ u z r c live reads close deep converts. placed.kind ∙ complete u z c live reads deep converts;

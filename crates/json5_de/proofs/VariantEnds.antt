@@ -5,7 +5,7 @@ use Rattle.json5_grammar.specs.Model.Collections.{IsBrace}
 use Rattle.json5_grammar.proofs.Basics.{true_false}
 use Rattle.json5_grammar.proofs.CollectionsPassed.{one_end}
 use Rattle.json5_text.specs.declared.error.Error.{Error}
-use Rattle.json5_value.specs.Places.{StartsAfter, PlacedAt}
+use Rattle.json5_value.specs.Places.{StartsAfter, PositionedAt}
 use Rattle.json5_de.specs.State.{State, GivesUp}
 use Rattle.json5_de.specs.ReaderSteps.{IsMismatch}
 use Rattle.json5_value.specs.declared.brackets.Brackets.{Brackets}
@@ -66,11 +66,11 @@ struct_ends brace old new result k = record { alone = λ none. absurd (cc); in_v
 
 module _ (b : Brackets) (signs : AreSigns b) (comma_due : Bool) (brace : ℕ) (old : State) where
   -- the own bracket isn't there
-  pub content_not_ended : (new : State) (own e : Error) → ClosesLast b comma_due old new (Err own) → PlacedAt (StartsAfter new.input brace) own e → ClosesContent b comma_due brace old new (Err e)
+  pub content_not_ended : (new : State) (own e : Error) → ClosesLast b comma_due old new (Err own) → PositionedAt (StartsAfter new.input brace) own e → ClosesContent b comma_due brace old new (Err e)
   content_not_ended new own e k placed = record {
     closed = tt;
     complete = λ x r live end close. let ok = k.closes.complete x live end in absurd (cc);
-    refused = not_ended own k.closes.refused (subst (λ z. PlacedAt (StartsAfter z brace) own e) k.same_text placed);
+    refused = not_ended own k.closes.refused (subst (λ z. PositionedAt (StartsAfter z brace) own e) k.same_text placed);
     unprompted = λ live h. k.closes.unprompted live (sym placed.kind ∙ h);
     same_text = k.same_text;
     failed = k.failed;
@@ -107,13 +107,13 @@ module _ (b : Brackets) (old : EnumAccessState) where
   pub content_opened : (state_of : ℕ → AccessState) (start : ℕ) → old.has_content ≡ true → OpensAs b state_of old.reader (Ok start) → OpensContent b state_of old (Ok start)
   content_opened state_of start has o = record { has_content = has; opened = o.opened; start = o.start; complete = λ r h live sign room. refl; refused = tt; unprompted = tt }
 
-  pub content_not_opened : {A : Type 0} (see : A → AccessState) (state_of : ℕ → AccessState) (new : State) (own e : Error) → old.has_content ≡ true → OpensAs b see old.reader (Err own) → GivesUp old.reader new → PlacedAt (StartsAfter new.input old.start) own e → OpensContent b state_of old (Err e)
+  pub content_not_opened : {A : Type 0} (see : A → AccessState) (state_of : ℕ → AccessState) (new : State) (own e : Error) → old.has_content ≡ true → OpensAs b see old.reader (Err own) → GivesUp old.reader new → PositionedAt (StartsAfter new.input old.start) own e → OpensContent b state_of old (Err e)
   content_not_opened see state_of new own e has o failed placed = record {
     has_content = tt;
     opened = tt;
     start = tt;
     complete = λ r h live sign room. let ok = o.complete r live sign room in absurd (cc);
-    refused = in_content own new has o.refused (subst (λ z. PlacedAt (StartsAfter z old.start) own e) failed.same_text placed);
+    refused = in_content own new has o.refused (subst (λ z. PositionedAt (StartsAfter z old.start) own e) failed.same_text placed);
     unprompted = λ live h. o.unprompted live (sym placed.kind ∙ h);
   }
 

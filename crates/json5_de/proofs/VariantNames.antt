@@ -22,14 +22,14 @@ use Rattle.json5_grammar.proofs.CollectionsPairs.{opening_brace_solid, colon_sol
 use Rattle.json5_grammar.proofs.Unique.{one_phrase}
 use Rattle.json5_text.specs.declared.error.Error.{Error}
 use Rattle.json5_text.specs.Cursor.{Refused, IsOutOfMemory}
-use Rattle.json5_value.specs.Places.{StartsAfter, PlacedAt}
+use Rattle.json5_value.specs.Places.{StartsAfter, PositionedAt}
 use Rattle.json5_text.specs.Tokens.{FaultyBlanks}
 use Rattle.json5_de.specs.State.{State, SameText, GivesUp, cursor_of}
 use Rattle.json5_de.specs.Law.{TookValue, IsUnprompted, Unprompted}
 use Rattle.json5_de.specs.ReaderSteps.{PassedGap}
 use Rattle.json5_de.specs.Convert.{as_text, index_of}
 use Rattle.json5_de.specs.ConvertLists.{if_some}
-use Rattle.json5_de.specs.Faults.{RefusedBy, AtEnd, AtOther, IsUnplaced}
+use Rattle.json5_de.specs.Faults.{RefusedBy, AtEnd, AtOther, IsPositionless}
 use Rattle.json5_value.specs.Brackets.{curly}
 use Rattle.json5_de.specs.Access.{AccessState, OpensAs, NotOpened, Closed}
 use Rattle.json5_value.specs.Steps.{Unexpected, at_end, at_char}
@@ -231,7 +231,7 @@ module _ {A : Type 0} (names : List (List ℕ)) (state_of : A → EnumAccessStat
   }
 
   -- neither a string nor an object is next
-  pub names_nothing : (e : Error) → RefusedBy NoVariant old e → (old.failed ≡ true → IsUnplaced codes.Failed e) → ((t : Tree) (r : List ℕ) (x : ℕ × Option Tree) → old.failed ≡ false → Reads old.unread t r → named_variant names t ≡ Some x → ⊥)
+  pub names_nothing : (e : Error) → RefusedBy NoVariant old e → (old.failed ≡ true → IsPositionless codes.Failed e) → ((t : Tree) (r : List ℕ) (x : ℕ × Option Tree) → old.failed ≡ false → Reads old.unread t r → named_variant names t ≡ Some x → ⊥)
       → NamesVariant names state_of old (Err e)
   names_nothing e f before nothing = record {
     read = tt;
@@ -387,7 +387,7 @@ not_opened_keyed names see old new e o failed = record {
 }
 
 pub only_key_refused : (names : List (List ℕ)) (old inside new : State) (start : ℕ) → OpensAs curly (λ (n : ℕ). record { reader = inside; start = n; comma_due = false }) old (Ok start) → (own e : Error) → ReadsOnlyKey names inside new (Err own)
-    → PlacedAt (StartsAfter new.input start) own e → ReadsKeyed names old new (Err e)
+    → PositionedAt (StartsAfter new.input start) own e → ReadsKeyed names old new (Err e)
 only_key_refused names old inside new start o own e k placed =
     let (opened, comma_due) = o.opened in
     let live = failed_of opened.rest ∙ opened.live in

@@ -12,11 +12,11 @@ use Rattle.json5_grammar.specs.Language.Documents.{max_depth}
 use Rattle.json5_grammar.specs.Language.Values.{Reads}
 use Rattle.json5_grammar.specs.Model.Collections.{IsSign, IsEnd, Opens, IsElement, IsAtClose, Passed, Tail, snoc}
 use Rattle.json5_text.specs.declared.error.Error.{Error}
-use Rattle.json5_text.specs.Errors.{code, kind_of, place_of}
+use Rattle.json5_text.specs.Errors.{code, kind_of, error_position}
 use Rattle.json5_de.specs.State.{State, OnlyRead, SameText, FailsIfErr}
 use Rattle.json5_text.specs.Cursor.{IsOutOfMemory}
 use Rattle.json5_de.specs.Law.{IsOkOrMemory, TookValue, Unprompted, AnswersFailed}
-use Rattle.json5_value.specs.Places.{PlacedAt, StartsAfter}
+use Rattle.json5_value.specs.Places.{PositionedAt, StartsAfter}
 use Rattle.json5_de.specs.ConvertLists.{if_some}
 use Rattle.json5_de.specs.Faults.{AfterBlanks, IsAfter, RefusedBy, EndsWith, DiffersWith}
 use Rattle.json5_value.specs.declared.brackets.Brackets.{Brackets}
@@ -120,12 +120,12 @@ LeavesFewer {C = C} content convert (more t ts) r new (Err e) = (c : C) → conv
 -- ---- positions
 
 -- the same fault, at the opening bracket if it had no position
-abbrev pub PlacedAtBracket : AccessState → Error → Error → Type 0
-PlacedAtBracket s own e = PlacedAt (StartsAfter s.reader.input s.start) own e
+abbrev pub PositionedAtBracket : AccessState → Error → Error → Type 0
+PositionedAtBracket s own e = PositionedAt (StartsAfter s.reader.input s.start) own e
 
 -- the fault's position is the opening bracket
 abbrev pub IsAtBracket : AccessState → Error → Type 0
-IsAtBracket s e = (before : List ℕ) → StartsAfter s.reader.input s.start before → place_of e ≡ Some (position_after before)
+IsAtBracket s e = (before : List ℕ) → StartsAfter s.reader.input s.start before → error_position e ≡ Some (position_after before)
 
 -- `Failed`, at the opening bracket
 abbrev pub IsFailedAtBracket : AccessState → Error → Type 0
@@ -136,7 +136,7 @@ abbrev pub AnswersFailedAtBracket : {V : Type 0} → AccessState → Result V Er
 AnswersFailedAtBracket s result = s.reader.failed ≡ true → IsErrAnd result (IsFailedAtBracket s)
 
 abbrev pub HasPosition : Error → Type 0
-HasPosition e = place_of e ≢ None
+HasPosition e = error_position e ≢ None
 
 -- an opening bracket follows the blanks w, and no more brackets may be open
 pub record AtFull (b : Brackets) (old : State) (w : List ℕ) : Type 0 where

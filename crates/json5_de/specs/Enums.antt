@@ -16,7 +16,7 @@ use Rattle.json5_de.specs.Law.{IsOkOrMemory, TookValue, Unprompted, AnswersFaile
 use Rattle.json5_de.specs.Convert.{unit_of, index_of}
 use Rattle.json5_de.specs.ConvertLists.{if_some}
 use Rattle.json5_de.specs.Refinement.{if_more}
-use Rattle.json5_value.specs.Places.{PlacedAt, StartsAfter}
+use Rattle.json5_value.specs.Places.{PositionedAt, StartsAfter}
 use Rattle.json5_de.specs.ReaderSteps.{PassedGap, IsMismatch}
 use Rattle.json5_de.specs.Faults.{RefusedBy, RefusedByOrMemory, NotText, EndsWith, DiffersWith}
 use Rattle.json5_value.specs.declared.brackets.Brackets.{Brackets}
@@ -150,7 +150,7 @@ pub record RefusesKeyed (names : List (List ℕ)) (old : State) (e : Error) : Ty
   pub opened : Opened curly old inside
   pub own : Error
   pub cause : RefusesOnlyKey names inside own
-  pub placed : PlacedAt (λ before. inside.input ≡ before ++ left_brace ∷ inside.unread) own e
+  pub placed : PositionedAt (λ before. inside.input ≡ before ++ left_brace ∷ inside.unread) own e
 
 -- why no variant is named
 pub data RefusesName (names : List (List ℕ)) (old : State) (e : Error) : Type 0 where
@@ -162,7 +162,7 @@ pub data RefusesName (names : List (List ℕ)) (old : State) (e : Error) : Type 
 -- why a content is refused: there is none, its type refuses it, or its brace isn't closed. A fault of its type without a position gets the brace's.
 pub data RefusesContent (refuses : State → Error → State → Type 0) (old : EnumAccessState) (e : Error) : Type 0 where
   no_content : old.has_content ≡ false → IsMismatch old.reader.input old.start e → RefusesContent refuses old e
-  in_content : (own : Error) (after : State) → old.has_content ≡ true → refuses old.reader own after → PlacedAt (StartsAfter old.reader.input old.start) own e → RefusesContent refuses old e
+  in_content : (own : Error) (after : State) → old.has_content ≡ true → refuses old.reader own after → PositionedAt (StartsAfter old.reader.input old.start) own e → RefusesContent refuses old e
   not_closed : (t : Tree) (after : State) → old.has_content ≡ true → TookValue old.reader t after → RefusedBy (NotClosed curly true) after e → RefusesContent refuses old e
 
 -- ---- the steps
@@ -232,7 +232,7 @@ pub record ClosesLast (b : Brackets) (comma_due : Bool) (old new : State) (resul
 
 -- why a content isn't closed, or then the variant's brace: a fault of the content's bracket without a position gets the brace's
 pub data RefusesEnding (b : Brackets) (comma_due : Bool) (brace : ℕ) (old : State) (e : Error) : Type 0 where
-  not_ended : (own : Error) → RefusedBy (NotClosed b comma_due) old own → PlacedAt (StartsAfter old.input brace) own e → RefusesEnding b comma_due brace old e
+  not_ended : (own : Error) → RefusedBy (NotClosed b comma_due) old own → PositionedAt (StartsAfter old.input brace) own e → RefusesEnding b comma_due brace old e
   brace_open : (after : State) → Closed b comma_due old after → RefusedBy (NotClosed curly true) after e → RefusesEnding b comma_due brace old e
 
 -- the bracket of a variant's content is taken, and then the variant's brace

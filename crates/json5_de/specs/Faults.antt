@@ -9,8 +9,8 @@ use Rattle.json5_grammar.specs.Language.Numbers.{Number, Num}
 use Rattle.json5_grammar.specs.Language.Strings.{Str}
 use Rattle.json5_grammar.specs.Language.Values.{Stops, null_text, true_text, false_text}
 use Rattle.json5_text.specs.declared.error.Error.{Error}
-use Rattle.json5_text.specs.Errors.{LacksMemory, code, kind_of, place_of}
-use Rattle.json5_text.specs.Cursor.{IsPlaced, Refused}
+use Rattle.json5_text.specs.Errors.{LacksMemory, code, kind_of, error_position}
+use Rattle.json5_text.specs.Cursor.{IsPositioned, Refused}
 use Rattle.json5_text.specs.Tokens.{FaultyBlanks, FaultyWord, FaultyNumber, FaultyString}
 use Rattle.json5_de.specs.State.{State, cursor_of}
 
@@ -61,12 +61,12 @@ pub data Trailing : List ℕ → Option ErrorCode → Option (List ℕ) → Type
   trailing : (c : ℕ) (r : List ℕ) → Trailing (c ∷ r) (Some codes.TrailingCharacters) (Some [])
 
 -- this code, without a position
-abbrev pub IsUnplaced : ErrorCode → Error → Type 0
-IsUnplaced c e = (kind_of e ≡ code c) × (place_of e ≡ None)
+abbrev pub IsPositionless : ErrorCode → Error → Type 0
+IsPositionless c e = (kind_of e ≡ code c) × (error_position e ≡ None)
 
 -- this code, at the position after w
 abbrev pub IsAfter : ErrorCode → State → List ℕ → Error → Type 0
-IsAfter c old w e = (kind_of e ≡ code c) × IsPlaced (cursor_of old) (Some w) e
+IsAfter c old w e = (kind_of e ≡ code c) × IsPositioned (cursor_of old) (Some w) e
 
 -- nothing but blanks is unread
 abbrev pub AtEnd : State → Type 0
@@ -84,11 +84,11 @@ pub record AtOther (begins : ℕ → Bool) (old : State) (w : List ℕ) : Type 0
 
 -- the code at the end
 abbrev pub EndsWith : {V : Type 0} → ErrorCode → State → Result V Error → Type 0
-EndsWith ends old result = AtEnd old → IsErrAnd result (IsUnplaced ends)
+EndsWith ends old result = AtEnd old → IsErrAnd result (IsPositionless ends)
 
 -- the same, or memory ran out in this way
 abbrev pub EndsWithOr : {V : Type 0} → (Error → Type 0) → ErrorCode → State → Result V Error → Type 0
-EndsWithOr Lacks ends old result = AtEnd old → IsErrAnd result (λ e. Lacks e ⊎ IsUnplaced ends e)
+EndsWithOr Lacks ends old result = AtEnd old → IsErrAnd result (λ e. Lacks e ⊎ IsPositionless ends e)
 
 abbrev pub EndsWithOrMemory : {V : Type 0} → ErrorCode → State → Result V Error → Type 0
 EndsWithOrMemory ends old result = EndsWithOr LacksMemory ends old result

@@ -7,7 +7,7 @@ use Rattle.json5_grammar.specs.Language.Documents.{max_depth}
 use Rattle.json5_text.specs.declared.error.Error.{Error}
 use Rattle.json5_text.specs.Cursor.{IsOutOfMemory}
 use Rattle.json5_de.specs.State.{State, OnlyRead, SameText, FailsIfErr}
-use Rattle.json5_de.specs.Faults.{IsUnplaced}
+use Rattle.json5_de.specs.Faults.{IsPositionless}
 pub use Rattle.json5_value.specs.Steps.{IsUnprompted}
 
 -- one value of the tree t was read, blanks before it included, and nothing else happened
@@ -37,11 +37,11 @@ CompletesFree {C = C} allocation_free convert old result =
 
 -- a reader that has failed returns `Failed` without a position
 abbrev pub AnswersFailed : {V : Type 0} → State → Result V Error → Type 0
-AnswersFailed old result = old.failed ≡ true → IsErrAnd result (IsUnplaced codes.Failed)
+AnswersFailed old result = old.failed ≡ true → IsErrAnd result (IsPositionless codes.Failed)
 
 -- and stays as it is
 abbrev pub StaysFailed : {V : Type 0} → State → State → Result V Error → Type 0
-StaysFailed old new result = old.failed ≡ true → IsErrAnd result (IsUnplaced codes.Failed) × (new ≡ old)
+StaysFailed old new result = old.failed ≡ true → IsErrAnd result (IsPositionless codes.Failed) × (new ≡ old)
 
 -- two values that may be read from one input have the same content, and leave the same
 abbrev pub OneAnswer : {V C : Type 0} → (V → C) → (Tree → Option C) → Type 0

@@ -10,7 +10,7 @@ use Rattle.json5_text.specs.Bytes.{bytes_of}
 use Rattle.json5_text.specs.Cows.{cow_bytes, is_borrowed}
 use Rattle.json5_de.specs.State.{State, SameText, GivesUp}
 use Rattle.json5_grammar.specs.Language.Trees.{Tree, Trees, Pairs}
-use Rattle.json5_de.specs.Access.{AccessState, OpensArray, PlacedAtBracket, GivesElement, ReadsElement, CompletesClose, ReadsMore, ElementsLeft, LeavesFewer}
+use Rattle.json5_de.specs.Access.{AccessState, OpensArray, PositionedAtBracket, GivesElement, ReadsElement, CompletesClose, ReadsMore, ElementsLeft, LeavesFewer}
 use Rattle.json5_de.specs.Seq.{RefusesNext}
 use Rattle.json5_de.specs.Keys.{KeyConversion, ReadsOneKey}
 use Rattle.json5_de.specs.TokenKinds.{null_kind}
@@ -67,7 +67,7 @@ module _ {I : Type 0} where
   -- after a read the reader is blocked again, and a refusal is remembered; its fault gets the bracket's position if it had none
   pub record Settles {V : Type 0} (old : SeqAccess I) (read : Result V Error) (new : SeqAccess I) (result : Result V Error) : Type 0 where
     pub given : IfOk read (λ v. result ≡ Ok v)
-    pub refused : IfErr read (λ own. IsErrAnd result (PlacedAtBracket (state_of old) own))
+    pub refused : IfErr read (λ own. IsErrAnd result (PositionedAtBracket (state_of old) own))
     pub blocks : MatchResult read (λ v. new ≡ blocking old old.failed) (λ own. new ≡ blocking old true)
 
   abbrev pub map_state_of : MapAccess I → MapAccessState
@@ -102,7 +102,7 @@ module _ {I : Type 0} where
 
   pub record SettlesMap {V : Type 0} (old : MapAccess I) (read : Result V Error) (new : MapAccess I) (result : Result V Error) : Type 0 where
     pub given : IfOk read (λ v. result ≡ Ok v)
-    pub refused : IfErr read (λ own. IsErrAnd result (PlacedAtBracket (map_state_of old).at own))
+    pub refused : IfErr read (λ own. IsErrAnd result (PositionedAtBracket (map_state_of old).at own))
     pub blocks : MatchResult read (λ v. new ≡ blocking_map old old.failed) (λ own. new ≡ blocking_map old true)
 
 -- a name that was read, and the reader after it

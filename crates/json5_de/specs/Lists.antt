@@ -9,7 +9,7 @@ use Rattle.json5_text.specs.Cursor.{Says, IsOutOfMemory}
 use Rattle.json5_text.specs.Errors.{LacksMemory}
 use Rattle.json5_de.specs.State.{State}
 use Rattle.json5_value.specs.Brackets.{square}
-use Rattle.json5_de.specs.Faults.{RefusedBy, IsUnplaced}
+use Rattle.json5_de.specs.Faults.{RefusedBy, IsPositionless}
 use Rattle.json5_de.specs.Access.{AccessState, Opened, AtClose, NotOpened, NotClosed, ElementsRead, LeavesFewer, IsAtBracket}
 use Rattle.json5_de.specs.Seq.{RefusedAtBracket}
 
@@ -105,4 +105,4 @@ pub data ListFault (es : Elements) (shape : Shape) (old : State) (e : Error) : T
 pub record RefusesList (es : Elements) (shape : Shape) (old : State) (e : Error) (new : State) : Type 0 where
   pub cause : old.failed ≡ false → ListFault es shape old e
   pub failed : new.failed ≡ true
-  pub before : old.failed ≡ true → IsUnplaced codes.Failed e
+  pub before : old.failed ≡ true → IsPositionless codes.Failed e

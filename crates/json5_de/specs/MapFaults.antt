@@ -9,7 +9,7 @@ use Rattle.json5_text.specs.declared.error.Error.{Error}
 use Rattle.json5_text.specs.Errors.{LacksMemory}
 use Rattle.json5_de.specs.State.{State}
 use Rattle.json5_value.specs.Brackets.{curly}
-use Rattle.json5_de.specs.Faults.{RefusedBy, IsUnplaced}
+use Rattle.json5_de.specs.Faults.{RefusedBy, IsPositionless}
 use Rattle.json5_de.specs.Access.{Opened, NotOpened}
 use Rattle.json5_de.specs.Keys.{KeyConversion}
 use Rattle.json5_de.specs.Objects.{MapAccessState, PairsRead}
@@ -46,4 +46,4 @@ pub data MapFault {C D : Type 0} (sides : Sides C D) (old : State) (e : Error) :
 pub record RefusesMap {C D : Type 0} (sides : Sides C D) (old : State) (e : Error) (new : State) : Type 0 where
   pub cause : old.failed ≡ false → MapFault sides old e
   pub failed : new.failed ≡ true
-  pub before : old.failed ≡ true → IsUnplaced codes.Failed e
+  pub before : old.failed ≡ true → IsPositionless codes.Failed e

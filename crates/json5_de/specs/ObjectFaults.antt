@@ -6,17 +6,17 @@ use Rattle.json5_grammar.specs.Faults.Codes.{after_text}
 use Rattle.json5_grammar.specs.Language.Characters.{comma_sign, colon_sign, right_brace, backslash, is_identifier_start}
 use Rattle.json5_grammar.specs.Language.Strings.{is_quote}
 use Rattle.json5_text.specs.declared.error.Error.{Error}
-use Rattle.json5_text.specs.Errors.{FaultKind, code, custom, failed_write, kind_of, place_of}
+use Rattle.json5_text.specs.Errors.{FaultKind, code, custom, failed_write, kind_of, error_position}
 use Rattle.json5_grammar.specs.Model.Collections.{IsKeyValue}
 use Rattle.json5_grammar.specs.Language.Trees.{Tree}
 use Rattle.json5_de.specs.State.{State, GivesUp}
 use Rattle.json5_de.specs.Law.{Steady}
 use Rattle.json5_de.specs.ReaderSteps.{IsCount}
-use Rattle.json5_value.specs.Places.{PlacedAt}
+use Rattle.json5_value.specs.Places.{PositionedAt}
 use Rattle.json5_value.specs.Brackets.{curly}
 use Rattle.json5_de.specs.Faults.{AfterBlanks, RefusedBy}
 use Rattle.json5_de.specs.Access.{AtClose, CompletesClose, bare, is_comma_or_closing}
-use Rattle.json5_de.specs.Seq.{AtMember, NoNext, PlacedFault, RefusesCall}
+use Rattle.json5_de.specs.Seq.{AtMember, NoNext, PositionedFault, RefusesCall}
 use Rattle.json5_de.specs.Keys.{KeyConversion}
 use Rattle.json5_de.specs.Objects.{MapAccessState, AfterColon, GivesPairKey, CompletesPairKey, bare_map}
 
@@ -55,39 +55,39 @@ pub data NoKey (comma_due : Bool) : List ℕ → Option ErrorCode → Option (Li
   not_after_comma : {x : List ℕ} {reason : Option ErrorCode} {place : Option (List ℕ)} → comma_due ≡ true → AfterBlanks NoKeyHere x reason place → NoKey comma_due (comma_sign ∷ x) reason (after_text (comma_sign ∷ []) place)
 
 -- the codes of an input that ended, of memory that ran out, and of a reader that had failed
-abbrev pub is_unplaced_code : ErrorCode → Bool
-is_unplaced_code codes.EofParsingArray = true
-is_unplaced_code codes.EofParsingBool = true
-is_unplaced_code codes.EofParsingComment = true
-is_unplaced_code codes.EofParsingEscapeSequence = true
-is_unplaced_code codes.EofParsingIdentifier = true
-is_unplaced_code codes.EofParsingNull = true
-is_unplaced_code codes.EofParsingNumber = true
-is_unplaced_code codes.EofParsingObject = true
-is_unplaced_code codes.EofParsingString = true
-is_unplaced_code codes.EofParsingValue = true
-is_unplaced_code codes.OutOfMemory = true
-is_unplaced_code codes.Failed = true
-is_unplaced_code _ = false
+abbrev pub is_positionless_code : ErrorCode → Bool
+is_positionless_code codes.EofParsingArray = true
+is_positionless_code codes.EofParsingBool = true
+is_positionless_code codes.EofParsingComment = true
+is_positionless_code codes.EofParsingEscapeSequence = true
+is_positionless_code codes.EofParsingIdentifier = true
+is_positionless_code codes.EofParsingNull = true
+is_positionless_code codes.EofParsingNumber = true
+is_positionless_code codes.EofParsingObject = true
+is_positionless_code codes.EofParsingString = true
+is_positionless_code codes.EofParsingValue = true
+is_positionless_code codes.OutOfMemory = true
+is_positionless_code codes.Failed = true
+is_positionless_code _ = false
 
-abbrev pub is_unplaced : FaultKind → Bool
-is_unplaced (code c) = is_unplaced_code c
-is_unplaced (custom text) = false
-is_unplaced failed_write = false
+abbrev pub is_positionless : FaultKind → Bool
+is_positionless (code c) = is_positionless_code c
+is_positionless (custom text) = false
+is_positionless failed_write = false
 
 -- a fault of a key without a position gets the key's, but for the codes that have none
-pub data PlacedAtKey (IsBefore : List ℕ → Type 0) (own e : Error) : Type 0 where
-  at_key : is_unplaced (kind_of own) ≡ false → PlacedAt IsBefore own e → PlacedAtKey IsBefore own e
-  as_it_is : is_unplaced (kind_of own) ≡ true → kind_of e ≡ kind_of own → place_of e ≡ place_of own → PlacedAtKey IsBefore own e
+pub data PositionedAtKey (IsBefore : List ℕ → Type 0) (own e : Error) : Type 0 where
+  at_key : is_positionless (kind_of own) ≡ false → PositionedAt IsBefore own e → PositionedAtKey IsBefore own e
+  as_it_is : is_positionless (kind_of own) ≡ true → kind_of e ≡ kind_of own → error_position e ≡ error_position own → PositionedAtKey IsBefore own e
 
 -- a key that was read is given, and a fault so placed
-abbrev pub PlacesKey : {K : Type 0} → (List ℕ → Type 0) → Result K Error → Result (Option K) Error → Type 0
-PlacesKey IsBefore read result = MatchResult read (λ k. result ≡ Ok (Some k)) (λ own. IsErrAnd result (PlacedAtKey IsBefore own))
+abbrev pub PositionsKey : {K : Type 0} → (List ℕ → Type 0) → Result K Error → Result (Option K) Error → Type 0
+PositionsKey IsBefore read result = MatchResult read (λ k. result ≡ Ok (Some k)) (λ own. IsErrAnd result (PositionedAtKey IsBefore own))
 
 -- the fault of a call for a key: no key was reached, or the key's own
 pub data RefusesPairKey (refuses : State → Error → State → Type 0) (comma_due : Bool) (old : State) (e : Error) (after : State) : Type 0 where
   not_reached : RefusedBy (NoKey comma_due) old e → RefusesPairKey refuses comma_due old e after
-  in_key : (start : State) (own : Error) → AtKey comma_due old start → refuses start own after → PlacedAtKey (λ before. start.input ≡ before ++ start.unread) own e → RefusesPairKey refuses comma_due old e after
+  in_key : (start : State) (own : Error) → AtKey comma_due old start → refuses start own after → PositionedAtKey (λ before. start.input ≡ before ++ start.unread) own e → RefusesPairKey refuses comma_due old e after
 
 -- the next key of an object is read, or None is returned if the closing brace is next
 pub record ReadsKeyOfPair {K C : Type 0} (content : K → C) (convert : KeyConversion C) (refuses : State → Error → State → Type 0) (comma_due : Bool) (old new : State) (result : Result (Option K) Error) : Type 0 where
@@ -109,7 +109,7 @@ no_key_code false = codes.ExpectedIdentifier
 
 -- the fault of a call for a key, at the opening brace if it has no position
 abbrev pub KeyRefusedAtBrace : (State → Error → State → Type 0) → MapAccessState → Error → Type 0
-KeyRefusedAtBrace refuses old e = PlacedFault (RefusesPairKey refuses old.at.comma_due old.at.reader) old.at e
+KeyRefusedAtBrace refuses old e = PositionedFault (RefusesPairKey refuses old.at.comma_due old.at.reader) old.at e
 
 -- how a call for a key refuses
 abbrev pub RefusesNextKey : {V : Type 0} → (State → Error → State → Type 0) → MapAccessState → State → Result V Error → Type 0
@@ -140,7 +140,7 @@ pub data RefusesPairValue (refuses : State → Error → State → Type 0) (old 
 
 -- the fault of a call for a value, at the opening brace if it has no position
 abbrev pub ValueRefusedAtBrace : (State → Error → State → Type 0) → MapAccessState → Error → Type 0
-ValueRefusedAtBrace refuses old e = PlacedFault (RefusesPairValue refuses old.at.reader) old.at e
+ValueRefusedAtBrace refuses old e = PositionedFault (RefusesPairValue refuses old.at.reader) old.at e
 
 -- how a call for a value refuses
 abbrev pub RefusesNextValue : {V : Type 0} → (State → Error → State → Type 0) → MapAccessState → State → Result V Error → Type 0

@@ -9,7 +9,7 @@ use Rattle.json5_text.specs.Cursor.{Refused}
 use Rattle.json5_de.specs.State.{State, cursor_of}
 use Rattle.json5_de.specs.ReaderSteps.{PassedGap}
 use Rattle.json5_de.specs.Faults.{AfterBlanks, FaultyNull}
-use Rattle.json5_value.specs.Places.{PlacedAt}
+use Rattle.json5_value.specs.Places.{PositionedAt}
 
 -- null is read without memory, and what T reads so
 abbrev pub option_free : (Tree → Bool) → Tree → Bool
@@ -37,7 +37,7 @@ pub record RefusedInside (refuses : State → Error → State → Type 0) (old :
   pub after : State
   pub cause : refuses start own after
   pub left : new ≡ record after { failed = true }
-  pub placed : PlacedAt (λ before. start.input ≡ before ++ start.unread) own e
+  pub placed : PositionedAt (λ before. start.input ≡ before ++ start.unread) own e
 
 -- why an option is refused
 abbrev pub RefusesOption : (State → Error → State → Type 0) → State → Error → State → Type 0

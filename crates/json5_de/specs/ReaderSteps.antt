@@ -14,7 +14,7 @@ use Rattle.json5_text.specs.Cows.{cow_bytes, is_borrowed}
 use Rattle.json5_text.specs.NumberViews.{number_of}
 use Rattle.json5_grammar.specs.Faults.Positions.{position_after}
 use Rattle.json5_text.specs.declared.error.Error.{Error}
-use Rattle.json5_text.specs.Errors.{LacksMemory, place_of}
+use Rattle.json5_text.specs.Errors.{LacksMemory, error_position}
 use Rattle.json5_text.specs.Cursor.{Says, Refused, IsOffset}
 use Rattle.json5_grammar.specs.Language.Blanks.{Gap, Solid}
 use Rattle.json5_grammar.specs.Language.Documents.{max_depth}
@@ -60,7 +60,7 @@ RefusesToken IsFault old e = LacksMemory e ⊎ Refused IsFault (cursor_of old) e
 -- this code, None for a custom message, at this offset
 abbrev pub IsFaultAt : Option ErrorCode → List ℕ → ℕ → Error → Type 0
 IsFaultAt reason input offset e =
-    Says reason e × ((before rest : List ℕ) → input ≡ before ++ rest → offset ≡ length (encode_utf8_all before) → place_of e ≡ Some (position_after before))
+    Says reason e × ((before rest : List ℕ) → input ≡ before ++ rest → offset ≡ length (encode_utf8_all before) → error_position e ≡ Some (position_after before))
 
 -- the same, or memory ran out
 abbrev pub IsMismatchOf : Option ErrorCode → List ℕ → ℕ → Error → Type 0

@@ -15,7 +15,7 @@ use Rattle.json5_value.specs.declared.brackets.Brackets.{Brackets}
 use Rattle.json5_value.specs.Brackets.{square}
 use Rattle.json5_de.specs.Law.{Unprompted, Steady}
 use Rattle.json5_de.specs.Faults.{RefusedBy, AtEnd, DiffersWith}
-use Rattle.json5_de.specs.Access.{AccessState, AtClose, HasPosition, PlacedAtBracket, IsAtBracket, is_comma_or_closing, AnswersFailedAtBracket}
+use Rattle.json5_de.specs.Access.{AccessState, AtClose, HasPosition, PositionedAtBracket, IsAtBracket, is_comma_or_closing, AnswersFailedAtBracket}
 use Rattle.json5_value.specs.Steps.{Unexpected}
 
 -- y is what follows the gap in front of x
@@ -85,16 +85,16 @@ abbrev pub Cause : Type 1
 Cause = Error → State → Type 0
 
 -- the fault, at the opening bracket if it had no position
-pub record PlacedFault (IsCause : Cause) (old : AccessState) (e : Error) : Type 0 where
+pub record PositionedFault (IsCause : Cause) (old : AccessState) (e : Error) : Type 0 where
   pub own : Error
   pub after : State
   pub cause : IsCause own after
-  pub placed : PlacedAtBracket old own e
+  pub placed : PositionedAtBracket old own e
 
 -- how a call is refused: a fault without a position gets the opening bracket's. If something is asked for, the code is `end_code`
 -- at the end, and `other_code` at a character that begins nothing of it.
 pub record RefusesCall {V : Type 0} (IsCause : Cause) (asked : Bool) (begins : ℕ → Bool) (end_code other_code : ErrorCode) (old : AccessState) (new : State) (result : Result V Error) : Type 0 where
-  pub cause : IfErr result (λ e. old.reader.failed ≡ false → PlacedFault IsCause old e)
+  pub cause : IfErr result (λ e. old.reader.failed ≡ false → PositionedFault IsCause old e)
   pub placed : IfErr result HasPosition
   pub ends : asked ≡ true → AtEnd old.reader → IsErrAnd result (λ e. (kind_of e ≡ code end_code) × IsAtBracket old e)
   pub differs : asked ≡ true → DiffersWith begins other_code old.reader result
@@ -111,7 +111,7 @@ pub data RefusesElement (refuses : State → Error → State → Type 0) (comma_
 
 -- the element's fault, at the opening bracket if it had no position
 abbrev pub RefusedAtBracket : (State → Error → State → Type 0) → AccessState → Error → Type 0
-RefusedAtBracket refuses old e = PlacedFault (RefusesElement refuses old.comma_due old.reader) old e
+RefusedAtBracket refuses old e = PositionedFault (RefusesElement refuses old.comma_due old.reader) old e
 
 -- how a call for an element refuses, which asks for a comma or the bracket after the first
 abbrev pub RefusesNext : {V : Type 0} → (State → Error → State → Type 0) → AccessState → State → Result V Error → Type 0

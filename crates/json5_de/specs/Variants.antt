@@ -24,17 +24,17 @@ abbrev pub names : {C : Type 0} → List (Variant C) → List (List ℕ)
 names vs = map (λ v. v.name) vs
 
 -- what is made of the content of the variant at index k, if these begin at index n; no name has an index after the last
-abbrev pub from_place : {C : Type 0} → ℕ → List (Variant C) → ℕ → Option Tree → Option C
-from_place n [] k t = None
-from_place n (v ∷ []) k t = v.convert t
-from_place n (v ∷ w ∷ vs) k t = if k == n then v.convert t else from_place (n + 1) (w ∷ vs) k t
+abbrev pub from_index : {C : Type 0} → ℕ → List (Variant C) → ℕ → Option Tree → Option C
+from_index n [] k t = None
+from_index n (v ∷ []) k t = v.convert t
+from_index n (v ∷ w ∷ vs) k t = if k == n then v.convert t else from_index (n + 1) (w ∷ vs) k t
 
-abbrev pub at_place : {C : Type 0} → List (Variant C) → ℕ → Option Tree → Option C
-at_place vs = from_place 0 vs
+abbrev pub at_index : {C : Type 0} → List (Variant C) → ℕ → Option Tree → Option C
+at_index vs = from_index 0 vs
 
 -- what these variants take of a tree
 abbrev pub one_of : {C : Type 0} → List (Variant C) → Tree → Option C
-one_of vs = enum_of (names vs) (at_place vs)
+one_of vs = enum_of (names vs) (at_index vs)
 
 -- the content of the variant that was named is read, and the value to its end
 pub record FinishesVariant {V C : Type 0} (content : V → C) (convert : Option Tree → Option C) (old : EnumAccessState) (new : State) (result : Result V Error) : Type 0 where

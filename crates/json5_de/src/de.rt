@@ -3,15 +3,15 @@
 ghost use Rattle.std.specs.Prelude.{◌≡◌, ◌≤◌, ◌<◌, ◌+◌, ◌-◌, Bool, [], Some, true, false, IfOk, IfErr, OnOk};
 ghost use Rattle.std.specs.Str.{chars};
 ghost use Rattle.json5_text.specs.Errors.{FaultKind, kind_of};
-ghost use Rattle.json5_text.specs.Cursor.{IsPlaced, Locates};
+ghost use Rattle.json5_text.specs.Cursor.{IsPositioned, Locates};
 ghost use Rattle.json5_grammar.specs.Language.Documents.{max_depth};
 ghost use Rattle.json5_grammar.specs.declared.code.ErrorCode.TheVariants as codes;
 ghost use Rattle.json5_value.specs.Keeping.{OwnsKey, ReadsDatum};
 ghost use Rattle.json5_value.specs.Kinds.{word_of, ends_of, differs_of};
-ghost use Rattle.json5_value.specs.Places.{PlacedAt, StartsAfter};
+ghost use Rattle.json5_value.specs.Places.{PositionedAt, StartsAfter};
 ghost use Rattle.json5_value.specs.SkipSteps.{SkipsValue};
 ghost use Rattle.json5_de.specs.State.{State, SameText, Calls, GivesUpWith, cursor_of, next, at_start};
-ghost use Rattle.json5_de.specs.Faults.{IsUnplaced};
+ghost use Rattle.json5_de.specs.Faults.{IsPositionless};
 ghost use Rattle.json5_de.specs.Law.{Gives, Completes, CompletesFree, Unprompted};
 ghost use Rattle.json5_de.specs.Seq.{IsUnexpected};
 ghost use Rattle.json5_de.specs.ReaderSteps.{Eats, IsCount, IsMismatch};
@@ -30,7 +30,7 @@ use json5_text::scanner::Scanner;
 use json5_text::text_token::TextToken;
 use json5_text::value::Value;
 use json5_text::{ErrorCode, Position};
-use json5_value::faults::{fault_here, place_at, unexpected_here};
+use json5_value::faults::{fault_here, unexpected_here, with_position_at};
 use json5_value::kinds::{Literal, skip_literal};
 use json5_value::read::read_value;
 use json5_value::skip::skip_value;
@@ -194,7 +194,7 @@ impl<I: Input> Deserializer<I> {
     #[inline(always)]
     pub(crate) fn check_not_failed(&self) -> Result<()>
         ensures live { OnOk result ((self.now.failed ≡ false) × (self.now.level ≤ max_depth)) }
-        ensures failed { IfErr result (λ e. (self.now.failed ≡ true) × IsUnplaced codes.Failed e) }
+        ensures failed { IfErr result (λ e. (self.now.failed ≡ true) × IsPositionless codes.Failed e) }
     {
         if self.failed {
             return Err(Error::new(ErrorCode::Failed));
@@ -324,7 +324,7 @@ impl<I: Input> Deserializer<I> {
     #[inline(never)]
     pub(crate) fn fault_here(&self, code: ErrorCode) -> Error
         ensures kind { kind_of result ≡ FaultKind.code code }
-        ensures placed { IsPlaced (cursor_of self.now) (Some []) result }
+        ensures placed { IsPositioned (cursor_of self.now) (Some []) result }
     {
         fault_here(&self.scanner, code)
     }
@@ -343,10 +343,10 @@ impl<I: Input> Deserializer<I> {
     /// The fault; without a position, it gets that of the offset.
     #[cold]
     #[inline(never)]
-    pub(crate) fn place_at(&self, start: usize, error: Error) -> Error
-        ensures { PlacedAt (StartsAfter self.now.input start) error result }
+    pub(crate) fn with_position_at(&self, start: usize, error: Error) -> Error
+        ensures { PositionedAt (StartsAfter self.now.input start) error result }
     {
-        place_at(&self.scanner, start, error)
+        with_position_at(&self.scanner, start, error)
     }
 
     /// Passes over the blanks at the end of the text, comments included. Nothing else may be left; the last line comment needs

@@ -124,7 +124,7 @@ impl<I: Input> Deserializer<I> {
     {
         match self.close_or_fail(kind, comma_due) {
             Ok(()) => self.close_or_fail(BracketKind::Object, true),
-            Err(e) => Err(self.place_at(brace, e)),
+            Err(e) => Err(self.with_position_at(brace, e)),
         }
     }
 
@@ -139,7 +139,7 @@ impl<I: Input> Deserializer<I> {
         }
         match self.open(kind) {
             Ok(start) => Ok(start),
-            Err(e) => Err(self.place_at(name.start, e)),
+            Err(e) => Err(self.with_position_at(name.start, e)),
         }
     }
 
@@ -154,7 +154,7 @@ impl<I: Input> Deserializer<I> {
                 Ok(value)
             }
             Err(e) => {
-                let error = self.place_at(start, e);
+                let error = self.with_position_at(start, e);
                 self.refuse(error)
             }
         }

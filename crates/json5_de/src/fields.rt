@@ -85,7 +85,7 @@ impl<I: Input> Deserializer<I> {
             return Ok(None);
         };
         let read = self.key_in(spare);
-        self.placed_key(read, start)
+        self.positioned_key(read, start)
     }
 }
 

@@ -4,7 +4,7 @@ ghost use Rattle.std.specs.Prelude.{◌≡◌, true, false, IfOk, IfErr};
 ghost use Rattle.std.specs.Borrow.{sem};
 ghost use Rattle.json5_text.specs.Cursor.{Locates};
 ghost use Rattle.json5_de.specs.Law.{Steady};
-ghost use Rattle.json5_de.specs.Access.{PlacedAtBracket};
+ghost use Rattle.json5_de.specs.Access.{PositionedAtBracket};
 ghost use Rattle.json5_de.specs.Objects.{bare_map, GivesPairValue, CompletesPairValue};
 ghost use Rattle.json5_de.specs.Enums.{EndsObject};
 ghost use Rattle.json5_de.specs.ObjectFaults.{PassesColon, RefusesPairValue};
@@ -219,9 +219,9 @@ impl<'a, I: Input> MapAccess<'a, I> {
     #[cold]
     #[inline(never)]
     pub fn place(&self, error: Error) -> Error
-        ensures { PlacedAtBracket (map_state_of self.now).at error result }
+        ensures { PositionedAtBracket (map_state_of self.now).at error result }
     {
-        self.de.place_at(self.start, error)
+        self.de.with_position_at(self.start, error)
     }
 
     /// Returns the position of an offset in bytes, such as the `start` of a `Spanned` value: line and column, counted from 0.

@@ -43,7 +43,7 @@ impl<I: Input> Deserializer<I> {
         match T::deserialize(self) {
             Ok(value) => Ok(Some(value)),
             Err(e) => {
-                let error = self.place_at(start, e);
+                let error = self.with_position_at(start, e);
                 self.refuse(error)
             }
         }

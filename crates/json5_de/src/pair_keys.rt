@@ -8,7 +8,7 @@ ghost use Rattle.json5_value.specs.Places.{StartsAfter};
 ghost use Rattle.json5_de.specs.Law.{Steady};
 ghost use Rattle.json5_de.specs.Faults.{RefusedBy};
 ghost use Rattle.json5_de.specs.ObjectFaults as faults;
-ghost use Rattle.json5_de.specs.ObjectFaults.{BeginsKey, GoesToKey, NoKey, PlacesKey, ReadsKeyOfPair, is_unplaced};
+ghost use Rattle.json5_de.specs.ObjectFaults.{BeginsKey, GoesToKey, NoKey, PositionsKey, ReadsKeyOfPair, is_positionless};
 
 use crate::de::Deserializer;
 use crate::key::DeserializeKey;
@@ -26,8 +26,8 @@ fn begins_key(c: char) -> bool
 }
 
 /// Whether the fault doesn't get a key's position: the input ended, memory ran out or the reader had failed.
-fn is_unplaced(error: &Error) -> bool
-    ensures { result ≡ is_unplaced (kind_of error.now) }
+fn is_positionless(error: &Error) -> bool
+    ensures { result ≡ is_positionless (kind_of error.now) }
 {
     match error.code() {
         Some(code) => matches!(
@@ -81,13 +81,13 @@ impl<I: Input> Deserializer<I> {
     }
 
     /// A key that was read at this offset. A fault gets the key's position if it has none and may have one.
-    pub(crate) fn placed_key<K>(&self, read: Result<K>, start: usize) -> Result<Option<K>>
-        ensures { PlacesKey (StartsAfter self.now.input start) read result }
+    pub(crate) fn positioned_key<K>(&self, read: Result<K>, start: usize) -> Result<Option<K>>
+        ensures { PositionsKey (StartsAfter self.now.input start) read result }
     {
         match read {
             Ok(key) => Ok(Some(key)),
-            Err(e) if is_unplaced(&e) => Err(e),
-            Err(e) => Err(self.place_at(start, e)),
+            Err(e) if is_positionless(&e) => Err(e),
+            Err(e) => Err(self.with_position_at(start, e)),
         }
     }
 
@@ -99,6 +99,6 @@ impl<I: Input> Deserializer<I> {
             return Ok(None);
         };
         let read = self.read_key::<K>();
-        self.placed_key(read, start)
+        self.positioned_key(read, start)
     }
 }

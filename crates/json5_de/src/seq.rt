@@ -7,7 +7,7 @@ ghost use Rattle.json5_grammar.specs.Language.Trees.{Trees};
 ghost use Rattle.json5_text.specs.Cursor.{Locates};
 ghost use Rattle.json5_value.specs.Brackets.{square};
 ghost use Rattle.json5_de.specs.Law.{Steady, Unprompted};
-ghost use Rattle.json5_de.specs.Access.{bare, GivesElement, CompletesElement, CompletesClose, PlacedAtBracket, ElementsLeft, ReadsMore};
+ghost use Rattle.json5_de.specs.Access.{bare, GivesElement, CompletesElement, CompletesClose, PositionedAtBracket, ElementsLeft, ReadsMore};
 ghost use Rattle.json5_de.specs.Enums.{EndsArray};
 ghost use Rattle.json5_de.specs.Lists.{IsTooShort, LeavesRequired, RefusesRequired};
 ghost use Rattle.json5_de.specs.Seq.{RefusesElement};
@@ -226,9 +226,9 @@ impl<'a, I: Input> SeqAccess<'a, I> {
     #[cold]
     #[inline(never)]
     pub fn place(&self, error: Error) -> Error
-        ensures { PlacedAtBracket (state_of self.now) error result }
+        ensures { PositionedAtBracket (state_of self.now) error result }
     {
-        self.de.place_at(self.start, error)
+        self.de.with_position_at(self.start, error)
     }
 
     /// Returns the position of an offset in bytes, such as the `start` of a `Spanned` element: line and column, counted from 0.

@@ -51,7 +51,7 @@ impl<I: Input> Deserializer<I> {
         let start = self.open(BracketKind::Object)?;
         match self.only_key(variants) {
             Ok(variant) => Ok(variant),
-            Err(e) => Err(self.place_at(start, e)),
+            Err(e) => Err(self.with_position_at(start, e)),
         }
     }
 

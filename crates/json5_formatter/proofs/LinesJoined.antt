@@ -3,13 +3,13 @@ use Rattle.std.proofs.Common.{◌≡◌, ℕ, List, ◌++◌, ◌+◌, Option, S
 use lib.Chars.{codes}
 use Rattle.json5.specs.Position.{Position}
 use Rattle.json5.specs.Error.{Error}
-use Rattle.json5.specs.Errors.{kind_of, kind_text, place_of, error_text, placed_text}
+use Rattle.json5.specs.Errors.{kind_of, kind_text, error_position, error_text, positioned_text}
 use Rattle.json5_formatter.specs.Reports.{named_report, fault_line}
 
 pub line_joined : (name m l k : List ℕ) → name ++ (codes ": " ++ (m ++ (codes " at line " ++ (l ++ (codes " column " ++ (k ++ codes "\n")))))) ≡ named_report name (m ++ (codes " at " ++ (codes "line " ++ l ++ codes " column " ++ k)))
 line_joined name m l k = simp append_assoc
 
-pub fault_joined : (name m l k : List ℕ) (e : Error) (p : Position) → m ≡ kind_text (kind_of e) → Some p ≡ place_of e → l ≡ decimal (p.line + 1) → k ≡ decimal (p.column + 1) → name ++ (codes ": " ++ (m ++ (codes " at line " ++ (l ++ (codes " column " ++ (k ++ codes "\n")))))) ≡ fault_line name e
+pub fault_joined : (name m l k : List ℕ) (e : Error) (p : Position) → m ≡ kind_text (kind_of e) → Some p ≡ error_position e → l ≡ decimal (p.line + 1) → k ≡ decimal (p.column + 1) → name ++ (codes ": " ++ (m ++ (codes " at line " ++ (l ++ (codes " column " ++ (k ++ codes "\n")))))) ≡ fault_line name e
 fault_joined name m l k e p hm hp hl hk =
-    let said : placed_text m (Some p) ≡ error_text e = ap (λ (x : List ℕ). placed_text x (Some p)) hm ∙ ap (λ (q : Option Position). placed_text (kind_text (kind_of e)) q) hp in
+    let said : positioned_text m (Some p) ≡ error_text e = ap (λ (x : List ℕ). positioned_text x (Some p)) hm ∙ ap (λ (q : Option Position). positioned_text (kind_text (kind_of e)) q) hp in
     rw (sym said) (rw (sym hl, sym hk) (line_joined name m l k))

@@ -6,7 +6,7 @@ use Rattle.std.proofs.lemmas.Str.{encodes-append}
 use Rattle.std.specs.Io.KnownBytes.{Appends}
 use Rattle.std.proofs.KnownBytes.{Appends-trans}
 use Rattle.json5_text.specs.declared.error.Error.{Error}
-use Rattle.json5_text.specs.Errors.{FaultKind, kind_of, place_of}
+use Rattle.json5_text.specs.Errors.{FaultKind, kind_of, error_position}
 use Rattle.json5_ser.specs.Out.{Out, Stop, whole, invalid_key, too_deep, no_number, followed_by, ◌then◌}
 use Rattle.json5_ser.specs.Writes.{SerializerState, Wrote, Stopped, Broke, Refusal, by_key, by_depth, by_writer, by_refusal, by_none, refusal_of, RefusesBy, RefusesWrite, Writes}
 
@@ -124,5 +124,5 @@ Reaches-last all a o m n (Ok x) h p = h.wrote n p
 Reaches-last all a o m n (Err e) h p = h.refused n e p
 
 -- a refusal with this kind
-pub refused_so : (w : Out) (o n : SerializerState) (e : Error) (k : FaultKind) → kind_of e ≡ k → place_of e ≡ Option.None → RefusesBy w o (refusal_of k) n → RefusesWrite w o e n
+pub refused_so : (w : Out) (o n : SerializerState) (e : Error) (k : FaultKind) → kind_of e ≡ k → error_position e ≡ Option.None → RefusesBy w o (refusal_of k) n → RefusesWrite w o e n
 refused_so w o n e k h q p = record { leaves = subst (λ x. RefusesBy w o (refusal_of x) n) (sym h) p; no_place = q }

@@ -3,7 +3,7 @@ use Rattle.std.specs.Prelude.{◌≡◌, ℕ, List, None, ⊤}
 use Rattle.std.specs.Str.{chars, encode_utf8_all}
 use Rattle.json5_grammar.specs.declared.code.ErrorCode.TheVariants as codes
 use Rattle.json5_text.specs.declared.error.Error.{Error}
-use Rattle.json5_text.specs.Errors.{FaultKind, code, custom, failed_write, kind_of, place_of}
+use Rattle.json5_text.specs.Errors.{FaultKind, code, custom, failed_write, kind_of, error_position}
 use Rattle.json5_ser.specs.Out.{Out, whole, invalid_key, too_deep}
 
 -- the bytes are the whole output
@@ -24,4 +24,4 @@ StopsAs o (custom _) = ⊥
 -- a refusal of `to_string`: it has no position
 pub record RefusesToString (o : Out) (e : Error) : Type 0 where
   pub stops : StopsAs o (kind_of e)
-  pub no_place : place_of e ≡ None
+  pub no_place : error_position e ≡ None

@@ -4,7 +4,7 @@ use Rattle.std.specs.Str.{encode_utf8_all, all_scalars}
 use Rattle.std.specs.Io.KnownBytes.{Appends, Keeps}
 use Rattle.json5_grammar.specs.declared.code.ErrorCode.TheVariants as codes
 use Rattle.json5_text.specs.declared.error.Error.{Error}
-use Rattle.json5_text.specs.Errors.{FaultKind, code, custom, failed_write, kind_of, place_of}
+use Rattle.json5_text.specs.Errors.{FaultKind, code, custom, failed_write, kind_of, error_position}
 use Rattle.json5_grammar.specs.Language.Documents.{max_depth}
 use Rattle.json5_ser.specs.WrittenTrees.{Written}
 use Rattle.json5_ser.specs.Out.{Out, Stop, whole, invalid_key, too_deep, out}
@@ -75,7 +75,7 @@ RefusesBy o old by_none new = ⊥
 -- a refusal has no position
 pub record RefusesWrite (o : Out) (old : SerializerState) (e : Error) (new : SerializerState) : Type 0 where
   pub leaves : RefusesBy o old (refusal_of (kind_of e)) new
-  pub no_place : place_of e ≡ None
+  pub no_place : error_position e ≡ None
 
 -- what a call did that has this output to write
 abbrev pub Writes : {A : Type 0} → Out → SerializerState → Result A Error → SerializerState → Type 0

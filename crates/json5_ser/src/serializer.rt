@@ -6,7 +6,7 @@ ghost use Rattle.json5_ser.specs.WrittenTrees.{null, boolean};
 ghost use Rattle.json5_grammar.specs.Language.Documents.{max_depth};
 ghost use Rattle.json5_ser.specs.Out.{piece, stopped, line, opened_by, closed_by, invalid_key, too_deep};
 ghost use Rattle.json5_grammar.specs.declared.code.ErrorCode.TheVariants as codes;
-ghost use Rattle.json5_text.specs.Errors.{code, kind_of, place_of};
+ghost use Rattle.json5_text.specs.Errors.{code, kind_of, error_position};
 ghost use Rattle.json5_grammar.specs.Faults.Fronts.{opening, closing};
 ghost use Rattle.json5_ser.specs.Brackets.{bracket_of};
 ghost use Rattle.json5_ser.specs.Commas.{comma_before, closed_after};
@@ -114,7 +114,7 @@ impl<W: Write + Drop> Serializer<W> {
     /// Returns `Failed` if a call was refused before, or a collection holds the serializer.
     pub(crate) fn check_not_failed(&self) -> Result<()>
         ensures live { OnOk result (self.now.failed ≡ false) }
-        ensures failed { IfErr result (λ e. (self.now.failed ≡ true) × (kind_of e ≡ code codes.Failed) × (place_of e ≡ None)) }
+        ensures failed { IfErr result (λ e. (self.now.failed ≡ true) × (kind_of e ≡ code codes.Failed) × (error_position e ≡ None)) }
     {
         if !self.failed {
             return Ok(());

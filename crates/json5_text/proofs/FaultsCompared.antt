@@ -15,7 +15,7 @@ use Rattle.json5_text.specs.contracts.error.ContentPartialEq.TheImpl as content
 use Rattle.json5_text.specs.declared.error.Error.{Error}
 use Rattle.json5_text.specs.declared.error.Content.{Content}
 use Rattle.json5_text.specs.declared.error.Content.TheVariants.{Code, Custom, FailedWrite}
-use Rattle.json5_text.specs.Errors.{code, custom, kind_of, kind_of_content, place_of}
+use Rattle.json5_text.specs.Errors.{code, custom, kind_of, kind_of_content, error_position}
 use Rattle.json5_text.specs.Compared.{same_fault}
 
 codes_same : (a b : ErrorCode) → Decides (codes.ghosts.eq a b) (a ≡ b)
@@ -44,5 +44,5 @@ places_same None (Some q) = (λ e. cc, λ e. cc)
 places_same (Some p) None = (λ e. cc, λ e. cc)
 places_same (Some p) (Some q) = Decides-like (position.ghosts.eq p q) (λ e. ap Some e) (λ e. cc) (positions_same p q)
 
-pub faults_same : (x y : Error) → Decides (same_fault x y) ((kind_of x ≡ kind_of y) × (place_of x ≡ place_of y))
+pub faults_same : (x y : Error) → Decides (same_fault x y) ((kind_of x ≡ kind_of y) × (error_position x ≡ error_position y))
 faults_same x y = Decides-and _ _ (contents_same x.content y.content) (places_same x.position y.position)

@@ -6,9 +6,9 @@ use Rattle.json5_grammar.specs.Model.Reading.{Read, got, bad, Place, here, inner
 use Rattle.json5_text.specs.declared.error.Error.{Error}
 use Rattle.json5_text.specs.declared.refusal.Refusal.{Refusal}
 use Rattle.json5_text.specs.declared.refusal.Refusal.TheVariants as refusal
-use Rattle.json5_text.specs.Errors.{LacksMemory, place_of}
+use Rattle.json5_text.specs.Errors.{LacksMemory, error_position}
 use Rattle.json5_text.specs.Outcome.{Outcome, gave, failed, outcome, bytes_in, left_at}
-use Rattle.json5_text.specs.Cursor.{Cursor, Says, IsPlaced, Refused}
+use Rattle.json5_text.specs.Cursor.{Cursor, Says, IsPositioned, Refused}
 use Rattle.json5_text.specs.Refused.{Refuses}
 use Rattle.json5_text.specs.Scan.{HasCode, HasFault, Leaves, InUnread, IsThere, MadeOf}
 
@@ -62,7 +62,7 @@ refusal_in {A = A} IsFault s (refusal.UnpairedSurrogate h left) (got a r) k e = 
 refusal_in {A = A} IsFault s (refusal.UnpairedSurrogate h left) (bad f p) k e = in_unread A IsFault s f None p left k e
 refusal_in {A = A} IsFault s refusal.OutOfMemory res k e = tt
 
-placed_at : (s : Cursor) (place : Option (List ℕ)) (p : Place) (left : ℕ) (err : Error) → IsAt s.unread place p → left_at p ≡ Some left → IsThere s left err → IsPlaced s place err
+placed_at : (s : Cursor) (place : Option (List ℕ)) (p : Place) (left : ℕ) (err : Error) → IsAt s.unread place p → left_at p ≡ Some left → IsThere s left err → IsPositioned s place err
 placed_at s (Some b) (here q) left err at e (pos, is, there) = λ before split.
     is ∙ ap Some (there (before ++ b) q (split ∙ ap (λ z. before ++ z) at ∙ sym (append_assoc before b q)) (cc))
 placed_at s (Some b) inner left err at e there = absurd at
@@ -77,7 +77,7 @@ there_refused A IsFault s err reason f p left k e says there =
     record { reason = f; place = k.place; fault = subst (λ z. IsFault s.unread z k.place) same.0 k.fault; says = says; placed = placed_at s k.place p left err k.is_at same.1 there }
 
 end_refused : (A : Type 0) (IsFault : List ℕ → Option ErrorCode → Option (List ℕ) → Type 0) (s : Cursor) (err : Error) (reason f : Option ErrorCode) (p : Place)
-    → FaultAt IsFault s.unread reason p → Same A (failed reason (left_at p)) (failed f None) → Says f err → place_of err ≡ None → Refused IsFault s err
+    → FaultAt IsFault s.unread reason p → Same A (failed reason (left_at p)) (failed f None) → Says f err → error_position err ≡ None → Refused IsFault s err
 end_refused A IsFault s err reason f p k e says none =
     let same = same_failed A reason f (left_at p) None e in
     let unplaced = no_place s.unread k.place p k.is_at same.1 in

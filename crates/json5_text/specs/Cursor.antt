@@ -6,7 +6,7 @@ use Rattle.json5_grammar.specs.declared.code.ErrorCode.TheVariants as codes
 use Rattle.json5_grammar.specs.Faults.Positions.{position_after}
 use Rattle.json5_grammar.specs.declared.position.Position.{Position}
 use Rattle.json5_text.specs.declared.error.Error.{Error}
-use Rattle.json5_text.specs.Errors.{code, custom, kind_of, place_of}
+use Rattle.json5_text.specs.Errors.{code, custom, kind_of, error_position}
 
 pub record Cursor : Type 0 where
   pub input : List ℕ
@@ -22,9 +22,9 @@ Says (Some c) e = kind_of e ≡ code c
 Says None e = (text : List ℕ) × (kind_of e ≡ custom text)
 
 -- the fault has no position, or the one after what is read and p
-abbrev pub IsPlaced : Cursor → Option (List ℕ) → Error → Type 0
-IsPlaced s None e = place_of e ≡ None
-IsPlaced s (Some p) e = (before : List ℕ) → s.input ≡ before ++ s.unread → place_of e ≡ Some (position_after (before ++ p))
+abbrev pub IsPositioned : Cursor → Option (List ℕ) → Error → Type 0
+IsPositioned s None e = error_position e ≡ None
+IsPositioned s (Some p) e = (before : List ℕ) → s.input ≡ before ++ s.unread → error_position e ≡ Some (position_after (before ++ p))
 
 abbrev pub IsOutOfMemory : Error → Type 0
 IsOutOfMemory e = kind_of e ≡ code codes.OutOfMemory
@@ -35,7 +35,7 @@ pub record Refused (IsFault : List ℕ → Option ErrorCode → Option (List ℕ
   pub place : Option (List ℕ)
   pub fault : IsFault s.unread reason place
   pub says : Says reason e
-  pub placed : IsPlaced s place e
+  pub placed : IsPositioned s place e
 
 -- what was taken was in front, and the rest is left
 pub record Took (old : Cursor) (taken : List ℕ) (new : Cursor) : Type 0 where

@@ -24,8 +24,8 @@ abbrev pub kind_of : Error → FaultKind
 kind_of e = kind_of_content e.content
 
 -- the position of a fault
-abbrev pub place_of : Error → Option Position
-place_of e = e.position
+abbrev pub error_position : Error → Option Position
+error_position e = e.position
 
 abbrev pub known_code : FaultKind → Option ErrorCode
 known_code (code c) = Some c
@@ -33,24 +33,24 @@ known_code (custom s) = None
 known_code failed_write = None
 
 -- a position that the fault has already stays
-abbrev pub or_place : Option Position → Position → Option Position
-or_place None p = Some p
-or_place (Some q) p = Some q
+abbrev pub or_position : Option Position → Position → Option Position
+or_position None p = Some p
+or_position (Some q) p = Some q
 
 -- the fault says this, and has this position
 pub record SaysAt (what : FaultKind) (there : Option Position) (e : Error) : Type 0 where
   pub kind : kind_of e ≡ what
-  pub place : place_of e ≡ there
+  pub place : error_position e ≡ there
 
 -- the fault has a custom message and this position
 pub record IsCustomAt (there : Option Position) (e : Error) : Type 0 where
   pub kind : (text : List ℕ) × (kind_of e ≡ custom text)
-  pub place : place_of e ≡ there
+  pub place : error_position e ≡ there
 
 -- memory was refused, which has no position
 pub record LacksMemory (e : Error) : Type 0 where
   pub kind : kind_of e ≡ code OutOfMemory
-  pub place : place_of e ≡ None
+  pub place : error_position e ≡ None
 
 -- ---- what is printed
 
@@ -62,10 +62,10 @@ kind_text failed_write = codes "failed write"
 abbrev pub position_text : Position → List ℕ
 position_text p = codes "line " ++ decimal (p.line + 1) ++ codes " column " ++ decimal (p.column + 1)
 
-abbrev pub placed_text : List ℕ → Option Position → List ℕ
-placed_text text None = text
-placed_text text (Some p) = text ++ (codes " at " ++ position_text p)
+abbrev pub positioned_text : List ℕ → Option Position → List ℕ
+positioned_text text None = text
+positioned_text text (Some p) = text ++ (codes " at " ++ position_text p)
 
 -- what the fault says, and ` at ` and its position if it has one
 abbrev pub error_text : Error → List ℕ
-error_text e = placed_text (kind_text (kind_of e)) (place_of e)
+error_text e = positioned_text (kind_text (kind_of e)) (error_position e)

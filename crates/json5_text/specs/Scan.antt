@@ -8,7 +8,7 @@ use Rattle.json5_grammar.specs.Faults.Positions.{position_after}
 use Rattle.json5_text.specs.declared.error.Error.{Error}
 use Rattle.json5_text.specs.declared.refusal.Refusal.{Refusal}
 use Rattle.json5_text.specs.declared.refusal.Refusal.TheVariants as refusal
-use Rattle.json5_text.specs.Errors.{LacksMemory, code, kind_of, place_of}
+use Rattle.json5_text.specs.Errors.{LacksMemory, code, kind_of, error_position}
 use Rattle.json5_text.specs.Outcome.{bytes_in}
 use Rattle.json5_text.specs.Cursor.{Cursor, Took, Says}
 
@@ -59,11 +59,11 @@ abbrev pub IsWhere : Cursor → ℕ → Position → Type 0
 IsWhere s left p = (before rest : List ℕ) → s.input ≡ before ++ rest → left ≡ bytes_in rest → p ≡ position_after before
 
 abbrev pub IsThere : Cursor → ℕ → Error → Type 0
-IsThere s left e = (p : Position) × (place_of e ≡ Some p) × IsWhere s left p
+IsThere s left e = (p : Position) × (error_position e ≡ Some p) × IsWhere s left p
 
 -- the fault that is made of a refusal
 abbrev pub MadeOf : Cursor → Refusal → Error → Type 0
-MadeOf s (refusal.TokenError c None) e = (kind_of e ≡ code c) × (place_of e ≡ None)
+MadeOf s (refusal.TokenError c None) e = (kind_of e ≡ code c) × (error_position e ≡ None)
 MadeOf s (refusal.TokenError c (Some left)) e = (kind_of e ≡ code c) × IsThere s left e
 MadeOf s (refusal.InvalidNumber left) e = LacksMemory e ⊎ (Says None e × IsThere s left e)
 MadeOf s (refusal.TooLarge left) e = LacksMemory e ⊎ (Says None e × IsThere s left e)

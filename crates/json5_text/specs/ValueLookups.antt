@@ -6,7 +6,7 @@ use Rattle.json5_grammar.specs.Language.Documents.{max_depth}
 use Rattle.json5_grammar.specs.declared.code.ErrorCode.TheVariants as codes
 use Rattle.json5_text.specs.declared.error.Error.{Error}
 use Rattle.json5_text.specs.declared.value.Value.{Value}
-use Rattle.json5_text.specs.Errors.{code, kind_of, place_of}
+use Rattle.json5_text.specs.Errors.{code, kind_of, error_position}
 use Rattle.json5_text.specs.ValueViews.{value_of, Datum, null, boolean, number, text, array, object, Items, no_item, item, Fields, no_field, field}
 
 -- 0 for what is no array and no object, else one more than the deepest inside
@@ -92,4 +92,4 @@ fields_in _ = None
 -- a copy has the same view; TooDeep if it doesn't fit, and else only want of memory refuses it
 abbrev pub CopiesValue : Datum → Result Value Error → Type 0
 CopiesValue x (Ok v) = (fits x ≡ true) × (value_of v ≡ x)
-CopiesValue x (Err e) = (kind_of e ≡ code (if fits x then codes.OutOfMemory else codes.TooDeep)) × (place_of e ≡ None)
+CopiesValue x (Err e) = (kind_of e ≡ code (if fits x then codes.OutOfMemory else codes.TooDeep)) × (error_position e ≡ None)

@@ -6,7 +6,7 @@ ghost use Rattle.json5_grammar.specs.Model.ReadBlanks.{Mode, skip, between, slas
 ghost use Rattle.json5_text.specs.TokenResults.{Skips, RefusesByCode};
 ghost use Rattle.json5_text.specs.ScanBlanks.{Continues, IsUnclosed};
 
-use crate::bytes::{begins_solid, blanks_len, line_len, star_place};
+use crate::bytes::{begins_solid, blanks_len, line_len, star_offset};
 use crate::char::{is_json5_line_terminator, is_json5_whitespace};
 use crate::front::front;
 use crate::refusal::Refusal;
@@ -35,7 +35,7 @@ fn skip_block(text: &str) -> Option<&str>
 {
     let mut rest = text;
     loop {
-        rest = rest.split_at(star_place(rest.as_bytes())).1;
+        rest = rest.split_at(star_offset(rest.as_bytes())).1;
         let (_, next) = front(rest)?;
         if let Some(('/', after)) = front(next) {
             return Some(after);

@@ -90,7 +90,7 @@ pub(crate) fn line_len(bytes: &[u8]) -> usize
 }
 
 /// How many bytes come before the first star.
-pub(crate) fn star_place(bytes: &[u8]) -> usize
+pub(crate) fn star_offset(bytes: &[u8]) -> usize
     ensures { result ≡ prefix_len is_no_star bytes.now }
 {
     memchr(b'*', bytes).unwrap_or(bytes.len())

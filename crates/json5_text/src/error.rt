@@ -1,7 +1,7 @@
 //! Faults of reading and writing.
 
 ghost use Rattle.std.specs.Prelude.{◌≡◌, ◌↔◌, Some, None, IsTrue, MatchResult, string_bytes};
-ghost use Rattle.json5_text.specs.Errors.{FaultKind, custom, failed_write, kind_of, place_of, known_code, or_place, kind_text, error_text, SaysAt, IsCustomAt, LacksMemory};
+ghost use Rattle.json5_text.specs.Errors.{FaultKind, custom, failed_write, kind_of, error_position, known_code, or_position, kind_text, error_text, SaysAt, IsCustomAt, LacksMemory};
 ghost use Rattle.json5_text.specs.Compared.{same_fault, same_fault_equiv};
 ghost use Rattle.std.specs.Cmp.{partial_equiv_from_equiv};
 
@@ -125,7 +125,7 @@ impl Error {
     ///
     /// - `OutOfMemory`, without a position, where a request for memory was refused.
     pub fn clone(&self, alloc: Global) -> Result<Error>
-        ensures { MatchResult result (SaysAt (kind_of self.now) (place_of self.now)) LacksMemory }
+        ensures { MatchResult result (SaysAt (kind_of self.now) (error_position self.now)) LacksMemory }
     {
         let content = match &self.content {
             Content::Code(code) => Content::Code(*code),
@@ -170,7 +170,7 @@ impl Error {
     /// let line = error.position()?.line;    // 0 for the first line
     /// ```
     pub fn position(&self) -> Option<Position>
-        ensures { result ≡ place_of self.now }
+        ensures { result ≡ error_position self.now }
     {
         self.position
     }
@@ -182,7 +182,7 @@ impl Error {
     /// ```
     #[must_use]
     pub fn with_position(self, position: Position) -> Error
-        ensures { SaysAt (kind_of self) (or_place (place_of self) position) result }
+        ensures { SaysAt (kind_of self) (or_position (error_position self) position) result }
     {
         match self.position {
             Some(_) => self,
@@ -215,7 +215,7 @@ impl PartialEq for Error {
     #[tactic(auto, using(crate::proofs::FaultsCompared::faults_same))]
     fn eq(&self, other: &Self) -> bool
         ensures gives { result ≡ same_fault self.now other.now }
-        ensures same { IsTrue result ↔ ((kind_of self.now ≡ kind_of other.now) × (place_of self.now ≡ place_of other.now)) }
+        ensures same { IsTrue result ↔ ((kind_of self.now ≡ kind_of other.now) × (error_position self.now ≡ error_position other.now)) }
     {
         self.content == other.content && self.position == other.position
     }
@@ -248,7 +248,7 @@ fn out_of_memory() -> Error
 
 /// Makes a failed write, without a position. Takes no memory.
 impl From<io::Error> for Error {
-    ghost from_gives = { λ _ e. (kind_of e ≡ failed_write) × (place_of e ≡ None) };
+    ghost from_gives = { λ _ e. (kind_of e ≡ failed_write) × (error_position e ≡ None) };
 
     fn from(_error: io::Error) -> Error {
         Error {

@@ -21,7 +21,7 @@ use Rattle.json5_grammar.proofs.ValuesSound.{IsGap, gap_found}
 use Rattle.json5_text.specs.declared.error.Error.{Error}
 use Rattle.json5_text.specs.declared.text_token.TextToken.{TextToken}
 use Rattle.json5_text.specs.Cursor.{Cursor}
-use Rattle.json5_text.specs.Errors.{code, kind_of, place_of}
+use Rattle.json5_text.specs.Errors.{code, kind_of, error_position}
 use Rattle.json5_text.specs.TextTokens.{Spells}
 use Rattle.json5_text.specs.TokenCalls.{TakesKey}
 use Rattle.json5_text.specs.Tokens.{FaultyKey, at_quote, at_name}
@@ -47,7 +47,7 @@ some_from None b e is = let clash : false ≡ true = e ∙ ap not is in absurd (
 some_from (Some c) b e is = (c, refl)
 
 -- the input has ended
-pub no_key_left : {V : Type 0} {Is : V → List ℕ × Bool → Type 0} (old : Cursor) (next : Option ℕ) (none : Bool) (e : Error) → next ≡ slice_get old.unread 0 → is_some next ≡ not none → none ≡ true → kind_of e ≡ code codes.EofParsingObject → place_of e ≡ None → Keeps Is (key old.unread) old old (Err e)
+pub no_key_left : {V : Type 0} {Is : V → List ℕ × Bool → Type 0} (old : Cursor) (next : Option ℕ) (none : Bool) (e : Error) → next ≡ slice_get old.unread 0 → is_some next ≡ not none → none ≡ true → kind_of e ≡ code codes.EofParsingObject → error_position e ≡ None → Keeps Is (key old.unread) old old (Err e)
 no_key_left old next none e peeked test is says place =
     not_taken old old (key old.unread) e
     (inr (blames_made old.input (key old.unread) e codes.EofParsingObject inner (ap key (none_next old.unread (sym peeked ∙ none_from next none test is)) ∙ key_missing) (λ e. absurd (cc)) says place))

@@ -21,7 +21,7 @@ use Rattle.json5_grammar.proofs.ValueSteps.{read_quote, read_numeral, read_missi
 use Rattle.json5_text.specs.declared.error.Error.{Error}
 use Rattle.json5_text.specs.declared.value.Value.{Value}
 use Rattle.json5_text.specs.Cursor.{Cursor, Took}
-use Rattle.json5_text.specs.Errors.{code, kind_of, place_of}
+use Rattle.json5_text.specs.Errors.{code, kind_of, error_position}
 use Rattle.json5_text.specs.Tokens.{FaultyNumber, FaultyString}
 use Rattle.json5_text.specs.declared.value.Value as value
 use Rattle.json5_text.specs.ValueViews.{value_of, Datum}
@@ -118,7 +118,7 @@ module _ (room : ℕ) (old new : Cursor) (c : ℕ) (first : slice_get old.unread
 -- ---- how a value begins
 
 -- nothing is left
-pub nothing_left : (room : ℕ) (old : Cursor) (next : Option ℕ) (e : Error) → next ≡ slice_get old.unread 0 → next ≡ None → kind_of e ≡ code codes.EofParsingValue → place_of e ≡ None → ReadsOrOpens room old old (Err e)
+pub nothing_left : (room : ℕ) (old : Cursor) (next : Option ℕ) (e : Error) → next ≡ slice_get old.unread 0 → next ≡ None → kind_of e ≡ code codes.EofParsingValue → error_position e ≡ None → ReadsOrOpens room old old (Err e)
 nothing_left room old next e peeked is says place = record {
   begun = tt;
   refused = inr (datum_blamed room old e (tree_blamed room old e (blames_made old.input (value_at room old) e codes.EofParsingValue inner (ap (λ z. forget (read room z)) (none_next old.unread (sym peeked ∙ is)) ∙ read_missing room) (λ e. absurd (cc)) says place)));

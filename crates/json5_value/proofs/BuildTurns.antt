@@ -17,7 +17,7 @@ use Rattle.json5_value.specs.declared.read.Unfinished.TheVariants as unfinished
 use Rattle.json5_value.specs.BuildSteps.{elements_before, members_before, object_with, array_at, object_at, value_in_at, start_of, value_in, Building, BuildingInside, TurnsBuildingInside}
 use Rattle.json5_value.specs.Keeping.{BlamesOrMemory, IsNextKey, next_key, datum_at}
 use Rattle.json5_value.specs.Nesting.{Within}
-use Rattle.json5_value.specs.Places.{StartsAfter, PlacedAt}
+use Rattle.json5_value.specs.Places.{StartsAfter, PositionedAt}
 use Rattle.json5_value.specs.Steps.{SameText, RefusesRead, Gave}
 use Rattle.json5_value.proofs.BuildRests.{array_turn, array_step, no_more_elements, array_grown, object_turn, object_step, no_more_members, object_grown}
 use Rattle.json5_value.proofs.Nesting.{value_reached, closed, inside_blamed}
@@ -55,7 +55,7 @@ module _ (m : ℕ → Read Datum) (at : ℕ) (comma_due : Bool) (fs : List Unfin
     no_longer = no_more_left old new s took;
   }
 
-  turn_refused : (after : List Unfinished) (new : Cursor) (own e : Error) → IsOutOfMemory own ⊎ ((d : ℕ) → RefusesRead old.input (m d) own) → SameText old new → PlacedAt (StartsAfter new.input at) own e → TurnsBuildingInside m at comma_due fs after old new (Err e)
+  turn_refused : (after : List Unfinished) (new : Cursor) (own e : Error) → IsOutOfMemory own ⊎ ((d : ℕ) → RefusesRead old.input (m d) own) → SameText old new → PositionedAt (StartsAfter new.input at) own e → TurnsBuildingInside m at comma_due fs after old new (Err e)
   turn_refused after new own e (inl memory) g k = record { goes = tt; refused = inl (k.kind ∙ memory); same_text = g; shorter = tt; no_longer = tt }
   turn_refused after new own e (inr b) g k = record {
     goes = tt;
@@ -88,7 +88,7 @@ module _ (elements : Vec Value Global) (at : ℕ) (comma_due : Bool) (fs : List 
       ∙ ap (λ xs. got (views.array xs) new.unread) (no_more_elements elements.items) ∙ ap (λ x. got x new.unread) (sym (view-Array elements)))
       (λ d. next_shorter of_array comma_due goes old.unread new.unread g.reads d)
 
-  pub array_refused : (after : List Unfinished) (new : Cursor) (own e : Error) → RefusesRead old.input (next_value of_array comma_due old.unread) own → SameText old new → PlacedAt (StartsAfter new.input at) own e → TurnsBuildingInside (array_at elements.items comma_due old) at comma_due fs after old new (Err e)
+  pub array_refused : (after : List Unfinished) (new : Cursor) (own e : Error) → RefusesRead old.input (next_value of_array comma_due old.unread) own → SameText old new → PositionedAt (StartsAfter new.input at) own e → TurnsBuildingInside (array_at elements.items comma_due old) at comma_due fs after old new (Err e)
   array_refused after new own e b g k =
       turn_refused (array_at elements.items comma_due old) at comma_due fs old after new own e
       (inr (λ d. blames_as old.input old.input (next_value of_array comma_due old.unread) (array_at elements.items comma_due old d) own refl
@@ -123,7 +123,7 @@ module _ (members : Vec (String Global × Value) Global) (at : ℕ) (comma_due :
           (λ d. object_is None new d g ∙ ap (λ xs. got (views.object xs) new.unread) (no_more_members members.items) ∙ ap (λ x. got x new.unread) (sym (view-Object members)))
           (λ d. key_shorter comma_due None old.unread new.unread g.reads d)
 
-  pub object_refused : (after : List Unfinished) (new : Cursor) (own e : Error) → BlamesOrMemory old.input (next_key comma_due old.unread) own → SameText old new → PlacedAt (StartsAfter new.input at) own e
+  pub object_refused : (after : List Unfinished) (new : Cursor) (own e : Error) → BlamesOrMemory old.input (next_key comma_due old.unread) own → SameText old new → PositionedAt (StartsAfter new.input at) own e
       → TurnsBuildingInside (object_at members.items comma_due old) at comma_due fs after old new (Err e)
   object_refused after new own e b g k = turn_refused (object_at members.items comma_due old) at comma_due fs old after new own e (by_cause b) g k
     where

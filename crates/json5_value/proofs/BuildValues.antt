@@ -16,7 +16,7 @@ use Rattle.json5_value.specs.declared.brackets.BracketKind.TheVariants as bracke
 use Rattle.json5_value.specs.declared.brackets.OpenBracket.{OpenBracket}
 use Rattle.json5_value.specs.declared.read.Unfinished.{Unfinished}
 use Rattle.json5_value.specs.Brackets.{bracket_of}
-use Rattle.json5_value.specs.BuildSteps.{array_at, object_at, value_in_at, start_of, value_in, Building, BuildingInside, PlacedIn, TurnsBuilding, TurnsBuildingInside}
+use Rattle.json5_value.specs.BuildSteps.{array_at, object_at, value_in_at, start_of, value_in, Building, BuildingInside, PositionedIn, TurnsBuilding, TurnsBuildingInside}
 use Rattle.json5_value.specs.Keeping.{BlamesOrMemory, as_datum, datum_at, ReadsDatum}
 use Rattle.json5_value.specs.Nesting.{Nested}
 use Rattle.json5_value.specs.Opening.{OpenedAt}
@@ -81,10 +81,10 @@ object_begun room fs after f members old mid new result ready o is none less t =
     after new result less t
 
 -- the value is refused before a bracket of it is open
-pub first_refused : (room : ℕ) (fs after : List Unfinished) (old new : Cursor) (own e : Error) → BlamesOrMemory old.input (datum_at (room - length fs) old) own → SameText old new → PlacedIn new.input fs own e → TurnsBuilding room fs after old new (Err e)
-first_refused room fs after old new own e b g k = record { goes = tt; refused = by_cause b (subst (λ z. PlacedIn z fs own e) g k); same_text = g; shorter = tt }
+pub first_refused : (room : ℕ) (fs after : List Unfinished) (old new : Cursor) (own e : Error) → BlamesOrMemory old.input (datum_at (room - length fs) old) own → SameText old new → PositionedIn new.input fs own e → TurnsBuilding room fs after old new (Err e)
+first_refused room fs after old new own e b g k = record { goes = tt; refused = by_cause b (subst (λ z. PositionedIn z fs own e) g k); same_text = g; shorter = tt }
   where
-    by_cause : BlamesOrMemory old.input (datum_at (room - length fs) old) own → PlacedIn old.input fs own e → IsOutOfMemory e ⊎ ((w : Read Datum) → Building room w fs None old → RefusesRead old.input w e)
+    by_cause : BlamesOrMemory old.input (datum_at (room - length fs) old) own → PositionedIn old.input fs own e → IsOutOfMemory e ⊎ ((w : Read Datum) → Building room w fs None old → RefusesRead old.input w e)
     by_cause (inl memory) (inl (none, same)) = inl (ap kind_of same ∙ memory)
     by_cause (inl memory) (inr (gs, f, is, p)) = inl (p.kind ∙ memory)
     by_cause (inr b) (inl (none, same)) = inr (λ w h. whole_blamed start_of value_in room old w (datum_at (room - length fs) old) fs e h none (subst (λ z. RefusesRead old.input (datum_at (room - length fs) old) z) (sym same) b))

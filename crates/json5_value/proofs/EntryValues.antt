@@ -9,7 +9,7 @@ use Rattle.json5_grammar.specs.Model.ReadSteps.{forget, colon_after, pair_head, 
 use Rattle.json5_grammar.specs.Model.ReadTexts.{key, string, identifier}
 use Rattle.json5_grammar.specs.Language.Strings.{is_quote}
 use Rattle.json5_text.specs.declared.error.Error.{Error}
-use Rattle.json5_text.specs.Errors.{code, kind_of, place_of}
+use Rattle.json5_text.specs.Errors.{code, kind_of, error_position}
 use Rattle.json5_text.specs.Cursor.{Cursor}
 use Rattle.json5_value.specs.Entries.{entry_front, entry_start, next_entry}
 use Rattle.json5_value.specs.Short.{name_at}
@@ -102,7 +102,7 @@ module _ (k : BracketKind) (comma_due goes : Bool) (old mid : Cursor) (e : k ≡
 
 -- ---- keys
 
-pub key_at_end : (old : Cursor) (next : Option ℕ) (e : Error) → next ≡ slice_get old.unread 0 → next ≡ None → kind_of e ≡ code codes.EofParsingObject → place_of e ≡ None → Steps (forget (key old.unread)) old old (Err e)
+pub key_at_end : (old : Cursor) (next : Option ℕ) (e : Error) → next ≡ slice_get old.unread 0 → next ≡ None → kind_of e ≡ code codes.EofParsingObject → error_position e ≡ None → Steps (forget (key old.unread)) old old (Err e)
 key_at_end old next e peeked is kind place =
     refused_step old old (forget (key old.unread)) e
     (blames_made old.input (forget (key old.unread)) e codes.EofParsingObject inner (ap forget (ap key (none_next old.unread (sym peeked ∙ is)) ∙ key_missing)) (λ e. absurd (cc)) kind place)

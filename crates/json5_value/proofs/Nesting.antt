@@ -3,10 +3,10 @@ use Rattle.std.proofs.Common.{◌≡◌, ℕ, ◌-◌, ◌<◌, List, [], ◌∷
 use Rattle.json5_grammar.specs.declared.code.ErrorCode.{ErrorCode}
 use Rattle.json5_grammar.specs.Model.Reading.{Read, Place, here, inner, got, bad, and_then, placed}
 use Rattle.json5_text.specs.declared.error.Error.{Error}
-use Rattle.json5_text.specs.Errors.{kind_of, or_place}
+use Rattle.json5_text.specs.Errors.{kind_of, or_position}
 use Rattle.json5_text.specs.Cursor.{Cursor, Took, Says, IsOutOfMemory}
 use Rattle.json5_value.specs.Nesting.{Nested, Within, WithinInner}
-use Rattle.json5_value.specs.Places.{StartsAfter, PlacedAt, CountsTo}
+use Rattle.json5_value.specs.Places.{StartsAfter, PositionedAt, CountsTo}
 use Rattle.json5_value.specs.Steps.{IsInside, SameText, HasPositionAt, RefusesRead, Gave}
 use Rattle.json5_value.proofs.Steps.{ready_after, blames_as}
 
@@ -17,7 +17,7 @@ says_same (Some c) own e k s = k ∙ s
 says_same None own e k (text, s) = (text, k ∙ s)
 
 -- a fault without a position gets the bracket's
-blames_placed : {A : Type 0} (input q : List ℕ) (start : ℕ) (m : Read A) (own e : Error) → CountsTo input start q → PlacedAt (StartsAfter input start) own e → RefusesRead input m own → RefusesRead input (placed q m) e
+blames_placed : {A : Type 0} (input q : List ℕ) (start : ℕ) (m : Read A) (own e : Error) → CountsTo input start q → PositionedAt (StartsAfter input start) own e → RefusesRead input m own → RefusesRead input (placed q m) e
 blames_placed {A = A} input q start m own e (before, split, counted) k b = by_place b.place b.is_bad b.says
   where
     by_place : (p : Place) → m ≡ bad b.reason p → IsOutOfMemory own ⊎ (Says b.reason own × HasPositionAt input p own) → RefusesRead input (placed q m) e
@@ -31,7 +31,7 @@ blames_placed {A = A} input q start m own e (before, split, counted) k b = by_pl
       where
         kept : IsOutOfMemory own ⊎ (Says b.reason own × HasPositionAt input (here z) own) → IsOutOfMemory e ⊎ (Says b.reason e × HasPositionAt input (here z) e)
         kept (inl memory) = inl (k.kind ∙ memory)
-        kept (inr (s, (front, there, place))) = inr (says_same b.reason own e k.kind s, (front, there, k.place ∙ ap (λ o. or_place o k.there) place))
+        kept (inr (s, (front, there, place))) = inr (says_same b.reason own e k.kind s, (front, there, k.place ∙ ap (λ o. or_position o k.there) place))
     by_place inner is says = record {
       reason = b.reason;
       place = here q;
@@ -42,7 +42,7 @@ blames_placed {A = A} input q start m own e (before, split, counted) k b = by_pl
       where
         given : IsOutOfMemory own ⊎ (Says b.reason own × HasPositionAt input inner own) → IsOutOfMemory e ⊎ (Says b.reason e × HasPositionAt input (here q) e)
         given (inl memory) = inl (k.kind ∙ memory)
-        given (inr (s, none)) = inr (says_same b.reason own e k.kind s, (before, split, k.place ∙ ap (λ o. or_place o k.there) none ∙ ap (λ z. Some z) (k.is_there before (record { rest = q; split = split; counted = counted }))))
+        given (inr (s, none)) = inr (says_same b.reason own e k.kind s, (before, split, k.place ∙ ap (λ o. or_position o k.there) none ∙ ap (λ z. Some z) (k.is_there before (record { rest = q; split = split; counted = counted }))))
 
 -- ---- what is open
 
@@ -113,9 +113,9 @@ module _ {F D : Type 0} (start : F → ℕ) (after : F → ℕ → D → List �
     }
 
     -- it is refused
-    pub inside_blamed : (input : List ℕ) (own e : Error) → RefusesRead old.input m own → PlacedAt (StartsAfter input at) own e → input ≡ old.input → RefusesRead old.input w e
+    pub inside_blamed : (input : List ℕ) (own e : Error) → RefusesRead old.input m own → PositionedAt (StartsAfter input at) own e → input ≡ old.input → RefusesRead old.input w e
     inside_blamed input own e b k same =
-        blames_whole old.input room fs q m w e h.nested (blames_placed old.input q at m own e h.counted (subst (λ z. PlacedAt (StartsAfter z at) own e) same k) b)
+        blames_whole old.input room fs q m w e h.nested (blames_placed old.input q at m own e h.counted (subst (λ z. PositionedAt (StartsAfter z at) own e) same k) b)
 
   -- ---- a value
 
@@ -142,7 +142,7 @@ module _ {F D : Type 0} (start : F → ℕ) (after : F → ℕ → D → List �
   whole_blamed room old w m fs e h none b = blames_as old.input old.input m w e refl (λ c p is. subst (λ gs. Nested start after old.input room gs m w) none h.nested ∙ is) b
 
   -- it is refused in the innermost
-  pub innermost_blamed : (room : ℕ) (old : Cursor) (w m : Read D) (gs fs : List F) (f : F) (own e : Error) → Within start after room w gs m old → gs ≡ fs ++ f ∷ [] → RefusesRead old.input m own → PlacedAt (StartsAfter old.input (start f)) own e → RefusesRead old.input w e
+  pub innermost_blamed : (room : ℕ) (old : Cursor) (w m : Read D) (gs fs : List F) (f : F) (own e : Error) → Within start after room w gs m old → gs ≡ fs ++ f ∷ [] → RefusesRead old.input m own → PositionedAt (StartsAfter old.input (start f)) own e → RefusesRead old.input w e
   innermost_blamed room old w m gs fs f own e h is b k =
       let n : ℕ = room - length fs - 1 in
       let (q, counted, nested) = nested_pop old.input room n fs f m w refl (subst (λ z. Nested start after old.input room z m w) is h.nested) in

@@ -5,8 +5,8 @@ use Rattle.std.proofs.lemmas.Str.{encodes-append, length-le-encodes}
 use Rattle.json5_grammar.specs.declared.position.Position.{Position}
 use Rattle.json5_grammar.specs.Faults.Positions.{position_after}
 use Rattle.json5_text.specs.declared.error.Error.{Error}
-use Rattle.json5_text.specs.Errors.{kind_of, place_of, or_place}
-use Rattle.json5_value.specs.Places.{StartsAfter, PlacedAt}
+use Rattle.json5_text.specs.Errors.{kind_of, error_position, or_position}
+use Rattle.json5_value.specs.Places.{StartsAfter, PositionedAt}
 
 -- the characters within the first so many bytes
 abbrev text_before : ℕ → List ℕ → List ℕ
@@ -23,20 +23,20 @@ text_before_is (c ∷ before) rest zero e = absurd (omega (arith, e, bytes_apart
 text_before_is (c ∷ before) rest (suc n) e = ap (λ z. c ∷ z) (text_before_is before rest (suc n - length (encode_utf8_all (c ∷ []))) (omega (arith, e, bytes_apart c before)))
 
 -- it has one
-pub place_kept : (input : List ℕ) (start : ℕ) (own : Error) (p : Position) → place_of own ≡ Some p → PlacedAt (StartsAfter input start) own own
+pub place_kept : (input : List ℕ) (start : ℕ) (own : Error) (p : Position) → error_position own ≡ Some p → PositionedAt (StartsAfter input start) own own
 place_kept input start own p is = record {
   kind = refl;
   there = position_after (text_before start input);
-  place = is ∙ sym (ap (λ o. or_place o (position_after (text_before start input))) is);
+  place = is ∙ sym (ap (λ o. or_position o (position_after (text_before start input))) is);
   is_there = λ before s. ap position_after (ap (text_before start) s.split ∙ text_before_is before s.rest start s.counted);
 }
 
 -- it gets one
-pub place_given : (input : List ℕ) (start : ℕ) (own e : Error) (p : Position) → place_of own ≡ None → kind_of e ≡ kind_of own → place_of e ≡ Some p
-    → ((before rest : List ℕ) → input ≡ before ++ rest → start ≡ length (encode_utf8_all before) → p ≡ position_after before) → PlacedAt (StartsAfter input start) own e
+pub place_given : (input : List ℕ) (start : ℕ) (own e : Error) (p : Position) → error_position own ≡ None → kind_of e ≡ kind_of own → error_position e ≡ Some p
+    → ((before rest : List ℕ) → input ≡ before ++ rest → start ≡ length (encode_utf8_all before) → p ≡ position_after before) → PositionedAt (StartsAfter input start) own e
 place_given input start own e p none kind place there = record {
   kind = kind;
   there = p;
-  place = place ∙ sym (ap (λ o. or_place o p) none);
+  place = place ∙ sym (ap (λ o. or_position o p) none);
   is_there = λ before s. there before s.rest s.split s.counted;
 }

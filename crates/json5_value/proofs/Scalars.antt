@@ -22,8 +22,8 @@ use Rattle.json5_grammar.proofs.ValueSteps.{read_too_deep, read_missing, read_wo
 use Rattle.std.proofs.lemmas.Bool.{or_parts, both_ways}
 use Rattle.std.proofs.lemmas.List.{append-nil}
 use Rattle.json5_text.specs.declared.error.Error.{Error}
-use Rattle.json5_text.specs.Errors.{code, kind_of, place_of}
-use Rattle.json5_text.specs.Cursor.{IsPlaced}
+use Rattle.json5_text.specs.Errors.{code, kind_of, error_position}
+use Rattle.json5_text.specs.Cursor.{IsPositioned}
 use Rattle.json5_text.specs.TokenCalls.{TakesWord, PassesString, PassesNumber}
 use Rattle.json5_text.specs.Cursor.{Cursor, Took, offset_of}
 use Rattle.json5_value.specs.declared.kinds.Literal.{Literal}
@@ -111,7 +111,7 @@ module _ (room : ℕ) (old new : Cursor) (c : ℕ) (first : slice_get old.unread
       same_step old new (value_at room old) (forget (reading.number old.unread)) (without result) (ap (λ z. forget (read room z)) x ∙ read_numeral room c r begins ∙ ap (λ z. forget (reading.number z)) (sym x)) (number_step old new result c r ready x begins k)
 
   -- a character that begins no value
-  pub other_value : (e : Error) → IsInside old → found ≡ kind.Other → ((c == 91) || (c == 123)) ≡ false → kind_of e ≡ code codes.ExpectedValue → IsPlaced old (Some []) e → new ≡ old → Steps (value_at room old) old new (Err e)
+  pub other_value : (e : Error) → IsInside old → found ≡ kind.Other → ((c == 91) || (c == 123)) ≡ false → kind_of e ≡ code codes.ExpectedValue → IsPositioned old (Some []) e → new ≡ old → Steps (value_at room old) old new (Err e)
   other_value e ready is none says placed up =
       let (r, x) = some_next old.unread c first in
       let t = tests_of c found kind.Other at is in
@@ -123,7 +123,7 @@ module _ (room : ℕ) (old new : Cursor) (c : ℕ) (first : slice_get old.unread
       (ap (λ (s : Cursor). s.input) up)
 
 -- nothing is left
-pub value_missing : (room : ℕ) (old : Cursor) (next : Option ℕ) (e : Error) → next ≡ slice_get old.unread 0 → next ≡ None → kind_of e ≡ code codes.EofParsingValue → place_of e ≡ None → SkipsOrOpens room old old (Err e)
+pub value_missing : (room : ℕ) (old : Cursor) (next : Option ℕ) (e : Error) → next ≡ slice_get old.unread 0 → next ≡ None → kind_of e ≡ code codes.EofParsingValue → error_position e ≡ None → SkipsOrOpens room old old (Err e)
 value_missing room old next e peeked is kind place = record {
   begun = tt;
   refused = blames_made old.input (value_at room old) e codes.EofParsingValue inner (ap (λ z. forget (read room z)) (none_next old.unread (sym peeked ∙ is)) ∙ read_missing room) (λ e. absurd (cc)) kind place;
@@ -154,7 +154,7 @@ bracket_passed room old new bracket o = record { begun = o; refused = tt; same_t
 pub bracket_too_deep : (room : ℕ) (old : Cursor) (k : BracketKind) (start : ℕ) (e : Error) (p : Position) → IsInside old → slice_get old.unread 0 ≡ Some (opening k) → room ≡ 0
     → start ≡ offset_of old
     → ((before rest : List ℕ) → old.input ≡ before ++ rest → start ≡ length (encode_utf8_all before) → p ≡ position_after before)
-    → kind_of e ≡ code codes.TooDeep → place_of e ≡ Some p → OpensBracket room old old (Err e)
+    → kind_of e ≡ code codes.TooDeep → error_position e ≡ Some p → OpensBracket room old old (Err e)
 bracket_too_deep room old k start e p ready first none counted located kind place =
     let (r, x) = some_next old.unread (opening k) first in
     record {

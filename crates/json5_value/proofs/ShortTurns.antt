@@ -14,7 +14,7 @@ use Rattle.json5_value.specs.declared.skip.ShortTurn.TheVariants as short
 use Rattle.json5_value.specs.Brackets.{bracket_of}
 use Rattle.json5_value.specs.Nesting.{Within}
 use Rattle.json5_value.specs.Opening.{OpenedAt}
-use Rattle.json5_value.specs.Places.{StartsAfter, PlacedAt}
+use Rattle.json5_value.specs.Places.{StartsAfter, PositionedAt}
 use Rattle.json5_value.specs.Short.{ReachesMember, PassesShort, name_left, member_left, SkippingMember, TurnsMember, Advanced, TurnsShort, ResumesShort}
 use Rattle.json5_value.specs.SkipSteps.{start_of, rest_in, rest_at, Skipping, SkippingInside}
 use Rattle.json5_value.specs.Steps.{SameText, RefusesRead, Gave, value_at}
@@ -46,7 +46,7 @@ module _ (room : ℕ) (w : Read (Unit {0})) (bs : List OpenBracket) (f : OpenBra
       (ap (λ m. and_then m (λ u y. value_and_rest (bracket_of f.kind) (room - length bs - 1) y)) g.reads))
 
   -- its name is refused
-  pub not_named : (old new : Cursor) (own e : Error) → RefusesRead old.input (name_left left old.unread) own → SameText old new → PlacedAt (StartsAfter new.input f.start) own e → SkippingMember room w bs f left q old → RefusesRead old.input w e
+  pub not_named : (old new : Cursor) (own e : Error) → RefusesRead old.input (name_left left old.unread) own → SameText old new → PositionedAt (StartsAfter new.input f.start) own e → SkippingMember room w bs f left q old → RefusesRead old.input w e
   not_named old new own e b same k h =
       inside_blamed start_of rest_in room old w (member_left room bs f left old) bs f.start q h new.input own e
       (blames_as old.input old.input (name_left left old.unread) (member_left room bs f left old) own refl (λ c p is. ap (λ m. and_then m (λ u y. value_and_rest (bracket_of f.kind) (room - length bs - 1) y)) is) b) k same
@@ -59,7 +59,7 @@ member_goes left f bs after old new u g grown = record {
   no_longer = no_more_left old new g.taken g.took;
 }
 
-pub member_refused : (left : NameLeft) (f : OpenBracket) (bs after : List OpenBracket) (old new : Cursor) (own e : Error) → RefusesRead old.input (name_left left old.unread) own → SameText old new → PlacedAt (StartsAfter new.input f.start) own e → TurnsMember left f bs after old new (Err e)
+pub member_refused : (left : NameLeft) (f : OpenBracket) (bs after : List OpenBracket) (old new : Cursor) (own e : Error) → RefusesRead old.input (name_left left old.unread) own → SameText old new → PositionedAt (StartsAfter new.input f.start) own e → TurnsMember left f bs after old new (Err e)
 member_refused left f bs after old new own e b same k = record {
   goes = tt;
   refused = λ room w q h. not_named room w bs f left q old new own e b same k h;

@@ -14,7 +14,7 @@ use Rattle.json5_grammar.specs.Model.ReadValues.{colon_at}
 use Rattle.json5_grammar.proofs.Refusals.{Refuses}
 use Rattle.json5_text.specs.declared.error.Error.{Error}
 use Rattle.json5_text.specs.Cursor.{Cursor, Refused}
-use Rattle.json5_text.specs.Errors.{code, kind_of, place_of}
+use Rattle.json5_text.specs.Errors.{code, kind_of, error_position}
 use Rattle.json5_value.specs.declared.brackets.Brackets.{Brackets}
 use Rattle.json5_value.specs.declared.brackets.BracketKind.{BracketKind as OwnKind}
 use Rattle.json5_value.specs.declared.brackets.BracketKind.TheVariants as kind
@@ -26,7 +26,7 @@ use Rattle.json5_value.proofs.Steps.{none_next, some_next, blames_refused}
 -- ---- what is next
 
 -- the end is refused
-pub refused_end : {ends differs : ErrorCode} (s : Cursor) (e : Error) (next : Option ℕ) → next ≡ slice_get s.unread 0 → next ≡ None → kind_of e ≡ code ends → place_of e ≡ None → Refused (Unexpected ends differs) s e
+pub refused_end : {ends differs : ErrorCode} (s : Cursor) (e : Error) (next : Option ℕ) → next ≡ slice_get s.unread 0 → next ≡ None → kind_of e ≡ code ends → error_position e ≡ None → Refused (Unexpected ends differs) s e
 refused_end {ends = ends} {differs = differs} s e next peeked is kind place = record {
   reason = Some ends;
   place = None;
@@ -36,7 +36,7 @@ refused_end {ends = ends} {differs = differs} s e next peeked is kind place = re
 }
 
 -- a character is refused
-pub refused_char : {ends differs : ErrorCode} (s : Cursor) (e : Error) (next : Option ℕ) (c : ℕ) (p : Position) → next ≡ slice_get s.unread 0 → next ≡ Some c → kind_of e ≡ code differs → place_of e ≡ Some p
+pub refused_char : {ends differs : ErrorCode} (s : Cursor) (e : Error) (next : Option ℕ) (c : ℕ) (p : Position) → next ≡ slice_get s.unread 0 → next ≡ Some c → kind_of e ≡ code differs → error_position e ≡ Some p
     → ((before : List ℕ) → s.input ≡ before ++ s.unread → p ≡ position_after before) → Refused (Unexpected ends differs) s e
 refused_char {ends = ends} {differs = differs} s e next c p peeked is kind place there =
     let (r, x) = some_next s.unread c (sym peeked ∙ is) in

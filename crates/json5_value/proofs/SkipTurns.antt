@@ -13,8 +13,8 @@ use Rattle.json5_value.specs.declared.brackets.OpenBracket.{OpenBracket}
 use Rattle.json5_value.specs.Brackets.{bracket_of}
 use Rattle.json5_value.specs.Nesting.{Nested, Within}
 use Rattle.json5_value.specs.Opening.{OpenedAt}
-use Rattle.json5_value.specs.Places.{StartsAfter, PlacedAt}
-use Rattle.json5_value.specs.SkipSteps.{start_of, rest_in, rest_at, Skipping, SkippingInside, TurnsSkipping, TurnsSkippingInside, PlacedWithin}
+use Rattle.json5_value.specs.Places.{StartsAfter, PositionedAt}
+use Rattle.json5_value.specs.SkipSteps.{start_of, rest_in, rest_at, Skipping, SkippingInside, TurnsSkipping, TurnsSkippingInside, PositionedWithin}
 use Rattle.json5_value.specs.Steps.{IsInside, SameText, RefusesRead, Gave, value_at}
 use Rattle.json5_value.proofs.Nesting.{value_reached, closed, inside_blamed, value_ended, value_opened, whole_blamed, innermost_blamed, starts, ends_inside}
 use Rattle.json5_value.proofs.Shorter.{next_shorter}
@@ -64,7 +64,7 @@ inside_closed comma_due goes f bs old new is g = record {
   no_longer = no_more_left old new g.taken g.took;
 }
 
-pub inside_refused : (comma_due : Bool) (f : OpenBracket) (bs after : List OpenBracket) (old new : Cursor) (own e : Error) → RefusesRead old.input (next_value (bracket_of f.kind) comma_due old.unread) own → SameText old new → PlacedAt (StartsAfter new.input f.start) own e
+pub inside_refused : (comma_due : Bool) (f : OpenBracket) (bs after : List OpenBracket) (old new : Cursor) (own e : Error) → RefusesRead old.input (next_value (bracket_of f.kind) comma_due old.unread) own → SameText old new → PositionedAt (StartsAfter new.input f.start) own e
     → TurnsSkippingInside comma_due f bs after old new (Err e)
 inside_refused comma_due f bs after old new own e b same k = record {
   goes = tt;
@@ -122,14 +122,14 @@ none_open (f ∷ fs) o is k = absurd (none o is (k.1 (omega arith)))
     none None is e = cc
     none (Some g) is e = cc
 
-value_blamed : (room : ℕ) (old : Cursor) (w : Read (Unit {0})) (bs : List OpenBracket) (own e : Error) → RefusesRead old.input (value_at (room - length bs) old) own → PlacedWithin old.input bs own e → Skipping room w bs true old → RefusesRead old.input w e
+value_blamed : (room : ℕ) (old : Cursor) (w : Read (Unit {0})) (bs : List OpenBracket) (own e : Error) → RefusesRead old.input (value_at (room - length bs) old) own → PositionedWithin old.input bs own e → Skipping room w bs true old → RefusesRead old.input w e
 value_blamed room old w bs own e b (inl (none, same)) h = whole_blamed start_of rest_in room old w (value_at (room - length bs) old) bs e h none (subst (λ z. RefusesRead old.input (value_at (room - length bs) old) z) (sym same) b)
 value_blamed room old w bs own e b (inr (fs, f, is, k)) h = innermost_blamed start_of rest_in room old w (value_at (room - length bs) old) bs fs f own e h is b k
 
-pub first_refused : (room : ℕ) (bs after : List OpenBracket) (old new : Cursor) (own e : Error) → RefusesRead old.input (value_at (room - length bs) old) own → SameText old new → PlacedWithin new.input bs own e → TurnsSkipping room bs after old new (Err e)
+pub first_refused : (room : ℕ) (bs after : List OpenBracket) (old new : Cursor) (own e : Error) → RefusesRead old.input (value_at (room - length bs) old) own → SameText old new → PositionedWithin new.input bs own e → TurnsSkipping room bs after old new (Err e)
 first_refused room bs after old new own e b same k = record {
   goes = tt;
-  refused = λ w h. value_blamed room old w bs own e b (subst (λ z. PlacedWithin z bs own e) same k) h;
+  refused = λ w h. value_blamed room old w bs own e b (subst (λ z. PositionedWithin z bs own e) same k) h;
   same_text = same;
   shorter = tt;
 }

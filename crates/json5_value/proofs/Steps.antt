@@ -9,7 +9,7 @@ use Rattle.json5_grammar.specs.Model.Reading.{Read, Place, here, inner, got, bad
 use Rattle.json5_grammar.specs.Model.ReadSteps.{forget}
 use Rattle.json5_grammar.proofs.Refusals.{Refuses}
 use Rattle.json5_text.specs.declared.error.Error.{Error}
-use Rattle.json5_text.specs.Cursor.{Cursor, Took, IsPlaced, Refused, IsOutOfMemory, Says, offset_of}
+use Rattle.json5_text.specs.Cursor.{Cursor, Took, IsPositioned, Refused, IsOutOfMemory, Says, offset_of}
 use Rattle.json5_text.specs.Errors.{code, kind_of}
 use Rattle.json5_value.specs.Steps.{IsInside, SameText, HasPositionAt, RefusesRead, Gave, Steps, RefusesToken}
 use Rattle.json5_value.proofs.OtherCodes.{Lacks, other_says, memory_other}
@@ -38,7 +38,7 @@ counted_before s before offset e split =
 pub same_of : {s t : Cursor} → s ≡ t → s.input ≡ t.input
 same_of e = ap (λ (s : Cursor). s.input) e
 
-stands_at : (s : Cursor) (place : Option (List ℕ)) (p : Place) (e : Error) → IsInside s → IsAt s.unread place p → IsPlaced s place e → HasPositionAt s.input p e
+stands_at : (s : Cursor) (place : Option (List ℕ)) (p : Place) (e : Error) → IsInside s → IsAt s.unread place p → IsPositioned s place e → HasPositionAt s.input p e
 stands_at s (Some b) (here q) e r at k = (r.before ++ b, r.inside ∙ ap (λ z. r.before ++ z) at ∙ sym (append_assoc r.before b q), k r.before r.inside)
 stands_at s (Some b) inner e r at k = absurd at
 stands_at s None (here q) e r at k = absurd at

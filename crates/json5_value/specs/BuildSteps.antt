@@ -14,7 +14,7 @@ use Rattle.json5_value.specs.declared.read.Unfinished.TheVariants as unfinished
 use Rattle.json5_value.specs.Data.{items_of, fields_of}
 use Rattle.json5_value.specs.Keeping.{datum_at}
 use Rattle.json5_value.specs.Nesting.{Within, WithinInner}
-use Rattle.json5_value.specs.Places.{StartsAfter, PlacedAt}
+use Rattle.json5_value.specs.Places.{StartsAfter, PositionedAt}
 use Rattle.json5_value.specs.Steps.{SameText, RefusesRead}
 
 -- ---- what is left
@@ -79,8 +79,8 @@ abbrev pub BuildingInside : ℕ → Read Datum → List Unfinished → ℕ → (
 BuildingInside room w fs start m q now = WithinInner start_of value_in room w fs start (m (room - length fs - 1)) q now
 
 -- the fault gets the position of the innermost unfinished value if it has none
-abbrev pub PlacedIn : List ℕ → List Unfinished → Error → Error → Type 0
-PlacedIn input fs own e = ((fs ≡ []) × (e ≡ own)) ⊎ ((gs : List Unfinished) × (f : Unfinished) × (fs ≡ gs ++ f ∷ []) × PlacedAt (StartsAfter input (start_of f)) own e)
+abbrev pub PositionedIn : List ℕ → List Unfinished → Error → Error → Type 0
+PositionedIn input fs own e = ((fs ≡ []) × (e ≡ own)) ⊎ ((gs : List Unfinished) × (f : Unfinished) × (fs ≡ gs ++ f ∷ []) × PositionedAt (StartsAfter input (start_of f)) own e)
 
 -- ---- turns
 

@@ -4,7 +4,7 @@ use Rattle.std.specs.Str.{encode_utf8_all}
 use Rattle.json5_grammar.specs.declared.position.Position.{Position}
 use Rattle.json5_grammar.specs.Faults.Positions.{position_after}
 use Rattle.json5_text.specs.declared.error.Error.{Error}
-use Rattle.json5_text.specs.Errors.{kind_of, place_of, or_place}
+use Rattle.json5_text.specs.Errors.{kind_of, error_position, or_position}
 
 -- so many bytes come before this rest of the input
 abbrev pub CountsTo : List ℕ → ℕ → List ℕ → Type 0
@@ -17,8 +17,8 @@ pub record StartsAfter (input : List ℕ) (offset : ℕ) (before : List ℕ) : T
   pub counted : offset ≡ length (encode_utf8_all before)
 
 -- the same fault, which gets a position if it had none: the one after input for which IsBefore holds
-pub record PlacedAt (IsBefore : List ℕ → Type 0) (own e : Error) : Type 0 where
+pub record PositionedAt (IsBefore : List ℕ → Type 0) (own e : Error) : Type 0 where
   pub kind : kind_of e ≡ kind_of own
   pub there : Position
-  pub place : place_of e ≡ or_place (place_of own) there
+  pub place : error_position e ≡ or_position (error_position own) there
   pub is_there : (before : List ℕ) → IsBefore before → there ≡ position_after before

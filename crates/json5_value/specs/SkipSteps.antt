@@ -8,7 +8,7 @@ use Rattle.json5_value.specs.declared.brackets.OpenBracket.{OpenBracket}
 use Rattle.json5_value.specs.Brackets.{bracket_of}
 use Rattle.json5_value.specs.Nesting.{Within, WithinInner}
 use Rattle.json5_value.specs.Opening.{OpenedAt}
-use Rattle.json5_value.specs.Places.{StartsAfter, PlacedAt}
+use Rattle.json5_value.specs.Places.{StartsAfter, PositionedAt}
 use Rattle.json5_value.specs.Steps.{SameText, RefusesRead, Gave, value_at}
 
 -- ---- how a value begins
@@ -50,8 +50,8 @@ abbrev pub SkippingInside : ℕ → Read (Unit {0}) → List OpenBracket → Ope
 SkippingInside room w brackets bracket comma_due q now = WithinInner start_of rest_in room w brackets bracket.start (rest_at room brackets bracket comma_due now) q now
 
 -- the fault gets the innermost open bracket's position if it has none and there is such a bracket
-abbrev pub PlacedWithin : List ℕ → List OpenBracket → Error → Error → Type 0
-PlacedWithin input brackets own e = ((brackets ≡ []) × (e ≡ own)) ⊎ ((fs : List OpenBracket) × (f : OpenBracket) × (brackets ≡ fs ++ f ∷ []) × PlacedAt (StartsAfter input f.start) own e)
+abbrev pub PositionedWithin : List ℕ → List OpenBracket → Error → Error → Type 0
+PositionedWithin input brackets own e = ((brackets ≡ []) × (e ≡ own)) ⊎ ((fs : List OpenBracket) × (f : OpenBracket) × (brackets ≡ fs ++ f ∷ []) × PositionedAt (StartsAfter input f.start) own e)
 
 -- ---- turns
 

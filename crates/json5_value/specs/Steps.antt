@@ -8,7 +8,7 @@ use Rattle.json5_grammar.specs.Model.ReadSteps.{forget}
 use Rattle.json5_grammar.specs.Model.ReadValues.{read}
 use Rattle.json5_text.specs.declared.error.Error.{Error}
 use Rattle.json5_text.specs.Cursor.{Cursor, Took, Says, Refused, IsOutOfMemory}
-use Rattle.json5_text.specs.Errors.{LacksMemory, code, kind_of, place_of}
+use Rattle.json5_text.specs.Errors.{LacksMemory, code, kind_of, error_position}
 
 -- the unread part is the end of the input
 pub record IsInside (s : Cursor) : Type 0 where
@@ -24,8 +24,8 @@ IsUnprompted e = kind_of e ≢ code codes.Failed
 
 -- the fault's position is where this rest of the input begins, or it has none
 abbrev pub HasPositionAt : List ℕ → Place → Error → Type 0
-HasPositionAt input (here q) e = (before : List ℕ) × (input ≡ before ++ q) × (place_of e ≡ Some (position_after before))
-HasPositionAt input inner e = place_of e ≡ None
+HasPositionAt input (here q) e = (before : List ℕ) × (input ≡ before ++ q) × (error_position e ≡ Some (position_after before))
+HasPositionAt input inner e = error_position e ≡ None
 
 -- reading gives this fault, or memory ran out for its message
 pub record RefusesRead {A : Type 0} (input : List ℕ) (reading : Read A) (e : Error) : Type 0 where

@@ -1,9 +1,9 @@
 //! Faults at the next character and at a bracket.
 
 ghost use Rattle.std.specs.Prelude.{◌≡◌, [], Some};
-ghost use Rattle.json5_text.specs.Cursor.{Refused, IsPlaced};
+ghost use Rattle.json5_text.specs.Cursor.{Refused, IsPositioned};
 ghost use Rattle.json5_text.specs.Errors.{FaultKind, kind_of};
-ghost use Rattle.json5_value.specs.Places.{PlacedAt, StartsAfter};
+ghost use Rattle.json5_value.specs.Places.{PositionedAt, StartsAfter};
 ghost use Rattle.json5_value.specs.Steps.{Unexpected};
 
 use json5_text::ErrorCode;
@@ -29,7 +29,7 @@ pub fn unexpected_here<I: Input>(scanner: &Scanner<I>, ends: ErrorCode, differs:
 #[inline(never)]
 pub fn fault_here<I: Input>(scanner: &Scanner<I>, code: ErrorCode) -> Error
     ensures kind { kind_of result ≡ FaultKind.code code }
-    ensures placed { IsPlaced scanner.now (Some []) result }
+    ensures placed { IsPositioned scanner.now (Some []) result }
 {
     let offset = scanner.offset();
     Error::new_at(scanner.position_of(offset), code)
@@ -38,8 +38,8 @@ pub fn fault_here<I: Input>(scanner: &Scanner<I>, code: ErrorCode) -> Error
 /// Gives a fault without a position that of the bracket, which begins after so many bytes. Lines are counted only then.
 #[cold]
 #[inline(never)]
-pub fn place_at<I: Input>(scanner: &Scanner<I>, start: usize, error: Error) -> Error
-    ensures { PlacedAt (StartsAfter scanner.now.input start) error result }
+pub fn with_position_at<I: Input>(scanner: &Scanner<I>, start: usize, error: Error) -> Error
+    ensures { PositionedAt (StartsAfter scanner.now.input start) error result }
 {
     match error.position() {
         Some(_) => error,

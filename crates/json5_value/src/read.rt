@@ -1,13 +1,13 @@
 //! Reading of values of any kind (JSON5 sections 2 to 6).
 
 ghost use Rattle.std.specs.Prelude.{◌≡◌, true};
-ghost use Rattle.json5_value.specs.BuildSteps.{PlacedIn, TurnsBuilding, TurnsBuildingInside, array_at, object_at, start_of, value_in_at};
+ghost use Rattle.json5_value.specs.BuildSteps.{PositionedIn, TurnsBuilding, TurnsBuildingInside, array_at, object_at, start_of, value_in_at};
 ghost use Rattle.json5_value.specs.Keeping.{ReadsDatum, ReadsOrOpens};
 ghost use Rattle.json5_value.specs.Steps.{IsInside};
 
 use crate::brackets::{BracketKind, OpenBracket, open_bracket};
 use crate::entries::skip_to_value;
-use crate::faults::place_at;
+use crate::faults::with_position_at;
 use crate::tokens::{next_member_key, read_scalar};
 use json5_text::ErrorCode;
 use json5_text::error::{Error, Result};
@@ -73,15 +73,15 @@ fn read_or_open<I: Input>(scanner: &mut Scanner<I>, room: usize) -> Result<Value
 /// The fault; without a position, it gets that of the innermost open bracket, if there is one.
 #[cold]
 #[inline(never)]
-fn place_at_innermost<I: Input>(
+fn with_innermost_position<I: Input>(
     scanner: &Scanner<I>,
     stack: &mut Vec<Unfinished>,
     error: Error,
 ) -> Error
-    ensures { PlacedIn scanner.now.input stack.old.items error result }
+    ensures { PositionedIn scanner.now.input stack.old.items error result }
 {
     match stack.pop() {
-        Some(unfinished) => place_at(scanner, unfinished.start(), error),
+        Some(unfinished) => with_position_at(scanner, unfinished.start(), error),
         None => error,
     }
 }
@@ -103,7 +103,7 @@ fn resume_array<I: Input>(
             Ok(None)
         }
         Ok(false) => Ok(Some(Value::Array(elements))),
-        Err(e) => Err(place_at(scanner, start, e)),
+        Err(e) => Err(with_position_at(scanner, start, e)),
     }
 }
 
@@ -129,7 +129,7 @@ fn resume_object<I: Input>(
             Ok(None)
         }
         Ok(None) => Ok(Some(Value::Object(members))),
-        Err(e) => Err(place_at(scanner, start, e)),
+        Err(e) => Err(with_position_at(scanner, start, e)),
     }
 }
 
@@ -146,7 +146,7 @@ fn begin_value<I: Input>(
     let left = room.saturating_sub(open);
     let begun = match read_or_open(scanner, left) {
         Ok(begun) => begun,
-        Err(e) => return Err(place_at_innermost(scanner, stack, e)),
+        Err(e) => return Err(with_innermost_position(scanner, stack, e)),
     };
     let bracket = match begun {
         ValueStart::Scalar(value) => return Ok(Some(value)),

@@ -7,11 +7,11 @@ ghost use Rattle.json5_value.specs.Brackets.{bracket_of};
 ghost use Rattle.json5_value.specs.Opening.{AtScalar};
 ghost use Rattle.json5_value.specs.Steps.{IsInside, Steps, value_at};
 ghost use Rattle.json5_value.specs.Short.{TurnsMember, ResumesShort, TurnsShort};
-ghost use Rattle.json5_value.specs.SkipSteps.{SkipsOrOpens, TurnsSkipping, TurnsSkippingInside, PlacedWithin, SkipsValue};
+ghost use Rattle.json5_value.specs.SkipSteps.{SkipsOrOpens, TurnsSkipping, TurnsSkippingInside, PositionedWithin, SkipsValue};
 
 use crate::brackets::{BracketKind, OpenBracket, open_bracket};
 use crate::entries::{skip_name, skip_to_value};
-use crate::faults::{fault_here, place_at};
+use crate::faults::{fault_here, with_position_at};
 use crate::kinds::{ValueKind, kind_at, skip_literal};
 use crate::short::{NameLeft, ShortEntry, short_entry, short_scalar};
 use arrayvec::ArrayVec;
@@ -62,15 +62,15 @@ fn skip_or_open<I: Input>(scanner: &mut Scanner<I>, room: usize) -> Result<Optio
 /// The fault; without a position, it gets that of the innermost open bracket, if there is one.
 #[cold]
 #[inline(never)]
-fn place_at_innermost<I: Input>(
+fn with_innermost_position<I: Input>(
     scanner: &Scanner<I>,
     brackets: &mut OpenBrackets,
     error: Error,
 ) -> Error
-    ensures { PlacedWithin scanner.now.input brackets.old.items error result }
+    ensures { PositionedWithin scanner.now.input brackets.old.items error result }
 {
     match brackets.pop() {
-        Some(bracket) => place_at(scanner, bracket.start, error),
+        Some(bracket) => with_position_at(scanner, bracket.start, error),
         None => error,
     }
 }
@@ -94,7 +94,7 @@ fn resume_bracket<I: Input>(
             Ok(true)
         }
         Ok(false) => Ok(false),
-        Err(e) => Err(place_at(scanner, bracket.start, e)),
+        Err(e) => Err(with_position_at(scanner, bracket.start, e)),
     }
 }
 
@@ -113,7 +113,7 @@ fn begin_value<I: Input>(
     let left = room.saturating_sub(open);
     let begun = match skip_or_open(scanner, left) {
         Ok(begun) => begun,
-        Err(e) => return Err(place_at_innermost(scanner, brackets, e)),
+        Err(e) => return Err(with_innermost_position(scanner, brackets, e)),
     };
     let Some(bracket) = begun else {
         return Ok(false);
@@ -139,7 +139,7 @@ fn resume_member<I: Input>(
             brackets.push(bracket);
             Ok(true)
         }
-        Err(e) => Err(place_at(scanner, bracket.start, e)),
+        Err(e) => Err(with_position_at(scanner, bracket.start, e)),
     }
 }
 

@@ -12,7 +12,7 @@ returns-in-Err g c =
     let fs = c.args.stack.now.items in
     let old = c.args.scanner.now in
     let d = room_left c.args.room c.args.stack.now c.len-open.result c.saturating_sub-left.result c.len-open.ensures c.saturating_sub-left.ensures in
-    first_refused c.args.room fs _ old c.read_or_open.new.scanner c.in-Err.e c.place_at_innermost.result (subst (λ z. BlamesOrMemory old.input (datum_at z old) c.in-Err.e) d c.in-Err.ensures.refused) c.in-Err.ensures.same_text c.place_at_innermost.ensures
+    first_refused c.args.room fs _ old c.read_or_open.new.scanner c.in-Err.e c.with_innermost_position.result (subst (λ z. BlamesOrMemory old.input (datum_at z old) c.in-Err.e) d c.in-Err.ensures.refused) c.in-Err.ensures.same_text c.with_innermost_position.ensures
 
 pub returns-in-Scalar : goal.returns-in-Scalar
 returns-in-Scalar g c =

@@ -10,4 +10,4 @@ returns-in-Ok-false g c =
     array_closed c.args.elements c.args.start c.args.comma_due c.args.stack.now.items c.args.scanner.now c.in-Ok-false.field-0 c.skip_to_value.new.scanner c.in-Ok-false.field-0-test c.in-Ok-false.ensures.given
 
 pub returns-in-Err : goal.returns-in-Err
-returns-in-Err g c = array_refused c.args.elements c.args.start c.args.comma_due c.args.stack.now.items c.args.scanner.now c.args.stack.now.items c.skip_to_value.new.scanner c.in-Err.e c.place_at.result c.in-Err.ensures.refused c.in-Err.ensures.same_text c.place_at.ensures
+returns-in-Err g c = array_refused c.args.elements c.args.start c.args.comma_due c.args.stack.now.items c.args.scanner.now c.args.stack.now.items c.skip_to_value.new.scanner c.in-Err.e c.with_position_at.result c.in-Err.ensures.refused c.in-Err.ensures.same_text c.with_position_at.ensures

@@ -10,4 +10,4 @@ returns-in-Ok-None g c =
     object_closed c.args.members c.args.start c.args.comma_due c.args.stack.now.items c.args.scanner.now c.in-Ok-None.field-0 c.next_member_key.new.scanner c.in-Ok-None.field-0-is c.in-Ok-None.ensures.given
 
 pub returns-in-Err : goal.returns-in-Err
-returns-in-Err g c = object_refused c.args.members c.args.start c.args.comma_due c.args.stack.now.items c.args.scanner.now c.args.stack.now.items c.next_member_key.new.scanner c.in-Err.e c.place_at.result c.in-Err.ensures.refused c.in-Err.ensures.same_text c.place_at.ensures
+returns-in-Err g c = object_refused c.args.members c.args.start c.args.comma_due c.args.stack.now.items c.args.scanner.now c.args.stack.now.items c.next_member_key.new.scanner c.in-Err.e c.with_position_at.result c.in-Err.ensures.refused c.in-Err.ensures.same_text c.with_position_at.ensures

@@ -9,7 +9,7 @@ returns-in-Err g c =
     let bs = c.args.brackets.now.items in
     let old = c.args.scanner.now in
     let d : c.saturating_sub-left.result ≡ c.args.room - length bs = c.saturating_sub-left.ensures ∙ ap (λ k. c.args.room - k) c.len-open.ensures.value in
-    first_refused c.args.room bs _ old c.skip_or_open.new.scanner c.in-Err.e c.place_at_innermost.result (subst (λ z. RefusesRead old.input (value_at z old) c.in-Err.e) d c.in-Err.ensures.refused) c.in-Err.ensures.same_text c.place_at_innermost.ensures
+    first_refused c.args.room bs _ old c.skip_or_open.new.scanner c.in-Err.e c.with_innermost_position.result (subst (λ z. RefusesRead old.input (value_at z old) c.in-Err.e) d c.in-Err.ensures.refused) c.in-Err.ensures.same_text c.with_innermost_position.ensures
 
 pub returns-in_default : goal.returns-in_default
 returns-in_default g c =

@@ -83,13 +83,13 @@ returns-in-Err-clause-reads g c =
     let start = c.skip_blank.new.self in
     let after = c.deserialize.new.de in
     let (m, next) = some_next start.unread c.in-Some.next (sym c.peek.ensures ∙ c.in-Some.is) in
-    rw c.refuse-in-Err.ensures.result (refuses_some g.T.Deserialize.content g.T.Deserialize.convert g.T.Deserialize.allocation_free g.T.Deserialize.refuses c.args.self.now start after c.refuse-in-Err.new.self c.in-Err.e c.place_at-error.result c.in-Some.next m
+    rw c.refuse-in-Err.ensures.result (refuses_some g.T.Deserialize.content g.T.Deserialize.convert g.T.Deserialize.allocation_free g.T.Deserialize.refuses c.args.self.now start after c.refuse-in-Err.new.self c.in-Err.e c.with_position_at-error.result c.in-Some.next m
     c.in_ok-skip_blank.ensures.passed next (other_sign c.in-Some.next 110 c.if-next-eq110.false) c.in-Err.ensures.refused c.in-Err.ensures.complete c.in-Err.ensures.no_memory c.in-Err.ensures.unprompted c.in-Err.ensures.same_text c.refuse-in-Err.ensures.state
     (record {
-      kind = c.place_at-error.ensures.kind;
-      there = c.place_at-error.ensures.there;
-      place = c.place_at-error.ensures.place;
-      is_there = λ before split. c.place_at-error.ensures.is_there before (record { rest = start.unread; split = c.in-Err.ensures.same_text ∙ split; counted = c.offset-start.ensures.counted before split });
+      kind = c.with_position_at-error.ensures.kind;
+      there = c.with_position_at-error.ensures.there;
+      place = c.with_position_at-error.ensures.place;
+      is_there = λ before split. c.with_position_at-error.ensures.is_there before (record { rest = start.unread; split = c.in-Err.ensures.same_text ∙ split; counted = c.offset-start.ensures.counted before split });
     }))
 
 pub returns-in-Err-clause-ends : goal.returns-in-Err-clause-ends

@@ -13,11 +13,11 @@ returns-in_err-close_or_fail-in-Ok g c =
 pub returns-in-Err : goal.returns-in-Err
 returns-in-Err g c =
     let t = g.T.Deserialize in
-    rw c.refuse.ensures.result (content_refused t.content t.convert t.allocation_free t.refuses c.args.start c.args.self.now c.deserialize.new.de c.refuse.new.self c.in-Err.e c.place_at-error.result
+    rw c.refuse.ensures.result (content_refused t.content t.convert t.allocation_free t.refuses c.args.start c.args.self.now c.deserialize.new.de c.refuse.new.self c.in-Err.e c.with_position_at-error.result
     c.in-Err.ensures.refused c.in-Err.ensures.complete c.in-Err.ensures.no_memory c.in-Err.ensures.unprompted c.in-Err.ensures.same_text c.refuse.ensures.state
     (record {
-      kind = c.place_at-error.ensures.kind;
-      there = c.place_at-error.ensures.there;
-      place = c.place_at-error.ensures.place;
-      is_there = λ before b. c.place_at-error.ensures.is_there before (record { rest = b.rest; split = c.in-Err.ensures.same_text ∙ b.split; counted = b.counted });
+      kind = c.with_position_at-error.ensures.kind;
+      there = c.with_position_at-error.ensures.there;
+      place = c.with_position_at-error.ensures.place;
+      is_there = λ before b. c.with_position_at-error.ensures.is_there before (record { rest = b.rest; split = c.in-Err.ensures.same_text ∙ b.split; counted = b.counted });
     }))

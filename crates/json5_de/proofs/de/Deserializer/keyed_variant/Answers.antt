@@ -10,4 +10,4 @@ returns-in_err-start g c =
 
 pub returns-in-Err : goal.returns-in-Err
 returns-in-Err g c =
-    only_key_refused (names_bytes c.args.variants.now) c.args.self.now c.open.new.self c.only_key.new.self c.in_ok-start.start c.in_ok-start.ensures.opens c.in-Err.e c.place_at.result c.in-Err.ensures c.place_at.ensures
+    only_key_refused (names_bytes c.args.variants.now) c.args.self.now c.open.new.self c.only_key.new.self c.in_ok-start.start c.in_ok-start.ensures.opens c.in-Err.e c.with_position_at.result c.in-Err.ensures c.with_position_at.ensures

@@ -8,5 +8,5 @@ pub returns : goal.returns
 returns g c =
     let (at, count) = rw c.in-Some.is at c.in_ok-start.ensures.sound in
     let k = c.key_in-read.ensures in
-    read_key_placed (string_bytes {Z = Global}) every_text (RefusedAsKey string_key) c.args.comma_due c.args.self.now c.advance_to_key.new.self c.key_in-read.new.self at _ c.key_in-read.result c.placed_key.result c.in-Some.start
-    c.in_ok-start.ensures.steady (record { sound = k.sound; complete = k.complete; refused = k.refused; unprompted = k.unprompted; same_text = k.same_text }) count c.placed_key.ensures
+    read_key_placed (string_bytes {Z = Global}) every_text (RefusedAsKey string_key) c.args.comma_due c.args.self.now c.advance_to_key.new.self c.key_in-read.new.self at _ c.key_in-read.result c.positioned_key.result c.in-Some.start
+    c.in_ok-start.ensures.steady (record { sound = k.sound; complete = k.complete; refused = k.refused; unprompted = k.unprompted; same_text = k.same_text }) count c.positioned_key.ensures

@@ -1,6 +1,6 @@
 use Rattle.std.proofs.Common.{sym, ◌∙◌}
 use Rattle.json5_value.proofs.Places.{place_kept, place_given}
-use Rattle.json5_value.proofs.faults.place_at.Goals as goal
+use Rattle.json5_value.proofs.faults.with_position_at.Goals as goal
 
 pub returns-in-Some : goal.returns-in-Some
 returns-in-Some g c = place_kept c.args.scanner.now.input c.args.start c.args.error _ (sym c.position.ensures ∙ c.in-Some.is)
