@@ -108,16 +108,4 @@ module _ {V C : Type 0} (content : V → C) (convert : Tree → Option C) (alloc
       lacks None r d l e = absurd (cc)
       lacks (Some t) r d l e = true_false l.content none
 
--- a string is a variant without content
-pub text_is_unit : (allocation_free : Option Tree → Bool) (refuses : State → Error → State → Type 0) (old : EnumAccessState) (new : State) → old.has_content ≡ false → new ≡ old.reader → ReadsVariant {V = Unit {0}} (λ v. tt) unit_content allocation_free refuses old new (Ok tt)
-text_is_unit allocation_free refuses old new none same = record {
-  read = λ names from n.
-      let took = subst (λ s. TookValue from (text n.name n.escape_free) s) (sym same) (subst (λ b. AfterName b from n.name n.escape_free old.reader) none n.after) in
-      (text n.name n.escape_free, None, took, ap (if_some (λ i. (i, None))) n.place, refl);
-  left = λ c r d l is. refl;
-  no_memory = λ c r d l is f. refl;
-  refused = tt;
-  unprompted = tt;
-  same_text = input_of same;
-  failed = tt;
 }

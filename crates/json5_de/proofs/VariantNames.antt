@@ -213,9 +213,6 @@ next_no_other begins old start w n o =
 next_no_end : (begins : ℕ → Bool) (old start : State) → IsNext begins old start → AtEnd old → ⊥
 next_no_end begins old start n at = end_next old start n.first.char n.first.more at n.passed n.first.split
 
-pub wider_next : {f g : ℕ → Bool} (old start : State) → ((c : ℕ) → f c ≡ true → g c ≡ true) → IsNext f old start → IsNext g old start
-wider_next old start h n = record { passed = n.passed; first = record { char = n.first.char; more = n.first.more; split = n.first.split; is_first = h n.first.char n.first.is_first } }
-
 module _ {A : Type 0} (names : List (List ℕ)) (state_of : A → EnumAccessState) (old : State) where
   -- a name was read
   pub names_read : (a : A) (start : State) → IsNext begins_variant old start → NameRead names old (state_of a) → NamesVariant names state_of old (Ok a)
@@ -277,12 +274,6 @@ took_key_after old mid last u p passed took = record {
 
 -- ---- an object, to its colon and to its end
 
--- the object was opened, and its key and the colon were read
-pub at_content : (old inside keyed now : State) (u : List ℕ) (escape_free : Bool) → PairsRead old no_pair None (bare_map inside false false) → TookKey inside u escape_free keyed → AfterColon keyed now → AtContent old u escape_free now
-at_content old inside keyed now u escape_free read took colon = record {
-  keyed = keyed;
-  key = key_read old (bare_map inside false false) (bare_map keyed false true) no_pair u escape_free (record { live = took.live; key = took.reads; rest = took.rest }) refl refl read;
-  colon = colon;
 }
 
 -- it begins before the gap

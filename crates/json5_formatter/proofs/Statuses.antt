@@ -41,8 +41,3 @@ answers_low (of_files w word name names is k) = works_low k
 answers_low (says_usage other a) = omega arith
 
 -- ---- words that ask for nothing
-
-pub answers_usage : {input output errors written said : Option (List ℕ)} {list : List (String Global)} {n : ℕ} → Answers input output errors list written said n → ¬ (IsRequest list) → n ≡ 2
-answers_usage (of_stream k) unasked = absurd (unasked tt)
-answers_usage (of_files w word name names is k) unasked = absurd (unasked (w, is))
-answers_usage (says_usage other a) unasked = refl

@@ -1,5 +1,5 @@
 -- An object from its front: it is opened, its pairs are read one after another, and it is closed.
-use Rattle.std.proofs.Common.{◌≡◌, ℕ, ◌+◌, ◌≤◌, ◌<◌, max, Bool, true, false, List, [], ◌∷◌, ◌++◌, length, refl, ap, sym, ◌∙◌, append_assoc, arith, length-append, ◌⊎◌, inl, inr, subst}
+use Rattle.std.proofs.Common.{◌≡◌, ℕ, ◌+◌, ◌≤◌, ◌<◌, max, Bool, true, false, List, [], ◌∷◌, ◌++◌, length, refl, ap, sym, ◌∙◌, append_assoc, arith, length-append, inl, inr, subst}
 use Rattle.std.specs.Prelude.{◌==◌}
 use Rattle.std.proofs.lemmas.Bool.{both_ways}
 use Rattle.json5_grammar.specs.Language.Blanks.{Blanks, Gap, is_solid}
@@ -115,16 +115,6 @@ joined_none (pair u p t ps) = ap (pair u p t) (joined_none ps)
 pub pairs_close : (ps : Pairs) (comma_due now : Bool) (x y r : List ℕ) → PairsPassed ps comma_due x now y → IsBrace now y r → PairsTail ps comma_due x r
 pairs_close ps comma_due now x y r p c = subst (λ qs. PairsTail qs comma_due x r) (joined_none ps) (pairs_tail ps no_pair comma_due now x y r p c)
 
--- what a whole object has after the pairs that were passed
-pub pairs_rest : (qs ps : Pairs) (comma_due now : Bool) (x y r : List ℕ) → PairsPassed qs comma_due x now y → PairsTail ps comma_due x r → (ws : Pairs) × (ps ≡ joined_pairs qs ws) × PairsTail ws now y r
-pairs_rest no_pair ps comma_due now x y r (d, s) tl = (ps, refl, subst (λ k. PairsTail ps now k r) s (subst (λ b. PairsTail ps b x r) d tl))
-pairs_rest (pair v m u qs) no_pair comma_due now x y r (g, h, a, e, ok) c = absurd (key_or_brace comma_due x g r v m a c)
-pairs_rest (pair v m u qs) (pair w n t ps) comma_due now x y r (g, h, a, e, ok) (k, z, b, f, tl) =
-    let key = one_key comma_due x k g w v n m b a in
-    let value = one_key_value g z h t u (subst (λ s. IsKeyValue s t z) key.2 f) e in
-    let (ws, same, rest) = pairs_rest qs ps true now h y r ok (subst (λ s. PairsTail ps true s r) value.1 tl) in
-    (ws, pair_same w v n m t u ps (joined_pairs qs ws) key.0 key.1 value.0 same, rest)
-
 -- ---- objects from the front
 
 -- the key and the value of a pair, up to the character after it
@@ -221,19 +211,6 @@ object_reads x y r (pair u escape_free t ps) o tl =
 pub object_closed : (x y z r : List ℕ) (ps : Pairs) (comma_due : Bool) → OpensObject x y → PairsPassed ps false y comma_due z → IsBrace comma_due z r → Reads x (object ps) r
 object_closed x y z r ps comma_due o p c = object_reads x y r ps o (pairs_close ps false comma_due y z r p c)
 
--- what is left of an object that was opened, after the pairs that were passed
-pub object_left : (x y z r : List ℕ) (qs ps : Pairs) (comma_due : Bool) → OpensObject x y → PairsPassed qs false y comma_due z → Reads x (object ps) r → (ws : Pairs) × (ps ≡ joined_pairs qs ws) × PairsTail ws comma_due z r
-object_left x y z r qs ps comma_due o p reads =
-    let (q, b, tl) = object_front x r ps reads in
-    pairs_rest qs ps false comma_due y z r p (subst (λ k. PairsTail ps false k r) (one_opening_brace x q y b o) tl)
-
--- what is left of an object is the closing brace, or a pair and what is left after it
-pub pairs_go : (ps : Pairs) (comma_due : Bool) (x r : List ℕ) → PairsTail ps comma_due x r
-    → ((ps ≡ no_pair) × IsBrace comma_due x r)
-    ⊎ ((u : List ℕ) × (escape_free : Bool) × (t : Tree) × (qs : Pairs) × (y : List ℕ) × (z : List ℕ) × (ps ≡ pair u escape_free t qs) × IsKey comma_due x u escape_free y × IsKeyValue y t z × PairsTail qs true z r)
-pairs_go no_pair comma_due x r c = inl (refl, c)
-pairs_go (pair u escape_free t ps) comma_due x r (y, z, key, value, tl) = inr (u, escape_free, t, ps, y, z, refl, key, value, tl)
-
 -- after a key that was read comes its value, and what is left after that
 pub value_left : (ps : Pairs) (comma_due : Bool) (x y r u : List ℕ) (escape_free : Bool) → IsKey comma_due x u escape_free y → PairsTail ps comma_due x r
     → (t : Tree) × (qs : Pairs) × (z : List ℕ) × (ps ≡ pair u escape_free t qs) × IsKeyValue y t z × PairsTail qs true z r
@@ -262,11 +239,6 @@ key_value_shorter x r t (y, c, p) = let a = sign_shorter 58 x y c in let b = rea
 
 -- ---- depths
 
--- the deepest of joined pairs
-pub pair_depths_joined : (ps qs : Pairs) → pair_depths (joined_pairs ps qs) ≡ max (pair_depths ps) (pair_depths qs)
-pair_depths_joined no_pair qs = omega arith
-pair_depths_joined (pair u p t ps) qs = let rest = pair_depths_joined ps qs in omega (arith, rest)
-
 -- the deepest of the pairs and one more
 pub pair_depths_snoc : (ps : Pairs) (u : List ℕ) (p : Bool) (t : Tree) → pair_depths (snoc_pair ps u p t) ≡ max (pair_depths ps) (depth t)
 pair_depths_snoc no_pair u p t = omega arith
@@ -275,12 +247,3 @@ pair_depths_snoc (pair v m s ps) u p t = let rest = pair_depths_snoc ps u p t in
 -- one more pair of an allowed depth
 pub shallow_snoc_pair : (ps : Pairs) (u : List ℕ) (p : Bool) (t : Tree) (level limit : ℕ) → level + pair_depths ps ≤ limit → level + depth t ≤ limit → level + pair_depths (snoc_pair ps u p t) ≤ limit
 shallow_snoc_pair ps u p t level limit a b = let e = pair_depths_snoc ps u p t in omega (arith, a, b, e)
-
--- a pair's value is no deeper than the deepest
-pub pair_shallow : (ps qs : Pairs) (u : List ℕ) (p : Bool) (t : Tree) → depth t ≤ pair_depths (joined_pairs ps (pair u p t qs))
-pair_shallow ps qs u p t = let e = pair_depths_joined ps (pair u p t qs) in omega (arith, e)
-
--- one more after the others
-pub joined_snoc_pair : (ps qs : Pairs) (u : List ℕ) (p : Bool) (t : Tree) → joined_pairs (snoc_pair ps u p t) qs ≡ joined_pairs ps (pair u p t qs)
-joined_snoc_pair no_pair qs u p t = refl
-joined_snoc_pair (pair v m s ps) qs u p t = ap (pair v m s) (joined_snoc_pair ps qs u p t)

@@ -103,15 +103,6 @@ joined_none (more t ts) = ap (more t) (joined_none ts)
 pub passed_close : (ts : Trees) (comma_due now : Bool) (x y r : List ℕ) → Passed ts comma_due x now y → IsClose now y r → Tail ts comma_due x r
 passed_close ts comma_due now x y r p c = subst (λ us. Tail us comma_due x r) (joined_none ts) (passed_tail ts no_more comma_due now x y r p c)
 
--- what a whole array has after the elements that were passed
-pub passed_rest : (us ts : Trees) (comma_due now : Bool) (x y r : List ℕ) → Passed us comma_due x now y → Tail ts comma_due x r → (vs : Trees) × (ts ≡ joined_trees us vs) × Tail vs now y r
-passed_rest no_more ts comma_due now x y r (d, s) tl = (ts, refl, subst (λ k. Tail ts now k r) s (subst (λ b. Tail ts b x r) d tl))
-passed_rest (more u us) no_more comma_due now x y r (w, e, p) c = absurd (element_or_close comma_due x w r u e c)
-passed_rest (more u us) (more t ts) comma_due now x y r (w, e, p) (z, f, tl) =
-    let one = one_element comma_due x z w t u f e in
-    let (vs, k, rest) = passed_rest us ts true now w y r p (subst (λ k. Tail ts true k r) one.1 tl) in
-    (vs, more_same t u ts (joined_trees us vs) one.0 k, rest)
-
 -- ---- an element or the bracket
 
 -- what is left of an array is the closing bracket, or an element and what is left after it
@@ -153,11 +144,6 @@ element_shorter false x r t p = reads_shorter x r t p
 element_shorter true x r t (y, c, p) = let a = sign_shorter 44 x y c in let b = reads_shorter y r t p in omega (arith, a, b)
 
 -- ---- depths
-
--- the deepest of joined elements
-pub depths_joined : (ts us : Trees) → depths (joined_trees ts us) ≡ max (depths ts) (depths us)
-depths_joined no_more us = omega arith
-depths_joined (more t ts) us = let rest = depths_joined ts us in omega (arith, rest)
 
 -- the deepest of the elements and one more
 pub depths_snoc : (ts : Trees) (t : Tree) → depths (snoc ts t) ≡ max (depths ts) (depth t)

@@ -107,10 +107,6 @@ low_digits (d ∷ ds) (negsuc k) (char h hs) =
     let j = suc k in
     low_by (nat_lt j n) (take (n - j) (d ∷ ds) ++ 46 ∷ drop (n - j) (d ∷ ds)) (48 ∷ 46 ∷ (zeros (j - n) ++ (d ∷ ds))) (low_take (n - j) d ds (drop (n - j) (d ∷ ds)) h) refl
 
-low_sign : (m : Bool) (t : List ℕ) → low_head t ≡ true → low_head (sign_text m ++ t) ≡ true
-low_sign true t h = refl
-low_sign false t h = h
-
 -- infinity and not-a-number without a minus, and no other
 pub decimal_name : (d : Decimal) → Normal d → is_name (decimal_text d) ≡ (not (has_minus d) && (is_infinity d || is_not_a_number d))
 decimal_name (infinite true) n = no_name_from (decimal_text (infinite true)) refl

@@ -48,6 +48,3 @@ variant_opened u sign o m n k j r p deeper q c w =
     Reaches-last (variant_opening o.limit u sign d) (opened_by o.limit (d + 1) sign) o (at_depth d k) (at_depth d j) r
     (Reaches-next (variant_opening o.limit u sign d) (piece (colon_sign ∷ space ∷ [])) (opened_by o.limit (d + 1) sign) o (at_depth d n) (at_depth d k) (before_colon u sign o m n p deeper q) (Wrote-at d (piece (colon_sign ∷ space ∷ [])) n k c))
     (bracket_at sign d m.depth o.limit k j r deeper (c.depth ∙ q.depth) (c.limit ∙ (q.limit ∙ p.limit)) w)
-
-pub two_deeper : (d : ℕ) (m n k j : ℕ) → m ≡ d + 1 → n ≡ m → k ≡ n → j ≡ k + 1 → j ≡ d + 1 + 1
-two_deeper d m n k j a b c e = e ∙ subst (λ i. k + 1 ≡ i + 1) (c ∙ (b ∙ a)) refl
