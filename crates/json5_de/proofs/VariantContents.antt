@@ -107,5 +107,3 @@ module _ {V C : Type 0} (content : V → C) (convert : Tree → Option C) (alloc
       lacks : (c : Option Tree) (r : List ℕ) (d : C) → ContentLeft c r old → content_of convert c ≡ Some d → ⊥
       lacks None r d l e = absurd (cc)
       lacks (Some t) r d l e = true_false l.content none
-
-}

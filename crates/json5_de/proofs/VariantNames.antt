@@ -274,8 +274,6 @@ took_key_after old mid last u p passed took = record {
 
 -- ---- an object, to its colon and to its end
 
-}
-
 -- it begins before the gap
 pub content_after : (old mid now : State) (u : List ℕ) (escape_free : Bool) → PassedGap old mid → AtContent mid u escape_free now → AtContent old u escape_free now
 content_after old mid now u escape_free p at = record { keyed = at.keyed; key = from_gap; colon = at.colon }

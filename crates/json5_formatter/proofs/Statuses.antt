@@ -39,5 +39,3 @@ pub answers_low : {input output errors written said : Option (List ℕ)} {list :
 answers_low (of_stream k) = stream_low k
 answers_low (of_files w word name names is k) = works_low k
 answers_low (says_usage other a) = omega arith
-
--- ---- words that ask for nothing
