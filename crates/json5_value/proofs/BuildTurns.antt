@@ -33,7 +33,7 @@ room_within room fs f = omega (arith, length-append fs (f ∷ []))
 
 module _ (m : ℕ → Read Datum) (at : ℕ) (comma_due : Bool) (fs : List Unfinished) (old : Cursor) where
   -- a value of it comes next
-  turn_goes : (after : List Unfinished) (f : Unfinished) (new : Cursor) (s : List ℕ) → at ≡ start_of f → Took old s new → ((d : ℕ) → m d ≡ and_then (datum_at d new) (value_in f d)) → after ≡ fs ++ f ∷ [] → (comma_due ≡ true → length new.unread < length old.unread)
+  pub turn_goes : (after : List Unfinished) (f : Unfinished) (new : Cursor) (s : List ℕ) → at ≡ start_of f → Took old s new → ((d : ℕ) → m d ≡ and_then (datum_at d new) (value_in f d)) → after ≡ fs ++ f ∷ [] → (comma_due ≡ true → length new.unread < length old.unread)
       → TurnsBuildingInside m at comma_due fs after old new (Ok None)
   turn_goes after f new s is took reads grown less = record {
     goes = λ room w q h. subst (λ z. Building room w z None new) (sym grown)
@@ -46,7 +46,7 @@ module _ (m : ℕ → Read Datum) (at : ℕ) (comma_due : Bool) (fs : List Unfin
   }
 
   -- it ended
-  turn_closed : (new : Cursor) (v : Value) (s : List ℕ) → Took old s new → ((d : ℕ) → m d ≡ got (value_of v) new.unread) → (comma_due ≡ true → length new.unread < length old.unread) → TurnsBuildingInside m at comma_due fs fs old new (Ok (Some v))
+  pub turn_closed : (new : Cursor) (v : Value) (s : List ℕ) → Took old s new → ((d : ℕ) → m d ≡ got (value_of v) new.unread) → (comma_due ≡ true → length new.unread < length old.unread) → TurnsBuildingInside m at comma_due fs fs old new (Ok (Some v))
   turn_closed new v s took reads less = record {
     goes = λ room w q h. closed start_of value_in room old w (m (room - length fs - 1)) fs at q h new (value_of v) s took (reads (room - length fs - 1));
     refused = tt;

@@ -18,3 +18,5 @@ pub mod BuildKeys
 pub mod BuildScalars
 pub mod BuildTurns
 pub mod BuildValues
+pub mod ShortValues
+pub mod ShortBuilds

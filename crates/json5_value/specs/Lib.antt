@@ -10,3 +10,4 @@ pub mod Short
 pub mod Data
 pub mod Keeping
 pub mod BuildSteps
+pub mod ShortValues

@@ -9,5 +9,6 @@ pub mod faults;
 pub mod kinds;
 pub mod read;
 mod short;
+mod short_values;
 pub mod skip;
 pub mod tokens;

@@ -8,6 +8,7 @@ ghost use Rattle.json5_value.specs.Steps.{IsInside};
 use crate::brackets::{BracketKind, OpenBracket, open_bracket};
 use crate::entries::skip_to_value;
 use crate::faults::with_position_at;
+use crate::short_values::{ShortElements, short_elements};
 use crate::tokens::{next_member_key, read_scalar};
 use json5_text::ErrorCode;
 use json5_text::error::{Error, Result};
@@ -86,8 +87,35 @@ fn with_innermost_position<I: Input>(
     }
 }
 
-/// Continues an array with these elements: goes to the next element and pushes the array; or the array ends and is returned.
+/// Continues an array with these elements: goes to the next element that has no short way and pushes the array; or the array
+/// ends and is returned.
 fn resume_array<I: Input>(
+    scanner: &mut Scanner<I>,
+    stack: &mut Vec<Unfinished>,
+    start: usize,
+    elements: Vec<Value>,
+    comma_due: bool,
+) -> Result<Option<Value>>
+    requires { IsInside scanner.old }
+    ensures { TurnsBuildingInside (array_at elements.items comma_due scanner.old) start comma_due stack.old.items stack.new.items scanner.old scanner.new result }
+{
+    let mut elements = elements;
+    match short_elements(scanner, &mut elements, comma_due) {
+        ShortElements::Value => {
+            stack.push(Unfinished::Array { start, elements })?;
+            Ok(None)
+        }
+        ShortElements::Closed => Ok(Some(Value::Array(elements))),
+        ShortElements::Within { comma_due } => {
+            resume_array_slowly(scanner, stack, start, elements, comma_due)
+        }
+        ShortElements::NoMemory => Err(Error::new(ErrorCode::OutOfMemory)),
+    }
+}
+
+/// The same, up to the next element, whatever is in front of it.
+#[inline(never)]
+fn resume_array_slowly<I: Input>(
     scanner: &mut Scanner<I>,
     stack: &mut Vec<Unfinished>,
     start: usize,

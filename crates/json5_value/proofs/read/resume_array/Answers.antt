@@ -1,13 +1,20 @@
-use Rattle.json5_value.proofs.BuildTurns.{array_goes_on, array_closed, array_refused}
+use Rattle.json5_value.specs.BuildSteps.{array_at}
+use Rattle.json5_value.proofs.ShortBuilds.{turn_left, element_next, elements_end}
+use Rattle.json5_value.proofs.Steps.{ready_after}
 use Rattle.json5_value.proofs.read.resume_array.Goals as goal
 
-pub returns-in_ok-push-in-Ok-true : goal.returns-in_ok-push-in-Ok-true
-returns-in_ok-push-in-Ok-true g c =
-    array_goes_on c.args.elements c.args.start c.args.comma_due c.args.stack.now.items c.args.scanner.now c.in-Ok-true.field-0 c.push.new.self.items c.skip_to_value.new.scanner c.in-Ok-true.field-0-test c.in-Ok-true.ensures.given c.in_ok-push-in-Ok-true.ensures.items
+pub returns-in_ok-push-in-Value : goal.returns-in_ok-push-in-Value
+returns-in_ok-push-in-Value g c =
+    element_next c.args.elements.items c.short_elements.new.elements c.args.start c.args.comma_due c.args.stack.now.items c.args.scanner.now c.short_elements.new.scanner c.push.new.self.items (rw c.in-Value.is at c.short_elements.ensures) c.in_ok-push-in-Value.ensures.items
 
-pub returns-in-Ok-false : goal.returns-in-Ok-false
-returns-in-Ok-false g c =
-    array_closed c.args.elements c.args.start c.args.comma_due c.args.stack.now.items c.args.scanner.now c.in-Ok-false.field-0 c.skip_to_value.new.scanner c.in-Ok-false.field-0-test c.in-Ok-false.ensures.given
+pub returns-in-Closed : goal.returns-in-Closed
+returns-in-Closed g c = elements_end c.args.elements.items c.short_elements.new.elements c.args.start c.args.comma_due c.args.stack.now.items c.args.scanner.now c.short_elements.new.scanner (rw c.in-Closed.is at c.short_elements.ensures)
 
-pub returns-in-Err : goal.returns-in-Err
-returns-in-Err g c = array_refused c.args.elements c.args.start c.args.comma_due c.args.stack.now.items c.args.scanner.now c.args.stack.now.items c.skip_to_value.new.scanner c.in-Err.e c.with_position_at.result c.in-Err.ensures.refused c.in-Err.ensures.same_text c.with_position_at.ensures
+pub resume_array_slowly-requires : goal.resume_array_slowly-requires
+resume_array_slowly-requires g c = let (l, due) = rw c.in-Within.is at c.short_elements.ensures in ready_after c.args.scanner.now c.short_elements.new.scanner l.taken c.requires l.took
+
+pub returns-in-Within : goal.returns-in-Within
+returns-in-Within g c =
+    let (l, due) = rw c.in-Within.is at c.short_elements.ensures in
+    turn_left (array_at c.args.elements.items c.args.comma_due c.args.scanner.now) (array_at c.short_elements.new.elements.items c.in-Within.comma_due c.short_elements.new.scanner) c.args.start c.args.comma_due c.in-Within.comma_due c.args.stack.now.items
+    c.resume_array_slowly.new.stack.items c.args.scanner.now c.short_elements.new.scanner c.resume_array_slowly.new.scanner l due c.resume_array_slowly.result c.resume_array_slowly.ensures
