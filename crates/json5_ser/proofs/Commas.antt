@@ -1,6 +1,6 @@
 -- Members that lack the comma after them, and what remains to be written of their collection.
-use Rattle.std.proofs.Common.{◌≡◌, ℕ, ◌+◌, ◌-◌, List, [], ◌∷◌, Bool, true, false, Result, refl, sym, ap, ◌∙◌, subst, arith}
-use Rattle.std.specs.Result.{IsErrAnd}
+use Rattle.std.proofs.Common.{◌≡◌, ℕ, ◌+◌, ◌-◌, List, [], ◌∷◌, Bool, true, false, Result, Ok, Err, refl, sym, ap, ◌∙◌, subst, arith}
+use Rattle.std.specs.Result.{is_err, IsErrAnd}
 use Rattle.json5_text.specs.declared.error.Error.{Error}
 use Rattle.json5_grammar.specs.Language.Characters.{comma_sign, colon_sign, space}
 use Rattle.json5_ser.specs.WrittenTrees.{WrittenKey, Written, Elements, element, no_element, Fields, field, no_field}
@@ -76,7 +76,7 @@ element_line_on {all} {at} {s} {n} t ts due h p =
     left_next all (comma_before due (element_line at.limit (at.depth + 1) t)) (elements_left at.limit ts at.depth true) at s n
     (subst (Left all at s) (next_element at.limit at.depth due t ts) h) (moved (λ l d. Wrote (comma_before due (element_line l d t)) s n) at s h.depth h.limit p)
 
-pub element_line_refused : {A : Type 0} {all : Out} {at s n : SerializerState} {e : Error} (t : Written) (ts : Elements) (r : Result A Error) (due : Bool) → Left all at s (elements_left at.limit (element t ts) at.depth due)
+element_line_refused : {A : Type 0} {all : Out} {at s n : SerializerState} {e : Error} (t : Written) (ts : Elements) (r : Result A Error) (due : Bool) → Left all at s (elements_left at.limit (element t ts) at.depth due)
     → RefusesWrite (comma_before due (element_line s.limit s.depth t)) s e n → IsErrAnd r (λ y. y ≡ e) → Writes all at r n
 element_line_refused {A} {all} {at} {s} {n} {e} t ts r due h p is =
     left_exit all (comma_before due (element_line at.limit (at.depth + 1) t)) (elements_left at.limit ts at.depth true) at s n e r
@@ -87,11 +87,22 @@ member_line_on {all} {at} {s} {n} k t fs due h p =
     left_next all (comma_before due (member_line at.limit (at.depth + 1) k t)) (fields_left at.limit fs at.depth true) at s n
     (subst (Left all at s) (next_field at.limit at.depth due k t fs) h) (moved (λ l d. Wrote (comma_before due (member_line l d k t)) s n) at s h.depth h.limit p)
 
-pub member_line_refused : {A : Type 0} {all : Out} {at s n : SerializerState} {e : Error} (k : WrittenKey) (t : Written) (fs : Fields) (r : Result A Error) (due : Bool) → Left all at s (fields_left at.limit (field k t fs) at.depth due)
+member_line_refused : {A : Type 0} {all : Out} {at s n : SerializerState} {e : Error} (k : WrittenKey) (t : Written) (fs : Fields) (r : Result A Error) (due : Bool) → Left all at s (fields_left at.limit (field k t fs) at.depth due)
     → RefusesWrite (comma_before due (member_line s.limit s.depth k t)) s e n → IsErrAnd r (λ y. y ≡ e) → Writes all at r n
 member_line_refused {A} {all} {at} {s} {n} {e} k t fs r due h p is =
     left_exit all (comma_before due (member_line at.limit (at.depth + 1) k t)) (fields_left at.limit fs at.depth true) at s n e r
     (subst (Left all at s) (next_field at.limit at.depth due k t fs) h) is (moved (λ l d. RefusesWrite (comma_before due (member_line l d k t)) s e n) at s h.depth h.limit p)
+
+-- a result that is returned since it is an error
+pub element_line_returned : {A : Type 0} {all : Out} {at s : SerializerState} (n : SerializerState) (t : Written) (ts : Elements) (r : Result A Error) (due : Bool) → Left all at s (elements_left at.limit (element t ts) at.depth due)
+    → Writes (comma_before due (element_line s.limit s.depth t)) s r n → is_err r ≡ true → Writes all at r n
+element_line_returned {A} {all} {at} {s} n t ts (Ok x) due h p is = let f : false ≡ true = is in cc
+element_line_returned {A} {all} {at} {s} n t ts (Err e) due h p is = element_line_refused {A = A} t ts (Err e) due h p refl
+
+pub member_line_returned : {A : Type 0} {all : Out} {at s : SerializerState} (n : SerializerState) (k : WrittenKey) (t : Written) (fs : Fields) (r : Result A Error) (due : Bool) → Left all at s (fields_left at.limit (field k t fs) at.depth due)
+    → Writes (comma_before due (member_line s.limit s.depth k t)) s r n → is_err r ≡ true → Writes all at r n
+member_line_returned {A} {all} {at} {s} n k t fs (Ok x) due h p is = let f : false ≡ true = is in cc
+member_line_returned {A} {all} {at} {s} n k t fs (Err e) due h p is = member_line_refused {A = A} k t fs (Err e) due h p refl
 
 pub left_ended : {A : Type 0} {all : Out} {at s : SerializerState} (sign : ℕ) (n : SerializerState) (r : Result A Error) (due : Bool) → Left all at s (comma_before due (closed_by at.depth due sign))
     → Writes (comma_before due (closed_by (s.depth - 1) due sign)) (after_closing s) r n → Writes all at r n

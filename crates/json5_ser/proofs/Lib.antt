@@ -1,5 +1,6 @@
 pub mod Joins
 pub mod PiecesWritten
+pub mod PutsJoined
 pub mod TextsWhole
 pub mod QuotesFound
 pub mod EscapesSplit

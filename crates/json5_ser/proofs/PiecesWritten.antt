@@ -1,13 +1,24 @@
 -- What is written by one piece.
 use Rattle.std.proofs.Common.{◌≡◌, ℕ, List, [], ◌∷◌, ◌++◌, true, false, refl, sym, ap, ◌∙◌, subst}
+use Rattle.std.specs.Prelude.{Option, Result, Ok, Err}
+use Rattle.std.specs.Result.{is_ok}
 use Rattle.std.specs.Str.{IsUtf8, IsAscii, chars}
 use Rattle.std.proofs.lemmas.Str.{encodes-chars, scalars-chars, chars-IsAscii}
 use Rattle.std.specs.Io.KnownBytes.{Appends}
 use Rattle.json5_grammar.specs.Language.Values.{null_text, true_text, false_text}
 use Rattle.json5_grammar.specs.Written.Quoting.{quote_for, escaped_all, quoted_text}
 use Rattle.json5_ser.specs.Out.{piece, ◌then◌}
-use Rattle.json5_ser.specs.Pieces.{AppendsFront}
+use Rattle.json5_ser.specs.Pieces.{AppendsFront, Pushes}
 use Rattle.json5_ser.specs.Writes.{SerializerState, Wrote, Broke}
+
+-- what became of the bytes, by whether all were taken
+pub pushed_whole : {A E : Type 0} (old new : Option (List ℕ)) (bytes : List ℕ) (r : Result A E) → is_ok r ≡ true → Pushes old new bytes r → Appends old new bytes
+pushed_whole old new bytes (Ok x) h p = p
+pushed_whole old new bytes (Err e) h p = let f : false ≡ true = h in cc
+
+pub pushed_front : {A E : Type 0} (old new : Option (List ℕ)) (bytes : List ℕ) (r : Result A E) → is_ok r ≡ false → Pushes old new bytes r → AppendsFront old new bytes
+pushed_front old new bytes (Ok x) h p = let f : true ≡ false = h in cc
+pushed_front old new bytes (Err e) h p = p
 
 pub wrote_piece : (t : List ℕ) (o n : SerializerState) → IsUtf8 t → o.failed ≡ false → n.failed ≡ false → n.depth ≡ o.depth → n.limit ≡ o.limit → Appends o.known n.known t → Wrote (piece (chars t)) o n
 wrote_piece t o n u was failed depth limit p =

@@ -5,6 +5,7 @@ pub mod Commas
 pub mod Marks
 pub mod Writes
 pub mod Pieces
+pub mod Puts
 pub mod Named
 pub mod Texts
 pub mod Quotes

@@ -17,6 +17,7 @@ mod maps;
 mod names;
 pub mod output;
 mod quoting;
+mod refused;
 mod serialize;
 mod serializer;
 mod stage;

@@ -26,7 +26,10 @@ fn write_items<T: Serialize, W: Write + Drop>(items: &[T], ser: &mut Serializer<
     ser.open(Brackets::Square)?;
     let mut comma_due = false;
     for item in items {
-        ser.element_line(comma_due, item)?;
+        let written = ser.element_line(comma_due, item);
+        if written.is_err() {
+            return written;
+        }
         comma_due = true;
     }
     ser.close_after(comma_due, Brackets::Square)

@@ -18,7 +18,10 @@ impl<K: SerializeKey + Ord, V: Serialize> Serialize for BTreeMap<K, V> {
         ser.open(Brackets::Curly)?;
         let mut comma_due = false;
         for (key, value) in self {
-            ser.member_line(comma_due, key, value)?;
+            let written = ser.member_line(comma_due, key, value);
+            if written.is_err() {
+                return written;
+            }
             comma_due = true;
         }
         ser.close_after(comma_due, Brackets::Curly)
@@ -35,7 +38,10 @@ impl<K: SerializeKey + Eq + Hash, V: Serialize> Serialize for IndexMap<K, V> {
         ser.open(Brackets::Curly)?;
         let mut comma_due = false;
         for (key, value) in self {
-            ser.member_line(comma_due, key, value)?;
+            let written = ser.member_line(comma_due, key, value);
+            if written.is_err() {
+                return written;
+            }
             comma_due = true;
         }
         ser.close_after(comma_due, Brackets::Curly)

@@ -14,6 +14,7 @@ use std::io::{self, ErrorKind, Write};
 ///
 /// It ends at the first call of `write` that returns an error, `Interrupted` too, or takes nothing (`WriteZero`), and makes no
 /// further call. Then a prefix of the bytes was written.
+#[inline(always)]
 pub fn write_whole<W: Write>(writer: &mut W, bytes: &[u8]) -> io::Result<()>
     ensures { Pushes (W.contents writer.old) (W.contents writer.new) bytes.now result }
 {

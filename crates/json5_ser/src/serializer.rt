@@ -10,6 +10,7 @@ ghost use Rattle.json5_text.specs.Errors.{code, kind_of, error_position};
 ghost use Rattle.json5_grammar.specs.Faults.Fronts.{opening, closing};
 ghost use Rattle.json5_ser.specs.Brackets.{bracket_of};
 ghost use Rattle.json5_ser.specs.Commas.{comma_before, closed_after};
+ghost use Rattle.json5_ser.specs.Puts.{Puts};
 ghost use Rattle.json5_ser.specs.Stages.{is_started};
 ghost use Rattle.json5_ser.specs.Writes.{SerializerState, Writes, WritesTree, fresh, fresh_within, at_depth, after_closing};
 
@@ -20,6 +21,7 @@ use crate::brackets::Brackets;
 use crate::escape_free::is_escape_free;
 use crate::lines::line;
 use crate::output::write_whole;
+use crate::refused::{Put, Refused};
 use crate::stage::Stage;
 use json5_text::ErrorCode;
 use json5_text::error::{Error, Result};
@@ -123,6 +125,8 @@ impl<W: Write + Drop> Serializer<W> {
     }
 
     /// Refuses with this code, now and with `Failed` from now on.
+    #[cold]
+    #[inline(never)]
     pub(crate) fn refuse<T>(&mut self, code: ErrorCode) -> Result<T>
         ensures invalid_key { code ≡ codes.InvalidKey → Writes (stopped invalid_key) self.old result self.new }
         ensures too_deep { code ≡ codes.TooDeep → Writes (stopped too_deep) self.old result self.new }
@@ -133,20 +137,28 @@ impl<W: Write + Drop> Serializer<W> {
         Err(Error::new(code))
     }
 
+    /// Writes a piece, unless a call was refused before.
+    #[inline(always)]
+    pub(crate) fn put_short(&mut self, text: &str) -> Put
+        ensures { Puts (piece (chars text.now)) self.old result self.new }
+    {
+        if self.failed {
+            return Err(Refused::Before);
+        }
+        if write_whole(&mut self.writer, text.as_bytes()).is_ok() {
+            return Ok(());
+        }
+        self.failed = true;
+        Err(Refused::ByWriter)
+    }
+
     /// Writes a piece; returns `Failed` if a call was refused before.
+    #[inline(always)]
     pub(crate) fn put(&mut self, text: &str) -> Result<()>
         ensures { Writes (piece (chars text.now)) self.old result self.new }
     {
-        if self.failed {
-            return Err(Error::new(ErrorCode::Failed));
-        }
-        match write_whole(&mut self.writer, text.as_bytes()) {
-            Ok(()) => Ok(()),
-            Err(e) => {
-                self.failed = true;
-                Err(Error::from(e))
-            }
-        }
+        self.put_short(text)?;
+        Ok(())
     }
 
     /// Writes `null`.
@@ -176,10 +188,10 @@ impl<W: Write + Drop> Serializer<W> {
     }
 
     /// Starts the line of a member, or of the bracket that closes, after a comma where one is due.
-    pub(crate) fn start_line(&mut self, comma_due: bool) -> Result<()>
-        ensures { Writes (comma_before comma_due (piece (line self.old.depth))) self.old result self.new }
+    pub(crate) fn start_line(&mut self, comma_due: bool) -> Put
+        ensures { Puts (comma_before comma_due (piece (line self.old.depth))) self.old result self.new }
     {
-        self.put(line(comma_due, self.depth))
+        self.put_short(line(comma_due, self.depth))
     }
 
     /// Opens a collection.
@@ -190,7 +202,7 @@ impl<W: Write + Drop> Serializer<W> {
         if self.depth >= self.limit.get() {
             return self.refuse(ErrorCode::TooDeep);
         }
-        self.put(brackets.opening())?;
+        self.put_short(brackets.opening())?;
         self.depth += 1;
         Ok(())
     }

@@ -37,7 +37,10 @@ fn write_fields<W: Write + Drop>(fields: &[(String, Value)], ser: &mut Serialize
     ser.open(Brackets::Curly)?;
     let mut comma_due = false;
     for (key, value) in fields {
-        ser.member_line(comma_due, key, value)?;
+        let written = ser.member_line(comma_due, key, value);
+        if written.is_err() {
+            return written;
+        }
         comma_due = true;
     }
     ser.close_after(comma_due, Brackets::Curly)

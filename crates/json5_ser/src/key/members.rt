@@ -25,7 +25,10 @@ impl<W: Write + Drop> Serializer<W> {
     pub(crate) fn entry<K: SerializeKey, T: Serialize>(&mut self, key: &K, value: &T) -> Result<()>
         ensures { Writes (entry_out self.old.limit self.old.depth (K.as_key key.now) (T.tree value.now)) self.old result self.new }
     {
-        self.key(key)?;
+        let written = self.key(key);
+        if written.is_err() {
+            return written;
+        }
         self.value(value)
     }
 
@@ -50,8 +53,11 @@ impl<W: Write + Drop> Serializer<W> {
         ensures { Writes (comma_before comma_due (member_line self.old.limit self.old.depth (K.as_key key.now) (T.tree value.now))) self.old result self.new }
     {
         self.start_line(comma_due)?;
-        key.serialize_key(MapKey { ser: self })?;
-        self.put(": ")?;
+        let written = key.serialize_key(MapKey { ser: self });
+        if written.is_err() {
+            return written;
+        }
+        self.put_short(": ")?;
         value.serialize(self)
     }
 
@@ -59,8 +65,11 @@ impl<W: Write + Drop> Serializer<W> {
     pub(crate) fn value<T: Serialize>(&mut self, value: &T) -> Result<()>
         ensures { Writes (value_part (out self.old.limit (T.tree value.now) self.old.depth)) self.old result self.new }
     {
-        self.put(": ")?;
-        value.serialize(self)?;
+        self.put_short(": ")?;
+        let written = value.serialize(self);
+        if written.is_err() {
+            return written;
+        }
         self.put(",")
     }
 }

@@ -34,8 +34,8 @@ impl<W: Write + Drop> Serializer<W> {
     fn put_escape_free(&mut self, text: &str) -> Result<()>
         ensures { Writes (piece (double_quote ∷ chars text.now ++ double_quote ∷ [])) self.old result self.new }
     {
-        self.put("\"")?;
-        self.put(text)?;
+        self.put_short("\"")?;
+        self.put_short(text)?;
         self.put("\"")
     }
 

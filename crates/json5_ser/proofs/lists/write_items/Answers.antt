@@ -1,9 +1,10 @@
-use Rattle.std.proofs.Common.{rules, ◌<◌, ◌≤◌, ◌+◌, false, length, drop, ap, drop_of_length-le}
+use Rattle.std.proofs.Common.{rules, ◌<◌, ◌≤◌, ◌+◌, false, length, drop, sym, ap, drop_of_length-le}
 use Rattle.json5_grammar.specs.Language.Characters.{left_bracket, right_bracket}
 use Rattle.json5_ser.specs.WrittenTrees.{elements_of}
 use Rattle.json5_ser.specs.Out.{elements_out}
 use Rattle.json5_ser.proofs.Members.{item_first}
-use Rattle.json5_ser.proofs.Commas.{open_refused, left_first, elements_as, element_line_on, element_line_refused, left_ended}
+use Rattle.json5_ser.proofs.Commas.{open_refused, left_first, elements_as, element_line_on, element_line_returned, left_ended}
+use Rattle.json5_ser.proofs.PutsJoined.{wrote_whole}
 use Rattle.json5_ser.proofs.lists.write_items.Goals as goal
 
 pub returns-in_err-open : goal.returns-in_err-open
@@ -14,17 +15,17 @@ returns-in_err-open g c =
 pub loop-item-init : goal.loop-item-init
 loop-item-init g c = record { left = left_first left_bracket _ _ _ c.in_ok-open.ensures.opens c.in_ok-open.ensures.deeper }
 
-pub returns-in_err-element_line : goal.returns-in_err-element_line
-returns-in_err-element_line g c =
+pub returns-then-is_err : goal.returns-then-is_err
+returns-then-is_err g c =
     let left : c.loop-item.item-index < length c.args.items.now = search rules in
     let next = elements_as c.loop-item.comma_due (ap (elements_of g.T.Serialize.tree) (item_first c.args.items.now c.loop-item.item-index c.item-item.result left c.item-item.is)) c.loop-item.invariant.left in
-    element_line_refused _ _ _ c.loop-item.comma_due next c.in_err-element_line.ensures c.from_residual-in_err-element_line.ensures.1
+    element_line_returned _ _ _ _ c.loop-item.comma_due next c.element_line-written.ensures (sym c.if-is_err.ensures.value)
 
 pub loop-item-preserved : goal.loop-item-preserved
 loop-item-preserved g c =
     let left : c.loop-item.item-index < length c.args.items.now = search rules in
     let next = elements_as c.loop-item.comma_due (ap (elements_of g.T.Serialize.tree) (item_first c.args.items.now c.loop-item.item-index c.item-item.result left c.item-item.is)) c.loop-item.invariant.left in
-    record { left = element_line_on _ _ c.loop-item.comma_due next c.in_ok-element_line.ensures }
+    record { left = element_line_on _ _ c.loop-item.comma_due next (wrote_whole _ _ _ _ (sym c.if-is_err.ensures.value) c.element_line-written.ensures) }
 
 pub returns : goal.returns
 returns g c =

@@ -6,7 +6,8 @@ use Rattle.json5_ser.specs.ValueTrees.{value_tree, key_of_string}
 use Rattle.json5_ser.specs.Writes.{WritesTree}
 use Rattle.json5_ser.specs.Out.{fields_out}
 use Rattle.json5_grammar.specs.Language.Characters.{left_brace, right_brace}
-use Rattle.json5_ser.proofs.Commas.{open_refused, left_first, fields_as, member_line_on, member_line_refused, left_ended}
+use Rattle.json5_ser.proofs.Commas.{open_refused, left_first, fields_as, member_line_on, member_line_returned, left_ended}
+use Rattle.json5_ser.proofs.PutsJoined.{wrote_whole}
 use Rattle.json5_ser.proofs.ValuesInside.{tree-String, tree-Array, tree-Object}
 use Rattle.json5_ser.proofs.value.+tree.Goals as goal
 
@@ -29,17 +30,17 @@ write_fields-returns-in_err-open g t c =
 pub write_fields-loop-key-init : goal.write_fields-loop-key-init
 write_fields-loop-key-init g t c = record { left = left_first left_brace _ _ _ c.in_ok-open.ensures.opens c.in_ok-open.ensures.deeper }
 
-pub write_fields-returns-in_err-member_line : goal.write_fields-returns-in_err-member_line
-write_fields-returns-in_err-member_line g t c =
+pub write_fields-returns-then-is_err : goal.write_fields-returns-then-is_err
+write_fields-returns-then-is_err g t c =
     let left : c.loop-key.key-index < length c.args.fields.now = search rules in
     let next = fields_as c.loop-key.comma_due (ap (fields_of key_of_string value_tree) (from_here c.args.fields.now c.loop-key.key-index c.loop-key-item.result left c.loop-key-item.is)) c.loop-key.invariant.left in
-    member_line_refused (key_of_string c.loop-key-item.result.0) (value_tree c.loop-key-item.result.1) (fields_of key_of_string value_tree (drop (c.loop-key.key-index + 1) c.args.fields.now)) _ c.loop-key.comma_due next c.in_err-member_line.ensures c.from_residual-in_err-member_line.ensures.1
+    member_line_returned _ (key_of_string c.loop-key-item.result.0) (value_tree c.loop-key-item.result.1) (fields_of key_of_string value_tree (drop (c.loop-key.key-index + 1) c.args.fields.now)) _ c.loop-key.comma_due next c.member_line-written.ensures (sym c.if-is_err.ensures.value)
 
 pub write_fields-loop-key-preserved : goal.write_fields-loop-key-preserved
 write_fields-loop-key-preserved g t c =
     let left : c.loop-key.key-index < length c.args.fields.now = search rules in
     let next = fields_as c.loop-key.comma_due (ap (fields_of key_of_string value_tree) (from_here c.args.fields.now c.loop-key.key-index c.loop-key-item.result left c.loop-key-item.is)) c.loop-key.invariant.left in
-    record { left = member_line_on (key_of_string c.loop-key-item.result.0) (value_tree c.loop-key-item.result.1) (fields_of key_of_string value_tree (drop (c.loop-key.key-index + 1) c.args.fields.now)) c.loop-key.comma_due next c.in_ok-member_line.ensures }
+    record { left = member_line_on (key_of_string c.loop-key-item.result.0) (value_tree c.loop-key-item.result.1) (fields_of key_of_string value_tree (drop (c.loop-key.key-index + 1) c.args.fields.now)) c.loop-key.comma_due next (wrote_whole _ _ _ _ (sym c.if-is_err.ensures.value) c.member_line-written.ensures) }
 
 pub write_fields-returns : goal.write_fields-returns
 write_fields-returns g t c =

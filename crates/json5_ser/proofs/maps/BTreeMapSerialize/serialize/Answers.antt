@@ -2,7 +2,8 @@ use Rattle.std.proofs.Common.{sym, ap, ◌≡◌, false}
 use Rattle.json5_grammar.specs.Language.Characters.{left_brace, right_brace}
 use Rattle.json5_ser.specs.WrittenTrees.{fields_of}
 use Rattle.json5_ser.specs.Out.{fields_out}
-use Rattle.json5_ser.proofs.Commas.{open_refused, left_first, fields_as, member_line_on, member_line_refused, left_ended}
+use Rattle.json5_ser.proofs.Commas.{open_refused, left_first, fields_as, member_line_on, member_line_returned, left_ended}
+use Rattle.json5_ser.proofs.PutsJoined.{wrote_whole}
 use Rattle.json5_ser.proofs.maps.BTreeMapSerialize.serialize.Goals as goal
 
 pub returns-in_err-open : goal.returns-in_err-open
@@ -15,15 +16,15 @@ loop-key-init g c =
     let all : c.into_iter-key-iterator.result ≡ c.args.self.now.entries = c.into_iter-key-iterator.ensures.into_iter_gives.0 in
     record { left = fields_as false (ap (fields_of g.K.SerializeKey.as_key g.V.Serialize.tree) (sym all)) (left_first left_brace _ _ _ c.in_ok-open.ensures.opens c.in_ok-open.ensures.deeper) }
 
-pub returns-in_err-member_line : goal.returns-in_err-member_line
-returns-in_err-member_line g c =
+pub returns-then-is_err : goal.returns-then-is_err
+returns-then-is_err g c =
     let next = fields_as c.loop-key.comma_due (ap (fields_of g.K.SerializeKey.as_key g.V.Serialize.tree) c.in-Some.ensures.steps) c.loop-key.invariant.left in
-    member_line_refused _ _ _ _ c.loop-key.comma_due next c.in_err-member_line.ensures c.from_residual-in_err-member_line.ensures.1
+    member_line_returned _ _ _ _ _ c.loop-key.comma_due next c.member_line-written.ensures (sym c.if-is_err.ensures.value)
 
 pub loop-key-preserved : goal.loop-key-preserved
 loop-key-preserved g c =
     let next = fields_as c.loop-key.comma_due (ap (fields_of g.K.SerializeKey.as_key g.V.Serialize.tree) c.in-Some.ensures.steps) c.loop-key.invariant.left in
-    record { left = member_line_on _ _ _ c.loop-key.comma_due next c.in_ok-member_line.ensures }
+    record { left = member_line_on _ _ _ c.loop-key.comma_due next (wrote_whole _ _ _ _ (sym c.if-is_err.ensures.value) c.member_line-written.ensures) }
 
 pub returns : goal.returns
 returns g c =

@@ -1,9 +1,10 @@
 use Rattle.json5_ser.specs.Out.{line, piece, key_out}
-use Rattle.json5_ser.proofs.Joins.{Writes-exit, Reaches-first, Reaches-last}
+use Rattle.json5_ser.proofs.Joins.{Reaches-first, Reaches-last}
+use Rattle.json5_ser.proofs.PutsJoined.{Puts-exit}
 use Rattle.json5_ser.proofs.serializer.Serializer.key.Goals as goal
 
 pub returns-in_err-start_line : goal.returns-in_err-start_line
-returns-in_err-start_line g c = Writes-exit (piece (line c.args.self.now.depth)) (key_out (g.K.SerializeKey.as_key c.args.key.now)) _ _ _ _ c.from_residual.ensures.1 c.in_err-start_line.ensures
+returns-in_err-start_line g c = Puts-exit (piece (line c.args.self.now.depth)) (key_out (g.K.SerializeKey.as_key c.args.key.now)) _ _ _ _ c.from_residual.ensures.1 c.in_err-start_line.ensures
 
 pub returns : goal.returns
 returns g c =

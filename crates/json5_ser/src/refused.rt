@@ -1,0 +1,32 @@
+//! Why a piece wasn't written, as a small value.
+
+ghost use Rattle.json5_ser.specs.Puts.{MakesError};
+
+use json5_text::ErrorCode;
+use json5_text::error::Error;
+use std::io::{self, ErrorKind};
+
+/// Why a piece wasn't written whole. It is small, so that the frame of a call that writes pieces holds no `Error`.
+#[derive(Clone, Copy)]
+pub(crate) enum Refused {
+    /// A call was refused before.
+    Before,
+    /// The writer failed, or took no bytes.
+    ByWriter,
+}
+
+/// What a call returns that writes pieces alone.
+pub(crate) type Put = std::result::Result<(), Refused>;
+
+impl From<Refused> for Error {
+    ghost from_gives = { MakesError };
+
+    #[cold]
+    #[inline(never)]
+    fn from(refused: Refused) -> Error {
+        match refused {
+            Refused::Before => Error::new(ErrorCode::Failed),
+            Refused::ByWriter => Error::from(io::Error::from(ErrorKind::WriteZero)),
+        }
+    }
+}
