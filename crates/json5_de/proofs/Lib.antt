@@ -22,6 +22,7 @@ pub mod ArrayCodes
 pub mod OtherCodes
 pub mod TokenKinds
 pub mod ShortReads
+pub mod ShortBrackets
 pub mod OpenClose
 pub mod Next
 pub mod StagesPassed

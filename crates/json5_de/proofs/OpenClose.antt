@@ -1,5 +1,5 @@
 -- What the calls that open and close a bracket mean, from what they took or refused.
-use Rattle.std.proofs.Common.{◌≡◌, ◌<◌, ◌+◌, ℕ, ◌++◌, ◌∷◌, [], Bool, true, false, List, length, refl, subst, ap, sym, ◌∙◌, inr, arith, ◌-◌, Result, Ok, Err}
+use Rattle.std.proofs.Common.{◌≡◌, ◌<◌, ◌+◌, ℕ, ◌++◌, ◌∷◌, [], Bool, true, false, List, length, refl, subst, ap, sym, ◌∙◌, inl, inr, arith, ◌-◌, Result, Ok, Err}
 use Rattle.std.specs.Prelude.{OnOk, IsOk}
 use Rattle.std.specs.Str.{encode_utf8_all}
 use Rattle.json5_grammar.specs.declared.code.ErrorCode.TheVariants as codes
@@ -9,6 +9,7 @@ use Rattle.json5_de.specs.State.{State}
 use Rattle.json5_de.specs.Faults.{RefusedBy, IsPositionless}
 use Rattle.json5_value.specs.declared.brackets.Brackets.{Brackets}
 use Rattle.json5_de.specs.Brackets.{AreSigns}
+use Rattle.json5_de.specs.Enums.{ClosesLast}
 use Rattle.json5_de.specs.Access.{AccessState, Opened, Closed, NotOpened, NotClosed, OpensAs, ClosesAs}
 use Rattle.json5_de.proofs.Expected.{end_fault, other_fault}
 use Rattle.json5_grammar.specs.Language.Documents.{max_depth}
@@ -61,6 +62,14 @@ closes b k comma_due old new c = record {
   unprompted = tt;
   before = λ h. absurd (true_false h c.live);
 }
+
+-- a bracket before which no comma is
+closed_at_once : (b : Brackets) (comma_due : Bool) (old new : State) → Closed b false old new → Closed b comma_due old new
+closed_at_once b false old new c = c
+closed_at_once b true old new c = record { live = c.live; close = inl c.close; rest = c.rest }
+
+pub closes_at_once : (b : Brackets) → AreSigns b → (comma_due : Bool) (old new : State) → Closed b false old new → ClosesLast b comma_due old new (Ok tt)
+closes_at_once b k comma_due old new c = record { closes = closes b k comma_due old new (closed_at_once b comma_due old new c); same_text = input_of c.rest; failed = tt }
 
 pub refuses_closing : (b : Brackets) → AreSigns b → (comma_due : Bool) (old new : State) (e : Error) → RefusedBy (NotClosed b comma_due) old e → ((r : List ℕ) → old.failed ≡ false → IsEnd b.closing comma_due old.unread r → IsOk {T = Unit {0}} {E = Error} (Err e)) → (old.failed ≡ true → IsPositionless codes.Failed e) → ClosesAs b comma_due old new (Err e)
 refuses_closing b k comma_due old new e f complete before = record {

@@ -11,6 +11,7 @@ use Rattle.json5_text.specs.declared.short_texts.Span.{Span}
 use Rattle.json5_text.specs.declared.short.ShortStep.{ShortStep}
 use Rattle.json5_text.specs.declared.short.ShortStep.TheVariants as short
 use Rattle.json5_value.specs.declared.brackets.Brackets.{Brackets}
+use Rattle.json5_de.specs.Access.{Opened, Closed, IsStart}
 use Rattle.json5_de.specs.Keys.{TookKey}
 use Rattle.json5_de.specs.Law.{TookValue}
 use Rattle.json5_de.specs.Objects.{AfterColon}
@@ -48,6 +49,15 @@ TakesEscapeFreeKey old new result = MatchOption result (new ≡ old) (λ t. (u :
 abbrev pub PassesShortColon : State → State → Bool → Type 0
 PassesShortColon old new true = AfterColon old new
 PassesShortColon old new false = new ≡ old
+
+-- an opening bracket is taken, so many bytes after the start, or nothing
+abbrev pub OpensShort : Brackets → State → State → Option ℕ → Type 0
+OpensShort b old new result = MatchOption result (new ≡ old) (λ start. Opened b old new × IsStart b old.input (record { reader = new; start = start; comma_due = false }))
+
+-- a closing bracket is taken, or nothing
+abbrev pub ClosesShort : Brackets → State → State → Bool → Type 0
+ClosesShort b old new true = Closed b false old new
+ClosesShort b old new false = new ≡ old
 
 -- an owned copy of the text at the span; or memory ran out
 abbrev pub OwnsTextAt : {A : Type 0} → Span → State → State → Result (String A) Error → Type 0

@@ -21,7 +21,20 @@ impl<I: Input> Deserializer<I> {
     ghost use Rattle.json5_de.specs.Seq.{TakesClosing, Advances};
 
     /// Takes an opening bracket, and returns the count of bytes before it.
+    #[inline(always)]
     pub(crate) fn open(&mut self, kind: BracketKind) -> Result<usize>
+        ensures opens { OpensAs (brackets_of kind) (λ start. record { reader = self.new; start = start; comma_due = false }) self.old result }
+        ensures failed { GivesUpIfErr self.old self.new result }
+    {
+        match self.short_open(kind) {
+            Some(start) => Ok(start),
+            None => self.open_slowly(kind),
+        }
+    }
+
+    /// The same of anything in front.
+    #[inline(never)]
+    fn open_slowly(&mut self, kind: BracketKind) -> Result<usize>
         ensures opens { OpensAs (brackets_of kind) (λ start. record { reader = self.new; start = start; comma_due = false }) self.old result }
         ensures failed { GivesUpIfErr self.old self.new result }
     {

@@ -134,7 +134,7 @@ pub trait Deserialize<I: Input>: Sized + Drop {
 #[derive(Drop)]
 pub struct Deserializer<I: Input> {
     pub(crate) scanner: Scanner<I>,
-    level: usize,
+    pub(crate) level: usize,
     pub(crate) failed: bool,
 }
 

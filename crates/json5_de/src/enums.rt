@@ -103,7 +103,19 @@ impl<I: Input> Deserializer<I> {
     }
 
     /// Takes a closing bracket, and before it the comma that may be there; a refusal is for good.
+    #[inline(always)]
     pub(crate) fn close_or_fail(&mut self, kind: BracketKind, comma_due: bool) -> Result<()>
+        ensures { ClosesLast (brackets_of kind) comma_due self.old self.new result }
+    {
+        if self.short_close(kind) {
+            return Ok(());
+        }
+        self.close_slowly(kind, comma_due)
+    }
+
+    /// The same of anything in front.
+    #[inline(never)]
+    fn close_slowly(&mut self, kind: BracketKind, comma_due: bool) -> Result<()>
         ensures { ClosesLast (brackets_of kind) comma_due self.old self.new result }
     {
         match self.close(kind, comma_due) {

@@ -23,6 +23,7 @@ impl<I: Input> Deserialize<I> for u8 {
 
     ghost refuses = { RefusedAs (natural_kind (2 ^ 8)) };
 
+    #[inline(always)]
     fn deserialize(de: &mut Deserializer<I>) -> Result<u8>
         ensures { ReadsAs (natural_kind (2 ^ 8)) (λ n. n) de.old de.new result }
     {
@@ -45,6 +46,7 @@ impl<I: Input> Deserialize<I> for u16 {
 
     ghost refuses = { RefusedAs (natural_kind (2 ^ 16)) };
 
+    #[inline(always)]
     fn deserialize(de: &mut Deserializer<I>) -> Result<u16>
         ensures { ReadsAs (natural_kind (2 ^ 16)) (λ n. n) de.old de.new result }
     {
@@ -67,6 +69,7 @@ impl<I: Input> Deserialize<I> for u32 {
 
     ghost refuses = { RefusedAs (natural_kind (2 ^ 32)) };
 
+    #[inline(always)]
     fn deserialize(de: &mut Deserializer<I>) -> Result<u32>
         ensures { ReadsAs (natural_kind (2 ^ 32)) (λ n. n) de.old de.new result }
     {
@@ -89,6 +92,7 @@ impl<I: Input> Deserialize<I> for u64 {
 
     ghost refuses = { RefusedAs (natural_kind (2 ^ 64)) };
 
+    #[inline(always)]
     fn deserialize(de: &mut Deserializer<I>) -> Result<u64>
         ensures { ReadsAs (natural_kind (2 ^ 64)) (λ n. n) de.old de.new result }
     {
@@ -133,6 +137,7 @@ impl<I: Input> Deserialize<I> for i8 {
 
     ghost refuses = { RefusedAs (integer_kind (2 ^ 7)) };
 
+    #[inline(always)]
     fn deserialize(de: &mut Deserializer<I>) -> Result<i8>
         ensures { ReadsAs (integer_kind (2 ^ 7)) (λ n. n) de.old de.new result }
     {
@@ -155,6 +160,7 @@ impl<I: Input> Deserialize<I> for i16 {
 
     ghost refuses = { RefusedAs (integer_kind (2 ^ 15)) };
 
+    #[inline(always)]
     fn deserialize(de: &mut Deserializer<I>) -> Result<i16>
         ensures { ReadsAs (integer_kind (2 ^ 15)) (λ n. n) de.old de.new result }
     {
@@ -177,6 +183,7 @@ impl<I: Input> Deserialize<I> for i32 {
 
     ghost refuses = { RefusedAs (integer_kind (2 ^ 31)) };
 
+    #[inline(always)]
     fn deserialize(de: &mut Deserializer<I>) -> Result<i32>
         ensures { ReadsAs (integer_kind (2 ^ 31)) (λ n. n) de.old de.new result }
     {
@@ -199,6 +206,7 @@ impl<I: Input> Deserialize<I> for i64 {
 
     ghost refuses = { RefusedAs (integer_kind (2 ^ 63)) };
 
+    #[inline(always)]
     fn deserialize(de: &mut Deserializer<I>) -> Result<i64>
         ensures { ReadsAs (integer_kind (2 ^ 63)) (λ n. n) de.old de.new result }
     {

@@ -76,6 +76,7 @@ impl<I: Input> Deserializer<I> {
     /// - `TooDeep` at the brace past the limit.
     /// - `EofParsingObject`, without a position, where the text ends.
     /// - The codes of every call: see [`Deserializer`].
+    #[inline(always)]
     pub fn deserialize_map(&mut self) -> Result<MapAccess<'_, I>>
         ensures* lends { sem 𝓛 (lends_to_map I.row I.Input self.entry result) }
         ensures opens { OpensMapAccess self.entry self.old result }
@@ -97,6 +98,7 @@ impl<I: Input> Deserializer<I> {
     /// # Errors
     ///
     /// As `deserialize_map`.
+    #[inline(always)]
     pub fn deserialize_struct(
         &mut self,
         _name: &'static str,
@@ -245,6 +247,7 @@ impl<'a, I: Input> MapAccess<'a, I> {
     ///
     /// `EofParsingComment` and `Failed` have no position either. In a variant a fault without one gets that of the variant's
     /// opening brace, and after the object's own brace come the faults of the variant's: see [`EnumAccess`](crate::EnumAccess).
+    #[inline(always)]
     pub fn end(self) -> Result<()>
         requires no_key { NoKeyPending self }
         ensures { EndsObject (map_brace self.entry) (map_state_of self.entry) self.exit.0.now result }

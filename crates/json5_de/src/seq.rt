@@ -93,6 +93,7 @@ impl<I: Input> Deserializer<I> {
     /// - `TooDeep` at the bracket past the limit.
     /// - `EofParsingArray`, without a position, where the text ends.
     /// - The codes of every call: see [`Deserializer`].
+    #[inline(always)]
     pub fn deserialize_seq(&mut self) -> Result<SeqAccess<'_, I>>
         ensures* lends { sem 𝓛 (lends_reader I.row I.Input self.entry result) }
         ensures opens { OpensSeqAccess self.entry self.old result }
@@ -252,6 +253,7 @@ impl<'a, I: Input> SeqAccess<'a, I> {
     ///
     /// `EofParsingComment` and `Failed` have no position either. In a variant a fault without one gets that of the variant's
     /// opening brace, and after the bracket come the faults of the variant's `}`: see [`EnumAccess`](crate::EnumAccess).
+    #[inline(always)]
     pub fn end(self) -> Result<()>
         ensures { EndsArray (brace_of self.entry) (state_of self.entry) self.exit.0.now result }
     {

@@ -5,7 +5,7 @@ ghost use Rattle.std.specs.Prelude.{◌+◌, ◌≤ℤ◌, pos, nat_abs, IfSome}
 ghost use Rattle.json5_value.specs.Brackets.{brackets_of};
 ghost use Rattle.json5_de.specs.Convert.{IsUpTo, IsWithin};
 ghost use Rattle.json5_de.specs.TokenKinds.{natural_kind, integer_kind, decimal_kind};
-ghost use Rattle.json5_de.specs.Short.{ReadsShort, StepsShort, ReadsShortText, ReadsShortKey, ReadsEscapeFreeText, TakesEscapeFreeKey, PassesShortColon, OwnsTextAt};
+ghost use Rattle.json5_de.specs.Short.{ReadsShort, StepsShort, ReadsShortText, ReadsShortKey, ReadsEscapeFreeText, TakesEscapeFreeKey, PassesShortColon, OpensShort, ClosesShort, OwnsTextAt};
 
 use crate::de::Deserializer;
 use json5_text::ErrorCode;
@@ -97,6 +97,36 @@ impl<I: Input> Deserializer<I> {
             return false;
         }
         self.scanner.short_sign(b':')
+    }
+
+    /// Takes an opening bracket and returns the count of bytes before it, or returns None.
+    #[inline(always)]
+    pub(crate) fn short_open(&mut self, kind: BracketKind) -> Option<usize>
+        ensures { OpensShort (brackets_of kind) self.old self.new result }
+    {
+        if self.failed || self.level >= 128 {
+            return None;
+        }
+        if !self.scanner.short_sign(kind.brackets().opening as u8) {
+            return None;
+        }
+        self.level += 1;
+        Some(self.scanner.offset().saturating_sub(1))
+    }
+
+    /// Takes a closing bracket before which no comma is, and says whether it was there.
+    #[inline(always)]
+    pub(crate) fn short_close(&mut self, kind: BracketKind) -> bool
+        ensures { ClosesShort (brackets_of kind) self.old self.new result }
+    {
+        if self.failed {
+            return false;
+        }
+        if !self.scanner.short_sign(kind.brackets().closing as u8) {
+            return false;
+        }
+        self.level = self.level.saturating_sub(1);
+        true
     }
 
     /// An owned copy of the text of the span. If memory runs out, the reader has failed.

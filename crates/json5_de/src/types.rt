@@ -73,6 +73,7 @@ impl<I: Input> Deserialize<I> for Decimal {
 
     ghost refuses = { RefusedAs decimal_kind };
 
+    #[inline(always)]
     fn deserialize(de: &mut Deserializer<I>) -> Result<Decimal>
         ensures { ReadsAs decimal_kind (λ d. d) de.old de.new result }
     {
@@ -117,6 +118,7 @@ impl<I: Input> Deserialize<I> for String {
 
     ghost refuses = { RefusedAs string_kind };
 
+    #[inline(always)]
     fn deserialize(de: &mut Deserializer<I>) -> Result<String>
         ensures { ReadsAs string_kind string_bytes de.old de.new result }
     {
@@ -140,6 +142,7 @@ impl<'de, I: Borrows<'de>> Deserialize<I> for &'de str {
 
     ghost refuses = { RefusedAs escape_free_kind };
 
+    #[inline(always)]
     fn deserialize(de: &mut Deserializer<I>) -> Result<&'de str>
         ensures { ReadsAs escape_free_kind (λ t. t.now) de.old de.new result }
     {
@@ -164,6 +167,7 @@ impl<'de, I: Borrows<'de>> Deserialize<I> for CowStr<'de> {
 
     ghost refuses = { RefusedAs cow_kind };
 
+    #[inline(always)]
     fn deserialize(de: &mut Deserializer<I>) -> Result<CowStr<'de>>
         ensures { ReadsAs cow_kind (λ t. (cow_bytes t, is_borrowed t)) de.old de.new result }
     {
