@@ -1,6 +1,6 @@
 //! Strings and names: runs of characters that spell themselves, and escapes (ECMAScript 5.1 sections 7.6 and 7.8.4).
 
-ghost use Rattle.std.specs.Prelude.{◌≡◌, ◌++◌, OnOk, string_bytes};
+ghost use Rattle.std.specs.Prelude.{◌≡◌, ◌++◌, IfOk, OnOk, string_bytes};
 ghost use Rattle.std.specs.Str.{chars, encode_utf8_all};
 ghost use Rattle.json5_grammar.specs.Language.Characters.{NotBegun};
 ghost use Rattle.json5_text.specs.TokenResults.{AnswersAs, AnswersCow, AnswersMore, Passes};
@@ -15,6 +15,9 @@ use crate::refusal::Refusal;
 use crate::strings::skip_raw;
 use json5_grammar::code::ErrorCode;
 use std::alloc::{AllocError, Global};
+
+/// How many bytes a string with an escape has room for after the run before its first escape.
+const ROOM: usize = 32;
 
 /// The quotes of a string (JSON5 section 5).
 #[derive(Clone, Copy)]
@@ -139,7 +142,7 @@ fn read_escaped<'t>(
     requires { AtEscape escape.now after.now }
     ensures { AnswersMore run.now (text_at kind (chars escape.now)) result }
 {
-    let mut text = String::from_str(alloc, run)?;
+    let mut text = with_room(alloc, run)?;
     let mut stop = Stop::Escape(kind, escape, after);
     loop {
         match stop {
@@ -152,6 +155,16 @@ fn read_escaped<'t>(
             }
         }
     }
+}
+
+/// The run, and room for what follows it, so that a short string with an escape is allocated once.
+#[inline(always)]
+fn with_room(alloc: Global, run: &str) -> Result<String, AllocError>
+    ensures { IfOk result (λ t. string_bytes t ≡ run.now) }
+{
+    let mut text = String::with_capacity(alloc, run.len().saturating_add(ROOM))?;
+    text.push_str(run)?;
+    Ok(text)
 }
 
 fn push_spelled(text: &mut String, spelled: Option<char>) -> Result<(), AllocError>
