@@ -33,6 +33,7 @@ mod scanned;
 pub mod scanner;
 pub mod short;
 mod short_decimals;
+mod short_numbers;
 pub mod short_texts;
 pub mod strings;
 pub mod text_token;

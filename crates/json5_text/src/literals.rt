@@ -91,7 +91,7 @@ fn read_exponent(text: &str) -> Option<Tail>
 }
 
 /// Whether this is `0`, or digits that don't begin with a zero.
-fn is_integer(digits: &str) -> bool
+pub(crate) fn is_integer(digits: &str) -> bool
     ensures { result ≡ model.is_integer digits.now }
 {
     let bytes = digits.as_bytes();

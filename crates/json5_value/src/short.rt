@@ -91,7 +91,7 @@ pub(crate) fn short_entry<I: Input>(
     }
 }
 
-/// Passes over a string without an escape or a whole number of few digits, and says whether one is in front.
+/// Passes over a string without an escape or a number of few digits, and says whether one is in front.
 #[inline(always)]
 pub(crate) fn short_scalar<I: Input>(scanner: &mut Scanner<I>, c: char) -> bool
     requires { AtScalar c scanner.old }
@@ -99,7 +99,7 @@ pub(crate) fn short_scalar<I: Input>(scanner: &mut Scanner<I>, c: char) -> bool
 {
     match kind_at(c) {
         ValueKind::String => scanner.short_string().is_some(),
-        ValueKind::Number => scanner.short_whole(i128::MIN, i128::MAX).is_some(),
+        ValueKind::Number => scanner.short_number(),
         _ => false,
     }
 }

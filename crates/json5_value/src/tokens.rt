@@ -149,8 +149,11 @@ fn read_number<I: Input>(scanner: &mut Scanner<I>) -> Result<Value>
     requires { AtKind kind.Number scanner.old }
     ensures { ReadsScalar scanner.old scanner.new result }
 {
-    match scanner.short_whole(i128::MIN, i128::MAX) {
-        Some(number) => Ok(value_of_number(Number::Whole(Whole::from_i128(number)))),
+    if let Some(number) = scanner.short_whole(i128::MIN, i128::MAX) {
+        return Ok(value_of_number(Number::Whole(Whole::from_i128(number))));
+    }
+    match scanner.short_decimal() {
+        Some(decimal) => Ok(value_of_number(Number::Decimal(decimal))),
         None => read_number_slowly(scanner),
     }
 }

@@ -5,4 +5,4 @@ pub returns-in-String : goal.returns-in-String
 returns-in-String g c = string_short c.args.scanner.now c.short_string.new.self c.args.c c.kind_at.result c.short_string.result c.is_some.result c.requires c.kind_at.ensures c.in-String.is c.short_string.ensures c.is_some.ensures
 
 pub returns-in-Number : goal.returns-in-Number
-returns-in-Number g c = number_short _ _ c.args.scanner.now c.short_whole.new.self c.args.c c.kind_at.result c.short_whole.result c.is_some-in-Number.result c.requires c.kind_at.ensures c.in-Number.is c.short_whole.ensures c.is_some-in-Number.ensures
+returns-in-Number g c = number_short c.args.scanner.now c.short_number.new.self c.args.c c.kind_at.result c.short_number.result c.requires c.kind_at.ensures c.in-Number.is c.short_number.ensures
