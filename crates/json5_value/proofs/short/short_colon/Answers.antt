@@ -1,5 +1,3 @@
-use Rattle.std.proofs.Common.{refl}
-use Rattle.json5_grammar.specs.Model.ReadSteps.{colon_after}
 use Rattle.json5_value.proofs.ShortEntries.{blanks_left, nothing_left}
 use Rattle.json5_value.proofs.short.short_colon.Goals as goal
 
