@@ -85,10 +85,10 @@ key_kept old mid k (Err e) (a, (is, same), g) copied =
 
 -- ---- the next key
 
-abbrev key_and_colon : List ℕ × Bool → List ℕ → Read (Option (List ℕ × Bool))
+abbrev pub key_and_colon : List ℕ × Bool → List ℕ → Read (Option (List ℕ × Bool))
 key_and_colon a r = and_then (colon_after r) (λ u y. got (Some a) y)
 
-abbrev key_or_end : Bool → List ℕ → Read (Option (List ℕ × Bool))
+abbrev pub key_or_end : Bool → List ℕ → Read (Option (List ℕ × Bool))
 key_or_end goes y = cond goes (and_then (key y) key_and_colon) (got None y)
 
 head_is : (y : List ℕ) → key_head y ≡ and_then (entry_front of_object y) key_or_end
@@ -107,7 +107,7 @@ key_at_is : (x : List ℕ) → key_at x ≡ and_then (entry_start of_object x) k
 unfolding key_at
 key_at_is x = start_is (skip between x)
 
-next_is : (comma_due : Bool) (x : List ℕ) → next_key comma_due x ≡ and_then (next_entry of_object comma_due x) key_or_end
+pub next_is : (comma_due : Bool) (x : List ℕ) → next_key comma_due x ≡ and_then (next_entry of_object comma_due x) key_or_end
 next_is false x = key_at_is x
 next_is true x = by_comma (separator of_object x)
   where

@@ -12,8 +12,8 @@ use Rattle.json5_text.specs.declared.value.Value as value
 use Rattle.json5_text.specs.ValueViews.{Datum, value_of}
 use Rattle.json5_text.specs.ValueViews as views
 use Rattle.json5_text.proofs.ValuesCompared.{view-Array, view-Object}
-use Rattle.json5_value.specs.declared.read.Unfinished.{Unfinished}
-use Rattle.json5_value.specs.declared.read.Unfinished.TheVariants as unfinished
+use Rattle.json5_value.specs.declared.unfinished.Unfinished.{Unfinished}
+use Rattle.json5_value.specs.declared.unfinished.Unfinished.TheVariants as unfinished
 use Rattle.json5_value.specs.BuildSteps.{elements_before, members_before, object_with, array_at, object_at, value_in_at, start_of, value_in, Building, BuildingInside, TurnsBuildingInside}
 use Rattle.json5_value.specs.Keeping.{BlamesOrMemory, IsNextKey, next_key, datum_at}
 use Rattle.json5_value.specs.Nesting.{Within}
@@ -55,7 +55,7 @@ module _ (m : ℕ → Read Datum) (at : ℕ) (comma_due : Bool) (fs : List Unfin
     no_longer = no_more_left old new s took;
   }
 
-  turn_refused : (after : List Unfinished) (new : Cursor) (own e : Error) → IsOutOfMemory own ⊎ ((d : ℕ) → RefusesRead old.input (m d) own) → SameText old new → PositionedAt (StartsAfter new.input at) own e → TurnsBuildingInside m at comma_due fs after old new (Err e)
+  pub turn_refused : (after : List Unfinished) (new : Cursor) (own e : Error) → IsOutOfMemory own ⊎ ((d : ℕ) → RefusesRead old.input (m d) own) → SameText old new → PositionedAt (StartsAfter new.input at) own e → TurnsBuildingInside m at comma_due fs after old new (Err e)
   turn_refused after new own e (inl memory) g k = record { goes = tt; refused = inl (k.kind ∙ memory); same_text = g; shorter = tt; no_longer = tt }
   turn_refused after new own e (inr b) g k = record {
     goes = tt;

@@ -20,3 +20,4 @@ pub mod BuildTurns
 pub mod BuildValues
 pub mod ShortValues
 pub mod ShortBuilds
+pub mod ShortMembers

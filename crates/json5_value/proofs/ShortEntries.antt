@@ -81,7 +81,7 @@ sign_read c x r h k = ap (skip between) k.split ∙ gap_read (blanks.Gap.blanks 
 comma_read : (k : BracketKind) (x z : List ℕ) → IsSign 44 x z → separator k x ≡ got true z
 comma_read k x z s = separator_is k x ∙ ap (λ m. and_then m (λ u y. comma_at k y)) (sign_read 44 x z comma_solid s)
 
-start_goes : (k : BracketKind) (x y : List ℕ) → AfterGap x y → NotBegun (λ d. d == closing k) y → entry_start k x ≡ got true y
+pub start_goes : (k : BracketKind) (x y : List ℕ) → AfterGap x y → NotBegun (λ d. d == closing k) y → entry_start k x ≡ got true y
 start_goes k x y g n = ap (λ m. and_then m (λ u y. entry_front k y)) (ap (skip between) g.split ∙ gap_read g.is_gap g.solid) ∙ front_goes k y n
 
 start_closes : (k : BracketKind) (x r : List ℕ) → IsSign (closing k) x r → entry_start k x ≡ got false r
@@ -154,7 +154,7 @@ rest_passed reading left old mid new result p s =
     (then_step {A = Unit {0}} {B = Unit {0}} old mid new (got tt mid.unread) tt (λ u y. name_left left y) result passed s)
 
 -- no blanks stand before a key
-key_spelled : (x u r : List ℕ) → Solid x → (k : ReadsKey x u true r) → x ≡ k.spelling ++ r
+pub key_spelled : (x u r : List ℕ) → Solid x → (k : ReadsKey x u true r) → x ≡ k.spelling ++ r
 key_spelled x u r solid k = (one_gap k.front (k.spelling ++ r) [] x (blanks.Gap.blanks k.blank) (key_solid r (key_head k.key)) (blanks.Gap.blanks blanks.Blanks.empty) solid (sym k.split)).1
 
 pub name_passed : (old mid new : Cursor) (o : Option Span) (none : Bool) (left : NameLeft) → Solid old.unread → TakesShortKey old mid o → is_some o ≡ not none → none ≡ false → PassesTo (colon_after mid.unread) left mid new → PassesTo (name_at old.unread) left old new
@@ -169,7 +169,7 @@ name_passed old mid new (Some span) none left solid k some is p =
 
 -- ---- entries
 
-entry_gave : (k : OwnKind) (b : Brackets) (comma_due : Bool) (old new : Cursor) → b ≡ brackets_of k → Stepped b.closing comma_due false old new → Gave (next_entry (bracket_of k) comma_due old.unread) true old new
+pub entry_gave : (k : OwnKind) (b : Brackets) (comma_due : Bool) (old new : Cursor) → b ≡ brackets_of k → Stepped b.closing comma_due false old new → Gave (next_entry (bracket_of k) comma_due old.unread) true old new
 entry_gave k b comma_due old new e s =
     let (reads, (taken, split)) = goes_read (bracket_of k) comma_due old.unread new.unread s.step.0 (subst (λ c. NotBegun (λ d. d == c) new.unread) (closing_is k b e) s.step.1) in
     record { reads = reads; taken = taken; took = record { split = split; same = s.same } }
@@ -199,7 +199,7 @@ pub sign_eaten : (c : ℕ) (r : List ℕ) (mid new : Cursor) (b : Bool) → mid.
 sign_eaten c r mid new true at taken kept = taken refl
 sign_eaten c r mid new false at taken kept = absurd (both_ways (c == c) (subst (NotBegun (λ d. d == c)) at (kept refl).1) (same_char c))
 
-closing_gave : (k : OwnKind) (b : Brackets) (comma_due : Bool) (old mid new : Cursor) (ate : Bool) → b ≡ brackets_of k → Stepped b.closing comma_due true old mid
+pub closing_gave : (k : OwnKind) (b : Brackets) (comma_due : Bool) (old mid new : Cursor) (ate : Bool) → b ≡ brackets_of k → Stepped b.closing comma_due true old mid
     → (ate ≡ true → Took mid (b.closing ∷ []) new) → (ate ≡ false → (new ≡ mid) × NotBegun (λ d. d == b.closing) mid.unread) → Gave (next_entry (bracket_of k) comma_due old.unread) false old new
 closing_gave k b comma_due old mid new ate e s taken kept =
     let (r, end, at) = s.step in

@@ -1,7 +1,6 @@
 -- Short ways that keep what they read: what is left of an array after the elements that they took.
-use Rattle.std.proofs.Common.{◌≡◌, ℕ, ◌<◌, Bool, true, false, List, [], ◌∷◌, ◌++◌, length, refl, ap, sym, ◌∙◌, subst, arith, rules, length-append, append_assoc, Vec}
+use Rattle.std.proofs.Common.{◌≡◌, ℕ, ◌<◌, Bool, true, false, List, [], ◌∷◌, ◌++◌, length, refl, ap, sym, ◌∙◌, subst, arith, rules, length-append}
 use Rattle.std.specs.Prelude.{ℤ, Ok}
-use Rattle.std.specs.declared.alloc.Global.{Global}
 use Rattle.json5_grammar.specs.Faults.Fronts.{of_array}
 use Rattle.json5_grammar.specs.Model.Reading.{Read, got, and_then}
 use Rattle.json5_grammar.specs.Model.ReadSteps.{forget, next_value, trees_after}
@@ -9,8 +8,7 @@ use Rattle.json5_grammar.specs.Model.ReadValues.{read}
 use Rattle.json5_grammar.specs.Language.Numbers.{whole}
 use Rattle.json5_text.specs.declared.value.Value.{Value, the_lemmas}
 use Rattle.json5_text.specs.declared.value.Value as value
-use Rattle.json5_text.specs.declared.whole.Whole.{Whole}
-use Rattle.json5_text.specs.Cursor.{Cursor, Took}
+use Rattle.json5_text.specs.Cursor.{Cursor}
 use Rattle.json5_text.specs.ValueViews.{Datum, array, item, items_view, value_of}
 use Rattle.json5_text.specs.ValueViews as datum
 use Rattle.json5_value.specs.BuildSteps.{elements_before, array_with, array_at}
@@ -34,23 +32,23 @@ datum_kept room old new v k =
     let (t, is, g) = k.given in
     record { reads = ap as_datum g.reads ∙ ap (λ x. got x new.unread) (sym is); taken = g.taken; took = g.took }
 
-datum_shorter : (room : ℕ) (old new : Cursor) (v : Value) → Gave (datum_at room old) (value_of v) old new → length new.unread < length old.unread
+pub datum_shorter : (room : ℕ) (old new : Cursor) (v : Value) → Gave (datum_at room old) (value_of v) old new → length new.unread < length old.unread
 datum_shorter room old new v g =
     let (t, is, view) = datum_got (read room old.unread) (value_of v) new.unread g.reads in
     value_shorter room old.unread new.unread tt (ap forget is)
 
 -- ---- elements
 
--- these elements were taken so far, and what is left of the array is what is left after them
-pub record Passes (at_start : Bool) (before : List Value) (start : Cursor) (vs : List Value) (comma_due : Bool) (now : Cursor) : Type 0 where
-  pub leaves : Leaves (array_at before at_start start) (array_at vs comma_due now) start now
+-- some was taken so far, m was left before and n is left now; a comma is due as at the start, or since
+pub record Passes (m n : ℕ → Read Datum) (at_start comma_due : Bool) (start now : Cursor) : Type 0 where
+  pub leaves : Leaves m n start now
   pub due : at_start ≡ true → comma_due ≡ true
   pub ready : IsInside now
 
-pub passes_none : (comma_due : Bool) (vs : List Value) (s : Cursor) → IsInside s → Passes comma_due vs s vs comma_due s
-passes_none comma_due vs s ready = record { leaves = record { reads = λ d. refl; taken = []; took = took_nothing s s refl }; due = λ e. e; ready = ready }
+pub passes_none : (m : ℕ → Read Datum) (comma_due : Bool) (s : Cursor) → IsInside s → Passes m m comma_due comma_due s s
+passes_none m comma_due s ready = record { leaves = record { reads = λ d. refl; taken = []; took = took_nothing s s refl }; due = λ e. e; ready = ready }
 
-module _ (b : Bool) (before : List Value) (start : Cursor) (vs : List Value) (comma_due : Bool) (now : Cursor) (p : Passes b before start vs comma_due now) where
+module _ (b : Bool) (before : List Value) (start : Cursor) (vs : List Value) (comma_due : Bool) (now : Cursor) (p : Passes (array_at before b start) (array_at vs comma_due now) b comma_due start now) where
   entered : (goes : Bool) (mid : Cursor) (d : ℕ) → Gave (next_value of_array comma_due now.unread) goes now mid → array_at before b start d ≡ array_turn (elements_before vs) d goes mid.unread
   entered goes mid d g = p.leaves.reads d ∙ array_step vs comma_due d now.unread ∙ ap (λ m. and_then m (array_turn (elements_before vs) d)) g.reads
 
@@ -82,7 +80,7 @@ module _ (b : Bool) (before : List Value) (start : Cursor) (vs : List Value) (co
   pub memory_lost : (mid new : Cursor) → Gave (next_value of_array comma_due now.unread) true now mid → SameText mid new → TakesElements b before vs start new reached.NoMemory
   memory_lost mid new g same = same ∙ g.took.same ∙ p.leaves.took.same
 
-  pub element_taken : (mid new : Cursor) (v : Value) (ws : List Value) → Gave (next_value of_array comma_due now.unread) true now mid → ((room : ℕ) → Gave (datum_at room mid) (value_of v) mid new) → ws ≡ vs ++ v ∷ [] → Passes b before start ws true new
+  pub element_taken : (mid new : Cursor) (v : Value) (ws : List Value) → Gave (next_value of_array comma_due now.unread) true now mid → ((room : ℕ) → Gave (datum_at room mid) (value_of v) mid new) → ws ≡ vs ++ v ∷ [] → Passes (array_at before b start) (array_at ws true new) b true start new
   element_taken mid new v ws g k grown =
       let l = leaves_less true (element_left vs mid) mid g (λ d. refl) in
       record {

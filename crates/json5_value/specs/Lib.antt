@@ -11,3 +11,4 @@ pub mod Data
 pub mod Keeping
 pub mod BuildSteps
 pub mod ShortValues
+pub mod ShortMembers

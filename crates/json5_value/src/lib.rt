@@ -9,6 +9,8 @@ pub mod faults;
 pub mod kinds;
 pub mod read;
 mod short;
+mod short_members;
 mod short_values;
 pub mod skip;
 pub mod tokens;
+mod unfinished;

@@ -15,7 +15,7 @@ use json5_text::whole::Whole;
 
 /// What a short way to a value came to.
 #[derive(Drop)]
-enum ShortValue {
+pub(crate) enum ShortValue {
     /// The value was taken.
     Value(Value),
     /// Nothing was taken.
@@ -68,7 +68,7 @@ fn short_number<I: Input>(scanner: &mut Scanner<I>) -> ShortValue
 
 /// Takes the value in front, if it has a short way.
 #[inline(always)]
-fn short_value<I: Input>(scanner: &mut Scanner<I>) -> ShortValue
+pub(crate) fn short_value<I: Input>(scanner: &mut Scanner<I>) -> ShortValue
     requires { IsInside scanner.old }
     ensures { KeepsShort scanner.old scanner.new result }
 {

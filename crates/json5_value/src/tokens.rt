@@ -41,7 +41,7 @@ pub fn key_owned<I: Input>(scanner: &Scanner<I>, key: TextToken) -> Result<Strin
 }
 
 /// Returns an owned copy of the text of a span.
-fn own_text<I: Input>(scanner: &Scanner<I>, span: Span) -> Result<String>
+pub(crate) fn own_text<I: Input>(scanner: &Scanner<I>, span: Span) -> Result<String>
     ensures { OwnsText scanner.now.input span result }
 {
     let text = String::from_str(scanner.allocator(), scanner.text_of_span(span))?;

@@ -1,5 +1,5 @@
 use Rattle.json5_value.proofs.BuildTurns.{array_goes_on, array_closed, array_refused}
-use Rattle.json5_value.proofs.read.resume_array_slowly.Goals as goal
+use Rattle.json5_value.proofs.unfinished.resume_array_slowly.Goals as goal
 
 pub returns-in_ok-push-in-Ok-true : goal.returns-in_ok-push-in-Ok-true
 returns-in_ok-push-in-Ok-true g c =

@@ -1,7 +1,8 @@
+use Rattle.std.proofs.Common.{inl}
 use Rattle.json5_value.specs.BuildSteps.{array_at}
 use Rattle.json5_value.proofs.ShortBuilds.{turn_left, element_next, elements_end}
 use Rattle.json5_value.proofs.Steps.{ready_after}
-use Rattle.json5_value.proofs.read.resume_array.Goals as goal
+use Rattle.json5_value.proofs.unfinished.resume_array.Goals as goal
 
 pub returns-in_ok-push-in-Value : goal.returns-in_ok-push-in-Value
 returns-in_ok-push-in-Value g c =
@@ -17,4 +18,4 @@ pub returns-in-Within : goal.returns-in-Within
 returns-in-Within g c =
     let (l, due) = rw c.in-Within.is at c.short_elements.ensures in
     turn_left (array_at c.args.elements.items c.args.comma_due c.args.scanner.now) (array_at c.short_elements.new.elements.items c.in-Within.comma_due c.short_elements.new.scanner) c.args.start c.args.comma_due c.in-Within.comma_due c.args.stack.now.items
-    c.resume_array_slowly.new.stack.items c.args.scanner.now c.short_elements.new.scanner c.resume_array_slowly.new.scanner l due c.resume_array_slowly.result c.resume_array_slowly.ensures
+    c.resume_array_slowly.new.stack.items c.args.scanner.now c.short_elements.new.scanner c.resume_array_slowly.new.scanner l (λ e. inl (due e)) c.resume_array_slowly.result c.resume_array_slowly.ensures

@@ -1,5 +1,5 @@
 use Rattle.json5_value.proofs.BuildTurns.{object_goes_on, object_closed, object_refused}
-use Rattle.json5_value.proofs.read.resume_object.Goals as goal
+use Rattle.json5_value.proofs.unfinished.resume_object_slowly.Goals as goal
 
 pub returns-in_ok-push-in-Ok-Some : goal.returns-in_ok-push-in-Ok-Some
 returns-in_ok-push-in-Ok-Some g c =

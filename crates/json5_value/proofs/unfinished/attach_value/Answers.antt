@@ -1,6 +1,6 @@
 use Rattle.std.proofs.Common.{◌∷◌, ◌++◌, [], ◌∙◌, ap}
 use Rattle.json5_value.proofs.BuildTurns.{element_attached, member_attached}
-use Rattle.json5_value.proofs.read.attach_value.Goals as goal
+use Rattle.json5_value.proofs.unfinished.attach_value.Goals as goal
 
 pub returns-in_ok-push-in-Array : goal.returns-in_ok-push-in-Array
 returns-in_ok-push-in-Array g c =
