@@ -30,3 +30,4 @@ pub mod ScanBlanks
 pub mod Short
 pub mod ShortTexts
 pub mod ShortNumbers
+pub mod ShortWords

@@ -35,6 +35,7 @@ pub mod short;
 mod short_decimals;
 mod short_numbers;
 pub mod short_texts;
+mod short_words;
 pub mod strings;
 pub mod text_token;
 mod texts;

@@ -40,6 +40,7 @@ use Rattle.json5_text.specs.declared.short.ShortStep.TheVariants as steps
 use Rattle.json5_text.specs.declared.short_texts.Span.{Span}
 use Rattle.json5_text.specs.Short.{AfterGap, StepsTo, IsStep, Stepped, TookNumber, TakesShortStep, TakesShortSign}
 use Rattle.json5_text.specs.ShortNumbers.{TakesShortNumber}
+use Rattle.json5_text.specs.ShortWords.{TakesShortWord}
 use Rattle.json5_text.specs.ShortTexts.{TakesShortKey, TakesShortString, IsTextAt}
 use Rattle.json5_text.specs.TextTokens.{IsSliceAt}
 use Rattle.json5_text.specs.Errors.{LacksMemory}
@@ -47,6 +48,7 @@ use Rattle.json5_text.proofs.TextScalars.{key_scalars}
 use Rattle.json5_value.specs.declared.brackets.Brackets.{Brackets}
 use Rattle.json5_value.specs.declared.brackets.BracketKind.{BracketKind as OwnKind}
 use Rattle.json5_value.specs.declared.brackets.BracketKind.TheVariants as kind
+use Rattle.json5_value.specs.declared.kinds.Literal.{Literal}
 use Rattle.json5_value.specs.declared.kinds.ValueKind.{ValueKind}
 use Rattle.json5_value.specs.declared.kinds.ValueKind.TheVariants as kinds
 use Rattle.json5_value.specs.declared.short.NameLeft.{NameLeft}
@@ -54,7 +56,7 @@ use Rattle.json5_value.specs.declared.short.NameLeft.TheVariants as names
 use Rattle.json5_value.specs.declared.short.ShortEntry.TheVariants as entry
 use Rattle.json5_value.specs.Brackets.{bracket_of, brackets_of}
 use Rattle.json5_value.specs.Entries.{entry_front, entry_start, next_entry}
-use Rattle.json5_value.specs.Kinds.{kind_at}
+use Rattle.json5_value.specs.Kinds.{kind_at, word_of}
 use Rattle.json5_value.specs.Keeping.{Keeps, IsOfTree, IsKeyText, OwnsText, tree_at}
 use Rattle.json5_value.specs.Opening.{AtScalar, AtKind}
 use Rattle.json5_value.specs.Short.{EntersShort, ReachesMember, PassesShort, PassesTo, name_at, name_left}
@@ -63,7 +65,7 @@ use Rattle.json5_value.proofs.BuildScalars.{scalar_taken, text_taken}
 use Rattle.json5_value.proofs.BuildSteps.{takes, not_taken, gave_text}
 use Rattle.json5_value.proofs.EntrySteps.{separator_is, front_closes, front_goes, closes_here, start_or_end}
 use Rattle.json5_value.proofs.EntryValues.{next_is, head_or_end, head_of, head_named, next_closed, element_reached}
-use Rattle.json5_value.proofs.Scalars.{number_value, tests_of}
+use Rattle.json5_value.proofs.Scalars.{literal_value, number_value, tests_of}
 use Rattle.json5_value.proofs.Shorter.{entry_shorter}
 use Rattle.json5_value.proofs.Signs.{closing_is}
 use Rattle.json5_value.proofs.Steps.{some_next, took_both, took_nothing, same_step, then_step}
@@ -249,6 +251,12 @@ string_passed old new c found span at is string k room =
 pub string_short : (old new : Cursor) (c : ℕ) (found : ValueKind) (o : Option Span) (b : Bool) → AtScalar c old → found ≡ kind_at c → found ≡ kinds.String → TakesShortString old new o → b ≡ is_some o → PassesShort old new b
 string_short old new c found None b at is string same e = subst (PassesShort old new) (sym e) same
 string_short old new c found (Some span) b at is string k e = subst (PassesShort old new) (sym e) (string_passed old new c found span at is string k)
+
+-- ---- literals
+
+pub literal_short : (old new : Cursor) (c : ℕ) (found : ValueKind) (l : Literal) (b : Bool) → AtScalar c old → found ≡ kind_at c → found ≡ kinds.Literal l → TakesShortWord (word_of l) old new b → PassesShort old new b
+literal_short old new c found l false at is literal same = same
+literal_short old new c found l true at is literal took = λ room. (literal_value room old new c at.first found is l (Ok tt) at.ready literal (record { taken = took; refused = tt; kept = tt })).given
 
 -- ---- numbers
 

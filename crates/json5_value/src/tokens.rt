@@ -15,6 +15,7 @@ use crate::brackets::BracketKind;
 use crate::entries::{skip_colon, skip_to_entry};
 use crate::faults::fault_here;
 use crate::kinds::{Literal, ValueKind, kind_at, skip_literal};
+use crate::short::short_literal;
 use json5_text::ErrorCode;
 use json5_text::error::{Error, Result};
 use json5_text::input::Input;
@@ -116,6 +117,28 @@ fn value_of_number(number: Number) -> Value
     }
 }
 
+/// Takes the literal.
+#[inline(always)]
+fn read_literal<I: Input>(scanner: &mut Scanner<I>, literal: Literal) -> Result<Value>
+    requires { AtKind (kind.Literal literal) scanner.old }
+    ensures { ReadsScalar scanner.old scanner.new result }
+{
+    if short_literal(scanner, literal) {
+        return Ok(value_of_literal(literal));
+    }
+    read_literal_slowly(scanner, literal)
+}
+
+/// The same, whether or not it is whole.
+#[inline(never)]
+fn read_literal_slowly<I: Input>(scanner: &mut Scanner<I>, literal: Literal) -> Result<Value>
+    requires { AtKind (kind.Literal literal) scanner.old }
+    ensures { ReadsScalar scanner.old scanner.new result }
+{
+    skip_literal(scanner, literal)?;
+    Ok(value_of_literal(literal))
+}
+
 /// Takes a string.
 fn read_string<I: Input>(scanner: &mut Scanner<I>) -> Result<Value>
     requires { AtKind kind.String scanner.old }
@@ -174,10 +197,7 @@ pub(crate) fn read_scalar<I: Input>(scanner: &mut Scanner<I>, c: char) -> Result
     ensures { ReadsScalar scanner.old scanner.new result }
 {
     match kind_at(c) {
-        ValueKind::Literal(literal) => {
-            skip_literal(scanner, literal)?;
-            Ok(value_of_literal(literal))
-        }
+        ValueKind::Literal(literal) => read_literal(scanner, literal),
         ValueKind::String => read_string(scanner),
         ValueKind::Number => read_number(scanner),
         ValueKind::Other => Err(fault_here(scanner, ErrorCode::ExpectedValue)),
