@@ -30,7 +30,7 @@ use json5_text::scanner::Scanner;
 use json5_text::text_token::TextToken;
 use json5_text::value::Value;
 use json5_text::{ErrorCode, Position};
-use json5_value::faults::{fault_here, with_position_at, unexpected_here};
+use json5_value::faults::{fault_here, unexpected_here, with_position_at};
 use json5_value::kinds::{Literal, skip_literal};
 use json5_value::read::read_value;
 use json5_value::skip::skip_value;
