@@ -1,13 +1,16 @@
 -- Members that lack the comma after them, and what remains to be written of their collection.
-use Rattle.std.proofs.Common.{◌≡◌, ℕ, ◌+◌, ◌-◌, List, [], ◌∷◌, Bool, true, false, Result, Ok, Err, refl, sym, ap, ◌∙◌, subst, arith}
+use Rattle.std.proofs.Common.{◌≡◌, ℕ, ◌+◌, ◌-◌, [], ◌∷◌, Bool, true, false, Result, Ok, Err, refl, sym, ap, ◌∙◌, subst, arith}
 use Rattle.std.specs.Result.{is_err, IsErrAnd}
 use Rattle.json5_text.specs.declared.error.Error.{Error}
 use Rattle.json5_grammar.specs.Language.Characters.{comma_sign, colon_sign, space}
-use Rattle.json5_ser.specs.WrittenTrees.{WrittenKey, Written, Elements, element, no_element, Fields, field, no_field}
+use Rattle.json5_ser.specs.WrittenTrees.{WrittenKey, Written, Elements, element, Fields, field}
 use Rattle.json5_ser.specs.Out.{Out, piece, ◌then◌, line, opened_by, closed_by, out, elements_out, fields_out, key_part, key_out}
-use Rattle.json5_ser.specs.Writes.{SerializerState, Wrote, RefusesWrite, Writes, at_depth, after_closing}
+use Rattle.json5_ser.specs.Writes.{SerializerState, Wrote, RefusesBy, RefusesWrite, Writes, at_depth, after_closing}
+use Rattle.json5_ser.specs.Puts.{refusal_by, MakesError}
+use Rattle.json5_ser.specs.declared.refused.Refused.{Refused}
 use Rattle.json5_ser.specs.Commas.{comma_before, element_line, member_line}
 use Rattle.json5_ser.proofs.Joins.{Writes-exit, Reaches, Reaches-first, Reaches-next, Reaches-exit, Reaches-last}
+use Rattle.json5_ser.proofs.PutsJoined.{refused_as}
 use Rattle.json5_ser.proofs.Remains.{Wrote-at, Refuses-at, then_assoc}
 
 pub comma_before_then : (due : Bool) (a b : Out) → comma_before due (a then b) ≡ comma_before due a then b
@@ -58,8 +61,13 @@ pub left_first : (sign : ℕ) (rest : Out) (at s : SerializerState) → Wrote (o
 left_first sign rest at s p deeper = record { reaches = Reaches-first (opened_by at.limit at.depth sign) rest at (at_depth at.depth s) p; depth = deeper; limit = p.limit }
 
 -- nothing was written
-pub open_refused : {A : Type 0} (sign : ℕ) (rest : Out) (at n : SerializerState) (e : Error) (r : Result A Error) → RefusesWrite (opened_by at.limit at.depth sign) at e (at_depth at.depth n) → IsErrAnd r (λ y. y ≡ e) → Writes (opened_by at.limit at.depth sign then rest) at r n
+open_refused : {A : Type 0} (sign : ℕ) (rest : Out) (at n : SerializerState) (e : Error) (r : Result A Error) → RefusesWrite (opened_by at.limit at.depth sign) at e (at_depth at.depth n) → IsErrAnd r (λ y. y ≡ e) → Writes (opened_by at.limit at.depth sign then rest) at r n
 open_refused sign rest at n e r p is = Writes-exit (opened_by at.limit at.depth sign) rest at n e r is (Refuses-at at.depth n.depth (opened_by at.limit at.depth sign) at (at_depth at.depth n) e p)
+
+pub open_put_refused : {A : Type 0} (sign : ℕ) (rest : Out) (at n : SerializerState) (r : Refused) (x : Result A Error) → RefusesBy (opened_by at.limit at.depth sign) at (refusal_by r) (at_depth at.depth n) → IsErrAnd x (MakesError r)
+    → Writes (opened_by at.limit at.depth sign then rest) at x n
+open_put_refused sign rest at n r (Ok x) p is = absurd is
+open_put_refused {A} sign rest at n r (Err e) p is = open_refused {A = A} sign rest at n e (Err e) (refused_as (opened_by at.limit at.depth sign) at (at_depth at.depth n) r e is p) refl
 
 left_next : (all a rest : Out) (at s n : SerializerState) → Left all at s (a then rest) → Wrote a s n → Left all at n rest
 left_next all a rest at s n h p = record { reaches = Reaches-next all a rest at (at_depth at.depth s) (at_depth at.depth n) h.reaches (Wrote-at at.depth a s n p); depth = p.depth ∙ h.depth; limit = p.limit ∙ h.limit }

@@ -1,20 +1,21 @@
 -- Laws of pieces that are written by a short way, and of results that are returned as they are.
-use Rattle.std.proofs.Common.{◌≡◌, true, false, Result, Ok, Err, refl, sym}
+use Rattle.std.proofs.Common.{◌≡◌, true, false, Result, Ok, Err}
 use Rattle.std.specs.Result.{is_err, IsErrAnd}
 use Rattle.json5_text.specs.declared.error.Error.{Error}
 use Rattle.json5_text.specs.Errors.{code, failed_write}
 use Rattle.json5_grammar.specs.declared.code.ErrorCode.TheVariants as codes
 use Rattle.json5_ser.specs.Out.{Out, ◌then◌}
 use Rattle.json5_ser.specs.Writes.{SerializerState, Wrote, RefusesBy, RefusesWrite, Writes}
-use Rattle.json5_ser.specs.Puts.{refusal_by, Puts, MakesError}
+use Rattle.json5_ser.specs.Puts.{refusal_by, MakesError}
 use Rattle.json5_ser.specs.declared.refused.Refused.{Refused}
 use Rattle.json5_ser.specs.declared.refused.Refused.TheVariants as refused
 use Rattle.json5_ser.proofs.Joins.{refused_so, Refuses-before, Reaches}
 
 -- the error of a refusal
-refused_as : (w : Out) (o n : SerializerState) (r : Refused) (e : Error) → MakesError r e → RefusesBy w o (refusal_by r) n → RefusesWrite w o e n
+pub refused_as : (w : Out) (o n : SerializerState) (r : Refused) (e : Error) → MakesError r e → RefusesBy w o (refusal_by r) n → RefusesWrite w o e n
 refused_as w o n refused.Before e h p = refused_so w o n e (code codes.Failed) h.kind h.place p
 refused_as w o n refused.ByWriter e h p = refused_so w o n e failed_write h.kind h.place p
+refused_as w o n refused.TooDeep e h p = refused_so w o n e (code codes.TooDeep) h.kind h.place p
 
 -- what a `?` makes of it: of the whole, of a first part, and after what was written
 pub Puts-handed : {A : Type 0} (w : Out) (o n : SerializerState) (r : Refused) (x : Result A Error) → IsErrAnd x (MakesError r) → RefusesBy w o (refusal_by r) n → Writes w o x n

@@ -89,20 +89,17 @@ impl<W: Write + Drop> SerializeCollection<'_, W> {
     }
 
     /// Blocks the serializer again after a call, and sets the next stage if nothing was refused.
+    #[inline(always)]
     fn settle(&mut self, written: Result<()>, next: Stage) -> Result<()>
         ensures { Settles self.old written next self.new result }
     {
         self.ser.set_failed(true);
-        match written {
-            Ok(()) => {
-                self.stage = next;
-                Ok(())
-            }
-            Err(e) => {
-                self.failed = true;
-                Err(e)
-            }
+        if written.is_err() {
+            self.failed = true;
+            return written;
         }
+        self.stage = next;
+        Ok(())
     }
 
     /// Writes the next element, on a line of its own and with a comma after it. The collection must be an array.

@@ -23,7 +23,7 @@ impl<W: Write + Drop> Serializer<W> {
 fn write_items<T: Serialize, W: Write + Drop>(items: &[T], ser: &mut Serializer<W>) -> Result<()>
     ensures { WritesTree (array (elements_of T.tree items.now)) ser.old result ser.new }
 {
-    ser.open(Brackets::Square)?;
+    ser.open_short(Brackets::Square)?;
     let mut comma_due = false;
     for item in items {
         let written = ser.element_line(comma_due, item);

@@ -15,7 +15,7 @@ impl<K: SerializeKey + Ord, V: Serialize> Serialize for BTreeMap<K, V> {
     ghost tree = { λ m. object (fields_of K.as_key V.tree m.entries) };
 
     fn serialize<W: Write + Drop>(&self, ser: &mut Serializer<W>) -> Result<()> {
-        ser.open(Brackets::Curly)?;
+        ser.open_short(Brackets::Curly)?;
         let mut comma_due = false;
         for (key, value) in self {
             let written = ser.member_line(comma_due, key, value);
@@ -35,7 +35,7 @@ impl<K: SerializeKey + Eq + Hash, V: Serialize> Serialize for IndexMap<K, V> {
     ghost tree = { λ m. object (fields_of K.as_key V.tree m.entries) };
 
     fn serialize<W: Write + Drop>(&self, ser: &mut Serializer<W>) -> Result<()> {
-        ser.open(Brackets::Curly)?;
+        ser.open_short(Brackets::Curly)?;
         let mut comma_due = false;
         for (key, value) in self {
             let written = ser.member_line(comma_due, key, value);

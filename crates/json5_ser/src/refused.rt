@@ -1,4 +1,4 @@
-//! Why a piece wasn't written, as a small value.
+//! Why a piece wasn't written, or a bracket not opened, as a small value.
 
 ghost use Rattle.json5_ser.specs.Puts.{MakesError};
 
@@ -6,13 +6,15 @@ use json5_text::ErrorCode;
 use json5_text::error::Error;
 use std::io::{self, ErrorKind};
 
-/// Why a piece wasn't written whole. It is small, so that the frame of a call that writes pieces holds no `Error`.
+/// Why a piece wasn't written whole, or a bracket not opened. It is small, so that the frame of a call that writes pieces holds no `Error`.
 #[derive(Clone, Copy)]
 pub(crate) enum Refused {
     /// A call was refused before.
     Before,
     /// The writer failed, or took no bytes.
     ByWriter,
+    /// It was a bracket past the limit.
+    TooDeep,
 }
 
 /// What a call returns that writes pieces alone.
@@ -27,6 +29,7 @@ impl From<Refused> for Error {
         match refused {
             Refused::Before => Error::new(ErrorCode::Failed),
             Refused::ByWriter => Error::from(io::Error::from(ErrorKind::WriteZero)),
+            Refused::TooDeep => Error::new(ErrorCode::TooDeep),
         }
     }
 }

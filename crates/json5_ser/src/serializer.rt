@@ -2,7 +2,6 @@
 
 ghost use Rattle.std.specs.Prelude.{◌≡◌, ◌≤◌, ◌+◌, ◌-◌, true, false, None, IsErr, IfErr, OnOk};
 ghost use Rattle.std.specs.Str.{chars};
-ghost use Rattle.json5_ser.specs.WrittenTrees.{null, boolean};
 ghost use Rattle.json5_grammar.specs.Language.Documents.{max_depth};
 ghost use Rattle.json5_ser.specs.Out.{piece, stopped, line, opened_by, closed_by, invalid_key, too_deep};
 ghost use Rattle.json5_grammar.specs.declared.code.ErrorCode.TheVariants as codes;
@@ -12,9 +11,10 @@ ghost use Rattle.json5_ser.specs.Brackets.{bracket_of};
 ghost use Rattle.json5_ser.specs.Commas.{comma_before, closed_after};
 ghost use Rattle.json5_ser.specs.Puts.{Puts};
 ghost use Rattle.json5_ser.specs.Stages.{is_started};
-ghost use Rattle.json5_ser.specs.Writes.{SerializerState, Writes, WritesTree, fresh, fresh_within, at_depth, after_closing};
+ghost use Rattle.json5_ser.specs.Writes.{SerializerState, Writes, fresh, fresh_within, at_depth, after_closing};
 
 mod integers;
+mod literals;
 mod strings;
 
 use crate::brackets::Brackets;
@@ -161,32 +161,6 @@ impl<W: Write + Drop> Serializer<W> {
         Ok(())
     }
 
-    /// Writes `null`.
-    ///
-    /// # Errors
-    ///
-    /// As every call: see [`Serializer`].
-    pub fn serialize_unit(&mut self) -> Result<()>
-        ensures { WritesTree null self.old result self.new }
-    {
-        self.put("null")
-    }
-
-    /// Writes `true` or `false`.
-    ///
-    /// # Errors
-    ///
-    /// As every call: see [`Serializer`].
-    pub fn serialize_bool(&mut self, value: bool) -> Result<()>
-        ensures { WritesTree (boolean value) self.old result self.new }
-    {
-        if value {
-            self.put("true")
-        } else {
-            self.put("false")
-        }
-    }
-
     /// Starts the line of a member, or of the bracket that closes, after a comma where one is due.
     pub(crate) fn start_line(&mut self, comma_due: bool) -> Put
         ensures { Puts (comma_before comma_due (piece (line self.old.depth))) self.old result self.new }
@@ -194,16 +168,38 @@ impl<W: Write + Drop> Serializer<W> {
         self.put_short(line(comma_due, self.depth))
     }
 
+    /// Refuses a bracket past the limit.
+    #[cold]
+    #[inline(never)]
+    fn refuse_bracket(&mut self) -> Put
+        ensures { Puts (stopped too_deep) self.old result self.new }
+    {
+        if !self.failed {
+            self.failed = true;
+            return Err(Refused::TooDeep);
+        }
+        Err(Refused::Before)
+    }
+
+    /// Opens a collection.
+    pub(crate) fn open_short(&mut self, brackets: Brackets) -> Put
+        ensures opens { Puts (opened_by self.old.limit self.old.depth (opening (bracket_of brackets))) self.old result (at_depth self.old.depth self.new) }
+        ensures deeper { OnOk result (self.new.depth ≡ self.old.depth + 1) }
+    {
+        if self.depth >= self.limit.get() {
+            return self.refuse_bracket();
+        }
+        self.put_short(brackets.opening())?;
+        self.depth += 1;
+        Ok(())
+    }
+
     /// Opens a collection.
     pub(crate) fn open(&mut self, brackets: Brackets) -> Result<()>
         ensures opens { Writes (opened_by self.old.limit self.old.depth (opening (bracket_of brackets))) self.old result (at_depth self.old.depth self.new) }
         ensures deeper { OnOk result (self.new.depth ≡ self.old.depth + 1) }
     {
-        if self.depth >= self.limit.get() {
-            return self.refuse(ErrorCode::TooDeep);
-        }
-        self.put_short(brackets.opening())?;
-        self.depth += 1;
+        self.open_short(brackets)?;
         Ok(())
     }
 

@@ -34,7 +34,7 @@ impl Serialize for Value {
 fn write_fields<W: Write + Drop>(fields: &[(String, Value)], ser: &mut Serializer<W>) -> Result<()>
     ensures { WritesTree (object (fields_of key_of_string value_tree fields.now)) ser.old result ser.new }
 {
-    ser.open(Brackets::Curly)?;
+    ser.open_short(Brackets::Curly)?;
     let mut comma_due = false;
     for (key, value) in fields {
         let written = ser.member_line(comma_due, key, value);

@@ -1,19 +1,19 @@
-use Rattle.std.proofs.Common.{rules, ◌<◌, ◌≤◌, ◌+◌, false, length, drop, sym, ap, drop_of_length-le}
+use Rattle.std.proofs.Common.{rules, ◌<◌, ◌≤◌, false, length, sym, ap, drop_of_length-le}
 use Rattle.json5_grammar.specs.Language.Characters.{left_bracket, right_bracket}
 use Rattle.json5_ser.specs.WrittenTrees.{elements_of}
 use Rattle.json5_ser.specs.Out.{elements_out}
 use Rattle.json5_ser.proofs.Members.{item_first}
-use Rattle.json5_ser.proofs.Commas.{open_refused, left_first, elements_as, element_line_on, element_line_returned, left_ended}
+use Rattle.json5_ser.proofs.Commas.{open_put_refused, left_first, elements_as, element_line_on, element_line_returned, left_ended}
 use Rattle.json5_ser.proofs.PutsJoined.{wrote_whole}
 use Rattle.json5_ser.proofs.lists.write_items.Goals as goal
 
-pub returns-in_err-open : goal.returns-in_err-open
-returns-in_err-open g c =
+pub returns-in_err-open_short : goal.returns-in_err-open_short
+returns-in_err-open_short g c =
     let at = c.args.ser.now in
-    open_refused left_bracket (elements_out at.limit (elements_of g.T.Serialize.tree c.args.items.now) at.depth false) at _ _ _ c.in_err-open.ensures.opens c.from_residual.ensures.1
+    open_put_refused left_bracket (elements_out at.limit (elements_of g.T.Serialize.tree c.args.items.now) at.depth false) at _ _ _ c.in_err-open_short.ensures.opens c.from_residual.ensures.1
 
 pub loop-item-init : goal.loop-item-init
-loop-item-init g c = record { left = left_first left_bracket _ _ _ c.in_ok-open.ensures.opens c.in_ok-open.ensures.deeper }
+loop-item-init g c = record { left = left_first left_bracket _ _ _ c.in_ok-open_short.ensures.opens c.in_ok-open_short.ensures.deeper }
 
 pub returns-then-is_err : goal.returns-then-is_err
 returns-then-is_err g c =

@@ -6,7 +6,7 @@ use Rattle.json5_ser.specs.ValueTrees.{value_tree, key_of_string}
 use Rattle.json5_ser.specs.Writes.{WritesTree}
 use Rattle.json5_ser.specs.Out.{fields_out}
 use Rattle.json5_grammar.specs.Language.Characters.{left_brace, right_brace}
-use Rattle.json5_ser.proofs.Commas.{open_refused, left_first, fields_as, member_line_on, member_line_returned, left_ended}
+use Rattle.json5_ser.proofs.Commas.{open_put_refused, left_first, fields_as, member_line_on, member_line_returned, left_ended}
 use Rattle.json5_ser.proofs.PutsJoined.{wrote_whole}
 use Rattle.json5_ser.proofs.ValuesInside.{tree-String, tree-Array, tree-Object}
 use Rattle.json5_ser.proofs.value.+tree.Goals as goal
@@ -22,13 +22,13 @@ ValueSerialize::serialize-returns-in-Array g t c = rw (c.in-Array.is, tree-Array
 pub ValueSerialize::serialize-returns-in-Object : goal.ValueSerialize::serialize-returns-in-Object
 ValueSerialize::serialize-returns-in-Object g t c = rw (c.in-Object.is, tree-Object c.in-Object.fields, ← c.deref.ensures.value) c.write_fields.ensures
 
-pub write_fields-returns-in_err-open : goal.write_fields-returns-in_err-open
-write_fields-returns-in_err-open g t c =
+pub write_fields-returns-in_err-open_short : goal.write_fields-returns-in_err-open_short
+write_fields-returns-in_err-open_short g t c =
     let at = c.args.ser.now in
-    open_refused left_brace (fields_out at.limit (fields_of key_of_string value_tree c.args.fields.now) at.depth false) at _ _ _ c.in_err-open.ensures.opens c.from_residual.ensures.1
+    open_put_refused left_brace (fields_out at.limit (fields_of key_of_string value_tree c.args.fields.now) at.depth false) at _ _ _ c.in_err-open_short.ensures.opens c.from_residual.ensures.1
 
 pub write_fields-loop-key-init : goal.write_fields-loop-key-init
-write_fields-loop-key-init g t c = record { left = left_first left_brace _ _ _ c.in_ok-open.ensures.opens c.in_ok-open.ensures.deeper }
+write_fields-loop-key-init g t c = record { left = left_first left_brace _ _ _ c.in_ok-open_short.ensures.opens c.in_ok-open_short.ensures.deeper }
 
 pub write_fields-returns-then-is_err : goal.write_fields-returns-then-is_err
 write_fields-returns-then-is_err g t c =
