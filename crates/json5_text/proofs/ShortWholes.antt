@@ -26,13 +26,13 @@ use Rattle.json5_text.proofs.NumberRuns.{PassesAscii, digit_is_ascii, not_begun,
 pub len_counted : (s : List ℕ) (found : FewDigits) → IsFewDigits s found → found.len ≡ length (take_while is_digit s)
 len_counted s found k = let a = length-take (prefix_len is_digit s) s in let l = prefix_len-le-length is_digit s in omega (arith, k.counted, a, l)
 
-lengthens_ascii : PassesAscii lengthens_digits
+pub lengthens_ascii : PassesAscii lengthens_digits
 lengthens_ascii c h = grind (arith, nat_tests)
 
 pub ends_chars : (p : ℕ → Bool) (r : List ℕ) → PassesAscii p → IsUtf8 r → NotBegun p r → NotBegun p (chars r)
 ends_chars p r a v n = subst (NotBegun p) (chars_from_encodes v.0 r v v.1.1) (not_begun p v.0 r a v.1.1 n)
 
-whole_digits : (ds : List ℕ) → Each is_digit ds → model.is_integer ds ≡ true → Integer ds
+pub whole_digits : (ds : List ℕ) → Each is_digit ds → model.is_integer ds ≡ true → Integer ds
 whole_digits [] e h = absurd (cc)
 whole_digits (c ∷ s) (char d e) h = decide (c == 48) s refl e h
   where
@@ -61,7 +61,7 @@ and-false false = refl
 
 -- ---- as a number of the grammar
 
-literal_end : (c : ℕ) → lengthens_digits c ≡ false → (after_zero c ≡ false) × (in_run c ≡ false)
+pub literal_end : (c : ℕ) → lengthens_digits c ≡ false → (after_zero c ≡ false) × (in_run c ≡ false)
 literal_end c h = (grind (arith, nat_tests), grind (arith, nat_tests))
 
 body_ends : (ds : List ℕ) → Integer ds → (c : ℕ) → lengthens_digits c ≡ false → lengthens_body ds c ≡ false
@@ -73,7 +73,7 @@ digits_no_sign : (ds : List ℕ) → Integer ds → (c : ℕ) → lengthens ds c
 digits_no_sign ds lone_zero c = refl
 digits_no_sign (a ∷ s) (nonzero k e) c = let n = digit_no_sign a (nonzero_digit a k) in rw (n.0, n.1) refl
 
-not_lengthened : (p q : ℕ → Bool) (r : List ℕ) → ((c : ℕ) → p c ≡ false → q c ≡ false) → NotBegun p r → NotBegun q r
+pub not_lengthened : (p q : ℕ → Bool) (r : List ℕ) → ((c : ℕ) → p c ≡ false → q c ≡ false) → NotBegun p r → NotBegun q r
 not_lengthened p q [] f n = tt
 not_lengthened p q (c ∷ r) f n = f c n
 

@@ -29,3 +29,5 @@ pub mod ScanTextTokens
 pub mod ScanBlanks
 pub mod Short
 pub mod ShortTexts
+pub mod ShortNumbers
+pub mod ShortWords

@@ -184,7 +184,7 @@ fn front_digits(bytes: &[u8]) -> FewDigits
 
 /// Whether the byte at this index, if there is one, may continue a number after its digits.
 #[inline(always)]
-fn goes_on(bytes: &[u8], place: usize) -> bool
+pub(crate) fn goes_on(bytes: &[u8], place: usize) -> bool
     ensures { result ≡ false → NotBegun lengthens_digits (drop place bytes.now) }
 {
     place < bytes.len() && lengthens_digits(bytes[place])

@@ -56,6 +56,7 @@ fn goes_on(text: &str) -> bool
 }
 
 /// The tail with the exponent whose digits are in front, if the decimal run ends with them.
+#[inline(always)]
 fn read_exponent_digits(negative: bool, text: &str) -> Option<Tail>
     ensures { ReadsTail (model.exponent_digits negative (run_of (chars text.now))) text.now result }
 {
@@ -74,6 +75,7 @@ fn read_exponent_digits(negative: bool, text: &str) -> Option<Tail>
 
 /// The tail whose exponent is all of the decimal run in front, or that has no exponent if there is no such run; None if the
 /// run is no exponent.
+#[inline(always)]
 fn read_exponent(text: &str) -> Option<Tail>
     ensures { ReadsTail (model.exponent_at (run_of (chars text.now))) text.now result }
 {
@@ -91,7 +93,7 @@ fn read_exponent(text: &str) -> Option<Tail>
 }
 
 /// Whether this is `0`, or digits that don't begin with a zero.
-fn is_integer(digits: &str) -> bool
+pub(crate) fn is_integer(digits: &str) -> bool
     ensures { result ≡ model.is_integer digits.now }
 {
     let bytes = digits.as_bytes();
@@ -123,6 +125,7 @@ fn has_digits(before: &str, after: &str) -> bool
 }
 
 /// The literal that is all of the decimal run in front.
+#[inline(always)]
 pub(crate) fn read_literal(text: &str) -> Option<Literal>
     ensures { ReadsLiteral (model.literal_at (run_of (chars text.now))) text.now result }
 {

@@ -90,6 +90,7 @@ fn whole_number(negative: bool, literal: &Literal) -> Option<Whole>
 }
 
 /// The decimal that a literal means which is no whole number in range; None if its exponent is out of range.
+#[inline(always)]
 pub(crate) fn finite_decimal<'t>(negative: bool, literal: &Literal<'t>) -> Option<DecimalRef<'t>>
     requires digits { HasDigits literal.now }
     requires other { is_whole_literal negative literal.now ≡ false }

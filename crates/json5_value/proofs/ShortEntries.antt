@@ -1,6 +1,6 @@
 -- The short ways to entries and past values take what reading on lists takes.
 use Rattle.std.proofs.Common.{◌≡◌, ℕ, Bool, true, false, List, [], ◌∷◌, ◌++◌, length, refl, ap, sym, ◌∙◌, subst, append_assoc, arith, length-append, inl, inr, Option, Some, None, String, string_bytes}
-use Rattle.std.specs.Prelude.{◌==◌, ℤ, Ok, Result, Err, is_some, not}
+use Rattle.std.specs.Prelude.{◌==◌, Ok, Result, Err, is_some, not}
 use Rattle.std.specs.declared.alloc.Global.{Global}
 use Rattle.std.specs.Str.{all_scalars, chars}
 use Rattle.std.proofs.lemmas.Str.{chars-encodes}
@@ -10,7 +10,7 @@ use Rattle.json5_grammar.specs.Language.Blanks.{is_solid, Gap, Solid}
 use Rattle.json5_grammar.specs.Language.Characters.{NotBegun}
 use Rattle.json5_grammar.specs.Faults.Fronts.{BracketKind, of_array, of_object, closing}
 use Rattle.json5_grammar.specs.Model.Collections.{IsSign, IsEnd, ReadsKey}
-use Rattle.json5_grammar.specs.Language.Numbers.{whole}
+use Rattle.json5_grammar.specs.Language.Numbers.{Number}
 use Rattle.json5_grammar.specs.Model.Reading.{Read, got, and_then}
 use Rattle.json5_grammar.specs.Model.ReadBlanks.{skip, between}
 use Rattle.json5_grammar.specs.Model.ReadSteps.{forget, colon_after, separator, comma_at}
@@ -30,6 +30,7 @@ use Rattle.json5_grammar.proofs.ValueHeads.{val_head, value_solid, begins_value_
 use Rattle.json5_grammar.proofs.ValuesRead.{read_complete}
 use Rattle.json5_text.specs.declared.value.Value.{Value}
 use Rattle.json5_text.specs.declared.value.Value as value
+use Rattle.json5_text.specs.NumberViews.{whole_in}
 use Rattle.json5_text.specs.ValueViews.{value_of}
 use Rattle.json5_text.specs.ValueViews as datum
 use Rattle.json5_text.specs.Cursor.{Cursor, Took}
@@ -37,7 +38,9 @@ use Rattle.json5_text.specs.declared.error.Error.{Error}
 use Rattle.json5_text.specs.declared.short.ShortStep.{ShortStep}
 use Rattle.json5_text.specs.declared.short.ShortStep.TheVariants as steps
 use Rattle.json5_text.specs.declared.short_texts.Span.{Span}
-use Rattle.json5_text.specs.Short.{AfterGap, StepsTo, IsStep, Stepped, TookWhole, TakesShortWhole, TakesShortStep, TakesShortSign}
+use Rattle.json5_text.specs.Short.{AfterGap, StepsTo, IsStep, Stepped, TookNumber, TakesShortStep, TakesShortSign}
+use Rattle.json5_text.specs.ShortNumbers.{TakesShortNumber}
+use Rattle.json5_text.specs.ShortWords.{TakesShortWord}
 use Rattle.json5_text.specs.ShortTexts.{TakesShortKey, TakesShortString, IsTextAt}
 use Rattle.json5_text.specs.TextTokens.{IsSliceAt}
 use Rattle.json5_text.specs.Errors.{LacksMemory}
@@ -45,6 +48,7 @@ use Rattle.json5_text.proofs.TextScalars.{key_scalars}
 use Rattle.json5_value.specs.declared.brackets.Brackets.{Brackets}
 use Rattle.json5_value.specs.declared.brackets.BracketKind.{BracketKind as OwnKind}
 use Rattle.json5_value.specs.declared.brackets.BracketKind.TheVariants as kind
+use Rattle.json5_value.specs.declared.kinds.Literal.{Literal}
 use Rattle.json5_value.specs.declared.kinds.ValueKind.{ValueKind}
 use Rattle.json5_value.specs.declared.kinds.ValueKind.TheVariants as kinds
 use Rattle.json5_value.specs.declared.short.NameLeft.{NameLeft}
@@ -52,7 +56,7 @@ use Rattle.json5_value.specs.declared.short.NameLeft.TheVariants as names
 use Rattle.json5_value.specs.declared.short.ShortEntry.TheVariants as entry
 use Rattle.json5_value.specs.Brackets.{bracket_of, brackets_of}
 use Rattle.json5_value.specs.Entries.{entry_front, entry_start, next_entry}
-use Rattle.json5_value.specs.Kinds.{kind_at}
+use Rattle.json5_value.specs.Kinds.{kind_at, word_of}
 use Rattle.json5_value.specs.Keeping.{Keeps, IsOfTree, IsKeyText, OwnsText, tree_at}
 use Rattle.json5_value.specs.Opening.{AtScalar, AtKind}
 use Rattle.json5_value.specs.Short.{EntersShort, ReachesMember, PassesShort, PassesTo, name_at, name_left}
@@ -61,7 +65,7 @@ use Rattle.json5_value.proofs.BuildScalars.{scalar_taken, text_taken}
 use Rattle.json5_value.proofs.BuildSteps.{takes, not_taken, gave_text}
 use Rattle.json5_value.proofs.EntrySteps.{separator_is, front_closes, front_goes, closes_here, start_or_end}
 use Rattle.json5_value.proofs.EntryValues.{next_is, head_or_end, head_of, head_named, next_closed, element_reached}
-use Rattle.json5_value.proofs.Scalars.{number_value, tests_of}
+use Rattle.json5_value.proofs.Scalars.{literal_value, number_value, tests_of}
 use Rattle.json5_value.proofs.Shorter.{entry_shorter}
 use Rattle.json5_value.proofs.Signs.{closing_is}
 use Rattle.json5_value.proofs.Steps.{some_next, took_both, took_nothing, same_step, then_step}
@@ -248,27 +252,33 @@ pub string_short : (old new : Cursor) (c : ℕ) (found : ValueKind) (o : Option 
 string_short old new c found None b at is string same e = subst (PassesShort old new) (sym e) same
 string_short old new c found (Some span) b at is string k e = subst (PassesShort old new) (sym e) (string_passed old new c found span at is string k)
 
+-- ---- literals
+
+pub literal_short : (old new : Cursor) (c : ℕ) (found : ValueKind) (l : Literal) (b : Bool) → AtScalar c old → found ≡ kind_at c → found ≡ kinds.Literal l → TakesShortWord (word_of l) old new b → PassesShort old new b
+literal_short old new c found l false at is literal same = same
+literal_short old new c found l true at is literal took = λ room. (literal_value room old new c at.first found is l (Ok tt) at.ready literal (record { taken = took; refused = tt; kept = tt })).given
+
 -- ---- numbers
 
 -- a number has no blanks before it
-number_took : (old new : Cursor) (c : ℕ) (found : ValueKind) (z : ℤ) → AtScalar c old → found ≡ kind_at c → found ≡ kinds.Number → (k : TookWhole old new z) → Took old k.literal new
-number_took old new c found z at is number k =
+number_took : (old new : Cursor) (c : ℕ) (found : ValueKind) (n : Number) → AtScalar c old → found ≡ kind_at c → found ≡ kinds.Number → (k : TookNumber old new n) → Took old k.literal new
+number_took old new c found n at is number k =
     let (r, x) = some_next old.unread c at.first in
     let (none, phrase) = gap_before [] k.gap (k.literal ++ new.unread) c r blanks.Blanks.empty (begins_value_solid c (number_begins c (tests_of c found kinds.Number is number))) k.is_gap (value_solid new.unread (val_head (is_number k.is_number))) (sym x ∙ k.split) in
     record { split = x ∙ sym phrase; same = k.same }
 
-number_passed : (old new : Cursor) (c : ℕ) (found : ValueKind) (z : ℤ) → AtScalar c old → found ≡ kind_at c → found ≡ kinds.Number → TookWhole old new z → PassesShort old new true
-number_passed old new c found z at is number k room =
-    (number_value room old new c at.first found is (Ok (Some z)) at.ready number (record {
-      taken = (k.literal, whole z, number_took old new c found z at is number k, k.is_number, k.stops, refl);
+number_passed : (old new : Cursor) (c : ℕ) (found : ValueKind) (n : Number) → AtScalar c old → found ≡ kind_at c → found ≡ kinds.Number → TookNumber old new n → PassesShort old new true
+number_passed old new c found n at is number k room =
+    (number_value room old new c at.first found is (Ok (whole_in n)) at.ready number (record {
+      taken = (k.literal, n, number_took old new c found n at is number k, k.is_number, k.stops, refl);
       refused = tt;
       kept = tt;
       memory = λ s r n split num stops. refl;
     })).given
 
-pub number_short : (low high : ℤ) (old new : Cursor) (c : ℕ) (found : ValueKind) (o : Option ℤ) (b : Bool) → AtScalar c old → found ≡ kind_at c → found ≡ kinds.Number → TakesShortWhole low high old new o → b ≡ is_some o → PassesShort old new b
-number_short low high old new c found None b at is number same e = subst (PassesShort old new) (sym e) same
-number_short low high old new c found (Some z) b at is number k e = subst (PassesShort old new) (sym e) (number_passed old new c found z at is number k.took)
+pub number_short : (old new : Cursor) (c : ℕ) (found : ValueKind) (b : Bool) → AtScalar c old → found ≡ kind_at c → found ≡ kinds.Number → TakesShortNumber old new b → PassesShort old new b
+number_short old new c found false at is number same = same
+number_short old new c found true at is number (n, k) = number_passed old new c found n at is number k
 
 -- ---- texts, which are kept
 
@@ -297,8 +307,8 @@ key_front old mid new result same k = subst (λ (s : Cursor). Keeps IsKeyText (k
 
 -- ---- numbers, which are kept
 
-pub number_kept : (room : ℕ) (old new : Cursor) (z : ℤ) (v : Value) → AtKind kinds.Number old → TookWhole old new z → value_of v ≡ datum.number (whole z) → Keeps IsOfTree (tree_at room old) old new (Ok v)
-number_kept room old new z v at k is = scalar_taken room old new k.literal (trees.number (whole z)) v refl (number_took old new at.char (kind_at at.char) z at.scalar refl at.is k) (is_number k.is_number) k.stops is
+pub number_kept : (room : ℕ) (old new : Cursor) (n : Number) (v : Value) → AtKind kinds.Number old → TookNumber old new n → value_of v ≡ datum.number n → Keeps IsOfTree (tree_at room old) old new (Ok v)
+number_kept room old new n v at k is = scalar_taken room old new k.literal (trees.number n) v refl (number_took old new at.char (kind_at at.char) n at.scalar refl at.is k) (is_number k.is_number) k.stops is
 
 pub kind_front : (k : ValueKind) (old mid : Cursor) → mid ≡ old → AtKind k old → AtKind k mid
 kind_front k old mid same at = subst (AtKind k) (sym same) at

@@ -3,11 +3,13 @@
 
 ghost use Rattle.json5_grammar.specs.Language.Blanks.{Solid};
 ghost use Rattle.json5_grammar.specs.Model.ReadSteps.{colon_after};
+ghost use Rattle.json5_text.specs.ShortWords.{TakesShortWord};
+ghost use Rattle.json5_value.specs.Kinds.{word_of};
 ghost use Rattle.json5_value.specs.Opening.{AtScalar};
 ghost use Rattle.json5_value.specs.Short.{EntersShort, PassesShort, PassesTo, name_at};
 
 use crate::brackets::BracketKind;
-use crate::kinds::{ValueKind, kind_at};
+use crate::kinds::{Literal, ValueKind, kind_at};
 use json5_text::input::Input;
 use json5_text::scanner::Scanner;
 use json5_text::short::ShortStep;
@@ -91,15 +93,28 @@ pub(crate) fn short_entry<I: Input>(
     }
 }
 
-/// Passes over a string without an escape or a whole number of few digits, and says whether one is in front.
+/// Passes over the literal, and says whether it was next.
+#[inline(always)]
+pub(crate) fn short_literal<I: Input>(scanner: &mut Scanner<I>, literal: Literal) -> bool
+    ensures { TakesShortWord (word_of literal) scanner.old scanner.new result }
+{
+    match literal {
+        Literal::Null => scanner.short_word("null"),
+        Literal::True => scanner.short_word("true"),
+        Literal::False => scanner.short_word("false"),
+    }
+}
+
+/// Passes over a literal, a string without an escape or a number of few digits, and says whether one is in front.
 #[inline(always)]
 pub(crate) fn short_scalar<I: Input>(scanner: &mut Scanner<I>, c: char) -> bool
     requires { AtScalar c scanner.old }
     ensures { PassesShort scanner.old scanner.new result }
 {
     match kind_at(c) {
+        ValueKind::Literal(literal) => short_literal(scanner, literal),
         ValueKind::String => scanner.short_string().is_some(),
-        ValueKind::Number => scanner.short_whole(i128::MIN, i128::MAX).is_some(),
-        _ => false,
+        ValueKind::Number => scanner.short_number(),
+        ValueKind::Other => false,
     }
 }

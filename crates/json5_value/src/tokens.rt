@@ -15,6 +15,7 @@ use crate::brackets::BracketKind;
 use crate::entries::{skip_colon, skip_to_entry};
 use crate::faults::fault_here;
 use crate::kinds::{Literal, ValueKind, kind_at, skip_literal};
+use crate::short::short_literal;
 use json5_text::ErrorCode;
 use json5_text::error::{Error, Result};
 use json5_text::input::Input;
@@ -96,7 +97,7 @@ pub(crate) fn next_member_key<I: Input>(
 }
 
 #[inline(always)]
-fn value_of_literal(literal: Literal) -> Value
+pub(crate) fn value_of_literal(literal: Literal) -> Value
     ensures { value_of result ≡ datum_of_literal literal }
 {
     match literal {
@@ -114,6 +115,28 @@ fn value_of_number(number: Number) -> Value
         Number::Whole(whole) => Value::Whole(whole),
         Number::Decimal(decimal) => Value::Decimal(decimal),
     }
+}
+
+/// Takes the literal.
+#[inline(always)]
+fn read_literal<I: Input>(scanner: &mut Scanner<I>, literal: Literal) -> Result<Value>
+    requires { AtKind (kind.Literal literal) scanner.old }
+    ensures { ReadsScalar scanner.old scanner.new result }
+{
+    if short_literal(scanner, literal) {
+        return Ok(value_of_literal(literal));
+    }
+    read_literal_slowly(scanner, literal)
+}
+
+/// The same, whether or not it is whole.
+#[inline(never)]
+fn read_literal_slowly<I: Input>(scanner: &mut Scanner<I>, literal: Literal) -> Result<Value>
+    requires { AtKind (kind.Literal literal) scanner.old }
+    ensures { ReadsScalar scanner.old scanner.new result }
+{
+    skip_literal(scanner, literal)?;
+    Ok(value_of_literal(literal))
 }
 
 /// Takes a string.
@@ -149,8 +172,11 @@ fn read_number<I: Input>(scanner: &mut Scanner<I>) -> Result<Value>
     requires { AtKind kind.Number scanner.old }
     ensures { ReadsScalar scanner.old scanner.new result }
 {
-    match scanner.short_whole(i128::MIN, i128::MAX) {
-        Some(number) => Ok(value_of_number(Number::Whole(Whole::from_i128(number)))),
+    if let Some(number) = scanner.short_whole(i128::MIN, i128::MAX) {
+        return Ok(value_of_number(Number::Whole(Whole::from_i128(number))));
+    }
+    match scanner.short_decimal() {
+        Some(decimal) => Ok(value_of_number(Number::Decimal(decimal))),
         None => read_number_slowly(scanner),
     }
 }
@@ -171,10 +197,7 @@ pub(crate) fn read_scalar<I: Input>(scanner: &mut Scanner<I>, c: char) -> Result
     ensures { ReadsScalar scanner.old scanner.new result }
 {
     match kind_at(c) {
-        ValueKind::Literal(literal) => {
-            skip_literal(scanner, literal)?;
-            Ok(value_of_literal(literal))
-        }
+        ValueKind::Literal(literal) => read_literal(scanner, literal),
         ValueKind::String => read_string(scanner),
         ValueKind::Number => read_number(scanner),
         ValueKind::Other => Err(fault_here(scanner, ErrorCode::ExpectedValue)),
