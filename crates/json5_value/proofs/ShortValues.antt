@@ -5,7 +5,7 @@ use Rattle.json5_grammar.specs.Faults.Fronts.{of_array}
 use Rattle.json5_grammar.specs.Model.Reading.{Read, got, and_then}
 use Rattle.json5_grammar.specs.Model.ReadSteps.{forget, next_value, trees_after}
 use Rattle.json5_grammar.specs.Model.ReadValues.{read}
-use Rattle.json5_grammar.specs.Language.Numbers.{whole}
+use Rattle.json5_grammar.specs.Language.Numbers.{Decimal, whole, decimal}
 use Rattle.json5_text.specs.declared.value.Value.{Value, the_lemmas}
 use Rattle.json5_text.specs.declared.value.Value as value
 use Rattle.json5_text.specs.Cursor.{Cursor}
@@ -14,7 +14,8 @@ use Rattle.json5_text.specs.ValueViews as datum
 use Rattle.json5_value.specs.BuildSteps.{elements_before, array_with, array_at}
 use Rattle.json5_value.specs.Keeping.{Keeps, IsOfTree, as_datum, tree_at, datum_at}
 use Rattle.json5_value.specs.declared.short_values.ShortElements.TheVariants as reached
-use Rattle.json5_value.specs.ShortValues.{Leaves, LeavesLess, TakesElements, element_left}
+use Rattle.json5_value.specs.declared.short_values.ShortValue.{ShortValue}
+use Rattle.json5_value.specs.ShortValues.{KeepsShort, Leaves, LeavesLess, TakesElements, element_left}
 use Rattle.json5_value.specs.Steps.{IsInside, SameText, Gave}
 use Rattle.json5_value.proofs.BuildRests.{array_turn, array_step, no_more_elements, array_grown}
 use Rattle.json5_value.proofs.BuildScalars.{datum_got}
@@ -26,6 +27,13 @@ use Rattle.json5_value.proofs.Steps.{ready_after, took_both, took_nothing}
 
 pub view_whole : (z : ℤ) → value_of (value.Whole z) ≡ datum.number (whole z)
 view_whole z = search (rules, the_lemmas)
+
+pub view_decimal : (d : Decimal) → value_of (value.Decimal d) ≡ datum.number (decimal d)
+view_decimal d = search (rules, the_lemmas)
+
+-- nothing was taken before it
+pub short_front : (old mid new : Cursor) (result : ShortValue) → mid ≡ old → KeepsShort mid new result → KeepsShort old new result
+short_front old mid new result same k = subst (λ (s : Cursor). KeepsShort s new result) same k
 
 pub datum_kept : (room : ℕ) (old new : Cursor) (v : Value) → Keeps IsOfTree (tree_at room old) old new (Ok v) → Gave (datum_at room old) (value_of v) old new
 datum_kept room old new v k =
@@ -44,9 +52,6 @@ pub record Passes (m n : ℕ → Read Datum) (at_start comma_due : Bool) (start 
   pub leaves : Leaves m n start now
   pub due : at_start ≡ true → comma_due ≡ true
   pub ready : IsInside now
-
-pub passes_none : (m : ℕ → Read Datum) (comma_due : Bool) (s : Cursor) → IsInside s → Passes m m comma_due comma_due s s
-passes_none m comma_due s ready = record { leaves = record { reads = λ d. refl; taken = []; took = took_nothing s s refl }; due = λ e. e; ready = ready }
 
 module _ (b : Bool) (before : List Value) (start : Cursor) (vs : List Value) (comma_due : Bool) (now : Cursor) (p : Passes (array_at before b start) (array_at vs comma_due now) b comma_due start now) where
   entered : (goes : Bool) (mid : Cursor) (d : ℕ) → Gave (next_value of_array comma_due now.unread) goes now mid → array_at before b start d ≡ array_turn (elements_before vs) d goes mid.unread

@@ -6,7 +6,9 @@ ghost use Rattle.json5_value.specs.declared.kinds.ValueKind.TheVariants as kind;
 ghost use Rattle.json5_value.specs.Opening.{AtKind};
 ghost use Rattle.json5_value.specs.Steps.{IsInside};
 
-use crate::kinds::{ValueKind, kind_at};
+use crate::kinds::{Literal, ValueKind, kind_at};
+use crate::short::short_literal;
+use crate::tokens::value_of_literal;
 use json5_text::input::Input;
 use json5_text::scanner::Scanner;
 use json5_text::short::ShortStep;
@@ -54,7 +56,19 @@ fn short_text<I: Input>(scanner: &mut Scanner<I>) -> ShortValue
     }
 }
 
-/// Takes a whole number of few digits.
+/// Takes a decimal whose digits take no memory. It isn't inlined, since it has more locals than the loops that need it.
+#[inline(never)]
+fn short_decimal<I: Input>(scanner: &mut Scanner<I>) -> ShortValue
+    requires { AtKind kind.Number scanner.old }
+    ensures { KeepsShort scanner.old scanner.new result }
+{
+    match scanner.short_decimal() {
+        Some(decimal) => ShortValue::Value(Value::Decimal(decimal)),
+        None => ShortValue::Other,
+    }
+}
+
+/// Takes a number of few digits.
 #[inline(always)]
 fn short_number<I: Input>(scanner: &mut Scanner<I>) -> ShortValue
     requires { AtKind kind.Number scanner.old }
@@ -62,7 +76,20 @@ fn short_number<I: Input>(scanner: &mut Scanner<I>) -> ShortValue
 {
     match scanner.short_whole(i128::MIN, i128::MAX) {
         Some(number) => ShortValue::Value(Value::Whole(Whole::from_i128(number))),
-        None => ShortValue::Other,
+        None => short_decimal(scanner),
+    }
+}
+
+/// Takes the literal.
+#[inline(always)]
+fn kept_literal<I: Input>(scanner: &mut Scanner<I>, literal: Literal) -> ShortValue
+    requires { AtKind (kind.Literal literal) scanner.old }
+    ensures { KeepsShort scanner.old scanner.new result }
+{
+    if short_literal(scanner, literal) {
+        ShortValue::Value(value_of_literal(literal))
+    } else {
+        ShortValue::Other
     }
 }
 
@@ -76,9 +103,10 @@ pub(crate) fn short_value<I: Input>(scanner: &mut Scanner<I>) -> ShortValue
         return ShortValue::Other;
     };
     match kind_at(c) {
+        ValueKind::Literal(literal) => kept_literal(scanner, literal),
         ValueKind::String => short_text(scanner),
         ValueKind::Number => short_number(scanner),
-        _ => ShortValue::Other,
+        ValueKind::Other => ShortValue::Other,
     }
 }
 

@@ -97,7 +97,7 @@ pub(crate) fn next_member_key<I: Input>(
 }
 
 #[inline(always)]
-fn value_of_literal(literal: Literal) -> Value
+pub(crate) fn value_of_literal(literal: Literal) -> Value
     ensures { value_of result ≡ datum_of_literal literal }
 {
     match literal {

@@ -1,0 +1,10 @@
+use Rattle.json5_grammar.specs.Language.Numbers.{decimal}
+use Rattle.json5_text.specs.declared.value.Value as value
+use Rattle.json5_value.proofs.ShortEntries.{number_kept}
+use Rattle.json5_value.proofs.ShortValues.{datum_kept, view_decimal}
+use Rattle.json5_value.proofs.short_values.short_decimal.Goals as goal
+
+pub returns-in-Some : goal.returns-in-Some
+returns-in-Some g c room =
+    datum_kept room c.args.scanner.now c.short_decimal.new.self (value.Decimal c.in-Some.decimal)
+    (number_kept room c.args.scanner.now c.short_decimal.new.self (decimal c.in-Some.decimal) (value.Decimal c.in-Some.decimal) c.requires (rw c.in-Some.is at c.short_decimal.ensures) (view_decimal c.in-Some.decimal))
