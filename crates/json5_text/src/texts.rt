@@ -1,6 +1,6 @@
 //! Strings and names: runs of characters that spell themselves, and escapes (ECMAScript 5.1 sections 7.6 and 7.8.4).
 
-ghost use Rattle.std.specs.Prelude.{◌≡◌, ◌++◌, OnOk, string_bytes};
+ghost use Rattle.std.specs.Prelude.{◌≡◌, ◌++◌, IfOk, OnOk, string_bytes};
 ghost use Rattle.std.specs.Str.{chars, encode_utf8_all};
 ghost use Rattle.json5_grammar.specs.Language.Characters.{NotBegun};
 ghost use Rattle.json5_text.specs.TokenResults.{AnswersAs, AnswersCow, AnswersMore, Passes};
@@ -128,6 +128,15 @@ pub(crate) fn skip_text(kind: Kind, text: &str) -> Result<&str, Refusal>
     }
 }
 
+/// An owned copy of the run, with room for a short rest.
+fn with_room(alloc: Global, run: &str) -> Result<String, AllocError>
+    ensures { IfOk result (λ text. string_bytes text ≡ run.now) }
+{
+    let mut text = String::with_capacity(alloc, run.len() + 16)?;
+    text.push_str(run)?;
+    Ok(text)
+}
+
 /// The run in front with what the rest spells from the first escape on, and what follows the string or name.
 fn read_escaped<'t>(
     alloc: Global,
@@ -139,7 +148,7 @@ fn read_escaped<'t>(
     requires { AtEscape escape.now after.now }
     ensures { AnswersMore run.now (text_at kind (chars escape.now)) result }
 {
-    let mut text = String::from_str(alloc, run)?;
+    let mut text = with_room(alloc, run)?;
     let mut stop = Stop::Escape(kind, escape, after);
     loop {
         match stop {

@@ -10,7 +10,7 @@ use Rattle.json5_text.proofs.ScanTexts.{goes_past, refused_past, bytes_past, nev
 use Rattle.json5_text.proofs.texts.read_escaped.Goals as goal
 
 pub loop-stop-init : goal.loop-stop-init
-loop-stop-init c = ([], true, (put_none (text_at c.args.kind (chars c.args.escape.now)), c.requires), c.in_ok-text.ensures.ok ∙ sym (append-nil c.args.run.now))
+loop-stop-init c = ([], true, (put_none (text_at c.args.kind (chars c.args.escape.now)), c.requires), c.in_ok-text.ensures ∙ sym (append-nil c.args.run.now))
 
 pub returns-in-End : goal.returns-in-End
 returns-in-End c =
