@@ -2,7 +2,7 @@
 use Rattle.std.proofs.Common.{◌≡◌, ◌<◌, true, Bool, refl, sym, ap, ◌∙◌, subst, length, Option, Some, None, Ok, Err}
 use Rattle.json5_value.specs.Brackets.{square}
 use Rattle.json5_value.specs.Places.{StartsAfter, PositionedAt}
-use Rattle.std.specs.Prelude.{◌||◌, is_some, Result, IfSome}
+use Rattle.std.specs.Prelude.{◌||◌, is_some, IfSome}
 use Rattle.json5_grammar.specs.Language.Trees.{Tree}
 use Rattle.json5_grammar.proofs.CollectionsPassed.{element_shorter}
 use Rattle.json5_text.specs.declared.error.Error.{Error}
@@ -10,7 +10,7 @@ use Rattle.json5_de.specs.State.{State, SameText}
 use Rattle.json5_de.specs.Law.{Steady}
 use Rattle.json5_de.specs.Access.{AccessState, bare, GivesElement, CompletesElement, CompletesClose, PositionedAtBracket}
 use Rattle.json5_de.specs.Seq.{RefusesElement}
-use Rattle.json5_de.specs.Lending.{state_of, blocking, Settles, KeepsAccess, ReadsNext}
+use Rattle.json5_de.specs.Lending.{state_of, blocking, KeepsAccess, ReadsNext}
 use Rattle.json5_de.specs.Stages.{is_comma_due, with_member}
 use Rattle.json5_de.specs.declared.seq.SeqAccess.{SeqAccess}
 use Rattle.json5_de.specs.declared.stage.Stage.{Stage}
@@ -21,16 +21,6 @@ use Rattle.json5_de.proofs.Next.{gives_seen, gives_next, refuses_next}
 -- the access with its reader in this state
 abbrev pub lent : {I : Type 0} → SeqAccess I → State → SeqAccess I
 lent s after = record s { de = record s.de { now = after } }
-
--- what was read is returned
-pub given_on : {I V : Type 0} {mid new : SeqAccess I} (read : Result V Error) (v : V) → Settles mid read new (Ok v) → (read ≡ Ok v) × (new ≡ blocking mid mid.failed)
-given_on (Ok w) v s = (sym s.given, s.blocks)
-given_on (Err own) v s = absurd s.refused
-
--- what was refused is refused at the bracket
-pub refused_on : {I V : Type 0} {mid new : SeqAccess I} (read : Result V Error) (e : Error) → Settles mid read new (Err e) → (own : Error) × (read ≡ Err own) × PositionedAtBracket (state_of mid) own e × (new ≡ blocking mid true)
-refused_on (Ok w) e s = let no : Err e ≡ Ok w = s.given in absurd (cc)
-refused_on (Err own) e s = (own, refl, s.refused, s.blocks)
 
 kept : {I : Type 0} (old : SeqAccess I) (after : State) (stage : Stage) (failed : Bool) → SameText (state_of old).reader after → KeepsAccess old (record (blocking (lent old after) failed) { stage = stage })
 kept old after stage failed same = record { same_reference = refl; blocks = refl; start = refl; same_text = same }

@@ -2,7 +2,7 @@
 use Rattle.std.proofs.Common.{◌≡◌, ◌<◌, true, false, Bool, refl, sym, ◌∙◌, subst, length, Option, Some, None, Ok, Err}
 use Rattle.json5_value.specs.Brackets.{curly}
 use Rattle.json5_value.specs.Places.{StartsAfter, PositionedAt}
-use Rattle.std.specs.Prelude.{is_some, Result, IfSome}
+use Rattle.std.specs.Prelude.{is_some, IfSome}
 use Rattle.json5_grammar.specs.Language.Trees.{Tree}
 use Rattle.json5_grammar.proofs.CollectionsPairs.{key_shorter, key_value_shorter}
 use Rattle.json5_text.specs.declared.error.Error.{Error}
@@ -12,7 +12,7 @@ use Rattle.json5_de.specs.Law.{Steady}
 use Rattle.json5_de.specs.Access.{bare, CompletesClose, PositionedAtBracket}
 use Rattle.json5_de.specs.Objects.{MapAccessState, bare_map, GivesPairKey, GivesPairValue, CompletesPairKey, CompletesPairValue}
 use Rattle.json5_de.specs.ObjectFaults.{RefusesPairKey, RefusesPairValue}
-use Rattle.json5_de.specs.Lending.{map_state_of, blocking_map, SettlesMap, KeepsMap, ReadsNextKey, ReadsNextValue}
+use Rattle.json5_de.specs.Lending.{map_state_of, blocking_map, KeepsMap, ReadsNextKey, ReadsNextValue}
 use Rattle.json5_de.specs.Stages.{is_comma_due, is_pending, with_key}
 use Rattle.json5_de.specs.declared.map.MapAccess.{MapAccess}
 use Rattle.json5_de.specs.declared.stage.Stage.{Stage}
@@ -24,16 +24,6 @@ use Rattle.json5_de.proofs.PairCodes.{gives_key_seen, gives_next_key, refuses_ne
 -- the access with its reader in this state
 abbrev pub lent : {I : Type 0} → MapAccess I → State → MapAccess I
 lent m after = record m { de = record m.de { now = after } }
-
--- what was read is returned
-pub given_on : {I V : Type 0} {mid new : MapAccess I} (read : Result V Error) (v : V) → SettlesMap mid read new (Ok v) → (read ≡ Ok v) × (new ≡ blocking_map mid mid.failed)
-given_on (Ok w) v s = (sym s.given, s.blocks)
-given_on (Err own) v s = absurd s.refused
-
--- what was refused is refused at the brace
-pub refused_on : {I V : Type 0} {mid new : MapAccess I} (read : Result V Error) (e : Error) → SettlesMap mid read new (Err e) → (own : Error) × (read ≡ Err own) × PositionedAtBracket (map_state_of mid).at own e × (new ≡ blocking_map mid true)
-refused_on (Ok w) e s = let no : Err e ≡ Ok w = s.given in absurd (cc)
-refused_on (Err own) e s = (own, refl, s.refused, s.blocks)
 
 kept : {I : Type 0} (old : MapAccess I) (after : State) (stage : Stage) (failed : Bool) → SameText (map_state_of old).at.reader after → KeepsMap old (record (blocking_map (lent old after) failed) { stage = stage })
 kept old after stage failed same = record { same_reference = refl; blocks = refl; start = refl; same_text = same }

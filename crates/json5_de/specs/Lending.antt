@@ -1,5 +1,5 @@
 -- An access and the reader that is lent to it.
-use Rattle.std.specs.Prelude.{◌≡◌, ◌<◌, ℕ, Bool, true, false, List, length, Option, None, is_some, Result, Ok, IfOk, IfErr, IfSome, IsErrAnd, MatchResult}
+use Rattle.std.specs.Prelude.{◌≡◌, ◌<◌, ℕ, Bool, true, false, List, length, Option, None, is_some, Result, IfOk, IfSome}
 use Rattle.json5_value.specs.Brackets.{square, curly}
 use Rattle.std.specs.Borrow.{Fml, GName, RattleType, MutBor, RestsIfErr}
 use Rattle.json5_text.specs.declared.error.Error.{Error}
@@ -64,11 +64,10 @@ module _ {I : Type 0} where
   abbrev pub blocking : SeqAccess I → Bool → SeqAccess I
   blocking s failed = record s { de = record s.de { now = record s.de.now { failed = true } }; failed = failed }
 
-  -- after a read the reader is blocked again, and a refusal is remembered; its fault gets the bracket's position if it had none
-  pub record Settles {V : Type 0} (old : SeqAccess I) (read : Result V Error) (new : SeqAccess I) (result : Result V Error) : Type 0 where
-    pub given : IfOk read (λ v. result ≡ Ok v)
-    pub refused : IfErr read (λ own. IsErrAnd result (PositionedAtBracket (state_of old) own))
-    pub blocks : MatchResult read (λ v. new ≡ blocking old old.failed) (λ own. new ≡ blocking old true)
+  -- after a refusal the reader is blocked again, and the refusal is remembered; its fault gets the bracket's position if it had none
+  pub record RefusesIn (old : SeqAccess I) (own : Error) (new : SeqAccess I) (result : Error) : Type 0 where
+    pub placed : PositionedAtBracket (state_of old) own result
+    pub blocks : new ≡ blocking old true
 
   abbrev pub map_state_of : MapAccess I → MapAccessState
   map_state_of m = record { at = record { reader = record m.de.now { failed = m.failed }; start = m.start; comma_due = is_comma_due m.stage }; pending = is_pending m.stage }
@@ -100,10 +99,9 @@ module _ {I : Type 0} where
   abbrev pub blocking_map : MapAccess I → Bool → MapAccess I
   blocking_map m failed = record m { de = record m.de { now = record m.de.now { failed = true } }; failed = failed }
 
-  pub record SettlesMap {V : Type 0} (old : MapAccess I) (read : Result V Error) (new : MapAccess I) (result : Result V Error) : Type 0 where
-    pub given : IfOk read (λ v. result ≡ Ok v)
-    pub refused : IfErr read (λ own. IsErrAnd result (PositionedAtBracket (map_state_of old).at own))
-    pub blocks : MatchResult read (λ v. new ≡ blocking_map old old.failed) (λ own. new ≡ blocking_map old true)
+  pub record RefusesInMap (old : MapAccess I) (own : Error) (new : MapAccess I) (result : Error) : Type 0 where
+    pub placed : PositionedAtBracket (map_state_of old).at own result
+    pub blocks : new ≡ blocking_map old true
 
 -- a name that was read, and the reader after it
 abbrev pub named_state_of : State → Named → EnumAccessState

@@ -68,6 +68,7 @@ pub trait Fields<I: Input>: Sized + Drop {
 
 impl<I: Input> Deserializer<I> {
     /// Reads a key as a string. A key of the short way is put into the memory of a spare string.
+    #[inline(always)]
     fn key_in(&mut self, spare: String) -> Result<String>
         ensures { ReadsKeyAs string_key string_bytes self.old self.new result }
     {
@@ -78,6 +79,7 @@ impl<I: Input> Deserializer<I> {
     }
 
     /// The next key of an object, as `pair_key::<String>` returns it, in the memory of a spare string.
+    #[inline(always)]
     fn pair_name(&mut self, comma_due: bool, spare: String) -> Result<Option<String>>
         ensures { ReadsKeyOfPair string_bytes every_text (RefusedAsKey string_key) comma_due self.old self.new result }
     {
@@ -135,9 +137,13 @@ impl<'a, I: Input> MapAccess<'a, I> {
         if field.is_some() {
             return Err(self.duplicate(name));
         }
-        let value = self.next_value::<V>()?;
-        *field = Some(value);
-        Ok(())
+        match self.next_value::<V>() {
+            Ok(value) => {
+                *field = Some(value);
+                Ok(())
+            }
+            Err(e) => Err(e),
+        }
     }
 
     /// Passes over the value of the key that was read last, as `next_value::<IgnoredAny>` does.
@@ -189,15 +195,20 @@ impl<'a, I: Input> MapAccess<'a, I> {
     }
 
     /// The next key, as `next_key::<String>` returns it, in the memory of a spare string.
+    #[inline(always)]
     fn next_name(&mut self, spare: String) -> Result<Option<String>>
         requires no_key { NoKeyPending self.old }
         ensures { ReadsNextKey string_bytes every_text (RefusedAsKey string_key) self.old self.new result }
     {
         self.de.set_failed(self.failed);
-        let read = self.de.pair_name(self.stage.is_comma_due(), spare);
-        let name = self.settle(read)?;
-        self.stage = self.stage.with_key(name.is_some());
-        Ok(name)
+        match self.de.pair_name(self.stage.is_comma_due(), spare) {
+            Ok(name) => {
+                self.de.set_failed(true);
+                self.stage = self.stage.with_key(name.is_some());
+                Ok(name)
+            }
+            Err(e) => Err(self.refused(e)),
+        }
     }
 
     /// Reads the members of an object into these fields, one after another, up to the closing brace, which `end` takes. A

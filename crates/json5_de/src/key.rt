@@ -144,6 +144,7 @@ impl<I: Input> MapKey<'_, I> {
 
 impl<I: Input> Deserializer<I> {
     /// Reads a K from the key that is next.
+    #[inline(always)]
     pub(crate) fn read_key<K: DeserializeKey<I>>(&mut self) -> Result<K>
         ensures { ReadsKeyOf K.content K.convert K.refuses self.old self.new result }
     {

@@ -134,6 +134,7 @@ impl<I: Input> Deserializer<I> {
     }
 
     /// A colon and the value after a key.
+    #[inline(always)]
     fn pair_value<V: Deserialize<I>>(&mut self) -> Result<V>
         ensures sound { IfOk result (GivesPairValue V.content V.convert (bare_map self.old false true) (bare_map self.new true false)) }
         ensures complete { CompletesPairValue V.convert (bare_map self.old false true) result }
@@ -146,21 +147,18 @@ impl<I: Input> Deserializer<I> {
 }
 
 impl<'a, I: Input> MapAccess<'a, I> {
-    ghost use Rattle.json5_de.specs.Lending.{map_state_of, KeyPending, NoKeyPending, map_brace, SettlesMap, ReadsNextKey, ReadsNextValue};
+    ghost use Rattle.json5_de.specs.Lending.{map_state_of, KeyPending, NoKeyPending, map_brace, RefusesInMap, ReadsNextKey, ReadsNextValue};
 
-    /// Blocks the reader again after one of its calls, and remembers a refusal. A fault without a position gets that of the
-    /// opening brace.
-    pub(crate) fn settle<T>(&mut self, read: Result<T>) -> Result<T>
-        ensures { SettlesMap self.old read self.new result }
+    /// Blocks the reader again after one of its calls was refused, and remembers that. A fault without a position gets that of
+    /// the opening brace.
+    #[cold]
+    #[inline(never)]
+    pub(crate) fn refused(&mut self, fault: Error) -> Error
+        ensures { RefusesInMap self.old fault self.new result }
     {
         self.de.set_failed(true);
-        match read {
-            Ok(value) => Ok(value),
-            Err(e) => {
-                self.failed = true;
-                Err(self.place(e))
-            }
-        }
+        self.failed = true;
+        self.place(fault)
     }
 
     /// Reads the key of the next member, and the comma before it. Returns none where the closing brace is next, which `end`
@@ -180,10 +178,14 @@ impl<'a, I: Input> MapAccess<'a, I> {
         ensures { ReadsNextKey K.content K.convert K.refuses self.old self.new result }
     {
         self.de.set_failed(self.failed);
-        let read = self.de.pair_key(self.stage.is_comma_due());
-        let key = self.settle(read)?;
-        self.stage = self.stage.with_key(key.is_some());
-        Ok(key)
+        match self.de.pair_key(self.stage.is_comma_due()) {
+            Ok(key) => {
+                self.de.set_failed(true);
+                self.stage = self.stage.with_key(key.is_some());
+                Ok(key)
+            }
+            Err(e) => Err(self.refused(e)),
+        }
     }
 
     /// Reads the colon and the value of the key that was read last.
@@ -200,10 +202,14 @@ impl<'a, I: Input> MapAccess<'a, I> {
         ensures { ReadsNextValue V.content V.convert V.refuses self.old self.new result }
     {
         self.de.set_failed(self.failed);
-        let read = self.de.pair_value::<V>();
-        let value = self.settle(read)?;
-        self.stage = Stage::Started;
-        Ok(value)
+        match self.de.pair_value::<V>() {
+            Ok(value) => {
+                self.de.set_failed(true);
+                self.stage = Stage::Started;
+                Ok(value)
+            }
+            Err(e) => Err(self.refused(e)),
+        }
     }
 
     /// Says whether a key was read whose value wasn't. A call that is refused doesn't change it.

@@ -26,6 +26,8 @@ fn begins_key(c: char) -> bool
 }
 
 /// Whether the fault doesn't get a key's position: the input ended, memory ran out or the reader had failed.
+#[cold]
+#[inline(never)]
 fn is_positionless(error: &Error) -> bool
     ensures { result ≡ is_positionless (kind_of error.now) }
 {
@@ -51,6 +53,7 @@ fn is_positionless(error: &Error) -> bool
 
 impl<I: Input> Deserializer<I> {
     /// Whether a key may begin with what is next.
+    #[inline(always)]
     pub(crate) fn at_key(&self) -> bool
         ensures found { result ≡ true → BeginsKey self.now.unread }
         ensures other { result ≡ false → NotBegun faults.begins_key self.now.unread }
@@ -62,6 +65,7 @@ impl<I: Input> Deserializer<I> {
     }
 
     /// Goes to the next key and returns its offset, or to the closing brace and returns None.
+    #[inline(always)]
     pub(crate) fn advance_to_key(&mut self, comma_due: bool) -> Result<Option<usize>>
         ensures sound { IfOk result (GoesToKey comma_due self.old self.new) }
         ensures refused { IfErr result (RefusedBy (NoKey comma_due) self.old) }
@@ -81,6 +85,7 @@ impl<I: Input> Deserializer<I> {
     }
 
     /// A key that was read at this offset. A fault gets the key's position if it has none and may have one.
+    #[inline(always)]
     pub(crate) fn positioned_key<K>(&self, read: Result<K>, start: usize) -> Result<Option<K>>
         ensures { PositionsKey (StartsAfter self.now.input start) read result }
     {
@@ -92,6 +97,7 @@ impl<I: Input> Deserializer<I> {
     }
 
     /// The next key of an object, or None if the closing brace is next.
+    #[inline(always)]
     pub(crate) fn pair_key<K: DeserializeKey<I>>(&mut self, comma_due: bool) -> Result<Option<K>>
         ensures { ReadsKeyOfPair K.content K.convert K.refuses comma_due self.old self.new result }
     {

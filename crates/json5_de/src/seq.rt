@@ -147,22 +147,18 @@ impl<I: Input> Deserializer<I> {
 }
 
 impl<'a, I: Input> SeqAccess<'a, I> {
-    ghost use Rattle.json5_de.specs.Lending.{state_of, brace_of, KeepsAccess, ReadsNext, Settles};
+    ghost use Rattle.json5_de.specs.Lending.{state_of, brace_of, KeepsAccess, ReadsNext, RefusesIn};
 
-    /// Blocks the reader again after one of its calls, and remembers a refusal. A fault without a position gets that of the
-    /// opening bracket.
-    #[inline(always)]
-    fn settle<T>(&mut self, read: Result<T>) -> Result<T>
-        ensures { Settles self.old read self.new result }
+    /// Blocks the reader again after one of its calls was refused, and remembers that. A fault without a position gets that of
+    /// the opening bracket.
+    #[cold]
+    #[inline(never)]
+    fn refused(&mut self, fault: Error) -> Error
+        ensures { RefusesIn self.old fault self.new result }
     {
         self.de.set_failed(true);
-        match read {
-            Ok(value) => Ok(value),
-            Err(e) => {
-                self.failed = true;
-                Err(self.place(e))
-            }
-        }
+        self.failed = true;
+        self.place(fault)
     }
 
     /// Reads the next element, and the comma before it. Returns none where the closing bracket is next, which `end` takes.
@@ -179,10 +175,14 @@ impl<'a, I: Input> SeqAccess<'a, I> {
         ensures { ReadsNext T.content T.convert T.refuses self.old self.new result }
     {
         self.de.set_failed(self.failed);
-        let read = self.de.element(self.stage.is_comma_due());
-        let next = self.settle(read)?;
-        self.stage = self.stage.with_member(next.is_some());
-        Ok(next)
+        match self.de.element(self.stage.is_comma_due()) {
+            Ok(next) => {
+                self.de.set_failed(true);
+                self.stage = self.stage.with_member(next.is_some());
+                Ok(next)
+            }
+            Err(e) => Err(self.refused(e)),
+        }
     }
 
     /// Reads the element at this index of a list of so many elements. A list that ends before it is a custom fault at the

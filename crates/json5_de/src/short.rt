@@ -140,6 +140,7 @@ impl<I: Input> Deserializer<I> {
     }
 
     /// The same in the memory of a spare string.
+    #[inline(always)]
     pub(crate) fn text_in(&mut self, span: Span, mut spare: String) -> Result<String>
         ensures { OwnsTextAt span self.old self.new result }
     {

@@ -41,6 +41,7 @@ impl Stage {
     }
 
     /// The stage after a call for a key, which was read or not.
+    #[inline(always)]
     pub(crate) fn with_key(self, given: bool) -> Stage
         ensures { result ≡ with_key self given }
     {

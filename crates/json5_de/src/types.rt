@@ -73,7 +73,6 @@ impl<I: Input> Deserialize<I> for Decimal {
 
     ghost refuses = { RefusedAs decimal_kind };
 
-    #[inline(always)]
     fn deserialize(de: &mut Deserializer<I>) -> Result<Decimal>
         ensures { ReadsAs decimal_kind (λ d. d) de.old de.new result }
     {

@@ -131,6 +131,15 @@ pub(crate) fn skip_text(kind: Kind, text: &str) -> Result<&str, Refusal>
     }
 }
 
+/// An owned copy of the run, with room for a short rest.
+fn with_room(alloc: Global, run: &str) -> Result<String, AllocError>
+    ensures { IfOk result (λ text. string_bytes text ≡ run.now) }
+{
+    let mut text = String::with_capacity(alloc, run.len() + 16)?;
+    text.push_str(run)?;
+    Ok(text)
+}
+
 /// The run in front with what the rest spells from the first escape on, and what follows the string or name.
 fn read_escaped<'t>(
     alloc: Global,

@@ -1,16 +1,15 @@
-use Rattle.std.proofs.lemmas.Result.{err_from_is_err_and}
-use Rattle.json5_de.proofs.MapCalls.{given_on, refused_on, value_given, value_refused}
+use Rattle.std.proofs.Common.{refl}
+use Rattle.json5_de.specs.Lending.{blocking_map}
+use Rattle.json5_de.proofs.MapCalls.{lent, value_given, value_refused}
 use Rattle.json5_de.proofs.map.MapAccess.next_value.Goals as goal
 
-pub returns-in_err-value : goal.returns-in_err-value
-returns-in_err-value g c =
-    let (e, is, from) = err_from_is_err_and c.from_residual.result c.from_residual.ensures.1 in
-    let (own, read, placed, same) = refused_on c.pair_value-read.result c.in_err-value.field-0.0 c.in_err-value.ensures in
-    let k = rw (read, c.set_failed.ensures) at c.pair_value-read.ensures in
-    rw (is, from) (value_refused g.V.Deserialize.content g.V.Deserialize.convert g.V.Deserialize.refuses c.args.self.now c.requires.key c.pair_value-read.new.self c.settle.new.self own c.in_err-value.field-0.0 same placed k.cause k.steady k.complete)
+pub returns-in-Ok : goal.returns-in-Ok
+returns-in-Ok g c =
+    let k = rw c.set_failed.ensures at c.in-Ok.ensures in
+    let new = blocking_map (lent c.args.self.now c.pair_value.new.self) c.args.self.now.failed in
+    rw c.set_failed-in-Ok.ensures (value_given g.V.Deserialize.content g.V.Deserialize.convert g.V.Deserialize.refuses c.args.self.now c.requires.key c.pair_value.new.self new c.in-Ok.value refl k.steady.same_text k.sound)
 
-pub returns : goal.returns
-returns g c =
-    let (read, same) = given_on c.pair_value-read.result c.in_ok-value.value c.in_ok-value.ensures in
-    let k = rw (read, c.set_failed.ensures) at c.pair_value-read.ensures in
-    value_given g.V.Deserialize.content g.V.Deserialize.convert g.V.Deserialize.refuses c.args.self.now c.requires.key c.pair_value-read.new.self c.settle.new.self c.in_ok-value.value same k.steady.same_text k.sound
+pub returns-in-Err : goal.returns-in-Err
+returns-in-Err g c =
+    let k = rw c.set_failed.ensures at c.in-Err.ensures in
+    value_refused g.V.Deserialize.content g.V.Deserialize.convert g.V.Deserialize.refuses c.args.self.now c.requires.key c.pair_value.new.self c.refused.new.self c.in-Err.e c.refused.result c.refused.ensures.blocks c.refused.ensures.placed k.cause k.steady k.complete
