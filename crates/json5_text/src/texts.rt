@@ -17,7 +17,7 @@ use json5_grammar::code::ErrorCode;
 use std::alloc::{AllocError, Global};
 
 /// How many bytes a string with an escape has room for after the run before its first escape.
-const ROOM: usize = 32;
+const ROOM: usize = 16;
 
 /// The quotes of a string (JSON5 section 5).
 #[derive(Clone, Copy)]
@@ -131,15 +131,6 @@ pub(crate) fn skip_text(kind: Kind, text: &str) -> Result<&str, Refusal>
     }
 }
 
-/// An owned copy of the run, with room for a short rest.
-fn with_room(alloc: Global, run: &str) -> Result<String, AllocError>
-    ensures { IfOk result (λ text. string_bytes text ≡ run.now) }
-{
-    let mut text = String::with_capacity(alloc, run.len() + 16)?;
-    text.push_str(run)?;
-    Ok(text)
-}
-
 /// The run in front with what the rest spells from the first escape on, and what follows the string or name.
 fn read_escaped<'t>(
     alloc: Global,
@@ -166,12 +157,12 @@ fn read_escaped<'t>(
     }
 }
 
-/// The run, and room for what follows it, so that a short string with an escape is allocated once.
+/// An owned copy of the run, with room for what follows it, so that a short string with an escape is allocated once.
 #[inline(always)]
 fn with_room(alloc: Global, run: &str) -> Result<String, AllocError>
-    ensures { IfOk result (λ t. string_bytes t ≡ run.now) }
+    ensures { IfOk result (λ text. string_bytes text ≡ run.now) }
 {
-    let mut text = String::with_capacity(alloc, run.len().saturating_add(ROOM))?;
+    let mut text = String::with_capacity(alloc, run.len() + ROOM)?;
     text.push_str(run)?;
     Ok(text)
 }
