@@ -1,9 +1,10 @@
 //! Why a piece wasn't written, or a bracket not opened, as a small value.
 
+ghost use Rattle.std.specs.Prelude.{IsErrAnd};
 ghost use Rattle.json5_ser.specs.Puts.{MakesError};
 
 use json5_text::ErrorCode;
-use json5_text::error::Error;
+use json5_text::error::{Error, Result};
 use std::io::{self, ErrorKind};
 
 /// Why a piece wasn't written whole, or a bracket not opened. It is small, so that the frame of a call that writes pieces holds no `Error`.
@@ -32,4 +33,13 @@ impl From<Refused> for Error {
             Refused::TooDeep => Error::new(ErrorCode::TooDeep),
         }
     }
+}
+
+/// The error of a call that was refused so.
+#[cold]
+#[inline(never)]
+pub(crate) fn refusal(refused: Refused) -> Result<()>
+    ensures { IsErrAnd result (MakesError refused) }
+{
+    Err(Error::from(refused))
 }

@@ -21,7 +21,7 @@ use crate::brackets::Brackets;
 use crate::escape_free::is_escape_free;
 use crate::lines::line;
 use crate::output::write_whole;
-use crate::refused::{Put, Refused};
+use crate::refused::{Put, Refused, refusal};
 use crate::stage::Stage;
 use json5_text::ErrorCode;
 use json5_text::error::{Error, Result};
@@ -157,8 +157,10 @@ impl<W: Write + Drop> Serializer<W> {
     pub(crate) fn put(&mut self, text: &str) -> Result<()>
         ensures { Writes (piece (chars text.now)) self.old result self.new }
     {
-        self.put_short(text)?;
-        Ok(())
+        match self.put_short(text) {
+            Ok(()) => Ok(()),
+            Err(refused) => refusal(refused),
+        }
     }
 
     /// Starts the line of a member, or of the bracket that closes, after a comma where one is due.
