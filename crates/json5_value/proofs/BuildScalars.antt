@@ -1,5 +1,5 @@
 -- How a value that is kept begins: as a value of one token, or with an opening bracket.
-use Rattle.std.proofs.Common.{◌≡◌, ℕ, length, Bool, true, false, List, [], ◌∷◌, refl, ap, sym, ◌∙◌, subst, arith, inl, inr, Option, Some, None, String, string_bytes}
+use Rattle.std.proofs.Common.{◌≡◌, ℕ, Bool, true, false, List, [], ◌∷◌, refl, ap, sym, ◌∙◌, subst, arith, inl, inr, Option, Some, None, String, string_bytes}
 use Rattle.std.specs.Prelude.{◌||◌, slice_get, Ok, Err}
 use Rattle.std.specs.declared.alloc.Global.{Global}
 use Rattle.std.specs.Str.{all_scalars, encode_utf8_all}
@@ -40,9 +40,7 @@ use Rattle.json5_value.proofs.OtherCodes.{Lacks, faulty_number_lacks, faulty_str
 use Rattle.json5_value.proofs.Scalars.{tests_of, value_shorter}
 use Rattle.json5_value.proofs.Steps.{same_of, none_next, some_next, blames_as, blames_made, blames_refused}
 use Rattle.json5_value.proofs.TokenSteps.{string_fault_refuses, number_fault_refuses}
-use Rattle.json5_value.specs.declared.brackets.OpenBracket.{OpenBracket}
 use Rattle.json5_value.specs.declared.read.ValueStart.TheVariants as start
-use Rattle.json5_value.specs.Opening.{OpenedAt}
 use Rattle.json5_value.proofs.BuildSteps.{or_blames, takes, not_taken, gave_text}
 
 -- ---- values of one token
@@ -141,9 +139,3 @@ scalar_begun room old new v (t, is, g) = record {
 
 pub scalar_not_begun : (room : ℕ) (old new : Cursor) (e : Error) → BlamesOrMemory old.input (tree_at room old) e → SameText old new → ReadsOrOpens room old new (Err e)
 scalar_not_begun room old new e b g = record { begun = tt; refused = or_blames old.input old.input (tree_at room old) (datum_at room old) e (datum_blamed room old e) b; same_text = g; shorter = tt }
-
-pub bracket_begun : (room : ℕ) (old new : Cursor) (f : OpenBracket) → OpenedAt room f old new → ReadsOrOpens room old new (Ok (start.Bracket f))
-bracket_begun room old new f o = record { begun = o; refused = tt; same_text = tt; shorter = let k = o.sign in omega (arith, ap length k) }
-
-pub bracket_not_begun : (room : ℕ) (old new : Cursor) (e : Error) → RefusesRead old.input (value_at room old) e → SameText old new → ReadsOrOpens room old new (Err e)
-bracket_not_begun room old new e b g = record { begun = tt; refused = inr (datum_blamed room old e (tree_blamed room old e b)); same_text = g; shorter = tt }

@@ -87,10 +87,6 @@ front_goes k (c ∷ r) n = rw n refl
 abbrev pub start_or_end : BracketKind → Bool → List ℕ → Read Bool
 start_or_end k more y = cond more (entry_start k y) (got false y)
 
--- the comma is refused, or the bracket is closed instead
-pub comma_refused : (k : BracketKind) (comma_due : Bool) (old new : Cursor) (e : Error) → RefusesRead old.input (due_comma k comma_due old.unread) e → SameText old new → Steps (next_entry k comma_due old.unread) old new (Err e)
-comma_refused k comma_due old new e b g = first_step_refused old new (due_comma k comma_due old.unread) (start_or_end k) e b g
-
 pub closed_for_comma : (k : BracketKind) (comma_due more : Bool) (old new : Cursor) → more ≡ false → Gave (due_comma k comma_due old.unread) more old new → Steps (next_entry k comma_due old.unread) old new (Ok false)
 closed_for_comma k comma_due more old new is g = took_step old new (next_entry k comma_due old.unread) false g.taken (ap (λ m. and_then m (start_or_end k)) (g.reads ∙ ap (λ b. got b new.unread) is)) g.took
 

@@ -33,7 +33,7 @@ use Rattle.json5_value.specs.declared.kinds.ValueKind.TheVariants as kind
 use Rattle.json5_value.specs.declared.brackets.OpenBracket.{OpenBracket}
 use Rattle.json5_value.specs.Brackets.{bracket_of}
 use Rattle.json5_value.specs.Kinds.{kind_at, word_of, ends_of, differs_of}
-use Rattle.json5_value.specs.Opening.{OpenedAt, OpensBracket}
+use Rattle.json5_value.specs.Opening.{OpensBracket}
 use Rattle.json5_value.specs.SkipSteps.{SkipsOrOpens}
 use Rattle.json5_value.specs.Steps.{IsInside, SameText, RefusesRead, Gave, Steps, value_at}
 use Rattle.json5_value.proofs.Steps.{same_step, refused_step, forget_got, blames_made, none_next, some_next, counted_before}
@@ -144,9 +144,6 @@ scalar_passed room old new u g = record { begun = g; refused = tt; same_text = t
 
 pub scalar_refused : (room : ℕ) (old new : Cursor) (e : Error) → RefusesRead old.input (value_at room old) e → SameText old new → SkipsOrOpens room old new (Err e)
 scalar_refused room old new e b g = record { begun = tt; refused = b; same_text = g; shorter = tt }
-
-pub bracket_passed : (room : ℕ) (old new : Cursor) (bracket : OpenBracket) → OpenedAt room bracket old new → SkipsOrOpens room old new (Ok (Some bracket))
-bracket_passed room old new bracket o = record { begun = o; refused = tt; same_text = tt; shorter = let there = o.sign in omega (arith, ap length there) }
 
 -- ---- brackets
 

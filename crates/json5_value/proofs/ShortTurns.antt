@@ -87,14 +87,6 @@ member_resumed f comma_due left bs old new m = record {
   no_longer = no_more_left old new m.taken m.took;
 }
 
-pub not_resumed : (f : OpenBracket) (comma_due : Bool) (bs : List OpenBracket) (old new : Cursor) → new ≡ old → ResumesShort f comma_due bs bs old new (short.Within f comma_due)
-not_resumed f comma_due bs old new same = subst (λ (s : Cursor). ResumesShort f comma_due bs bs old s (short.Within f comma_due)) (sym same) (record {
-  goes = λ room w q h. (q, h);
-  same_text = refl;
-  advanced = λ d. ((λ e. absurd (cc (sym d ∙ e))), omega arith);
-  no_longer = omega arith;
-})
-
 -- ---- how a value begins
 
 strictly : (t : ShortTurn) (old new : Cursor) → length new.unread < length old.unread → Advanced t old new
@@ -133,11 +125,4 @@ resumed_short room bs fs after f old new t is r = record {
   goes = λ w h. let (q, inside) = ended_inside room old w bs fs f is h in r.goes room w q inside;
   same_text = r.same_text;
   advanced = r.advanced refl;
-}
-
-pub whole_short : (room : ℕ) (bs after : List OpenBracket) (now : Cursor) → bs ≡ [] → after ≡ bs → TurnsShort room false bs after now now short.Whole
-whole_short room bs after now none same = record {
-  goes = λ w h. (same ∙ none, subst (λ z. Skipping room w z false now) (sym same) h);
-  same_text = refl;
-  advanced = tt;
 }

@@ -21,7 +21,7 @@ use Rattle.json5_value.proofs.BuildRests.{array_turn, array_step, no_more_elemen
 use Rattle.json5_value.proofs.BuildScalars.{datum_got}
 use Rattle.json5_value.proofs.Scalars.{value_shorter}
 use Rattle.json5_value.proofs.Shorter.{next_shorter}
-use Rattle.json5_value.proofs.Steps.{ready_after, took_both, took_nothing}
+use Rattle.json5_value.proofs.Steps.{ready_after, took_both}
 
 -- ---- a value
 

@@ -1,6 +1,6 @@
 -- The open brackets round a value that is passed over, and what they make of what is read within.
-use Rattle.std.proofs.Common.{◌≡◌, ℕ, suc, ◌-◌, ◌<◌, ◌≤◌, Bool, true, false, List, [], ◌∷◌, ◌++◌, length, refl, ap, sym, ◌∙◌, subst, append_assoc, arith, length-append, inl, inr, Option, Some, None}
-use Rattle.std.specs.Prelude.{Result, Ok, Err, IsSome, ◌↔◌}
+use Rattle.std.proofs.Common.{◌≡◌, ℕ, suc, ◌-◌, ◌<◌, ◌≤◌, Bool, true, false, List, [], ◌∷◌, ◌++◌, length, refl, ap, sym, ◌∙◌, subst, append_assoc, arith, length-append, inl, inr}
+use Rattle.std.specs.Prelude.{Result, Ok, Err}
 use Rattle.json5_grammar.specs.Faults.Fronts.{opening}
 use Rattle.json5_grammar.specs.Model.Reading.{Read, got, and_then, placed}
 use Rattle.json5_grammar.specs.Model.ReadSteps.{forget, next_value, rest_of_bracket}
@@ -112,15 +112,6 @@ first_bracket room bs after f old mid new (Err e) o less t = record {
   same_text = t.same_text ∙ o.same_text;
   shorter = tt;
 }
-
--- no bracket is open
-pub none_open : (bs : List OpenBracket) (o : Option OpenBracket) → o ≡ None → IsSome o ↔ (0 < length bs) → bs ≡ []
-none_open [] o is k = refl
-none_open (f ∷ fs) o is k = absurd (none o is (k.1 (omega arith)))
-  where
-    none : (o : Option OpenBracket) → o ≡ None → IsSome o → ⊥
-    none None is e = cc
-    none (Some g) is e = cc
 
 value_blamed : (room : ℕ) (old : Cursor) (w : Read (Unit {0})) (bs : List OpenBracket) (own e : Error) → RefusesRead old.input (value_at (room - length bs) old) own → PositionedWithin old.input bs own e → Skipping room w bs true old → RefusesRead old.input w e
 value_blamed room old w bs own e b (inl (none, same)) h = whole_blamed start_of rest_in room old w (value_at (room - length bs) old) bs e h none (subst (λ z. RefusesRead old.input (value_at (room - length bs) old) z) (sym same) b)
