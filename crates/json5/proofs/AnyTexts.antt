@@ -23,7 +23,7 @@ use Rattle.json5_de.specs.Convert.{datum_of, every_datum}
 use Rattle.json5_de.specs.Faults.{AfterBlanks, in_blanks, after_gap, Trailing, trailing, RefusedBy}
 use Rattle.json5_de.specs.Law.{TookValue, IsUnprompted}
 use Rattle.json5_de.specs.State.{State, at_start}
-use Rattle.json5_de.specs.Texts.{ReadsDocument, RefusesReading, in_value, after_value}
+use Rattle.json5_de.specs.WholeInputs.{ReadsDocument, RefusesReading, in_value, after_value}
 use Rattle.json5_de.proofs.Arrays.{failed_of}
 use Rattle.json5_de.proofs.TreeFaults.{as_reading}
 use Rattle.json5_de.proofs.Taken.{input_of, placed_after}

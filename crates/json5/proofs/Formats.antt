@@ -4,7 +4,7 @@ use Rattle.std.specs.Prelude.{Result, Ok, Err, IfOk, IfErr, MatchResult}
 use Rattle.std.specs.Str.{chars, encode_utf8_all}
 use Rattle.json5_grammar.specs.declared.code.ErrorCode.TheVariants as codes_of
 use Rattle.json5_grammar.specs.Language.Documents.{Doc, max_depth}
-use Rattle.json5_grammar.specs.Language.Trees.{Tree, Trees, Pairs, null, boolean, number, text, array, object, no_more, more, no_pair, pair}
+use Rattle.json5_grammar.specs.Language.Trees.{Tree, Trees, Members, null, boolean, number, text, array, object, no_more, more, no_member, member}
 use Rattle.json5_grammar.proofs.Unique.{one_tree}
 use Rattle.json5_text.specs.declared.error.Error.{Error}
 use Rattle.json5_text.specs.Cursor.{IsOutOfMemory}
@@ -14,11 +14,11 @@ use Rattle.json5_de.specs.Convert.{datum_of, items_of, fields_of}
 use Rattle.json5_ser.specs.Marks.{marks, unmarked, unmarked_elements, unmarked_fields}
 use Rattle.json5_ser.specs.Out.{Out, whole, invalid_key, too_deep, written_text, text_within}
 use Rattle.json5_ser.specs.Pieces.{AppendsFront, Pushes}
-use Rattle.json5_ser.specs.Texts.{IsText, RefusesToString, StopsAs}
+use Rattle.json5_ser.specs.WholeOutputs.{IsText, RefusesToString, StopsAs}
 use Rattle.json5_ser.specs.ValueTrees.{datum_tree, items_tree, fields_tree}
 use Rattle.json5_ser.specs.Writes.{SerializerState, Writes, Refusal, by_key, by_depth, by_writer, by_refusal, by_none, refusal_of, RefusesBy, fresh, ended}
 use Rattle.json5_ser.proofs.Depths.{text_document}
-use Rattle.json5_ser.proofs.ReadTrees.{read_written}
+use Rattle.json5_ser.proofs.ReadIsWritten.{read_written}
 use Rattle.json5_ser.proofs.Unmarked.{tree_again}
 use Rattle.json5.specs.Formatted.{IsFormatted, IsFormattedWithin}
 
@@ -38,9 +38,9 @@ mutual
   same_trees no_more = refl
   same_trees (more t ts) = rw (same_tree t, same_trees ts) refl
 
-  same_pairs : (ps : Pairs) → fields_tree (fields_of ps) ≡ unmarked_fields ps
-  same_pairs no_pair = refl
-  same_pairs (pair u escape_free t ps) = rw (same_tree t, same_pairs ps) refl
+  same_pairs : (ps : Members) → fields_tree (fields_of ps) ≡ unmarked_fields ps
+  same_pairs no_member = refl
+  same_pairs (member u escape_free t ps) = rw (same_tree t, same_pairs ps) refl
 
 -- a value that means the same as the tree is written as the tree without marks
 pub written_tree : (t : Tree) (d : Datum) → d ≡ datum_of t → datum_tree d ≡ unmarked t

@@ -4,17 +4,17 @@ use Rattle.std.specs.Prelude.{Result, MatchResult, Option, ⊤}
 use Rattle.std.proofs.lemmas.Bool.Decides.{nat_tests}
 use Rattle.json5_grammar.specs.declared.code.ErrorCode.TheVariants as codes_of
 use Rattle.json5_grammar.specs.Language.Documents.{Doc, max_depth}
-use Rattle.json5_grammar.specs.Language.Trees.{Tree, depth, depths, pair_depths}
+use Rattle.json5_grammar.specs.Language.Trees.{Tree, depth, depths, member_depths}
 use Rattle.json5_grammar.specs.Written.NumberText.{number_text}
 use Rattle.json5_text.specs.declared.error.Error.{Error}
 use Rattle.json5_text.specs.Errors.{FaultKind, code, custom, failed_write, kind_of}
 use Rattle.json5_text.specs.Cursor.{IsOutOfMemory}
-use Rattle.json5_de.specs.Texts.{ReadsDocument}
+use Rattle.json5_de.specs.WholeInputs.{ReadsDocument}
 use Rattle.json5_ser.specs.WrittenTrees.{Written, null, boolean, number, text, array, object, Elements, no_element, element, Fields, no_field, field, named, bad}
 use Rattle.json5_ser.specs.Out.{Out, Stop, whole, invalid_key, too_deep, no_number, piece, stopped, followed_by, ◌then◌, out, written_text, elements_out, fields_out, opened_by, closed_by, element_out, value_part}
 use Rattle.json5_ser.specs.Writable.{is_writable}
 use Rattle.json5_ser.specs.Marks.{marks, element_marks, field_marks}
-use Rattle.json5_ser.specs.Texts.{RefusesToString, StopsAs}
+use Rattle.json5_ser.specs.WholeOutputs.{RefusesToString, StopsAs}
 use Rattle.json5.specs.ReadsBack.{ReadsBack}
 
 -- each key has a text
@@ -72,7 +72,7 @@ mutual
   elements_not limit (element t ts) d started h l =
       both (element_out (d + 1) (out limit t (d + 1))) (elements_out limit ts d true) (both (out limit t (d + 1)) (piece (44 ∷ [])) (not_refused limit t (d + 1) h.0 (omega (arith, l))) (inl refl)) (elements_not limit ts d true h.1 (omega (arith, l)))
 
-  fields_not : (limit : ℕ) (fs : Fields) (d : ℕ) (started : Bool) → FieldsHaveKeys fs → d + pair_depths (field_marks fs) < limit → IsUnnamed (fields_out limit fs d started).stop
+  fields_not : (limit : ℕ) (fs : Fields) (d : ℕ) (started : Bool) → FieldsHaveKeys fs → d + member_depths (field_marks fs) < limit → IsUnnamed (fields_out limit fs d started).stop
   fields_not limit no_field d started h l = closes started d 125
   fields_not limit (field (named u) t fs) d started h l =
       both (value_part (out limit t (d + 1))) (fields_out limit fs d true) (both (out limit t (d + 1)) (piece (44 ∷ [])) (not_refused limit t (d + 1) h.0 (omega (arith, l))) (inl refl)) (fields_not limit fs d true h.1 (omega (arith, l)))

@@ -20,7 +20,7 @@ use Rattle.json5_grammar.specs.Language.Values.{null_text, true_text, false_text
 use Rattle.json5_grammar.proofs.ScalarsWritten.{null_document, boolean_document, number_document}
 use Rattle.json5_de.specs.Keys.{KeyConversion}
 use Rattle.json5_de.specs.KeyKinds.{document_of}
-use Rattle.json5_de.proofs.WholeTexts.{converts_documents}
+use Rattle.json5_de.proofs.KeyDocuments.{converts_documents}
 use Rattle.json5_ser.specs.Out.{bool_text}
 use Rattle.json5_ser.specs.ValueTrees.{key_of_string}
 use Rattle.json5_ser.proofs.Writables.{unsigned_whole}

@@ -12,7 +12,7 @@ use Rattle.json5_de.specs.Convert.{datum_of}
 use Rattle.json5_de.specs.Faults.{FaultRelation}
 use Rattle.json5_de.specs.Law.{IsUnprompted}
 use Rattle.json5_de.specs.State.{State}
-use Rattle.json5_de.specs.Texts.{ReadsWholeText}
+use Rattle.json5_de.specs.WholeInputs.{ReadsWholeText}
 
 -- the input's fault within the limit, with what can be read before it
 abbrev pub FaultyDocument : ℕ → FaultRelation

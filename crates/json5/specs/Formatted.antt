@@ -5,7 +5,7 @@ use Rattle.json5_grammar.specs.Language.Trees.{Tree}
 use Rattle.json5_grammar.specs.Language.Documents.{Doc, max_depth}
 use Rattle.json5_ser.specs.Out.{text_within}
 use Rattle.json5_ser.specs.Marks.{unmarked}
-use Rattle.json5_ser.specs.Texts.{IsText}
+use Rattle.json5_ser.specs.WholeOutputs.{IsText}
 
 -- the bytes are the output of the tree without its marks
 abbrev pub WritesUnmarked : ℕ → Tree → List ℕ → Type 0

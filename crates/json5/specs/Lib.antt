@@ -44,7 +44,7 @@ pub use Rattle.json5_de.specs.StructFaults
 pub use Rattle.json5_de.specs.Enums
 pub use Rattle.json5_de.specs.Variants
 pub use Rattle.json5_de.specs.Lending
-pub use Rattle.json5_de.specs.Texts
+pub use Rattle.json5_de.specs.WholeInputs
 -- Writing.
 pub use Rattle.json5_ser.specs.WrittenTrees
 pub use Rattle.json5_ser.specs.ValueTrees
@@ -52,7 +52,7 @@ pub use Rattle.json5_ser.specs.Out
 pub use Rattle.json5_ser.specs.Marks
 pub use Rattle.json5_ser.specs.Writes
 pub use Rattle.json5_ser.specs.Pieces
-pub use Rattle.json5_ser.specs.Texts as WrittenTexts
+pub use Rattle.json5_ser.specs.WholeOutputs
 pub use Rattle.json5_ser.specs.Lending as WrittenCollections
 pub use Rattle.json5_ser.specs.Keys as WrittenKeys
 pub use Rattle.json5_ser.specs.Waiting

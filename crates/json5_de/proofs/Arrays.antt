@@ -30,10 +30,10 @@ use Rattle.json5_de.specs.Brackets.{AreSigns}
 use Rattle.json5_value.specs.Brackets.{square}
 use Rattle.json5_de.specs.Access.{TookElement, NotOpened, no_bracket, text_ends, too_deep, NoBracket, other_sign, bracket_missing, NotClosed, not_here, after_comma as comma_before}
 use Rattle.json5_value.specs.Steps.{Unexpected, at_end, at_char}
-use Rattle.json5_de.specs.Seq.{IsAfterGap, IsMemberStart, AtMember, AdvancesToEntry, NothingNext, NoNext, no_comma, comma_missing}
+use Rattle.json5_de.specs.Seq.{IsAfterGap, IsEntryStart, AtEntry, AdvancesToEntry, NothingNext, NoNext, no_comma, comma_missing}
 use Rattle.json5_de.specs.Faults.{AfterBlanks, in_blanks, after_gap, RefusedBy}
 use Rattle.json5_de.proofs.Taken.{refused_token}
-use Rattle.json5_de.proofs.Places.{refused_as, refused_after}
+use Rattle.json5_de.proofs.RefusalPositions.{refused_as, refused_after}
 use Rattle.json5_value.proofs.Steps.{some_next}
 use Rattle.json5_grammar.proofs.Basics.{same_char, true_false}
 
@@ -82,7 +82,7 @@ no_gap_faulty s e y f g = let (w, p, shown, fault) = f.fault in no_blank_fault g
 
 -- neither a comma nor the bracket where a comma is due
 nothing_due : (b : Brackets) (x : List ℕ) → ((y : List ℕ) → IsSign 0x2C x y → ⊥) → ((r : List ℕ) → IsSign b.closing x r → ⊥) → NothingNext b true x
-nothing_due b x m n = record { no_member = λ y g. m g.0 g.1; no_close = λ r c. close r c }
+nothing_due b x m n = record { no_entry = λ y g. m g.0 g.1; no_close = λ r c. close r c }
   where
     close : (r : List ℕ) → IsEnd b.closing true x r → ⊥
     close r (inl c) = n r c
@@ -95,13 +95,13 @@ nowhere_next b k comma_due x y is g m n = subst (λ d. NothingNext b d x) (sym i
 
 -- a comment in front is at fault
 pub nowhere_faulty : (b : Brackets) → AreSigns b → (comma_due : Bool) (s : State) (e : Error) → Refused FaultyBlanks (cursor_of s) e → NothingNext b comma_due s.unread
-nowhere_faulty b k false s e f = record { no_member = λ y g. no_gap_faulty s e y f g; no_close = λ r c. no_sign_faulty b.closing s e r k.closing f c }
+nowhere_faulty b k false s e f = record { no_entry = λ y g. no_gap_faulty s e y f g; no_close = λ r c. no_sign_faulty b.closing s e r k.closing f c }
 nowhere_faulty b k true s e f = nothing_due b s.unread (λ y c. no_sign_faulty 0x2C s e y comma_solid f c) (λ r c. no_sign_faulty b.closing s e r k.closing f c)
 
 -- a comment after the comma is at fault
 pub nowhere_after : (b : Brackets) → AreSigns b → (comma_due : Bool) (s mid next : State) (e : Error) → comma_due ≡ true → PassedGap s mid → NotBegun (λ c. c == b.closing) mid.unread → TookText mid (0x2C ∷ []) next → Refused FaultyBlanks (cursor_of next) e
     → NothingNext b comma_due s.unread
-nowhere_after b k comma_due s mid next e is p n took f = subst (λ d. NothingNext b d s.unread) (sym is) (record { no_member = λ y begun. member y begun; no_close = λ r c. close r c })
+nowhere_after b k comma_due s mid next e is p n took f = subst (λ d. NothingNext b d s.unread) (sym is) (record { no_entry = λ y begun. entry y begun; no_close = λ r c. close r c })
   where
     g : IsAfterGap s.unread mid.unread
     g = after_gap_of s mid p
@@ -109,8 +109,8 @@ nowhere_after b k comma_due s mid next e is p n took f = subst (λ d. NothingNex
     comma : IsSign 0x2C s.unread next.unread
     comma = sign_next 0x2C s.unread mid.unread next.unread g took.split
 
-    member : (y : List ℕ) → IsMemberStart true s.unread y → ⊥
-    member y (z, other, gap) = no_gap_faulty next e y f (after_same_comma (λ q. IsAfterGap q y) s.unread next.unread z comma other gap)
+    entry : (y : List ℕ) → IsEntryStart true s.unread y → ⊥
+    entry y (z, other, gap) = no_gap_faulty next e y f (after_same_comma (λ q. IsAfterGap q y) s.unread next.unread z comma other gap)
 
     close : (r : List ℕ) → IsEnd b.closing true s.unread r → ⊥
     close r (inl c) = no_sign_next b.closing s.unread mid.unread r k.closing g n c
@@ -135,7 +135,7 @@ goes_after b comma_due false s mid next last d p took q found other =
     let comma = sign_next 0x2C s.unread mid.unread next.unread (after_gap_of s mid p) took.split in
     record {
       live = p.live;
-      begun = subst (λ w. IsMemberStart w s.unread last.unread) (sym d) (next.unread, comma, after_gap_of next last q);
+      begun = subst (λ w. IsEntryStart w s.unread last.unread) (sym d) (next.unread, comma, after_gap_of next last q);
       inside = other refl;
       rest = only_read s mid last p.rest (only_read mid next last took.rest q.rest);
     }
@@ -143,7 +143,7 @@ goes_after b comma_due false s mid next last d p took q found other =
 -- ---- an element
 
 -- what can be read where an element may begin is an element
-pub element_read : (comma_due : Bool) (x y r : List ℕ) (t : Tree) → IsMemberStart comma_due x y → Reads y t r → IsElement comma_due x t r
+pub element_read : (comma_due : Bool) (x y r : List ℕ) (t : Tree) → IsEntryStart comma_due x y → Reads y t r → IsElement comma_due x t r
 element_read false x y r t g p = reads_here x g.gap y r t g.split g.is_gap p
 element_read true x y r t (z, comma, g) p = (z, comma, reads_here z g.gap y r t g.split g.is_gap p)
 
@@ -153,21 +153,21 @@ reads_gap x r t p = (p.phrase ++ r, record { gap = p.front; split = p.split; is_
 
 -- if no element may begin, there is none
 pub no_element_next : (b : Brackets) (comma_due : Bool) (x r : List ℕ) (t : Tree) → NothingNext b comma_due x → IsElement comma_due x t r → ⊥
-no_element_next b false x r t n e = let (y, g) = reads_gap x r t e in n.no_member y g
-no_element_next b true x r t n (z, comma, e) = let (y, g) = reads_gap z r t e in n.no_member y (z, comma, g)
+no_element_next b false x r t n e = let (y, g) = reads_gap x r t e in n.no_entry y g
+no_element_next b true x r t n (z, comma, e) = let (y, g) = reads_gap z r t e in n.no_entry y (z, comma, g)
 
 -- the element begins where an element may begin
-pub element_found : (comma_due : Bool) (x y r : List ℕ) (t : Tree) → IsMemberStart comma_due x y → IsElement comma_due x t r → Reads y t r
+pub element_found : (comma_due : Bool) (x y r : List ℕ) (t : Tree) → IsEntryStart comma_due x y → IsElement comma_due x t r → Reads y t r
 element_found false x y r t g p = reads_found x g.gap y r t g.split g.is_gap g.solid p
 element_found true x y r t (z, comma, g) (k, other, p) = reads_found z g.gap y r t g.split g.is_gap g.solid (after_same_comma (λ q. Reads q t r) x z k comma other p)
 
 -- no bracket closes there
-pub no_close_found : (b : Brackets) → AreSigns b → (comma_due : Bool) (x y r : List ℕ) → IsMemberStart comma_due x y → NotBegun (λ c. c == b.closing) y → IsEnd b.closing comma_due x r → ⊥
+pub no_close_found : (b : Brackets) → AreSigns b → (comma_due : Bool) (x y r : List ℕ) → IsEntryStart comma_due x y → NotBegun (λ c. c == b.closing) y → IsEnd b.closing comma_due x r → ⊥
 no_close_found b k false x y r g n c = no_sign_next b.closing x y r k.closing g n c
 no_close_found b k true x y r (z, comma, g) n (inl c) = no_comma_end b.closing x z r k.closing k.no_comma comma c
 no_close_found b k true x y r (z, comma, g) n (inr (w, other, c)) = no_sign_next b.closing z y r k.closing g n (after_same_comma (λ q. IsSign b.closing q r) x z w comma other c)
 
-pub took_element : (comma_due : Bool) (s mid last : State) (t : Tree) → AtMember square comma_due s mid → TookValue mid t last → TookElement comma_due s t last
+pub took_element : (comma_due : Bool) (s mid last : State) (t : Tree) → AtEntry square comma_due s mid → TookValue mid t last → TookElement comma_due s t last
 took_element comma_due s mid last t at took = record {
   live = at.live;
   element = element_read comma_due s.unread mid.unread last.unread t at.begun took.reads;

@@ -6,7 +6,7 @@ use Rattle.hex.specs.Hex.{decode_of}
 use Rattle.hex.specs.declared.error.FromHexError.{FromHexError}
 use Rattle.hex.specs.declared.error.FromHexError.TheVariants as hex
 use Rattle.json5_grammar.specs.declared.code.ErrorCode.TheVariants.{InvalidBytes}
-use Rattle.json5_text.specs.Bytes.{bytes_of}
+use Rattle.json5_text.specs.ByteBufs.{bytes_of}
 use Rattle.json5_text.specs.declared.byte_buf.ByteBuf.{ByteBuf}
 use Rattle.json5_text.specs.declared.error.Error.{Error}
 use Rattle.json5_text.specs.Errors.{LacksMemory}

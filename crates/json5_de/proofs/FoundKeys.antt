@@ -35,11 +35,11 @@ use Rattle.json5_de.specs.FoundTexts.{TookKeyAt, JudgesText, OfFound}
 use Rattle.json5_de.specs.KeySteps.{IsTextFault, no_memory, at_key, is_out_of_memory}
 use Rattle.json5_de.specs.TokenKinds.{Kind, RefusedAs}
 use Rattle.json5_de.specs.ReaderSteps.{PassedGap, IsMismatch, IsMismatchOf}
-use Rattle.json5_de.specs.Texts.{ReadsDocument, RefusesReading}
+use Rattle.json5_de.specs.WholeInputs.{ReadsDocument, RefusesReading}
 use Rattle.json5_value.proofs.OtherCodes.{key_lacks, memory_other}
 use Rattle.json5_de.proofs.TokenKinds.{refused_other, given_up_after}
 use Rattle.json5_de.proofs.Taken.{input_of, refused_token}
-use Rattle.json5_de.proofs.WholeTexts.{converts, is_document, IsRefusedText, refused_text}
+use Rattle.json5_de.proofs.KeyDocuments.{converts, is_document, IsRefusedText, refused_text}
 
 -- ---- what is in front
 

@@ -2,7 +2,7 @@ pub mod Expected
 pub mod Words
 pub mod Expects
 pub mod Taken
-pub mod Places
+pub mod RefusalPositions
 pub mod Arrays
 pub mod Options
 pub mod Elements
@@ -11,11 +11,11 @@ pub mod Offsets
 pub mod ExpectsNumbers
 pub mod Mismatches
 pub mod Ends
-pub mod ExpectsTexts
+pub mod ExpectsStrings
 pub mod Documents
-pub mod WholeTexts
+pub mod KeyDocuments
 pub mod FoundKeys
-pub mod TextScalars
+pub mod StringCharacters
 pub mod WholeDecimals
 pub mod WithoutMemory
 pub mod ArrayCodes

@@ -21,7 +21,7 @@ use Rattle.json5_text.specs.Tokens.{FaultyBlanks}
 use Rattle.json5_de.specs.State.{State, SameText, GivesUp, cursor_of}
 use Rattle.json5_de.specs.Law.{TookValue, Gives, Completes, CompletesFree, Unprompted, ReadsValue}
 use Rattle.json5_de.specs.Options.{NoOption, option_missing, faulty_null, RefusesOption, option_free}
-use Rattle.json5_value.specs.Places.{PositionedAt}
+use Rattle.json5_value.specs.Offsets.{PositionedAt}
 use Rattle.json5_de.specs.Convert.{unit_of}
 use Rattle.json5_de.specs.ConvertLists.{option_of, if_some}
 use Rattle.json5_de.specs.Faults.{AtEnd, RefusedBy, IsPositionless, FaultyNull}

@@ -3,7 +3,7 @@ use Rattle.std.proofs.Common.{◌≡◌, ◌≢◌, ◌==◌, ℕ, ◌+◌, ◌�
 use Rattle.std.proofs.lemmas.Bool.{false≢true}
 use Rattle.std.specs.Prelude.{◌∷◌, if◌then◌else◌, IsErrAnd, IfOk}
 use Rattle.json5_grammar.specs.Language.Documents.{max_depth}
-use Rattle.json5_grammar.specs.Language.Trees.{Tree, Trees, Pairs, null, boolean, number, text, array, object, no_more, more, no_pair, pair, depth}
+use Rattle.json5_grammar.specs.Language.Trees.{Tree, Trees, Members, null, boolean, number, text, array, object, no_more, more, no_member, member, depth}
 use Rattle.json5_grammar.specs.Language.Values.{Reads}
 use Rattle.json5_grammar.specs.Model.Collections.{IsBrace, joint, array_of, object_of, snoc, joined_trees}
 use Rattle.json5_grammar.proofs.CollectionsPairsConverted.{object_only}
@@ -288,7 +288,7 @@ module _ {A : Type 0} {g : Trees → Option A} {old : EnumAccessState} where
           let after = subst (λ b. AfterName b from n.name n.escape_free old.reader) m.has_content n.after in
           let took = closes.read from old.reader n.name n.escape_free m.trees after m.read in
           let converts = ap g (sym (joined_none m.trees)) ∙ m.are no_more tt refl in
-          (object (pair n.name n.escape_free (array m.trees) no_pair), Some (array m.trees), subst (λ s. TookValue from (object (pair n.name n.escape_free (array m.trees) no_pair)) s) (sym at) took, ap (if_some (λ k. (k, Some (array m.trees)))) n.place, ap (if_some make) converts ∙ ap (λ x. Some x) same);
+          (object (member n.name n.escape_free (array m.trees) no_member), Some (array m.trees), subst (λ s. TookValue from (object (member n.name n.escape_free (array m.trees) no_member)) s) (sym at) took, ap (if_some (λ k. (k, Some (array m.trees)))) n.place, ap (if_some make) converts ∙ ap (λ x. Some x) same);
       left = λ t r c l is. tt;
       unprompted = tt;
       same_text = subst (λ s. SameText old.reader s) (sym at) (same_input make content last m closes.bracket.same_text);
@@ -304,7 +304,7 @@ module _ {S D : Type 0} (plan : Plan S D) {X : Type 0} (state_of : X → MapAcce
   struct_input new same = same ∙ opens.same_text
 
   refused_fields : {new : State} (e : Error) (result : Result V Error) → IsErrAnd result (λ y. y ≡ e) → (old.reader.failed ≡ false → IsUnprompted e) → SameText old.reader new
-      → ((ps : Pairs) (z r : List ℕ) (m : S) (d : D) → run plan.step plan.start ps ≡ Some m → plan.build m ≡ Some d → PairsLeft ps z (state_of x) → IsBrace true z r → IsOutOfMemory e) → FinishesVariant content (λ t. if_some make (content_of (object_of plan.convert) t)) old new result
+      → ((ps : Members) (z r : List ℕ) (m : S) (d : D) → run plan.step plan.start ps ≡ Some m → plan.build m ≡ Some d → PairsLeft ps z (state_of x) → IsBrace true z r → IsOutOfMemory e) → FinishesVariant content (λ t. if_some make (content_of (object_of plan.convert) t)) old new result
   refused_fields {new = new} e result is_err unprompted same memory = handed_on (λ r. FinishesVariant content (λ t. if_some make (content_of (object_of plan.convert) t)) old new r) e result is_err (record {
     read = tt;
     left = λ t r c l is. by t r c l is;
@@ -354,7 +354,7 @@ module _ {S D : Type 0} (plan : Plan S D) {X : Type 0} (state_of : X → MapAcce
           let after = subst (λ b. AfterName b from n.name n.escape_free old.reader) opens.content.has_content n.after in
           let took = closes.read from old.reader n.name n.escape_free ps after (on old.reader opens.read) in
           let converts = plan.says ps ∙ ap (if_more plan.build) are ∙ built in
-          (object (pair n.name n.escape_free (object ps) no_pair), Some (object ps), subst (λ s. TookValue from (object (pair n.name n.escape_free (object ps) no_pair)) s) (sym at) took, ap (if_some (λ k. (k, Some (object ps)))) n.place, ap (if_some make) converts ∙ ap (λ x. Some x) same);
+          (object (member n.name n.escape_free (object ps) no_member), Some (object ps), subst (λ s. TookValue from (object (member n.name n.escape_free (object ps) no_member)) s) (sym at) took, ap (if_some (λ k. (k, Some (object ps)))) n.place, ap (if_some make) converts ∙ ap (λ x. Some x) same);
       left = λ t r c l is. tt;
       unprompted = tt;
       same_text = subst (λ s. SameText old.reader s) (sym at) (struct_input last (closes.bracket.same_text ∙ inside));

@@ -11,7 +11,7 @@ use Rattle.json5_grammar.specs.Language.Characters.{NotBegun}
 use Rattle.json5_grammar.specs.Language.Blanks.{Blanks, Gap, Solid}
 use Rattle.json5_grammar.specs.Language.Trees.{Tree}
 use Rattle.json5_grammar.specs.Language.Values.{Reads}
-use Rattle.json5_grammar.specs.Model.Collections.{ReadsKey, IsKey, IsKeyValue, NoPairGoes}
+use Rattle.json5_grammar.specs.Model.Collections.{ReadsKey, IsKey, IsKeyValue, NoMemberGoes}
 use Rattle.json5_grammar.proofs.Basics.{first_same, true_false}
 use Rattle.json5_grammar.proofs.BlanksRead.{begins_solid}
 use Rattle.json5_grammar.proofs.BlanksSound.{one_gap, gap_last, gap_before, gap_blanks}
@@ -31,14 +31,14 @@ use Rattle.json5_value.specs.Brackets.{curly}
 use Rattle.json5_de.specs.Faults.{AfterBlanks, in_blanks, after_gap, RefusedBy, AtEnd, AtOther, IsPositionless, IsAfter}
 use Rattle.json5_de.specs.Access.{AtClose, PositionedAtBracket}
 use Rattle.json5_value.specs.Steps.{Unexpected, at_end, at_char}
-use Rattle.json5_value.specs.Places.{StartsAfter}
-use Rattle.json5_de.specs.Seq.{IsAfterGap, IsMemberStart, AtMember, NothingNext, NoNext, no_comma, comma_missing, in_blanks_after}
+use Rattle.json5_value.specs.Offsets.{StartsAfter}
+use Rattle.json5_de.specs.Seq.{IsAfterGap, IsEntryStart, AtEntry, NothingNext, NoNext, no_comma, comma_missing, in_blanks_after}
 use Rattle.json5_de.specs.Objects.{MapAccessState, bare_map, TookPairKey, AfterColon, TookPairValue, GivesPairKey, GivesPairValue, CompletesPairKey}
 use Rattle.json5_de.proofs.Offsets.{placed_where}
 use Rattle.json5_de.specs.ObjectFaults.{begins_key, AtKey, NoKeyHere, no_key, key_missing, NoKey, no_next, not_here, not_after_comma, PositionedAtKey, at_key, as_it_is, PositionsKey, RefusesPairKey, not_reached, in_key, ReadsKeyOfPair, begins_next_key, no_key_code, RefusesNextKey, NoColon, no_colon, colon_missing, is_colon, RefusesPairValue, no_value, in_value, RefusesNextValue}
 use Rattle.json5_de.proofs.Expected.{Expected, end_fault, other_fault}
 use Rattle.json5_de.proofs.Taken.{input_of, placed_after, refused_token}
-use Rattle.json5_de.proofs.Places.{refused_as, refused_after}
+use Rattle.json5_de.proofs.RefusalPositions.{refused_as, refused_after}
 use Rattle.json5_de.proofs.Options.{not_nil}
 use Rattle.json5_de.proofs.Arrays.{only_read, level_of, failed_of, sign_next, no_sign_next, after_gap_of, no_close_found, no_sign_faulty}
 use Rattle.json5_de.proofs.ArrayCodes.{expects_more, end_no_sign, other_no_sign, end_no_close, other_no_close}
@@ -74,22 +74,22 @@ key_there x y r u p g k =
     }
 
 -- the same after the comma that is due
-pub pair_key_found : (comma_due : Bool) (x y r u : List ℕ) (p : Bool) → IsMemberStart comma_due x y → IsKey comma_due x u p r → ReadsKey y u p r
+pub pair_key_found : (comma_due : Bool) (x y r u : List ℕ) (p : Bool) → IsEntryStart comma_due x y → IsKey comma_due x u p r → ReadsKey y u p r
 pair_key_found false x y r u p g k = key_here x y r u p g k
 pair_key_found true x y r u p (z, comma, g) (w, other, k) = key_here z y r u p g (after_same_comma (λ q. ReadsKey q u p r) x z w comma other k)
 
-pair_key_read : (comma_due : Bool) (x y r u : List ℕ) (p : Bool) → IsMemberStart comma_due x y → ReadsKey y u p r → IsKey comma_due x u p r
+pair_key_read : (comma_due : Bool) (x y r u : List ℕ) (p : Bool) → IsEntryStart comma_due x y → ReadsKey y u p r → IsKey comma_due x u p r
 pair_key_read false x y r u p g k = key_there x y r u p g k
 pair_key_read true x y r u p (z, comma, g) k = (z, comma, key_there z y r u p g k)
 
 pub took_pair_key : (comma_due : Bool) (s mid last : State) (u : List ℕ) (p : Bool) → AtKey comma_due s mid → TookKey mid u p last → TookPairKey comma_due s u p last
 took_pair_key comma_due s mid last u p at took = record {
-  live = at.member.live;
-  key = pair_key_read comma_due s.unread mid.unread last.unread u p at.member.begun took.reads;
-  rest = only_read s mid last at.member.rest took.rest;
+  live = at.entry.live;
+  key = pair_key_read comma_due s.unread mid.unread last.unread u p at.entry.begun took.reads;
+  rest = only_read s mid last at.entry.rest took.rest;
 }
 
-begun_solid : (comma_due : Bool) (x y : List ℕ) → IsMemberStart comma_due x y → Solid y
+begun_solid : (comma_due : Bool) (x y : List ℕ) → IsEntryStart comma_due x y → Solid y
 begun_solid false x y g = g.solid
 begun_solid true x y (z, comma, g) = g.solid
 
@@ -100,15 +100,15 @@ no_key_begun y r u p solid n k =
     true_false head.begins (subst (NotBegun begins_key) (at ∙ ap (λ z. z ++ r) head.is) n)
 
 -- if no member may begin, no key and no brace follows
-pub no_pair_next : (comma_due : Bool) (x : List ℕ) → NothingNext curly comma_due x → NoPairGoes comma_due x
+pub no_pair_next : (comma_due : Bool) (x : List ℕ) → NothingNext curly comma_due x → NoMemberGoes comma_due x
 no_pair_next comma_due x n = record { no_key = λ u p r k. by comma_due u p r n k; no_brace = n.no_close }
   where
     by : (comma_due : Bool) (u : List ℕ) (p : Bool) (r : List ℕ) → NothingNext curly comma_due x → IsKey comma_due x u p r → ⊥
-    by false u p r n k = let (y, g) = key_gap x r u p k in n.no_member y g
-    by true u p r n (z, comma, k) = let (y, g) = key_gap z r u p k in n.no_member y (z, comma, g)
+    by false u p r n k = let (y, g) = key_gap x r u p k in n.no_entry y g
+    by true u p r n (z, comma, k) = let (y, g) = key_gap z r u p k in n.no_entry y (z, comma, g)
 
 -- nor where neither a key nor the brace begins
-pub no_pair_here : (comma_due : Bool) (x y : List ℕ) → IsMemberStart comma_due x y → NotBegun (λ c. c == 125) y → NotBegun begins_key y → NoPairGoes comma_due x
+pub no_pair_here : (comma_due : Bool) (x y : List ℕ) → IsEntryStart comma_due x y → NotBegun (λ c. c == 125) y → NotBegun begins_key y → NoMemberGoes comma_due x
 no_pair_here comma_due x y begun n none = record {
   no_key = λ u p r k. no_key_begun y r u p (begun_solid comma_due x y begun) none (pair_key_found comma_due x y r u p begun k);
   no_brace = λ r c. no_close_found curly curly_signs comma_due x y r begun n c;
@@ -140,13 +140,13 @@ no_key_here x reason place n m at_end = key_missing
 no_key_here x reason place n m (at_char c r) = no_key c r n m
 
 -- where a member was reached, and no key begins it
-pub refused_key_here : (comma_due : Bool) (s mid : State) (e : Error) → AtMember curly comma_due s mid → NotBegun begins_key mid.unread → Refused (Unexpected codes.EofParsingObject codes.ExpectedIdentifier) (cursor_of mid) e → RefusedBy (NoKey comma_due) s e
+pub refused_key_here : (comma_due : Bool) (s mid : State) (e : Error) → AtEntry curly comma_due s mid → NotBegun begins_key mid.unread → Refused (Unexpected codes.EofParsingObject codes.ExpectedIdentifier) (cursor_of mid) e → RefusedBy (NoKey comma_due) s e
 refused_key_here comma_due s mid e at n f live = by comma_due at.begun
   where
     here : Refused NoKeyHere (cursor_of mid) e
     here = refused_as mid mid e refl (λ reason place k. no_key_here mid.unread reason place n at.inside k) f
 
-    by : (comma_due : Bool) → IsMemberStart comma_due s.unread mid.unread → Refused (AfterBlanks (NoKey comma_due)) (cursor_of s) e
+    by : (comma_due : Bool) → IsEntryStart comma_due s.unread mid.unread → Refused (AfterBlanks (NoKey comma_due)) (cursor_of s) e
     by false g = refused_gap s mid e g (input_of at.rest) (refused_as mid mid e refl (λ reason place k. not_here refl k) here)
     by true (z, comma, g) =
         let next : State = record s { unread = z } in
@@ -221,16 +221,16 @@ other_no_brace true s w r o = let k = or_parts (o.char == 0x2C) (o.char == 125) 
 other_no_brace false s w r o = let k = or_parts (begins_key o.char) (o.char == 125) o.other in (k.1, λ d. absurd (true_false d refl))
 
 end_at_key : (comma_due : Bool) (s mid : State) → AtEnd s → AtKey comma_due s mid → ⊥
-end_at_key comma_due s mid at k = by comma_due k.member.begun
+end_at_key comma_due s mid at k = by comma_due k.entry.begun
   where
-    by : (comma_due : Bool) → IsMemberStart comma_due s.unread mid.unread → ⊥
+    by : (comma_due : Bool) → IsEntryStart comma_due s.unread mid.unread → ⊥
     by true (z, comma, g) = end_no_sign 0x2C s z comma_solid at comma
     by false g = not_nil k.begins.char k.begins.more mid.unread k.begins.split (gap_last s.unread g.gap mid.unread at.1 g.is_gap g.solid g.split).1
 
 other_at_key : (comma_due : Bool) (s mid : State) (w : List ℕ) → AtOther (begins_next_key comma_due) s w → AtKey comma_due s mid → ⊥
-other_at_key comma_due s mid w o k = by comma_due k.member.begun o
+other_at_key comma_due s mid w o k = by comma_due k.entry.begun o
   where
-    by : (comma_due : Bool) → IsMemberStart comma_due s.unread mid.unread → AtOther (begins_next_key comma_due) s w → ⊥
+    by : (comma_due : Bool) → IsEntryStart comma_due s.unread mid.unread → AtOther (begins_next_key comma_due) s w → ⊥
     by true (z, comma, g) o = other_no_sign 0x2C s w z comma_solid o (or_parts (o.char == 0x2C) (o.char == 125) o.other).0 comma
     by false g o =
         let next = (gap_before w g.gap mid.unread o.char o.more o.blank o.solid g.is_gap g.solid (sym o.split ∙ g.split)).1 in
@@ -301,7 +301,7 @@ module _ {K C : Type 0} (content : K → C) (convert : KeyConversion C) (refuses
 
   key_completes : (own e : Error) → kind_of e ≡ kind_of own → CompletesKey {V = K} convert mid (Err own) → CompletesPairKey {V = Option K} convert (bare_map s comma_due false) (Err e)
   key_completes own e same complete u p r c live key is =
-      same ∙ complete u p r c (failed_of at.member.rest ∙ live) (pair_key_found comma_due s.unread mid.unread r u p at.member.begun key) is
+      same ∙ complete u p r c (failed_of at.entry.rest ∙ live) (pair_key_found comma_due s.unread mid.unread r u p at.entry.begun key) is
 
   key_cause : (own e : Error) (offset : ℕ) → SameText mid end → ((before : List ℕ) → mid.input ≡ before ++ mid.unread → offset ≡ length (encode_utf8_all before)) → PositionedAtKey (StartsAfter end.input offset) own e
       → refuses mid own end → RefusesPairKey refuses comma_due s e end
@@ -326,11 +326,11 @@ module _ {K C : Type 0} (content : K → C) (convert : KeyConversion C) (refuses
       record {
         sound = tt;
         complete = key_completes own e kind complete;
-        closing = λ r live close. absurd (no_close_found curly curly_signs comma_due s.unread mid.unread r at.member.begun at.member.inside close);
+        closing = λ r live close. absurd (no_close_found curly curly_signs comma_due s.unread mid.unread r at.entry.begun at.entry.inside close);
         cause = key_cause own e offset same counted placed refused;
         steady = record {
           same_text = same ∙ before.same_text;
-          unprompted = λ live failed. unprompted (failed_of at.member.rest ∙ live) (sym kind ∙ failed);
+          unprompted = λ live failed. unprompted (failed_of at.entry.rest ∙ live) (sym kind ∙ failed);
           before = λ h. absurd (before.before h);
         };
       }

@@ -10,21 +10,21 @@ use Rattle.json5_grammar.specs.Language.Numbers.{Number, Decimal, whole, decimal
 use Rattle.json5_grammar.specs.Language.Trees.{number, text}
 use Rattle.json5_grammar.specs.Language.Values.{is_number}
 use Rattle.json5_text.specs.Cursor.{Cursor}
-use Rattle.json5_text.specs.Short.{TookNumber, TookWhole, TookInRange, TakesShortDecimal, StepsTo, TakesShortStep, TakesShortSign}
+use Rattle.json5_text.specs.ShortWays.{TookNumber, TookWhole, TookInRange, TakesShortDecimal, StepsTo, TakesShortStep, TakesShortSign}
 use Rattle.json5_text.specs.ShortTexts.{ReadsEscapeFreeString, TookEscapeFree, TakesShortString, TakesShortKey}
 use Rattle.json5_text.specs.ShortTexts as texts
 use Rattle.json5_text.specs.TextTokens.{IsSliceAt}
 use Rattle.json5_text.specs.declared.short_texts.Span.{Span}
-use Rattle.json5_text.specs.declared.short.ShortStep.{ShortStep}
-use Rattle.json5_text.specs.declared.short.ShortStep.TheVariants as short
+use Rattle.json5_text.specs.declared.short_ways.ShortStep.{ShortStep}
+use Rattle.json5_text.specs.declared.short_ways.ShortStep.TheVariants as short
 use Rattle.json5_value.specs.declared.brackets.Brackets.{Brackets}
 use Rattle.json5_de.specs.Convert.{natural_below, integer_below, every_text}
 use Rattle.json5_de.specs.KeyKinds.{ReadsKeyAs, string_key}
 use Rattle.json5_de.specs.Keys.{TookKey}
 use Rattle.json5_de.specs.Law.{TookValue}
 use Rattle.json5_de.specs.TokenKinds.{ReadsAs, whole_kind, natural_kind, integer_kind, decimal_kind, string_kind}
-use Rattle.json5_de.specs.Seq.{IsMemberStart}
-use Rattle.json5_de.specs.Short.{ReadsShort, StepsShort, ReadsShortText, ReadsShortKey, PassesShortColon, OwnsTextAt}
+use Rattle.json5_de.specs.Seq.{IsEntryStart}
+use Rattle.json5_de.specs.ShortWays.{ReadsShort, StepsShort, ReadsShortText, ReadsShortKey, PassesShortColon, OwnsTextAt}
 use Rattle.json5_de.specs.State.{State}
 use Rattle.json5_de.proofs.TokenKinds.{reads_ok}
 use Rattle.json5_de.proofs.Taken.{value_gap, input_of}
@@ -105,7 +105,7 @@ short_decimal before after level failed old (Some d) e room live k =
 
 -- ---- a step to the next member
 
-begun_by : (comma_due : Bool) (x y : List ℕ) → StepsTo comma_due x y → IsMemberStart comma_due x y
+begun_by : (comma_due : Bool) (x y : List ℕ) → StepsTo comma_due x y → IsEntryStart comma_due x y
 begun_by false x y k = record { gap = k.gap; split = k.split; is_gap = k.is_gap; solid = k.solid }
 begun_by true x y (z, comma, k) = (z, comma, record { gap = k.gap; split = k.split; is_gap = k.is_gap; solid = k.solid })
 

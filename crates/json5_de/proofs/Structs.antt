@@ -6,9 +6,9 @@ use Rattle.std.specs.Prelude.{Result, OnOk, IsOk, IsErrAnd}
 use Rattle.std.specs.Str.{bytes_eq, encode_utf8_all}
 use Rattle.json5_grammar.specs.Language.Characters.{right_brace}
 use Rattle.json5_grammar.specs.Language.Documents.{max_depth}
-use Rattle.json5_grammar.specs.Language.Trees.{Tree, Pairs, object, no_pair, pair, depth}
+use Rattle.json5_grammar.specs.Language.Trees.{Tree, Members, object, no_member, member, depth}
 use Rattle.json5_grammar.specs.Language.Values.{Reads}
-use Rattle.json5_grammar.specs.Model.Collections.{joint, snoc_pair, object_of}
+use Rattle.json5_grammar.specs.Model.Collections.{joint, snoc_member, object_of}
 use Rattle.json5_grammar.proofs.CollectionsPairsConverted.{object_only}
 use Rattle.json5_text.specs.declared.error.Error.{Error}
 use Rattle.json5_text.specs.Cursor.{IsOutOfMemory}
@@ -127,11 +127,11 @@ module _ {S : Type 0} {step : Step S} {old new : MapAccessState} where
       filled field next v t none some is = rw (none, some) (part.takes s t ∙ ap (if_some (λ c. part.set s (Some c))) is)
 
       reads : (result : Result (Unit {0}) Error) → OnOk result (FillsField content convert old new field next)
-          → OnOk result ((t : Tree) × (step (part.set s (if_some content field)) name t ≡ Some (part.set s (if_some content next))) × ((from : State) (ps : Pairs) (u : List ℕ) (escape_free : Bool) → PairsRead from ps (Some (u, escape_free)) old → PairsRead from (snoc_pair ps u escape_free t) None new))
+          → OnOk result ((t : Tree) × (step (part.set s (if_some content field)) name t ≡ Some (part.set s (if_some content next))) × ((from : State) (ps : Members) (u : List ℕ) (escape_free : Bool) → PairsRead from ps (Some (u, escape_free)) old → PairsRead from (snoc_member ps u escape_free t) None new))
       reads (Ok done) (v, none, some, (t, is, on)) = (t, filled field next v t none some is, on)
       reads (Err e) fills = tt
 
-      leaves : (result : Result (Unit {0}) Error) (o : Option V) (m : S) (t : Tree) (ps : Pairs) (r : List ℕ) → step (part.set s (if_some content o)) name t ≡ Some m
+      leaves : (result : Result (Unit {0}) Error) (o : Option V) (m : S) (t : Tree) (ps : Members) (r : List ℕ) → step (part.set s (if_some content o)) name t ≡ Some m
           → (o ≡ None → LeavesFilled content convert t ps r new next result) → LeavesTaken (part.set s (if_some content next)) m ps r new result
       leaves result (Some v) m t ps r takes left = let none : Some m ≡ None = sym takes ∙ part.twice s (content v) t in absurd (cc none)
       leaves (Ok done) None m t ps r takes left =
@@ -153,22 +153,22 @@ module _ {S : Type 0} {step : Step S} {old new : MapAccessState} where
     unprompted = is.unprompted;
   }
     where
-      reads : (result : Result (Unit {0}) Error) → OnOk result ((t : Tree) × (some_unit ≡ some_unit) × ((from : State) (ps : Pairs) (u : List ℕ) (escape_free : Bool) → PairsRead from ps (Some (u, escape_free)) old → PairsRead from (snoc_pair ps u escape_free t) None new))
-          → OnOk result ((t : Tree) × (step s name t ≡ Some s) × ((from : State) (ps : Pairs) (u : List ℕ) (escape_free : Bool) → PairsRead from ps (Some (u, escape_free)) old → PairsRead from (snoc_pair ps u escape_free t) None new))
+      reads : (result : Result (Unit {0}) Error) → OnOk result ((t : Tree) × (some_unit ≡ some_unit) × ((from : State) (ps : Members) (u : List ℕ) (escape_free : Bool) → PairsRead from ps (Some (u, escape_free)) old → PairsRead from (snoc_member ps u escape_free t) None new))
+          → OnOk result ((t : Tree) × (step s name t ≡ Some s) × ((from : State) (ps : Members) (u : List ℕ) (escape_free : Bool) → PairsRead from ps (Some (u, escape_free)) old → PairsRead from (snoc_member ps u escape_free t) None new))
       reads (Ok done) (t, same, on) = (t, passes.same s t, on)
       reads (Err e) read = tt
 
-      leaves : (result : Result (Unit {0}) Error) (m : S) (ps : Pairs) (r : List ℕ) → m ≡ s → LeavesTaken {S = Unit {0}} tt tt ps r new result → LeavesTaken s m ps r new result
+      leaves : (result : Result (Unit {0}) Error) (m : S) (ps : Members) (r : List ℕ) → m ≡ s → LeavesTaken {S = Unit {0}} tt tt ps r new result → LeavesTaken s m ps r new result
       leaves (Ok done) m ps r same (one, others) = (same, others)
       leaves (Err e) m ps r same memory = memory
 
 -- ---- all members
 
 -- the first member has the name that is pending
-abbrev pub BeginsAt : Option (List ℕ) → Pairs → Type 0
+abbrev pub BeginsAt : Option (List ℕ) → Members → Type 0
 BeginsAt None ps = Unit {0}
-BeginsAt (Some k) no_pair = ⊥
-BeginsAt (Some k) (pair u escape_free t ps) = encode_utf8_all u ≡ k
+BeginsAt (Some k) no_member = ⊥
+BeginsAt (Some k) (member u escape_free t ps) = encode_utf8_all u ≡ k
 
 -- the key that waits for its value has this name
 abbrev pub StandsFor : Option (List ℕ) → Option (List ℕ × Bool) → Type 0
@@ -179,7 +179,7 @@ StandsFor (Some k) (Some (u, escape_free)) = encode_utf8_all u ≡ k
 
 -- of the members that make m of what was read, these are left
 pub record StillLeft {S : Type 0} (step : Step S) (s m : S) (key : Option (List ℕ)) (r : List ℕ) (now : MapAccessState) : Type 0 where
-  pub pairs : Pairs
+  pub pairs : Members
   pub are : run step s pairs ≡ Some m
   pub begins : BeginsAt key pairs
   pub left : PairsLeft pairs r now
@@ -188,29 +188,29 @@ pub record StillLeft {S : Type 0} (step : Step S) (s m : S) (key : Option (List 
 -- the others are left
 pub record ReadingStruct {S : Type 0} (step : Step S) (start : S) (old : MapAccessState) (s : S) (key : Option (List ℕ)) (now : MapAccessState) : Type 0 where
   pub live : old.at.reader.failed ≡ false → now.at.reader.failed ≡ false
-  pub pairs : Pairs
+  pub pairs : Members
   pub are : run step start pairs ≡ Some s
   pub waits : Option (List ℕ × Bool)
   pub named : StandsFor key waits
-  pub read : (from : State) → PairsRead from no_pair None old → PairsRead from pairs waits now
-  pub left : (ps : Pairs) (r : List ℕ) (m : S) → run step start ps ≡ Some m → PairsLeft ps r old → StillLeft step s m key r now
+  pub read : (from : State) → PairsRead from no_member None old → PairsRead from pairs waits now
+  pub left : (ps : Members) (r : List ℕ) (m : S) → run step start ps ≡ Some m → PairsLeft ps r old → StillLeft step s m key r now
 
 abbrev or_text : List ℕ → Option (List ℕ) → List ℕ
 or_text other None = other
 or_text other (Some k) = k
 
 -- one member more
-run_snoc : {S : Type 0} (step : Step S) (s n m : S) (ps : Pairs) (u : List ℕ) (escape_free : Bool) (t : Tree) → run step s ps ≡ Some n → step n (encode_utf8_all u) t ≡ Some m → run step s (snoc_pair ps u escape_free t) ≡ Some m
-run_snoc step s n m no_pair u escape_free t is next = let same : s ≡ n = cc in rw (same, next) refl
-run_snoc {S} step s n m (pair v allocation_free w ps) u escape_free t is next = by (step s (encode_utf8_all v) w) is (λ x rest. run_snoc step x n m ps u escape_free t rest next)
+run_snoc : {S : Type 0} (step : Step S) (s n m : S) (ps : Members) (u : List ℕ) (escape_free : Bool) (t : Tree) → run step s ps ≡ Some n → step n (encode_utf8_all u) t ≡ Some m → run step s (snoc_member ps u escape_free t) ≡ Some m
+run_snoc step s n m no_member u escape_free t is next = let same : s ≡ n = cc in rw (same, next) refl
+run_snoc {S} step s n m (member v allocation_free w ps) u escape_free t is next = by (step s (encode_utf8_all v) w) is (λ x rest. run_snoc step x n m ps u escape_free t rest next)
   where
-    by : (o : Option S) → if_more (λ x. run step x ps) o ≡ Some n → ((x : S) → run step x ps ≡ Some n → run step x (snoc_pair ps u escape_free t) ≡ Some m) → if_more (λ x. run step x (snoc_pair ps u escape_free t)) o ≡ Some m
+    by : (o : Option S) → if_more (λ x. run step x ps) o ≡ Some n → ((x : S) → run step x ps ≡ Some n → run step x (snoc_member ps u escape_free t) ≡ Some m) → if_more (λ x. run step x (snoc_member ps u escape_free t)) o ≡ Some m
     by None is others = absurd (cc)
     by (Some x) is others = others x is
 
-none_left : {S X : Type 0} (step : Step S) (content : X → List ℕ) (s z : S) (new : MapAccessState) (ps : Pairs) (r : List ℕ) → run step s ps ≡ Some z → LeavesAValue content every_text ps r new (Ok None) → (z ≡ s) × PairsLeft no_pair r new
-none_left step content s z new no_pair r are left = (cc are, left)
-none_left step content s z new (pair u escape_free t ps) r are left = absurd left
+none_left : {S X : Type 0} (step : Step S) (content : X → List ℕ) (s z : S) (new : MapAccessState) (ps : Members) (r : List ℕ) → run step s ps ≡ Some z → LeavesAValue content every_text ps r new (Ok None) → (z ≡ s) × PairsLeft no_member r new
+none_left step content s z new no_member r are left = (cc are, left)
+none_left step content s z new (member u escape_free t ps) r are left = absurd left
 
 -- a call that returned a key leaves a reader that hasn't failed
 pub live_after_key : {X C : Type 0} (content : X → C) (keys : KeyConversion C) (old new : MapAccessState) (k : X) → GivesPairKey content keys old new (Some k) → old.at.reader.failed ≡ false → new.at.reader.failed ≡ false
@@ -225,10 +225,10 @@ brace_next content keys old new (at, comma_due, none) = let (r, close, next) = a
 
 -- no member is read yet
 pub no_pairs : {S : Type 0} (step : Step S) (s : S) (old : MapAccessState) → ReadingStruct step s old s None old
-no_pairs step s old = record { live = λ l. l; pairs = no_pair; are = refl; waits = None; named = tt; read = λ from p. p; left = λ ps r m is left. record { pairs = ps; are = is; begins = tt; left = left } }
+no_pairs step s old = record { live = λ l. l; pairs = no_member; are = refl; waits = None; named = tt; read = λ from p. p; left = λ ps r m is left. record { pairs = ps; are = is; begins = tt; left = left } }
 
 module _ {S : Type 0} {step : Step S} {start : S} {old : MapAccessState} where
-  at_rest : {s : S} {now : MapAccessState} (m : ReadingStruct step start old s None now) (from : State) → PairsRead from no_pair None old → PairsRead from m.pairs None now
+  at_rest : {s : S} {now : MapAccessState} (m : ReadingStruct step start old s None now) (from : State) → PairsRead from no_member None old → PairsRead from m.pairs None now
   at_rest {now = now} m from begun = by m.waits m.named (m.read from begun)
     where
       by : (waits : Option (List ℕ × Bool)) → StandsFor None waits → PairsRead from m.pairs waits now → PairsRead from m.pairs None now
@@ -237,7 +237,7 @@ module _ {S : Type 0} {step : Step S} {start : S} {old : MapAccessState} where
 
   -- a key was read
   pub reads_name : {X : Type 0} (content : X → List ℕ) {s : S} {at new : MapAccessState} (k : X) → ReadingStruct step start old s None at → (at.at.reader.failed ≡ false → new.at.reader.failed ≡ false) → ReadsAKey content every_text at new (Some k)
-      → ((ps : Pairs) (r : List ℕ) → PairsLeft ps r at → LeavesAValue content every_text ps r new (Ok (Some k))) → ReadingStruct step start old s (Some (content k)) new
+      → ((ps : Members) (r : List ℕ) → PairsLeft ps r at → LeavesAValue content every_text ps r new (Ok (Some k))) → ReadingStruct step start old s (Some (content k)) new
   reads_name content {s = s} {new = new} k m live (u, escape_free, is, on) fewer = record {
     live = λ l. live (m.live l);
     pairs = m.pairs;
@@ -248,27 +248,27 @@ module _ {S : Type 0} {step : Step S} {start : S} {old : MapAccessState} where
     left = λ ps r z are left. let w = m.left ps r z are left in by z w.pairs r w.are (fewer w.pairs r w.left);
   }
     where
-      by : (z : S) (ps : Pairs) (r : List ℕ) → run step s ps ≡ Some z → LeavesAValue content every_text ps r new (Ok (Some k)) → StillLeft step s z (Some (content k)) r new
-      by z no_pair r are left = absurd left
-      by z (pair u escape_free t ps) r are (is, left) = record { pairs = pair u escape_free t ps; are = are; begins = ap (or_text (content k)) is; left = left }
+      by : (z : S) (ps : Members) (r : List ℕ) → run step s ps ≡ Some z → LeavesAValue content every_text ps r new (Ok (Some k)) → StillLeft step s z (Some (content k)) r new
+      by z no_member r are left = absurd left
+      by z (member u escape_free t ps) r are (is, left) = record { pairs = member u escape_free t ps; are = are; begins = ap (or_text (content k)) is; left = left }
 
   -- and its value
   pub takes_pair : {name : List ℕ} {s n : S} {at new : MapAccessState} → ReadingStruct step start old s (Some name) at → TakesPair step s n name at new (Ok tt) → ReadingStruct step start old n None new
   takes_pair {name = name} {s = s} {n = n} {at = at} {new = new} m one = let (t, takes, on) = one.read in of t takes on m.waits m.named m.read
     where
-      by : (z : S) (ps : Pairs) (r : List ℕ) → run step s ps ≡ Some z → BeginsAt (Some name) ps → PairsLeft ps r at → StillLeft step n z None r new
-      by z no_pair r are named left = absurd named
-      by z (pair u escape_free t ps) r are named left =
+      by : (z : S) (ps : Members) (r : List ℕ) → run step s ps ≡ Some z → BeginsAt (Some name) ps → PairsLeft ps r at → StillLeft step n z None r new
+      by z no_member r are named left = absurd named
+      by z (member u escape_free t ps) r are named left =
           let (x, is, rest) = parts (λ x. run step x ps) (step s (encode_utf8_all u) t) z are in
           let (same, others) = one.left u escape_free t ps r x (sym (ap (λ w. step s w t) named) ∙ is) left in
           record { pairs = ps; are = ap (λ y. run step y ps) (sym same) ∙ rest; begins = tt; left = others }
 
-      of : (t : Tree) → step s name t ≡ Some n → ((from : State) (ps : Pairs) (u : List ℕ) (escape_free : Bool) → PairsRead from ps (Some (u, escape_free)) at → PairsRead from (snoc_pair ps u escape_free t) None new)
-          → (waits : Option (List ℕ × Bool)) → StandsFor (Some name) waits → ((from : State) → PairsRead from no_pair None old → PairsRead from m.pairs waits at) → ReadingStruct step start old n None new
+      of : (t : Tree) → step s name t ≡ Some n → ((from : State) (ps : Members) (u : List ℕ) (escape_free : Bool) → PairsRead from ps (Some (u, escape_free)) at → PairsRead from (snoc_member ps u escape_free t) None new)
+          → (waits : Option (List ℕ × Bool)) → StandsFor (Some name) waits → ((from : State) → PairsRead from no_member None old → PairsRead from m.pairs waits at) → ReadingStruct step start old n None new
       of t takes on None named read = absurd named
       of t takes on (Some (u, escape_free)) named read = record {
         live = λ l. one.live;
-        pairs = snoc_pair m.pairs u escape_free t;
+        pairs = snoc_member m.pairs u escape_free t;
         are = run_snoc step start s n m.pairs u escape_free t m.are (ap (λ w. step s w t) named ∙ takes);
         waits = None;
         named = tt;
@@ -278,7 +278,7 @@ module _ {S : Type 0} {step : Step S} {start : S} {old : MapAccessState} where
 
   -- no key was returned: all members were read
   pub all_read : {X : Type 0} (content : X → List ℕ) {s : S} {at new : MapAccessState} → ReadingStruct step start old s None at → new.at.reader.failed ≡ false → (x : List ℕ) × (new.at.reader.unread ≡ right_brace ∷ x) → ReadsAKey content every_text at new None
-      → ((ps : Pairs) (r : List ℕ) → PairsLeft ps r at → LeavesAValue content every_text ps r new (Ok None)) → ReadsPairs step start s old new (Ok tt)
+      → ((ps : Members) (r : List ℕ) → PairsLeft ps r at → LeavesAValue content every_text ps r new (Ok None)) → ReadsPairs step start s old new (Ok tt)
   all_read content {s = s} {new = new} m live brace on fewer = record {
     at_brace = brace;
     read = (m.pairs, m.are, λ from begun. on from m.pairs (at_rest m from begun));
@@ -290,7 +290,7 @@ module _ {S : Type 0} {step : Step S} {start : S} {old : MapAccessState} where
 
   module _ {n s : S} {at new : MapAccessState} (e : Error) (result : Result (Unit {0}) Error) where
     refuses_as : {key : Option (List ℕ)} → IsErrAnd result (λ y. y ≡ e) → ReadingStruct step start old s key at → new.at.reader.failed ≡ true → (at.at.reader.failed ≡ false → IsUnprompted e)
-        → ((ps : Pairs) (r : List ℕ) (z : S) → run step s ps ≡ Some z → BeginsAt key ps → PairsLeft ps r at → IsOutOfMemory e) → ReadsPairs step start n old new result
+        → ((ps : Members) (r : List ℕ) (z : S) → run step s ps ≡ Some z → BeginsAt key ps → PairsLeft ps r at → IsOutOfMemory e) → ReadsPairs step start n old new result
     refuses_as is_err m failed unprompted memory = handed_on (λ r. ReadsPairs step start n old new r) e result is_err (record {
       read = tt;
       at_brace = tt;
@@ -302,20 +302,20 @@ module _ {S : Type 0} {step : Step S} {start : S} {old : MapAccessState} where
 
     -- a key was refused
     pub key_refuses : {X : Type 0} (content : X → List ℕ) → IsErrAnd result (λ y. y ≡ e) → ReadingStruct step start old s None at → new.at.reader.failed ≡ true → (at.at.reader.failed ≡ false → IsUnprompted e)
-        → ((ps : Pairs) (r : List ℕ) → PairsLeft ps r at → LeavesAValue content every_text ps r new (Err e)) → ReadsPairs step start n old new result
+        → ((ps : Members) (r : List ℕ) → PairsLeft ps r at → LeavesAValue content every_text ps r new (Err e)) → ReadsPairs step start n old new result
     key_refuses content is_err m failed unprompted fewer = refuses_as is_err m failed unprompted (λ ps r z are begins left. by ps r (fewer ps r left))
       where
-        by : (ps : Pairs) (r : List ℕ) → LeavesAValue content every_text ps r new (Err e) → IsOutOfMemory e
-        by no_pair r left = absurd left
-        by (pair u escape_free t ps) r left = left (encode_utf8_all u) refl
+        by : (ps : Members) (r : List ℕ) → LeavesAValue content every_text ps r new (Err e) → IsOutOfMemory e
+        by no_member r left = absurd left
+        by (member u escape_free t ps) r left = left (encode_utf8_all u) refl
 
     -- a value was refused
     pub pair_refuses : {name : List ℕ} {x : S} → IsErrAnd result (λ y. y ≡ e) → ReadingStruct step start old s (Some name) at → TakesPair step s x name at new (Err e) → ReadsPairs step start n old new result
     pair_refuses {name = name} is_err m one = refuses_as is_err m one.failed one.unprompted by
       where
-        by : (ps : Pairs) (r : List ℕ) (z : S) → run step s ps ≡ Some z → BeginsAt (Some name) ps → PairsLeft ps r at → IsOutOfMemory e
-        by no_pair r z are named left = absurd named
-        by (pair u escape_free t ps) r z are named left =
+        by : (ps : Members) (r : List ℕ) (z : S) → run step s ps ≡ Some z → BeginsAt (Some name) ps → PairsLeft ps r at → IsOutOfMemory e
+        by no_member r z are named left = absurd named
+        by (member u escape_free t ps) r z are named left =
             let (y, is, rest) = parts (λ y. run step y ps) (step s (encode_utf8_all u) t) z are in
             one.left u escape_free t ps r y (sym (ap (λ w. step s w t) named) ∙ is) left
 
@@ -335,7 +335,7 @@ module _ {S D : Type 0} (plan : Plan S D) {I : Type 0} {Held : MapAccess I → T
   opened_live = ap (λ (s : State). s.failed) opens.read.rest ∙ opens.read.live
 
   -- its brace was taken: what was read is the struct
-  pub struct_read : {n : S} {now : MapAccessState} {d : D} {last end : State} → ReadsPairs plan.step plan.start n (map_state_of map) now (Ok tt) → end ≡ last → ((from : State) (ps : Pairs) → PairsRead from ps None now → TookValue from (object ps) last) → plan.build n ≡ Some d
+  pub struct_read : {n : S} {now : MapAccessState} {d : D} {last end : State} → ReadsPairs plan.step plan.start n (map_state_of map) now (Ok tt) → end ≡ last → ((from : State) (ps : Members) → PairsRead from ps None now → TookValue from (object ps) last) → plan.build n ≡ Some d
       → (t : Tree) × TookValue old t end × (object_of plan.convert t ≡ Some d)
   struct_read reads same ends is =
       let (ps, are, on) = reads.read in
@@ -346,7 +346,7 @@ module _ {S D : Type 0} (plan : Plan S D) {I : Type 0} {Held : MapAccess I → T
   fields_unprompted e result is_err reads = handed_on (λ r. Unprompted old r) e result is_err (λ live. reads.unprompted opened_live)
 
   module _ {U : Type 0} (e : Error) (result : Result U Error) where
-    completes_as : IsErrAnd result (λ y. y ≡ e) → ((ps : Pairs) (r : List ℕ) (m : S) (d : D) → run plan.step plan.start ps ≡ Some m → plan.build m ≡ Some d → PairsLeft ps r (map_state_of map) → IsOutOfMemory e) → Completes (object_of plan.convert) old result
+    completes_as : IsErrAnd result (λ y. y ≡ e) → ((ps : Members) (r : List ℕ) (m : S) (d : D) → run plan.step plan.start ps ≡ Some m → plan.build m ≡ Some d → PairsLeft ps r (map_state_of map) → IsOutOfMemory e) → Completes (object_of plan.convert) old result
     completes_as is_err k = handed_on (λ r. Completes (object_of plan.convert) old r) e result is_err (λ t r d live reads shallow is.
         let (ps, same, converts) = object_only plan.convert t d is in
         let (m, are, built) = parts plan.build (run plan.step plan.start ps) d (sym (plan.says ps) ∙ converts) in
@@ -364,5 +364,5 @@ module _ {S D : Type 0} (plan : Plan S D) {I : Type 0} {Held : MapAccess I → T
         absurd (cc both))
 
     -- its brace was refused
-    pub end_completes : {n : S} {now : MapAccessState} → IsErrAnd result (λ y. y ≡ e) → ReadsPairs plan.step plan.start n (map_state_of map) now (Ok tt) → ((r : List ℕ) → PairsLeft no_pair r now → IsOk {T = Unit {0}} {E = Error} (Err e)) → Completes (object_of plan.convert) old result
+    pub end_completes : {n : S} {now : MapAccessState} → IsErrAnd result (λ y. y ≡ e) → ReadsPairs plan.step plan.start n (map_state_of map) now (Ok tt) → ((r : List ℕ) → PairsLeft no_member r now → IsOk {T = Unit {0}} {E = Error} (Err e)) → Completes (object_of plan.convert) old result
     end_completes is_err reads ends = completes_as is_err (λ ps r m d are built left. let (same, rest) = reads.left ps r m are left in absurd (false≢true (ends r rest)))

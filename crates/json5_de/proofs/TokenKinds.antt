@@ -24,7 +24,7 @@ use Rattle.json5_de.specs.TokenKinds.{Kind, RefusedWith, ReadsAs, ReadsNull, End
 use Rattle.json5_de.proofs.Expected.{Expected, wrongly_refused, completes_or_memory, ends_from, ends_or_memory, differs_from, differs_or_memory}
 use Rattle.json5_de.proofs.Expects.{expects_null, expects_bool}
 use Rattle.json5_de.proofs.ExpectsNumbers.{expects_number}
-use Rattle.json5_de.proofs.ExpectsTexts.{expects_text}
+use Rattle.json5_de.proofs.ExpectsStrings.{expects_text}
 use Rattle.json5_de.proofs.Taken.{input_of, refused_blanks, refused_token, took_leaf, refused_or_memory, null_stops}
 use Rattle.json5_de.proofs.Mismatches.{StartsAt, refused_number, refused_text}
 use Rattle.json5_de.proofs.WithoutMemory.{whole_there, no_other_number, escape_free_there, no_other_text}

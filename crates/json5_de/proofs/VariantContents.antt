@@ -1,7 +1,7 @@
 -- The content of a variant, with its closing brace.
 use Rattle.std.proofs.Common.{◌≡◌, ℕ, ◌≤◌, ◌+◌, Bool, true, false, List, refl, ap, sym, ◌∙◌, subst, Option, Some, None, Result, Ok, Err}
 use Rattle.json5_grammar.specs.Language.Documents.{max_depth}
-use Rattle.json5_grammar.specs.Language.Trees.{Tree, text, object, pair, no_pair, depth}
+use Rattle.json5_grammar.specs.Language.Trees.{Tree, text, object, member, no_member, depth}
 use Rattle.json5_grammar.specs.Language.Values.{Reads}
 use Rattle.json5_grammar.specs.Model.Collections.{IsBrace}
 use Rattle.json5_grammar.proofs.Basics.{true_false}
@@ -11,7 +11,7 @@ use Rattle.json5_de.specs.State.{State, SameText, GivesUp}
 use Rattle.json5_de.specs.Law.{TookValue, Gives, Completes, CompletesFree, Unprompted}
 use Rattle.json5_de.specs.ReaderSteps.{IsMismatch}
 use Rattle.json5_de.specs.ConvertLists.{if_some}
-use Rattle.json5_value.specs.Places.{PositionedAt, StartsAfter}
+use Rattle.json5_value.specs.Offsets.{PositionedAt, StartsAfter}
 use Rattle.json5_value.specs.Brackets.{curly}
 use Rattle.json5_de.specs.Access.{ClosesAs}
 use Rattle.json5_de.specs.Enums.{EnumAccessState, AfterName, ContentLeft, RefusesContent, no_content, in_content, not_closed, ReadsInBrace, ReadsVariant, content_of, unit_content, content_free}
@@ -66,7 +66,7 @@ module _ {V C : Type 0} (content : V → C) (convert : Tree → Option C) (alloc
       read = λ names from n.
           let (t, after, took, closed, is) = k.sound in
           let at = subst (λ b. AfterName b from n.name n.escape_free old.reader) has n.after in
-          (object (pair n.name n.escape_free t no_pair), Some t, whole_variant from old.reader after new n.name n.escape_free t at took closed, ap (if_some (λ i. (i, Some t))) n.place, same_convert t ∙ is);
+          (object (member n.name n.escape_free t no_member), Some t, whole_variant from old.reader after new n.name n.escape_free t at took closed, ap (if_some (λ i. (i, Some t))) n.place, same_convert t ∙ is);
       left = λ c r d l is.
           let (u, z, some, reads, close, deep) = one_content c r has l in
           let (t, after, took, closed, given) = k.sound in

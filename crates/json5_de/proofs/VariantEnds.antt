@@ -1,11 +1,11 @@
 -- The content of a variant that is read through an access: how it is opened and closed.
 use Rattle.std.proofs.Common.{◌≡◌, ℕ, Bool, true, false, refl, sym, ◌∙◌, subst, Some, None, Result, Ok, Err}
-use Rattle.json5_grammar.specs.Language.Trees.{array, object, no_pair}
+use Rattle.json5_grammar.specs.Language.Trees.{array, object, no_member}
 use Rattle.json5_grammar.specs.Model.Collections.{IsBrace}
 use Rattle.json5_grammar.proofs.Basics.{true_false}
 use Rattle.json5_grammar.proofs.CollectionsPassed.{one_end}
 use Rattle.json5_text.specs.declared.error.Error.{Error}
-use Rattle.json5_value.specs.Places.{StartsAfter, PositionedAt}
+use Rattle.json5_value.specs.Offsets.{StartsAfter, PositionedAt}
 use Rattle.json5_de.specs.State.{State, GivesUp}
 use Rattle.json5_de.specs.ReaderSteps.{IsMismatch}
 use Rattle.json5_value.specs.declared.brackets.Brackets.{Brackets}
@@ -49,7 +49,7 @@ struct_closed brace old new (Ok tt) k = record {
   read = λ from content u escape_free ps at e. let (after, one, two) = k.closed in whole_variant from content after new u escape_free (object ps) at (pairs.all_read content old after ps one e) two;
   left = λ x r none l close. refl;
 }
-struct_closed brace old new (Err e) k = record { bracket = k; read = tt; left = λ x r none l close. k.complete x r l.live (subst (λ p. LeftAfter p no_pair old.at.comma_due old.at.reader.unread x) none l.tail) close }
+struct_closed brace old new (Err e) k = record { bracket = k; read = tt; left = λ x r none l close. k.complete x r l.live (subst (λ p. LeftAfter p no_member old.at.comma_due old.at.reader.unread x) none l.tail) close }
 
 -- at the end of an access
 pub array_ends : (old : AccessState) (new : State) (result : Result (Unit {0}) Error) → ClosesLast square old.comma_due old.reader new result → EndsArray None old new result

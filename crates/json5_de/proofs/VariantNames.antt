@@ -9,7 +9,7 @@ use Rattle.json5_grammar.specs.Language.Characters.{NotBegun}
 use Rattle.json5_grammar.specs.Language.Blanks.{Blanks, Gap, Solid}
 use Rattle.json5_grammar.specs.Language.Documents.{max_depth}
 use Rattle.json5_grammar.specs.Language.Strings.{is_quote, quoted}
-use Rattle.json5_grammar.specs.Language.Trees.{Tree, Pairs, null, boolean, number, text, array, object, pair, no_pair, depth}
+use Rattle.json5_grammar.specs.Language.Trees.{Tree, Members, null, boolean, number, text, array, object, member, no_member, depth}
 use Rattle.json5_grammar.specs.Language.Values.{Val, Reads, is_null, is_true, is_false, is_number, is_text, is_empty_array, is_array, is_empty_object, is_object}
 use Rattle.json5_grammar.specs.Model.Collections.{IsSign, IsKey, IsKeyValue, IsBrace}
 use Rattle.json5_grammar.proofs.Basics.{first_same, true_false}
@@ -22,7 +22,7 @@ use Rattle.json5_grammar.proofs.CollectionsPairs.{opening_brace_solid, colon_sol
 use Rattle.json5_grammar.proofs.Unique.{one_phrase}
 use Rattle.json5_text.specs.declared.error.Error.{Error}
 use Rattle.json5_text.specs.Cursor.{Refused, IsOutOfMemory}
-use Rattle.json5_value.specs.Places.{StartsAfter, PositionedAt}
+use Rattle.json5_value.specs.Offsets.{StartsAfter, PositionedAt}
 use Rattle.json5_text.specs.Tokens.{FaultyBlanks}
 use Rattle.json5_de.specs.State.{State, SameText, GivesUp, cursor_of}
 use Rattle.json5_de.specs.Law.{TookValue, IsUnprompted, Unprompted}
@@ -46,7 +46,7 @@ use Rattle.json5_de.proofs.Options.{end_next, value_next, value_no_end, took_aft
 use Rattle.json5_value.proofs.OtherCodes.{Lacks}
 use Rattle.json5_de.proofs.PairCodes.{value_read, key_there, no_key_begun, pair_key_found}
 use Rattle.json5_de.proofs.Pairs.{pair_read, all_read, key_read, opens_map, refuses_map}
-use Rattle.json5_de.proofs.Places.{refused_as}
+use Rattle.json5_de.proofs.RefusalPositions.{refused_as}
 use Rattle.json5_de.proofs.TokenKinds.{refused_other, given_up, gives_up}
 use Rattle.json5_de.proofs.Taken.{input_of, refused_blanks, refused_token}
 use Rattle.json5_de.proofs.FoundKeys.{no_fault_before}
@@ -56,12 +56,12 @@ use Rattle.json5_de.proofs.FoundKeys.{no_fault_before}
 -- a string begins with a quote, an object with its brace
 pub data VariantAt (c : ℕ) : Tree → Type 0 where
   at_text : (u : List ℕ) (escape_free : Bool) → is_quote c ≡ true → VariantAt c (text u escape_free)
-  at_object : (u : List ℕ) (escape_free : Bool) (t : Tree) → c ≡ 123 → VariantAt c (object (pair u escape_free t no_pair))
+  at_object : (u : List ℕ) (escape_free : Bool) (t : Tree) → c ≡ 123 → VariantAt c (object (member u escape_free t no_member))
 
-object_at : (c : ℕ) (names : List (List ℕ)) (x : ℕ × Option Tree) (ps : Pairs) → c ≡ 123 → named_variant names (object ps) ≡ Some x → VariantAt c (object ps)
-object_at c names x no_pair at e = absurd (cc)
-object_at c names x (pair u escape_free t no_pair) at e = at_object u escape_free t at
-object_at c names x (pair u escape_free t (pair v other s ps)) at e = absurd (cc)
+object_at : (c : ℕ) (names : List (List ℕ)) (x : ℕ × Option Tree) (ps : Members) → c ≡ 123 → named_variant names (object ps) ≡ Some x → VariantAt c (object ps)
+object_at c names x no_member at e = absurd (cc)
+object_at c names x (member u escape_free t no_member) at e = at_object u escape_free t at
+object_at c names x (member u escape_free t (member v other s ps)) at e = absurd (cc)
 
 variant_at : {s : List ℕ} {t : Tree} (names : List (List ℕ)) (x : ℕ × Option Tree) → Val s t → named_variant names t ≡ Some x → (c : ℕ) × (y : List ℕ) × (s ≡ c ∷ y) × VariantAt c t
 variant_at names x is_null e = absurd (cc)
@@ -95,10 +95,10 @@ named_as None n k b c e f = absurd (cc)
 named_as (Some i) n k b c e f = let m : i ≡ n = cc in let (p, q) = same_pair (i, b) (k, c) f in (sym m ∙ p, q)
 
 -- what was read before a content is what the content follows
-at_content_left : (names : List (List ℕ)) (from now : State) (u v r : List ℕ) (p q : Bool) (w : Tree) → AtContent from u p now → Reads from.unread (object (pair v q w no_pair)) r
+at_content_left : (names : List (List ℕ)) (from now : State) (u v r : List ℕ) (p q : Bool) (w : Tree) → AtContent from u p now → Reads from.unread (object (member v q w no_member)) r
     → (u ≡ v) × (p ≡ q) × (z : List ℕ) × Reads now.unread w z × IsBrace true z r
 at_content_left names from now u v r p q w at reads =
-    let (y, opens, (f, z, key, value, close)) = object_front from.unread r (pair v q w no_pair) reads in
+    let (y, opens, (f, z, key, value, close)) = object_front from.unread r (member v q w no_member) reads in
     let e = at.key in
     let (comma_due, here) = e.passed in
     let inside : e.inside ≡ y = one_opening_brace from.unread e.inside y e.bracket opens in
@@ -149,10 +149,10 @@ module _ (names : List (List ℕ)) (from : State) (s : EnumAccessState) (n : Nam
       by (boolean b) d next there reads shallow is = absurd (cc)
       by (number n) d next there reads shallow is = absurd (cc)
       by (array ts) d next there reads shallow is = absurd (cc)
-      by (object no_pair) d next there reads shallow is = absurd (cc)
-      by (object (pair u p w (pair v o x ps))) d next there reads shallow is = absurd (cc)
+      by (object no_member) d next there reads shallow is = absurd (cc)
+      by (object (member u p w (member v o x ps))) d next there reads shallow is = absurd (cc)
       by (text u escape_free) d next (at_text _ _ h) reads shallow is = absurd (true_false h (ap is_quote next))
-      by (object (pair u escape_free w no_pair)) d next (at_object _ _ _ e) reads shallow is =
+      by (object (member u escape_free w no_member)) d next (at_object _ _ _ e) reads shallow is =
           let (same, mark, z, there, close) = at_content_left names from s.reader n.name u r n.escape_free escape_free w at reads in
           let (place, whole) = named_as (index_of names u escape_free) s.variant k (Some w) c (subst (λ v. index_of names v escape_free ≡ Some s.variant) same (subst (λ p. index_of names n.name p ≡ Some s.variant) mark n.place)) is in
           let level = inside_deep from s.reader n.name n.escape_free at in (
@@ -278,13 +278,13 @@ took_key_after old mid last u p passed took = record {
 pub content_after : (old mid now : State) (u : List ℕ) (escape_free : Bool) → PassedGap old mid → AtContent mid u escape_free now → AtContent old u escape_free now
 content_after old mid now u escape_free p at = record { keyed = at.keyed; key = from_gap; colon = at.colon }
   where
-    e : PairsRead mid no_pair (Some (u, escape_free)) (bare_map at.keyed false true)
+    e : PairsRead mid no_member (Some (u, escape_free)) (bare_map at.keyed false true)
     e = at.key
 
     next : mid.unread ≡ 123 ∷ e.inside
     next = sign_found 123 mid.unread [] mid.unread e.inside opening_brace_solid refl (Gap.blanks Blanks.empty) p.solid e.bracket
 
-    from_gap : PairsRead old no_pair (Some (u, escape_free)) (bare_map at.keyed false true)
+    from_gap : PairsRead old no_member (Some (u, escape_free)) (bare_map at.keyed false true)
     from_gap = record {
       live = p.live;
       shallow = let level = level_of p.rest in let deep = e.shallow in omega (arith, level, deep);
@@ -298,10 +298,10 @@ content_after old mid now u escape_free p at = record { keyed = at.keyed; key = 
     }
 
 -- the whole object, after its value and the closing brace were read
-pub whole_variant : (from now after new : State) (u : List ℕ) (escape_free : Bool) (t : Tree) → AtContent from u escape_free now → TookValue now t after → Closed curly true after new → TookValue from (object (pair u escape_free t no_pair)) new
+pub whole_variant : (from now after new : State) (u : List ℕ) (escape_free : Bool) (t : Tree) → AtContent from u escape_free now → TookValue now t after → Closed curly true after new → TookValue from (object (member u escape_free t no_member)) new
 whole_variant from now after new u escape_free t at took closed =
-    all_read from (bare_map after true false) new (pair u escape_free t no_pair) closed
-    (pair_read from (bare_map at.keyed false true) (bare_map after true false) no_pair u escape_free t (value_read at.keyed now after t at.colon took) refl refl at.key)
+    all_read from (bare_map after true false) new (member u escape_free t no_member) closed
+    (pair_read from (bare_map at.keyed false true) (bare_map after true false) no_member u escape_free t (value_read at.keyed now after t at.colon took) refl refl at.key)
 
 -- ---- the only key, step by step
 
@@ -369,7 +369,7 @@ module _ (names : List (List ℕ)) (old mid : State) where
 pub not_opened_keyed : {A : Type 0} (names : List (List ℕ)) (see : A → AccessState) (old new : State) (e : Error) → OpensAs curly see old (Err e) → GivesUp old new → ReadsKeyed names old new (Err e)
 not_opened_keyed names see old new e o failed = record {
   sound = tt;
-  complete = λ u r escape_free t k live reads shallow is. absurd ((refuses_map {Held = λ m. Unit {0}} see (λ (m : MapAccessState). m) old e o).left (pair u escape_free t no_pair) r live reads shallow);
+  complete = λ u r escape_free t k live reads shallow is. absurd ((refuses_map {Held = λ m. Unit {0}} see (λ (m : MapAccessState). m) old e o).left (member u escape_free t no_member) r live reads shallow);
   refused = inl o.refused;
   unprompted = o.unprompted;
   failed = failed;
@@ -384,7 +384,7 @@ only_key_refused names old inside new start o own e k placed =
       sound = tt;
       complete = λ u r escape_free t i alive reads shallow is.
           let map = opens_map {Held = λ m. Unit {0}} (λ (n : ℕ). record { reader = inside; start = n; comma_due = false }) (λ (m : MapAccessState). m) old start (record { at = record { reader = inside; start = start; comma_due = false }; pending = false }) tt refl refl o in
-          let left = map.left (pair u escape_free t no_pair) r alive reads shallow in
+          let left = map.left (member u escape_free t no_member) r alive reads shallow in
           let (y, z, key, value, close) = left.tail in
           placed.kind ∙ k.complete u y z escape_free t i left.live key value is;
       refused = inr (record {
@@ -446,13 +446,13 @@ module _ (names : List (List ℕ)) (old mid : State) (p : PassedGap old mid) (st
     where
       by : (t : Tree) (r : List ℕ) (i : ℕ) (d : Option Tree) → VariantAt h.char t → Reads mid.unread t r → mid.level + depth t ≤ max_depth → named_variant names t ≡ Some (i, d) → IsOutOfMemory e
       by (text u escape_free) r i d (at_text _ _ q) reads shallow is = k.complete (text u escape_free) r i (failed_of p.rest ∙ p.live) reads shallow (place_named (index_of names u escape_free) i None d is)
-      by (object (pair u escape_free w no_pair)) r i d (at_object _ _ _ q) reads shallow is = absurd (true_false h.is_first (ap is_quote q))
+      by (object (member u escape_free w no_member)) r i d (at_object _ _ _ q) reads shallow is = absurd (true_false h.is_first (ap is_quote q))
       by null r i d at reads shallow is = absurd (cc)
       by (boolean b) r i d at reads shallow is = absurd (cc)
       by (number n) r i d at reads shallow is = absurd (cc)
       by (array ts) r i d at reads shallow is = absurd (cc)
-      by (object no_pair) r i d at reads shallow is = absurd (cc)
-      by (object (pair u escape_free w (pair v o x ps))) r i d at reads shallow is = absurd (cc)
+      by (object no_member) r i d at reads shallow is = absurd (cc)
+      by (object (member u escape_free w (member v o x ps))) r i d at reads shallow is = absurd (cc)
 
   -- an object
   pub object_named : {A : Type 0} (state_of : A → EnumAccessState) (new : State) (a : A) (k : ℕ) → FirstCharIs is_left_brace mid.unread → state_of a ≡ record { reader = new; start = start; variant = k; has_content = true } → ReadsKeyed names mid new (Ok k) → NamesVariant names state_of old (Ok a)
@@ -482,13 +482,13 @@ module _ (names : List (List ℕ)) (old mid : State) (p : PassedGap old mid) (st
         where
           no_quote_brace : (x : ℕ) → is_quote x ≡ true → is_left_brace x ≡ true → ⊥
           no_quote_brace x a b = grind arith
-      by (object (pair u escape_free w no_pair)) r i d (at_object _ _ _ q) reads shallow is = k.complete u r escape_free w i (failed_of p.rest ∙ p.live) reads shallow (place_named (index_of names u escape_free) i (Some w) d is)
+      by (object (member u escape_free w no_member)) r i d (at_object _ _ _ q) reads shallow is = k.complete u r escape_free w i (failed_of p.rest ∙ p.live) reads shallow (place_named (index_of names u escape_free) i (Some w) d is)
       by null r i d at reads shallow is = absurd (cc)
       by (boolean b) r i d at reads shallow is = absurd (cc)
       by (number n) r i d at reads shallow is = absurd (cc)
       by (array ts) r i d at reads shallow is = absurd (cc)
-      by (object no_pair) r i d at reads shallow is = absurd (cc)
-      by (object (pair u escape_free w (pair v o x ps))) r i d at reads shallow is = absurd (cc)
+      by (object no_member) r i d at reads shallow is = absurd (cc)
+      by (object (member u escape_free w (member v o x ps))) r i d at reads shallow is = absurd (cc)
 
 neither : (x : List ℕ) → NotBegun is_quote x → NotBegun is_left_brace x → NotBegun begins_variant x
 neither [] a b = tt

@@ -14,7 +14,7 @@ use Rattle.json5_de.specs.Convert.{as_number, as_whole, as_text, if_escape_free}
 use Rattle.json5_de.specs.State.{State}
 use Rattle.json5_de.specs.ReaderSteps.{PassedGap, TookText}
 use Rattle.json5_de.proofs.ExpectsNumbers.{number_phrase}
-use Rattle.json5_de.proofs.ExpectsTexts.{text_phrase}
+use Rattle.json5_de.proofs.ExpectsStrings.{text_phrase}
 use Rattle.json5_grammar.proofs.Basics.{none_some}
 
 phrase_after : (old mid : State) (t : Tree) (r : List ℕ) → PassedGap old mid → (h : Reads old.unread t r) → mid.unread ≡ h.phrase ++ r

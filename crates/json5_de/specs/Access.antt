@@ -16,7 +16,7 @@ use Rattle.json5_text.specs.Errors.{code, kind_of, error_position}
 use Rattle.json5_de.specs.State.{State, OnlyRead, SameText, FailsIfErr}
 use Rattle.json5_text.specs.Cursor.{IsOutOfMemory}
 use Rattle.json5_de.specs.Law.{IsOkOrMemory, TookValue, Unprompted, AnswersFailed}
-use Rattle.json5_value.specs.Places.{PositionedAt, StartsAfter}
+use Rattle.json5_value.specs.Offsets.{PositionedAt, StartsAfter}
 use Rattle.json5_de.specs.ConvertLists.{if_some}
 use Rattle.json5_de.specs.Faults.{AfterBlanks, IsAfter, RefusedBy, EndsWith, DiffersWith}
 use Rattle.json5_value.specs.declared.brackets.Brackets.{Brackets}

@@ -7,7 +7,7 @@ use Rattle.json5_grammar.specs.declared.code.ErrorCode.TheVariants as codes
 use Rattle.json5_grammar.specs.Language.Documents.{max_depth}
 use Rattle.json5_grammar.specs.Model.Collections.{ReadsKey, IsKeyValue, IsEnd, IsSign, IsBrace}
 use Rattle.json5_grammar.specs.Language.Strings.{is_quote}
-use Rattle.json5_grammar.specs.Language.Trees.{Tree, Trees, Pairs, null, boolean, number, text, array, object, pair, no_pair, no_more, depth}
+use Rattle.json5_grammar.specs.Language.Trees.{Tree, Trees, Members, null, boolean, number, text, array, object, member, no_member, no_more, depth}
 use Rattle.json5_grammar.specs.Language.Values.{Reads}
 use Rattle.json5_text.specs.declared.error.Error.{Error}
 use Rattle.json5_text.specs.Cursor.{IsOutOfMemory}
@@ -16,7 +16,7 @@ use Rattle.json5_de.specs.Law.{IsOkOrMemory, TookValue, Unprompted, AnswersFaile
 use Rattle.json5_de.specs.Convert.{unit_of, index_of}
 use Rattle.json5_de.specs.ConvertLists.{if_some}
 use Rattle.json5_de.specs.Refinement.{if_more}
-use Rattle.json5_value.specs.Places.{PositionedAt, StartsAfter}
+use Rattle.json5_value.specs.Offsets.{PositionedAt, StartsAfter}
 use Rattle.json5_de.specs.ReaderSteps.{PassedGap, IsMismatch}
 use Rattle.json5_de.specs.Faults.{RefusedBy, RefusedByOrMemory, NotText, EndsWith, DiffersWith}
 use Rattle.json5_value.specs.declared.brackets.Brackets.{Brackets}
@@ -37,9 +37,9 @@ named_variant names (boolean b) = None
 named_variant names (number n) = None
 named_variant names (text u escape_free) = if_some (λ k. (k, None)) (index_of names u escape_free)
 named_variant names (array ts) = None
-named_variant names (object no_pair) = None
-named_variant names (object (pair u escape_free t no_pair)) = if_some (λ k. (k, Some t)) (index_of names u escape_free)
-named_variant names (object (pair u escape_free t (pair v other s ps))) = None
+named_variant names (object no_member) = None
+named_variant names (object (member u escape_free t no_member)) = if_some (λ k. (k, Some t)) (index_of names u escape_free)
+named_variant names (object (member u escape_free t (member v other s ps))) = None
 
 -- what is made of the variant and its content
 abbrev pub enum_of : {C : Type 0} → List (List ℕ) → (ℕ → Option Tree → Option C) → Tree → Option C
@@ -73,7 +73,7 @@ pub record EnumAccessState : Type 0 where
 -- the opening brace, the only key and its colon were read, and the content is next
 pub record AtContent (from : State) (u : List ℕ) (escape_free : Bool) (now : State) : Type 0 where
   pub keyed : State
-  pub key : PairsRead from no_pair (Some (u, escape_free)) (bare_map keyed false true)
+  pub key : PairsRead from no_member (Some (u, escape_free)) (bare_map keyed false true)
   pub colon : AfterColon keyed now
 
 -- the name of a variant was read: it is a string, or a key whose value is next
@@ -178,7 +178,7 @@ pub record ReadsOnlyKey (names : List (List ℕ)) (old new : State) (result : Re
 -- an object is opened, and its only key and the colon are read
 pub record ReadsKeyed (names : List (List ℕ)) (old new : State) (result : Result ℕ Error) : Type 0 where
   pub sound : IfOk result (λ k. (u : List ℕ) × (escape_free : Bool) × AtContent old u escape_free new × (index_of names u escape_free ≡ Some k))
-  pub complete : (u r : List ℕ) (escape_free : Bool) (t : Tree) (k : ℕ) → old.failed ≡ false → Reads old.unread (object (pair u escape_free t no_pair)) r → old.level + depth (object (pair u escape_free t no_pair)) ≤ max_depth → index_of names u escape_free ≡ Some k
+  pub complete : (u r : List ℕ) (escape_free : Bool) (t : Tree) (k : ℕ) → old.failed ≡ false → Reads old.unread (object (member u escape_free t no_member)) r → old.level + depth (object (member u escape_free t no_member)) ≤ max_depth → index_of names u escape_free ≡ Some k
       → IsOkOrMemory result
   pub refused : IfErr result (λ e. RefusedBy (NotOpened curly old.level) old e ⊎ RefusesKeyed names old e)
   pub unprompted : Unprompted old result
@@ -247,14 +247,14 @@ pub record ClosesContent (b : Brackets) (comma_due : Bool) (brace : ℕ) (old ne
 -- an array that is a variant's content is closed, and the variant's brace: the value that began before the brace is read
 pub record ClosesTuple (brace : ℕ) (old : AccessState) (new : State) (result : Result (Unit {0}) Error) : Type 0 where
   pub bracket : ClosesContent square old.comma_due brace old.reader new result
-  pub read : OnOk result ((from content : State) (u : List ℕ) (escape_free : Bool) (ts : Trees) → AtContent from u escape_free content → ElementsRead content ts old → TookValue from (object (pair u escape_free (array ts) no_pair)) new)
+  pub read : OnOk result ((from content : State) (u : List ℕ) (escape_free : Bool) (ts : Trees) → AtContent from u escape_free content → ElementsRead content ts old → TookValue from (object (member u escape_free (array ts) no_member)) new)
   pub left : (x r : List ℕ) → ElementsLeft no_more x old → IsBrace true x r → IsOk result
 
 -- the same of an object
 pub record ClosesStruct (brace : ℕ) (old : MapAccessState) (new : State) (result : Result (Unit {0}) Error) : Type 0 where
   pub bracket : ClosesContent curly old.at.comma_due brace old.at.reader new result
-  pub read : OnOk result ((from content : State) (u : List ℕ) (escape_free : Bool) (ps : Pairs) → AtContent from u escape_free content → PairsRead content ps None old → TookValue from (object (pair u escape_free (object ps) no_pair)) new)
-  pub left : (x r : List ℕ) → old.pending ≡ false → PairsLeft no_pair x old → IsBrace true x r → IsOk result
+  pub read : OnOk result ((from content : State) (u : List ℕ) (escape_free : Bool) (ps : Members) → AtContent from u escape_free content → PairsRead content ps None old → TookValue from (object (member u escape_free (object ps) no_member)) new)
+  pub left : (x r : List ℕ) → old.pending ≡ false → PairsLeft no_member x old → IsBrace true x r → IsOk result
 
 -- the end of an access closes its own bracket and, in a variant's content, the variant's brace
 pub record EndsArray (brace : Option ℕ) (old : AccessState) (new : State) (result : Result (Unit {0}) Error) : Type 0 where
@@ -286,5 +286,5 @@ pub record OpensStruct {A : Type 0} (state_of : A → MapAccessState) (old : Enu
   pub content : OpensContent curly (λ a. (state_of a).at) old result
   pub no_key : IfOk result (λ a. (state_of a).pending ≡ false)
   pub same_text : IfOk result (λ a. SameText old.reader (state_of a).at.reader)
-  pub read : IfOk result (λ a. PairsRead old.reader no_pair None (state_of a))
-  pub left : (ps : Pairs) (r : List ℕ) → old.has_content ≡ true → old.reader.failed ≡ false → Reads old.reader.unread (object ps) r → old.reader.level + depth (object ps) ≤ max_depth → IsOkAnd result (λ a. PairsLeft ps r (state_of a))
+  pub read : IfOk result (λ a. PairsRead old.reader no_member None (state_of a))
+  pub left : (ps : Members) (r : List ℕ) → old.has_content ≡ true → old.reader.failed ≡ false → Reads old.reader.unread (object ps) r → old.reader.level + depth (object ps) ≤ max_depth → IsOkAnd result (λ a. PairsLeft ps r (state_of a))

@@ -1,7 +1,7 @@
 -- Structs: the fields of an object by their names, in any order, each at most once.
 use Rattle.std.specs.Prelude.{◌≡◌, ◌⊎◌, ◌<◌, length, false, ℕ, Bool, if◌then◌else◌, true, is_some, List, Option, Some, None, Result, Ok, Err, OnOk, OnErr, IfErr}
 use Rattle.std.specs.Str.{bytes_eq, encode_utf8_all}
-use Rattle.json5_grammar.specs.Language.Trees.{Tree, Trees, Pairs, no_more, more, no_pair, pair}
+use Rattle.json5_grammar.specs.Language.Trees.{Tree, Trees, Members, no_more, more, no_member, member}
 use Rattle.json5_grammar.specs.Model.Collections.{joint}
 use Rattle.json5_text.specs.declared.error.Error.{Error}
 use Rattle.json5_text.specs.Errors.{custom, kind_of}
@@ -17,9 +17,9 @@ use Rattle.json5_de.specs.ObjectFaults.{ValueRefusedAtBrace}
 -- ---- what a struct takes of an object
 
 -- the values of the members with this name, in their order; a name is the bytes of its text
-abbrev pub values_named : List ℕ → Pairs → Trees
-values_named name no_pair = no_more
-values_named name (pair u escape_free t ps) = if bytes_eq (encode_utf8_all u) name then more t (values_named name ps) else values_named name ps
+abbrev pub values_named : List ℕ → Members → Trees
+values_named name no_member = no_more
+values_named name (member u escape_free t ps) = if bytes_eq (encode_utf8_all u) name then more t (values_named name ps) else values_named name ps
 
 -- at most one value, which converts
 abbrev pub at_most_one : {C : Type 0} → (Tree → Option C) → Trees → Option (Option C)
@@ -28,11 +28,11 @@ at_most_one f (more t no_more) = if_some Some (f t)
 at_most_one f (more t (more u us)) = None
 
 -- a field that may be missing
-abbrev pub optional : {C : Type 0} → List ℕ → (Tree → Option C) → Pairs → Option (Option C)
+abbrev pub optional : {C : Type 0} → List ℕ → (Tree → Option C) → Members → Option (Option C)
 optional name f ps = at_most_one f (values_named name ps)
 
 -- a field that has to be there
-abbrev pub required : {C : Type 0} → List ℕ → (Tree → Option C) → Pairs → Option C
+abbrev pub required : {C : Type 0} → List ℕ → (Tree → Option C) → Members → Option C
 required name f ps = if_more (λ o. o) (optional name f ps)
 
 abbrev pub or_value : {C : Type 0} → C → Option C → C
@@ -40,11 +40,11 @@ or_value c None = c
 or_value c (Some d) = d
 
 -- a field whose content is c if it is missing
-abbrev pub with_default : {C : Type 0} → C → List ℕ → (Tree → Option C) → Pairs → Option C
+abbrev pub with_default : {C : Type 0} → C → List ℕ → (Tree → Option C) → Members → Option C
 with_default c name f ps = if_some (or_value c) (optional name f ps)
 
 -- a field, and others
-abbrev pub and_field : {A B : Type 0} → (Pairs → Option A) → (Pairs → Option B) → Pairs → Option (A × B)
+abbrev pub and_field : {A B : Type 0} → (Members → Option A) → (Members → Option B) → Members → Option (A × B)
 and_field f g ps = joint (f ps) (g ps)
 
 -- ---- what the calls for a field mean
@@ -59,7 +59,7 @@ abbrev pub FillsField : {V C : Type 0} → (V → C) → (Tree → Option C) →
 FillsField {V} content convert old new field next = (v : V) × (field ≡ None) × (next ≡ Some v) × ReadsAPair content convert old new v
 
 -- if the first member's value converts, it fills the field, unless memory runs out, and the other members are left
-abbrev pub LeavesFilled : {V C : Type 0} → (V → C) → (Tree → Option C) → Tree → Pairs → List ℕ → MapAccessState → Option V → Result (Unit {0}) Error → Type 0
+abbrev pub LeavesFilled : {V C : Type 0} → (V → C) → (Tree → Option C) → Tree → Members → List ℕ → MapAccessState → Option V → Result (Unit {0}) Error → Type 0
 LeavesFilled {V} content convert t ps r new next (Ok done) = (v : V) × (next ≡ Some v) × LeavesPairs content convert t ps r new (Ok v)
 LeavesFilled {V} content convert t ps r new next (Err e) = LeavesPairs {V = V} content convert t ps r new (Err e)
 
@@ -75,7 +75,7 @@ pub data FieldFault {V : Type 0} (refuses : State → Error → State → Type 0
 -- what a call for a field means
 pub record FieldRead {V C : Type 0} (content : V → C) (convert : Tree → Option C) (refuses : State → Error → State → Type 0) (old new : MapAccessState) (field next : Option V) (result : Result (Unit {0}) Error) : Type 0 where
   pub read : OnOk result (FillsField content convert old new field next)
-  pub left : field ≡ None → (u : List ℕ) (escape_free : Bool) (t : Tree) (ps : Pairs) (r : List ℕ) → PairsLeft (pair u escape_free t ps) r old → LeavesFilled content convert t ps r new next result
+  pub left : field ≡ None → (u : List ℕ) (escape_free : Bool) (t : Tree) (ps : Members) (r : List ℕ) → PairsLeft (member u escape_free t ps) r old → LeavesFilled content convert t ps r new next result
   pub live : OnOk result (new.at.reader.failed ≡ false)
   pub shorter : OnOk result (length new.at.reader.unread < length old.at.reader.unread)
   pub cause : IfErr result (λ e. old.at.reader.failed ≡ false → FieldFault refuses old field e)

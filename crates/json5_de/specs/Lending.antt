@@ -6,10 +6,10 @@ use Rattle.json5_text.specs.declared.error.Error.{Error}
 use Rattle.json5_text.specs.declared.byte_buf.ByteBuf.{ByteBuf}
 use Rattle.json5_text.specs.declared.cow_str.CowStr.{CowStr}
 use Rattle.json5_text.specs.declared.input.Input as input
-use Rattle.json5_text.specs.Bytes.{bytes_of}
+use Rattle.json5_text.specs.ByteBufs.{bytes_of}
 use Rattle.json5_text.specs.Cows.{cow_bytes, is_borrowed}
 use Rattle.json5_de.specs.State.{State, SameText, GivesUp}
-use Rattle.json5_grammar.specs.Language.Trees.{Tree, Trees, Pairs}
+use Rattle.json5_grammar.specs.Language.Trees.{Tree, Trees, Members}
 use Rattle.json5_de.specs.Access.{AccessState, OpensArray, PositionedAtBracket, GivesElement, ReadsElement, CompletesClose, ReadsMore, ElementsLeft, LeavesFewer}
 use Rattle.json5_de.specs.Seq.{RefusesNext}
 use Rattle.json5_de.specs.Keys.{KeyConversion, ReadsOneKey}
@@ -204,7 +204,7 @@ pub record ReadsNextKey {I K C : Type 0} (content : K → C) (convert : KeyConve
   pub shorter : IfOk result (λ o. IfSome o (λ k. length (map_state_of new).at.reader.unread < length (map_state_of old).at.reader.unread))
   pub refused : RefusesNextKey refuses (map_state_of old) (map_state_of new).at.reader result
   pub read : IfOk result (ReadsAKey content convert (map_state_of old) (map_state_of new))
-  pub left : (ps : Pairs) (r : List ℕ) → PairsLeft ps r (map_state_of old) → LeavesAValue content convert ps r (map_state_of new) result
+  pub left : (ps : Members) (r : List ℕ) → PairsLeft ps r (map_state_of old) → LeavesAValue content convert ps r (map_state_of new) result
 
 -- the value of the key that was read last
 pub record ReadsNextValue {I V C : Type 0} (content : V → C) (convert : Tree → Option C) (refuses : State → Error → State → Type 0) (old new : MapAccess I) (result : Result V Error) : Type 0 where

@@ -9,7 +9,7 @@ pub mod Options
 pub mod Brackets
 pub mod Access
 pub mod Seq
-pub mod Short
+pub mod ShortWays
 pub mod Lists
 pub mod Keys
 pub mod KeyKinds
@@ -25,7 +25,7 @@ pub mod StructFaults
 pub mod MapFaults
 pub mod Stages
 pub mod Lending
-pub mod Texts
+pub mod WholeInputs
 pub mod Refinement
 pub mod Spans
 pub mod AnyTree

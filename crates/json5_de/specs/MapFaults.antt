@@ -3,7 +3,7 @@ use Rattle.std.specs.Prelude.{◌≡◌, ℕ, Bool, true, false, List, ◌∷◌
 use Rattle.std.specs.Str.{encode_utf8_all}
 use Rattle.json5_grammar.specs.declared.code.ErrorCode.TheVariants as codes
 use Rattle.json5_grammar.specs.Language.Characters.{left_brace}
-use Rattle.json5_grammar.specs.Language.Trees.{Tree, Pairs}
+use Rattle.json5_grammar.specs.Language.Trees.{Tree, Members}
 use Rattle.json5_grammar.specs.Model.Collections.{pair_contents}
 use Rattle.json5_text.specs.declared.error.Error.{Error}
 use Rattle.json5_text.specs.Errors.{LacksMemory}
@@ -30,7 +30,7 @@ pub record WithinMap {C D : Type 0} (keys : KeyConversion C) (values : Tree → 
   pub first : State
   pub opened : Opened curly old first
   pub start : (before : List ℕ) → old.input ≡ before ++ left_brace ∷ first.unread → now.at.start ≡ length (encode_utf8_all before)
-  pub pairs : Pairs
+  pub pairs : Members
   pub contents : List (C × D)
   pub are : pair_contents keys values pairs ≡ Some contents
   pub read : PairsRead old pairs key now

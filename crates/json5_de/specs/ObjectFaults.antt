@@ -12,11 +12,11 @@ use Rattle.json5_grammar.specs.Language.Trees.{Tree}
 use Rattle.json5_de.specs.State.{State, GivesUp}
 use Rattle.json5_de.specs.Law.{Steady}
 use Rattle.json5_de.specs.ReaderSteps.{IsCount}
-use Rattle.json5_value.specs.Places.{PositionedAt}
+use Rattle.json5_value.specs.Offsets.{PositionedAt}
 use Rattle.json5_value.specs.Brackets.{curly}
 use Rattle.json5_de.specs.Faults.{AfterBlanks, RefusedBy}
 use Rattle.json5_de.specs.Access.{AtClose, CompletesClose, bare, is_comma_or_closing}
-use Rattle.json5_de.specs.Seq.{AtMember, NoNext, PositionedFault, RefusesCall}
+use Rattle.json5_de.specs.Seq.{AtEntry, NoNext, PositionedFault, RefusesCall}
 use Rattle.json5_de.specs.Keys.{KeyConversion}
 use Rattle.json5_de.specs.Objects.{MapAccessState, AfterColon, GivesPairKey, CompletesPairKey, bare_map}
 
@@ -35,7 +35,7 @@ pub record BeginsKey (x : List ℕ) : Type 0 where
 
 -- a key is next, after the comma that is due
 pub record AtKey (comma_due : Bool) (old new : State) : Type 0 where
-  pub member : AtMember curly comma_due old new
+  pub entry : AtEntry curly comma_due old new
   pub begins : BeginsKey new.unread
 
 -- the reader goes to a key, which begins after so many bytes, or to the closing brace

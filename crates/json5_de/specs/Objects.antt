@@ -1,10 +1,10 @@
 -- What contracts see of an access to an object.
 use Rattle.std.specs.Prelude.{◌≡◌, ◌⊎◌, ℕ, ◌+◌, ◌≤◌, Bool, true, false, List, Option, Some, None, is_some, Result, Ok, Err, IfOk, OnOk, OnErr, IsOk, IsOkAnd, MatchResult}
 use Rattle.json5_grammar.specs.Language.Characters.{colon_sign}
-use Rattle.json5_grammar.specs.Language.Trees.{Tree, Pairs, object, pair, no_pair, depth, pair_depths}
+use Rattle.json5_grammar.specs.Language.Trees.{Tree, Members, object, member, no_member, depth, member_depths}
 use Rattle.json5_grammar.specs.Language.Documents.{max_depth}
 use Rattle.json5_grammar.specs.Language.Values.{Reads}
-use Rattle.json5_grammar.specs.Model.Collections.{IsSign, OpensObject, IsKey, IsKeyValue, IsAtBrace, PairsPassed, PairsTail, snoc_pair}
+use Rattle.json5_grammar.specs.Model.Collections.{IsSign, OpensObject, IsKey, IsKeyValue, IsAtBrace, MembersPassed, MembersTail, snoc_member}
 use Rattle.json5_text.specs.declared.error.Error.{Error}
 use Rattle.json5_text.specs.Cursor.{IsOutOfMemory}
 use Rattle.json5_de.specs.State.{State, OnlyRead, SameText, FailsIfErr}
@@ -84,58 +84,58 @@ StandsAfter None comma_due x y = (y ≡ x) ⊎ IsAtBrace comma_due x y
 StandsAfter (Some (u, escape_free)) comma_due x y = IsKey comma_due x u escape_free y
 
 -- an object begins at `from`, these members of it were read, and perhaps a key after them
-pub record PairsRead (from : State) (ps : Pairs) (key : Option (List ℕ × Bool)) (now : MapAccessState) : Type 0 where
+pub record PairsRead (from : State) (ps : Members) (key : Option (List ℕ × Bool)) (now : MapAccessState) : Type 0 where
   pub live : from.failed ≡ false
   pub shallow : from.level + depth (object ps) ≤ max_depth
   pub inside : List ℕ
   pub bracket : OpensObject from.unread inside
   pub after : List ℕ
-  pub passed : PairsPassed ps false inside now.at.comma_due after
+  pub passed : MembersPassed ps false inside now.at.comma_due after
   pub here : StandsAfter key now.at.comma_due after now.at.reader.unread
   pub pending : now.pending ≡ is_some key
   pub rest : now.at.reader ≡ record from { unread = now.at.reader.unread; level = from.level + 1 }
 
 -- these members and the closing brace follow, with r after the brace; if a key is pending, the first member without its key
-abbrev pub LeftAfter : Bool → Pairs → Bool → List ℕ → List ℕ → Type 0
-LeftAfter false ps comma_due x r = PairsTail ps comma_due x r
-LeftAfter true no_pair comma_due x r = ⊥
-LeftAfter true (pair u escape_free t ps) comma_due x r = (z : List ℕ) × IsKeyValue x t z × PairsTail ps true z r
+abbrev pub LeftAfter : Bool → Members → Bool → List ℕ → List ℕ → Type 0
+LeftAfter false ps comma_due x r = MembersTail ps comma_due x r
+LeftAfter true no_member comma_due x r = ⊥
+LeftAfter true (member u escape_free t ps) comma_due x r = (z : List ℕ) × IsKeyValue x t z × MembersTail ps true z r
 
 -- these members are left, the first perhaps without its key, and then the closing brace, with r after it; no member is too deep
-pub record PairsLeft (ps : Pairs) (r : List ℕ) (now : MapAccessState) : Type 0 where
+pub record PairsLeft (ps : Members) (r : List ℕ) (now : MapAccessState) : Type 0 where
   pub live : now.at.reader.failed ≡ false
-  pub shallow : now.at.reader.level + pair_depths ps ≤ max_depth
+  pub shallow : now.at.reader.level + member_depths ps ≤ max_depth
   pub tail : LeftAfter now.pending ps now.at.comma_due now.at.reader.unread r
 
 -- a key was read after the members, and k is what it converts to; or no key, and what was read is the same
 abbrev pub ReadsAKey : {K C : Type 0} → (K → C) → KeyConversion C → MapAccessState → MapAccessState → Option K → Type 0
 ReadsAKey content convert old new (Some k) =
-    (u : List ℕ) × (escape_free : Bool) × (convert u escape_free ≡ Some (content k)) × ((from : State) (ps : Pairs) → PairsRead from ps None old → PairsRead from ps (Some (u, escape_free)) new)
-ReadsAKey content convert old new None = (from : State) (ps : Pairs) → PairsRead from ps None old → PairsRead from ps None new
+    (u : List ℕ) × (escape_free : Bool) × (convert u escape_free ≡ Some (content k)) × ((from : State) (ps : Members) → PairsRead from ps None old → PairsRead from ps (Some (u, escape_free)) new)
+ReadsAKey content convert old new None = (from : State) (ps : Members) → PairsRead from ps None old → PairsRead from ps None new
 
 -- the key that was read has this value, one member more
 abbrev pub ReadsAPair : {V C : Type 0} → (V → C) → (Tree → Option C) → MapAccessState → MapAccessState → V → Type 0
 ReadsAPair content convert old new v =
-    (t : Tree) × (convert t ≡ Some (content v)) × ((from : State) (ps : Pairs) (u : List ℕ) (escape_free : Bool) → PairsRead from ps (Some (u, escape_free)) old → PairsRead from (snoc_pair ps u escape_free t) None new)
+    (t : Tree) × (convert t ≡ Some (content v)) × ((from : State) (ps : Members) (u : List ℕ) (escape_free : Bool) → PairsRead from ps (Some (u, escape_free)) old → PairsRead from (snoc_member ps u escape_free t) None new)
 
 -- if members are left and the first one's key converts, it was read, unless memory ran out, and its value is left; if no member is left, None was returned.
 -- Nothing is said of the refusal of a key that doesn't convert.
-abbrev pub LeavesAValue : {K C : Type 0} → (K → C) → KeyConversion C → Pairs → List ℕ → MapAccessState → Result (Option K) Error → Type 0
-LeavesAValue content convert no_pair r new (Ok None) = PairsLeft no_pair r new
-LeavesAValue content convert no_pair r new (Ok (Some k)) = ⊥
-LeavesAValue content convert no_pair r new (Err e) = ⊥
-LeavesAValue content convert (pair u escape_free t ps) r new (Ok None) = ⊥
-LeavesAValue content convert (pair u escape_free t ps) r new (Ok (Some k)) = (convert u escape_free ≡ Some (content k)) × PairsLeft (pair u escape_free t ps) r new
-LeavesAValue {C = C} content convert (pair u escape_free t ps) r new (Err e) = (c : C) → convert u escape_free ≡ Some c → IsOutOfMemory e
+abbrev pub LeavesAValue : {K C : Type 0} → (K → C) → KeyConversion C → Members → List ℕ → MapAccessState → Result (Option K) Error → Type 0
+LeavesAValue content convert no_member r new (Ok None) = PairsLeft no_member r new
+LeavesAValue content convert no_member r new (Ok (Some k)) = ⊥
+LeavesAValue content convert no_member r new (Err e) = ⊥
+LeavesAValue content convert (member u escape_free t ps) r new (Ok None) = ⊥
+LeavesAValue content convert (member u escape_free t ps) r new (Ok (Some k)) = (convert u escape_free ≡ Some (content k)) × PairsLeft (member u escape_free t ps) r new
+LeavesAValue {C = C} content convert (member u escape_free t ps) r new (Err e) = (c : C) → convert u escape_free ≡ Some c → IsOutOfMemory e
 
 -- if the first member's value converts, it was read, unless memory ran out, and the other members are left
-abbrev pub LeavesPairs : {V C : Type 0} → (V → C) → (Tree → Option C) → Tree → Pairs → List ℕ → MapAccessState → Result V Error → Type 0
+abbrev pub LeavesPairs : {V C : Type 0} → (V → C) → (Tree → Option C) → Tree → Members → List ℕ → MapAccessState → Result V Error → Type 0
 LeavesPairs content convert t ps r new (Ok v) = (convert t ≡ Some (content v)) × PairsLeft ps r new
 LeavesPairs {C = C} content convert t ps r new (Err e) = (c : C) → convert t ≡ Some c → IsOutOfMemory e
 
 -- the same of any members that are left
 abbrev pub LeavesOthers : {V C : Type 0} → (V → C) → (Tree → Option C) → MapAccessState → MapAccessState → Result V Error → Type 0
-LeavesOthers content convert old new result = (u : List ℕ) (escape_free : Bool) (t : Tree) (ps : Pairs) (r : List ℕ) → PairsLeft (pair u escape_free t ps) r old → LeavesPairs content convert t ps r new result
+LeavesOthers content convert old new result = (u : List ℕ) (escape_free : Bool) (t : Tree) (ps : Members) (r : List ℕ) → PairsLeft (member u escape_free t ps) r old → LeavesPairs content convert t ps r new result
 
 -- ---- what the calls mean
 
@@ -154,13 +154,13 @@ pub record OpensMap {A : Type 0} (Held : A → Type 0) (state_of : A → MapAcce
   pub bracket : OpensAs curly (λ a. (state_of a).at) old result
   pub no_key : IfOk result (λ a. (state_of a).pending ≡ false)
   pub same_text : IfOk result (λ a. SameText old (state_of a).at.reader)
-  pub read : IfOk result (λ a. PairsRead old no_pair None (state_of a))
-  pub left : (ps : Pairs) (r : List ℕ) → old.failed ≡ false → Reads old.unread (object ps) r → old.level + depth (object ps) ≤ max_depth → IsOkAnd result (λ a. PairsLeft ps r (state_of a))
+  pub read : IfOk result (λ a. PairsRead old no_member None (state_of a))
+  pub left : (ps : Members) (r : List ℕ) → old.failed ≡ false → Reads old.unread (object ps) r → old.level + depth (object ps) ≤ max_depth → IsOkAnd result (λ a. PairsLeft ps r (state_of a))
 
 -- an object is closed: the members that were read are all of it
 pub record ClosesMap (old : MapAccessState) (new : State) (result : Result (Unit {0}) Error) : Type 0 where
   pub bracket : ClosesAs curly old.at.comma_due old.at.reader new result
   pub same_text : SameText old.at.reader new
   pub failed : FailsIfErr new result
-  pub read : OnOk result ((from : State) (ps : Pairs) → PairsRead from ps None old → TookValue from (object ps) new)
-  pub left : (r : List ℕ) → old.pending ≡ false → PairsLeft no_pair r old → IsOk result
+  pub read : OnOk result ((from : State) (ps : Members) → PairsRead from ps None old → TookValue from (object ps) new)
+  pub left : (r : List ℕ) → old.pending ≡ false → PairsLeft no_member r old → IsOk result

@@ -3,8 +3,8 @@ use Rattle.std.proofs.Common.{◌≡◌, ℕ, Bool, true, false, List, [], ◌�
 use Rattle.std.specs.Prelude.{if◌then◌else◌, ◌<◌, length, Result, Ok, Err, OnOk}
 use Rattle.std.specs.Str.{bytes_eq, encode_utf8_all}
 use Rattle.json5_grammar.specs.Language.Characters.{right_brace}
-use Rattle.json5_grammar.specs.Language.Trees.{Tree, Trees, Pairs, no_more, more, no_pair, pair}
-use Rattle.json5_grammar.specs.Model.Collections.{joint, snoc_pair}
+use Rattle.json5_grammar.specs.Language.Trees.{Tree, Trees, Members, no_more, more, no_member, member}
+use Rattle.json5_grammar.specs.Model.Collections.{joint, snoc_member}
 use Rattle.json5_text.specs.declared.error.Error.{Error}
 use Rattle.json5_text.specs.Cursor.{IsOutOfMemory}
 use Rattle.json5_de.specs.State.{State, FailsIfErr}
@@ -19,17 +19,17 @@ use Rattle.json5_de.specs.Fields as spec
 abbrev pub Step : Type 0 → Type 0
 Step S = S → List ℕ → Tree → Option S
 
-abbrev pub run : {S : Type 0} → Step S → S → Pairs → Option S
-run step s no_pair = Some s
-run step s (pair u escape_free t ps) = if_more (λ n. run step n ps) (step s (encode_utf8_all u) t)
+abbrev pub run : {S : Type 0} → Step S → S → Members → Option S
+run step s no_member = Some s
+run step s (member u escape_free t ps) = if_more (λ n. run step n ps) (step s (encode_utf8_all u) t)
 
 -- the fields of a struct: how members change them, what they are before the first member, what they make at the end, and what all members make
 pub record Plan (S D : Type 0) : Type 0 where
   pub step : Step S
   pub start : S
   pub build : S → Option D
-  pub convert : Pairs → Option D
-  pub says : (ps : Pairs) → convert ps ≡ if_more build (run step start ps)
+  pub convert : Members → Option D
+  pub says : (ps : Members) → convert ps ≡ if_more build (run step start ps)
 
 -- ---- one field
 
@@ -45,10 +45,10 @@ module _ {C : Type 0} (f : Tree → Option C) where
   none_more c no_more = Some (Some c)
   none_more c (more t ts) = None
 
-  filled : (name : List ℕ) (c : C) (ps : Pairs) → run (at_name name) (Some c) ps ≡ none_more c (values_named name ps)
+  filled : (name : List ℕ) (c : C) (ps : Members) → run (at_name name) (Some c) ps ≡ none_more c (values_named name ps)
   unfolding at_name
-  filled name c no_pair = refl
-  filled name c (pair u escape_free t ps) = by (bytes_eq (encode_utf8_all u) name) (filled name c ps)
+  filled name c no_member = refl
+  filled name c (member u escape_free t ps) = by (bytes_eq (encode_utf8_all u) name) (filled name c ps)
     where
       by : (b : Bool) → run (at_name name) (Some c) ps ≡ none_more c (values_named name ps)
           → if_more (λ n. run (at_name name) n ps) (if b then None else Some (Some c)) ≡ none_more c (if b then more t (values_named name ps) else values_named name ps)
@@ -67,10 +67,10 @@ module _ {C : Type 0} (f : Tree → Option C) where
       by None = refl
       by (Some c) = sym (is c)
 
-  pub unfilled : (name : List ℕ) (ps : Pairs) → at_most_one f (values_named name ps) ≡ run (at_name name) None ps
+  pub unfilled : (name : List ℕ) (ps : Members) → at_most_one f (values_named name ps) ≡ run (at_name name) None ps
   unfolding at_name
-  unfilled name no_pair = refl
-  unfilled name (pair u escape_free t ps) = by (bytes_eq (encode_utf8_all u) name) (unfilled name ps)
+  unfilled name no_member = refl
+  unfilled name (member u escape_free t ps) = by (bytes_eq (encode_utf8_all u) name) (unfilled name ps)
     where
       by : (b : Bool) → at_most_one f (values_named name ps) ≡ run (at_name name) None ps
           → at_most_one f (if b then more t (values_named name ps) else values_named name ps) ≡ if_more (λ n. run (at_name name) n ps) (if b then if_some Some (f t) else Some None)
@@ -106,10 +106,10 @@ joint_none (Some a) = refl
 unfoldable pub both_steps : {S T : Type 0} → Step S → Step T → Step (S × T)
 both_steps a b s u t = joint (a s.0 u t) (b s.1 u t)
 
-pub run_both : {S T : Type 0} (a : Step S) (b : Step T) (s : S) (t : T) (ps : Pairs) → run (both_steps a b) (s, t) ps ≡ joint (run a s ps) (run b t ps)
+pub run_both : {S T : Type 0} (a : Step S) (b : Step T) (s : S) (t : T) (ps : Members) → run (both_steps a b) (s, t) ps ≡ joint (run a s ps) (run b t ps)
 unfolding both_steps
-run_both a b s t no_pair = refl
-run_both {S} {T} a b s t (pair u escape_free v ps) = by (a s (encode_utf8_all u) v) (b t (encode_utf8_all u) v) (λ p q. run_both a b p q ps)
+run_both a b s t no_member = refl
+run_both {S} {T} a b s t (member u escape_free v ps) = by (a s (encode_utf8_all u) v) (b t (encode_utf8_all u) v) (λ p q. run_both a b p q ps)
   where
     by : (x : Option S) (y : Option T) → ((p : S) (q : T) → run (both_steps a b) (p, q) ps ≡ joint (run a p ps) (run b q ps)) → if_more (λ n. run (both_steps a b) n ps) (joint x y) ≡ joint (if_more (λ n. run a n ps) x) (if_more (λ n. run b n ps) y)
     by None y others = refl
@@ -133,14 +133,14 @@ plan_and a b = record {
 -- ---- what the calls mean that read a struct's members
 
 -- if a member, or members, make m of what was read, they are read, unless memory runs out, and these members are left
-abbrev pub LeavesTaken : {S : Type 0} → S → S → Pairs → List ℕ → MapAccessState → Result (Unit {0}) Error → Type 0
+abbrev pub LeavesTaken : {S : Type 0} → S → S → Members → List ℕ → MapAccessState → Result (Unit {0}) Error → Type 0
 LeavesTaken n m ps r new (Ok done) = (m ≡ n) × PairsLeft ps r new
 LeavesTaken n m ps r new (Err e) = IsOutOfMemory e
 
 -- the value of the key that was read, which has this name: s is what was read of the fields before, n after it
 pub record TakesPair {S : Type 0} (step : Step S) (s n : S) (name : List ℕ) (old new : MapAccessState) (result : Result (Unit {0}) Error) : Type 0 where
-  pub read : OnOk result ((t : Tree) × (step s name t ≡ Some n) × ((from : State) (ps : Pairs) (u : List ℕ) (escape_free : Bool) → PairsRead from ps (Some (u, escape_free)) old → PairsRead from (snoc_pair ps u escape_free t) None new))
-  pub left : (u : List ℕ) (escape_free : Bool) (t : Tree) (ps : Pairs) (r : List ℕ) (m : S) → step s name t ≡ Some m → PairsLeft (pair u escape_free t ps) r old → LeavesTaken n m ps r new result
+  pub read : OnOk result ((t : Tree) × (step s name t ≡ Some n) × ((from : State) (ps : Members) (u : List ℕ) (escape_free : Bool) → PairsRead from ps (Some (u, escape_free)) old → PairsRead from (snoc_member ps u escape_free t) None new))
+  pub left : (u : List ℕ) (escape_free : Bool) (t : Tree) (ps : Members) (r : List ℕ) (m : S) → step s name t ≡ Some m → PairsLeft (member u escape_free t ps) r old → LeavesTaken n m ps r new result
   pub live : OnOk result (new.at.reader.failed ≡ false)
   pub shorter : OnOk result (length new.at.reader.unread < length old.at.reader.unread)
   pub failed : FailsIfErr new.at.reader result
@@ -152,8 +152,8 @@ PassesPair old new result = TakesPair {S = Unit {0}} (λ s name t. Some s) tt tt
 
 -- all members that are left, from the first, up to the closing brace: s is what was read of the fields before, n after them
 pub record ReadsPairs {S : Type 0} (step : Step S) (s n : S) (old new : MapAccessState) (result : Result (Unit {0}) Error) : Type 0 where
-  pub read : OnOk result ((ps : Pairs) × (run step s ps ≡ Some n) × ((from : State) → PairsRead from no_pair None old → PairsRead from ps None new))
-  pub left : (ps : Pairs) (r : List ℕ) (m : S) → run step s ps ≡ Some m → PairsLeft ps r old → LeavesTaken n m no_pair r new result
+  pub read : OnOk result ((ps : Members) × (run step s ps ≡ Some n) × ((from : State) → PairsRead from no_member None old → PairsRead from ps None new))
+  pub left : (ps : Members) (r : List ℕ) (m : S) → run step s ps ≡ Some m → PairsLeft ps r old → LeavesTaken n m no_member r new result
   pub live : OnOk result (new.at.reader.failed ≡ false)
   pub failed : FailsIfErr new.at.reader result
   pub unprompted : Unprompted old.at.reader result

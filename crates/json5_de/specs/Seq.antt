@@ -26,9 +26,9 @@ pub record IsAfterGap (x y : List ℕ) : Type 0 where
   pub solid : Solid y
 
 -- y is where a member of x may begin, after the comma that is due
-abbrev pub IsMemberStart : Bool → List ℕ → List ℕ → Type 0
-IsMemberStart false x y = IsAfterGap x y
-IsMemberStart true x y = (z : List ℕ) × IsSign comma_sign x z × IsAfterGap z y
+abbrev pub IsEntryStart : Bool → List ℕ → List ℕ → Type 0
+IsEntryStart false x y = IsAfterGap x y
+IsEntryStart true x y = (z : List ℕ) × IsSign comma_sign x z × IsAfterGap z y
 
 -- the closing bracket in front was taken
 abbrev pub TookClosing : Brackets → State → State → Type 0
@@ -50,19 +50,19 @@ pub record TakesClosing (b : Brackets) (old new : State) (result : Result (Unit 
   pub same_text : SameText old new
 
 -- a member may begin here: no closing bracket is next
-pub record AtMember (b : Brackets) (comma_due : Bool) (old new : State) : Type 0 where
+pub record AtEntry (b : Brackets) (comma_due : Bool) (old new : State) : Type 0 where
   pub live : old.failed ≡ false
-  pub begun : IsMemberStart comma_due old.unread new.unread
+  pub begun : IsEntryStart comma_due old.unread new.unread
   pub inside : NotBegun (λ c. c == b.closing) new.unread
   pub rest : OnlyRead old new
 
 abbrev pub AdvancesToEntry : Brackets → Bool → State → State → Bool → Type 0
-AdvancesToEntry b comma_due old new true = AtMember b comma_due old new
+AdvancesToEntry b comma_due old new true = AtEntry b comma_due old new
 AdvancesToEntry b comma_due old new false = AtClose b comma_due old new
 
 -- neither the start of an element or a member nor the closing bracket follows in x
 pub record NothingNext (b : Brackets) (comma_due : Bool) (x : List ℕ) : Type 0 where
-  pub no_member : (y : List ℕ) → IsMemberStart comma_due x y → ⊥
+  pub no_entry : (y : List ℕ) → IsEntryStart comma_due x y → ⊥
   pub no_close : (r : List ℕ) → IsEnd b.closing comma_due x r → ⊥
 
 -- what is refused where the next element or member is expected
@@ -107,7 +107,7 @@ pub record RefusesCall {V : Type 0} (IsCause : Cause) (asked : Bool) (begins : �
 -- the fault of a call for an element: no element was reached, or the element's own
 pub data RefusesElement (refuses : State → Error → State → Type 0) (comma_due : Bool) (old : State) (e : Error) (after : State) : Type 0 where
   not_reached : RefusedBy (NoNext square comma_due) old e → RefusesElement refuses comma_due old e after
-  in_element : (start : State) → AtMember square comma_due old start → refuses start e after → RefusesElement refuses comma_due old e after
+  in_element : (start : State) → AtEntry square comma_due old start → refuses start e after → RefusesElement refuses comma_due old e after
 
 -- the element's fault, at the opening bracket if it had no position
 abbrev pub RefusedAtBracket : (State → Error → State → Type 0) → AccessState → Error → Type 0

@@ -2,7 +2,7 @@
 use Rattle.std.specs.Prelude.{◌≡◌, ◌⊎◌, ℕ, Bool, true, false, List, ◌∷◌, ◌++◌, length, Option, Some, None, is_some, Result, IfErr}
 use Rattle.std.specs.Str.{encode_utf8_all}
 use Rattle.json5_grammar.specs.Language.Characters.{left_brace, right_brace}
-use Rattle.json5_grammar.specs.Language.Trees.{Tree, Pairs, no_pair}
+use Rattle.json5_grammar.specs.Language.Trees.{Tree, Members, no_member}
 use Rattle.json5_text.specs.declared.error.Error.{Error}
 use Rattle.json5_de.specs.State.{State, SameText}
 use Rattle.json5_value.specs.Brackets.{curly}
@@ -50,9 +50,9 @@ pub record ReadSince {S : Type 0} (step : Step S) (start s : S) (key : Option (L
   pub live : now.at.reader.failed ≡ false
   pub same_text : SameText old.at.reader now.at.reader
   pub same_brace : now.at.start ≡ old.at.start
-  pub pairs : Pairs
+  pub pairs : Members
   pub are : run step start pairs ≡ Some s
-  pub read : (from : State) → PairsRead from no_pair None old → PairsRead from pairs key now
+  pub read : (from : State) → PairsRead from no_member None old → PairsRead from pairs key now
 
 -- after the members that were read the next key is refused, or the value of a key that was read
 pub data PairsFault {S : Type 0} (step : Step S) (faults : ValueFaults) (start : S) (old : MapAccessState) (e : Error) : Type 0 where
@@ -70,7 +70,7 @@ pub record RefusesPairs {S : Type 0} (step : Step S) (faults : ValueFaults) (sta
 pub record OpenedObject (old : State) (first : MapAccessState) : Type 0 where
   pub opened : Opened curly old first.at.reader
   pub start : (before : List ℕ) → old.input ≡ before ++ left_brace ∷ first.at.reader.unread → first.at.start ≡ length (encode_utf8_all before)
-  pub read : PairsRead old no_pair None first
+  pub read : PairsRead old no_member None first
 
 -- the opening brace, the first key or value at fault, or a field that is missing after all members were read
 pub data StructFault {S D : Type 0} (plan : Plan S D) (faults : ValueFaults) (old : State) (e : Error) : Type 0 where

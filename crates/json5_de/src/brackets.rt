@@ -13,7 +13,7 @@ use crate::de::Deserializer;
 use json5_text::ErrorCode;
 use json5_text::error::{Error, Result};
 use json5_text::input::Input;
-use json5_text::short::ShortStep;
+use json5_text::short_ways::ShortStep;
 use json5_value::brackets::BracketKind;
 
 impl<I: Input> Deserializer<I> {

@@ -8,7 +8,7 @@ ghost use Rattle.json5_grammar.specs.Language.Documents.{max_depth};
 ghost use Rattle.json5_grammar.specs.declared.code.ErrorCode.TheVariants as codes;
 ghost use Rattle.json5_value.specs.Keeping.{OwnsKey, ReadsDatum};
 ghost use Rattle.json5_value.specs.Kinds.{word_of, ends_of, differs_of};
-ghost use Rattle.json5_value.specs.Places.{PositionedAt, StartsAfter};
+ghost use Rattle.json5_value.specs.Offsets.{PositionedAt, StartsAfter};
 ghost use Rattle.json5_value.specs.SkipSteps.{SkipsValue};
 ghost use Rattle.json5_de.specs.State.{State, SameText, Calls, GivesUpWith, cursor_of, next, at_start};
 ghost use Rattle.json5_de.specs.Faults.{IsPositionless};
@@ -18,7 +18,7 @@ ghost use Rattle.json5_de.specs.ReaderSteps.{Eats, IsCount, IsMismatch};
 ghost use Rattle.json5_de.specs.FoundTexts.{SpellsText, SpellsCow};
 ghost use Rattle.json5_de.specs.TokenCalls as tokens;
 ghost use Rattle.json5_de.specs.TokenCalls.{PassesGap, Takes, TakesOwnString, PassesWord};
-ghost use Rattle.json5_de.specs.Texts.{ReadsEnd};
+ghost use Rattle.json5_de.specs.WholeInputs.{ReadsEnd};
 
 use crate::mismatch::Mismatch;
 use json5_text::cow_str::CowStr;

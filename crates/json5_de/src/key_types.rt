@@ -8,7 +8,7 @@ ghost use Rattle.json5_de.specs.KeyKinds.{string_key, char_key, escape_free_key,
 
 use crate::any::IgnoredAny;
 use crate::key::{DeserializeKey, MapKey};
-use crate::text::from_str;
+use crate::whole_input::from_str;
 use json5_text::byte_buf::ByteBuf;
 use json5_text::cow_str::CowStr;
 use json5_text::decimal::Decimal;
@@ -54,7 +54,7 @@ impl<I: Input> DeserializeKey<I> for String {
 
 impl<I: Input> DeserializeKey<I> for ByteBuf {
     ghost use Rattle.std.specs.Prelude.{ℕ, List};
-    ghost use Rattle.json5_text.specs.Bytes.{bytes_of};
+    ghost use Rattle.json5_text.specs.ByteBufs.{bytes_of};
     ghost use Rattle.json5_de.specs.Convert.{digits_bytes};
     ghost use Rattle.json5_de.specs.KeyKinds.{bytes_key, RefusedAsKey};
 
@@ -150,7 +150,7 @@ pub trait FromText: Sized + Drop {
     ghost use Rattle.std.specs.Str.{chars};
     ghost use Rattle.json5_grammar.specs.Language.Documents.{max_depth};
     ghost use Rattle.json5_de.specs.TokenKinds.{Kind, RefusedAs};
-    ghost use Rattle.json5_de.specs.Texts.{ReadsWholeText};
+    ghost use Rattle.json5_de.specs.WholeInputs.{ReadsWholeText};
 
     // What of a value counts.
     ghost Content: { Type 0 };

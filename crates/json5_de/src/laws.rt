@@ -1,7 +1,7 @@
 //! What follows from the law of a read, for every type at once.
 
 ghost use Rattle.std.specs.Prelude.{ℕ, List};
-ghost use Rattle.json5_text.specs.Bytes.{bytes_of};
+ghost use Rattle.json5_text.specs.ByteBufs.{bytes_of};
 ghost use Rattle.json5_text.specs.Cows.{cow_bytes, is_borrowed};
 ghost use Rattle.json5_text.specs.ValueViews.{value_of};
 ghost use Rattle.json5_de.specs.AnyTree.{TellsTreesApart};

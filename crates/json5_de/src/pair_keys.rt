@@ -2,9 +2,9 @@
 
 ghost use Rattle.std.specs.Prelude.{◌≡◌, true, false, IfOk, IfErr, OnErr};
 ghost use Rattle.json5_grammar.specs.Language.Characters.{NotBegun};
-ghost use Rattle.json5_grammar.specs.Model.Collections.{NoPairGoes};
+ghost use Rattle.json5_grammar.specs.Model.Collections.{NoMemberGoes};
 ghost use Rattle.json5_text.specs.Errors.{kind_of};
-ghost use Rattle.json5_value.specs.Places.{StartsAfter};
+ghost use Rattle.json5_value.specs.Offsets.{StartsAfter};
 ghost use Rattle.json5_de.specs.Law.{Steady};
 ghost use Rattle.json5_de.specs.Faults.{RefusedBy};
 ghost use Rattle.json5_de.specs.ObjectFaults as faults;
@@ -69,7 +69,7 @@ impl<I: Input> Deserializer<I> {
     pub(crate) fn advance_to_key(&mut self, comma_due: bool) -> Result<Option<usize>>
         ensures sound { IfOk result (GoesToKey comma_due self.old self.new) }
         ensures refused { IfErr result (RefusedBy (NoKey comma_due) self.old) }
-        ensures nowhere { OnErr result (self.old.failed ≡ false → NoPairGoes comma_due self.old.unread) }
+        ensures nowhere { OnErr result (self.old.failed ≡ false → NoMemberGoes comma_due self.old.unread) }
         ensures steady { Steady self.old self.new result }
     {
         if !self.advance_to_entry(BracketKind::Object, comma_due)? {

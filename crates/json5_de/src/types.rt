@@ -1,7 +1,7 @@
 //! The types that can be read, beside integers, lists and maps.
 
 ghost use Rattle.std.specs.Prelude.{string_bytes};
-ghost use Rattle.json5_text.specs.Bytes.{bytes_of};
+ghost use Rattle.json5_text.specs.ByteBufs.{bytes_of};
 ghost use Rattle.json5_text.specs.Cows.{cow_bytes, is_borrowed};
 ghost use Rattle.json5_text.specs.ValueViews.{value_of};
 ghost use Rattle.json5_de.specs.TokenKinds.{ReadsAs, null_kind, bool_kind, decimal_kind, string_kind, char_kind, escape_free_kind, cow_kind, bytes_kind};
@@ -177,7 +177,7 @@ impl<'de, I: Borrows<'de>> Deserialize<I> for CowStr<'de> {
 /// Reads a string of hexadecimal digits, two a byte, as `deserialize_byte_buf`.
 impl<I: Input> Deserialize<I> for ByteBuf {
     ghost use Rattle.std.specs.Prelude.{ℕ, List};
-    ghost use Rattle.json5_text.specs.Bytes.{bytes_of};
+    ghost use Rattle.json5_text.specs.ByteBufs.{bytes_of};
     ghost use Rattle.json5_de.specs.Convert.{byte_buf_of};
     ghost use Rattle.json5_de.specs.TokenKinds.{bytes_kind, RefusedAs};
 

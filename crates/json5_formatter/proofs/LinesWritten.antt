@@ -10,7 +10,7 @@ use Rattle.json5.specs.Pieces.{AppendsFront}
 use Rattle.json5.specs.Value.{Value}
 use Rattle.json5.specs.ValueTrees.{value_tree}
 use Rattle.json5.specs.ValueViews.{value_of}
-use Rattle.json5.specs.WrittenTexts.{IsText}
+use Rattle.json5.specs.WholeOutputs.{IsText}
 use Rattle.json5.specs.WrittenTrees.{Written}
 use Rattle.json5.proofs.Formats.{written_tree, value_whole, formatted}
 use Rattle.json5_formatter.specs.Runs.{with_line_feed, written_bytes, HoldsValue, WritesFormatted, BeginsFormatted}

@@ -13,7 +13,7 @@ use Rattle.json5.specs.Pieces.{AppendsFront}
 use Rattle.json5.specs.Trees.{Tree}
 use Rattle.json5.specs.Value.{Value}
 use Rattle.json5.specs.ValueViews.{value_of}
-use Rattle.json5.specs.WrittenTexts.{IsText}
+use Rattle.json5.specs.WholeOutputs.{IsText}
 use Rattle.json5.specs.WrittenTrees.{Written}
 use Rattle.json5_formatter.specs.Formats.{Formats, RefusesFormat}
 use Rattle.json5_formatter.specs.declared.failure.Failure.{Failure}

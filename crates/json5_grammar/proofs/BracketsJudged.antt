@@ -5,13 +5,13 @@ use Rattle.std.proofs.lemmas.Bool.{not-false, or_from}
 use Rattle.json5_grammar.specs.Language.Characters.{NotBegun}
 use Rattle.json5_grammar.specs.Faults.Codes.{EofParsingArray, EofParsingObject, ExpectedColon, ExpectedComma}
 use Rattle.json5_grammar.specs.Language.Blanks.{Solid, is_solid}
-use Rattle.json5_grammar.specs.Language.Trees.{Tree, Trees, Pairs, no_more, more, no_pair, pair}
+use Rattle.json5_grammar.specs.Language.Trees.{Tree, Trees, Members, no_more, more, no_member, member}
 use Rattle.json5_grammar.specs.Faults.Fronts.{BracketKind, of_array, of_object, closing, Bracket, Expects, takes_value, member_of, value, element, key, colon, comma}
 use Rattle.json5_grammar.specs.Faults.{is_allowed_close, no_comma, comma_missing, key_missing, no_colon, colon_missing}
 use Rattle.json5_grammar.specs.Model.Reading.{here, Read, got, bad, and_then}
 use Rattle.json5_grammar.specs.Model.ReadBlanks.{skip, between}
 use Rattle.json5_grammar.specs.Model.ReadTexts as texts
-use Rattle.json5_grammar.specs.Model.ReadValues.{read_elements, read_members, after_member, close_or, member, after_pair, colon_at, value_after, pair_at, key_or, read}
+use Rattle.json5_grammar.specs.Model.ReadValues.{read_elements, read_members, after_element, close_or, element_at, after_member, colon_at, value_after, member_at, key_or, read}
 use Rattle.json5_grammar.proofs.Basics.{by_test, eq_from, neq_from}
 use Rattle.json5_grammar.proofs.ValueTurns.{gap_no_longer}
 use Rattle.json5_grammar.proofs.ValuesSound.{IsGap, IsValue, IsKeyAt, IsValueAfter, gap_found, key_found, read_found, value_found, before_rest}
@@ -70,25 +70,25 @@ module _ (s : Scope) where
 
     -- after an element, in front of a comma or the closing bracket
     comma_judged : (f : List ℕ → Read Trees) (y : List ℕ) → Later of_array f y → Solid y → At limit x y (within of_array) comma
-        → Judged s (within of_array) (after_member f y)
+        → Judged s (within of_array) (after_element f y)
     comma_judged f [] j solid h = the_end s EofParsingArray h (before_end comma (λ e. cc)) (comma_missing of_array refl)
     comma_judged f (c ∷ r) j solid h = sign_judged of_array no_more f c r j (solid_char c r solid) h
 
     -- an element and what follows it
     member_judged : (f : List ℕ → Read Trees) (y : List ℕ) → Later of_array f y → BeginsValue element y → At limit x y (within of_array) element
-        → Judged s (within of_array) (member (read d) f y)
+        → Judged s (within of_array) (element_at (read d) f y)
     member_judged f y j b h =
         judged_then s (IsValue d y) y (within of_array) (read d y) _ (read_found d y) (val_judged (within of_array) element y h room b)
         (λ t r v. let after_it = at_value limit x d y r t h refl room v in
         judged_then s (IsGap r) r (within of_array) (skip between r) _ (gap_found r) (gap_judged s r after_it (before_end comma (λ e. cc)))
-        (λ u z q. judged_last s (within of_array) (after_member f z) (λ ts. more t ts)
+        (λ u z q. judged_last s (within of_array) (after_element f z) (λ ts. more t ts)
         (comma_judged f z
         (λ w l i. j w (omega (arith, l, rest_no_longer y v.0 r v.1, gap_no_longer r z u q)) i)
         q.3 (at_gap limit x r z u after_it q))))
 
     -- an element, or the closing bracket
     close_judged : (f : List ℕ → Read Trees) (y : List ℕ) → Later of_array f y → Solid y → At limit x y (within of_array) element
-        → Judged s (within of_array) (close_or (member (read d) f y) y)
+        → Judged s (within of_array) (close_or (element_at (read d) f y) y)
     close_judged f [] j solid h = member_judged f [] j (refl, solid, tt) h
     close_judged f (c ∷ r) j solid h =
         by_test (Judged s (within of_array)) (c == 93) (got no_more r) _
@@ -106,10 +106,10 @@ module _ (s : Scope) where
         q.3 (at_gap limit x y z u h q))
 
     -- after a pair, in front of a comma or the closing brace
-    comma_or_brace : (f : List ℕ → Read Pairs) (y : List ℕ) → Later of_object f y → Solid y → At limit x y (within of_object) comma
-        → Judged s (within of_object) (after_pair f y)
+    comma_or_brace : (f : List ℕ → Read Members) (y : List ℕ) → Later of_object f y → Solid y → At limit x y (within of_object) comma
+        → Judged s (within of_object) (after_member f y)
     comma_or_brace f [] j solid h = the_end s EofParsingObject h (before_end comma (λ e. cc)) (comma_missing of_object refl)
-    comma_or_brace f (c ∷ r) j solid h = sign_judged of_object no_pair f c r j (solid_char c r solid) h
+    comma_or_brace f (c ∷ r) j solid h = sign_judged of_object no_member f c r j (solid_char c r solid) h
 
     -- the value after a colon
     after_colon : (r : List ℕ) → At limit x r (within of_object) value → Judged s (within of_object) (and_then (skip between r) (λ w q. read d q))
@@ -135,17 +135,17 @@ module _ (s : Scope) where
         (λ u z q. colon_judged z q.3 (at_gap limit x y z u h q))
 
     -- what follows a pair of this key and value
-    after_value_judged : (f : List ℕ → Read Pairs) (a : List ℕ × Bool) (t : Tree) (r : List ℕ) → Later of_object f r
+    after_value_judged : (f : List ℕ → Read Members) (a : List ℕ × Bool) (t : Tree) (r : List ℕ) → Later of_object f r
         → At limit x r (within of_object) comma
-        → Judged s (within of_object) (and_then (skip between r) (λ u z. and_then (after_pair f z) (λ ps q. got (pair a.0 a.1 t ps) q)))
+        → Judged s (within of_object) (and_then (skip between r) (λ u z. and_then (after_member f z) (λ ps q. got (member a.0 a.1 t ps) q)))
     after_value_judged f a t r j h =
         judged_then s (IsGap r) r (within of_object) (skip between r) _ (gap_found r) (gap_judged s r h (before_end comma (λ e. cc)))
-        (λ u z q. judged_last s (within of_object) (after_pair f z) (λ ps. pair a.0 a.1 t ps)
+        (λ u z q. judged_last s (within of_object) (after_member f z) (λ ps. member a.0 a.1 t ps)
         (comma_or_brace f z (λ w l i. j w (omega (arith, l, gap_no_longer r z u q)) i) q.3 (at_gap limit x r z u h q)))
 
     -- a pair and what follows it
-    pair_judged : (f : List ℕ → Read Pairs) (c : ℕ) (r : List ℕ) → Later of_object f (c ∷ r) → is_solid c ≡ true → (c == 125) ≡ false
-        → At limit x (c ∷ r) (within of_object) key → Judged s (within of_object) (pair_at (read d) f (c ∷ r))
+    pair_judged : (f : List ℕ → Read Members) (c : ℕ) (r : List ℕ) → Later of_object f (c ∷ r) → is_solid c ≡ true → (c == 125) ≡ false
+        → At limit x (c ∷ r) (within of_object) key → Judged s (within of_object) (member_at (read d) f (c ∷ r))
     pair_judged f c r j solid n h =
         judged_then s (IsKeyAt (c ∷ r)) (c ∷ r) (within of_object) (texts.key (c ∷ r)) _ (key_found c r) (key_judged s c r h solid n)
         (λ a y is. let after_key = at_key limit x (c ∷ r) y a h is in
@@ -157,11 +157,11 @@ module _ (s : Scope) where
         (at_key_value limit x d y q t after_key room v)))
 
     -- a pair, or the closing brace
-    brace_judged : (f : List ℕ → Read Pairs) (y : List ℕ) → Later of_object f y → Solid y → At limit x y (within of_object) key
-        → Judged s (within of_object) (key_or (pair_at (read d) f y) y)
+    brace_judged : (f : List ℕ → Read Members) (y : List ℕ) → Later of_object f y → Solid y → At limit x y (within of_object) key
+        → Judged s (within of_object) (key_or (member_at (read d) f y) y)
     brace_judged f [] j solid h = the_end s EofParsingObject h (before_end key (λ e. cc)) key_missing
     brace_judged f (c ∷ r) j solid h =
-        by_test (Judged s (within of_object)) (c == 125) (got no_pair r) _
+        by_test (Judged s (within of_object)) (c == 125) (got no_member r) _
         (λ i. tt)
         (λ i. pair_judged f c r j (solid_char c r solid) i h)
 

@@ -3,9 +3,9 @@ use Rattle.std.proofs.Common.{◌≡◌, ℕ, ◌+◌, ◌≤◌, ◌<◌, max, 
 use Rattle.std.specs.Prelude.{◌==◌}
 use Rattle.std.proofs.lemmas.Bool.{both_ways}
 use Rattle.json5_grammar.specs.Language.Blanks.{Blanks, Gap, is_solid}
-use Rattle.json5_grammar.specs.Language.Trees.{Tree, Pairs, object, no_pair, pair, depth, pair_depths}
-use Rattle.json5_grammar.specs.Language.Values.{no_last_comma, last_comma, Val, is_empty_object, is_object, MemberList, last_pair, next_pair, Member, entry, Stops, Reads}
-use Rattle.json5_grammar.specs.Model.Collections.{IsSign, OpensObject, ReadsKey, IsKey, IsKeyValue, IsBrace, IsAtBrace, PairsTail, PairsPassed, joined_pairs, snoc_pair}
+use Rattle.json5_grammar.specs.Language.Trees.{Tree, Members, object, no_member, member, depth, member_depths}
+use Rattle.json5_grammar.specs.Language.Values.{no_last_comma, last_comma, Val, is_empty_object, is_object, MemberList, last_member, next_member, Member, entry, Stops, Reads}
+use Rattle.json5_grammar.specs.Model.Collections.{IsSign, OpensObject, ReadsKey, IsKey, IsKeyValue, IsBrace, IsAtBrace, MembersTail, MembersPassed, joined_members, snoc_member}
 use Rattle.json5_grammar.proofs.Basics.{first_same}
 use Rattle.json5_grammar.proofs.BlanksRead.{begins_solid, printable_solid}
 use Rattle.json5_grammar.proofs.BlanksSound.{one_gap}
@@ -67,18 +67,18 @@ key_or_brace false x r q u p a b = brace_no_key x r q u p b a
 key_or_brace true x r q u p (y, c, a) (inl b) = no_comma_end 125 x y q brace_solid refl c b
 key_or_brace true x r q u p (y, c, a) (inr (z, d, b)) = brace_no_key y r q u p (after_same_comma (λ k. IsSign 125 k q) x y z c d b) a
 
-pair_same : (u v : List ℕ) (p q : Bool) (s t : Tree) (ps qs : Pairs) → u ≡ v → p ≡ q → s ≡ t → ps ≡ qs → pair u p s ps ≡ pair v q t qs
+pair_same : (u v : List ℕ) (p q : Bool) (s t : Tree) (ps qs : Members) → u ≡ v → p ≡ q → s ≡ t → ps ≡ qs → member u p s ps ≡ member v q t qs
 pair_same u v p q s t ps qs a b c d = cc
 
 -- one list of pairs up to one closing brace
-pub one_pairs_tail : (ps qs : Pairs) (comma_due : Bool) (x r q : List ℕ) → PairsTail ps comma_due x r → PairsTail qs comma_due x q → (ps ≡ qs) × (r ≡ q)
-one_pairs_tail no_pair no_pair comma_due x r q a b = (refl, one_brace comma_due x r q a b)
-one_pairs_tail no_pair (pair v m u qs) comma_due x r q a (y, z, k, e, b) = absurd (key_or_brace comma_due x y r v m k a)
-one_pairs_tail (pair v m u ps) no_pair comma_due x r q (y, z, k, e, a) b = absurd (key_or_brace comma_due x y q v m k b)
-one_pairs_tail (pair v m t ps) (pair w n u qs) comma_due x r q (y, z, k, e, a) (g, h, l, f, b) =
+pub one_pairs_tail : (ps qs : Members) (comma_due : Bool) (x r q : List ℕ) → MembersTail ps comma_due x r → MembersTail qs comma_due x q → (ps ≡ qs) × (r ≡ q)
+one_pairs_tail no_member no_member comma_due x r q a b = (refl, one_brace comma_due x r q a b)
+one_pairs_tail no_member (member v m u qs) comma_due x r q a (y, z, k, e, b) = absurd (key_or_brace comma_due x y r v m k a)
+one_pairs_tail (member v m u ps) no_member comma_due x r q (y, z, k, e, a) b = absurd (key_or_brace comma_due x y q v m k b)
+one_pairs_tail (member v m t ps) (member w n u qs) comma_due x r q (y, z, k, e, a) (g, h, l, f, b) =
     let key = one_key comma_due x y g v w m n k l in
     let value = one_key_value y z h t u e (subst (λ s. IsKeyValue s u h) (sym key.2) f) in
-    let rest = one_pairs_tail ps qs true z r q a (subst (λ s. PairsTail qs true s q) (sym value.1) b) in
+    let rest = one_pairs_tail ps qs true z r q a (subst (λ s. MembersTail qs true s q) (sym value.1) b) in
     (pair_same v w m n t u ps qs key.0 key.1 value.0 rest.0, rest.1)
 
 -- ---- the brace that is found, and then taken
@@ -98,22 +98,22 @@ brace_found comma_due now x y r (q, c, e) k = subst (λ z. IsBrace comma_due x z
 -- ---- pairs that were passed
 
 -- one more pair
-pub pairs_more : (ps : Pairs) (comma_due now : Bool) (x y k z u : List ℕ) (p : Bool) (t : Tree) → PairsPassed ps comma_due x now y → IsKey now y u p k → IsKeyValue k t z → PairsPassed (snoc_pair ps u p t) comma_due x true z
-pairs_more no_pair comma_due now x y k z u p t (d, s) a e = (k, z, subst (λ w. IsKey comma_due w u p k) (sym s) (subst (λ b. IsKey b y u p k) (sym d) a), e, (refl, refl))
-pairs_more (pair v m w ps) comma_due now x y k z u p t (g, h, a, e, ok) b f = (g, h, a, e, pairs_more ps true now h y k z u p t ok b f)
+pub pairs_more : (ps : Members) (comma_due now : Bool) (x y k z u : List ℕ) (p : Bool) (t : Tree) → MembersPassed ps comma_due x now y → IsKey now y u p k → IsKeyValue k t z → MembersPassed (snoc_member ps u p t) comma_due x true z
+pairs_more no_member comma_due now x y k z u p t (d, s) a e = (k, z, subst (λ w. IsKey comma_due w u p k) (sym s) (subst (λ b. IsKey b y u p k) (sym d) a), e, (refl, refl))
+pairs_more (member v m w ps) comma_due now x y k z u p t (g, h, a, e, ok) b f = (g, h, a, e, pairs_more ps true now h y k z u p t ok b f)
 
 -- the pairs after them up to the closing brace
-pub pairs_tail : (ps qs : Pairs) (comma_due now : Bool) (x y r : List ℕ) → PairsPassed ps comma_due x now y → PairsTail qs now y r → PairsTail (joined_pairs ps qs) comma_due x r
-pairs_tail no_pair qs comma_due now x y r (d, s) tl = subst (λ k. PairsTail qs comma_due k r) (sym s) (subst (λ b. PairsTail qs b y r) (sym d) tl)
-pairs_tail (pair v m w ps) qs comma_due now x y r (g, h, a, e, ok) tl = (g, h, a, e, pairs_tail ps qs true now h y r ok tl)
+pub pairs_tail : (ps qs : Members) (comma_due now : Bool) (x y r : List ℕ) → MembersPassed ps comma_due x now y → MembersTail qs now y r → MembersTail (joined_members ps qs) comma_due x r
+pairs_tail no_member qs comma_due now x y r (d, s) tl = subst (λ k. MembersTail qs comma_due k r) (sym s) (subst (λ b. MembersTail qs b y r) (sym d) tl)
+pairs_tail (member v m w ps) qs comma_due now x y r (g, h, a, e, ok) tl = (g, h, a, e, pairs_tail ps qs true now h y r ok tl)
 
-joined_none : (ps : Pairs) → joined_pairs ps no_pair ≡ ps
-joined_none no_pair = refl
-joined_none (pair u p t ps) = ap (pair u p t) (joined_none ps)
+joined_none : (ps : Members) → joined_members ps no_member ≡ ps
+joined_none no_member = refl
+joined_none (member u p t ps) = ap (member u p t) (joined_none ps)
 
 -- the closing brace
-pub pairs_close : (ps : Pairs) (comma_due now : Bool) (x y r : List ℕ) → PairsPassed ps comma_due x now y → IsBrace now y r → PairsTail ps comma_due x r
-pairs_close ps comma_due now x y r p c = subst (λ qs. PairsTail qs comma_due x r) (joined_none ps) (pairs_tail ps no_pair comma_due now x y r p c)
+pub pairs_close : (ps : Members) (comma_due now : Bool) (x y r : List ℕ) → MembersPassed ps comma_due x now y → IsBrace now y r → MembersTail ps comma_due x r
+pairs_close ps comma_due now x y r p c = subst (λ qs. MembersTail qs comma_due x r) (joined_none ps) (pairs_tail ps no_member comma_due now x y r p c)
 
 -- ---- objects from the front
 
@@ -135,37 +135,37 @@ entry_of {v = v} {g = g} key (q, s, e) k b = (
   entry key.blank (key_spelling key.key) s.blank e.blank e.value b,
 )
 
-pub pairs_comma : (ps : Pairs) (x y r : List ℕ) → IsSign 44 x y → PairsTail ps false y r → PairsTail ps true x r
-pairs_comma no_pair x y r s c = inr (y, s, c)
-pairs_comma (pair u p t ps) x y r s (k, z, a, e, tl) = (k, z, (y, s, a), e, tl)
+pub pairs_comma : (ps : Members) (x y r : List ℕ) → IsSign 44 x y → MembersTail ps false y r → MembersTail ps true x r
+pairs_comma no_member x y r s c = inr (y, s, c)
+pairs_comma (member u p t ps) x y r s (k, z, a, e, tl) = (k, z, (y, s, a), e, tl)
 
 -- pairs and the brace are read one after another
-pub entries_tail : {m : List ℕ} {ps : Pairs} (r : List ℕ) → MemberList m ps → PairsTail ps false (m ++ 125 ∷ r) r
-entries_tail r (last_pair {p = p} {u = u} {escape_free = escape_free} {t = t} e no_last_comma) =
+pub entries_tail : {m : List ℕ} {ps : Members} (r : List ℕ) → MemberList m ps → MembersTail ps false (m ++ 125 ∷ r) r
+entries_tail r (last_member {p = p} {u = u} {escape_free = escape_free} {t = t} e no_last_comma) =
     let (k, v, key, value, b) = entry_read 125 r brace_ends_values e in
-    subst (λ z. PairsTail (pair u escape_free t no_pair) false z r) (sym (append_assoc p [] (125 ∷ r)))
+    subst (λ z. MembersTail (member u escape_free t no_member) false z r) (sym (append_assoc p [] (125 ∷ r)))
     (k, v ++ 125 ∷ r, key, value, inl (record { front = v; split = refl; blank = b }))
-entries_tail r (last_pair {p = p} {u = u} {escape_free = escape_free} {t = t} e (last_comma {w = w} bw)) =
+entries_tail r (last_member {p = p} {u = u} {escape_free = escape_free} {t = t} e (last_comma {w = w} bw)) =
     let (k, v, key, value, b) = entry_read 44 (w ++ 125 ∷ r) comma_ends_values e in
-    subst (λ z. PairsTail (pair u escape_free t no_pair) false z r) (sym (append_assoc p (44 ∷ w) (125 ∷ r)))
+    subst (λ z. MembersTail (member u escape_free t no_member) false z r) (sym (append_assoc p (44 ∷ w) (125 ∷ r)))
     (k, v ++ 44 ∷ (w ++ 125 ∷ r), key, value, inr (w ++ 125 ∷ r, record { front = v; split = refl; blank = b }, record { front = w; split = refl; blank = bw }))
-entries_tail r (next_pair {p = p} {m = m} {u = u} {escape_free = escape_free} {t = t} {ps = ps} e ms) =
+entries_tail r (next_member {p = p} {m = m} {u = u} {escape_free = escape_free} {t = t} {ps = ps} e ms) =
     let (k, v, key, value, b) = entry_read 44 (m ++ 125 ∷ r) comma_ends_values e in
-    subst (λ z. PairsTail (pair u escape_free t ps) false z r) (sym (append_assoc p (44 ∷ m) (125 ∷ r)))
+    subst (λ z. MembersTail (member u escape_free t ps) false z r) (sym (append_assoc p (44 ∷ m) (125 ∷ r)))
     (k, v ++ 44 ∷ (m ++ 125 ∷ r), key, value, pairs_comma ps (v ++ 44 ∷ (m ++ 125 ∷ r)) (m ++ 125 ∷ r) r (record { front = v; split = refl; blank = b }) (entries_tail r ms))
 
 -- what is read one after another are pairs and the brace
-pub tail_entries : (u : List ℕ) (escape_free : Bool) (t : Tree) (ps : Pairs) (x r : List ℕ) → PairsTail (pair u escape_free t ps) false x r → (m : List ℕ) × (x ≡ m ++ 125 ∷ r) × MemberList m (pair u escape_free t ps)
-tail_entries u escape_free t no_pair x r (y, z, key, value, inl c) =
+pub tail_entries : (u : List ℕ) (escape_free : Bool) (t : Tree) (ps : Members) (x r : List ℕ) → MembersTail (member u escape_free t ps) false x r → (m : List ℕ) × (x ≡ m ++ 125 ∷ r) × MemberList m (member u escape_free t ps)
+tail_entries u escape_free t no_member x r (y, z, key, value, inl c) =
     let (p, e, is) = entry_of key value c.split c.blank in
-    (p ++ [], e ∙ sym (append_assoc p [] (125 ∷ r)), last_pair is no_last_comma)
-tail_entries u escape_free t no_pair x r (y, z, key, value, inr (q, s, c)) =
+    (p ++ [], e ∙ sym (append_assoc p [] (125 ∷ r)), last_member is no_last_comma)
+tail_entries u escape_free t no_member x r (y, z, key, value, inr (q, s, c)) =
     let (p, e, is) = entry_of key value (s.split ∙ ap (λ i. s.front ++ 44 ∷ i) c.split) s.blank in
-    (p ++ 44 ∷ c.front, e ∙ sym (append_assoc p (44 ∷ c.front) (125 ∷ r)), last_pair is (last_comma c.blank))
-tail_entries u escape_free t (pair v m n qs) x r (y, z, key, value, (k, h, (q, s, a), f, tl)) =
+    (p ++ 44 ∷ c.front, e ∙ sym (append_assoc p (44 ∷ c.front) (125 ∷ r)), last_member is (last_comma c.blank))
+tail_entries u escape_free t (member v m n qs) x r (y, z, key, value, (k, h, (q, s, a), f, tl)) =
     let (w, g, ms) = tail_entries v m n qs q r (k, h, a, f, tl) in
     let (p, e, is) = entry_of key value (s.split ∙ ap (λ i. s.front ++ 44 ∷ i) g) s.blank in
-    (p ++ 44 ∷ w, e ∙ sym (append_assoc p (44 ∷ w) (125 ∷ r)), next_pair is ms)
+    (p ++ 44 ∷ w, e ∙ sym (append_assoc p (44 ∷ w) (125 ∷ r)), next_member is ms)
 
 -- nothing lengthens an object's text
 pub object_stops : (m r : List ℕ) → Stops (123 ∷ m) r
@@ -174,19 +174,19 @@ object_stops [] (c ∷ r) = refl
 object_stops (b ∷ m) (c ∷ r) = refl
 
 -- an object is opened, its pairs are read, and it is closed
-pub object_front : (x r : List ℕ) (ps : Pairs) → Reads x (object ps) r → (y : List ℕ) × OpensObject x y × PairsTail ps false y r
+pub object_front : (x r : List ℕ) (ps : Members) → Reads x (object ps) r → (y : List ℕ) × OpensObject x y × MembersTail ps false y r
 object_front x r ps p = by_value p.front p.phrase p.split p.blank p.value
   where
     opened : (w m : List ℕ) → x ≡ w ++ ((123 ∷ m ++ 125 ∷ []) ++ r) → Blanks w → OpensObject x (m ++ 125 ∷ r)
     opened w m e b = record { front = w; split = e ∙ ap (λ z. w ++ 123 ∷ z) (append_assoc m (125 ∷ []) r); blank = b }
 
-    by_value : {ps : Pairs} (w s : List ℕ) → x ≡ w ++ (s ++ r) → Blanks w → Val s (object ps) → (y : List ℕ) × OpensObject x y × PairsTail ps false y r
+    by_value : {ps : Members} (w s : List ℕ) → x ≡ w ++ (s ++ r) → Blanks w → Val s (object ps) → (y : List ℕ) × OpensObject x y × MembersTail ps false y r
     by_value w s e b (is_empty_object {w = v} bv) = (v ++ 125 ∷ r, opened w v e b, record { front = v; split = refl; blank = bv })
     by_value w s e b (is_object {m = m} ms) = (m ++ 125 ∷ r, opened w m e b, entries_tail r ms)
 
 -- what is opened, read and closed is an object
-pub object_reads : (x y r : List ℕ) (ps : Pairs) → OpensObject x y → PairsTail ps false y r → Reads x (object ps) r
-object_reads x y r no_pair o c = record {
+pub object_reads : (x y r : List ℕ) (ps : Members) → OpensObject x y → MembersTail ps false y r → Reads x (object ps) r
+object_reads x y r no_member o c = record {
   front = o.front;
   phrase = 123 ∷ c.front ++ 125 ∷ [];
   split = o.split ∙ ap (λ z. o.front ++ 123 ∷ z) (c.split ∙ sym (append_assoc c.front (125 ∷ []) r));
@@ -194,7 +194,7 @@ object_reads x y r no_pair o c = record {
   value = is_empty_object c.blank;
   stops = object_stops (c.front ++ 125 ∷ []) r;
 }
-object_reads x y r (pair u escape_free t ps) o tl =
+object_reads x y r (member u escape_free t ps) o tl =
     let (m, e, ms) = tail_entries u escape_free t ps y r tl in
     record {
       front = o.front;
@@ -208,14 +208,14 @@ object_reads x y r (pair u escape_free t ps) o tl =
 -- ---- objects of which pairs were passed
 
 -- the object that was opened, whose pairs were passed, and which was closed
-pub object_closed : (x y z r : List ℕ) (ps : Pairs) (comma_due : Bool) → OpensObject x y → PairsPassed ps false y comma_due z → IsBrace comma_due z r → Reads x (object ps) r
+pub object_closed : (x y z r : List ℕ) (ps : Members) (comma_due : Bool) → OpensObject x y → MembersPassed ps false y comma_due z → IsBrace comma_due z r → Reads x (object ps) r
 object_closed x y z r ps comma_due o p c = object_reads x y r ps o (pairs_close ps false comma_due y z r p c)
 
 -- after a key that was read comes its value, and what is left after that
-pub value_left : (ps : Pairs) (comma_due : Bool) (x y r u : List ℕ) (escape_free : Bool) → IsKey comma_due x u escape_free y → PairsTail ps comma_due x r
-    → (t : Tree) × (qs : Pairs) × (z : List ℕ) × (ps ≡ pair u escape_free t qs) × IsKeyValue y t z × PairsTail qs true z r
-value_left no_pair comma_due x y r u escape_free key c = absurd (key_or_brace comma_due x y r u escape_free key c)
-value_left (pair v m t ps) comma_due x y r u escape_free key (k, z, other, value, tl) =
+pub value_left : (ps : Members) (comma_due : Bool) (x y r u : List ℕ) (escape_free : Bool) → IsKey comma_due x u escape_free y → MembersTail ps comma_due x r
+    → (t : Tree) × (qs : Members) × (z : List ℕ) × (ps ≡ member u escape_free t qs) × IsKeyValue y t z × MembersTail qs true z r
+value_left no_member comma_due x y r u escape_free key c = absurd (key_or_brace comma_due x y r u escape_free key c)
+value_left (member v m t ps) comma_due x y r u escape_free key (k, z, other, value, tl) =
     let one = one_key comma_due x k y v u m escape_free other key in
     (t, ps, z, pair_same v u m escape_free t t ps ps one.0 one.1 refl refl, subst (λ s. IsKeyValue s t z) one.2 value, tl)
 
@@ -240,10 +240,10 @@ key_value_shorter x r t (y, c, p) = let a = sign_shorter 58 x y c in let b = rea
 -- ---- depths
 
 -- the deepest of the pairs and one more
-pub pair_depths_snoc : (ps : Pairs) (u : List ℕ) (p : Bool) (t : Tree) → pair_depths (snoc_pair ps u p t) ≡ max (pair_depths ps) (depth t)
-pair_depths_snoc no_pair u p t = omega arith
-pair_depths_snoc (pair v m s ps) u p t = let rest = pair_depths_snoc ps u p t in omega (arith, rest)
+pub pair_depths_snoc : (ps : Members) (u : List ℕ) (p : Bool) (t : Tree) → member_depths (snoc_member ps u p t) ≡ max (member_depths ps) (depth t)
+pair_depths_snoc no_member u p t = omega arith
+pair_depths_snoc (member v m s ps) u p t = let rest = pair_depths_snoc ps u p t in omega (arith, rest)
 
 -- one more pair of an allowed depth
-pub shallow_snoc_pair : (ps : Pairs) (u : List ℕ) (p : Bool) (t : Tree) (level limit : ℕ) → level + pair_depths ps ≤ limit → level + depth t ≤ limit → level + pair_depths (snoc_pair ps u p t) ≤ limit
+pub shallow_snoc_pair : (ps : Members) (u : List ℕ) (p : Bool) (t : Tree) (level limit : ℕ) → level + member_depths ps ≤ limit → level + depth t ≤ limit → level + member_depths (snoc_member ps u p t) ≤ limit
 shallow_snoc_pair ps u p t level limit a b = let e = pair_depths_snoc ps u p t in omega (arith, a, b, e)

@@ -13,7 +13,7 @@ use Rattle.json5_grammar.specs.Faults.{begins_value, IsIn, eof_in, FaultAt, in_c
 use Rattle.json5_grammar.specs.Model.Reading.{Place, here, inner, Read, got, bad, and_then}
 use Rattle.json5_grammar.specs.Model.ReadBlanks.{skip, between}
 use Rattle.json5_grammar.specs.Model.ReadValues.{read, at_end, document}
-use Rattle.json5_grammar.specs.Model.ReadSteps.{forget, member_at, comma_at, separator, rest_of_bracket}
+use Rattle.json5_grammar.specs.Model.ReadSteps.{forget, entry_at, comma_at, separator, rest_of_bracket}
 use Rattle.json5_grammar.proofs.Basics.{not_eq}
 use Rattle.json5_grammar.proofs.BlanksRead.{skip_rest, begins_solid, skip_end}
 use Rattle.json5_grammar.proofs.BlanksSound.{comment_refused}
@@ -22,7 +22,7 @@ use Rattle.json5_grammar.proofs.Refusals.{Refuses}
 use Rattle.json5_grammar.proofs.Unique.{phrase_reader}
 use Rattle.json5_grammar.proofs.ValuesSound.{no_key_at}
 use Rattle.json5_grammar.proofs.ValueSteps.{turn, rest_step, read_too_deep, read_missing, read_nothing}
-use Rattle.json5_grammar.proofs.FrontsLeft.{rest_then, colon_then, comma_turn, gap_then, member_turn, Finish, ending, anything, phrase_then, document_ends, room, left_at, Fits, front_fits}
+use Rattle.json5_grammar.proofs.FrontsLeft.{rest_then, colon_then, comma_turn, gap_then, entry_turn, Finish, ending, anything, phrase_then, document_ends, room, left_at, Fits, front_fits}
 use Rattle.json5_grammar.proofs.FrontsRefused.{EndsFully, refused_at}
 use Rattle.json5_grammar.proofs.TokensRefused.{value_refused_at, begun_refused_at, faulty_key, key_left, name_key_head, number_fault, string_key_head, text_fault, word_fault}
 
@@ -31,14 +31,14 @@ use Rattle.json5_grammar.proofs.TokensRefused.{value_refused_at, begun_refused_a
 -- what is refused before anything else
 blanks_left : (finish : Finish) (limit : ℕ) (o : List Bracket) (a : Expects) (y : List ℕ) (e : Option ErrorCode) (p : Place)
     → EndsFully a finish → Fits o a → skip between y ≡ bad e p → left_at finish limit o a y ≡ bad e p
-unfolding member_at separator
+unfolding entry_at separator
 blanks_left finish limit o value y e p g f h = ap (gap_then finish limit o) h
 blanks_left finish limit [] element y e p g f h = absurd f
 blanks_left finish limit (b ∷ o) element y e p g f h =
-    rest_step b.kind false (room limit (b ∷ o)) y ∙ ap (member_turn b.kind (room limit (b ∷ o))) h
+    rest_step b.kind false (room limit (b ∷ o)) y ∙ ap (entry_turn b.kind (room limit (b ∷ o))) h
 blanks_left finish limit [] key y e p g f h = absurd f
 blanks_left finish limit (b ∷ o) key y e p g f h =
-    rest_step b.kind false (room limit (b ∷ o)) y ∙ ap (member_turn b.kind (room limit (b ∷ o))) h
+    rest_step b.kind false (room limit (b ∷ o)) y ∙ ap (entry_turn b.kind (room limit (b ∷ o))) h
 blanks_left finish limit o colon y e p g f h = ap (colon_then finish limit o) h
 blanks_left finish limit [] comma y e p g f h = absurd f
 blanks_left finish limit (b ∷ o) comma y e p g f h =
@@ -52,14 +52,14 @@ blanks_left finish limit (b ∷ o) end y e p g f h = absurd f
 -- at the end, where a value is expected
 no_value_left : (finish : Finish) (limit : ℕ) (o : List Bracket) (a : Expects) → takes_value a ≡ true → Fits o a
     → left_at finish limit o a [] ≡ bad (Some EofParsingValue) inner
-unfolding member_at
+unfolding entry_at
 no_value_left finish limit o value t f = ap (gap_then finish limit o) skip_end ∙ ap (rest_then finish limit o) (read_missing (room limit o))
 no_value_left finish limit [] element t f = absurd f
 no_value_left finish limit (b ∷ o) element t f =
     let d : ℕ = room limit (b ∷ o) in
     ap (λ k. rest_of_bracket k false d []) f
     ∙ rest_step of_array false d []
-    ∙ ap (member_turn of_array d) skip_end
+    ∙ ap (entry_turn of_array d) skip_end
     ∙ ap (λ m. and_then m (λ u y. rest_of_bracket of_array true d y)) (read_missing d)
 no_value_left finish limit o key t f = absurd (cc)
 no_value_left finish limit o colon t f = absurd (cc)
@@ -76,7 +76,7 @@ comma_left finish limit k (b ∷ o) y e p i s h =
     ap (λ n. rest_of_bracket n true d y) i
     ∙ rest_step k true d y
     ∙ ap (comma_turn k d) s
-    ∙ ap (λ m. and_then (and_then m (λ more y. cond more (member_at k y) (got false y))) (turn k d)) h
+    ∙ ap (λ m. and_then (and_then m (λ more y. cond more (entry_at k y) (got false y))) (turn k d)) h
 
 -- at the end, and at another character
 comma_at_end : (k : BracketKind) → comma_at k [] ≡ bad (Some (eof_in k)) inner
@@ -89,13 +89,13 @@ no_comma_read k c r h = let n = or_parts (c == 44) (c == closing k) h in rw (n.0
 
 -- at the end, where a key or a colon is expected
 no_key_left : (finish : Finish) (limit : ℕ) (o : List Bracket) → Fits o key → left_at finish limit o key [] ≡ bad (Some EofParsingObject) inner
-unfolding member_at
+unfolding entry_at
 no_key_left finish limit [] f = absurd f
 no_key_left finish limit (b ∷ o) f =
     let d : ℕ = limit - suc (length o) in
     ap (λ n. rest_of_bracket n false d []) f
     ∙ rest_step of_object false d []
-    ∙ ap (member_turn of_object d) skip_end
+    ∙ ap (entry_turn of_object d) skip_end
 
 -- where a colon is expected, at the end and at another character
 colon_left : (finish : Finish) (limit : ℕ) (o : List Bracket) → left_at finish limit o colon [] ≡ bad (Some EofParsingObject) inner

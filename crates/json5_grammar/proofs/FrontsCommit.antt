@@ -3,20 +3,20 @@ use Rattle.std.proofs.Common.{◌≡◌, ℕ, suc, ◌-◌, List, [], ◌∷◌,
 use Rattle.std.proofs.lemmas.List.{append-nil}
 use Rattle.json5_grammar.specs.Faults.Codes.{ErrorCode}
 use Rattle.json5_grammar.specs.Language.Blanks.{LastBlanks}
-use Rattle.json5_grammar.specs.Faults.Commits.{GoesOn}
+use Rattle.json5_grammar.specs.Faults.Continuations.{GoesOn}
 use Rattle.json5_grammar.specs.Language.Documents.{Doc}
 use Rattle.json5_grammar.specs.Faults.Fronts.{BracketKind, of_array, of_object, Bracket, Expects, closing, Front, value, element, key, colon, comma, end}
-use Rattle.json5_grammar.specs.Model.Collections.{IsSign, Tail, PairsTail}
+use Rattle.json5_grammar.specs.Model.Collections.{IsSign, Tail, MembersTail}
 use Rattle.json5_grammar.specs.Model.Reading.{Place, here, inner, Read, got, bad, and_then}
 use Rattle.json5_grammar.specs.Model.ReadBlanks.{skip, between}
 use Rattle.json5_grammar.specs.Model.ReadSteps.{forget, rest_of_bracket}
-use Rattle.json5_grammar.specs.Model.ReadValues.{colon_at, read_elements, read_members, after_member, after_pair, read, at_end}
-use Rattle.json5_grammar.specs.Language.Trees.{Tree, Trees, Pairs, no_more, more, no_pair, pair}
+use Rattle.json5_grammar.specs.Model.ReadValues.{colon_at, read_elements, read_members, after_element, after_member, read, at_end}
+use Rattle.json5_grammar.specs.Language.Trees.{Tree, Trees, Members, no_more, more, no_member, member}
 use Rattle.json5_grammar.specs.Language.Values.{Reads}
 use Rattle.json5_grammar.proofs.BlanksSound.{gap_end}
 use Rattle.json5_grammar.proofs.Found.{Found, found_then, found_after}
 use Rattle.json5_grammar.proofs.CollectionsPassed.{tail_goes}
-use Rattle.json5_grammar.proofs.ValuesSound.{IsGap, IsValue, AreMembers, ArePairs, gap_found, read_found, items_found, entries_found, after_found, after_pair_found, colon_found, tail_gap, pairs_gap, sign_gap, phrase_of}
+use Rattle.json5_grammar.proofs.ValuesSound.{IsGap, IsValue, AreElements, AreMembers, gap_found, read_found, items_found, entries_found, after_found, after_member_found, colon_found, tail_gap, pairs_gap, sign_gap, phrase_of}
 use Rattle.json5_grammar.proofs.DocumentsRead.{document_complete}
 use Rattle.json5_grammar.proofs.FrontsContinue.{front_same}
 use Rattle.json5_grammar.proofs.FrontsLeft.{Finish, ending, document_ends, room, rest_after, value_then, left_at, whole_of, Fits, front_fits}
@@ -53,19 +53,19 @@ array_goes o y r ts h = by_tail (tail_goes ts false y r h)
     by_tail (inl (e, s)) = inr (r, s)
     by_tail (inr (t, us, z, e, p, k)) = inl (t, z, p)
 
-object_goes : (o : List Bracket) (y r : List ℕ) (ps : Pairs) → PairsTail ps false y r → GoesOn o key y
-object_goes o y r no_pair s = inr (r, s)
-object_goes o y r (pair u escape_free t ps) (k, z, a, v, tl) = inl (u, escape_free, k, a)
+object_goes : (o : List Bracket) (y r : List ℕ) (ps : Members) → MembersTail ps false y r → GoesOn o key y
+object_goes o y r no_member s = inr (r, s)
+object_goes o y r (member u escape_free t ps) (k, z, a, v, tl) = inl (u, escape_free, k, a)
 
 array_comma : (b : Bracket) (o : List Bracket) (y r : List ℕ) (ts : Trees) → b.kind ≡ of_array → Tail ts true y r → GoesOn (b ∷ o) comma y
 array_comma b o y r no_more e (inl s) = inr (r, subst (λ k. IsSign (closing k) y r) (sym e) s)
 array_comma b o y r no_more e (inr (z, s, c)) = inl (z, s)
 array_comma b o y r (more t ts) e (z, (q, s, p), tl) = inl (q, s)
 
-object_comma : (b : Bracket) (o : List Bracket) (y r : List ℕ) (ps : Pairs) → b.kind ≡ of_object → PairsTail ps true y r → GoesOn (b ∷ o) comma y
-object_comma b o y r no_pair e (inl s) = inr (r, subst (λ k. IsSign (closing k) y r) (sym e) s)
-object_comma b o y r no_pair e (inr (z, s, c)) = inl (z, s)
-object_comma b o y r (pair u escape_free t ps) e (k, z, (q, s, a), v, tl) = inl (q, s)
+object_comma : (b : Bracket) (o : List Bracket) (y r : List ℕ) (ps : Members) → b.kind ≡ of_object → MembersTail ps true y r → GoesOn (b ∷ o) comma y
+object_comma b o y r no_member e (inl s) = inr (r, subst (λ k. IsSign (closing k) y r) (sym e) s)
+object_comma b o y r no_member e (inr (z, s, c)) = inl (z, s)
+object_comma b o y r (member u escape_free t ps) e (k, z, (q, s, a), v, tl) = inl (q, s)
 
 module _ (limit : ℕ) where
   -- a value, a colon and its value, the end
@@ -96,26 +96,26 @@ module _ (limit : ℕ) where
   end_goes y q (bad c p) f k = absurd (cc)
 
   -- what reading elements and pairs finds, from their start and after one
-  members_found : (d : ℕ) (z : List ℕ) → Found (AreMembers d false z) z (read_elements (read d) (suc (length z)) z)
+  members_found : (d : ℕ) (z : List ℕ) → Found (AreElements d false z) z (read_elements (read d) (suc (length z)) z)
   members_found d z = items_found d (read d) (read_found d) (suc (length z)) z
 
-  pairs_found : (d : ℕ) (z : List ℕ) → Found (ArePairs d false z) z (read_members (read d) (suc (length z)) z)
+  pairs_found : (d : ℕ) (z : List ℕ) → Found (AreMembers d false z) z (read_members (read d) (suc (length z)) z)
   pairs_found d z = entries_found d (read d) (read_found d) (suc (length z)) z
 
   members_after : (d : ℕ) (y : List ℕ)
-      → Found (AreMembers d true y) y (and_then (skip between y) (λ u z. after_member (λ q. read_elements (read d) (suc (length q)) q) z))
-  members_after d y = found_then (IsGap y) (AreMembers d true y) y (skip between y) _ (gap_found y)
+      → Found (AreElements d true y) y (and_then (skip between y) (λ u z. after_element (λ q. read_elements (read d) (suc (length q)) q) z))
+  members_after d y = found_then (IsGap y) (AreElements d true y) y (skip between y) _ (gap_found y)
       (λ u z g.
-      found_after (AreMembers d true z) (AreMembers d true y) g.0 y z _ g.1
+      found_after (AreElements d true z) (AreElements d true y) g.0 y z _ g.1
       (after_found d (λ q. read_elements (read d) (suc (length q)) q) (members_found d) z)
       (λ ts r m. (tail_gap ts true g.0 y z r g.1 g.2 m.0, m.1)))
 
   pairs_after : (d : ℕ) (y : List ℕ)
-      → Found (ArePairs d true y) y (and_then (skip between y) (λ u z. after_pair (λ q. read_members (read d) (suc (length q)) q) z))
-  pairs_after d y = found_then (IsGap y) (ArePairs d true y) y (skip between y) _ (gap_found y)
+      → Found (AreMembers d true y) y (and_then (skip between y) (λ u z. after_member (λ q. read_members (read d) (suc (length q)) q) z))
+  pairs_after d y = found_then (IsGap y) (AreMembers d true y) y (skip between y) _ (gap_found y)
       (λ u z g.
-      found_after (ArePairs d true z) (ArePairs d true y) g.0 y z _ g.1
-      (after_pair_found d (λ q. read_members (read d) (suc (length q)) q) (pairs_found d) z)
+      found_after (AreMembers d true z) (AreMembers d true y) g.0 y z _ g.1
+      (after_member_found d (λ q. read_members (read d) (suc (length q)) q) (pairs_found d) z)
       (λ ps r m. (pairs_gap ps true g.0 y z r g.1 g.2 m.0, m.1)))
 
   -- what is left and was read goes on with what is expected
@@ -126,13 +126,13 @@ module _ (limit : ℕ) where
   left_goes (b ∷ o) element y q f e =
       let d : ℕ = room limit (b ∷ o) in
       let (ts, r, h) =
-      forgot (AreMembers d false y) y (read_elements (read d) (suc (length y)) y) q (members_found d y) (ap (λ k. rest_of_bracket k false d y) (sym f) ∙ e) in
+      forgot (AreElements d false y) y (read_elements (read d) (suc (length y)) y) q (members_found d y) (ap (λ k. rest_of_bracket k false d y) (sym f) ∙ e) in
       array_goes (b ∷ o) y r ts h.0
   left_goes [] key y q f e = absurd f
   left_goes (b ∷ o) key y q f e =
       let d : ℕ = room limit (b ∷ o) in
       let (ps, r, h) =
-      forgot (ArePairs d false y) y (read_members (read d) (suc (length y)) y) q (pairs_found d y) (ap (λ k. rest_of_bracket k false d y) (sym f) ∙ e) in
+      forgot (AreMembers d false y) y (read_members (read d) (suc (length y)) y) q (pairs_found d y) (ap (λ k. rest_of_bracket k false d y) (sym f) ∙ e) in
       object_goes (b ∷ o) y r ps h.0
   left_goes o colon y q f e = colon_goes o y q (skip between y) (gap_found y) e
   left_goes [] comma y q f e = absurd f
@@ -143,10 +143,10 @@ module _ (limit : ℕ) where
 
       by_kind : (k : BracketKind) → b.kind ≡ k → GoesOn (b ∷ o) comma y
       by_kind of_array i =
-          let (ts, r, h) = forgot (AreMembers d true y) y _ q (members_after d y) (ap (λ k. rest_of_bracket k true d y) (sym i) ∙ e) in
+          let (ts, r, h) = forgot (AreElements d true y) y _ q (members_after d y) (ap (λ k. rest_of_bracket k true d y) (sym i) ∙ e) in
           array_comma b o y r ts i h.0
       by_kind of_object i =
-          let (ps, r, h) = forgot (ArePairs d true y) y _ q (pairs_after d y) (ap (λ k. rest_of_bracket k true d y) (sym i) ∙ e) in
+          let (ps, r, h) = forgot (AreMembers d true y) y _ q (pairs_after d y) (ap (λ k. rest_of_bracket k true d y) (sym i) ∙ e) in
           object_comma b o y r ps i h.0
   left_goes [] end y q f e = end_goes y q (skip between y) (gap_found y) e
   left_goes (b ∷ o) end y q f e = absurd f

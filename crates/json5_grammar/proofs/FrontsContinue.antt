@@ -10,7 +10,7 @@ use Rattle.json5_grammar.specs.Faults.Fronts.{BracketKind, of_array, of_object, 
 use Rattle.json5_grammar.specs.Model.Reading.{Read, got, bad, and_then}
 use Rattle.json5_grammar.specs.Model.ReadBlanks.{skip, between}
 use Rattle.json5_grammar.specs.Model.ReadValues.{at_end, document}
-use Rattle.json5_grammar.specs.Model.ReadSteps.{forget, member_head, member_at, comma_at, separator, rest_of_bracket}
+use Rattle.json5_grammar.specs.Model.ReadSteps.{forget, entry_head, entry_at, comma_at, separator, rest_of_bracket}
 use Rattle.json5_grammar.proofs.Basics.{append_after_two, SameHead, same_append, same_not}
 use Rattle.json5_grammar.proofs.BlanksRead.{skip_rest, skip_end, begins_solid, printable_solid}
 use Rattle.json5_grammar.proofs.BlanksSound.{Blanks-append}
@@ -18,7 +18,7 @@ use Rattle.json5_grammar.proofs.Classes.{blank_ends_values, blank_no_name}
 use Rattle.json5_grammar.proofs.ValueHeads.{val_head, key_head, key_before, key_spelling}
 use Rattle.json5_grammar.proofs.ValuesRead.{read_null}
 use Rattle.json5_grammar.proofs.ValueSteps.{turn, rest_step}
-use Rattle.json5_grammar.proofs.FrontsLeft.{rest_then, colon_then, comma_turn, gap_then, member_turn, ending, document_ends, room, rest_after, value_then, left_at, whole_of, Fits, front_fits}
+use Rattle.json5_grammar.proofs.FrontsLeft.{rest_then, colon_then, comma_turn, gap_then, entry_turn, ending, document_ends, room, rest_after, value_then, left_at, whole_of, Fits, front_fits}
 use Rattle.json5_grammar.proofs.FrontsReached.{front_reached}
 use Rattle.json5_grammar.proofs.DocumentsJudged.{document_sound}
 
@@ -127,18 +127,18 @@ closes_later k d y =
     ∙ by_kind k
   where
     by_kind : (k : BracketKind)
-        → and_then (and_then (comma_at k (closing k ∷ y)) (λ more y. cond more (member_at k y) (got false y))) (turn k d) ≡ got tt y
+        → and_then (and_then (comma_at k (closing k ∷ y)) (λ more y. cond more (entry_at k y) (got false y))) (turn k d) ≡ got tt y
     by_kind of_array = refl
     by_kind of_object = refl
 
 closes_first : (k : BracketKind) (d : ℕ) (y : List ℕ) → rest_of_bracket k false d (closing k ∷ y) ≡ got tt y
-unfolding member_at
+unfolding entry_at
 closes_first k d y =
     rest_step k false d (closing k ∷ y)
-    ∙ ap (member_turn k d) (close_solid k y)
+    ∙ ap (entry_turn k d) (close_solid k y)
     ∙ by_kind k
   where
-    by_kind : (k : BracketKind) → and_then (member_head k (closing k ∷ y)) (turn k d) ≡ got tt y
+    by_kind : (k : BracketKind) → and_then (entry_head k (closing k ∷ y)) (turn k d) ≡ got tt y
     by_kind of_array = refl
     by_kind of_object = refl
 

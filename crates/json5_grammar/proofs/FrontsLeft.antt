@@ -7,7 +7,7 @@ use Rattle.json5_grammar.specs.Faults.Fronts.{BracketKind, of_array, of_object, 
 use Rattle.json5_grammar.specs.Model.Reading.{Read, got, bad, and_then, placed}
 use Rattle.json5_grammar.specs.Model.ReadBlanks.{skip, between}
 use Rattle.json5_grammar.specs.Model.ReadValues.{colon_at, read, at_end, document}
-use Rattle.json5_grammar.specs.Model.ReadSteps.{forget, colon_after, member_head, member_at, comma_at, separator, next_value, rest_of_bracket}
+use Rattle.json5_grammar.specs.Model.ReadSteps.{forget, colon_after, entry_head, entry_at, comma_at, separator, next_value, rest_of_bracket}
 use Rattle.json5_grammar.proofs.BlanksRead.{skip_gap}
 use Rattle.json5_grammar.proofs.Unique.{phrase_reader}
 use Rattle.json5_grammar.proofs.ValueSteps.{turn, rest_step}
@@ -58,11 +58,11 @@ abbrev pub colon_then : Finish → ℕ → List Bracket → Read (Unit {0}) → 
 colon_then finish limit o m = and_then (and_then m (λ u y. and_then (colon_at y) (λ v z. skip between z))) (λ u z. value_then finish limit o z)
 
 -- an element, a pair or the closing bracket; a comma or the closing bracket
-abbrev pub member_turn : BracketKind → ℕ → Read (Unit {0}) → Read (Unit {0})
-member_turn k d m = and_then (and_then m (λ u y. member_head k y)) (turn k d)
+abbrev pub entry_turn : BracketKind → ℕ → Read (Unit {0}) → Read (Unit {0})
+entry_turn k d m = and_then (and_then m (λ u y. entry_head k y)) (turn k d)
 
 abbrev pub comma_turn : BracketKind → ℕ → Read (Unit {0}) → Read (Unit {0})
-comma_turn k d m = and_then (and_then (and_then m (λ u y. comma_at k y)) (λ more y. cond more (member_at k y) (got false y))) (turn k d)
+comma_turn k d m = and_then (and_then (and_then m (λ u y. comma_at k y)) (λ more y. cond more (entry_at k y) (got false y))) (turn k d)
 
 -- what that makes of the document x
 abbrev pub whole_of : Finish → ℕ → List ℕ → List Bracket → Read (Unit {0}) → Read (Unit {0})
@@ -72,9 +72,9 @@ whole_of finish limit x (b ∷ o) m = whole_of finish limit x o (rest_then finis
 -- ---- blanks change nothing
 
 -- before an element or a pair, a comma, the next value and the rest of a bracket
-gap_member : (k : BracketKind) (w r : List ℕ) → Gap w r → member_at k (w ++ r) ≡ member_at k r
-unfolding member_at
-gap_member k w r g = ap (λ m. and_then m (λ u y. member_head k y)) (skip_gap g)
+gap_member : (k : BracketKind) (w r : List ℕ) → Gap w r → entry_at k (w ++ r) ≡ entry_at k r
+unfolding entry_at
+gap_member k w r g = ap (λ m. and_then m (λ u y. entry_head k y)) (skip_gap g)
 
 gap_separator : (k : BracketKind) (w r : List ℕ) → Gap w r → separator k (w ++ r) ≡ separator k r
 unfolding separator
@@ -82,7 +82,7 @@ gap_separator k w r g = ap (λ m. and_then m (λ u y. comma_at k y)) (skip_gap g
 
 gap_next : (k : BracketKind) (comma_due : Bool) (w r : List ℕ) → Gap w r → next_value k comma_due (w ++ r) ≡ next_value k comma_due r
 gap_next k false w r g = gap_member k w r g
-gap_next k true w r g = ap (λ m. and_then m (λ more y. cond more (member_at k y) (got false y))) (gap_separator k w r g)
+gap_next k true w r g = ap (λ m. and_then m (λ more y. cond more (entry_at k y) (got false y))) (gap_separator k w r g)
 
 pub gap_rest : (k : BracketKind) (comma_due : Bool) (d : ℕ) (w r : List ℕ) → Gap w r → rest_of_bracket k comma_due d (w ++ r) ≡ rest_of_bracket k comma_due d r
 gap_rest k comma_due d w r g = rest_step k comma_due d (w ++ r) ∙ ap (λ m. and_then m (turn k d)) (gap_next k comma_due w r g) ∙ sym (rest_step k comma_due d r)

@@ -11,7 +11,7 @@ use Rattle.json5_grammar.specs.Faults.{is_allowed_close}
 use Rattle.json5_grammar.specs.Model.Reading.{Read, got, bad, and_then, placed}
 use Rattle.json5_grammar.specs.Model.ReadBlanks.{skip, between}
 use Rattle.json5_grammar.specs.Model.ReadValues.{colon_at, read}
-use Rattle.json5_grammar.specs.Model.ReadSteps.{forget, colon_after, pair_head, member_head, member_at, separator, rest_of_bracket, value_and_rest}
+use Rattle.json5_grammar.specs.Model.ReadSteps.{forget, colon_after, member_head, entry_head, entry_at, separator, rest_of_bracket, value_and_rest}
 use Rattle.json5_grammar.proofs.Basics.{append_after_two}
 use Rattle.json5_grammar.proofs.BlanksRead.{skip_gap, skip_rest, printable_solid, begins_solid}
 use Rattle.json5_grammar.proofs.Classes.{begins_others}
@@ -19,20 +19,20 @@ use Rattle.json5_grammar.proofs.KeysRead.{key_complete}
 use Rattle.json5_grammar.proofs.ValueHeads.{val_head, key_head, key_begins, begins_value_solid, skip_key}
 use Rattle.json5_grammar.proofs.ValuesRead.{read_complete}
 use Rattle.json5_grammar.proofs.ValueSteps.{turn, rest_step, read_opened}
-use Rattle.json5_grammar.proofs.FrontsLeft.{rest_then, colon_then, comma_turn, gap_then, member_turn, Finish, Fits, front_fits, gap_after, gap_rest, left_at, members_at, phrase_then, rest_after, room, value_then, whole_of}
+use Rattle.json5_grammar.proofs.FrontsLeft.{rest_then, colon_then, comma_turn, gap_then, entry_turn, Finish, Fits, front_fits, gap_after, gap_rest, left_at, members_at, phrase_then, rest_after, room, value_then, whole_of}
 
 -- ---- steps
 
 -- where a value is expected and one begins, it is read and then the rest
 pub value_next : (finish : Finish) (limit : ℕ) (o : List Bracket) (a : Expects) (c : ℕ) (r : List ℕ) → takes_value a ≡ true → Fits o a
     → is_solid c ≡ true → is_allowed_close a c ≡ false → left_at finish limit o a (c ∷ r) ≡ value_then finish limit o (c ∷ r)
-unfolding member_at
+unfolding entry_at
 value_next finish limit o value c r t f s n = rw (skip_rest (c ∷ r) (begins_solid c r s)) refl
 value_next finish limit [] element c r t f s n = absurd f
 value_next finish limit (b ∷ o) element c r t f s n =
     rw f (rest_step of_array false (room limit (b ∷ o)) (c ∷ r) ∙ ap (λ m. and_then m (turn of_array (room limit (b ∷ o)))) by_member)
   where
-    by_member : member_at of_array (c ∷ r) ≡ got true (c ∷ r)
+    by_member : entry_at of_array (c ∷ r) ≡ got true (c ∷ r)
     by_member = rw (skip_rest (c ∷ r) (begins_solid c r s), n) refl
 value_next finish limit o key c r t f s n = absurd (cc)
 value_next finish limit o colon c r t f s n = absurd (cc)
@@ -113,18 +113,18 @@ comma_step finish limit b o w r g =
 -- over a key
 key_step : (finish : Finish) (limit : ℕ) (b : Bracket) (o : List Bracket) (k w r u : List ℕ) (escape_free : Bool) → b.kind ≡ of_object
     → Key k (w ++ r) u escape_free → Gap w r → left_at finish limit (b ∷ o) key (k ++ (w ++ r)) ≡ left_at finish limit (b ∷ o) colon r
-unfolding member_at
+unfolding entry_at
 key_step finish limit b o k w r u escape_free f is g =
     let h = key_head is in
     let e : k ++ (w ++ r) ≡ h.char ∷ (h.more ++ (w ++ r)) = ap (λ z. z ++ (w ++ r)) h.is in
     let d : ℕ = room limit (b ∷ o) in
     ap (λ n. rest_of_bracket n false d (k ++ (w ++ r))) f
     ∙ rest_step of_object false d (k ++ (w ++ r))
-    ∙ ap (member_turn of_object d) (skip_key (w ++ r) h)
-    ∙ ap (λ z. and_then (member_head of_object z) (turn of_object d)) e
-    ∙ ap (λ c. and_then (cond c (got false (h.more ++ (w ++ r))) (pair_head (h.char ∷ (h.more ++ (w ++ r))))) (turn of_object d))
+    ∙ ap (entry_turn of_object d) (skip_key (w ++ r) h)
+    ∙ ap (λ z. and_then (entry_head of_object z) (turn of_object d)) e
+    ∙ ap (λ c. and_then (cond c (got false (h.more ++ (w ++ r))) (member_head (h.char ∷ (h.more ++ (w ++ r))))) (turn of_object d))
     (key_begins h.char h.begins).2
-    ∙ ap (λ z. and_then (pair_head z) (turn of_object d)) (sym e)
+    ∙ ap (λ z. and_then (member_head z) (turn of_object d)) (sym e)
     ∙ ap (λ m. and_then (and_then m (λ a r. and_then (colon_after r) (λ u y. got true y))) (turn of_object d)) (key_complete is)
     ∙ colon_first (colon_after (w ++ r))
     ∙ ap (λ m. and_then (and_then m (λ v z. and_then (colon_at z) (λ v z. skip between z))) (λ u z. value_and_rest of_object d z)) (skip_gap g)

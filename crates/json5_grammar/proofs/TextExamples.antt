@@ -48,9 +48,9 @@ lone_surrogate : string (codes "\"\\uD800x\"") ≡ bad (Some InvalidEscapeSequen
 unfolding string items escape_at unicode_at hex
 lone_surrogate = refl
 
-no_pair : string (codes "\"\\uD800\\u0041\"") ≡ bad None (here (codes "\\uD800\\u0041\""))
+no_member : string (codes "\"\\uD800\\u0041\"") ≡ bad None (here (codes "\\uD800\\u0041\""))
 unfolding string items escape_at unicode_at hex
-no_pair = refl
+no_member = refl
 
 cut_escape : string (codes "\"\\uD800\\u00") ≡ bad (Some EofParsingEscapeSequence) inner
 unfolding string items escape_at unicode_at hex

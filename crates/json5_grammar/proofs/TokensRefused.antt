@@ -15,7 +15,7 @@ use Rattle.json5_grammar.specs.Language.Values.{KeyText}
 use Rattle.json5_grammar.specs.Model.Reading.{Place, got, bad, and_then, IsAt, word_at}
 use Rattle.json5_grammar.specs.Model.ReadTexts as texts
 use Rattle.json5_grammar.specs.Model.ReadValues.{read}
-use Rattle.json5_grammar.specs.Model.ReadSteps.{forget, colon_after, pair_head, member_at, rest_of_bracket}
+use Rattle.json5_grammar.specs.Model.ReadSteps.{forget, colon_after, member_head, entry_at, rest_of_bracket}
 use Rattle.json5_grammar.proofs.BlanksRead.{skip_rest, solid_from, begins_solid}
 use Rattle.json5_grammar.proofs.Classes.{number_begins, quote_begins, begins_others}
 use Rattle.json5_grammar.proofs.KeysRead.{string_fault_head}
@@ -27,7 +27,7 @@ use Rattle.json5_grammar.proofs.ValueHeads.{KeyHead, key_text_head, key_begins, 
 use Rattle.json5_grammar.proofs.ValueSteps.{turn, rest_step, read_word_null, read_word_true, read_word_false, read_quote, read_numeral}
 use Rattle.json5_grammar.proofs.WordsRead.{SameFirst, word_refused}
 use Rattle.json5_grammar.proofs.FaultsJudged.{number_at}
-use Rattle.json5_grammar.proofs.FrontsLeft.{rest_then, member_turn, Finish, room, left_at, Fits}
+use Rattle.json5_grammar.proofs.FrontsLeft.{rest_then, entry_turn, Finish, room, left_at, Fits}
 use Rattle.json5_grammar.proofs.FrontsReached.{no_close, value_next}
 
 -- ---- values
@@ -142,14 +142,14 @@ text_fault {y = y} {code = code} {place = place} finish limit o a h t w = by_fir
 -- what is refused of a key
 pub key_left : (finish : Finish) (limit : ℕ) (o : List Bracket) (c : ℕ) (r : List ℕ) (e : Option ErrorCode) (p : Place) → Fits o key
     → is_solid c ≡ true → (c == 125) ≡ false → texts.key (c ∷ r) ≡ bad e p → left_at finish limit o key (c ∷ r) ≡ bad e p
-unfolding member_at
+unfolding entry_at
 key_left finish limit [] c r e p f s n h = absurd f
 key_left finish limit (b ∷ o) c r e p f s n h =
     let d : ℕ = room limit (b ∷ o) in
     ap (λ k. rest_of_bracket k false d (c ∷ r)) f
     ∙ rest_step of_object false d (c ∷ r)
-    ∙ ap (member_turn of_object d) (skip_rest (c ∷ r) (begins_solid c r s))
-    ∙ ap (λ z. and_then (cond z (got false r) (pair_head (c ∷ r))) (turn of_object d)) n
+    ∙ ap (entry_turn of_object d) (skip_rest (c ∷ r) (begins_solid c r s))
+    ∙ ap (λ z. and_then (cond z (got false r) (member_head (c ∷ r))) (turn of_object d)) n
     ∙ ap (λ m. and_then (and_then m (λ a r. and_then (colon_after r) (λ u y. got true y))) (turn of_object d)) h
 
 -- a faulty key's first character

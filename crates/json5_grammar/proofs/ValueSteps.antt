@@ -5,14 +5,14 @@ use Rattle.json5_grammar.specs.Faults.Codes.{ErrorCode, EofParsingBool, EofParsi
 use Rattle.json5_grammar.specs.Faults.Fronts.{BracketKind, of_array, of_object, opening}
 use Rattle.json5_grammar.specs.Faults.Tokens.{is_sign, begins_number}
 use Rattle.json5_grammar.specs.Language.Strings.{is_quote}
-use Rattle.json5_grammar.specs.Language.Trees.{Tree, Trees, Pairs, null, boolean, text, array, object, no_more, more, no_pair, pair}
+use Rattle.json5_grammar.specs.Language.Trees.{Tree, Trees, Members, null, boolean, text, array, object, no_more, more, no_member, member}
 use Rattle.json5_grammar.specs.Language.Values.{null_text, true_text, false_text}
 use Rattle.json5_grammar.specs.Model.Reading.{Read, got, bad, here, inner, and_then, placed, word_at}
 use Rattle.json5_grammar.specs.Model.ReadBlanks.{skip, between}
 use Rattle.json5_grammar.specs.Model.ReadNumbers as numbers
 use Rattle.json5_grammar.specs.Model.ReadTexts.{key, string}
-use Rattle.json5_grammar.specs.Model.ReadValues.{read_elements, read_members, close_or, member, after_member, colon_at, value_after, pair_at, key_or, after_pair, as_leaf, value_with, read}
-use Rattle.json5_grammar.specs.Model.ReadSteps.{forget, colon_after, pair_head, member_head, member_at, comma_at, separator, next_value, rest_of_bracket, value_and_rest}
+use Rattle.json5_grammar.specs.Model.ReadValues.{read_elements, read_members, close_or, element_at, after_element, colon_at, value_after, member_at, key_or, after_member, as_leaf, value_with, read}
+use Rattle.json5_grammar.specs.Model.ReadSteps.{forget, colon_after, member_head, entry_head, entry_at, comma_at, separator, next_value, rest_of_bracket, value_and_rest}
 use Rattle.json5_grammar.proofs.ValueHeads.{array_reader, object_reader, read_step, value_text, value_number}
 use Rattle.json5_grammar.proofs.ValuesSound.{IsGap, gap_found}
 use Rattle.json5_grammar.proofs.Found.{Found}
@@ -21,7 +21,7 @@ use Rattle.json5_grammar.proofs.ValueTurns.{gap_no_longer, member_same, pair_sam
 abbrev all_items : ℕ → List ℕ → Read Trees
 all_items d z = read_elements (read d) (suc (length z)) z
 
-abbrev all_entries : ℕ → List ℕ → Read Pairs
+abbrev all_entries : ℕ → List ℕ → Read Members
 all_entries d z = read_members (read d) (suc (length z)) z
 
 -- a value comes next, or the bracket was closed
@@ -34,16 +34,16 @@ forget_last : (t : Tree) (m : Read Trees) → forget (and_then m (λ ts z. got (
 forget_last t (got ts z) = refl
 forget_last t (bad e p) = refl
 
-forget_after : (k : List ℕ → Read Trees) (t : Tree) (m : Read (Unit {0})) → forget (and_then m (λ u y. and_then (after_member k y) (λ ts z. got (more t ts) z))) ≡ forget (and_then m (λ u y. after_member k y))
-forget_after k t (got u y) = forget_last t (after_member k y)
+forget_after : (k : List ℕ → Read Trees) (t : Tree) (m : Read (Unit {0})) → forget (and_then m (λ u y. and_then (after_element k y) (λ ts z. got (more t ts) z))) ≡ forget (and_then m (λ u y. after_element k y))
+forget_after k t (got u y) = forget_last t (after_element k y)
 forget_after k t (bad e p) = refl
 
 forget_member : (k : List ℕ → Read Trees) (m : Read Tree)
-    → forget (and_then m (λ t r. and_then (skip between r) (λ u y. and_then (after_member k y) (λ ts z. got (more t ts) z)))) ≡ and_then (forget m) (λ u r. forget (and_then (skip between r) (λ u y. after_member k y)))
+    → forget (and_then m (λ t r. and_then (skip between r) (λ u y. and_then (after_element k y) (λ ts z. got (more t ts) z)))) ≡ and_then (forget m) (λ u r. forget (and_then (skip between r) (λ u y. after_element k y)))
 forget_member k (got t r) = forget_after k t (skip between r)
 forget_member k (bad e p) = refl
 
-array_member : (d n : ℕ) (y : List ℕ) → length y ≤ n → forget (member (read d) (read_elements (read d) n) y) ≡ value_and_rest of_array d y
+array_member : (d n : ℕ) (y : List ℕ) → length y ≤ n → forget (element_at (read d) (read_elements (read d) n) y) ≡ value_and_rest of_array d y
 unfolding rest_of_bracket
 array_member d n y l =
     ap forget (member_same d (read_elements (read d) n) (all_items d) y (λ z s. same_items d n (suc (length z)) z (omega arith) (omega arith)))
@@ -51,16 +51,16 @@ array_member d n y l =
 
 -- ---- one pair
 
-forget_last_pair : (u : List ℕ) (escape_free : Bool) (t : Tree) (m : Read Pairs) → forget (and_then m (λ ps z. got (pair u escape_free t ps) z)) ≡ forget m
+forget_last_pair : (u : List ℕ) (escape_free : Bool) (t : Tree) (m : Read Members) → forget (and_then m (λ ps z. got (member u escape_free t ps) z)) ≡ forget m
 forget_last_pair u escape_free t (got ps z) = refl
 forget_last_pair u escape_free t (bad e p) = refl
 
-forget_after_pair : (k : List ℕ → Read Pairs) (a : List ℕ × Bool) (t : Tree) (m : Read (Unit {0})) → forget (and_then m (λ u y. and_then (after_pair k y) (λ ps z. got (pair a.0 a.1 t ps) z))) ≡ forget (and_then m (λ u y. after_pair k y))
-forget_after_pair k a t (got u y) = forget_last_pair a.0 a.1 t (after_pair k y)
+forget_after_pair : (k : List ℕ → Read Members) (a : List ℕ × Bool) (t : Tree) (m : Read (Unit {0})) → forget (and_then m (λ u y. and_then (after_member k y) (λ ps z. got (member a.0 a.1 t ps) z))) ≡ forget (and_then m (λ u y. after_member k y))
+forget_after_pair k a t (got u y) = forget_last_pair a.0 a.1 t (after_member k y)
 forget_after_pair k a t (bad e p) = refl
 
-forget_pair : (k : List ℕ → Read Pairs) (a : List ℕ × Bool) (m : Read Tree)
-    → forget (and_then m (λ t r. and_then (skip between r) (λ u y. and_then (after_pair k y) (λ ps z. got (pair a.0 a.1 t ps) z)))) ≡ and_then (forget m) (λ u r. forget (and_then (skip between r) (λ u y. after_pair k y)))
+forget_pair : (k : List ℕ → Read Members) (a : List ℕ × Bool) (m : Read Tree)
+    → forget (and_then m (λ t r. and_then (skip between r) (λ u y. and_then (after_member k y) (λ ps z. got (member a.0 a.1 t ps) z)))) ≡ and_then (forget m) (λ u r. forget (and_then (skip between r) (λ u y. after_member k y)))
 forget_pair k a (got t r) = forget_after_pair k a t (skip between r)
 forget_pair k a (bad e p) = refl
 
@@ -77,21 +77,21 @@ value_after_colon val x = by_gap (skip between x)
     by_gap (bad e p) = refl
 
 object_value : (d : ℕ) (a : List ℕ × Bool) (m : Read (Unit {0}))
-    → forget (and_then (and_then m (λ u q. read d q)) (λ t r. and_then (skip between r) (λ u y. and_then (after_pair (all_entries d) y) (λ ps z. got (pair a.0 a.1 t ps) z))))
+    → forget (and_then (and_then m (λ u q. read d q)) (λ t r. and_then (skip between r) (λ u y. and_then (after_member (all_entries d) y) (λ ps z. got (member a.0 a.1 t ps) z))))
     ≡ and_then (and_then m (λ u y. got true y)) (turn of_object d)
 unfolding rest_of_bracket
 object_value d a (got u q) = forget_pair (all_entries d) a (read d q)
 object_value d a (bad e p) = refl
 
 object_key : (d : ℕ) (m : Read (List ℕ × Bool))
-    → forget (and_then m (λ a r. and_then (value_after (read d) r) (λ t y. and_then (skip between y) (λ u z. and_then (after_pair (all_entries d) z) (λ ps q. got (pair a.0 a.1 t ps) q)))))
+    → forget (and_then m (λ a r. and_then (value_after (read d) r) (λ t y. and_then (skip between y) (λ u z. and_then (after_member (all_entries d) z) (λ ps q. got (member a.0 a.1 t ps) q)))))
     ≡ and_then (and_then m (λ a r. and_then (colon_after r) (λ u y. got true y))) (turn of_object d)
 object_key d (got a r) =
-    ap (λ m. forget (and_then m (λ t y. and_then (skip between y) (λ u z. and_then (after_pair (all_entries d) z) (λ ps q. got (pair a.0 a.1 t ps) q))))) (value_after_colon (read d) r)
+    ap (λ m. forget (and_then m (λ t y. and_then (skip between y) (λ u z. and_then (after_member (all_entries d) z) (λ ps q. got (member a.0 a.1 t ps) q))))) (value_after_colon (read d) r)
     ∙ object_value d a (colon_after r)
 object_key d (bad e p) = refl
 
-object_member : (d n : ℕ) (c : ℕ) (r : List ℕ) → length (c ∷ r) ≤ n → forget (pair_at (read d) (read_members (read d) n) (c ∷ r)) ≡ and_then (pair_head (c ∷ r)) (turn of_object d)
+object_member : (d n : ℕ) (c : ℕ) (r : List ℕ) → length (c ∷ r) ≤ n → forget (member_at (read d) (read_members (read d) n) (c ∷ r)) ≡ and_then (member_head (c ∷ r)) (turn of_object d)
 object_member d n c r l =
     ap forget (pair_same d (read_members (read d) n) (all_entries d) c r (λ z s. same_entries d n (suc (length z)) z (omega arith) (omega arith)))
     ∙ object_key d (key (c ∷ r))
@@ -102,13 +102,13 @@ closes_or : {A : Type 0} (k : BracketKind) (d : ℕ) (b : Bool) (nothing : A) (r
 closes_or k d true nothing r m n e = refl
 closes_or k d false nothing r m n e = e
 
-array_head : (d n : ℕ) (y : List ℕ) → length y ≤ n → forget (close_or (member (read d) (read_elements (read d) n) y) y) ≡ and_then (member_head of_array y) (turn of_array d)
+array_head : (d n : ℕ) (y : List ℕ) → length y ≤ n → forget (close_or (element_at (read d) (read_elements (read d) n) y) y) ≡ and_then (entry_head of_array y) (turn of_array d)
 array_head d n [] l = array_member d n [] l
-array_head d n (c ∷ r) l = closes_or of_array d (c == 93) no_more r (member (read d) (read_elements (read d) n) (c ∷ r)) (got true (c ∷ r)) (array_member d n (c ∷ r) l)
+array_head d n (c ∷ r) l = closes_or of_array d (c == 93) no_more r (element_at (read d) (read_elements (read d) n) (c ∷ r)) (got true (c ∷ r)) (array_member d n (c ∷ r) l)
 
-object_head : (d n : ℕ) (y : List ℕ) → length y ≤ n → forget (key_or (pair_at (read d) (read_members (read d) n) y) y) ≡ and_then (member_head of_object y) (turn of_object d)
+object_head : (d n : ℕ) (y : List ℕ) → length y ≤ n → forget (key_or (member_at (read d) (read_members (read d) n) y) y) ≡ and_then (entry_head of_object y) (turn of_object d)
 object_head d n [] l = refl
-object_head d n (c ∷ r) l = closes_or of_object d (c == 125) no_pair r (pair_at (read d) (read_members (read d) n) (c ∷ r)) (pair_head (c ∷ r)) (object_member d n c r l)
+object_head d n (c ∷ r) l = closes_or of_object d (c == 125) no_member r (member_at (read d) (read_members (read d) n) (c ∷ r)) (member_head (c ∷ r)) (object_member d n c r l)
 
 after_gap : {A : Type 0} (k : BracketKind) (d : ℕ) (x : List ℕ) (f : List ℕ → Read A) (g : List ℕ → Read Bool) → ((y : List ℕ) → length y ≤ length x → forget (f y) ≡ and_then (g y) (turn k d))
     → forget (and_then (skip between x) (λ u y. f y)) ≡ and_then (and_then (skip between x) (λ u y. g y)) (turn k d)
@@ -118,16 +118,16 @@ after_gap k d x f g h = by_answer (skip between x) (gap_found x)
     by_answer (got u y) gap = h y (gap_no_longer x y u gap)
     by_answer (bad e p) gap = refl
 
-first_step : (k : BracketKind) (d : ℕ) (x : List ℕ) → rest_of_bracket k false d x ≡ and_then (member_at k x) (turn k d)
-unfolding rest_of_bracket member_at read_elements read_members
-first_step of_array d x = after_gap of_array d x (λ y. close_or (member (read d) (read_elements (read d) (length x)) y) y) (member_head of_array) (array_head d (length x))
-first_step of_object d x = after_gap of_object d x (λ y. key_or (pair_at (read d) (read_members (read d) (length x)) y) y) (member_head of_object) (object_head d (length x))
+first_step : (k : BracketKind) (d : ℕ) (x : List ℕ) → rest_of_bracket k false d x ≡ and_then (entry_at k x) (turn k d)
+unfolding rest_of_bracket entry_at read_elements read_members
+first_step of_array d x = after_gap of_array d x (λ y. close_or (element_at (read d) (read_elements (read d) (length x)) y) y) (entry_head of_array) (array_head d (length x))
+first_step of_object d x = after_gap of_object d x (λ y. key_or (member_at (read d) (read_members (read d) (length x)) y) y) (entry_head of_object) (object_head d (length x))
 
 -- ---- after an element or a pair
 
 comma_or : {A : Type 0} (k : BracketKind) (d : ℕ) (a b : Bool) (nothing : A) (c : ℕ) (r : List ℕ) (m : Read A) → forget m ≡ rest_of_bracket k false d r
     → forget (cond a m (cond b (got nothing r) (bad (Some ExpectedComma) (here (c ∷ r)))))
-    ≡ and_then (and_then (cond a (got true r) (cond b (got false r) (bad (Some ExpectedComma) (here (c ∷ r))))) (λ goes y. cond goes (member_at k y) (got false y))) (turn k d)
+    ≡ and_then (and_then (cond a (got true r) (cond b (got false r) (bad (Some ExpectedComma) (here (c ∷ r))))) (λ goes y. cond goes (entry_at k y) (got false y))) (turn k d)
 comma_or k d true b nothing c r m e = e ∙ first_step k d r
 comma_or k d false true nothing c r m e = refl
 comma_or k d false false nothing c r m e = refl
@@ -140,27 +140,27 @@ object_entries : (d : ℕ) (r : List ℕ) → forget (all_entries d r) ≡ rest_
 unfolding rest_of_bracket
 object_entries d r = refl
 
-array_comma : (d : ℕ) (y : List ℕ) → forget (after_member (all_items d) y) ≡ and_then (and_then (comma_at of_array y) (λ goes y. cond goes (member_at of_array y) (got false y))) (turn of_array d)
+array_comma : (d : ℕ) (y : List ℕ) → forget (after_element (all_items d) y) ≡ and_then (and_then (comma_at of_array y) (λ goes y. cond goes (entry_at of_array y) (got false y))) (turn of_array d)
 array_comma d [] = refl
 array_comma d (c ∷ r) = comma_or of_array d (c == 44) (c == 93) no_more c r (all_items d r) (array_items d r)
 
-object_comma : (d : ℕ) (y : List ℕ) → forget (after_pair (all_entries d) y) ≡ and_then (and_then (comma_at of_object y) (λ goes y. cond goes (member_at of_object y) (got false y))) (turn of_object d)
+object_comma : (d : ℕ) (y : List ℕ) → forget (after_member (all_entries d) y) ≡ and_then (and_then (comma_at of_object y) (λ goes y. cond goes (entry_at of_object y) (got false y))) (turn of_object d)
 object_comma d [] = refl
-object_comma d (c ∷ r) = comma_or of_object d (c == 44) (c == 125) no_pair c r (all_entries d r) (object_entries d r)
+object_comma d (c ∷ r) = comma_or of_object d (c == 44) (c == 125) no_member c r (all_entries d r) (object_entries d r)
 
 grouped : (k : BracketKind) (d : ℕ) (m : Read (Unit {0}))
-    → and_then (and_then m (λ u y. and_then (comma_at k y) (λ goes y. cond goes (member_at k y) (got false y)))) (turn k d)
-    ≡ and_then (and_then (and_then m (λ u y. comma_at k y)) (λ goes y. cond goes (member_at k y) (got false y))) (turn k d)
+    → and_then (and_then m (λ u y. and_then (comma_at k y) (λ goes y. cond goes (entry_at k y) (got false y)))) (turn k d)
+    ≡ and_then (and_then (and_then m (λ u y. comma_at k y)) (λ goes y. cond goes (entry_at k y) (got false y))) (turn k d)
 grouped k d (got u y) = refl
 grouped k d (bad e p) = refl
 
 later_step : (k : BracketKind) (d : ℕ) (x : List ℕ) → rest_of_bracket k true d x ≡ and_then (next_value k true x) (turn k d)
 unfolding rest_of_bracket separator
 later_step of_array d x =
-    after_gap of_array d x (after_member (all_items d)) (λ y. and_then (comma_at of_array y) (λ goes y. cond goes (member_at of_array y) (got false y))) (λ y l. array_comma d y)
+    after_gap of_array d x (after_element (all_items d)) (λ y. and_then (comma_at of_array y) (λ goes y. cond goes (entry_at of_array y) (got false y))) (λ y l. array_comma d y)
     ∙ grouped of_array d (skip between x)
 later_step of_object d x =
-    after_gap of_object d x (after_pair (all_entries d)) (λ y. and_then (comma_at of_object y) (λ goes y. cond goes (member_at of_object y) (got false y))) (λ y l. object_comma d y)
+    after_gap of_object d x (after_member (all_entries d)) (λ y. and_then (comma_at of_object y) (λ goes y. cond goes (entry_at of_object y) (got false y))) (λ y l. object_comma d y)
     ∙ grouped of_object d (skip between x)
 
 -- what is left of a bracket is a value and then the rest, or the closing sign
@@ -175,7 +175,7 @@ forget_array q (got ts y) = refl
 forget_array q (bad e (here p)) = refl
 forget_array q (bad e inner) = refl
 
-forget_object : (q : List ℕ) (m : Read Pairs) → forget (placed q (and_then m (λ ps y. got (object ps) y))) ≡ placed q (forget m)
+forget_object : (q : List ℕ) (m : Read Members) → forget (placed q (and_then m (λ ps y. got (object ps) y))) ≡ placed q (forget m)
 forget_object q (got ps y) = refl
 forget_object q (bad e (here p)) = refl
 forget_object q (bad e inner) = refl

@@ -4,12 +4,12 @@ use Rattle.json5_grammar.specs.Faults.Codes.{EofParsingBool, EofParsingNull, Exp
 use Rattle.json5_grammar.specs.Language.Blanks.{Blanks}
 use Rattle.json5_grammar.specs.Language.Numbers.{Num, Number}
 use Rattle.json5_grammar.specs.Language.Strings.{Str, quoted}
-use Rattle.json5_grammar.specs.Language.Trees.{Tree, Trees, Pairs, null, boolean, number, text, array, object, no_more, more, no_pair, pair, depth, depths, pair_depths}
-use Rattle.json5_grammar.specs.Language.Values.{no_last_comma, last_comma, KeyText, Val, is_null, is_true, is_false, is_number, is_text, is_empty_array, is_array, is_empty_object, is_object, ElementList, last, next, MemberList, last_pair, next_pair, Member, entry, null_text, true_text, false_text, Stops}
+use Rattle.json5_grammar.specs.Language.Trees.{Tree, Trees, Members, null, boolean, number, text, array, object, no_more, more, no_member, member, depth, depths, member_depths}
+use Rattle.json5_grammar.specs.Language.Values.{no_last_comma, last_comma, KeyText, Val, is_null, is_true, is_false, is_number, is_text, is_empty_array, is_array, is_empty_object, is_object, ElementList, last, next, MemberList, last_member, next_member, Member, entry, null_text, true_text, false_text, Stops}
 use Rattle.json5_grammar.specs.Model.Reading.{Read, got, and_then, placed}
 use Rattle.json5_grammar.specs.Model.ReadBlanks.{skip, between}
 use Rattle.json5_grammar.specs.Model.ReadNumbers as numbers
-use Rattle.json5_grammar.specs.Model.ReadValues.{read_elements, read_members, close_or, after_member, after_pair, key_or, value_after, as_leaf, value_with, read}
+use Rattle.json5_grammar.specs.Model.ReadValues.{read_elements, read_members, close_or, after_element, after_member, key_or, value_after, as_leaf, value_with, read}
 use Rattle.json5_grammar.proofs.BlanksRead.{skip_blanks, skip_solid, printable_no_blank}
 use Rattle.json5_grammar.proofs.Classes.{EndsValues, comma_ends_values, bracket_ends_values, brace_ends_values, begins_others, colon_no_name}
 use Rattle.json5_grammar.proofs.WordsRead.{word_complete}
@@ -54,7 +54,7 @@ read_bracket d m r ts h =
     ap (λ z. read (suc d) (91 ∷ z)) (append_assoc m (93 ∷ []) r) ∙ read_step (suc d) (91 ∷ (m ++ 93 ∷ r))
     ∙ ap (λ z. placed (91 ∷ m ++ 93 ∷ r) (and_then z (λ ts y. got (array ts) y))) (h (suc (length (m ++ 93 ∷ r))) (omega arith))
 
-read_brace : (d : ℕ) (m r : List ℕ) (ps : Pairs) → ((n : ℕ) → length (m ++ 125 ∷ r) < n → read_members (read d) n (m ++ 125 ∷ r) ≡ got ps r)
+read_brace : (d : ℕ) (m r : List ℕ) (ps : Members) → ((n : ℕ) → length (m ++ 125 ∷ r) < n → read_members (read d) n (m ++ 125 ∷ r) ≡ got ps r)
     → read (suc d) ((123 ∷ m ++ 125 ∷ []) ++ r) ≡ got (object ps) r
 read_brace d m r ps h =
     ap (λ z. read (suc d) (123 ∷ z)) (append_assoc m (125 ∷ []) r) ∙ read_step (suc d) (123 ∷ (m ++ 125 ∷ r))
@@ -79,7 +79,7 @@ items_close val zero r l b = absurd (omega arith)
 items_close val (suc n) r l b = rw (skip_blanks (93 ∷ r) b, skip_bracket r) refl
 
 -- blanks and the closing brace are read
-pub entries_close : {w : List ℕ} (val : List ℕ → Read Tree) (n : ℕ) (r : List ℕ) → length (w ++ 125 ∷ r) < n → Blanks w → read_members val n (w ++ 125 ∷ r) ≡ got no_pair r
+pub entries_close : {w : List ℕ} (val : List ℕ → Read Tree) (n : ℕ) (r : List ℕ) → length (w ++ 125 ∷ r) < n → Blanks w → read_members val n (w ++ 125 ∷ r) ≡ got no_member r
 unfolding read_members
 entries_close val zero r l b = absurd (omega arith)
 entries_close val (suc n) r l b = rw (skip_blanks (125 ∷ r) b, skip_brace r) refl
@@ -91,7 +91,7 @@ close_head m r h = rw h.is (rw (begins_others h.char h.begins).3 refl)
 
 -- what is read after an element
 abbrev pub after_member_blanks : (List ℕ → Read Trees) → Tree → List ℕ → Read Trees
-after_member_blanks k t y = and_then (skip between y) (λ u z. and_then (after_member k z) (λ ts x. got (more t ts) x))
+after_member_blanks k t y = and_then (skip between y) (λ u z. and_then (after_element k z) (λ ts x. got (more t ts) x))
 
 -- one element, and what follows it
 pub items_member : {w s v : List ℕ} {t : Tree} (d k : ℕ) (y : List ℕ) → Blanks w → ValueHead s → Blanks v → read d (s ++ (v ++ y)) ≡ got t (v ++ y)
@@ -116,12 +116,12 @@ shorter w s v m r k h = let e = ap length (regroup w s v (44 ∷ m) r) in
 
 -- ---- pairs
 
-key_or_head : {k : List ℕ} (m : Read Pairs) (r : List ℕ) → KeyHead k → key_or m (k ++ r) ≡ m
+key_or_head : {k : List ℕ} (m : Read Members) (r : List ℕ) → KeyHead k → key_or m (k ++ r) ≡ m
 key_or_head m r h = rw h.is (rw (key_begins h.char h.begins).2 refl)
 
 -- what is read after a pair
-abbrev pub after_pair_blanks : (List ℕ → Read Pairs) → List ℕ → Bool → Tree → List ℕ → Read Pairs
-after_pair_blanks k u escape_free t y = and_then (skip between y) (λ w z. and_then (after_pair k z) (λ ps q. got (pair u escape_free t ps) q))
+abbrev pub after_pair_blanks : (List ℕ → Read Members) → List ℕ → Bool → Tree → List ℕ → Read Members
+after_pair_blanks k u escape_free t y = and_then (skip between y) (λ w z. and_then (after_member k z) (λ ps q. got (member u escape_free t ps) q))
 
 -- blanks, the colon, blanks and the value
 pub colon_and_value : {b w s : List ℕ} {t : Tree} (val : List ℕ → Read Tree) (y : List ℕ) → Blanks b → Blanks w → ValueHead s → val (s ++ y) ≡ got t y → value_after val (b ++ 58 ∷ (w ++ (s ++ y))) ≡ got t y
@@ -137,10 +137,10 @@ entries_pair {k = k} {b = b} {w = w} {s = s} {v = v} d n y ba kt bb bw h bv e =
     rw (skip_blanks (k ++ z) ba, skip_key z head)
     (key_or_head _ z head ∙ rw (key_complete (key_before_blanks 58 (w ++ (s ++ (v ++ y))) bb kt colon_no_name), colon_and_value (read d) (v ++ y) bb bw h e, skip_blanks y bv) refl)
 
-after_pair_comma : (u : List ℕ) (escape_free : Bool) (t : Tree) (ps : Pairs) (d k : ℕ) (x r : List ℕ) → read_members (read d) k x ≡ got ps r → after_pair_blanks (read_members (read d) k) u escape_free t (44 ∷ x) ≡ got (pair u escape_free t ps) r
-after_pair_comma u escape_free t ps d k x r e = rw (skip_comma x) (ap (λ q. and_then q (λ ps x. got (pair u escape_free t ps) x)) e)
+after_pair_comma : (u : List ℕ) (escape_free : Bool) (t : Tree) (ps : Members) (d k : ℕ) (x r : List ℕ) → read_members (read d) k x ≡ got ps r → after_pair_blanks (read_members (read d) k) u escape_free t (44 ∷ x) ≡ got (member u escape_free t ps) r
+after_pair_comma u escape_free t ps d k x r e = rw (skip_comma x) (ap (λ q. and_then q (λ ps x. got (member u escape_free t ps) x)) e)
 
-at_brace : (u : List ℕ) (escape_free : Bool) (t : Tree) (d k : ℕ) (r : List ℕ) → after_pair_blanks (read_members (read d) k) u escape_free t (125 ∷ r) ≡ got (pair u escape_free t no_pair) r
+at_brace : (u : List ℕ) (escape_free : Bool) (t : Tree) (d k : ℕ) (r : List ℕ) → after_pair_blanks (read_members (read d) k) u escape_free t (125 ∷ r) ≡ got (member u escape_free t no_member) r
 at_brace u escape_free t d k r = rw (skip_brace r) refl
 
 pub regroup_pair : (a k b w s v y : List ℕ) → (a ++ (k ++ (b ++ 58 ∷ (w ++ (s ++ v))))) ++ y ≡ a ++ (k ++ (b ++ 58 ∷ (w ++ (s ++ (v ++ y)))))
@@ -164,7 +164,7 @@ mutual
   read_complete (is_array ms) r st zero l = absurd (omega arith)
   read_complete (is_array {m = m} {ts = ts} ms) r st (suc d) l = read_bracket d m r ts (λ n h. members_complete ms r d (omega arith) n h)
   read_complete (is_empty_object b) r st zero l = absurd (omega arith)
-  read_complete (is_empty_object {w = w} b) r st (suc d) l = read_brace d w r no_pair (λ n h. entries_close (read d) n r h b)
+  read_complete (is_empty_object {w = w} b) r st (suc d) l = read_brace d w r no_member (λ n h. entries_close (read d) n r h b)
   read_complete (is_object ps) r st zero l = absurd (omega arith)
   read_complete (is_object {m = m} {ps = qs} ps) r st (suc d) l = read_brace d m r qs (λ n h. entries_complete ps r d (omega arith) n h)
 
@@ -186,18 +186,18 @@ mutual
       ∙ after_comma t ts d k (m ++ 93 ∷ r) r (members_complete ms r d (omega arith) k (shorter w s v m (93 ∷ r) k h))
 
   -- pairs and the closing brace are read
-  pub entries_complete : {m : List ℕ} {ps : Pairs} → MemberList m ps → (r : List ℕ) → (d : ℕ) → pair_depths ps ≤ d → (n : ℕ) → length (m ++ 125 ∷ r) < n → read_members (read d) n (m ++ 125 ∷ r) ≡ got ps r
-  entries_complete (last_pair e lc) r d l zero h = absurd (omega arith)
-  entries_complete (last_pair {p = p} {u = u} {escape_free = escape_free} {t = t} e no_last_comma) r d l (suc k) h =
+  pub entries_complete : {m : List ℕ} {ps : Members} → MemberList m ps → (r : List ℕ) → (d : ℕ) → member_depths ps ≤ d → (n : ℕ) → length (m ++ 125 ∷ r) < n → read_members (read d) n (m ++ 125 ∷ r) ≡ got ps r
+  entries_complete (last_member e lc) r d l zero h = absurd (omega arith)
+  entries_complete (last_member {p = p} {u = u} {escape_free = escape_free} {t = t} e no_last_comma) r d l (suc k) h =
       ap (read_members (read d) (suc k)) (append_assoc p [] (125 ∷ r))
       ∙ entry_complete e 125 r brace_ends_values d (omega arith) k
       ∙ at_brace u escape_free t d k r
-  entries_complete (last_pair {p = p} {u = u} {escape_free = escape_free} {t = t} e (last_comma {w = w} bw)) r d l (suc k) h =
+  entries_complete (last_member {p = p} {u = u} {escape_free = escape_free} {t = t} e (last_comma {w = w} bw)) r d l (suc k) h =
       ap (read_members (read d) (suc k)) (append_assoc p (44 ∷ w) (125 ∷ r))
       ∙ entry_complete e 44 (w ++ 125 ∷ r) comma_ends_values d (omega arith) k
-      ∙ after_pair_comma u escape_free t no_pair d k (w ++ 125 ∷ r) r (entries_close (read d) k r (shorter_pair p w (125 ∷ r) k h) bw)
-  entries_complete (next_pair e ps) r d l zero h = absurd (omega arith)
-  entries_complete (next_pair {p = p} {m = m} {u = u} {escape_free = escape_free} {t = t} {ps = qs} e ps) r d l (suc k) h =
+      ∙ after_pair_comma u escape_free t no_member d k (w ++ 125 ∷ r) r (entries_close (read d) k r (shorter_pair p w (125 ∷ r) k h) bw)
+  entries_complete (next_member e ps) r d l zero h = absurd (omega arith)
+  entries_complete (next_member {p = p} {m = m} {u = u} {escape_free = escape_free} {t = t} {ps = qs} e ps) r d l (suc k) h =
       ap (read_members (read d) (suc k)) (append_assoc p (44 ∷ m) (125 ∷ r))
       ∙ entry_complete e 44 (m ++ 125 ∷ r) comma_ends_values d (omega arith) k
       ∙ after_pair_comma u escape_free t qs d k (m ++ 125 ∷ r) r (entries_complete ps r d (omega arith) k (shorter_pair p m (125 ∷ r) k h))

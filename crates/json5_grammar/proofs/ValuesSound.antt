@@ -9,14 +9,14 @@ use Rattle.json5_grammar.specs.Faults.Tokens.{is_sign, begins_number, null_word,
 use Rattle.json5_grammar.specs.Language.Numbers.{Number}
 use Rattle.json5_grammar.specs.Language.Strings.{Str, quoted, is_quote}
 use Rattle.json5_grammar.specs.Language.Names.{Key}
-use Rattle.json5_grammar.specs.Language.Trees.{Tree, Trees, Pairs, null, boolean, text, array, object, no_more, more, no_pair, pair, depth, depths, pair_depths}
+use Rattle.json5_grammar.specs.Language.Trees.{Tree, Trees, Members, null, boolean, text, array, object, no_more, more, no_member, member, depth, depths, member_depths}
 use Rattle.json5_grammar.specs.Language.Values.{Val, is_null, is_true, is_false, is_number, is_text, null_text, true_text, false_text, Stops, Reads}
-use Rattle.json5_grammar.specs.Model.Collections.{IsSign, ReadsKey, IsKeyValue, Tail, PairsTail}
+use Rattle.json5_grammar.specs.Model.Collections.{IsSign, ReadsKey, IsKeyValue, Tail, MembersTail}
 use Rattle.json5_grammar.specs.Model.Reading.{Place, here, inner, Read, got, bad, and_then, placed}
 use Rattle.json5_grammar.specs.Model.ReadBlanks.{skip, between}
 use Rattle.json5_grammar.specs.Model.ReadNumbers as numbers
 use Rattle.json5_grammar.specs.Model.ReadTexts.{key, string, identifier}
-use Rattle.json5_grammar.specs.Model.ReadValues.{read_elements, read_members, after_member, close_or, member, after_pair, colon_at, value_after, pair_at, key_or, as_leaf, value_with, too_deep, read}
+use Rattle.json5_grammar.specs.Model.ReadValues.{read_elements, read_members, after_element, close_or, element_at, after_member, colon_at, value_after, member_at, key_or, as_leaf, value_with, too_deep, read}
 use Rattle.json5_grammar.proofs.Basics.{by_test, eq_from}
 use Rattle.json5_grammar.proofs.BlanksRead.{begins_solid}
 use Rattle.json5_grammar.proofs.BlanksSound.{BlanksSound, skip_sound, Blanks-append}
@@ -43,11 +43,11 @@ abbrev pub IsPhrase : ℕ → List ℕ → Tree → List ℕ → Type 0
 IsPhrase d x t r = Reads x t r × (depth t ≤ d)
 
 -- elements and the closing bracket, after a comma where one is due
-abbrev pub AreMembers : ℕ → Bool → List ℕ → Trees → List ℕ → Type 0
-AreMembers d comma_due x ts r = Tail ts comma_due x r × (depths ts ≤ d)
+abbrev pub AreElements : ℕ → Bool → List ℕ → Trees → List ℕ → Type 0
+AreElements d comma_due x ts r = Tail ts comma_due x r × (depths ts ≤ d)
 
-abbrev pub ArePairs : ℕ → Bool → List ℕ → Pairs → List ℕ → Type 0
-ArePairs d comma_due x ps r = PairsTail ps comma_due x r × (pair_depths ps ≤ d)
+abbrev pub AreMembers : ℕ → Bool → List ℕ → Members → List ℕ → Type 0
+AreMembers d comma_due x ps r = MembersTail ps comma_due x r × (member_depths ps ≤ d)
 
 abbrev pub IsKeyAt : List ℕ → List ℕ × Bool → List ℕ → Type 0
 IsKeyAt x a r = (k : List ℕ) × (x ≡ k ++ r) × Key k r a.0 a.1
@@ -169,12 +169,12 @@ key_gap w x y u r escape_free e g k = rw e (by_gap g k)
     }
     by_gap (at_end l) k = let h = key_head k.key in absurd (no_text k.front h.char h.more r (k.split ∙ ap (λ z. k.front ++ (z ++ r)) h.is))
 
-pub pairs_gap : (ps : Pairs) (comma_due : Bool) (w x y r : List ℕ) → x ≡ w ++ y → Gap w y → PairsTail ps comma_due y r → PairsTail ps comma_due x r
-pairs_gap no_pair false w x y r e g s = sign_gap 125 w x y r e g s
-pairs_gap no_pair true w x y r e g (inl s) = inl (sign_gap 125 w x y r e g s)
-pairs_gap no_pair true w x y r e g (inr (z, c, s)) = inr (z, sign_gap 44 w x y z e g c, s)
-pairs_gap (pair u escape_free t ps) false w x y r e g (k, z, a, v, tl) = (k, z, key_gap w x y u k escape_free e g a, v, tl)
-pairs_gap (pair u escape_free t ps) true w x y r e g (k, z, (q, c, a), v, tl) = (k, z, (q, sign_gap 44 w x y q e g c, a), v, tl)
+pub pairs_gap : (ps : Members) (comma_due : Bool) (w x y r : List ℕ) → x ≡ w ++ y → Gap w y → MembersTail ps comma_due y r → MembersTail ps comma_due x r
+pairs_gap no_member false w x y r e g s = sign_gap 125 w x y r e g s
+pairs_gap no_member true w x y r e g (inl s) = inl (sign_gap 125 w x y r e g s)
+pairs_gap no_member true w x y r e g (inr (z, c, s)) = inr (z, sign_gap 44 w x y z e g c, s)
+pairs_gap (member u escape_free t ps) false w x y r e g (k, z, a, v, tl) = (k, z, key_gap w x y u k escape_free e g a, v, tl)
+pairs_gap (member u escape_free t ps) true w x y r e g (k, z, (q, c, a), v, tl) = (k, z, (q, sign_gap 44 w x y q e g c, a), v, tl)
 
 -- ---- steps between elements
 
@@ -193,21 +193,21 @@ value_reads d x r t (s, k, v, st, l) = record { front = []; phrase = s; split = 
 pub phrase_of : (d : ℕ) (x w y r : List ℕ) (t : Tree) → x ≡ w ++ y → Gap w y → IsValue d y t r → IsPhrase d x t r
 phrase_of d x w y r t e g v = (reads_gap w x y r t e g (value_reads d y r t v), v.4)
 
-pub after_found : (d : ℕ) (k : List ℕ → Read Trees) → ((y : List ℕ) → Found (AreMembers d false y) y (k y)) → (y : List ℕ) → Found (AreMembers d true y) y (after_member k y)
+pub after_found : (d : ℕ) (k : List ℕ → Read Trees) → ((y : List ℕ) → Found (AreElements d false y) y (k y)) → (y : List ℕ) → Found (AreElements d true y) y (after_element k y)
 after_found d k h [] = tt
 after_found d k h (c ∷ r) =
-    by_test (Found (AreMembers d true (c ∷ r)) (c ∷ r)) (c == 44) _ _
-    (λ a. found_after (AreMembers d false r) (AreMembers d true (c ∷ r)) (c ∷ []) (c ∷ r) r (k r) refl (h r) (λ ts z m. (tail_comma ts (c ∷ r) r z (sign_first c 44 r a) m.0, m.1)))
-    (λ a. by_test (Found (AreMembers d true (c ∷ r)) (c ∷ r)) (c == 93) (got no_more r) _
+    by_test (Found (AreElements d true (c ∷ r)) (c ∷ r)) (c == 44) _ _
+    (λ a. found_after (AreElements d false r) (AreElements d true (c ∷ r)) (c ∷ []) (c ∷ r) r (k r) refl (h r) (λ ts z m. (tail_comma ts (c ∷ r) r z (sign_first c 44 r a) m.0, m.1)))
+    (λ a. by_test (Found (AreElements d true (c ∷ r)) (c ∷ r)) (c == 93) (got no_more r) _
     (λ b. (inl (sign_first c 93 r b), omega arith))
     (λ b. in_whole (c ∷ r)))
 
-pub after_pair_found : (d : ℕ) (k : List ℕ → Read Pairs) → ((y : List ℕ) → Found (ArePairs d false y) y (k y)) → (y : List ℕ) → Found (ArePairs d true y) y (after_pair k y)
-after_pair_found d k h [] = tt
-after_pair_found d k h (c ∷ r) =
-    by_test (Found (ArePairs d true (c ∷ r)) (c ∷ r)) (c == 44) _ _
-    (λ a. found_after (ArePairs d false r) (ArePairs d true (c ∷ r)) (c ∷ []) (c ∷ r) r (k r) refl (h r) (λ ps z m. (pairs_comma ps (c ∷ r) r z (sign_first c 44 r a) m.0, m.1)))
-    (λ a. by_test (Found (ArePairs d true (c ∷ r)) (c ∷ r)) (c == 125) (got no_pair r) _
+pub after_member_found : (d : ℕ) (k : List ℕ → Read Members) → ((y : List ℕ) → Found (AreMembers d false y) y (k y)) → (y : List ℕ) → Found (AreMembers d true y) y (after_member k y)
+after_member_found d k h [] = tt
+after_member_found d k h (c ∷ r) =
+    by_test (Found (AreMembers d true (c ∷ r)) (c ∷ r)) (c == 44) _ _
+    (λ a. found_after (AreMembers d false r) (AreMembers d true (c ∷ r)) (c ∷ []) (c ∷ r) r (k r) refl (h r) (λ ps z m. (pairs_comma ps (c ∷ r) r z (sign_first c 44 r a) m.0, m.1)))
+    (λ a. by_test (Found (AreMembers d true (c ∷ r)) (c ∷ r)) (c == 125) (got no_member r) _
     (λ b. (inl (sign_first c 125 r b), omega arith))
     (λ b. in_whole (c ∷ r)))
 
@@ -219,15 +219,15 @@ before_sign : (c : ℕ) (x r : List ℕ) (s : IsSign c x r) → x ≡ (s.front +
 before_sign c x r s = s.split ∙ sym (append_assoc s.front (c ∷ []) r)
 
 -- the tree t and others, which r goes on with
-abbrev MoreMembers : ℕ → Tree → List ℕ → Trees → List ℕ → Type 0
-MoreMembers d t r us z = (ts : Trees) × (us ≡ more t ts) × Tail ts true r z × (depths ts ≤ d)
+abbrev MoreElements : ℕ → Tree → List ℕ → Trees → List ℕ → Type 0
+MoreElements d t r us z = (ts : Trees) × (us ≡ more t ts) × Tail ts true r z × (depths ts ≤ d)
 
-abbrev MorePairs : ℕ → List ℕ × Bool → Tree → List ℕ → Pairs → List ℕ → Type 0
-MorePairs d a t r qs z = (ps : Pairs) × (qs ≡ pair a.0 a.1 t ps) × PairsTail ps true r z × (pair_depths ps ≤ d)
+abbrev MoreMembers : ℕ → List ℕ × Bool → Tree → List ℕ → Members → List ℕ → Type 0
+MoreMembers d a t r qs z = (ps : Members) × (qs ≡ member a.0 a.1 t ps) × MembersTail ps true r z × (member_depths ps ≤ d)
 
 -- a value after the key, and other pairs
-abbrev AfterKey : ℕ → List ℕ × Bool → List ℕ → Pairs → List ℕ → Type 0
-AfterKey d a y qs z = (t : Tree) × (r : List ℕ) × IsValueAfter d y t r × MorePairs d a t r qs z
+abbrev AfterKey : ℕ → List ℕ × Bool → List ℕ → Members → List ℕ → Type 0
+AfterKey d a y qs z = (t : Tree) × (r : List ℕ) × IsValueAfter d y t r × MoreMembers d a t r qs z
 
 pub before_rest : (x r : List ℕ) (t : Tree) → IsKeyValue x t r → (w : List ℕ) × (x ≡ w ++ r)
 before_rest x r t (z, s, p) = (
@@ -236,33 +236,33 @@ before_rest x r t (z, s, p) = (
 )
 
 module _ (d : ℕ) (val : List ℕ → Read Tree) (val_found : (x : List ℕ) → Found (IsValue d x) x (val x)) where
-  module _ (k : List ℕ → Read Trees) (k_found : (y : List ℕ) → Found (AreMembers d false y) y (k y)) where
-    comma_found : (t : Tree) (y : List ℕ) → Found (MoreMembers d t y) y (and_then (after_member k y) (λ ts z. got (more t ts) z))
-    comma_found t y = found_then (AreMembers d true y) (MoreMembers d t y) y (after_member k y) _ (after_found d k k_found y) (λ ts z m. (ts, refl, m.0, m.1))
+  module _ (k : List ℕ → Read Trees) (k_found : (y : List ℕ) → Found (AreElements d false y) y (k y)) where
+    comma_found : (t : Tree) (y : List ℕ) → Found (MoreElements d t y) y (and_then (after_element k y) (λ ts z. got (more t ts) z))
+    comma_found t y = found_then (AreElements d true y) (MoreElements d t y) y (after_element k y) _ (after_found d k k_found y) (λ ts z m. (ts, refl, m.0, m.1))
 
-    others_found : (t : Tree) (r : List ℕ) → Found (MoreMembers d t r) r (and_then (skip between r) (λ u y. and_then (after_member k y) (λ ts z. got (more t ts) z)))
-    others_found t r = found_then (IsGap r) (MoreMembers d t r) r (skip between r) _ (gap_found r)
-        (λ u y g. found_after (MoreMembers d t y) (MoreMembers d t r) g.0 r y _ g.1 (comma_found t y) (λ us z m. (m.0, m.1, tail_gap m.0 true g.0 r y z g.1 g.2 m.2, m.3)))
+    others_found : (t : Tree) (r : List ℕ) → Found (MoreElements d t r) r (and_then (skip between r) (λ u y. and_then (after_element k y) (λ ts z. got (more t ts) z)))
+    others_found t r = found_then (IsGap r) (MoreElements d t r) r (skip between r) _ (gap_found r)
+        (λ u y g. found_after (MoreElements d t y) (MoreElements d t r) g.0 r y _ g.1 (comma_found t y) (λ us z m. (m.0, m.1, tail_gap m.0 true g.0 r y z g.1 g.2 m.2, m.3)))
 
-    with_first : (x r z : List ℕ) (t : Tree) (us : Trees) → IsValue d x t r → MoreMembers d t r us z → AreMembers d false x us z
-    with_first x r z t us v (ts, e, tl, l) = subst (λ q. AreMembers d false x q z) (sym e) ((r, value_reads d x r t v, tl), omega (arith, l, v.4))
+    with_first : (x r z : List ℕ) (t : Tree) (us : Trees) → IsValue d x t r → MoreElements d t r us z → AreElements d false x us z
+    with_first x r z t us v (ts, e, tl, l) = subst (λ q. AreElements d false x q z) (sym e) ((r, value_reads d x r t v, tl), omega (arith, l, v.4))
 
-    member_found : (x : List ℕ) → Found (AreMembers d false x) x (member val k x)
-    member_found x = found_then (IsValue d x) (AreMembers d false x) x (val x) _ (val_found x)
-        (λ t r v. found_after (MoreMembers d t r) (AreMembers d false x) v.0 x r _ v.1 (others_found t r) (λ us z m. with_first x r z t us v m))
+    member_found : (x : List ℕ) → Found (AreElements d false x) x (element_at val k x)
+    member_found x = found_then (IsValue d x) (AreElements d false x) x (val x) _ (val_found x)
+        (λ t r v. found_after (MoreElements d t r) (AreElements d false x) v.0 x r _ v.1 (others_found t r) (λ us z m. with_first x r z t us v m))
 
-    close_found : (x : List ℕ) → Found (AreMembers d false x) x (close_or (member val k x) x)
+    close_found : (x : List ℕ) → Found (AreElements d false x) x (close_or (element_at val k x) x)
     close_found [] = member_found []
     close_found (c ∷ r) =
-        by_test (Found (AreMembers d false (c ∷ r)) (c ∷ r)) (c == 93) (got no_more r) _
+        by_test (Found (AreElements d false (c ∷ r)) (c ∷ r)) (c == 93) (got no_more r) _
         (λ a. (sign_first c 93 r a, omega arith))
         (λ a. member_found (c ∷ r))
 
-  pub items_found : (n : ℕ) (x : List ℕ) → Found (AreMembers d false x) x (read_elements val n x)
+  pub items_found : (n : ℕ) (x : List ℕ) → Found (AreElements d false x) x (read_elements val n x)
   unfolding read_elements
   items_found zero x = tt
-  items_found (suc n) x = found_then (IsGap x) (AreMembers d false x) x (skip between x) _ (gap_found x)
-      (λ u y g. found_after (AreMembers d false y) (AreMembers d false x) g.0 x y _ g.1 (close_found (read_elements val n) (items_found n) y) (λ ts z m. (tail_gap ts false g.0 x y z g.1 g.2 m.0, m.1)))
+  items_found (suc n) x = found_then (IsGap x) (AreElements d false x) x (skip between x) _ (gap_found x)
+      (λ u y g. found_after (AreElements d false y) (AreElements d false x) g.0 x y _ g.1 (close_found (read_elements val n) (items_found n) y) (λ ts z m. (tail_gap ts false g.0 x y z g.1 g.2 m.0, m.1)))
 
   -- ---- pairs
 
@@ -278,39 +278,39 @@ module _ (d : ℕ) (val : List ℕ → Read Tree) (val_found : (x : List ℕ) �
   value_found x = found_then (IsGap x) (IsValueAfter d x) x (skip between x) _ (gap_found x)
       (λ u y g. found_after (IsValueAfter d y) (IsValueAfter d x) g.0 x y _ g.1 (colon_value y) (λ t r v. ((v.0.0, sign_gap 58 g.0 x y v.0.0 g.1 g.2 v.0.1, v.0.2), v.1)))
 
-  module _ (k : List ℕ → Read Pairs) (k_found : (y : List ℕ) → Found (ArePairs d false y) y (k y)) where
-    pair_comma_found : (a : List ℕ × Bool) (t : Tree) (y : List ℕ) → Found (MorePairs d a t y) y (and_then (after_pair k y) (λ ps z. got (pair a.0 a.1 t ps) z))
-    pair_comma_found a t y = found_then (ArePairs d true y) (MorePairs d a t y) y (after_pair k y) _ (after_pair_found d k k_found y) (λ ps z m. (ps, refl, m.0, m.1))
+  module _ (k : List ℕ → Read Members) (k_found : (y : List ℕ) → Found (AreMembers d false y) y (k y)) where
+    pair_comma_found : (a : List ℕ × Bool) (t : Tree) (y : List ℕ) → Found (MoreMembers d a t y) y (and_then (after_member k y) (λ ps z. got (member a.0 a.1 t ps) z))
+    pair_comma_found a t y = found_then (AreMembers d true y) (MoreMembers d a t y) y (after_member k y) _ (after_member_found d k k_found y) (λ ps z m. (ps, refl, m.0, m.1))
 
-    other_pairs_found : (a : List ℕ × Bool) (t : Tree) (r : List ℕ) → Found (MorePairs d a t r) r (and_then (skip between r) (λ u y. and_then (after_pair k y) (λ ps z. got (pair a.0 a.1 t ps) z)))
-    other_pairs_found a t r = found_then (IsGap r) (MorePairs d a t r) r (skip between r) _ (gap_found r)
-        (λ u y g. found_after (MorePairs d a t y) (MorePairs d a t r) g.0 r y _ g.1 (pair_comma_found a t y) (λ qs z m. (m.0, m.1, pairs_gap m.0 true g.0 r y z g.1 g.2 m.2, m.3)))
+    other_pairs_found : (a : List ℕ × Bool) (t : Tree) (r : List ℕ) → Found (MoreMembers d a t r) r (and_then (skip between r) (λ u y. and_then (after_member k y) (λ ps z. got (member a.0 a.1 t ps) z)))
+    other_pairs_found a t r = found_then (IsGap r) (MoreMembers d a t r) r (skip between r) _ (gap_found r)
+        (λ u y g. found_after (MoreMembers d a t y) (MoreMembers d a t r) g.0 r y _ g.1 (pair_comma_found a t y) (λ qs z m. (m.0, m.1, pairs_gap m.0 true g.0 r y z g.1 g.2 m.2, m.3)))
 
-    with_value : (a : List ℕ × Bool) (x y r z : List ℕ) (t : Tree) (qs : Pairs) → IsKeyAt x a y → IsValueAfter d y t r → MorePairs d a t r qs z → ArePairs d false x qs z
-    with_value a x y r z t qs (s, e, key) v (ps, is, tl, l) = subst (λ q. ArePairs d false x q z) (sym is)
+    with_value : (a : List ℕ × Bool) (x y r z : List ℕ) (t : Tree) (qs : Members) → IsKeyAt x a y → IsValueAfter d y t r → MoreMembers d a t r qs z → AreMembers d false x qs z
+    with_value a x y r z t qs (s, e, key) v (ps, is, tl, l) = subst (λ q. AreMembers d false x q z) (sym is)
         ((y, r, record { front = []; spelling = s; split = e; blank = Blanks.empty; key = key }, v.0, tl), omega (arith, l, v.1))
 
-    after_key_found : (a : List ℕ × Bool) (x y : List ℕ) → IsKeyAt x a y → Found (ArePairs d false x) x (and_then (value_after val y) (λ t r. and_then (skip between r) (λ u z. and_then (after_pair k z) (λ ps q. got (pair a.0 a.1 t ps) q))))
-    after_key_found a x y at = found_after (AfterKey d a y) (ArePairs d false x) at.0 x y _ at.1
+    after_key_found : (a : List ℕ × Bool) (x y : List ℕ) → IsKeyAt x a y → Found (AreMembers d false x) x (and_then (value_after val y) (λ t r. and_then (skip between r) (λ u z. and_then (after_member k z) (λ ps q. got (member a.0 a.1 t ps) q))))
+    after_key_found a x y at = found_after (AfterKey d a y) (AreMembers d false x) at.0 x y _ at.1
         (found_then (IsValueAfter d y) (AfterKey d a y) y (value_after val y) _ (value_found y)
-        (λ t r v. let w = before_rest y r t v.0 in found_after (MorePairs d a t r) (AfterKey d a y) w.0 y r _ w.1 (other_pairs_found a t r) (λ qs z m. (t, r, v, m))))
+        (λ t r v. let w = before_rest y r t v.0 in found_after (MoreMembers d a t r) (AfterKey d a y) w.0 y r _ w.1 (other_pairs_found a t r) (λ qs z m. (t, r, v, m))))
         (λ qs z m. with_value a x y m.1 z m.0 qs at m.2 m.3)
 
-    pair_found : (c : ℕ) (r : List ℕ) → Found (ArePairs d false (c ∷ r)) (c ∷ r) (pair_at val k (c ∷ r))
-    pair_found c r = found_then (IsKeyAt (c ∷ r)) (ArePairs d false (c ∷ r)) (c ∷ r) (key (c ∷ r)) _ (key_found c r) (λ a y key. after_key_found a (c ∷ r) y key)
+    pair_found : (c : ℕ) (r : List ℕ) → Found (AreMembers d false (c ∷ r)) (c ∷ r) (member_at val k (c ∷ r))
+    pair_found c r = found_then (IsKeyAt (c ∷ r)) (AreMembers d false (c ∷ r)) (c ∷ r) (key (c ∷ r)) _ (key_found c r) (λ a y key. after_key_found a (c ∷ r) y key)
 
-    brace_found : (x : List ℕ) → Found (ArePairs d false x) x (key_or (pair_at val k x) x)
+    brace_found : (x : List ℕ) → Found (AreMembers d false x) x (key_or (member_at val k x) x)
     brace_found [] = tt
     brace_found (c ∷ r) =
-        by_test (Found (ArePairs d false (c ∷ r)) (c ∷ r)) (c == 125) (got no_pair r) _
+        by_test (Found (AreMembers d false (c ∷ r)) (c ∷ r)) (c == 125) (got no_member r) _
         (λ a. (sign_first c 125 r a, omega arith))
         (λ a. pair_found c r)
 
-  pub entries_found : (n : ℕ) (x : List ℕ) → Found (ArePairs d false x) x (read_members val n x)
+  pub entries_found : (n : ℕ) (x : List ℕ) → Found (AreMembers d false x) x (read_members val n x)
   unfolding read_members
   entries_found zero x = tt
-  entries_found (suc n) x = found_then (IsGap x) (ArePairs d false x) x (skip between x) _ (gap_found x)
-      (λ u y g. found_after (ArePairs d false y) (ArePairs d false x) g.0 x y _ g.1 (brace_found (read_members val n) (entries_found n) y) (λ ps z m. (pairs_gap ps false g.0 x y z g.1 g.2 m.0, m.1)))
+  entries_found (suc n) x = found_then (IsGap x) (AreMembers d false x) x (skip between x) _ (gap_found x)
+      (λ u y g. found_after (AreMembers d false y) (AreMembers d false x) g.0 x y _ g.1 (brace_found (read_members val n) (entries_found n) y) (λ ps z m. (pairs_gap ps false g.0 x y z g.1 g.2 m.0, m.1)))
 
 -- ---- brackets
 
@@ -318,16 +318,16 @@ module _ (d : ℕ) (val : List ℕ → Read Tree) (val_found : (x : List ℕ) �
 value_alone : (d c : ℕ) (x r : List ℕ) (t : Tree) → is_solid c ≡ true → Reads (c ∷ x) t r → depth t ≤ d → IsValue d (c ∷ x) t r
 value_alone d c x r t h p l = (p.phrase, phrase_found (c ∷ x) [] (c ∷ x) r t refl (Gap.blanks Blanks.empty) (begins_solid c x h) p, p.value, p.stops, l)
 
-array_found : (d : ℕ) (r : List ℕ) (m : Read Trees) → Found (AreMembers d false r) r m → Found (IsValue (suc d) (91 ∷ r)) (91 ∷ r) (placed (91 ∷ r) (and_then m (λ ts y. got (array ts) y)))
+array_found : (d : ℕ) (r : List ℕ) (m : Read Trees) → Found (AreElements d false r) r m → Found (IsValue (suc d) (91 ∷ r)) (91 ∷ r) (placed (91 ∷ r) (and_then m (λ ts y. got (array ts) y)))
 array_found d r m h = found_placed (IsValue (suc d) (91 ∷ r)) (91 ∷ r) _
     (found_after (λ t y. IsValue (suc d) (91 ∷ r) t y) (IsValue (suc d) (91 ∷ r)) (91 ∷ []) (91 ∷ r) r _ refl
-    (found_then (AreMembers d false r) (IsValue (suc d) (91 ∷ r)) r m _ h (λ ts y k. value_alone (suc d) 91 r y (array ts) opening_solid (array_reads (91 ∷ r) r y ts (sign_here 91 r) k.0) (omega (arith, k.1))))
+    (found_then (AreElements d false r) (IsValue (suc d) (91 ∷ r)) r m _ h (λ ts y k. value_alone (suc d) 91 r y (array ts) opening_solid (array_reads (91 ∷ r) r y ts (sign_here 91 r) k.0) (omega (arith, k.1))))
     (λ t y v. v))
 
-object_found : (d : ℕ) (r : List ℕ) (m : Read Pairs) → Found (ArePairs d false r) r m → Found (IsValue (suc d) (123 ∷ r)) (123 ∷ r) (placed (123 ∷ r) (and_then m (λ ps y. got (object ps) y)))
+object_found : (d : ℕ) (r : List ℕ) (m : Read Members) → Found (AreMembers d false r) r m → Found (IsValue (suc d) (123 ∷ r)) (123 ∷ r) (placed (123 ∷ r) (and_then m (λ ps y. got (object ps) y)))
 object_found d r m h = found_placed (IsValue (suc d) (123 ∷ r)) (123 ∷ r) _
     (found_after (λ t y. IsValue (suc d) (123 ∷ r) t y) (IsValue (suc d) (123 ∷ r)) (123 ∷ []) (123 ∷ r) r _ refl
-    (found_then (ArePairs d false r) (IsValue (suc d) (123 ∷ r)) r m _ h (λ ps y k. value_alone (suc d) 123 r y (object ps) opening_brace_solid (object_reads (123 ∷ r) r y ps (sign_here 123 r) k.0) (omega (arith, k.1))))
+    (found_then (AreMembers d false r) (IsValue (suc d) (123 ∷ r)) r m _ h (λ ps y k. value_alone (suc d) 123 r y (object ps) opening_brace_solid (object_reads (123 ∷ r) r y ps (sign_here 123 r) k.0) (omega (arith, k.1))))
     (λ t y v. v))
 
 -- ---- values

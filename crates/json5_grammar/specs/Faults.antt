@@ -7,7 +7,7 @@ pub mod Fronts
 pub mod Blames
 pub mod Parts
 pub mod Refusals
-pub mod Commits
+pub mod Continuations
 use Rattle.std.specs.Prelude.{◌≡◌, ◌≢◌, ℕ, Bool, true, false, ◌||◌, ◌==◌, List, [], ◌∷◌, ◌++◌, length, Option, Some, None, ◌⊎◌, ⊤}
 use Rattle.json5_grammar.specs.Language.Characters.{letter_f, letter_n, letter_t, double_quote, single_quote, plus_sign, comma_sign, minus_sign, colon_sign, left_bracket, backslash, right_bracket, left_brace, right_brace, is_identifier_start}
 use Rattle.json5_grammar.specs.Faults.Codes.{ErrorCode, EofParsingArray, EofParsingObject, EofParsingValue, ExpectedColon, ExpectedComma, ExpectedIdentifier, ExpectedValue, TrailingCharacters, TooDeep, Shown, by_char, by_end}

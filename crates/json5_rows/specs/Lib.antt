@@ -1,2 +1,2 @@
-pub mod HandEnums
-pub mod HandStructs
+pub mod OwnEnums
+pub mod OwnStructs

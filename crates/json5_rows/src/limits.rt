@@ -1,8 +1,8 @@
 //! Calls within a limit: `within 2 Value` reads, `written 1 Value` writes what is read at the full limit.
 
 use crate::answers::{Answer, Any, push_answer, shown, unknown};
-use crate::hand_enums::E;
-use crate::hand_structs::Config;
+use crate::own_enums::E;
+use crate::own_structs::Config;
 use crate::writings::held;
 use json5::{
     Deserialize, IgnoredAny, Limit, Serialize, Value, format_within, from_str, from_str_within,

@@ -2,12 +2,11 @@
 #![tactic(auto)]
 
 mod answers;
-mod hand_enums;
-mod hand_keys;
-mod hand_structs;
 mod limits;
 mod objects;
-mod reaches;
+mod own_enums;
+mod own_keys;
+mod own_structs;
 mod reads;
 mod rows;
 mod scans;
@@ -15,6 +14,7 @@ mod sequences;
 mod spelling;
 mod steps;
 mod texts;
+mod token_lengths;
 mod writes;
 mod writings;
 

@@ -1,7 +1,7 @@
 //! Calls of the access of an object: `map(key,value,end)`.
 
 use crate::answers::{Answer, Printed, push_answer, push_text, shown, unknown};
-use crate::hand_keys::{ByAny, ByBytes, ByNewtypeStruct, ByUnitStruct};
+use crate::own_keys::{ByAny, ByBytes, ByNewtypeStruct, ByUnitStruct};
 use crate::steps::{Close, split_close};
 use json5::{ByteBuf, DeserializeKey, Error, ErrorCode, MapAccess};
 use std::alloc::Global;

@@ -1,8 +1,8 @@
 //! Reading a text as a type.
 
 use crate::answers::{Answer, Any, Digits, shown, unknown};
-use crate::hand_enums::{E, F};
-use crate::hand_structs::{Config, Letters, Person};
+use crate::own_enums::{E, F};
+use crate::own_structs::{Config, Letters, Person};
 use indexmap::IndexMap;
 use json5::{ByteBuf, CowStr, Decimal, Deserialize, Deserializer, IgnoredAny, from_str};
 use json5_own_type::{Bounds, Point, Port};

@@ -2,7 +2,7 @@
 
 use crate::answers::{Answer, by_code, by_message};
 use crate::spelling::{shortened, unescaped};
-use crate::{limits, reaches, reads, scans, sequences, texts, writes, writings};
+use crate::{limits, reads, scans, sequences, texts, token_lengths, writes, writings};
 use std::alloc::{AllocError, Global};
 
 /// Whether the line is a row: neither blank nor a comment.
@@ -38,7 +38,7 @@ fn answer(alloc: Global, call: &str, text: &str) -> Answer {
             limits::limited(alloc, name, words, text)
         }
         "limit" => limits::limit(alloc, words),
-        "reaches" => reaches::reaches(alloc, words, text),
+        "reaches" => token_lengths::reaches(alloc, words, text),
         "scan" => scans::scan(alloc, words, text),
         "position" => texts::position(alloc, words, text),
         "finite" => texts::finite(alloc, words, text),

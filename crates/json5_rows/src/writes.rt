@@ -1,8 +1,8 @@
 //! Writing what was read.
 
 use crate::answers::{Answer, unknown};
-use crate::hand_enums::{E, F};
-use crate::hand_structs::Config;
+use crate::own_enums::{E, F};
+use crate::own_structs::Config;
 use indexmap::IndexMap;
 use json5::{
     ByteBuf, CowStr, Decimal, Deserialize, Serialize, SerializeKey, Value, from_str, to_string,

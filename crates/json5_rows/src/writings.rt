@@ -4,7 +4,7 @@
 //! leaked where that is `leak`.
 
 use crate::answers::{Answer, Printed, by_message, push_answer, push_text, shown, unknown};
-use crate::hand_keys::{NewtypeStructKey, NoKey, UnitStructKey};
+use crate::own_keys::{NewtypeStructKey, NoKey, UnitStructKey};
 use crate::steps::{Close, split_close};
 use json5::{Serialize, SerializeCollection, SerializeKey, Serializer, Value, from_str, to_writer};
 use std::alloc::Global;

@@ -4,12 +4,12 @@ use Rattle.std.proofs.lemmas.Bool.Decides.{nat_tests}
 use Rattle.std.specs.Str.{chars}
 use Rattle.json5_grammar.specs.Language.Characters.{left_bracket, left_brace}
 use Rattle.json5_grammar.proofs.Basics.{lt_from}
-use Rattle.json5_grammar.specs.Language.Trees.{depth, depths, pair_depths}
+use Rattle.json5_grammar.specs.Language.Trees.{depth, depths, member_depths}
 use Rattle.json5_grammar.specs.Language.Documents.{Doc}
 use Rattle.json5_grammar.proofs.ScalarsWritten.{alone}
 use Rattle.json5_ser.specs.WrittenTrees.{Written, null, boolean, number, text, array, object, Elements, no_element, element, Fields, no_field, field, named, bad}
 use Rattle.json5_ser.specs.Out.{Out, Stop, whole, invalid_key, too_deep, piece, stopped, followed_by, ◌then◌, out, text_within, elements_out, fields_out, opened_by, closed_by, element_out, key_part, value_part}
-use Rattle.json5_ser.specs.Texts.{IsText}
+use Rattle.json5_ser.specs.WholeOutputs.{IsText}
 use Rattle.json5_ser.specs.Marks.{marks, element_marks, field_marks, IsSpelled, AreSpelled, FieldsAreSpelled}
 use Rattle.json5_ser.proofs.Writables.{number_piece, number_whole}
 use Rattle.json5_ser.proofs.Unmarked.{parts}
@@ -75,7 +75,7 @@ mutual
       let b = elements_fit limit ts d true l p.second in
       omega (arith, a, b)
 
-  fields_fit : (limit : ℕ) (fs : Fields) (d : ℕ) (started : Bool) → d < limit → (fields_out limit fs d started).stop ≡ whole → d + pair_depths (field_marks fs) < limit
+  fields_fit : (limit : ℕ) (fs : Fields) (d : ℕ) (started : Bool) → d < limit → (fields_out limit fs d started).stop ≡ whole → d + member_depths (field_marks fs) < limit
   fields_fit limit no_field d started l h = omega (arith, l)
   fields_fit limit (field (named u) t fs) d started l h =
       let p = parts (key_part (d + 1) (named u)) (value_part (out limit t (d + 1)) then fields_out limit fs d true) h in
@@ -171,7 +171,7 @@ mutual
   elements_whole limit (element t ts) d started h l =
       joined (element_out (d + 1) (out limit t (d + 1))) (elements_out limit ts d true) (joined (out limit t (d + 1)) (piece (44 ∷ [])) (whole_from limit t (d + 1) h.0 (omega (arith, l))) refl) (elements_whole limit ts d true h.1 (omega (arith, l)))
 
-  fields_whole : (limit : ℕ) (fs : Fields) (d : ℕ) (started : Bool) → FieldsAreSpelled fs → d + pair_depths (field_marks fs) < limit → (fields_out limit fs d started).stop ≡ whole
+  fields_whole : (limit : ℕ) (fs : Fields) (d : ℕ) (started : Bool) → FieldsAreSpelled fs → d + member_depths (field_marks fs) < limit → (fields_out limit fs d started).stop ≡ whole
   fields_whole limit no_field d started h l = closes started d 125
   fields_whole limit (field (named u) t fs) d started h l =
       joined (value_part (out limit t (d + 1))) (fields_out limit fs d true) (joined (out limit t (d + 1)) (piece (44 ∷ [])) (whole_from limit t (d + 1) h.0 (omega (arith, l))) refl) (fields_whole limit fs d true h.1 (omega (arith, l)))

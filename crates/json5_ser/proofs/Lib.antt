@@ -9,7 +9,7 @@ pub mod DecimalPieces
 pub mod Unmarked
 pub mod ReadBack
 pub mod Depths
-pub mod ReadTrees
+pub mod ReadIsWritten
 pub mod ValueTexts
 pub mod Writables
 pub mod LineStarts

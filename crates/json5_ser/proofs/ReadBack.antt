@@ -3,8 +3,8 @@ use Rattle.std.proofs.Common.{◌≡◌, ℕ, ◌+◌, ◌*◌, zero, suc, List,
 use Rattle.json5_grammar.specs.Language.Blanks.{Blanks, empty, blank}
 use Rattle.json5_grammar.specs.Written.Quoting.{quoted_text, is_name, key_text}
 use Rattle.json5_grammar.specs.Language.Trees as marked
-use Rattle.json5_grammar.specs.Language.Trees.{Tree, Trees, Pairs, no_more, more, no_pair, pair}
-use Rattle.json5_grammar.specs.Language.Values.{Val, is_null, is_true, is_false, is_empty_array, is_array, is_empty_object, is_object, ElementList, last, next, MemberList, last_pair, next_pair, Member, entry, KeyText, string_key, name_key, last_comma}
+use Rattle.json5_grammar.specs.Language.Trees.{Tree, Trees, Members, no_more, more, no_member, member}
+use Rattle.json5_grammar.specs.Language.Values.{Val, is_null, is_true, is_false, is_empty_array, is_array, is_empty_object, is_object, ElementList, last, next, MemberList, last_member, next_member, Member, entry, KeyText, string_key, name_key, last_comma}
 use Rattle.json5_grammar.proofs.ScalarsWritten.{number_value, text_value}
 use Rattle.json5_grammar.proofs.TextsWritten.{quoted_is, name_is}
 use Rattle.json5_ser.specs.WrittenTrees.{Written, null, boolean, number, text, array, object, Elements, no_element, element, Fields, no_field, field, named, bad}
@@ -32,48 +32,48 @@ line_blanks : (d : ℕ) → Blanks (line d)
 line_blanks d = blank refl (spaces (2 * d))
 
 -- members and the closing bracket
-record HasMembers (x : List ℕ) (ts : Trees) : Type 0 where
+record HasElements (x : List ℕ) (ts : Trees) : Type 0 where
   inside : List ℕ
   split : x ≡ inside ++ 93 ∷ []
   members : ElementList inside ts
 
-record HasEntries (x : List ℕ) (ps : Pairs) : Type 0 where
+record HasMembers (x : List ℕ) (ps : Members) : Type 0 where
   inside : List ℕ
   split : x ≡ inside ++ 125 ∷ []
   entries : MemberList inside ps
 
-list_value : (x : List ℕ) (ts : Trees) → HasMembers x ts → Val (91 ∷ x) (marked.array ts)
+list_value : (x : List ℕ) (ts : Trees) → HasElements x ts → Val (91 ∷ x) (marked.array ts)
 list_value x ts h = subst (λ l. Val (91 ∷ l) (marked.array ts)) (sym h.split) (is_array h.members)
 
-object_value : (x : List ℕ) (ps : Pairs) → HasEntries x ps → Val (123 ∷ x) (marked.object ps)
+object_value : (x : List ℕ) (ps : Members) → HasMembers x ps → Val (123 ∷ x) (marked.object ps)
 object_value x ps h = subst (λ l. Val (123 ∷ l) (marked.object ps)) (sym h.split) (is_object h.entries)
 
 -- the comma after a member goes to what follows
 shift : (a r rest : List ℕ) (b : ℕ) → r ≡ rest ++ b ∷ [] → (a ++ 44 ∷ []) ++ r ≡ (a ++ 44 ∷ rest) ++ b ∷ []
 shift a r rest b e = append_assoc a (44 ∷ []) r ∙ (ap (λ z. a ++ 44 ∷ z) e ∙ sym (append_assoc a (44 ∷ rest) (b ∷ [])))
 
-member : (l o : List ℕ) → l ++ (o ++ 44 ∷ []) ≡ (l ++ o) ++ 44 ∷ []
-member l o = sym (append_assoc l o (44 ∷ []))
+before_comma : (l o : List ℕ) → l ++ (o ++ 44 ∷ []) ≡ (l ++ o) ++ 44 ∷ []
+before_comma l o = sym (append_assoc l o (44 ∷ []))
 
-last_member : (l o w : List ℕ) (t : Tree) → Blanks l → Val o t → Blanks w → HasMembers ((l ++ (o ++ 44 ∷ [])) ++ (w ++ 93 ∷ [])) (more t no_more)
-last_member l o w t b v c = record {
+last_element : (l o w : List ℕ) (t : Tree) → Blanks l → Val o t → Blanks w → HasElements ((l ++ (o ++ 44 ∷ [])) ++ (w ++ 93 ∷ [])) (more t no_more)
+last_element l o w t b v c = record {
   inside = l ++ (o ++ 44 ∷ w);
-  split = ap (λ z. z ++ (w ++ 93 ∷ [])) (member l o) ∙ shift (l ++ o) _ w 93 refl ∙ ap (λ z. z ++ 93 ∷ []) (append_assoc l o (44 ∷ w));
+  split = ap (λ z. z ++ (w ++ 93 ∷ [])) (before_comma l o) ∙ shift (l ++ o) _ w 93 refl ∙ ap (λ z. z ++ 93 ∷ []) (append_assoc l o (44 ∷ w));
   members = last b v empty (last_comma c);
 }
 
-next_member : (l o r : List ℕ) (t : Tree) (ts : Trees) → Blanks l → Val o t → HasMembers r ts → HasMembers ((l ++ (o ++ 44 ∷ [])) ++ r) (more t ts)
-next_member l o r t ts b v h = record {
+next_element : (l o r : List ℕ) (t : Tree) (ts : Trees) → Blanks l → Val o t → HasElements r ts → HasElements ((l ++ (o ++ 44 ∷ [])) ++ r) (more t ts)
+next_element l o r t ts b v h = record {
   inside = l ++ (o ++ 44 ∷ h.inside);
-  split = ap (λ z. z ++ r) (member l o) ∙ shift (l ++ o) r h.inside 93 h.split ∙ ap (λ z. z ++ 93 ∷ []) (append_assoc l o (44 ∷ h.inside));
+  split = ap (λ z. z ++ r) (before_comma l o) ∙ shift (l ++ o) r h.inside 93 h.split ∙ ap (λ z. z ++ 93 ∷ []) (append_assoc l o (44 ∷ h.inside));
   members = next b v empty h.members;
 }
 
-last_entry : (p w u : List ℕ) (escape_free : Bool) (t : Tree) → Member p u escape_free t → Blanks w → HasEntries ((p ++ 44 ∷ []) ++ (w ++ 125 ∷ [])) (pair u escape_free t no_pair)
-last_entry p w u escape_free t e c = record { inside = p ++ 44 ∷ w; split = shift p _ w 125 refl; entries = last_pair e (last_comma c) }
+last_entry : (p w u : List ℕ) (escape_free : Bool) (t : Tree) → Member p u escape_free t → Blanks w → HasMembers ((p ++ 44 ∷ []) ++ (w ++ 125 ∷ [])) (member u escape_free t no_member)
+last_entry p w u escape_free t e c = record { inside = p ++ 44 ∷ w; split = shift p _ w 125 refl; entries = last_member e (last_comma c) }
 
-next_entry : (p r u : List ℕ) (escape_free : Bool) (t : Tree) (ps : Pairs) → Member p u escape_free t → HasEntries r ps → HasEntries ((p ++ 44 ∷ []) ++ r) (pair u escape_free t ps)
-next_entry p r u escape_free t ps e h = record { inside = p ++ 44 ∷ h.inside; split = shift p r h.inside 125 h.split; entries = next_pair e h.entries }
+next_entry : (p r u : List ℕ) (escape_free : Bool) (t : Tree) (ps : Members) → Member p u escape_free t → HasMembers r ps → HasMembers ((p ++ 44 ∷ []) ++ r) (member u escape_free t ps)
+next_entry p r u escape_free t ps e h = record { inside = p ++ 44 ∷ h.inside; split = shift p r h.inside 125 h.split; entries = next_member e h.entries }
 
 -- a key as it is written
 key_by : (u : List ℕ) (b : Bool) → is_name u ≡ b → KeyText (cond b u (quoted_text u)) u (b || is_escape_free_text u)
@@ -142,19 +142,19 @@ mutual
       absurd (let e : invalid_key ≡ whole = p.second in cc)
 
   elements_read : (limit : ℕ) (ts : Elements) (d : ℕ) (o : List ℕ) (t : Tree) → Val o t → (elements_out limit ts d true).stop ≡ whole
-      → HasMembers ((line (d + 1) ++ (o ++ 44 ∷ [])) ++ (elements_out limit ts d true).text) (more t (element_marks ts))
-  elements_read limit no_element d o t v h = last_member (line (d + 1)) o (line d) t (line_blanks (d + 1)) v (line_blanks d)
+      → HasElements ((line (d + 1) ++ (o ++ 44 ∷ [])) ++ (elements_out limit ts d true).text) (more t (element_marks ts))
+  elements_read limit no_element d o t v h = last_element (line (d + 1)) o (line d) t (line_blanks (d + 1)) v (line_blanks d)
   elements_read limit (element u us) d o t v h =
       let e = first_element (d + 1) (out limit u (d + 1)) (elements_out limit us d true) h in
       let m = elements_read limit us d (out limit u (d + 1)).text (marks u) (read_back limit u (d + 1) e.first) e.others in
-      next_member (line (d + 1)) o _ t _ (line_blanks (d + 1)) v (subst (λ l. HasMembers l (element_marks (element u us))) (sym e.text) m)
+      next_element (line (d + 1)) o _ t _ (line_blanks (d + 1)) v (subst (λ l. HasElements l (element_marks (element u us))) (sym e.text) m)
 
-  fields_read : (limit : ℕ) (fs : Fields) (d : ℕ) (p u : List ℕ) (escape_free : Bool) (t : Tree) → Member p u escape_free t → (fields_out limit fs d true).stop ≡ whole → HasEntries ((p ++ 44 ∷ []) ++ (fields_out limit fs d true).text) (pair u escape_free t (field_marks fs))
+  fields_read : (limit : ℕ) (fs : Fields) (d : ℕ) (p u : List ℕ) (escape_free : Bool) (t : Tree) → Member p u escape_free t → (fields_out limit fs d true).stop ≡ whole → HasMembers ((p ++ 44 ∷ []) ++ (fields_out limit fs d true).text) (member u escape_free t (field_marks fs))
   fields_read limit no_field d p u escape_free t v h = last_entry p (line d) u escape_free t v (line_blanks d)
   fields_read limit (field (named k) s fs) d p u escape_free t v h =
       let e = first_field (d + 1) k (out limit s (d + 1)) (fields_out limit fs d true) h in
       let m = fields_read limit fs d _ k (is_escape_free_key k) (marks s) (written_entry (d + 1) k _ (marks s) (read_back limit s (d + 1) e.value)) e.others in
-      next_entry p _ u escape_free t _ v (subst (λ l. HasEntries l (field_marks (field (named k) s fs))) (sym e.text) m)
+      next_entry p _ u escape_free t _ v (subst (λ l. HasMembers l (field_marks (field (named k) s fs))) (sym e.text) m)
   fields_read limit (field bad s fs) d p u escape_free t v h = absurd (let f : invalid_key ≡ whole = h in cc)
 
 -- ---- whole outputs

@@ -5,7 +5,7 @@ use Rattle.std.proofs.lemmas.Str.{chars-encodes}
 use Rattle.std.specs.Io.KnownBytes.{Appends}
 use Rattle.json5_ser.specs.Out.{Out}
 use Rattle.json5_ser.specs.Writes.{SerializerState, Wrote}
-use Rattle.json5_ser.specs.Texts.{IsText}
+use Rattle.json5_ser.specs.WholeOutputs.{IsText}
 
 appended_to_none : (old new : Option (List ℕ)) (items bytes : List ℕ) → old ≡ Some [] → Some items ≡ new → Appends old new bytes → items ≡ bytes
 appended_to_none old new items bytes e f p =

@@ -7,7 +7,7 @@ pub mod Writes
 pub mod Pieces
 pub mod Puts
 pub mod Named
-pub mod Texts
+pub mod WholeOutputs
 pub mod Quotes
 pub mod Brackets
 pub mod Stages

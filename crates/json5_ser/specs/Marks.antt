@@ -4,7 +4,7 @@ use Rattle.json5_grammar.specs.Language.Strings.{holds_backslash}
 use Rattle.json5_grammar.specs.Written.NumberText.{IsNumber}
 use Rattle.json5_grammar.specs.Written.Quoting.{quoted_text, is_name}
 use Rattle.json5_grammar.specs.Language.Trees as marked
-use Rattle.json5_grammar.specs.Language.Trees.{Tree, Trees, Pairs, no_more, more, no_pair, pair}
+use Rattle.json5_grammar.specs.Language.Trees.{Tree, Trees, Members, no_more, more, no_member, member}
 use Rattle.json5_ser.specs.WrittenTrees as written
 use Rattle.json5_ser.specs.WrittenTrees.{Written, Elements, no_element, element, Fields, no_field, field, named, bad}
 
@@ -30,9 +30,9 @@ abbrev mutual
   element_marks no_element = no_more
   element_marks (element t ts) = more (marks t) (element_marks ts)
 
-  pub field_marks : Fields → Pairs
-  field_marks no_field = no_pair
-  field_marks (field (named u) t fs) = pair u (is_escape_free_key u) (marks t) (field_marks fs)
+  pub field_marks : Fields → Members
+  field_marks no_field = no_member
+  field_marks (field (named u) t fs) = member u (is_escape_free_key u) (marks t) (field_marks fs)
   field_marks (field bad t fs) = field_marks fs
 
 abbrev mutual
@@ -48,9 +48,9 @@ abbrev mutual
   unmarked_elements no_more = no_element
   unmarked_elements (more t ts) = element (unmarked t) (unmarked_elements ts)
 
-  pub unmarked_fields : Pairs → Fields
-  unmarked_fields no_pair = no_field
-  unmarked_fields (pair u escape_free t ps) = field (named u) (unmarked t) (unmarked_fields ps)
+  pub unmarked_fields : Members → Fields
+  unmarked_fields no_member = no_field
+  unmarked_fields (member u escape_free t ps) = field (named u) (unmarked t) (unmarked_fields ps)
 
 -- each number has a spelling, and each key is a text
 abbrev mutual

@@ -3,7 +3,7 @@
 ghost use Rattle.std.specs.Prelude.{[], ◌∷◌, string_bytes};
 ghost use Rattle.std.specs.Str.{chars};
 ghost use Rattle.hex.specs.Hex.{encode_lower};
-ghost use Rattle.json5_text.specs.Bytes.{bytes_of};
+ghost use Rattle.json5_text.specs.ByteBufs.{bytes_of};
 ghost use Rattle.json5_text.specs.Cows.{cow_bytes};
 ghost use Rattle.json5_grammar.specs.Language.Numbers.{decimal};
 ghost use Rattle.json5_ser.specs.WrittenTrees.{null, boolean, number, natural, integer, text, option_tree};

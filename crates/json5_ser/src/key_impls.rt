@@ -5,7 +5,7 @@ ghost use Rattle.std.specs.Str.{chars};
 ghost use Rattle.json5_grammar.specs.Language.Values.{null_text};
 ghost use Rattle.json5_grammar.specs.Written.NumberText.{decimal_text};
 ghost use Rattle.hex.specs.Hex.{encode_lower};
-ghost use Rattle.json5_text.specs.Bytes.{bytes_of};
+ghost use Rattle.json5_text.specs.ByteBufs.{bytes_of};
 ghost use Rattle.json5_text.specs.Cows.{cow_bytes};
 ghost use Rattle.json5_ser.specs.WrittenTrees.{named, natural_key, integer_key, option_key};
 ghost use Rattle.json5_ser.specs.Out.{bool_text};

@@ -21,12 +21,12 @@ mod refused;
 mod serialize;
 mod serializer;
 mod stage;
-mod texts;
 mod tuples;
 mod value;
+mod whole_output;
 
 pub use collection::SerializeCollection;
 pub use key::{MapKey, SerializeKey};
 pub use serialize::Serialize;
 pub use serializer::Serializer;
-pub use texts::{to_string, to_string_within, to_writer, to_writer_within};
+pub use whole_output::{to_string, to_string_within, to_writer, to_writer_within};

@@ -19,7 +19,7 @@ use Rattle.json5_grammar.proofs.NumbersSound.{whole_true, whole_num}
 use Rattle.json5_grammar.proofs.NumberTests.{front_rest}
 use Rattle.json5_text.specs.ByteRuns.{lengthens_digits}
 use Rattle.json5_text.specs.NumberParts.{SplitsDigits}
-use Rattle.json5_text.specs.Short.{IsInFront}
+use Rattle.json5_text.specs.ShortWays.{IsInFront}
 use Rattle.json5_text.specs.ShortNumbers.{FollowsSign, FollowsMantissa, FollowsPower, FollowsExponent}
 use Rattle.json5_text.specs.TokenResults.{GivesRest}
 use Rattle.json5_text.proofs.ShortWholes.{whole_digits, literal_end, not_lengthened, ends_chars, lengthens_ascii}

@@ -15,8 +15,8 @@ use Rattle.json5_grammar.proofs.BlanksSound.{gap_blanks}
 use Rattle.json5_text.specs.TokenResults.{GivesValue}
 use Rattle.json5_text.specs.Cursor.{Cursor}
 use Rattle.json5_text.specs.Scan.{Leaves, LeavesAt}
-use Rattle.json5_text.specs.Short.{IsStep, FindsStep, IsInFront, Stepped, FindsSign, TakesShortSign}
-use Rattle.json5_text.specs.declared.short.Step.{Step}
+use Rattle.json5_text.specs.ShortWays.{IsStep, FindsStep, IsInFront, Stepped, FindsSign, TakesShortSign}
+use Rattle.json5_text.specs.declared.short_ways.Step.{Step}
 use Rattle.json5_text.proofs.NumberRuns.{PassesAscii}
 use Rattle.json5_text.proofs.ScanTokens.{left_counted, blanks_passed}
 use Rattle.json5_text.proofs.ShortWholes.{ends_chars}

@@ -23,7 +23,7 @@ use Rattle.json5_text.specs.TextTokens.{IsSliceAt}
 use Rattle.json5_text.specs.Outcome.{bytes_in}
 use Rattle.json5_text.specs.Scan.{InText, Leaves, LeavesAt, SkipsAll}
 use Rattle.json5_text.specs.ScanTexts.{quote_of}
-use Rattle.json5_text.specs.Short.{IsInFront}
+use Rattle.json5_text.specs.ShortWays.{IsInFront}
 use Rattle.json5_text.specs.ShortTexts.{ReadsEscapeFreeString, ReadsEscapeFreeKey, IsEscapeFreeString, IsEscapeFreeKey, TookEscapeFree, IsSliceBefore, FindsEscapeFree, HasSolid, FindsFirst}
 use Rattle.json5_text.specs.declared.short_texts.FoundText.{FoundText}
 use Rattle.json5_text.specs.declared.texts.Quote.{Quote}

@@ -15,7 +15,7 @@ use Rattle.json5_grammar.specs.Language.Values.{is_number}
 use Rattle.json5_grammar.proofs.ValueHeads.{val_head, skip_value}
 use Rattle.json5_text.specs.ByteRuns.{IsShort}
 use Rattle.json5_text.specs.Cursor.{Cursor}
-use Rattle.json5_text.specs.Short.{IsShortWhole, TookNumber, TookInRange}
+use Rattle.json5_text.specs.ShortWays.{IsShortWhole, TookNumber, TookInRange}
 use Rattle.json5_text.proofs.ShortWholes.{short_bare, short_minus}
 use Rattle.json5_text.proofs.ScanNumbers.{number_taken}
 use Rattle.json5_text.proofs.ScanTokens.{blanks_passed}

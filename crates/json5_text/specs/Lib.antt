@@ -16,7 +16,7 @@ pub mod Scan
 pub mod TokenResults
 pub mod Escapes
 pub mod Cows
-pub mod Bytes
+pub mod ByteBufs
 pub mod ByteRuns
 pub mod Compared
 pub mod Agreeing
@@ -27,7 +27,7 @@ pub mod ScanNumbers
 pub mod ScanKeys
 pub mod ScanTextTokens
 pub mod ScanBlanks
-pub mod Short
+pub mod ShortWays
 pub mod ShortTexts
 pub mod ShortNumbers
 pub mod ShortWords

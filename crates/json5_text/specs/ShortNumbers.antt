@@ -4,7 +4,7 @@ use Rattle.std.specs.Str.{IsUtf8, chars}
 use Rattle.json5_grammar.specs.Language.Characters.{is_digit, Each}
 use Rattle.json5_grammar.specs.Language.Numbers.{Number, Sign, Mantissa, Exponent, all_digits, spelled, written}
 use Rattle.json5_text.specs.Cursor.{Cursor}
-use Rattle.json5_text.specs.Short.{TookNumber}
+use Rattle.json5_text.specs.ShortWays.{TookNumber}
 
 -- this follows a sign in front, if there is one
 pub record FollowsSign (text rest : List ℕ) : Type 0 where

@@ -6,7 +6,7 @@ ghost use Rattle.json5_grammar.specs.Model.ReadBlanks.{Mode, skip, between, slas
 ghost use Rattle.json5_text.specs.TokenResults.{Skips, RefusesByCode};
 ghost use Rattle.json5_text.specs.ScanBlanks.{Continues, IsUnclosed};
 
-use crate::bytes::{begins_solid, blanks_len, line_len, star_offset};
+use crate::byte_runs::{begins_solid, blanks_len, line_len, star_offset};
 use crate::char::{is_json5_line_terminator, is_json5_whitespace};
 use crate::front::front;
 use crate::refusal::Refusal;

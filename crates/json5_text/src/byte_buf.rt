@@ -23,7 +23,7 @@ pub struct ByteBuf {
 }
 
 impl ByteBuf {
-    ghost use Rattle.json5_text.specs.Bytes.{bytes_of};
+    ghost use Rattle.json5_text.specs.ByteBufs.{bytes_of};
 
     /// Makes a `ByteBuf` of these bytes. Takes no memory.
     pub fn from_vec(bytes: Vec<u8>) -> ByteBuf
@@ -49,7 +49,7 @@ impl ByteBuf {
 }
 
 impl PartialEq for ByteBuf {
-    ghost use Rattle.json5_text.specs.Bytes.{bytes_of};
+    ghost use Rattle.json5_text.specs.ByteBufs.{bytes_of};
     ghost use Rattle.std.specs.Prelude.{nat_eq};
 
     ghost eq = { λ x y. pointwise nat_eq (bytes_of x) (bytes_of y) };
@@ -66,13 +66,13 @@ impl PartialEq for ByteBuf {
 }
 
 impl Eq for ByteBuf {
-    ghost use Rattle.json5_text.specs.Bytes.{bytes_of};
+    ghost use Rattle.json5_text.specs.ByteBufs.{bytes_of};
 
     ghost laws = { on_equiv bytes_of nat_list_eq_equiv };
 }
 
 impl PartialOrd for ByteBuf {
-    ghost use Rattle.json5_text.specs.Bytes.{bytes_of};
+    ghost use Rattle.json5_text.specs.ByteBufs.{bytes_of};
 
     ghost partial_cmp = { λ x y. Some (slice_cmp nat_cmp (bytes_of x) (bytes_of y)) };
 
@@ -84,7 +84,7 @@ impl PartialOrd for ByteBuf {
 }
 
 impl Ord for ByteBuf {
-    ghost use Rattle.json5_text.specs.Bytes.{bytes_of};
+    ghost use Rattle.json5_text.specs.ByteBufs.{bytes_of};
 
     ghost cmp = { λ x y. slice_cmp nat_cmp (bytes_of x) (bytes_of y) };
 
@@ -100,7 +100,7 @@ impl Ord for ByteBuf {
 }
 
 impl Hash for ByteBuf {
-    ghost use Rattle.json5_text.specs.Bytes.{bytes_of};
+    ghost use Rattle.json5_text.specs.ByteBufs.{bytes_of};
 
     ghost hash_input = { λ b. fed.slice fed.u8 (bytes_of b) };
 

@@ -5,7 +5,7 @@ ghost use Rattle.std.specs.Str.{chars};
 ghost use Rattle.json5_grammar.specs.Language.Characters.{is_blank, is_terminator, is_identifier_start, is_identifier_part, is_start_category, is_part_category};
 ghost use Rattle.json5_text.specs.Escapes.{escape_of};
 
-use crate::bytes::{is_ascii_part, is_ascii_start};
+use crate::byte_runs::{is_ascii_part, is_ascii_start};
 use unicode::properties::GeneralCategory;
 
 /// Says whether the character may be between tokens, as white space or a line terminator: U+0009 to U+000D, a space, U+00A0,

@@ -6,7 +6,7 @@
 
 mod blanks;
 pub mod byte_buf;
-mod bytes;
+mod byte_runs;
 pub mod char;
 mod copies;
 pub mod cow_str;
@@ -31,10 +31,10 @@ mod refusal;
 mod runs;
 mod scanned;
 pub mod scanner;
-pub mod short;
 mod short_decimals;
 mod short_numbers;
 pub mod short_texts;
+pub mod short_ways;
 mod short_words;
 pub mod strings;
 pub mod text_token;

@@ -7,7 +7,7 @@ ghost use Rattle.json5_text.specs.TokenResults.{ReturnsReading, AnswersAs, Answe
 ghost use Rattle.json5_text.specs.Scan.{SkipsAll, SkipsSome, in_list};
 ghost use Rattle.json5_text.specs.ScanTexts.{fits_name, is_raw_part, item_of_name, SkipsRaw};
 
-use crate::bytes::name_len;
+use crate::byte_runs::name_len;
 use crate::char::{is_json5_identifier, is_json5_identifier_start};
 use crate::cow_str::CowStr;
 use crate::escapes::unicode_escape;

@@ -11,7 +11,7 @@ ghost use Rattle.json5_text.specs.TokenResults.{GivesValue, AnswersAs, AnswersNu
 ghost use Rattle.json5_text.specs.NumberViews.{number_of};
 ghost use Rattle.json5_text.specs.NumberParts.{scanned_of};
 
-use crate::bytes::{begins_minus, short_digits};
+use crate::byte_runs::{begins_minus, short_digits};
 use crate::front::front;
 use crate::hexadecimal::hexadecimal;
 use crate::literals::{after_sign, read_literal};

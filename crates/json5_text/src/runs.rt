@@ -6,7 +6,7 @@ ghost use Rattle.json5_grammar.specs.Language.Characters.{is_digit};
 ghost use Rattle.json5_grammar.specs.Language.Numbers as numbers;
 ghost use Rattle.json5_text.specs.NumberParts.{SplitsDigits};
 
-use crate::bytes::is_digit;
+use crate::byte_runs::is_digit;
 
 /// How many digits are in front.
 fn digits_len(bytes: &[u8]) -> usize

@@ -7,7 +7,7 @@ ghost use Rattle.json5_grammar.specs.Language.Numbers as numbers;
 ghost use Rattle.json5_grammar.specs.Model.ReadNumbers as model;
 ghost use Rattle.json5_text.specs.TokenResults.{GivesValue};
 ghost use Rattle.json5_text.specs.NumberParts.{IsAtRun, is_whole_literal};
-ghost use Rattle.json5_text.specs.Short.{TakesShortDecimal};
+ghost use Rattle.json5_text.specs.ShortWays.{TakesShortDecimal};
 
 use crate::blanks::skip_ascii;
 use crate::decimal::Decimal;

@@ -8,12 +8,12 @@ ghost use Rattle.json5_text.specs.ShortNumbers.{FollowsSign, FollowsMantissa, Fo
 ghost use Rattle.json5_text.specs.TokenResults.{GivesRest};
 
 use crate::blanks::skip_ascii;
-use crate::bytes::goes_on;
+use crate::byte_runs::goes_on;
 use crate::input::Input;
 use crate::literals::is_integer;
 use crate::runs::split_digits;
 use crate::scanner::Scanner;
-use crate::short::is_in_front;
+use crate::short_ways::is_in_front;
 
 /// How many digits there may be before the point, and how many after it: so few keep the exponent in range.
 const FEW: usize = 1000;

@@ -4,14 +4,14 @@
 ghost use Rattle.std.specs.Prelude.{◌≡◌, ◌∷◌, true, IfSome};
 ghost use Rattle.std.specs.Str.{chars};
 ghost use Rattle.json5_text.specs.ScanTexts.{quote_of};
-ghost use Rattle.json5_text.specs.Short.{IsInFront};
+ghost use Rattle.json5_text.specs.ShortWays.{IsInFront};
 ghost use Rattle.json5_text.specs.ShortTexts.{IsEscapeFreeString, IsEscapeFreeKey, FindsEscapeFree, FindsFirst, TakesShortString, TakesShortKey, IsTextAt};
 
 use crate::blanks::skip_ascii;
-use crate::bytes::ascii_name_len;
+use crate::byte_runs::ascii_name_len;
 use crate::input::{Borrows, Input};
 use crate::scanner::Scanner;
-use crate::short::is_in_front;
+use crate::short_ways::is_in_front;
 use crate::strings::skip_raw;
 use crate::texts::Quote;
 

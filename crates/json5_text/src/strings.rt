@@ -8,7 +8,7 @@ ghost use Rattle.json5_text.specs.Scan.{SkipsAll};
 ghost use Rattle.json5_text.specs.ScanTextTokens.{AnswersToken};
 ghost use Rattle.json5_text.specs.ScanTexts.{quote_of, string_at, AnswersQuote};
 
-use crate::bytes::raw_end;
+use crate::byte_runs::raw_end;
 use crate::cow_str::CowStr;
 use crate::front::front;
 use crate::refusal::Refusal;

@@ -10,7 +10,7 @@ use Rattle.json5_grammar.specs.Language.Characters.{NotBegun}
 use Rattle.json5_grammar.specs.Faults.Fronts.{of_object, closing}
 use Rattle.json5_grammar.specs.Model.Reading.{Read, inner, got, bad, and_then}
 use Rattle.json5_grammar.specs.Model.ReadBlanks.{skip, between}
-use Rattle.json5_grammar.specs.Model.ReadSteps.{colon_after, key_head, key_at, member_head, member_at, next_value, separator}
+use Rattle.json5_grammar.specs.Model.ReadSteps.{colon_after, key_head, key_at, entry_head, entry_at, next_value, separator}
 use Rattle.json5_grammar.specs.Model.ReadTexts.{key, string, identifier}
 use Rattle.json5_grammar.specs.Language.Blanks.{Solid}
 use Rattle.json5_grammar.specs.Language.Strings.{is_quote}
@@ -187,7 +187,7 @@ key_or_value (got a r) = by_colon (colon_after r)
     by_colon (bad e p) = refl
 key_or_value (bad e p) = refl
 
-head_or_value : (y : List ℕ) → member_head of_object y ≡ and_then (key_head y) has_key
+head_or_value : (y : List ℕ) → entry_head of_object y ≡ and_then (key_head y) has_key
 head_or_value [] = refl
 head_or_value (c ∷ r) = by_test (c == 125)
   where
@@ -195,11 +195,11 @@ head_or_value (c ∷ r) = by_test (c == 125)
     by_test true = refl
     by_test false = key_or_value (key (c ∷ r))
 
-member_or_key : (x : List ℕ) → member_at of_object x ≡ and_then (key_at x) has_key
-unfolding member_at key_at
+member_or_key : (x : List ℕ) → entry_at of_object x ≡ and_then (key_at x) has_key
+unfolding entry_at key_at
 member_or_key x = by_gap (skip between x)
   where
-    by_gap : (m : Read (Unit {0})) → and_then m (λ u y. member_head of_object y) ≡ and_then (and_then m (λ u y. key_head y)) has_key
+    by_gap : (m : Read (Unit {0})) → and_then m (λ u y. entry_head of_object y) ≡ and_then (and_then m (λ u y. key_head y)) has_key
     by_gap (got u y) = head_or_value y
     by_gap (bad e p) = refl
 
@@ -207,7 +207,7 @@ value_or_key : (comma_due : Bool) (x : List ℕ) → next_value of_object comma_
 value_or_key false x = member_or_key x
 value_or_key true x = by_comma (separator of_object x)
   where
-    by_comma : (m : Read Bool) → and_then m (λ goes y. cond goes (member_at of_object y) (got false y)) ≡ and_then (and_then m (λ goes y. cond goes (key_at y) (got None y))) has_key
+    by_comma : (m : Read Bool) → and_then m (λ goes y. cond goes (entry_at of_object y) (got false y)) ≡ and_then (and_then m (λ goes y. cond goes (key_at y) (got None y))) has_key
     by_comma (got true y) = member_or_key y
     by_comma (got false y) = refl
     by_comma (bad e p) = refl

@@ -4,9 +4,9 @@ use Rattle.std.specs.declared.alloc.Global.{Global}
 use Rattle.std.specs.Str.{chars}
 use Rattle.json5_grammar.specs.Faults.Fronts.{of_array, of_object}
 use Rattle.json5_grammar.specs.Model.Reading.{Read, here, inner, got, bad, and_then, placed}
-use Rattle.json5_grammar.specs.Model.ReadSteps.{member_at, separator, next_value, trees_of, trees_after, read_pairs, pairs_after, key_at, first_of_trees, goes_on_with, pair_or_end}
+use Rattle.json5_grammar.specs.Model.ReadSteps.{entry_at, separator, next_value, trees_of, trees_after, read_pairs, pairs_after, key_at, first_of_trees, goes_on_with, member_or_end}
 use Rattle.json5_grammar.specs.Model.ReadValues.{read}
-use Rattle.json5_grammar.specs.Language.Trees.{Tree, Trees, Pairs, array, object, no_more, more, no_pair, pair}
+use Rattle.json5_grammar.specs.Language.Trees.{Tree, Trees, Members, array, object, no_more, more, no_member, member}
 use Rattle.json5_grammar.proofs.TreeSteps.{trees_step, trees_later, pairs_step, pairs_later, read_array, read_object}
 use Rattle.json5_text.specs.declared.value.Value.{Value}
 use Rattle.json5_text.specs.ValueViews as views
@@ -39,11 +39,11 @@ array_goes before d (got true y) = element_first before d (read d y)
 array_goes before d (got false y) = refl
 array_goes before d (bad e p) = refl
 
-first_element : (before : Items → Items) (d : ℕ) (x : List ℕ) → array_with before (trees_of d x) ≡ and_then (member_at of_array x) (array_turn before d)
-first_element before d x = ap (array_with before) (trees_step d x) ∙ array_goes before d (member_at of_array x)
+first_element : (before : Items → Items) (d : ℕ) (x : List ℕ) → array_with before (trees_of d x) ≡ and_then (entry_at of_array x) (array_turn before d)
+first_element before d x = ap (array_with before) (trees_step d x) ∙ array_goes before d (entry_at of_array x)
 
 element_after_comma : (before : Items → Items) (d : ℕ) (m : Read Bool)
-    → array_with before (and_then m (goes_on_with no_more (trees_of d))) ≡ and_then (and_then m (λ goes y. cond goes (member_at of_array y) (got false y))) (array_turn before d)
+    → array_with before (and_then m (goes_on_with no_more (trees_of d))) ≡ and_then (and_then m (λ goes y. cond goes (entry_at of_array y) (got false y))) (array_turn before d)
 element_after_comma before d (got true y) = first_element before d y
 element_after_comma before d (got false y) = refl
 element_after_comma before d (bad e p) = refl
@@ -88,16 +88,16 @@ abbrev pub object_turn : (Fields → Fields) → ℕ → Option (List ℕ × Boo
 object_turn before d None y = got (views.object (before no_field)) y
 object_turn before d (Some a) y = member_and_rest before d a.0 y
 
-member_last : (before : Fields → Fields) (a : List ℕ × Bool) (t : Tree) (m : Read Pairs) → object_with before (and_then m (λ ps z. got (pair a.0 a.1 t ps) z)) ≡ object_with (λ xs. before (field a.0 (datum_of t) xs)) m
+member_last : (before : Fields → Fields) (a : List ℕ × Bool) (t : Tree) (m : Read Members) → object_with before (and_then m (λ ps z. got (member a.0 a.1 t ps) z)) ≡ object_with (λ xs. before (field a.0 (datum_of t) xs)) m
 member_last before a t (got ps z) = refl
 member_last before a t (bad e p) = refl
 
 member_first : (before : Fields → Fields) (d : ℕ) (a : List ℕ × Bool) (m : Read Tree)
-    → object_with before (and_then m (λ t y. and_then (pairs_after d y) (λ ps z. got (pair a.0 a.1 t ps) z))) ≡ and_then (as_datum m) (λ x z. object_with (λ xs. before (field a.0 x xs)) (pairs_after d z))
+    → object_with before (and_then m (λ t y. and_then (pairs_after d y) (λ ps z. got (member a.0 a.1 t ps) z))) ≡ and_then (as_datum m) (λ x z. object_with (λ xs. before (field a.0 x xs)) (pairs_after d z))
 member_first before d a (got t y) = member_last before a t (pairs_after d y)
 member_first before d a (bad e p) = refl
 
-object_goes : (before : Fields → Fields) (d : ℕ) (m : Read (Option (List ℕ × Bool))) → object_with before (and_then m (pair_or_end d)) ≡ and_then m (object_turn before d)
+object_goes : (before : Fields → Fields) (d : ℕ) (m : Read (Option (List ℕ × Bool))) → object_with before (and_then m (member_or_end d)) ≡ and_then m (object_turn before d)
 object_goes before d (got (Some a) y) = member_first before d a (read d y)
 object_goes before d (got None y) = refl
 object_goes before d (bad e p) = refl
@@ -106,7 +106,7 @@ first_member : (before : Fields → Fields) (d : ℕ) (x : List ℕ) → object_
 first_member before d x = ap (object_with before) (pairs_step d x) ∙ object_goes before d (key_at x)
 
 member_after_comma : (before : Fields → Fields) (d : ℕ) (m : Read Bool)
-    → object_with before (and_then m (goes_on_with no_pair (read_pairs d))) ≡ and_then (and_then m (λ goes y. cond goes (key_at y) (got None y))) (object_turn before d)
+    → object_with before (and_then m (goes_on_with no_member (read_pairs d))) ≡ and_then (and_then m (λ goes y. cond goes (key_at y) (got None y))) (object_turn before d)
 member_after_comma before d (got true y) = first_member before d y
 member_after_comma before d (got false y) = refl
 member_after_comma before d (bad e p) = refl
@@ -129,11 +129,11 @@ pub object_grown : (fs gs : List (String Global × Value)) (key : String Global)
     → rest_of_object gs true d y ≡ object_with (λ xs. members_before fs (field (chars (string_bytes key)) (value_of v) xs)) (pairs_after d y)
 object_grown fs gs key v d y grown = ap (λ us. rest_of_object us true d y) grown ∙ by_answer (pairs_after d y)
   where
-    by_answer : (m : Read Pairs) → object_with (members_before (fs ++ (key, v) ∷ [])) m ≡ object_with (λ xs. members_before fs (field (chars (string_bytes key)) (value_of v) xs)) m
+    by_answer : (m : Read Members) → object_with (members_before (fs ++ (key, v) ∷ [])) m ≡ object_with (λ xs. members_before fs (field (chars (string_bytes key)) (value_of v) xs)) m
     by_answer (got ps z) = ap (λ xs. got (views.object xs) z) (member_kept fs (key, v) (fields_of ps))
     by_answer (bad e p) = refl
 
-placed_object : (q : List ℕ) (m : Read Pairs) → as_datum (placed q (and_then m (λ ps y. got (object ps) y))) ≡ placed q (object_with (members_before []) m)
+placed_object : (q : List ℕ) (m : Read Members) → as_datum (placed q (and_then m (λ ps y. got (object ps) y))) ≡ placed q (object_with (members_before []) m)
 placed_object q (got ps y) = refl
 placed_object q (bad e (here p)) = refl
 placed_object q (bad e inner) = refl

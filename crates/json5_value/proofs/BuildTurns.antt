@@ -17,7 +17,7 @@ use Rattle.json5_value.specs.declared.unfinished.Unfinished.TheVariants as unfin
 use Rattle.json5_value.specs.BuildSteps.{elements_before, members_before, object_with, array_at, object_at, value_in_at, start_of, value_in, Building, BuildingInside, TurnsBuildingInside}
 use Rattle.json5_value.specs.Keeping.{BlamesOrMemory, IsNextKey, next_key, datum_at}
 use Rattle.json5_value.specs.Nesting.{Within}
-use Rattle.json5_value.specs.Places.{StartsAfter, PositionedAt}
+use Rattle.json5_value.specs.Offsets.{StartsAfter, PositionedAt}
 use Rattle.json5_value.specs.Steps.{SameText, RefusesRead, Gave}
 use Rattle.json5_value.proofs.BuildRests.{array_turn, array_step, no_more_elements, array_grown, object_turn, object_step, no_more_members, object_grown}
 use Rattle.json5_value.proofs.Nesting.{value_reached, closed, inside_blamed}

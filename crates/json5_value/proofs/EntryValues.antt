@@ -5,14 +5,14 @@ use Rattle.json5_grammar.specs.declared.code.ErrorCode.TheVariants as codes
 use Rattle.json5_grammar.specs.Faults.Fronts.{BracketKind, of_array, of_object, closing}
 use Rattle.json5_grammar.specs.Model.Reading.{Read, inner, got, bad, and_then}
 use Rattle.json5_grammar.specs.Model.ReadBlanks.{skip, between}
-use Rattle.json5_grammar.specs.Model.ReadSteps.{forget, colon_after, pair_head, member_head, member_at, separator, next_value}
+use Rattle.json5_grammar.specs.Model.ReadSteps.{forget, colon_after, member_head, entry_head, entry_at, separator, next_value}
 use Rattle.json5_grammar.specs.Model.ReadTexts.{key, string, identifier}
 use Rattle.json5_grammar.specs.Language.Strings.{is_quote}
 use Rattle.json5_text.specs.declared.error.Error.{Error}
 use Rattle.json5_text.specs.Errors.{code, kind_of, error_position}
 use Rattle.json5_text.specs.Cursor.{Cursor}
 use Rattle.json5_value.specs.Entries.{entry_front, entry_start, next_entry}
-use Rattle.json5_value.specs.Short.{name_at}
+use Rattle.json5_value.specs.ShortWays.{name_at}
 use Rattle.json5_value.specs.Steps.{SameText, RefusesRead, Gave, Steps}
 use Rattle.json5_value.proofs.EntrySteps.{start_or_end}
 use Rattle.json5_value.proofs.Steps.{none_next, some_next, blames_made, then_step, first_step_refused, same_step, took_step, refused_step, took_nothing}
@@ -26,12 +26,12 @@ key_missing = refl
 -- what comes before the value of an entry that begins here
 abbrev pub head_of : BracketKind → List ℕ → Read Bool
 head_of of_array y = got true y
-head_of of_object y = pair_head y
+head_of of_object y = member_head y
 
 abbrev pub head_or_end : BracketKind → Bool → List ℕ → Read Bool
 head_or_end k goes y = cond goes (head_of k y) (got false y)
 
-head_is : (k : BracketKind) (y : List ℕ) → member_head k y ≡ and_then (entry_front k y) (head_or_end k)
+head_is : (k : BracketKind) (y : List ℕ) → entry_head k y ≡ and_then (entry_front k y) (head_or_end k)
 head_is of_array [] = refl
 head_is of_object [] = sym (ap (λ m. and_then m (λ a r. and_then (colon_after r) (λ u y. got true y))) key_missing)
 head_is of_array (c ∷ r) = by_test (c == closing of_array)
@@ -41,23 +41,23 @@ head_is of_array (c ∷ r) = by_test (c == closing of_array)
     by_test false = refl
 head_is of_object (c ∷ r) = by_test (c == closing of_object)
   where
-    by_test : (b : Bool) → cond b (got false r) (pair_head (c ∷ r)) ≡ and_then (cond b (got false r) (got true (c ∷ r))) (head_or_end of_object)
+    by_test : (b : Bool) → cond b (got false r) (member_head (c ∷ r)) ≡ and_then (cond b (got false r) (got true (c ∷ r))) (head_or_end of_object)
     by_test true = refl
     by_test false = refl
 
-start_is : (k : BracketKind) (m : Read (Unit {0})) → and_then m (λ u y. member_head k y) ≡ and_then (and_then m (λ u y. entry_front k y)) (head_or_end k)
+start_is : (k : BracketKind) (m : Read (Unit {0})) → and_then m (λ u y. entry_head k y) ≡ and_then (and_then m (λ u y. entry_front k y)) (head_or_end k)
 start_is k (got u y) = head_is k y
 start_is k (bad c p) = refl
 
-entry_is : (k : BracketKind) (x : List ℕ) → member_at k x ≡ and_then (entry_start k x) (head_or_end k)
-unfolding member_at
+entry_is : (k : BracketKind) (x : List ℕ) → entry_at k x ≡ and_then (entry_start k x) (head_or_end k)
+unfolding entry_at
 entry_is k x = start_is k (skip between x)
 
 pub next_is : (k : BracketKind) (comma_due : Bool) (x : List ℕ) → next_value k comma_due x ≡ and_then (next_entry k comma_due x) (head_or_end k)
 next_is k false x = entry_is k x
 next_is k true x = by_comma (separator k x)
   where
-    by_comma : (m : Read Bool) → and_then m (λ more y. cond more (member_at k y) (got false y)) ≡ and_then (and_then m (start_or_end k)) (head_or_end k)
+    by_comma : (m : Read Bool) → and_then m (λ more y. cond more (entry_at k y) (got false y)) ≡ and_then (and_then m (start_or_end k)) (head_or_end k)
     by_comma (got true y) = entry_is k y
     by_comma (got false y) = refl
     by_comma (bad c p) = refl
@@ -80,7 +80,7 @@ pub element_reached : (k : BracketKind) (comma_due goes : Bool) (old mid : Curso
 element_reached k comma_due goes old mid e is g = next_found k of_array comma_due goes old mid mid (Ok true) e is g (took_step mid mid (got true mid.unread) true [] refl (took_nothing mid mid refl))
 
 -- a member is a key, a colon and its value
-pub head_named : (y : List ℕ) → pair_head y ≡ and_then (name_at y) (λ u z. got true z)
+pub head_named : (y : List ℕ) → member_head y ≡ and_then (name_at y) (λ u z. got true z)
 head_named y = by_key (key y)
   where
     by_key : (m : Read (List ℕ × Bool)) → and_then m (λ a r. and_then (colon_after r) (λ u y. got true y)) ≡ and_then (and_then (forget m) (λ u r. colon_after r)) (λ u z. got true z)
@@ -89,7 +89,7 @@ head_named y = by_key (key y)
 
 module _ (k : BracketKind) (comma_due goes : Bool) (old mid : Cursor) (e : k ≡ of_object) (is : goes ≡ true) (g : Gave (next_entry k comma_due old.unread) goes old mid) where
   of_member : (new : Cursor) (result : Result Bool Error) → Steps (and_then (name_at mid.unread) (λ u y. got true y)) mid new result → Steps (next_value k comma_due old.unread) old new result
-  of_member new result s = next_found k of_object comma_due goes old mid new result e is g (same_step mid new (pair_head mid.unread) _ result (head_named mid.unread) s)
+  of_member new result s = next_found k of_object comma_due goes old mid new result e is g (same_step mid new (member_head mid.unread) _ result (head_named mid.unread) s)
 
   -- its name is refused
   pub name_refused : (new : Cursor) (own : Error) → RefusesRead mid.input (name_at mid.unread) own → SameText mid new → Steps (next_value k comma_due old.unread) old new (Err own)

@@ -3,7 +3,7 @@ pub mod Steps
 pub mod TokenSteps
 pub mod Literals
 pub mod Signs
-pub mod Places
+pub mod FaultPositions
 pub mod EntrySteps
 pub mod EntryValues
 pub mod Nesting

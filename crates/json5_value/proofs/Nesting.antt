@@ -6,7 +6,7 @@ use Rattle.json5_text.specs.declared.error.Error.{Error}
 use Rattle.json5_text.specs.Errors.{kind_of, or_position}
 use Rattle.json5_text.specs.Cursor.{Cursor, Took, Says, IsOutOfMemory}
 use Rattle.json5_value.specs.Nesting.{Nested, Within, WithinInner}
-use Rattle.json5_value.specs.Places.{StartsAfter, PositionedAt, CountsTo}
+use Rattle.json5_value.specs.Offsets.{StartsAfter, PositionedAt, CountsTo}
 use Rattle.json5_value.specs.Steps.{IsInside, SameText, HasPositionAt, RefusesRead, Gave}
 use Rattle.json5_value.proofs.Steps.{ready_after, blames_as}
 

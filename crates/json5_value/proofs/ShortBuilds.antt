@@ -14,13 +14,13 @@ use Rattle.json5_text.specs.ValueViews.{Datum}
 use Rattle.json5_text.proofs.ValuesCompared.{view-Array, view-Object}
 use Rattle.json5_value.specs.declared.unfinished.Unfinished.{Unfinished}
 use Rattle.json5_value.specs.declared.unfinished.Unfinished.TheVariants as unfinished
-use Rattle.json5_value.specs.declared.short.NameLeft.{NameLeft}
+use Rattle.json5_value.specs.declared.short_ways.NameLeft.{NameLeft}
 use Rattle.json5_value.specs.declared.short_members.ShortMembers.TheVariants as members_reached
 use Rattle.json5_value.specs.declared.short_values.ShortElements.TheVariants as reached
 use Rattle.json5_value.specs.BuildSteps.{array_at, members_before, object_at, start_of, value_in, BuildingInside, TurnsBuildingInside}
 use Rattle.json5_value.specs.Keeping.{OwnsText}
-use Rattle.json5_value.specs.Places.{StartsAfter, PositionedAt}
-use Rattle.json5_value.specs.Short.{name_left}
+use Rattle.json5_value.specs.Offsets.{StartsAfter, PositionedAt}
+use Rattle.json5_value.specs.ShortWays.{name_left}
 use Rattle.json5_value.specs.ShortMembers.{TakesMembers, TurnsBuildingNamed, member_left}
 use Rattle.json5_value.specs.ShortValues.{Leaves, TakesElements}
 use Rattle.json5_value.specs.Steps.{SameText, RefusesRead, Gave}

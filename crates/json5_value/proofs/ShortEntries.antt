@@ -35,10 +35,10 @@ use Rattle.json5_text.specs.ValueViews.{value_of}
 use Rattle.json5_text.specs.ValueViews as datum
 use Rattle.json5_text.specs.Cursor.{Cursor, Took}
 use Rattle.json5_text.specs.declared.error.Error.{Error}
-use Rattle.json5_text.specs.declared.short.ShortStep.{ShortStep}
-use Rattle.json5_text.specs.declared.short.ShortStep.TheVariants as steps
+use Rattle.json5_text.specs.declared.short_ways.ShortStep.{ShortStep}
+use Rattle.json5_text.specs.declared.short_ways.ShortStep.TheVariants as steps
 use Rattle.json5_text.specs.declared.short_texts.Span.{Span}
-use Rattle.json5_text.specs.Short.{AfterGap, StepsTo, IsStep, Stepped, TookNumber, TakesShortStep, TakesShortSign}
+use Rattle.json5_text.specs.ShortWays.{AfterGap, StepsTo, IsStep, Stepped, TookNumber, TakesShortStep, TakesShortSign}
 use Rattle.json5_text.specs.ShortNumbers.{TakesShortNumber}
 use Rattle.json5_text.specs.ShortWords.{TakesShortWord}
 use Rattle.json5_text.specs.ShortTexts.{TakesShortKey, TakesShortString, IsTextAt}
@@ -51,15 +51,15 @@ use Rattle.json5_value.specs.declared.brackets.BracketKind.TheVariants as kind
 use Rattle.json5_value.specs.declared.kinds.Literal.{Literal}
 use Rattle.json5_value.specs.declared.kinds.ValueKind.{ValueKind}
 use Rattle.json5_value.specs.declared.kinds.ValueKind.TheVariants as kinds
-use Rattle.json5_value.specs.declared.short.NameLeft.{NameLeft}
-use Rattle.json5_value.specs.declared.short.NameLeft.TheVariants as names
-use Rattle.json5_value.specs.declared.short.ShortEntry.TheVariants as entry
+use Rattle.json5_value.specs.declared.short_ways.NameLeft.{NameLeft}
+use Rattle.json5_value.specs.declared.short_ways.NameLeft.TheVariants as names
+use Rattle.json5_value.specs.declared.short_ways.ShortEntry.TheVariants as entry
 use Rattle.json5_value.specs.Brackets.{bracket_of, brackets_of}
 use Rattle.json5_value.specs.Entries.{entry_front, entry_start, next_entry}
 use Rattle.json5_value.specs.Kinds.{kind_at, word_of}
 use Rattle.json5_value.specs.Keeping.{Keeps, IsOfTree, IsKeyText, OwnsText, tree_at}
 use Rattle.json5_value.specs.Opening.{AtScalar, AtKind}
-use Rattle.json5_value.specs.Short.{EntersShort, ReachesMember, PassesShort, PassesTo, name_at, name_left}
+use Rattle.json5_value.specs.ShortWays.{EntersShort, ReachesMember, PassesShort, PassesTo, name_at, name_left}
 use Rattle.json5_value.specs.Steps.{IsInside, Gave, Steps}
 use Rattle.json5_value.proofs.BuildScalars.{scalar_taken, text_taken}
 use Rattle.json5_value.proofs.BuildSteps.{takes, not_taken, gave_text}

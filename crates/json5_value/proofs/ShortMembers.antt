@@ -14,20 +14,20 @@ use Rattle.json5_grammar.proofs.KeysRead.{key_complete}
 use Rattle.json5_text.specs.declared.short_texts.Span.{Span}
 use Rattle.json5_text.specs.declared.value.Value.{Value}
 use Rattle.json5_text.specs.Cursor.{Cursor, Took}
-use Rattle.json5_text.specs.Short.{Stepped}
+use Rattle.json5_text.specs.ShortWays.{Stepped}
 use Rattle.json5_text.specs.ShortTexts.{TakesShortKey, IsTextAt}
 use Rattle.json5_text.specs.TextTokens.{IsSliceAt}
 use Rattle.json5_text.specs.ValueViews.{Datum, object, field, fields_view, value_of}
 use Rattle.json5_text.proofs.TextScalars.{key_scalars}
 use Rattle.json5_value.specs.declared.brackets.BracketKind.TheVariants as kind
-use Rattle.json5_value.specs.declared.short.NameLeft.{NameLeft}
-use Rattle.json5_value.specs.declared.short.NameLeft.TheVariants as names
+use Rattle.json5_value.specs.declared.short_ways.NameLeft.{NameLeft}
+use Rattle.json5_value.specs.declared.short_ways.NameLeft.TheVariants as names
 use Rattle.json5_value.specs.declared.short_members.ShortMembers.TheVariants as reached
 use Rattle.json5_value.specs.Brackets.{brackets_of}
 use Rattle.json5_value.specs.BuildSteps.{members_before, object_with, object_at}
 use Rattle.json5_value.specs.Entries.{next_entry}
 use Rattle.json5_value.specs.Keeping.{datum_at, next_key}
-use Rattle.json5_value.specs.Short.{PassesTo, name_left}
+use Rattle.json5_value.specs.ShortWays.{PassesTo, name_left}
 use Rattle.json5_value.specs.ShortMembers.{NamesMember, ReachesKey, TakesMembers, member_left}
 use Rattle.json5_value.specs.ShortValues.{LeavesLess}
 use Rattle.json5_value.specs.Steps.{IsInside, SameText, Gave}

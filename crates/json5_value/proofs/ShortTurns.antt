@@ -8,14 +8,14 @@ use Rattle.json5_grammar.proofs.ValueSteps.{turn, rest_step}
 use Rattle.json5_text.specs.declared.error.Error.{Error}
 use Rattle.json5_text.specs.Cursor.{Cursor}
 use Rattle.json5_value.specs.declared.brackets.OpenBracket.{OpenBracket}
-use Rattle.json5_value.specs.declared.short.NameLeft.{NameLeft}
+use Rattle.json5_value.specs.declared.short_ways.NameLeft.{NameLeft}
 use Rattle.json5_value.specs.declared.skip.ShortTurn.{ShortTurn}
 use Rattle.json5_value.specs.declared.skip.ShortTurn.TheVariants as short
 use Rattle.json5_value.specs.Brackets.{bracket_of}
 use Rattle.json5_value.specs.Nesting.{Within}
 use Rattle.json5_value.specs.Opening.{OpenedAt}
-use Rattle.json5_value.specs.Places.{StartsAfter, PositionedAt}
-use Rattle.json5_value.specs.Short.{ReachesMember, PassesShort, name_left, member_left, SkippingMember, TurnsMember, Advanced, TurnsShort, ResumesShort}
+use Rattle.json5_value.specs.Offsets.{StartsAfter, PositionedAt}
+use Rattle.json5_value.specs.ShortWays.{ReachesMember, PassesShort, name_left, member_left, SkippingMember, TurnsMember, Advanced, TurnsShort, ResumesShort}
 use Rattle.json5_value.specs.SkipSteps.{start_of, rest_in, rest_at, Skipping, SkippingInside}
 use Rattle.json5_value.specs.Steps.{SameText, RefusesRead, Gave, value_at}
 use Rattle.json5_value.proofs.Nesting.{value_reached, inside_blamed, moved}

@@ -5,7 +5,7 @@ use Rattle.json5_grammar.specs.declared.code.ErrorCode.TheVariants as codes
 use Rattle.json5_grammar.specs.Faults.Fronts as fronts
 use Rattle.json5_grammar.specs.Model.Reading.{Read, here, got, bad, and_then}
 use Rattle.json5_grammar.specs.Model.ReadBlanks.{skip, between}
-use Rattle.json5_grammar.specs.Model.ReadSteps.{colon_after, pair_head, member_head, member_at, comma_at, separator, next_value}
+use Rattle.json5_grammar.specs.Model.ReadSteps.{colon_after, member_head, entry_head, entry_at, comma_at, separator, next_value}
 use Rattle.json5_grammar.specs.Model.ReadTexts.{key}
 use Rattle.json5_grammar.specs.Model.ReadValues.{colon_at}
 use Rattle.json5_grammar.proofs.Found.{Found}
@@ -50,11 +50,11 @@ short_colon (c ∷ r) = by_test (c == 58)
     by_test true = omega arith
     by_test false = tt
 
-short_member : (k : fronts.BracketKind) (x : List ℕ) → Short (length x) (member_at k x)
-unfolding member_at
-short_member k x = short_then (length x) (skip between x) (λ u y. member_head k y) (short_skip x) (λ u y l. short_within (length y) (length x) (member_head k y) (head k y) l)
+short_member : (k : fronts.BracketKind) (x : List ℕ) → Short (length x) (entry_at k x)
+unfolding entry_at
+short_member k x = short_then (length x) (skip between x) (λ u y. entry_head k y) (short_skip x) (λ u y l. short_within (length y) (length x) (entry_head k y) (head k y) l)
   where
-    pair : (y : List ℕ) → Short (length y) (pair_head y)
+    pair : (y : List ℕ) → Short (length y) (member_head y)
     pair y = short_then (length y) (key y) _ (short_key y) (λ a r l. short_then (length y) (colon_after r) _
         (short_then (length y) (skip between r) _ (short_within (length r) (length y) (skip between r) (short_skip r) l)
         (λ u z m. short_then (length y) (colon_at z) _ (short_within (length z) (length y) (colon_at z) (short_colon z) m) (λ v q o. short_within (length q) (length y) (skip between q) (short_skip q) o)))
@@ -64,11 +64,11 @@ short_member k x = short_then (length x) (skip between x) (λ u y. member_head k
     closes true c r m h = omega arith
     closes false c r m h = h
 
-    head : (k : fronts.BracketKind) (y : List ℕ) → Short (length y) (member_head k y)
+    head : (k : fronts.BracketKind) (y : List ℕ) → Short (length y) (entry_head k y)
     head fronts.of_array [] = omega arith
     head fronts.of_object [] = tt
     head fronts.of_array (c ∷ r) = closes (c == 93) c r (got true (c ∷ r)) (omega arith)
-    head fronts.of_object (c ∷ r) = closes (c == 125) c r (pair_head (c ∷ r)) (pair (c ∷ r))
+    head fronts.of_object (c ∷ r) = closes (c == 125) c r (member_head (c ∷ r)) (pair (c ∷ r))
 
 -- less is left after something was taken
 abbrev Shorter : {A : Type 0} → ℕ → Read A → Type 0
@@ -103,8 +103,8 @@ shorter_separator k x = shorter_then (length x) (skip between x) (λ u y. comma_
 shorter_next : (k : fronts.BracketKind) (x : List ℕ) → Shorter (length x) (next_value k true x)
 shorter_next k x = then_short (length x) (separator k x) _ (shorter_separator k x) (λ goes y l. by_test goes y l)
   where
-    by_test : (goes : Bool) (y : List ℕ) → length y < length x → Shorter (length x) (cond goes (member_at k y) (got false y))
-    by_test true y l = below (length y) (length x) (member_at k y) (short_member k y) l
+    by_test : (goes : Bool) (y : List ℕ) → length y < length x → Shorter (length x) (cond goes (entry_at k y) (got false y))
+    by_test true y l = below (length y) (length x) (entry_at k y) (short_member k y) l
     by_test false y l = l
 
 shorter_of : (n : ℕ) (b : Bool) (r : List ℕ) (m : Read Bool) → Shorter n m → m ≡ got b r → length r < n

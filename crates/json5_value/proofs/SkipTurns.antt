@@ -13,7 +13,7 @@ use Rattle.json5_value.specs.declared.brackets.OpenBracket.{OpenBracket}
 use Rattle.json5_value.specs.Brackets.{bracket_of}
 use Rattle.json5_value.specs.Nesting.{Nested, Within}
 use Rattle.json5_value.specs.Opening.{OpenedAt}
-use Rattle.json5_value.specs.Places.{StartsAfter, PositionedAt}
+use Rattle.json5_value.specs.Offsets.{StartsAfter, PositionedAt}
 use Rattle.json5_value.specs.SkipSteps.{start_of, rest_in, rest_at, Skipping, SkippingInside, TurnsSkipping, TurnsSkippingInside, PositionedWithin}
 use Rattle.json5_value.specs.Steps.{IsInside, SameText, RefusesRead, Gave, value_at}
 use Rattle.json5_value.proofs.Nesting.{value_reached, closed, inside_blamed, value_ended, value_opened, whole_blamed, innermost_blamed, starts, ends_inside}

@@ -4,7 +4,7 @@ use Rattle.std.specs.declared.alloc.Global.{Global}
 use Rattle.std.specs.Str.{chars}
 use Rattle.json5_grammar.specs.Model.Reading.{Read, got, and_then}
 use Rattle.json5_grammar.specs.Model.ReadSteps.{trees_of, trees_after, read_pairs, pairs_after}
-use Rattle.json5_grammar.specs.Language.Trees.{Trees, Pairs}
+use Rattle.json5_grammar.specs.Language.Trees.{Trees, Members}
 use Rattle.json5_text.specs.declared.error.Error.{Error}
 use Rattle.json5_text.specs.declared.value.Value.{Value}
 use Rattle.json5_text.specs.Cursor.{Cursor, IsOutOfMemory}
@@ -14,7 +14,7 @@ use Rattle.json5_value.specs.declared.unfinished.Unfinished.TheVariants as unfin
 use Rattle.json5_value.specs.Data.{items_of, fields_of}
 use Rattle.json5_value.specs.Keeping.{datum_at}
 use Rattle.json5_value.specs.Nesting.{Within, WithinInner}
-use Rattle.json5_value.specs.Places.{StartsAfter, PositionedAt}
+use Rattle.json5_value.specs.Offsets.{StartsAfter, PositionedAt}
 use Rattle.json5_value.specs.Steps.{SameText, RefusesRead}
 
 -- ---- what is left
@@ -32,7 +32,7 @@ members_before (f ∷ fs) xs = field (chars (string_bytes f.0)) (value_of f.1) (
 abbrev pub array_with : (Items → Items) → Read Trees → Read Datum
 array_with before m = and_then m (λ ts z. got (array (before (items_of ts))) z)
 
-abbrev pub object_with : (Fields → Fields) → Read Pairs → Read Datum
+abbrev pub object_with : (Fields → Fields) → Read Members → Read Datum
 object_with before m = and_then m (λ ps z. got (object (before (fields_of ps))) z)
 
 -- what is left of an array after these elements, of an object after these members

@@ -1,5 +1,5 @@
 -- What a tree means, without the marks.
-use Rattle.json5_grammar.specs.Language.Trees.{Tree, Trees, Pairs, null, boolean, number, text, array, object, no_more, more, no_pair, pair}
+use Rattle.json5_grammar.specs.Language.Trees.{Tree, Trees, Members, null, boolean, number, text, array, object, no_more, more, no_member, member}
 use Rattle.json5_text.specs.ValueViews.{Datum, Items, Fields, no_item, item, no_field, field}
 use Rattle.json5_text.specs.ValueViews as datum
 
@@ -16,6 +16,6 @@ abbrev mutual
   items_of no_more = no_item
   items_of (more t ts) = item (datum_of t) (items_of ts)
 
-  pub fields_of : Pairs → Fields
-  fields_of no_pair = no_field
-  fields_of (pair u escape_free t ps) = field u (datum_of t) (fields_of ps)
+  pub fields_of : Members → Fields
+  fields_of no_member = no_field
+  fields_of (member u escape_free t ps) = field u (datum_of t) (fields_of ps)

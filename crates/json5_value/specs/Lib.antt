@@ -1,12 +1,12 @@
 pub mod Brackets
 pub mod Kinds
-pub mod Places
+pub mod Offsets
 pub mod Steps
 pub mod Entries
 pub mod Opening
 pub mod Nesting
 pub mod SkipSteps
-pub mod Short
+pub mod ShortWays
 pub mod Data
 pub mod Keeping
 pub mod BuildSteps

@@ -2,7 +2,7 @@
 use Rattle.std.specs.Prelude.{◌≡◌, ℕ, ◌-◌, ◌<◌, ◌≤◌, List, [], ◌∷◌, length}
 use Rattle.json5_grammar.specs.Model.Reading.{Read, and_then, placed}
 use Rattle.json5_text.specs.Cursor.{Cursor}
-use Rattle.json5_value.specs.Places.{CountsTo}
+use Rattle.json5_value.specs.Offsets.{CountsTo}
 use Rattle.json5_value.specs.Steps.{IsInside}
 
 -- these are open, the outermost first; at most d brackets may be open at once; and what m reads makes w of the whole

@@ -11,7 +11,7 @@ use Rattle.json5_text.specs.Cursor.{Cursor, Took}
 use Rattle.json5_text.specs.ShortTexts.{IsTextAt}
 use Rattle.json5_text.specs.TextTokens.{IsSliceAt}
 use Rattle.json5_text.specs.ValueViews.{Datum, object, field, fields_view}
-use Rattle.json5_value.specs.declared.short.NameLeft.{NameLeft}
+use Rattle.json5_value.specs.declared.short_ways.NameLeft.{NameLeft}
 use Rattle.json5_value.specs.declared.short_members.ShortMember.{ShortMember}
 use Rattle.json5_value.specs.declared.short_members.ShortMember.TheVariants as entered
 use Rattle.json5_value.specs.declared.short_members.ShortMembers.{ShortMembers}
@@ -20,7 +20,7 @@ use Rattle.json5_text.specs.declared.error.Error.{Error}
 use Rattle.json5_value.specs.declared.unfinished.Unfinished.{Unfinished}
 use Rattle.json5_value.specs.BuildSteps.{TurnsBuildingInside, members_before, object_with, object_at}
 use Rattle.json5_value.specs.Keeping.{as_datum, next_key}
-use Rattle.json5_value.specs.Short.{name_left}
+use Rattle.json5_value.specs.ShortWays.{name_left}
 use Rattle.json5_value.specs.ShortValues.{Leaves, LeavesLess}
 use Rattle.json5_value.specs.Steps.{SameText, Gave}
 

@@ -3,8 +3,8 @@ use Rattle.std.specs.Prelude.{◌≡◌, ℕ, ◌<◌, Bool, true, false, List, 
 use Rattle.json5_grammar.specs.Faults.Fronts.{of_array}
 use Rattle.json5_grammar.specs.Model.Reading.{Read, got, and_then}
 use Rattle.json5_grammar.specs.Model.ReadSteps.{next_value, trees_after}
-use Rattle.json5_text.specs.declared.short.ShortStep.{ShortStep}
-use Rattle.json5_text.specs.declared.short.ShortStep.TheVariants as step
+use Rattle.json5_text.specs.declared.short_ways.ShortStep.{ShortStep}
+use Rattle.json5_text.specs.declared.short_ways.ShortStep.TheVariants as step
 use Rattle.json5_text.specs.declared.value.Value.{Value}
 use Rattle.json5_text.specs.Cursor.{Cursor, Took}
 use Rattle.json5_text.specs.ValueViews.{Datum, array, item, items_view, value_of}

@@ -4,17 +4,17 @@ ghost use Rattle.json5_grammar.specs.Model.ReadSteps.{forget, colon_after, next_
 ghost use Rattle.json5_grammar.specs.Model.ReadTexts.{key};
 ghost use Rattle.json5_value.specs.Brackets.{bracket_of};
 ghost use Rattle.json5_value.specs.Entries.{due_comma, next_entry};
-ghost use Rattle.json5_value.specs.Short.{name_left};
+ghost use Rattle.json5_value.specs.ShortWays.{name_left};
 ghost use Rattle.json5_value.specs.Steps.{IsInside, Steps};
 
 use crate::brackets::BracketKind;
 use crate::faults::unexpected_here;
-use crate::short::{NameLeft, short_colon};
+use crate::short_ways::{NameLeft, short_colon};
 use json5_text::ErrorCode;
 use json5_text::error::{Error, Result};
 use json5_text::input::Input;
 use json5_text::scanner::Scanner;
-use json5_text::short::ShortStep;
+use json5_text::short_ways::ShortStep;
 use json5_text::strings::is_quote;
 
 /// Passes over a key.

@@ -5,12 +5,12 @@ ghost use Rattle.std.specs.Prelude.{◌≡◌};
 ghost use Rattle.json5_value.specs.ShortMembers.{AddsMember, EntersMember, TakesMembers};
 ghost use Rattle.json5_value.specs.Steps.{IsInside};
 
-use crate::short::{NameLeft, short_colon};
 use crate::short_values::{ShortValue, short_value};
+use crate::short_ways::{NameLeft, short_colon};
 use json5_text::input::Input;
 use json5_text::scanner::Scanner;
-use json5_text::short::ShortStep;
 use json5_text::short_texts::Span;
+use json5_text::short_ways::ShortStep;
 use json5_text::value::Value;
 
 /// What a short way to the value of a member came to.

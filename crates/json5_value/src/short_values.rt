@@ -7,11 +7,11 @@ ghost use Rattle.json5_value.specs.Opening.{AtKind};
 ghost use Rattle.json5_value.specs.Steps.{IsInside};
 
 use crate::kinds::{Literal, ValueKind, kind_at};
-use crate::short::short_literal;
+use crate::short_ways::short_literal;
 use crate::tokens::value_of_literal;
 use json5_text::input::Input;
 use json5_text::scanner::Scanner;
-use json5_text::short::ShortStep;
+use json5_text::short_ways::ShortStep;
 use json5_text::value::Value;
 use json5_text::whole::Whole;
 

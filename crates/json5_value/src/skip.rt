@@ -6,14 +6,14 @@ ghost use Rattle.json5_grammar.specs.Faults.Fronts.{opening};
 ghost use Rattle.json5_value.specs.Brackets.{bracket_of};
 ghost use Rattle.json5_value.specs.Opening.{AtScalar};
 ghost use Rattle.json5_value.specs.Steps.{IsInside, Steps, value_at};
-ghost use Rattle.json5_value.specs.Short.{TurnsMember, ResumesShort, TurnsShort};
+ghost use Rattle.json5_value.specs.ShortWays.{TurnsMember, ResumesShort, TurnsShort};
 ghost use Rattle.json5_value.specs.SkipSteps.{SkipsOrOpens, TurnsSkipping, TurnsSkippingInside, PositionedWithin, SkipsValue};
 
 use crate::brackets::{BracketKind, OpenBracket, open_bracket};
 use crate::entries::{skip_name, skip_to_value};
 use crate::faults::{fault_here, with_position_at};
 use crate::kinds::{ValueKind, kind_at, skip_literal};
-use crate::short::{NameLeft, ShortEntry, short_entry, short_scalar};
+use crate::short_ways::{NameLeft, ShortEntry, short_entry, short_scalar};
 use arrayvec::ArrayVec;
 use json5_text::ErrorCode;
 use json5_text::error::{Error, Result};

@@ -15,7 +15,7 @@ use crate::brackets::BracketKind;
 use crate::entries::{skip_colon, skip_to_entry};
 use crate::faults::fault_here;
 use crate::kinds::{Literal, ValueKind, kind_at, skip_literal};
-use crate::short::short_literal;
+use crate::short_ways::short_literal;
 use json5_text::ErrorCode;
 use json5_text::error::{Error, Result};
 use json5_text::input::Input;

@@ -9,16 +9,16 @@ mutual
     number : Number → Tree
     text : List ℕ → Bool → Tree
     array : Trees → Tree
-    object : Pairs → Tree
+    object : Members → Tree
 
   pub data Trees : Type 0 where
     no_more : Trees
     more : Tree → Trees → Trees
 
-  -- a key's string, whether it is escape-free, its value, and the pairs after it
-  pub data Pairs : Type 0 where
-    no_pair : Pairs
-    pair : List ℕ → Bool → Tree → Pairs → Pairs
+  -- a key's string, whether it is escape-free, its value, and the members after it
+  pub data Members : Type 0 where
+    no_member : Members
+    member : List ℕ → Bool → Tree → Members → Members
 
 abbrev mutual
   pub depth : Tree → ℕ
@@ -27,12 +27,12 @@ abbrev mutual
   depth (number n) = 0
   depth (text u escape_free) = 0
   depth (array ts) = suc (depths ts)
-  depth (object ps) = suc (pair_depths ps)
+  depth (object ps) = suc (member_depths ps)
 
   pub depths : Trees → ℕ
   depths no_more = 0
   depths (more t ts) = max (depth t) (depths ts)
 
-  pub pair_depths : Pairs → ℕ
-  pair_depths no_pair = 0
-  pair_depths (pair u escape_free t ps) = max (depth t) (pair_depths ps)
+  pub member_depths : Members → ℕ
+  member_depths no_member = 0
+  member_depths (member u escape_free t ps) = max (depth t) (member_depths ps)

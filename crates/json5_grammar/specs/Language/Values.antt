@@ -7,7 +7,7 @@ use Rattle.json5_grammar.specs.Language.Blanks.{Blanks}
 use Rattle.json5_grammar.specs.Language.Numbers.{Number, Num, lengthens}
 use Rattle.json5_grammar.specs.Language.Strings.{Str}
 use Rattle.json5_grammar.specs.Language.Names.{Ident}
-use Rattle.json5_grammar.specs.Language.Trees.{Tree, Trees, Pairs, null, boolean, number, text, array, object, no_more, more, no_pair, pair}
+use Rattle.json5_grammar.specs.Language.Trees.{Tree, Trees, Members, null, boolean, number, text, array, object, no_more, more, no_member, member}
 
 abbrev pub null_text : List ℕ
 null_text = codes "null"
@@ -37,17 +37,17 @@ mutual
     is_text : {s u : List ℕ} {escape_free : Bool} → Str s u escape_free → Val s (text u escape_free)
     is_empty_array : {w : List ℕ} → Blanks w → Val (left_bracket ∷ w ++ right_bracket ∷ []) (array no_more)
     is_array : {m : List ℕ} {ts : Trees} → ElementList m ts → Val (left_bracket ∷ m ++ right_bracket ∷ []) (array ts)
-    is_empty_object : {w : List ℕ} → Blanks w → Val (left_brace ∷ w ++ right_brace ∷ []) (object no_pair)
-    is_object : {m : List ℕ} {ps : Pairs} → MemberList m ps → Val (left_brace ∷ m ++ right_brace ∷ []) (object ps)
+    is_empty_object : {w : List ℕ} → Blanks w → Val (left_brace ∷ w ++ right_brace ∷ []) (object no_member)
+    is_object : {m : List ℕ} {ps : Members} → MemberList m ps → Val (left_brace ∷ m ++ right_brace ∷ []) (object ps)
 
   -- one or more elements, and the optional last comma
   pub data ElementList : List ℕ → Trees → Type 0 where
     last : {w s v c : List ℕ} {t : Tree} → Blanks w → Val s t → Blanks v → LastComma c → ElementList (w ++ (s ++ (v ++ c))) (more t no_more)
     next : {w s v m : List ℕ} {t : Tree} {ts : Trees} → Blanks w → Val s t → Blanks v → ElementList m ts → ElementList (w ++ (s ++ (v ++ comma_sign ∷ m))) (more t ts)
 
-  pub data MemberList : List ℕ → Pairs → Type 0 where
-    last_pair : {p c u : List ℕ} {escape_free : Bool} {t : Tree} → Member p u escape_free t → LastComma c → MemberList (p ++ c) (pair u escape_free t no_pair)
-    next_pair : {p m u : List ℕ} {escape_free : Bool} {t : Tree} {ps : Pairs} → Member p u escape_free t → MemberList m ps → MemberList (p ++ comma_sign ∷ m) (pair u escape_free t ps)
+  pub data MemberList : List ℕ → Members → Type 0 where
+    last_member : {p c u : List ℕ} {escape_free : Bool} {t : Tree} → Member p u escape_free t → LastComma c → MemberList (p ++ c) (member u escape_free t no_member)
+    next_member : {p m u : List ℕ} {escape_free : Bool} {t : Tree} {ps : Members} → Member p u escape_free t → MemberList m ps → MemberList (p ++ comma_sign ∷ m) (member u escape_free t ps)
 
   -- blanks, key, blanks, `:`, blanks, value, blanks
   pub data Member : List ℕ → List ℕ → Bool → Tree → Type 0 where

@@ -1,10 +1,10 @@
--- Arrays and objects from their front: the elements or pairs one after another, and the closing sign.
--- JSON5 sections 3 and 4 (objects and arrays; a comma is allowed after the last element or pair).
+-- Arrays and objects from their front: the elements or members one after another, and the closing sign.
+-- JSON5 sections 3 and 4 (objects and arrays; a comma is allowed after the last element or member).
 use Rattle.std.specs.Prelude.{◌≡◌, ◌⊎◌, ℕ, Bool, true, false, List, [], ◌∷◌, ◌++◌, Option, Some, None}
 use Rattle.json5_grammar.specs.Language.Characters.{comma_sign, colon_sign, left_bracket, right_bracket, left_brace, right_brace}
 use Rattle.json5_grammar.specs.Language.Blanks.{Blanks}
 use Rattle.json5_grammar.specs.Language.Names.{Key}
-use Rattle.json5_grammar.specs.Language.Trees.{Tree, Trees, Pairs, null, boolean, number, text, array, object, no_more, more, no_pair, pair}
+use Rattle.json5_grammar.specs.Language.Trees.{Tree, Trees, Members, null, boolean, number, text, array, object, no_more, more, no_member, member}
 use Rattle.json5_grammar.specs.Language.Values.{Reads}
 
 -- x begins with blanks and the sign, and r is left after it
@@ -78,22 +78,22 @@ IsBrace comma_due x r = IsEnd right_brace comma_due x r
 abbrev pub IsAtBrace : Bool → List ℕ → List ℕ → Type 0
 IsAtBrace comma_due x y = (r : List ℕ) × IsBrace comma_due x r × (y ≡ right_brace ∷ r)
 
--- x goes on with these pairs and the closing brace, and r is left after it
-abbrev pub PairsTail : Pairs → Bool → List ℕ → List ℕ → Type 0
-PairsTail no_pair comma_due x r = IsBrace comma_due x r
-PairsTail (pair u escape_free t ps) comma_due x r = (y : List ℕ) × (z : List ℕ) × IsKey comma_due x u escape_free y × IsKeyValue y t z × PairsTail ps true z r
+-- x goes on with these members and the closing brace, and r is left after it
+abbrev pub MembersTail : Members → Bool → List ℕ → List ℕ → Type 0
+MembersTail no_member comma_due x r = IsBrace comma_due x r
+MembersTail (member u escape_free t ps) comma_due x r = (y : List ℕ) × (z : List ℕ) × IsKey comma_due x u escape_free y × IsKeyValue y t z × MembersTail ps true z r
 
--- from x these pairs are read, and y is left; a comma is due before them, and then after them
-abbrev pub PairsPassed : Pairs → Bool → List ℕ → Bool → List ℕ → Type 0
-PairsPassed no_pair comma_due x now y = (comma_due ≡ now) × (x ≡ y)
-PairsPassed (pair u escape_free t ps) comma_due x now y = (k : List ℕ) × (z : List ℕ) × IsKey comma_due x u escape_free k × IsKeyValue k t z × PairsPassed ps true z now y
+-- from x these members are read, and y is left; a comma is due before them, and then after them
+abbrev pub MembersPassed : Members → Bool → List ℕ → Bool → List ℕ → Type 0
+MembersPassed no_member comma_due x now y = (comma_due ≡ now) × (x ≡ y)
+MembersPassed (member u escape_free t ps) comma_due x now y = (k : List ℕ) × (z : List ℕ) × IsKey comma_due x u escape_free k × IsKeyValue k t z × MembersPassed ps true z now y
 
 -- x goes on with no key and no closing brace
-pub record NoPairGoes (comma_due : Bool) (x : List ℕ) : Type 0 where
+pub record NoMemberGoes (comma_due : Bool) (x : List ℕ) : Type 0 where
   pub no_key : (u : List ℕ) (escape_free : Bool) (r : List ℕ) → IsKey comma_due x u escape_free r → ⊥
   pub no_brace : (r : List ℕ) → IsBrace comma_due x r → ⊥
 
--- ---- lists of trees and of pairs
+-- ---- lists of trees and of members
 
 -- the trees, and one more at their end
 abbrev pub snoc : Trees → Tree → Trees
@@ -105,15 +105,15 @@ abbrev pub joined_trees : Trees → Trees → Trees
 joined_trees no_more us = us
 joined_trees (more t ts) us = more t (joined_trees ts us)
 
--- the pairs, and one more at their end
-abbrev pub snoc_pair : Pairs → List ℕ → Bool → Tree → Pairs
-snoc_pair no_pair u escape_free t = pair u escape_free t no_pair
-snoc_pair (pair v other s ps) u escape_free t = pair v other s (snoc_pair ps u escape_free t)
+-- the members, and one more at their end
+abbrev pub snoc_member : Members → List ℕ → Bool → Tree → Members
+snoc_member no_member u escape_free t = member u escape_free t no_member
+snoc_member (member v other s ps) u escape_free t = member v other s (snoc_member ps u escape_free t)
 
--- the pairs, and others after them
-abbrev pub joined_pairs : Pairs → Pairs → Pairs
-joined_pairs no_pair qs = qs
-joined_pairs (pair u escape_free t ps) qs = pair u escape_free t (joined_pairs ps qs)
+-- the members, and others after them
+abbrev pub joined_members : Members → Members → Members
+joined_members no_member qs = qs
+joined_members (member u escape_free t ps) qs = member u escape_free t (joined_members ps qs)
 
 -- ---- contents
 
@@ -141,13 +141,13 @@ joint None v = None
 joint (Some k) None = None
 joint (Some k) (Some v) = Some (k, v)
 
--- each pair's key and value, where each has a content; a key's content may depend on whether it is escape-free
-abbrev pub pair_contents : {K V : Type 0} → (List ℕ → Bool → Option K) → (Tree → Option V) → Pairs → Option (List (K × V))
-pair_contents keys values no_pair = Some []
-pair_contents keys values (pair u escape_free t ps) = both (joint (keys u escape_free) (values t)) (pair_contents keys values ps)
+-- each member's key and value, where each has a content; a key's content may depend on whether it is escape-free
+abbrev pub pair_contents : {K V : Type 0} → (List ℕ → Bool → Option K) → (Tree → Option V) → Members → Option (List (K × V))
+pair_contents keys values no_member = Some []
+pair_contents keys values (member u escape_free t ps) = both (joint (keys u escape_free) (values t)) (pair_contents keys values ps)
 
--- an object's content, from its pairs
-abbrev pub object_of : {C : Type 0} → (Pairs → Option C) → Tree → Option C
+-- an object's content, from its members
+abbrev pub object_of : {C : Type 0} → (Members → Option C) → Tree → Option C
 object_of convert null = None
 object_of convert (boolean b) = None
 object_of convert (number n) = None

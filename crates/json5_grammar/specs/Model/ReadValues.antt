@@ -4,7 +4,7 @@ use Rattle.json5_grammar.specs.Language.Characters.{comma_sign, colon_sign, left
 use Rattle.json5_grammar.specs.Faults.Codes.{EofParsingArray, EofParsingBool, EofParsingNull, EofParsingObject, EofParsingValue, ExpectedBool, ExpectedColon, ExpectedComma, ExpectedNull, ExpectedValue, TrailingCharacters, TooDeep}
 use Rattle.json5_grammar.specs.Faults.Tokens.{is_sign, begins_number}
 use Rattle.json5_grammar.specs.Language.Strings.{is_quote}
-use Rattle.json5_grammar.specs.Language.Trees.{Tree, Trees, Pairs, null, boolean, text, array, object, no_more, more, no_pair, pair}
+use Rattle.json5_grammar.specs.Language.Trees.{Tree, Trees, Members, null, boolean, text, array, object, no_more, more, no_member, member}
 use Rattle.json5_grammar.specs.Model.ReadNumbers.{number}
 use Rattle.json5_grammar.specs.Language.Values.{null_text, true_text, false_text}
 use Rattle.json5_grammar.specs.Model.ReadTexts.{key, string}
@@ -13,27 +13,27 @@ use Rattle.json5_grammar.specs.Model.ReadBlanks.{skip, between}
 
 -- ---- elements of arrays
 
-abbrev pub after_member : (List ℕ → Read Trees) → List ℕ → Read Trees
-after_member k [] = bad (Some EofParsingArray) inner
-after_member k (c ∷ r) = cond (c == comma_sign) (k r) (cond (c == right_bracket) (got no_more r) (bad (Some ExpectedComma) (here (c ∷ r))))
+abbrev pub after_element : (List ℕ → Read Trees) → List ℕ → Read Trees
+after_element k [] = bad (Some EofParsingArray) inner
+after_element k (c ∷ r) = cond (c == comma_sign) (k r) (cond (c == right_bracket) (got no_more r) (bad (Some ExpectedComma) (here (c ∷ r))))
 
 abbrev pub close_or : Read Trees → List ℕ → Read Trees
 close_or m [] = m
 close_or m (c ∷ r) = cond (c == right_bracket) (got no_more r) m
 
-abbrev pub member : (List ℕ → Read Tree) → (List ℕ → Read Trees) → List ℕ → Read Trees
-member val k x = and_then (val x) (λ t r. and_then (skip between r) (λ u y. and_then (after_member k y) (λ ts z. got (more t ts) z)))
+abbrev pub element_at : (List ℕ → Read Tree) → (List ℕ → Read Trees) → List ℕ → Read Trees
+element_at val k x = and_then (val x) (λ t r. and_then (skip between r) (λ u y. and_then (after_element k y) (λ ts z. got (more t ts) z)))
 
 -- the number bounds the turns; any above the length of x is enough
 unfoldable pub read_elements : (List ℕ → Read Tree) → ℕ → List ℕ → Read Trees
 read_elements val zero x = bad (Some EofParsingArray) inner
-read_elements val (suc n) x = and_then (skip between x) (λ u y. close_or (member val (read_elements val n) y) y)
+read_elements val (suc n) x = and_then (skip between x) (λ u y. close_or (element_at val (read_elements val n) y) y)
 
--- ---- pairs of objects
+-- ---- members of objects
 
-abbrev pub after_pair : (List ℕ → Read Pairs) → List ℕ → Read Pairs
-after_pair k [] = bad (Some EofParsingObject) inner
-after_pair k (c ∷ r) = cond (c == comma_sign) (k r) (cond (c == right_brace) (got no_pair r) (bad (Some ExpectedComma) (here (c ∷ r))))
+abbrev pub after_member : (List ℕ → Read Members) → List ℕ → Read Members
+after_member k [] = bad (Some EofParsingObject) inner
+after_member k (c ∷ r) = cond (c == comma_sign) (k r) (cond (c == right_brace) (got no_member r) (bad (Some ExpectedComma) (here (c ∷ r))))
 
 abbrev pub colon_at : List ℕ → Read (Unit {0})
 colon_at [] = bad (Some EofParsingObject) inner
@@ -43,16 +43,16 @@ colon_at (c ∷ r) = cond (c == colon_sign) (got tt r) (bad (Some ExpectedColon)
 abbrev pub value_after : (List ℕ → Read Tree) → List ℕ → Read Tree
 value_after val x = and_then (skip between x) (λ u y. and_then (colon_at y) (λ v z. and_then (skip between z) (λ w q. val q)))
 
-abbrev pub pair_at : (List ℕ → Read Tree) → (List ℕ → Read Pairs) → List ℕ → Read Pairs
-pair_at val k x = and_then (key x) (λ a r. and_then (value_after val r) (λ t y. and_then (skip between y) (λ u z. and_then (after_pair k z) (λ ps q. got (pair a.0 a.1 t ps) q))))
+abbrev pub member_at : (List ℕ → Read Tree) → (List ℕ → Read Members) → List ℕ → Read Members
+member_at val k x = and_then (key x) (λ a r. and_then (value_after val r) (λ t y. and_then (skip between y) (λ u z. and_then (after_member k z) (λ ps q. got (member a.0 a.1 t ps) q))))
 
-abbrev pub key_or : Read Pairs → List ℕ → Read Pairs
+abbrev pub key_or : Read Members → List ℕ → Read Members
 key_or m [] = bad (Some EofParsingObject) inner
-key_or m (c ∷ r) = cond (c == right_brace) (got no_pair r) m
+key_or m (c ∷ r) = cond (c == right_brace) (got no_member r) m
 
-unfoldable pub read_members : (List ℕ → Read Tree) → ℕ → List ℕ → Read Pairs
+unfoldable pub read_members : (List ℕ → Read Tree) → ℕ → List ℕ → Read Members
 read_members val zero x = bad (Some EofParsingObject) inner
-read_members val (suc n) x = and_then (skip between x) (λ u y. key_or (pair_at val (read_members val n) y) y)
+read_members val (suc n) x = and_then (skip between x) (λ u y. key_or (member_at val (read_members val n) y) y)
 
 -- ---- values
 

@@ -1,8 +1,8 @@
 //! The laws of arrays and objects that are read one element or member at a time.
 ghost use Rattle.std.specs.Prelude.{◌≡◌, ℕ, Bool, true, false, List};
-ghost use Rattle.json5_grammar.specs.Language.Trees.{Tree, Trees, Pairs, array, object};
+ghost use Rattle.json5_grammar.specs.Language.Trees.{Tree, Trees, Members, array, object};
 ghost use Rattle.json5_grammar.specs.Language.Values.{Reads};
-ghost use Rattle.json5_grammar.specs.Model.Collections.{Opens, IsElement, IsClose, Tail, OpensObject, IsKey, IsKeyValue, IsBrace, PairsTail};
+ghost use Rattle.json5_grammar.specs.Model.Collections.{Opens, IsElement, IsClose, Tail, OpensObject, IsKey, IsKeyValue, IsBrace, MembersTail};
 
 /// An array is what is opened and has its elements and the closing bracket after it.
 pub fn array_from_front()
@@ -21,8 +21,8 @@ pub fn one_way_on()
 
 /// An object is what is opened and has its members and the closing brace after it.
 pub fn object_from_front()
-    ensures apart { (x r : List ℕ) (ps : Pairs) → Reads x (object ps) r → (y : List ℕ) × OpensObject x y × PairsTail ps false y r }
-    ensures together { (x y r : List ℕ) (ps : Pairs) → OpensObject x y → PairsTail ps false y r → Reads x (object ps) r }
+    ensures apart { (x r : List ℕ) (ps : Members) → Reads x (object ps) r → (y : List ℕ) × OpensObject x y × MembersTail ps false y r }
+    ensures together { (x y r : List ℕ) (ps : Members) → OpensObject x y → MembersTail ps false y r → Reads x (object ps) r }
 {}
 
 /// An object continues in one way: with one key and its value or the closing brace, and one rest is left.
@@ -32,5 +32,5 @@ pub fn one_way_on_in_object()
     ensures value { (x r q : List ℕ) (t u : Tree) → IsKeyValue x t r → IsKeyValue x u q → (t ≡ u) × (r ≡ q) }
     ensures close { (comma_due : Bool) (x r q : List ℕ) → IsBrace comma_due x r → IsBrace comma_due x q → r ≡ q }
     ensures either { (comma_due : Bool) (x r q u : List ℕ) (p : Bool) → IsKey comma_due x u p r → IsBrace comma_due x q → ⊥ }
-    ensures tail { (ps qs : Pairs) (comma_due : Bool) (x r q : List ℕ) → PairsTail ps comma_due x r → PairsTail qs comma_due x q → (ps ≡ qs) × (r ≡ q) }
+    ensures tail { (ps qs : Members) (comma_due : Bool) (x r q : List ℕ) → MembersTail ps comma_due x r → MembersTail qs comma_due x q → (ps ≡ qs) × (r ≡ q) }
 {}

@@ -1,7 +1,7 @@
 //! The laws of the faults of an input, each the contract of a function that does nothing.
 ghost use Rattle.std.specs.Prelude.{◌⊎◌, ℕ, List, ◌++◌};
 ghost use Rattle.json5_grammar.specs.Faults.Blames.{Blame, TextBlame, ValueBlame, IsDocument, HasValue, IsBlamed, BlamesOnce, StandsByChar, ShownByChar, StandsIn, Shows};
-ghost use Rattle.json5_grammar.specs.Faults.Commits.{FrontsCommit, FrontsContinue, StringsContinue, NamesContinue};
+ghost use Rattle.json5_grammar.specs.Faults.Continuations.{FrontsCommit, FrontsContinue, StringsContinue, NamesContinue};
 ghost use Rattle.json5_grammar.specs.Language.Documents.{Begins};
 ghost use Rattle.json5_grammar.specs.Faults.Parts.{Part};
 

@@ -1,5 +1,5 @@
 use Rattle.json5_de.specs.Convert.{unit_of, bool_of, unsigned_below, signed_below, decimal_of}
-use Rattle.json5_de.proofs.WholeTexts.{converts_documents}
+use Rattle.json5_de.proofs.KeyDocuments.{converts_documents}
 use Rattle.json5_de.proofs.laws.document_keys.Goals as goal
 
 pub returns-clause-null : goal.returns-clause-null

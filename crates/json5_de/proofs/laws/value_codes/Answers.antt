@@ -1,4 +1,4 @@
-use Rattle.json5_text.specs.Bytes.{bytes_of}
+use Rattle.json5_text.specs.ByteBufs.{bytes_of}
 use Rattle.json5_text.specs.Cows.{cow_bytes, is_borrowed}
 use Rattle.json5_text.specs.ValueViews.{value_of}
 use Rattle.json5_de.specs.Convert.{every_datum, natural_below, integer_below, every_text, one_character, if_escape_free, index_of, every_cow}

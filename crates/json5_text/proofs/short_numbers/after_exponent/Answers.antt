@@ -1,5 +1,5 @@
 use Rattle.std.proofs.Common.{refl, subst}
-use Rattle.json5_text.specs.Short.{IsInFront}
+use Rattle.json5_text.specs.ShortWays.{IsInFront}
 use Rattle.json5_text.proofs.ShortNumbers.{exponent_if, no_exponent_follows}
 use Rattle.json5_text.proofs.short_numbers.after_exponent.Goals as goal
 

@@ -1,5 +1,5 @@
 use Rattle.std.proofs.Common.{◌≤◌, length, subst, sym, ◌∙◌, rules}
-use Rattle.json5_text.specs.Short.{IsInFront}
+use Rattle.json5_text.specs.ShortWays.{IsInFront}
 use Rattle.json5_text.proofs.ShortNumbers.{integer_follows, point_follows}
 use Rattle.json5_text.proofs.short_numbers.after_mantissa.Goals as goal
 

@@ -1,5 +1,5 @@
 use Rattle.std.proofs.Common.{subst}
-use Rattle.json5_text.specs.Short.{IsInFront}
+use Rattle.json5_text.specs.ShortWays.{IsInFront}
 use Rattle.json5_text.proofs.ShortNumbers.{minus_follows, plus_follows, none_follows}
 use Rattle.json5_text.proofs.short_numbers.after_sign.Goals as goal
 

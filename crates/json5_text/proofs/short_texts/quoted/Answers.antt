@@ -1,6 +1,6 @@
 use Rattle.std.proofs.Common.{subst, arith, true}
 use Rattle.json5_text.specs.ScanTexts.{quote_of}
-use Rattle.json5_text.specs.Short.{IsInFront}
+use Rattle.json5_text.specs.ShortWays.{IsInFront}
 use Rattle.json5_text.proofs.ScanRuns.{quote_is}
 use Rattle.json5_text.proofs.ShortTexts.{quoted_found}
 use Rattle.json5_text.proofs.StopRuns.{quote_ascii}

@@ -1,5 +1,5 @@
 use Rattle.std.proofs.Common.{sym, ◌∙◌}
-use Rattle.json5_value.proofs.Places.{place_kept, place_given}
+use Rattle.json5_value.proofs.FaultPositions.{place_kept, place_given}
 use Rattle.json5_value.proofs.faults.with_position_at.Goals as goal
 
 pub returns-in-Some : goal.returns-in-Some

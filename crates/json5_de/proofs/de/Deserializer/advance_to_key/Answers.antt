@@ -26,4 +26,4 @@ returns-then-not-at_key-clause-nowhere g c = λ live.
 pub returns-clause-sound : goal.returns-clause-sound
 returns-clause-sound g c =
     let at = rw c.if-not-branch.false at c.in_ok-advance_to_entry.ensures.sound in
-    (record { member = at; begins = c.if-not-at_key.ensures.found refl }, c.offset.ensures)
+    (record { entry = at; begins = c.if-not-at_key.ensures.found refl }, c.offset.ensures)

@@ -1,6 +1,6 @@
 use Rattle.std.proofs.Common.{refl, subst}
 use Rattle.json5_grammar.proofs.Basics.{true_false}
-use Rattle.json5_de.specs.Short.{PassesShortColon}
+use Rattle.json5_de.specs.ShortWays.{PassesShortColon}
 use Rattle.json5_de.proofs.Taken.{input_of}
 use Rattle.json5_de.proofs.de.Deserializer.colon.Goals as goal
 

@@ -6,7 +6,7 @@ use Rattle.json5_text.specs.TextTokens.{Spells}
 use Rattle.json5_text.proofs.TextScalars.{string_scalars}
 use Rattle.json5_de.specs.Convert.{every_text}
 use Rattle.json5_de.proofs.Expected.{wrongly_refused}
-use Rattle.json5_de.proofs.ExpectsTexts.{expects_text}
+use Rattle.json5_de.proofs.ExpectsStrings.{expects_text}
 use Rattle.json5_de.proofs.FoundStrings.{escape_free_found}
 use Rattle.json5_de.proofs.TokenKinds.{given_up}
 use Rattle.json5_de.proofs.Taken.{input_of, refused_blanks, refused_or_memory}

@@ -1,7 +1,7 @@
 use Rattle.std.proofs.Common.{refl, sym, ◌∙◌}
 use Rattle.std.proofs.lemmas.Result.{err_from_is_err_and}
 use Rattle.json5_de.proofs.Taken.{refused_blanks, refused_token, input_of}
-use Rattle.json5_de.proofs.Places.{refused_as}
+use Rattle.json5_de.proofs.RefusalPositions.{refused_as}
 use Rattle.json5_de.proofs.Arrays.{level_of, not_opened_here, too_deep_here}
 use Rattle.json5_de.proofs.OpenClose.{opens, opened_here, starts_here, refuses_opening}
 use Rattle.json5_value.specs.Brackets.{brackets_of}

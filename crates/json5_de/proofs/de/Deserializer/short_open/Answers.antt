@@ -1,5 +1,5 @@
 use Rattle.std.proofs.Common.{true, ap, subst, arith}
-use Rattle.json5_text.specs.Short.{TakesShortSign}
+use Rattle.json5_text.specs.ShortWays.{TakesShortSign}
 use Rattle.json5_value.specs.declared.brackets.Brackets.{Brackets}
 use Rattle.json5_de.proofs.ShortBrackets.{short_open}
 use Rattle.json5_de.proofs.de.Deserializer.short_open.Goals as goal

@@ -1,5 +1,5 @@
 use Rattle.std.proofs.Common.{ap, subst}
-use Rattle.json5_text.specs.Short.{TakesShortStep}
+use Rattle.json5_text.specs.ShortWays.{TakesShortStep}
 use Rattle.json5_value.specs.Brackets.{brackets_of}
 use Rattle.json5_value.specs.declared.brackets.Brackets.{Brackets}
 use Rattle.json5_de.proofs.ShortReads.{short_step}

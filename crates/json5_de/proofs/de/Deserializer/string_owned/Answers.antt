@@ -1,5 +1,5 @@
 use Rattle.std.proofs.Common.{rules}
-use Rattle.json5_de.proofs.TextScalars.{took_owned}
+use Rattle.json5_de.proofs.StringCharacters.{took_owned}
 use Rattle.json5_de.proofs.de.Deserializer.string_owned.Goals as goal
 
 pub returns-in-Ok : goal.returns-in-Ok

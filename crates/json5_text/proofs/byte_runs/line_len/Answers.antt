@@ -1,0 +1,15 @@
+use Rattle.std.proofs.Common.{◌≡◌, Bool, true, false, not, ◌||◌, ◌&&◌, refl, ◌∙◌}
+use Rattle.std.specs.Prelude.{◌==◌}
+use Rattle.memchr.specs.Find.{is_byte3}
+use Rattle.json5_text.specs.ByteRuns.{is_in_line}
+use Rattle.json5_text.proofs.FirstBytes.{run_found}
+use Rattle.json5_text.proofs.byte_runs.line_len.Goals as goal
+
+none_of_three : (a b c : Bool) → (not a && (not b && not c)) ≡ not (a || b || c)
+none_of_three true b c = refl
+none_of_three false true c = refl
+none_of_three false false c = refl
+
+pub returns : goal.returns
+returns c =
+    c.unwrap_or.ensures ∙ run_found (is_byte3 10 13 226) is_in_line (λ x. none_of_three (x == 10) (x == 13) (x == 226)) c.args.bytes.now c.memchr3.result c.memchr3.ensures

@@ -1,0 +1,203 @@
+//! Short ways: tokens that are taken at once where no fault can come. They return numbers alone, so that the caller's frame
+//! holds no fault. When they return None they take nothing, and the scanner's other calls say what is there.
+
+ghost use Rattle.std.specs.Prelude.{◌<◌, true, false, IfSome};
+ghost use Rattle.json5_text.specs.ShortWays.{FollowsBlanks, IsShortWhole, GivesSpaced, TakesShortWhole, IsInFront, FindsStep, TakesShortStep, FindsSign, TakesShortSign};
+
+use crate::blanks::{skip_ascii, skip_blank};
+use crate::byte_runs::{begins_minus, begins_solid, short_digits};
+use crate::input::Input;
+use crate::scanner::Scanner;
+
+/// What follows blanks of any kind, comments among them. None at the end of the text, and at a comment that has a fault.
+#[inline(never)]
+fn skip_comments(text: &str) -> Option<&str>
+    ensures { IfSome result (FollowsBlanks text.now) }
+{
+    let Ok(rest) = skip_blank(text) else {
+        return None;
+    };
+    if rest.is_empty() {
+        return None;
+    }
+    Some(rest)
+}
+
+/// What follows blanks. None at the end of the text, and at a comment that has a fault.
+#[inline(always)]
+fn skip_to_solid(text: &str) -> Option<&str>
+    ensures { IfSome result (FollowsBlanks text.now) }
+{
+    let rest = skip_ascii(text);
+    if begins_solid(rest.as_bytes()) {
+        return Some(rest);
+    }
+    skip_comments(rest)
+}
+
+/// A whole number of few digits, and how many bytes follow it.
+#[derive(Clone, Copy)]
+struct ShortWhole {
+    number: i128,
+    left: usize,
+}
+
+/// The whole number in front, if it has few digits, and what follows it.
+#[inline(always)]
+fn front_whole(text: &str) -> Option<(i128, &str)>
+    ensures { IfSome result (λ p. IsShortWhole text.now p.0 p.1.now) }
+{
+    if begins_minus(text.as_bytes()) {
+        let (magnitude, rest) = short_digits(text.split_at(1).1)?;
+        return Some((-i128::from(magnitude), rest));
+    }
+    let (magnitude, rest) = short_digits(text)?;
+    Some((i128::from(magnitude), rest))
+}
+
+/// The whole number after ASCII blanks, if it has few digits.
+#[inline(always)]
+fn spaced_whole(text: &str) -> Option<ShortWhole>
+    ensures { IfSome result (GivesSpaced text.now) }
+{
+    let (number, rest) = front_whole(skip_ascii(text))?;
+    Some(ShortWhole {
+        number,
+        left: rest.len(),
+    })
+}
+
+/// What a step to the next member of an array or an object came to.
+#[derive(Clone, Copy, Debug, PartialEq, Eq)]
+pub enum ShortStep {
+    /// A member may begin here.
+    Member,
+    /// The closing bracket is next.
+    Closing,
+    /// Anything else is in front, and nothing was taken.
+    Other,
+}
+
+/// A step, and how many bytes are left after it.
+#[derive(Clone, Copy)]
+struct Step {
+    at_closing: bool,
+    left: usize,
+}
+
+/// Whether the ASCII character is in front.
+#[inline(always)]
+pub(crate) fn is_in_front(sign: u8, text: &str) -> bool
+    requires { sign < 128 }
+    ensures { IsInFront sign text.now result }
+{
+    let bytes = text.as_bytes();
+    !bytes.is_empty() && bytes[0] == sign
+}
+
+/// A step where no comma is due.
+#[inline(always)]
+fn member_step(closing: u8, text: &str) -> Option<Step>
+    requires { closing < 128 }
+    ensures { IfSome result (FindsStep closing false text.now) }
+{
+    let solid = skip_to_solid(text)?;
+    Some(Step {
+        at_closing: is_in_front(closing, solid),
+        left: solid.len(),
+    })
+}
+
+/// A step where a comma is due.
+#[inline(always)]
+fn comma_step(closing: u8, text: &str) -> Option<Step>
+    requires { closing < 128 }
+    ensures { IfSome result (FindsStep closing true text.now) }
+{
+    let solid = skip_to_solid(text)?;
+    if is_in_front(closing, solid) {
+        return Some(Step {
+            at_closing: true,
+            left: solid.len(),
+        });
+    }
+    if !is_in_front(b',', solid) {
+        return None;
+    }
+    member_step(closing, solid.split_at(1).1)
+}
+
+/// A step, if the closing sign is an ASCII character.
+#[inline(always)]
+fn find_step(closing: u8, comma_due: bool, text: &str) -> Option<Step>
+    ensures { IfSome result (FindsStep closing comma_due text.now) }
+{
+    if closing >= 128 {
+        return None;
+    }
+    if comma_due {
+        comma_step(closing, text)
+    } else {
+        member_step(closing, text)
+    }
+}
+
+/// How many bytes follow ASCII blanks and the sign, if the sign is an ASCII character.
+#[inline(always)]
+fn after_sign(sign: u8, text: &str) -> Option<usize>
+    ensures { IfSome result (FindsSign sign text.now) }
+{
+    if sign >= 128 {
+        return None;
+    }
+    let solid = skip_to_solid(text)?;
+    if !is_in_front(sign, solid) {
+        return None;
+    }
+    Some(solid.len() - 1)
+}
+
+impl<I: Input> Scanner<I> {
+    /// Takes ASCII blanks and a whole number of at most 19 digits from `min` to `max`, up to where a number can't go on. Returns
+    /// None where anything else is in front, and takes nothing then.
+    #[inline(always)]
+    pub fn short_whole(&mut self, min: i128, max: i128) -> Option<i128>
+        ensures { TakesShortWhole min max self.old self.new result }
+    {
+        let found = spaced_whole(self.rest(self.input.as_text()))?;
+        if found.number < min || max < found.number {
+            return None;
+        }
+        self.set_remaining(found.left);
+        Some(found.number)
+    }
+
+    /// Takes ASCII blanks up to the next member of an array or an object, and before it the comma where one is due. The closing
+    /// bracket stays unread. Returns `Other` where anything else is in front, and takes nothing then.
+    #[inline(always)]
+    pub fn short_step(&mut self, closing: u8, comma_due: bool) -> ShortStep
+        ensures { TakesShortStep closing comma_due self.old self.new result }
+    {
+        let Some(step) = find_step(closing, comma_due, self.rest(self.input.as_text())) else {
+            return ShortStep::Other;
+        };
+        self.set_remaining(step.left);
+        if step.at_closing {
+            ShortStep::Closing
+        } else {
+            ShortStep::Member
+        }
+    }
+
+    /// Takes ASCII blanks and the sign, an ASCII character, and says whether they were in front. Else takes nothing.
+    #[inline(always)]
+    pub fn short_sign(&mut self, sign: u8) -> bool
+        ensures { TakesShortSign sign self.old self.new result }
+    {
+        let Some(left) = after_sign(sign, self.rest(self.input.as_text())) else {
+            return false;
+        };
+        self.set_remaining(left);
+        true
+    }
+}

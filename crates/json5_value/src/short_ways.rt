@@ -1,0 +1,120 @@
+//! Short ways: values and entries that are passed over at once where no fault can come. They return small values, so that the
+//! caller's frame holds no fault. When they take nothing, the longer ways say what is there.
+
+ghost use Rattle.json5_grammar.specs.Language.Blanks.{Solid};
+ghost use Rattle.json5_grammar.specs.Model.ReadSteps.{colon_after};
+ghost use Rattle.json5_text.specs.ShortWords.{TakesShortWord};
+ghost use Rattle.json5_value.specs.Kinds.{word_of};
+ghost use Rattle.json5_value.specs.Opening.{AtScalar};
+ghost use Rattle.json5_value.specs.ShortWays.{EntersShort, PassesShort, PassesTo, name_at};
+
+use crate::brackets::BracketKind;
+use crate::kinds::{Literal, ValueKind, kind_at};
+use json5_text::input::Input;
+use json5_text::scanner::Scanner;
+use json5_text::short_ways::ShortStep;
+
+/// What is left to pass over of the name of a member: its key, a colon and the blanks round it.
+#[derive(Clone, Copy)]
+pub(crate) enum NameLeft {
+    /// The whole name.
+    Key,
+    /// The colon and the blanks round it.
+    Colon,
+    /// The blanks after the colon.
+    Blanks,
+    /// Nothing: the value is next.
+    Nothing,
+}
+
+/// How far a short way to the value of an entry went.
+#[derive(Clone, Copy)]
+pub(crate) enum ShortEntry {
+    /// The value is next.
+    Value,
+    /// A member was reached, and this is left of its name.
+    Member(NameLeft),
+    /// The closing bracket was taken.
+    Closed,
+    /// Nothing was taken.
+    Other,
+}
+
+/// Passes over blanks, a colon and blanks, as far as no fault is possible.
+#[inline(always)]
+pub(crate) fn short_colon<I: Input>(scanner: &mut Scanner<I>) -> NameLeft
+    ensures { PassesTo (colon_after scanner.old.unread) result scanner.old scanner.new }
+{
+    if !scanner.short_sign(b':') {
+        return NameLeft::Colon;
+    }
+    match scanner.short_step(b'}', false) {
+        ShortStep::Other => NameLeft::Blanks,
+        _ => NameLeft::Nothing,
+    }
+}
+
+/// Passes over the name of the member in front, as far as no fault is possible.
+#[inline(always)]
+fn short_name<I: Input>(scanner: &mut Scanner<I>) -> NameLeft
+    requires { Solid scanner.old.unread }
+    ensures { PassesTo (name_at scanner.old.unread) result scanner.old scanner.new }
+{
+    if scanner.short_key().is_none() {
+        return NameLeft::Key;
+    }
+    short_colon(scanner)
+}
+
+/// Goes to the value of the next entry, after a comma if one is due, or past the closing bracket. Stops in the name of a
+/// member if a fault may be there.
+#[inline(always)]
+pub(crate) fn short_entry<I: Input>(
+    scanner: &mut Scanner<I>,
+    kind: BracketKind,
+    comma_due: bool,
+) -> ShortEntry
+    ensures { EntersShort kind comma_due scanner.old scanner.new result }
+{
+    let closing = kind.brackets().closing;
+    match scanner.short_step(closing as u8, comma_due) {
+        ShortStep::Other => ShortEntry::Other,
+        ShortStep::Closing => {
+            let _ = scanner.eat(closing);
+            ShortEntry::Closed
+        }
+        ShortStep::Member => match kind {
+            BracketKind::Array => ShortEntry::Value,
+            BracketKind::Object => match short_name(scanner) {
+                NameLeft::Nothing => ShortEntry::Value,
+                left => ShortEntry::Member(left),
+            },
+        },
+    }
+}
+
+/// Passes over the literal, and says whether it was next.
+#[inline(always)]
+pub(crate) fn short_literal<I: Input>(scanner: &mut Scanner<I>, literal: Literal) -> bool
+    ensures { TakesShortWord (word_of literal) scanner.old scanner.new result }
+{
+    match literal {
+        Literal::Null => scanner.short_word("null"),
+        Literal::True => scanner.short_word("true"),
+        Literal::False => scanner.short_word("false"),
+    }
+}
+
+/// Passes over a literal, a string without an escape or a number of few digits, and says whether one is in front.
+#[inline(always)]
+pub(crate) fn short_scalar<I: Input>(scanner: &mut Scanner<I>, c: char) -> bool
+    requires { AtScalar c scanner.old }
+    ensures { PassesShort scanner.old scanner.new result }
+{
+    match kind_at(c) {
+        ValueKind::Literal(literal) => short_literal(scanner, literal),
+        ValueKind::String => scanner.short_string().is_some(),
+        ValueKind::Number => scanner.short_number(),
+        ValueKind::Other => false,
+    }
+}
