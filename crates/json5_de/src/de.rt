@@ -184,6 +184,10 @@ impl<I: Input> Deserializer<I> {
 
     /// Returns the allocator that was handed to `from_str` or `within`, for what an impl allocates itself. Its contract also
     /// says that at most 128 brackets count as open.
+    ///
+    /// ```text
+    /// let mut ports: Vec<u16> = Vec::new(de.allocator());
+    /// ```
     pub fn allocator(&self) -> Global
         ensures { self.now.level ≤ max_depth }
     {
@@ -351,6 +355,12 @@ impl<I: Input> Deserializer<I> {
 
     /// Passes over the blanks at the end of the text, comments included. Nothing else may be left; the last line comment needs
     /// no line terminator.
+    ///
+    /// ```text
+    /// let mut de = Deserializer::from_str(alloc, "1 // one");
+    /// let one = de.deserialize_u8()?;
+    /// de.end()?;    // for `1 2` it is `TrailingCharacters` at the 2
+    /// ```
     ///
     /// # Errors
     ///

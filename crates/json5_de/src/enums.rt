@@ -177,6 +177,13 @@ impl<'a, I: Input> EnumAccess<'a, I> {
     ghost use Rattle.json5_de.specs.Lending.{state_of, map_state_of, enum_state_of, reader_of, HoldsBlocked, HoldsMapBlocked, lends_reader, lends_to_map};
 
     /// Returns the index of the name among the variants, counted from 0; of equal names it is the first.
+    ///
+    /// ```text
+    /// match access.variant() {
+    ///     0 => read_off(access),       // the first of the names
+    ///     _ => read_daily(access),
+    /// }
+    /// ```
     pub fn variant(&self) -> usize
         ensures { result ≡ (enum_state_of self.now).variant }
     {

@@ -41,6 +41,10 @@ impl<I: Input> MapKey<'_, I> {
 
     /// Reads a key whose text is `true` or `false`, blanks and comments round it included.
     ///
+    /// ```text
+    /// key.deserialize_bool()?    // true of the keys `true` and `' true '`; `yes` is `ExpectedBool` at the key
+    /// ```
+    ///
     /// # Errors
     ///
     /// As every call that reads a document: see [`MapKey`].
@@ -111,6 +115,10 @@ impl<I: Input> MapKey<'_, I> {
 
     /// Reads a key whose text is a whole number from -128 to 127.
     ///
+    /// ```text
+    /// key.deserialize_i8()?    // -7 of the keys `'-7'` and `'-0x7'`
+    /// ```
+    ///
     /// # Errors
     ///
     /// As every call that reads a document: see [`MapKey`].
@@ -165,6 +173,10 @@ impl<I: Input> MapKey<'_, I> {
     }
 
     /// Reads a key whose text is a number of any kind, as a decimal.
+    ///
+    /// ```text
+    /// key.deserialize_decimal()?    // of the key `'1.50'` the digits 15 and the exponent -1
+    /// ```
     ///
     /// # Errors
     ///

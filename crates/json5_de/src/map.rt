@@ -70,6 +70,14 @@ impl<I: Input> Deserializer<I> {
 
     /// Opens an object (JSON5 section 3), and lends the reader to the access that reads its members.
     ///
+    /// ```text
+    /// let mut map = de.deserialize_map()?;
+    /// while let Some(name) = map.next_key::<&str>()? {
+    ///     ports.push((name, map.next_value::<u16>()?))?;
+    /// }
+    /// map.end()?;
+    /// ```
+    ///
     /// # Errors
     ///
     /// - `ExpectedOpeningBrace` at another character than `{`.
@@ -94,6 +102,12 @@ impl<I: Input> Deserializer<I> {
 
     /// Opens an object as [`deserialize_map`](Deserializer::deserialize_map) does, for [`MapAccess::read_fields`]. The name and
     /// the fields change nothing.
+    ///
+    /// ```text
+    /// let mut map = de.deserialize_struct("Settings", &["host", "port"])?;
+    /// map.read_fields(&mut found)?;
+    /// map.end()?;
+    /// ```
     ///
     /// # Errors
     ///
@@ -164,6 +178,10 @@ impl<'a, I: Input> MapAccess<'a, I> {
     /// Reads the key of the next member, and the comma before it. Returns none where the closing brace is next, which `end`
     /// takes. The value of a key has to be read before the next key.
     ///
+    /// ```text
+    /// map.next_key::<&str>()?    // of `{http: 80}` Some of `http`; after its value None
+    /// ```
+    ///
     /// # Errors
     ///
     /// A fault without a position gets that of the opening brace, but for those of `K`.
@@ -190,6 +208,13 @@ impl<'a, I: Input> MapAccess<'a, I> {
 
     /// Reads the colon and the value of the key that was read last.
     ///
+    /// ```text
+    /// let Some(name) = map.next_key::<&str>()? else {
+    ///     return Err(map.place(Error::custom(alloc, "an empty object")?));
+    /// };
+    /// let port = map.next_value::<u16>()?;    // 80 of `{http: 80}`
+    /// ```
+    ///
     /// # Errors
     ///
     /// A fault without a position gets that of the opening brace.
@@ -213,6 +238,12 @@ impl<'a, I: Input> MapAccess<'a, I> {
     }
 
     /// Says whether a key was read whose value wasn't. A call that is refused doesn't change it.
+    ///
+    /// ```text
+    /// if map.key_pending() {
+    ///     map.skip_value()?;
+    /// }
+    /// ```
     pub fn key_pending(&self) -> bool
         ensures { result ≡ (map_state_of self.now).pending }
     {
@@ -234,6 +265,11 @@ impl<'a, I: Input> MapAccess<'a, I> {
 
     /// Returns the position of an offset in bytes, such as the `start` of a `Spanned` value: line and column, counted from 0.
     /// It is the position of the text's end where no character begins at the offset.
+    ///
+    /// ```text
+    /// let port = map.next_value::<Spanned<u16>>()?;
+    /// let position = map.position_of(port.start);    // for a fault of one's own at the value
+    /// ```
     pub fn position_of(&self, offset: usize) -> Position
         ensures { Locates (map_state_of self.now).at.reader.input offset result }
     {
@@ -244,6 +280,10 @@ impl<'a, I: Input> MapAccess<'a, I> {
     /// reader continues after the brace.
     ///
     /// Where the object is the content of a variant, the variant's `}` is taken too, before which one comma may be.
+    ///
+    /// ```text
+    /// map.end()?;    // after the last member of `{http: 80,}`; where one is left, `ExpectedClosingBrace` at it
+    /// ```
     ///
     /// # Errors
     ///

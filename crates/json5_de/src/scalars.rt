@@ -19,6 +19,10 @@ use json5_value::kinds::Literal;
 impl<I: Input> Deserializer<I> {
     /// Reads `null` (JSON5 section 2). Takes no memory.
     ///
+    /// ```text
+    /// de.deserialize_unit()?    // of `null`; `nil` is `ExpectedNull` at the i
+    /// ```
+    ///
     /// # Errors
     ///
     /// - `ExpectedNull` at the first character that differs from `null`.
@@ -32,6 +36,10 @@ impl<I: Input> Deserializer<I> {
     }
 
     /// Reads `true` or `false` (JSON5 section 2). Takes no memory.
+    ///
+    /// ```text
+    /// de.deserialize_bool()?    // true of `true`; `yes` is `ExpectedBool` at the y, `trap` at the a
+    /// ```
     ///
     /// # Errors
     ///
@@ -216,6 +224,10 @@ impl<I: Input> Deserializer<I> {
     }
 
     /// Reads a whole number from -128 to 127 as `i8`. Takes no memory where it succeeds.
+    ///
+    /// ```text
+    /// de.deserialize_i8()?    // -16 of `-16` and of `-0x10`; `128` is a custom fault at its start
+    /// ```
     ///
     /// # Errors
     ///

@@ -87,6 +87,14 @@ impl<I: Input> Deserializer<I> {
 
     /// Opens an array (JSON5 section 4), and lends the reader to the access that reads its elements.
     ///
+    /// ```text
+    /// let mut seq = de.deserialize_seq()?;
+    /// while let Some(port) = seq.next_element::<u16>()? {
+    ///     ports.push(port)?;
+    /// }
+    /// seq.end()?;
+    /// ```
+    ///
     /// # Errors
     ///
     /// - `ExpectedOpeningBracket` at another character than `[`.
@@ -131,6 +139,10 @@ impl<I: Input> Deserializer<I> {
 
     /// Opens an array as [`deserialize_seq`](Deserializer::deserialize_seq) does. The name and the length change nothing.
     ///
+    /// ```text
+    /// let mut seq = de.deserialize_tuple_struct("Point", 2)?;    // of `[1, 2]`, as `deserialize_tuple(2)`
+    /// ```
+    ///
     /// # Errors
     ///
     /// As `deserialize_seq`.
@@ -162,6 +174,10 @@ impl<'a, I: Input> SeqAccess<'a, I> {
     }
 
     /// Reads the next element, and the comma before it. Returns none where the closing bracket is next, which `end` takes.
+    ///
+    /// ```text
+    /// seq.next_element::<u8>()?    // of `[1, 2]` Some(1), then Some(2), then None
+    /// ```
     ///
     /// # Errors
     ///
@@ -234,6 +250,11 @@ impl<'a, I: Input> SeqAccess<'a, I> {
 
     /// Returns the position of an offset in bytes, such as the `start` of a `Spanned` element: line and column, counted from 0.
     /// It is the position of the text's end where no character begins at the offset.
+    ///
+    /// ```text
+    /// let Some(port) = seq.next_element::<Spanned<u16>>()? else { .. };
+    /// let position = seq.position_of(port.start);    // for a fault of one's own at the element
+    /// ```
     pub fn position_of(&self, offset: usize) -> Position
         ensures { Locates (state_of self.now).reader.input offset result }
     {
@@ -244,6 +265,10 @@ impl<'a, I: Input> SeqAccess<'a, I> {
     /// reader continues after the bracket.
     ///
     /// Where the array is the content of a variant, the variant's `}` is taken too, before which one comma may be.
+    ///
+    /// ```text
+    /// seq.end()?;    // after the last element of `[1, 2,]`; where one is left, `ExpectedClosingBracket` at it
+    /// ```
     ///
     /// # Errors
     ///

@@ -23,6 +23,10 @@ impl<W: Write + Drop> Serializer<W> {
 
     /// Writes the value itself.
     ///
+    /// ```text
+    /// ser.serialize_some(&80u16)?    // 80
+    /// ```
+    ///
     /// # Errors
     ///
     /// As every call: see [`Serializer`].
@@ -64,6 +68,10 @@ impl<W: Write + Drop> Serializer<W> {
     }
 
     /// Writes the value that a struct of one field holds. The name changes nothing.
+    ///
+    /// ```text
+    /// ser.serialize_newtype_struct("Id", &7u32)?    // 7
+    /// ```
     ///
     /// # Errors
     ///

@@ -112,6 +112,11 @@ impl<W: Write + Drop> MapKey<'_, W> {
 
     /// Writes the text as a key.
     ///
+    /// ```text
+    /// key.serialize_str("port")?       // port
+    /// key.serialize_str("a port")?     // "a port"
+    /// ```
+    ///
     /// # Errors
     ///
     /// As every call: see [`MapKey`].
@@ -190,6 +195,10 @@ impl<W: Write + Drop> MapKey<'_, W> {
     }
 
     /// Writes the key itself.
+    ///
+    /// ```text
+    /// key.serialize_some(&80u16)?    // "80"
+    /// ```
     ///
     /// # Errors
     ///

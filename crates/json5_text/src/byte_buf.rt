@@ -26,6 +26,10 @@ impl ByteBuf {
     ghost use Rattle.json5_text.specs.ByteBufs.{bytes_of};
 
     /// Makes a `ByteBuf` of these bytes. Takes no memory.
+    ///
+    /// ```text
+    /// json5::to_string(alloc, &ByteBuf::from_vec(bytes))?    // "ab0c" of the bytes 0xAB and 0x0C
+    /// ```
     pub fn from_vec(bytes: Vec<u8>) -> ByteBuf
         ensures { bytes_of result ≡ bytes.items }
     {

@@ -10,6 +10,10 @@ use unicode::properties::GeneralCategory;
 
 /// Says whether the character may be between tokens, as white space or a line terminator: U+0009 to U+000D, a space, U+00A0,
 /// U+2028, U+2029, U+FEFF and the category Zs (JSON5 section 8, ECMAScript 5.1 sections 7.2 and 7.3).
+///
+/// ```text
+/// is_json5_whitespace('\u{feff}')    // true; of '\u{85}' false
+/// ```
 #[tactic(auto, unfolding(json5_grammar::specs::Language::Characters::is_space_separator))]
 pub fn is_json5_whitespace(c: char) -> bool
     ensures { result ≡ is_blank c }
@@ -32,6 +36,10 @@ pub fn is_json5_line_terminator(c: char) -> bool
 
 /// Says whether an identifier may begin with the character: `$`, `_` and the categories Lu, Ll, Lt, Lm, Lo and Nl (ECMAScript
 /// 5.1 section 7.6). A backslash, which begins an escape, is none.
+///
+/// ```text
+/// is_json5_identifier_start('é')    // true; of '1' false
+/// ```
 pub fn is_json5_identifier_start(c: char) -> bool
     ensures { result ≡ is_identifier_start c }
 {
@@ -43,6 +51,10 @@ pub fn is_json5_identifier_start(c: char) -> bool
 
 /// Says whether an identifier may go on with the character: what may begin one, U+200C, U+200D and the categories Mn, Mc, Nd
 /// and Pc (ECMAScript 5.1 section 7.6).
+///
+/// ```text
+/// is_json5_identifier('1')    // true; of '-' false
+/// ```
 pub fn is_json5_identifier(c: char) -> bool
     ensures { result ≡ is_identifier_part c }
 {

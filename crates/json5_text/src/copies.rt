@@ -13,6 +13,11 @@ use std::alloc::Global;
 impl Value {
     /// Returns an equal value, which owns its memory.
     ///
+    /// ```text
+    /// let Some(server) = settings.get("server") else { .. };
+    /// let copy = server.clone(alloc)?;    // it may outlive `settings`
+    /// ```
+    ///
     /// # Errors
     ///
     /// None has a position.

@@ -212,6 +212,10 @@ impl<'a> DecimalRef<'a> {
 
 impl Decimal {
     /// Makes infinity, after a minus where `negative`. Takes no memory.
+    ///
+    /// ```text
+    /// json5::to_string(alloc, &Decimal::infinity(true))?    // -Infinity
+    /// ```
     pub fn infinity(negative: bool) -> Decimal
         ensures { result ≡ numbers.infinite negative }
     {
@@ -260,6 +264,11 @@ impl Decimal {
     }
 
     /// Says whether it has a minus, which zero and not-a-number may have too.
+    ///
+    /// ```text
+    /// let zero: Decimal = json5::from_str(alloc, "-0.0")?;
+    /// zero.is_negative()    // true
+    /// ```
     pub fn is_negative(&self) -> bool
         ensures { ShowsDecimal has_minus self.now result }
     {
@@ -296,6 +305,12 @@ impl Decimal {
     }
 
     /// Returns the ASCII digits, without zeros in front and at the end; none for zero, infinity and not-a-number.
+    ///
+    /// ```text
+    /// let price: Decimal = json5::from_str(alloc, "1.50")?;
+    /// price.digits()      // 15
+    /// price.exponent()    // -1
+    /// ```
     pub fn digits(&self) -> &str
         ensures { ShowsDecimal digits_in self.now result.now }
     {
@@ -316,6 +331,13 @@ impl Decimal {
     }
 
     /// Returns the text that `Display` prints, in pieces, so that it takes no memory however long it is.
+    ///
+    /// ```text
+    /// let mut pieces = price.pieces();
+    /// while let Some(piece) = pieces.next_piece() {
+    ///     out.write_str(piece)?;
+    /// }
+    /// ```
     pub fn pieces(&self) -> Pieces<'_>
         ensures { ShowsDecimal decimal_text self.now result }
     {

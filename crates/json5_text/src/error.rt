@@ -12,6 +12,10 @@ use std::fmt::{self, Write};
 use std::io;
 
 /// What reading and writing return: the value, or a fault.
+///
+/// ```text
+/// fn read_port(alloc: Global, text: &str) -> json5::Result<u16>
+/// ```
 pub type Result<T> = std::result::Result<T, Error>;
 
 /// What a fault says.
@@ -55,6 +59,10 @@ impl Error {
     }
 
     /// Makes a fault with this code at this position. Takes no memory.
+    ///
+    /// ```text
+    /// Error::new_at(Position { line: 0, column: 2 }, ErrorCode::InvalidBytes)    // prints `invalid bytes at line 1 column 3`
+    /// ```
     pub fn new_at(position: Position, code: ErrorCode) -> Error
         ensures { SaysAt (FaultKind.code code) (Some position) result }
     {
@@ -62,6 +70,10 @@ impl Error {
     }
 
     /// Makes a custom fault with this message, without a position. Takes no memory.
+    ///
+    /// ```text
+    /// Error::from_text(String::from_str(alloc, "port 0 can't be opened")?)
+    /// ```
     pub fn from_text(text: String) -> Error
         ensures { SaysAt (custom (string_bytes text)) None result }
     {
@@ -154,6 +166,13 @@ impl Error {
     }
 
     /// Returns what the fault says, without its position: the code in words, the custom message, or `failed write`.
+    ///
+    /// ```text
+    /// match json5::from_str::<u16>(alloc, "[80") {
+    ///     Err(error) => println!(rt; "{}", error.message())?,    // expected number
+    ///     Ok(port) => ..
+    /// }
+    /// ```
     pub fn message(&self) -> &str
         ensures { result.now ≡ kind_text (kind_of self.now) }
     {
@@ -191,6 +210,10 @@ impl Error {
     }
 
     /// Gives the fault this position, in place of any other.
+    ///
+    /// ```text
+    /// error.at(de.position_of(port.start))
+    /// ```
     #[must_use]
     pub fn at(self, position: Position) -> Error
         ensures { SaysAt (kind_of self) (Some position) result }

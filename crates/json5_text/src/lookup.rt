@@ -82,6 +82,10 @@ impl Value {
     }
 
     /// Returns the whole number, if it is one.
+    ///
+    /// ```text
+    /// settings.get("port")?.as_whole()?.as_u128()    // Some(80) of `{port: 80}`
+    /// ```
     pub fn as_whole(&self) -> Option<Whole>
         ensures { result ≡ whole_of (value_of self.now) }
     {
@@ -103,6 +107,10 @@ impl Value {
     }
 
     /// Returns the text, if it is a string.
+    ///
+    /// ```text
+    /// settings.get("host")?.as_str()    // Some of `localhost` for `{host: 'localhost'}`
+    /// ```
     pub fn as_str(&self) -> Option<&str>
         ensures { option_map (λ s. chars s.now) result ≡ text_in (value_of self.now) }
     {
@@ -113,6 +121,10 @@ impl Value {
     }
 
     /// Returns the elements in their order, if it is an array.
+    ///
+    /// ```text
+    /// for port in settings.get("ports")?.as_array()? { .. }
+    /// ```
     pub fn as_array(&self) -> Option<&[Value]>
         ensures { option_map (λ items. items_view items.now) result ≡ items_in (value_of self.now) }
     {
@@ -123,6 +135,10 @@ impl Value {
     }
 
     /// Returns the members in their order, if it is an object.
+    ///
+    /// ```text
+    /// for (name, value) in settings.as_object()? { .. }
+    /// ```
     pub fn as_object(&self) -> Option<&[(String, Value)]>
         ensures { option_map (λ fields. fields_view fields.now) result ≡ fields_in (value_of self.now) }
     {

@@ -34,6 +34,11 @@ impl Model for Limit {
 
 impl Limit {
     /// Makes a limit of so many brackets; None above 128. Within a limit of 0 only values without a bracket pass.
+    ///
+    /// ```text
+    /// let limit = Limit::new(16).unwrap();
+    /// let value: Value = json5::from_str_within(alloc, limit, text)?;
+    /// ```
     pub fn new(n: u8) -> Option<Limit>
         ensures { MatchOption result (max_depth < n) (λ limit. (limit ≡ n) × (n ≤ max_depth)) }
     {
@@ -61,6 +66,12 @@ impl Limit {
 
 impl Value {
     /// Says whether at most 128 brackets are open at once anywhere in it: only then can it be read, written or cloned.
+    ///
+    /// ```text
+    /// if value.fits() {
+    ///     println!(rt; "{}", json5::to_string(alloc, &value)?)?;
+    /// }
+    /// ```
     pub fn fits(&self) -> bool
         ensures { result ≡ fits (value_of self.now) }
     {

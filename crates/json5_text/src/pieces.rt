@@ -96,6 +96,10 @@ impl<'a> Pieces<'a> {
     }
 
     /// Returns the next piece of the text, and takes it away; none at the end.
+    ///
+    /// ```text
+    /// pieces.next_piece()    // of -1500.0: `-`, then `15`, then `00`, then `.0`, then None
+    /// ```
     pub fn next_piece(&mut self) -> Option<&'a str>
         ensures { MatchOption result (self.old ≡ []) (λ piece. BeginsWithPiece self.old piece.now self.new) }
     {

@@ -37,6 +37,10 @@ impl Model for Whole {
 
 impl Whole {
     /// Returns the whole number that this is.
+    ///
+    /// ```text
+    /// Value::Whole(Whole::from_u128(80))    // what `80` is read as
+    /// ```
     pub fn from_u128(number: u128) -> Whole
         ensures { result ≡ pos number }
     {

@@ -85,6 +85,10 @@ impl<W: Write + Drop> MapKey<'_, W> {
 
     /// Writes the decimal digits as a key, after a minus where the number is negative: `"-1"`.
     ///
+    /// ```text
+    /// key.serialize_i8(-7)?    // "-7"
+    /// ```
+    ///
     /// # Errors
     ///
     /// As every call: see [`MapKey`].
@@ -145,6 +149,11 @@ impl<W: Write + Drop> MapKey<'_, W> {
 
     /// Writes the text that `serialize_decimal` of a serializer writes, as a key: `Infinity` and `NaN` bare, any other between
     /// quotes.
+    ///
+    /// ```text
+    /// let price: Decimal = json5::from_str(alloc, "1.50")?;
+    /// key.serialize_decimal(&price)?    // "1.5"
+    /// ```
     ///
     /// # Errors
     ///

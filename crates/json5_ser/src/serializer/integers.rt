@@ -19,6 +19,10 @@ impl<W: Write + Drop> Serializer<W> {
 
     /// Writes the decimal digits of a `u8` (JSON5 section 6).
     ///
+    /// ```text
+    /// ser.serialize_u8(16)?    // 16
+    /// ```
+    ///
     /// # Errors
     ///
     /// As every call: see [`Serializer`].
@@ -73,6 +77,10 @@ impl<W: Write + Drop> Serializer<W> {
     }
 
     /// Writes the decimal digits of a `i8`, after a minus where it is negative (JSON5 section 6).
+    ///
+    /// ```text
+    /// ser.serialize_i8(-16)?    // -16
+    /// ```
     ///
     /// # Errors
     ///
