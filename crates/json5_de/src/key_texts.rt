@@ -121,7 +121,7 @@ impl<'de, I: Borrows<'de>> MapKey<'_, I> {
     /// Reads a key without an escape, and returns its slice of the input, without quotes.
     ///
     /// ```text
-    /// key.deserialize_str()?    // `port` of the keys `port` and 'port'; `p\u006frt` is a custom fault at the key
+    /// key.deserialize_str()?    // `port` of the keys `port` and `'port'`; `p\u006frt` is a custom fault at the key
     /// ```
     ///
     /// # Errors
