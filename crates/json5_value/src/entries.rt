@@ -1,4 +1,4 @@
-//! What is round the entries of brackets, the elements of an array and the members of an object (JSON5 sections 3 and 4).
+//! What is around an entry, which is an element of an array or a member of an object (JSON5 sections 3 and 4).
 
 ghost use Rattle.json5_grammar.specs.Model.ReadSteps.{forget, colon_after, next_value};
 ghost use Rattle.json5_grammar.specs.Model.ReadTexts.{key};
