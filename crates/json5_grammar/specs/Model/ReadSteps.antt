@@ -10,7 +10,7 @@ use Rattle.json5_grammar.specs.Model.ReadTexts.{key}
 use Rattle.json5_grammar.specs.Language.Trees.{Trees, Members, more, no_member, member}
 use Rattle.json5_grammar.specs.Model.ReadValues.{read, read_elements, read_members, after_element, after_member, colon_at}
 
--- what is left, without what was read
+-- the same, without what was read
 abbrev pub forget : {A : Type 0} → Read A → Read (Unit {0})
 forget (got a r) = got tt r
 forget (bad e p) = bad e p
