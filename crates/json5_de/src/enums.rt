@@ -21,7 +21,7 @@ use json5_value::brackets::BracketKind;
 /// The variant of an enum: its name was read, and one of four calls reads its content. The caller chooses the call by
 /// `variant`; each of them takes the access.
 ///
-/// Until the content is read the reader's own calls return `Failed`, and for good where the access is dropped or leaked.
+/// Until the content is read the reader's own calls return `Failed`; if the access is dropped or leaked, they always do.
 ///
 /// ```text
 /// let access = de.deserialize_enum("Reminder", &["off", "daily", "weekly", "once"])?;

@@ -17,7 +17,7 @@ use json5_text::input::Input;
 impl<I: Input> MapKey<'_, I> {
     ghost use Rattle.json5_de.specs.Lending.{KeyReads, ReadsNullKey};
 
-    /// Reads a key whose text is `null`, blanks and comments round it included: `{null: 1}`, `{' null ': 1}`.
+    /// Reads a key whose text is `null`, with any blanks and comments around it: `{null: 1}`, `{' null ': 1}`.
     ///
     /// # Errors
     ///
@@ -39,7 +39,7 @@ impl<I: Input> MapKey<'_, I> {
         self.deserialize_unit()
     }
 
-    /// Reads a key whose text is `true` or `false`, blanks and comments round it included.
+    /// Reads a key whose text is `true` or `false`, with any blanks and comments around it.
     ///
     /// ```text
     /// key.deserialize_bool()?    // true of the keys `true` and `' true '`; `yes` is `ExpectedBool` at the key
@@ -54,7 +54,7 @@ impl<I: Input> MapKey<'_, I> {
         self.de.key_document()
     }
 
-    /// Reads a key whose text is a whole number from 0 to 255, blanks and comments round it included.
+    /// Reads a key whose text is a whole number from 0 to 255, with any blanks and comments around it.
     ///
     /// ```text
     /// key.deserialize_u8()?    // 16 of the keys `'16'`, `'0x10'` and `' 16 '`

@@ -19,9 +19,9 @@ use json5_value::brackets::BracketKind;
 
 /// The members of an object, one after another: a key, then its value.
 ///
-/// `end` closes the object and frees the reader. Until then the reader's own calls return `Failed`, and for good where the
-/// access is dropped or leaked before. After a call of the access that was refused, every later one returns `Failed`. Equal
-/// keys are given as often as they come.
+/// `end` closes the object and frees the reader. Until then the reader's own calls return `Failed`; if the access is dropped or
+/// leaked before its `end`, they always do. After a call of the access that was refused, every later one returns `Failed`. Equal
+/// keys are returned as often as they come.
 ///
 /// ```text
 /// let mut map = de.deserialize_map()?;

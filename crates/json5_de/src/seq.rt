@@ -22,8 +22,8 @@ use std::alloc::Global;
 
 /// The elements of an array, one after another.
 ///
-/// `end` closes the array and frees the reader. Until then the reader's own calls return `Failed`, and for good where the
-/// access is dropped or leaked before. After a call of the access that was refused, every later one returns `Failed`.
+/// `end` closes the array and frees the reader. Until then the reader's own calls return `Failed`; if the access is dropped or
+/// leaked before its `end`, they always do. After a call of the access that was refused, every later one returns `Failed`.
 ///
 /// ```text
 /// let mut seq = de.deserialize_seq()?;

@@ -16,8 +16,8 @@ use std::io::Write;
 
 /// An array or an object that is written one element or member after another, each on a line of its own with a comma after it.
 ///
-/// `end` closes it and frees the serializer. Until then the serializer's own calls return `Failed`, and for good where the
-/// collection is dropped or leaked before. After a call of the collection that was refused, every later one returns `Failed`.
+/// `end` closes it and frees the serializer. Until then the serializer's own calls return `Failed`; if the collection is dropped
+/// or leaked before its `end`, they always do. After a call of the collection that was refused, every later one returns `Failed`.
 ///
 /// ```text
 /// let mut map = ser.serialize_map(None)?;
@@ -212,7 +212,7 @@ impl<W: Write + Drop> SerializeCollection<'_, W> {
         self.serialize_entry(&key, value)
     }
 
-    /// Closes the array or the object, and a variant's object round it. The serializer continues after it. No key may wait for
+    /// Closes the array or the object, and a variant's object around it. The serializer continues after it. No key may wait for
     /// its value.
     ///
     /// ```text

@@ -47,8 +47,8 @@ impl<W: Write + Drop> Drop for MapKey<'_, W> {
     }
 }
 
-/// A value that can be written as a key. Each type says by `as_key` what is written of its values. An impl hands on what the
-/// methods of the key return, and makes no refusal of its own.
+/// A value that can be written as a key. Each type says by `as_key` what is written of its values. An impl passes on what the
+/// methods of the key return, and refuses nothing itself.
 ///
 /// ```text
 /// impl SerializeKey for Id {
