@@ -19,6 +19,10 @@ impl<I: Input> MapKey<'_, I> {
 
     /// Reads a key whose text is `null`, with any blanks and comments around it: `{null: 1}`, `{' null ': 1}`.
     ///
+    /// ```text
+    /// key.deserialize_unit()?    // of the keys `null` and `' null '`; `nil` is `ExpectedNull` at the key
+    /// ```
+    ///
     /// # Errors
     ///
     /// As every call that reads a document: see [`MapKey`].
@@ -29,6 +33,10 @@ impl<I: Input> MapKey<'_, I> {
     }
 
     /// Reads a key whose text is `null`, as a struct without fields. The name changes nothing.
+    ///
+    /// ```text
+    /// key.deserialize_unit_struct("Nothing")?    // of the key `null`
+    /// ```
     ///
     /// # Errors
     ///
@@ -71,6 +79,10 @@ impl<I: Input> MapKey<'_, I> {
 
     /// Reads a key whose text is a whole number from 0 to 65535.
     ///
+    /// ```text
+    /// key.deserialize_u16()?    // 8080 of the key `'8080'`; `'65536'` is a custom fault at the key
+    /// ```
+    ///
     /// # Errors
     ///
     /// As every call that reads a document: see [`MapKey`].
@@ -81,6 +93,10 @@ impl<I: Input> MapKey<'_, I> {
     }
 
     /// Reads a key whose text is a whole number from 0 to 2^32 - 1.
+    ///
+    /// ```text
+    /// key.deserialize_u32()?    // 70000 of the key `'70000'`; `'4294967296'` is a custom fault at the key
+    /// ```
     ///
     /// # Errors
     ///
@@ -93,6 +109,10 @@ impl<I: Input> MapKey<'_, I> {
 
     /// Reads a key whose text is a whole number from 0 to 2^64 - 1.
     ///
+    /// ```text
+    /// key.deserialize_u64()?    // 5000000000 of the key `'5000000000'`; `'-1'` is a custom fault at the key
+    /// ```
+    ///
     /// # Errors
     ///
     /// As every call that reads a document: see [`MapKey`].
@@ -103,6 +123,10 @@ impl<I: Input> MapKey<'_, I> {
     }
 
     /// Reads a key whose text is a whole number from 0 to 2^128 - 1.
+    ///
+    /// ```text
+    /// key.deserialize_u128()?    // 5000000000 of the key `'5000000000'`; `'-1'` is a custom fault at the key
+    /// ```
     ///
     /// # Errors
     ///
@@ -130,6 +154,10 @@ impl<I: Input> MapKey<'_, I> {
 
     /// Reads a key whose text is a whole number from -32768 to 32767.
     ///
+    /// ```text
+    /// key.deserialize_i16()?    // -300 of the key `'-300'`; `'32768'` is a custom fault at the key
+    /// ```
+    ///
     /// # Errors
     ///
     /// As every call that reads a document: see [`MapKey`].
@@ -140,6 +168,10 @@ impl<I: Input> MapKey<'_, I> {
     }
 
     /// Reads a key whose text is a whole number from -2^31 to 2^31 - 1.
+    ///
+    /// ```text
+    /// key.deserialize_i32()?    // -70000 of the key `'-70000'`; `'2147483648'` is a custom fault at the key
+    /// ```
     ///
     /// # Errors
     ///
@@ -152,6 +184,10 @@ impl<I: Input> MapKey<'_, I> {
 
     /// Reads a key whose text is a whole number from -2^63 to 2^63 - 1.
     ///
+    /// ```text
+    /// key.deserialize_i64()?    // -5000000000 of the key `'-5000000000'`; `'1.0'` is a custom fault at the key
+    /// ```
+    ///
     /// # Errors
     ///
     /// As every call that reads a document: see [`MapKey`].
@@ -162,6 +198,10 @@ impl<I: Input> MapKey<'_, I> {
     }
 
     /// Reads a key whose text is a whole number from -2^127 to 2^127 - 1.
+    ///
+    /// ```text
+    /// key.deserialize_i128()?    // -5000000000 of the key `'-5000000000'`; `'1.0'` is a custom fault at the key
+    /// ```
     ///
     /// # Errors
     ///

@@ -104,6 +104,10 @@ impl<I: Input> MapKey<'_, I> {
 
     /// Reads a key as bytes, as [`deserialize_bytes`](MapKey::deserialize_bytes) does.
     ///
+    /// ```text
+    /// key.deserialize_byte_buf()?    // the bytes 0xAB and 0x0C of the key `ab0c`
+    /// ```
+    ///
     /// # Errors
     ///
     /// As `deserialize_bytes`.
@@ -156,6 +160,10 @@ impl<'de, I: Borrows<'de>> MapKey<'_, I> {
     }
 
     /// Reads a key of any text, as [`deserialize_identifier`](MapKey::deserialize_identifier) does.
+    ///
+    /// ```text
+    /// key.deserialize_any()?    // Borrowed of the key `port`, Owned of `p\u006frt`
+    /// ```
     ///
     /// # Errors
     ///

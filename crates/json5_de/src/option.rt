@@ -73,6 +73,10 @@ impl<I: Input> Deserializer<I> {
 
     /// Reads `null` as a struct without fields. The name changes nothing. Takes no memory.
     ///
+    /// ```text
+    /// de.deserialize_unit_struct("Nothing")?    // of `null`
+    /// ```
+    ///
     /// # Errors
     ///
     /// As [`deserialize_unit`](Deserializer::deserialize_unit).

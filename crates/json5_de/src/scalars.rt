@@ -160,6 +160,10 @@ impl<I: Input> Deserializer<I> {
 
     /// Reads a whole number from 0 to 65535 as `u16`. Takes no memory where it succeeds.
     ///
+    /// ```text
+    /// de.deserialize_u16()?    // 8080 of `8080` and of `0x1F90`; `65536` is a custom fault at its start
+    /// ```
+    ///
     /// # Errors
     ///
     /// As every call that reads a whole number: see [`Deserializer`].
@@ -177,6 +181,10 @@ impl<I: Input> Deserializer<I> {
     }
 
     /// Reads a whole number from 0 to 2^32 - 1 as `u32`. Takes no memory where it succeeds.
+    ///
+    /// ```text
+    /// de.deserialize_u32()?    // 70000 of `70000` and of `0x11170`; `4294967296` is a custom fault at its start
+    /// ```
     ///
     /// # Errors
     ///
@@ -196,6 +204,10 @@ impl<I: Input> Deserializer<I> {
 
     /// Reads a whole number from 0 to 2^64 - 1 as `u64`. Takes no memory where it succeeds.
     ///
+    /// ```text
+    /// de.deserialize_u64()?    // 5000000000 of `5000000000` and of `0x12A05F200`; `-1` is a custom fault at its start
+    /// ```
+    ///
     /// # Errors
     ///
     /// As every call that reads a whole number: see [`Deserializer`].
@@ -213,6 +225,10 @@ impl<I: Input> Deserializer<I> {
     }
 
     /// Reads a whole number from 0 to 2^128 - 1 as `u128`. Takes no memory where it succeeds.
+    ///
+    /// ```text
+    /// de.deserialize_u128()?    // 5000000000 of `5000000000` and of `0x12A05F200`; `-1` is a custom fault at its start
+    /// ```
     ///
     /// # Errors
     ///
@@ -247,6 +263,10 @@ impl<I: Input> Deserializer<I> {
 
     /// Reads a whole number from -32768 to 32767 as `i16`. Takes no memory where it succeeds.
     ///
+    /// ```text
+    /// de.deserialize_i16()?    // -300 of `-300` and of `-0x12C`; `32768` is a custom fault at its start
+    /// ```
+    ///
     /// # Errors
     ///
     /// As every call that reads a whole number: see [`Deserializer`].
@@ -264,6 +284,10 @@ impl<I: Input> Deserializer<I> {
     }
 
     /// Reads a whole number from -2^31 to 2^31 - 1 as `i32`. Takes no memory where it succeeds.
+    ///
+    /// ```text
+    /// de.deserialize_i32()?    // -70000 of `-70000` and of `-0x11170`; `2147483648` is a custom fault at its start
+    /// ```
     ///
     /// # Errors
     ///
@@ -283,6 +307,10 @@ impl<I: Input> Deserializer<I> {
 
     /// Reads a whole number from -2^63 to 2^63 - 1 as `i64`. Takes no memory where it succeeds.
     ///
+    /// ```text
+    /// de.deserialize_i64()?    // -5000000000 of `-5000000000` and of `-0x12A05F200`; `1.0` is a custom fault at its start
+    /// ```
+    ///
     /// # Errors
     ///
     /// As every call that reads a whole number: see [`Deserializer`].
@@ -300,6 +328,10 @@ impl<I: Input> Deserializer<I> {
     }
 
     /// Reads a whole number from -2^127 to 2^127 - 1 as `i128`. Takes no memory where it succeeds.
+    ///
+    /// ```text
+    /// de.deserialize_i128()?    // -5000000000 of `-5000000000` and of `-0x12A05F200`; `1e2` is a custom fault at its start
+    /// ```
     ///
     /// # Errors
     ///

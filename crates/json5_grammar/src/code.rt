@@ -91,6 +91,10 @@ impl ErrorCode {
     ghost use Rattle.json5_grammar.specs.Faults.CodeTexts.{code_text};
 
     /// Returns the code in words, such as `expected comma`.
+    ///
+    /// ```text
+    /// ErrorCode::TooDeep.as_str()    // nested too deep
+    /// ```
     pub fn as_str(self) -> &'static str
         ensures { result.now ≡ code_text self }
     {

@@ -12,6 +12,10 @@ use std::io::Write;
 impl<W: Write + Drop> Serializer<W> {
     /// Writes `null`.
     ///
+    /// ```text
+    /// ser.serialize_none()?    // null
+    /// ```
+    ///
     /// # Errors
     ///
     /// As every call: see [`Serializer`].
@@ -37,6 +41,10 @@ impl<W: Write + Drop> Serializer<W> {
     }
 
     /// Writes `null`, for a struct without fields. The name changes nothing.
+    ///
+    /// ```text
+    /// ser.serialize_unit_struct("Nothing")?    // null
+    /// ```
     ///
     /// # Errors
     ///

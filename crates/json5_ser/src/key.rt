@@ -100,6 +100,10 @@ impl<W: Write + Drop> MapKey<'_, W> {
 
     /// Writes the key `true` or `false`.
     ///
+    /// ```text
+    /// key.serialize_bool(true)?    // true
+    /// ```
+    ///
     /// # Errors
     ///
     /// As every call: see [`MapKey`].
@@ -129,6 +133,11 @@ impl<W: Write + Drop> MapKey<'_, W> {
 
     /// Writes the text of one character as a key.
     ///
+    /// ```text
+    /// key.serialize_char('a')?    // a
+    /// key.serialize_char('1')?    // "1"
+    /// ```
+    ///
     /// # Errors
     ///
     /// As every call: see [`MapKey`].
@@ -140,6 +149,11 @@ impl<W: Write + Drop> MapKey<'_, W> {
     }
 
     /// Writes the hexadecimal digits in lower case, two a byte, as a key: `ab0c`, `"0c"`.
+    ///
+    /// ```text
+    /// key.serialize_bytes(&[0xab, 0x0c])?    // ab0c
+    /// key.serialize_bytes(&[0x0c])?          // "0c"
+    /// ```
     ///
     /// # Errors
     ///
@@ -153,6 +167,10 @@ impl<W: Write + Drop> MapKey<'_, W> {
 
     /// Writes the key `null`.
     ///
+    /// ```text
+    /// key.serialize_unit()?    // null
+    /// ```
+    ///
     /// # Errors
     ///
     /// As every call: see [`MapKey`].
@@ -164,6 +182,10 @@ impl<W: Write + Drop> MapKey<'_, W> {
     }
 
     /// Writes the key `null`, for a struct without fields. The name changes nothing.
+    ///
+    /// ```text
+    /// key.serialize_unit_struct("Nothing")?    // null
+    /// ```
     ///
     /// # Errors
     ///
@@ -210,6 +232,10 @@ impl<W: Write + Drop> MapKey<'_, W> {
     }
 
     /// Writes the key that a struct of one field holds. The name changes nothing.
+    ///
+    /// ```text
+    /// key.serialize_newtype_struct("Id", &7u32)?    // "7"
+    /// ```
     ///
     /// # Errors
     ///

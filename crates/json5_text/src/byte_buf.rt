@@ -37,6 +37,11 @@ impl ByteBuf {
     }
 
     /// Returns the bytes.
+    ///
+    /// ```text
+    /// let name: ByteBuf = json5::from_str(alloc, "'4A534F4E35'")?;
+    /// name.as_slice() == b"JSON5"
+    /// ```
     pub fn as_slice(&self) -> &[u8]
         ensures { result.now ≡ bytes_of self.now }
     {

@@ -28,6 +28,10 @@ pub fn is_json5_whitespace(c: char) -> bool
 }
 
 /// Says whether the character ends a line: LF, CR, U+2028 or U+2029 (ECMAScript 5.1 section 7.3).
+///
+/// ```text
+/// is_json5_line_terminator('\u{2028}')    // true; of '\u{85}' false
+/// ```
 pub fn is_json5_line_terminator(c: char) -> bool
     ensures { result ≡ is_terminator c }
 {

@@ -225,6 +225,10 @@ impl Decimal {
     }
 
     /// Makes not-a-number, after a minus where `negative`, which counts in equality. Takes no memory.
+    ///
+    /// ```text
+    /// Decimal::nan(false) == Decimal::nan(false)    // true
+    /// ```
     pub fn nan(negative: bool) -> Decimal
         ensures { result ≡ numbers.nan negative }
     {
@@ -350,6 +354,10 @@ impl Decimal {
     }
 
     /// Returns an equal number.
+    ///
+    /// ```text
+    /// let copy = price.clone(alloc)?;    // equal to `price`
+    /// ```
     ///
     /// # Errors
     ///

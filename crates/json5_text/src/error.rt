@@ -49,6 +49,10 @@ pub struct Error {
 
 impl Error {
     /// Makes a fault with this code, without a position. Takes no memory.
+    ///
+    /// ```text
+    /// Error::new(ErrorCode::InvalidBytes)    // prints `invalid bytes`
+    /// ```
     pub fn new(code: ErrorCode) -> Error
         ensures { SaysAt (FaultKind.code code) None result }
     {
@@ -132,6 +136,10 @@ impl Error {
     }
 
     /// Returns an equal fault. Only the message of a custom fault takes memory.
+    ///
+    /// ```text
+    /// let copy = error.clone(alloc)?;    // equal to `error`
+    /// ```
     ///
     /// # Errors
     ///

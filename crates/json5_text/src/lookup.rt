@@ -11,6 +11,10 @@ use crate::whole::Whole;
 
 /// What is looked for in a value: an element of an array by its index, counted from 0, or the value of a member of an object by
 /// its key. Of equal keys it is the last.
+///
+/// ```text
+/// settings.get("ports")?.get(0usize)    // a key, and then an index
+/// ```
 pub trait Index {
     ghost use Rattle.std.specs.Prelude.{Option};
     ghost use Rattle.json5_text.specs.ValueViews.{Datum};
@@ -72,6 +76,10 @@ impl Value {
     }
 
     /// Returns the boolean, if it is one.
+    ///
+    /// ```text
+    /// settings.get("verbose")?.as_bool()    // Some(true) of `{verbose: true}`
+    /// ```
     pub fn as_bool(&self) -> Option<bool>
         ensures { result ≡ boolean_of (value_of self.now) }
     {
@@ -97,6 +105,10 @@ impl Value {
 
     /// Returns the decimal, if it is one: a number with a point or an exponent, or past the range of `Whole`, infinity and
     /// not-a-number included.
+    ///
+    /// ```text
+    /// settings.get("price")?.as_decimal()?.digits()    // 15 of `{price: 1.50}`
+    /// ```
     pub fn as_decimal(&self) -> Option<&Decimal>
         ensures { option_map (λ number. number.now) result ≡ decimal_in (value_of self.now) }
     {

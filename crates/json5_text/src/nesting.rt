@@ -49,6 +49,10 @@ impl Limit {
     }
 
     /// Makes the limit of 128 brackets, that of every call that names none.
+    ///
+    /// ```text
+    /// Limit::full().get()    // 128
+    /// ```
     pub fn full() -> Limit
         ensures { result ≡ max_depth }
     {

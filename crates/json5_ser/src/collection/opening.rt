@@ -44,6 +44,13 @@ impl<W: Write + Drop> Serializer<W> {
 
     /// Opens an array as [`serialize_seq`](Serializer::serialize_seq) does. The length changes nothing.
     ///
+    /// ```text
+    /// let mut pair = ser.serialize_tuple(2)?;
+    /// pair.serialize_element(&"http")?;
+    /// pair.serialize_element(&80u16)?;
+    /// pair.end()?;    // four lines: `[`, `  "http",`, `  80,` and `]`
+    /// ```
+    ///
     /// # Errors
     ///
     /// As `serialize_seq`.
@@ -55,6 +62,10 @@ impl<W: Write + Drop> Serializer<W> {
     }
 
     /// Opens an array as [`serialize_seq`](Serializer::serialize_seq) does. The name and the length change nothing.
+    ///
+    /// ```text
+    /// let mut point = ser.serialize_tuple_struct("Point", 2)?;    // as `serialize_tuple(2)`
+    /// ```
     ///
     /// # Errors
     ///

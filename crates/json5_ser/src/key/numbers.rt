@@ -25,6 +25,10 @@ impl<W: Write + Drop> MapKey<'_, W> {
 
     /// Writes the decimal digits as a key, between quotes: `"80"`.
     ///
+    /// ```text
+    /// key.serialize_u8(16)?    // "16"
+    /// ```
+    ///
     /// # Errors
     ///
     /// As every call: see [`MapKey`].
@@ -36,6 +40,10 @@ impl<W: Write + Drop> MapKey<'_, W> {
     }
 
     /// Writes the decimal digits as a key.
+    ///
+    /// ```text
+    /// key.serialize_u16(8080)?    // "8080"
+    /// ```
     ///
     /// # Errors
     ///
@@ -49,6 +57,10 @@ impl<W: Write + Drop> MapKey<'_, W> {
 
     /// Writes the decimal digits as a key.
     ///
+    /// ```text
+    /// key.serialize_u32(70000)?    // "70000"
+    /// ```
+    ///
     /// # Errors
     ///
     /// As every call: see [`MapKey`].
@@ -61,6 +73,10 @@ impl<W: Write + Drop> MapKey<'_, W> {
 
     /// Writes the decimal digits as a key.
     ///
+    /// ```text
+    /// key.serialize_u64(5000000000)?    // "5000000000"
+    /// ```
+    ///
     /// # Errors
     ///
     /// As every call: see [`MapKey`].
@@ -72,6 +88,10 @@ impl<W: Write + Drop> MapKey<'_, W> {
     }
 
     /// Writes the decimal digits as a key.
+    ///
+    /// ```text
+    /// key.serialize_u128(5000000000)?    // "5000000000"
+    /// ```
     ///
     /// # Errors
     ///
@@ -101,6 +121,10 @@ impl<W: Write + Drop> MapKey<'_, W> {
 
     /// Writes the decimal digits as a key, after a minus where the number is negative.
     ///
+    /// ```text
+    /// key.serialize_i16(-300)?    // "-300"
+    /// ```
+    ///
     /// # Errors
     ///
     /// As every call: see [`MapKey`].
@@ -112,6 +136,10 @@ impl<W: Write + Drop> MapKey<'_, W> {
     }
 
     /// Writes the decimal digits as a key, after a minus where the number is negative.
+    ///
+    /// ```text
+    /// key.serialize_i32(-70000)?    // "-70000"
+    /// ```
     ///
     /// # Errors
     ///
@@ -125,6 +153,10 @@ impl<W: Write + Drop> MapKey<'_, W> {
 
     /// Writes the decimal digits as a key, after a minus where the number is negative.
     ///
+    /// ```text
+    /// key.serialize_i64(-5000000000)?    // "-5000000000"
+    /// ```
+    ///
     /// # Errors
     ///
     /// As every call: see [`MapKey`].
@@ -136,6 +168,10 @@ impl<W: Write + Drop> MapKey<'_, W> {
     }
 
     /// Writes the decimal digits as a key, after a minus where the number is negative.
+    ///
+    /// ```text
+    /// key.serialize_i128(-5000000000)?    // "-5000000000"
+    /// ```
     ///
     /// # Errors
     ///

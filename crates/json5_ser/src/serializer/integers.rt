@@ -34,6 +34,10 @@ impl<W: Write + Drop> Serializer<W> {
 
     /// Writes the decimal digits of a `u16`.
     ///
+    /// ```text
+    /// ser.serialize_u16(8080)?    // 8080
+    /// ```
+    ///
     /// # Errors
     ///
     /// As every call: see [`Serializer`].
@@ -44,6 +48,10 @@ impl<W: Write + Drop> Serializer<W> {
     }
 
     /// Writes the decimal digits of a `u32`.
+    ///
+    /// ```text
+    /// ser.serialize_u32(70000)?    // 70000
+    /// ```
     ///
     /// # Errors
     ///
@@ -56,6 +64,10 @@ impl<W: Write + Drop> Serializer<W> {
 
     /// Writes the decimal digits of a `u64`.
     ///
+    /// ```text
+    /// ser.serialize_u64(5000000000)?    // 5000000000
+    /// ```
+    ///
     /// # Errors
     ///
     /// As every call: see [`Serializer`].
@@ -66,6 +78,10 @@ impl<W: Write + Drop> Serializer<W> {
     }
 
     /// Writes the decimal digits of a `u128`.
+    ///
+    /// ```text
+    /// ser.serialize_u128(5000000000)?    // 5000000000
+    /// ```
     ///
     /// # Errors
     ///
@@ -93,6 +109,10 @@ impl<W: Write + Drop> Serializer<W> {
 
     /// Writes the decimal digits of a `i16`, after a minus where it is negative.
     ///
+    /// ```text
+    /// ser.serialize_i16(-300)?    // -300
+    /// ```
+    ///
     /// # Errors
     ///
     /// As every call: see [`Serializer`].
@@ -103,6 +123,10 @@ impl<W: Write + Drop> Serializer<W> {
     }
 
     /// Writes the decimal digits of a `i32`, after a minus where it is negative.
+    ///
+    /// ```text
+    /// ser.serialize_i32(-70000)?    // -70000
+    /// ```
     ///
     /// # Errors
     ///
@@ -115,6 +139,10 @@ impl<W: Write + Drop> Serializer<W> {
 
     /// Writes the decimal digits of a `i64`, after a minus where it is negative.
     ///
+    /// ```text
+    /// ser.serialize_i64(-5000000000)?    // -5000000000
+    /// ```
+    ///
     /// # Errors
     ///
     /// As every call: see [`Serializer`].
@@ -125,6 +153,10 @@ impl<W: Write + Drop> Serializer<W> {
     }
 
     /// Writes the decimal digits of a `i128`, after a minus where it is negative.
+    ///
+    /// ```text
+    /// ser.serialize_i128(-5000000000)?    // -5000000000
+    /// ```
     ///
     /// # Errors
     ///
