@@ -43,7 +43,7 @@ pub(crate) fn skip_colon<I: Input>(scanner: &mut Scanner<I>) -> Result<()>
     }
 }
 
-/// The same, whatever is round the colon.
+/// The same, whatever is around the colon.
 fn skip_colon_slowly<I: Input>(scanner: &mut Scanner<I>) -> Result<()>
     requires { IsInside scanner.old }
     ensures { Steps (colon_after scanner.old.unread) scanner.old scanner.new result }
