@@ -190,8 +190,8 @@ impl<'a, I: Input> EnumAccess<'a, I> {
         self.name.variant
     }
 
-    /// Reads a variant without content: nothing more of a string; of an object `null` and `}`, before which one comma may be.
-    /// Takes no memory.
+    /// Reads a variant without content. If its name was a string, nothing more is read; in an object `null` and `}` are, before
+    /// which one comma may be. Takes no memory.
     ///
     /// ```text
     /// 'off'            // read so

@@ -175,8 +175,8 @@ impl<'a, I: Input> MapAccess<'a, I> {
         self.place(fault)
     }
 
-    /// Reads the key of the next member, and the comma before it. Returns none where the closing brace is next, which `end`
-    /// takes. The value of a key has to be read before the next key.
+    /// Reads the key of the next member, and the comma before it. Returns None if the closing brace is next, which `end` takes.
+    /// The value of a key has to be read before the next key.
     ///
     /// ```text
     /// map.next_key::<&str>()?    // of `{http: 80}` Some of `http`; after its value None
@@ -184,12 +184,12 @@ impl<'a, I: Input> MapAccess<'a, I> {
     ///
     /// # Errors
     ///
-    /// A fault without a position gets that of the opening brace, but for those of `K`.
+    /// A fault without a position gets that of the opening brace, except those of `K`.
     /// - `ExpectedComma` at a character after a member that is neither a comma nor `}`.
     /// - `ExpectedIdentifier` at a character that begins no key, where one may begin.
     /// - `EofParsingObject` where the text ends after a member or before a key.
-    /// - The faults of `K`; one without a position gets that of the key, but where its code is `EofParsing..`, `OutOfMemory` or
-    ///   `Failed`, that of the opening brace.
+    /// - The faults of `K`. One without a position gets that of the key; if its code is `EofParsing..`, `OutOfMemory` or
+    ///   `Failed`, it gets that of the opening brace.
     /// - The codes of every call: see [`MapAccess`].
     pub fn next_key<K: DeserializeKey<I>>(&mut self) -> Result<Option<K>>
         requires no_key { NoKeyPending self.old }
@@ -237,7 +237,7 @@ impl<'a, I: Input> MapAccess<'a, I> {
         }
     }
 
-    /// Says whether a key was read whose value wasn't. A call that is refused doesn't change it.
+    /// Says whether a key was read and its value wasn't yet. A call that is refused doesn't change it.
     ///
     /// ```text
     /// if map.key_pending() {
@@ -250,7 +250,7 @@ impl<'a, I: Input> MapAccess<'a, I> {
         self.stage.is_pending()
     }
 
-    /// Gives a fault of one's own the position of the opening brace where it has none; a fault that has one stays as it is.
+    /// Gives your own fault the position of the opening brace if it has none; a fault that has one stays as it is.
     ///
     /// ```text
     /// return Err(map.place(Error::custom(alloc, "neither a name nor an id")?));
@@ -264,11 +264,11 @@ impl<'a, I: Input> MapAccess<'a, I> {
     }
 
     /// Returns the position of an offset in bytes, such as the `start` of a `Spanned` value: line and column, counted from 0.
-    /// It is the position of the text's end where no character begins at the offset.
+    /// If no character begins at the offset, it is the position of the text's end.
     ///
     /// ```text
     /// let port = map.next_value::<Spanned<u16>>()?;
-    /// let position = map.position_of(port.start);    // for a fault of one's own at the value
+    /// let position = map.position_of(port.start);    // for your own fault at the value
     /// ```
     pub fn position_of(&self, offset: usize) -> Position
         ensures { Locates (map_state_of self.now).at.reader.input offset result }
@@ -276,10 +276,10 @@ impl<'a, I: Input> MapAccess<'a, I> {
         self.de.position_of(offset)
     }
 
-    /// Closes the object: takes `}`, and before it one comma where a member was read and the comma after it wasn't. Then the
-    /// reader continues after the brace.
+    /// Closes the object: takes `}`, and before it the comma that may follow the last member. Then the reader continues after
+    /// the brace.
     ///
-    /// Where the object is the content of a variant, the variant's `}` is taken too, before which one comma may be.
+    /// If the object is the content of a variant, the variant's `}` is taken too, before which one comma may be.
     ///
     /// ```text
     /// map.end()?;    // after the last member of `{http: 80,}`; where one is left, `ExpectedClosingBrace` at it

@@ -65,7 +65,7 @@ pub enum ErrorCode {
     ExpectedValue,
     /// A string or a key that is no even number of hexadecimal digits where bytes are expected.
     InvalidBytes,
-    /// An escape that isn't allowed, at its backslash or at the character that can't go on with it (JSON5 section 5, ECMAScript
+    /// An escape that isn't allowed, at its backslash or at the character that can't continue it (JSON5 section 5, ECMAScript
     /// 5.1 sections 7.6 and 7.8.4).
     InvalidEscapeSequence,
     /// A value that can't be written as a key: None, a list or an object. It has no position.

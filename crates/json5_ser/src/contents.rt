@@ -1,4 +1,4 @@
-//! What types of one's own write that are no collections.
+//! What users' types write that are no arrays and no objects: options, structs of one value or none, variants.
 
 ghost use Rattle.std.specs.Prelude.{Some};
 ghost use Rattle.std.specs.Str.{chars};

@@ -53,7 +53,7 @@ pub fn is_json5_identifier_start(c: char) -> bool
     is_start_category(GeneralCategory::for_char(c))
 }
 
-/// Says whether an identifier may go on with the character: what may begin one, U+200C, U+200D and the categories Mn, Mc, Nd
+/// Says whether an identifier may continue with the character: what may begin one, U+200C, U+200D and the categories Mn, Mc, Nd
 /// and Pc (ECMAScript 5.1 section 7.6).
 ///
 /// ```text

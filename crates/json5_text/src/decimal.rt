@@ -211,7 +211,7 @@ impl<'a> DecimalRef<'a> {
 }
 
 impl Decimal {
-    /// Makes infinity, after a minus where `negative`. Takes no memory.
+    /// Makes infinity, with a minus if `negative`. Takes no memory.
     ///
     /// ```text
     /// json5::to_string(alloc, &Decimal::infinity(true))?    // -Infinity
@@ -224,7 +224,7 @@ impl Decimal {
         }
     }
 
-    /// Makes not-a-number, after a minus where `negative`, which counts in equality. Takes no memory.
+    /// Makes not-a-number, with a minus if `negative`; equality tells the two apart. Takes no memory.
     ///
     /// ```text
     /// Decimal::nan(false) == Decimal::nan(false)    // true
@@ -239,8 +239,8 @@ impl Decimal {
 
     /// Makes the finite number with these digits times ten to the exponent.
     ///
-    /// It is None where `digits` holds anything but ASCII digits, or where the exponent is outside -32768 to 32767 once the
-    /// outer zeros are gone: each zero that goes at the end raises it by one, and zero has the exponent 0.
+    /// It is None if `digits` holds anything but ASCII digits, or if the exponent is outside -32768 to 32767 once the outer zeros
+    /// are removed. Each zero that is removed at the end raises it by one, and zero has the exponent 0.
     ///
     /// ```text
     /// Decimal::finite(alloc, false, "0150", -2)    // 1.5: the digits 15, the exponent -1

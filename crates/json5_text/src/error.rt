@@ -29,11 +29,10 @@ enum Content {
 /// A fault of reading or writing: a code, a custom message, or a failed write; and perhaps its position in the text that was
 /// read.
 ///
-/// It prints as its message and, where it has one, its position, which counts from 1 there:
-/// `expected comma at line 1 column 4`. A fault has no position where the text ends too early (`EofParsing..`), where memory
-/// ran out, after an earlier refusal (`Failed`), in writing, and where it was made without one. In an array or an object one
-/// without a position gets that of the opening bracket, and `Option<T>` gives a fault of `T` that of the value's first
-/// character.
+/// It prints as its message and its position, if it has one, counted from 1: `expected comma at line 1 column 4`. A fault is
+/// made without a position if the text ends too early (`EofParsing..`), memory ran out, an earlier call was refused
+/// (`Failed`), or it comes from writing. An array or an object gives it the position of the opening bracket then, and an
+/// `Option<T>` gives a fault of `T` that of the value's first character.
 ///
 /// ```text
 /// match json5::from_str::<u16>(alloc, "[80") {
@@ -87,8 +86,8 @@ impl Error {
         }
     }
 
-    /// Makes a custom fault with what the message prints, without a position. A message whose `Display` refuses is kept up to
-    /// there.
+    /// Makes a custom fault with what the message prints, without a position. If its `Display` fails, the text up to there is
+    /// kept.
     ///
     /// ```text
     /// return Err(Error::custom(alloc, format_args!("missing field `{name}`"))?);
@@ -113,8 +112,7 @@ impl Error {
         }
     }
 
-    /// Makes a custom fault with what the message prints, at this position. A message whose `Display` refuses is kept up to
-    /// there.
+    /// Makes a custom fault with what the message prints, at this position. If its `Display` fails, the text up to there is kept.
     ///
     /// ```text
     /// let position = de.position_of(port.start);
@@ -202,7 +200,7 @@ impl Error {
         self.position
     }
 
-    /// Gives the fault this position where it has none; else it stays as it is.
+    /// Gives the fault this position if it has none; a fault that has one stays as it is.
     ///
     /// ```text
     /// Error::new(ErrorCode::InvalidBytes).with_position(position)
@@ -217,7 +215,7 @@ impl Error {
         }
     }
 
-    /// Gives the fault this position, in place of any other.
+    /// Gives the fault this position, also if it has one.
     ///
     /// ```text
     /// error.at(de.position_of(port.start))

@@ -9,8 +9,8 @@ use crate::decimal::Decimal;
 use crate::value::Value;
 use crate::whole::Whole;
 
-/// What is looked for in a value: an element of an array by its index, counted from 0, or the value of a member of an object by
-/// its key. Of equal keys it is the last.
+/// What is looked for in a value: an element of an array by its index, counted from 0, or the value of an object's member by
+/// its key. Of members with equal keys it is the last.
 ///
 /// ```text
 /// settings.get("ports")?.get(0usize)    // a key, and then an index
@@ -21,7 +21,7 @@ pub trait Index {
 
     ghost finds: { Self → Datum → Option Datum };
 
-    /// Returns what is found; None where there is no such thing.
+    /// Returns what is found, or None.
     fn find_in<'v>(&self, value: &'v Value) -> Option<&'v Value>
         ensures { option_map (λ v. value_of v.now) result ≡ finds self.now (value_of value.now) };
 }
@@ -56,8 +56,8 @@ fn last_named<'v>(fields: &'v [(String, Value)], key: &str) -> Option<&'v Value>
 }
 
 impl Value {
-    /// Returns the element of an array at this index, counted from 0, or what an object has under this key; None where there is
-    /// no such thing. Of equal keys the last counts.
+    /// Returns the element of an array at this index, counted from 0, or the value of an object's member with this key, or None.
+    /// Of members with equal keys the last counts.
     ///
     /// ```text
     /// let port = settings.get("server")?.get("ports")?.get(0usize)?;

@@ -33,7 +33,7 @@ impl Model for Limit {
 }
 
 impl Limit {
-    /// Makes a limit of so many brackets; None above 128. Within a limit of 0 only values without a bracket pass.
+    /// Makes a limit of `n` brackets, or None if `n` is above 128. A limit of 0 allows only values without a bracket.
     ///
     /// ```text
     /// let limit = Limit::new(16).unwrap();
@@ -48,7 +48,7 @@ impl Limit {
         Some(Limit { brackets: n })
     }
 
-    /// Makes the limit of 128 brackets, that of every call that names none.
+    /// Makes the limit of 128 brackets, which calls without a limit use.
     ///
     /// ```text
     /// Limit::full().get()    // 128
@@ -69,7 +69,7 @@ impl Limit {
 }
 
 impl Value {
-    /// Says whether at most 128 brackets are open at once anywhere in it: only then can it be read, written or cloned.
+    /// Says whether at most 128 brackets are open at once in it: only then can it be written, read again or cloned.
     ///
     /// ```text
     /// if value.fits() {

@@ -9,7 +9,7 @@ use crate::wide::Wide;
 use std::fmt;
 use std::marker::Model;
 
-/// A whole number from `i128::MIN` to `u128::MAX`. There is one value for each of them, so that zero has no sign.
+/// A whole number from `i128::MIN` to `u128::MAX`. Each has only one `Whole`, so zero has no sign.
 ///
 /// ```text
 /// Whole::from_u128(u128::MAX).as_i128()    // None
