@@ -95,6 +95,7 @@ pub fn escape(delimeter: char, c: char) -> Option<&'static str>
     }
 }
 
+/// Whether characters of the category may begin an identifier (ECMAScript 5.1 section 7.6).
 fn is_start_category(category: GeneralCategory) -> bool
     ensures { result ≡ is_start_category category }
 {
@@ -109,6 +110,7 @@ fn is_start_category(category: GeneralCategory) -> bool
     )
 }
 
+/// Whether characters of the category may only continue an identifier (ECMAScript 5.1 section 7.6).
 fn is_part_category(category: GeneralCategory) -> bool
     ensures { result ≡ is_part_category category }
 {

@@ -51,6 +51,7 @@ pub(crate) fn read_item<'t>(
     Ok((Some(c), rest))
 }
 
+/// Whether a name may have the character there: as its first one, or after that (ECMAScript 5.1 section 7.6).
 fn fits(is_first: bool, c: char) -> bool
     ensures { result ≡ fits_name is_first c }
 {
@@ -112,6 +113,7 @@ pub(crate) fn skip_parts(text: &str) -> &str
     rest
 }
 
+/// Whether the character continues a name and spells itself.
 fn is_raw_part(c: char) -> bool
     ensures { result ≡ is_raw_part c }
 {

@@ -107,6 +107,7 @@ fn is_within(value: &Value, room: usize) -> bool
     }
 }
 
+/// Whether an array of these elements is nested no deeper than this.
 #[cycle(depth)]
 #[tactic(auto, using(crate::proofs::DeepestInside::nested))]
 fn items_fit(items: &[Value], room: usize) -> bool
@@ -123,6 +124,7 @@ fn items_fit(items: &[Value], room: usize) -> bool
     true
 }
 
+/// Whether an object of these members is nested no deeper than this.
 #[cycle(depth)]
 #[tactic(auto, using(crate::proofs::DeepestInside::nested))]
 fn fields_fit(fields: &[(String, Value)], room: usize) -> bool

@@ -50,6 +50,7 @@ fn few_zeros(count: usize) -> &'static str
 }
 
 impl<'a> Pieces<'a> {
+    /// The text of the sign, the first part, `count` zeros, the point and the last part.
     fn new(
         sign: &'static str,
         first: &'a str,

@@ -9,6 +9,7 @@ use json5_text::error::Result;
 use std::io::Write;
 
 impl<W: Write + Drop> Serializer<W> {
+    /// Writes the decimal digits, after a minus if the number is below zero.
     fn put_integer<I: Integer>(&mut self, value: I) -> Result<()>
         ensures { Writes (piece (I.text value)) self.old result self.new }
     {
