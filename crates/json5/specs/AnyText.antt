@@ -39,13 +39,13 @@ pub record IsRefusedWithin (limit : ℕ) (x : List ℕ) (e : Error) : Type 0 whe
 abbrev pub IsRefused : List ℕ → Error → Type 0
 IsRefused = IsRefusedWithin max_depth
 
--- x is read as what its tree means, exactly if it is a document within the limit, unless memory runs out
+-- Ok(v) exactly when x is a document within the limit, and then v is what its tree means; unless memory runs out
 pub record ReadsText (limit : ℕ) (x : List ℕ) (result : Result Value Error) : Type 0 where
   pub sound : IfOk result (λ v. (t : Tree) × Doc limit x t × (value_of v ≡ datum_of t))
   pub complete : (t : Tree) → Doc limit x t → MatchResult result (λ v. value_of v ≡ datum_of t) IsOutOfMemory
   pub refused : IfErr result (IsRefusedWithin limit x)
 
--- each result that the clauses of `from_str_within` allow a type of this conversion and these refusals is that of a value of any kind
+-- If a type at `Value` has this conversion and these refusals, each result that the clauses of `from_str_within` allow is one that `ReadsText` allows.
 abbrev pub ReadsEachText : (Tree → Option Datum) → (State → Error → State → Type 0) → Type 0
 ReadsEachText convert refuses =
     (limit : ℕ) (x : List ℕ) (result : Result Value Error) → limit ≤ max_depth → ReadsWholeText value_of convert refuses limit x result → ReadsText limit x result

@@ -36,12 +36,12 @@ abbrev pub PairsReadBack : {K V C D : Type 0} → (K → WrittenKey) → KeyConv
 PairsReadBack {K} {V} key keys as_key tree values as_value =
     (es : List (K × V)) → All (PairReadsBack key keys as_key tree values as_value) es → pairs_of keys values (marks (object (fields_of key tree es))) ≡ Some (map (pair_content as_key as_value) es)
 
--- what counts of entries whose keys ascend, inserted into a map in turn, stays as it is
+-- members whose keys ascend stay as they are if they are inserted in turn into a map that keeps the keys' order
 abbrev pub OrderStays : {K V C D : Type 0} → (K → C) → (V → D) → (K → K → Ordering) → Type 0
 OrderStays {K} {V} {C} key value cmp =
     (es : List (K × V)) (test : C → C → Ordering) → IsStrictlySortedBy cmp (keys_of es) → TellsKeys key cmp test → in_order test (map (pair_content key value) es) ≡ map (pair_content key value) es
 
--- the same of entries whose keys differ, if the map keeps the order in which they came
+-- the same of members whose keys differ, and of a map that keeps the order in which they came
 abbrev pub TurnStays : {K V C D : Type 0} → (K → C) → (V → D) → (K → K → Bool) → Type 0
 TurnStays {K} {V} {C} key value eq =
     (es : List (K × V)) (test : C → C → Bool) → IsDistinct eq (keys_of es) → TellsKeys key eq test → in_turn test (map (pair_content key value) es) ≡ map (pair_content key value) es

@@ -1,5 +1,5 @@
 //! The laws of whole texts, and of types that are both read and written: what is written reads back. Each is the contract of a
-//! function that does nothing. What `to_string` gives is a document of the marked tree, so it reads back where that tree converts.
+//! function that does nothing. What `to_string` gives is a document of the marked tree, so it reads back if that tree converts.
 
 ghost use Rattle.std.specs.Prelude.{◌≡◌, ◌≢◌, ◌<◌, ◌^◌, ℕ, Bool, List, [], ◌∷◌, ℤ, pos, neg_ℤ, ◌≤ℤ◌, ◌<ℤ◌, map, String, string_bytes, Option, Some, None, if◌then◌else◌};
 ghost use Rattle.std.specs.List.{All};
@@ -26,7 +26,7 @@ use json5_text::input::Input;
 use json5_text::value::Value;
 use std::hash::Hash;
 
-/// Null, booleans, numbers in range and strings read back. As a slice a string reads back exactly where it is written without a
+/// Null, booleans, numbers in range and strings read back. As a slice a string reads back exactly when it is written without a
 /// backslash.
 pub fn scalars_read_back()
     ensures null { unit_of (marks null) ≡ Some tt }
@@ -39,8 +39,8 @@ pub fn scalars_read_back()
     ensures slice { (u : List ℕ) → escape_free_of (marks (text u)) ≡ (if is_escape_free_text u then Some (encode_utf8_all u) else None) }
 {}
 
-/// A list and an option, which is written as what it holds or null, read back where what they hold does. What is written as
-/// null reads back as None, also of `Some`.
+/// A list reads back if its elements do. So does an option, which is written as what it holds or as null; but a Some that is
+/// written as null reads back as None.
 pub fn members_read_back<I: Input, T: Serialize + Deserialize<I>>()
     ensures list { (v : List T) → All (ReadsBack T.tree T.convert T.content) v → ReadsBack (list_tree T.tree) (list_of T.convert) (map T.content) v }
     ensures some { (v : T) → T.tree v ≢ null → ReadsBack T.tree T.convert T.content v → option_of T.convert (marks (T.tree v)) ≡ Some (Some (T.content v)) }

@@ -6,7 +6,7 @@
 //! let tidy = json5::format(alloc, "[1, /* two */ 0x2]")?;
 //! ```
 //!
-//! A text from strangers on a small stack, or a schema that is at most so deep, is read within a `Limit`:
+//! Read untrusted text on a small stack, or by a schema that is less deep, within a `Limit`:
 //!
 //! ```text
 //! let value: Value = json5::from_str_within(alloc, Limit::new(16).unwrap(), text)?;
@@ -14,7 +14,7 @@
 //!
 //! What is read has `Deserialize`, what is written `Serialize`, and the key of a member `DeserializeKey` and `SerializeKey`. A
 //! document of unknown shape is read as a `Value`. Each call that may be refused returns an `Error`: a code or a custom
-//! message, and mostly a position. What allocates is handed the allocator.
+//! message, and usually a position. A call that may take memory gets the allocator.
 #![tactic(auto)]
 
 mod laws;
@@ -50,11 +50,11 @@ pub use json5_text::value::Value;
 pub use json5_text::whole::Whole;
 use std::alloc::Global;
 
-/// Formats a document: writes its value again, without comments, each number and each string in its one spelling, each element
-/// and member on a line of its own. No line feed ends the text.
+/// Formats a document: writes its value anew, without comments. Each number and each string gets its one spelling, and each
+/// element and each member a line of its own. No line feed ends the text.
 ///
-/// It is Ok exactly when the text is a document (JSON5 section 2) nested at most 128 deep, unless memory runs out. Formatting
-/// the answer gives the answer. It is [`format_within`] at the full limit.
+/// Returns Ok exactly when the text is a document (JSON5 section 2) nested at most 128 deep, unless memory runs out. Formatting
+/// the answer again changes nothing. It is [`format_within`] at the full limit.
 ///
 /// ```text
 /// json5::format(alloc, " +0x1F90 // in hexadecimal")?    // 8080
@@ -93,8 +93,8 @@ pub fn format_within(alloc: Global, limit: Limit, text: &str) -> Result<String>
     to_string_within(alloc, limit, &value)
 }
 
-/// Reads the value of a document within the limit. Its contract is what that of `from_str_within` comes to at `Value`: it reads
-/// exactly the documents, each as what its tree means, and refuses any other input with its fault.
+/// Reads the value of a document within the limit. Its contract says what that of `from_str_within` means at `Value`: Ok exactly
+/// when the text is a document, and then what its tree means; any other text is refused with its fault.
 fn read_value(alloc: Global, limit: Limit, text: &str) -> Result<Value>
     ensures { ReadsText limit (chars text.now) result }
 {

@@ -1,4 +1,4 @@
--- The codes of what is refused round the members of arrays and objects.
+-- The codes of what is refused around elements and members.
 use Rattle.std.proofs.Common.{◌≡◌, ℕ, Bool, true, false, not, List, [], ◌∷◌, refl, ap, sym, subst, ◌⊎◌, inl, inr, Option, Some, None}
 use Rattle.std.specs.Prelude.{◌==◌, ◌&&◌}
 use Rattle.std.proofs.Math.Bool.{or-true}

@@ -1,4 +1,4 @@
--- What follows, for every kind of value, from what it gives and what it refuses.
+-- What is expected of a kind of value: at the end and at a character that begins none of it there is no such value, and what can be read isn't refused.
 use Rattle.std.proofs.Common.{◌≡◌, ℕ, Bool, true, false, List, [], ◌∷◌, ◌++◌, refl, ap, sym, ◌∙◌, subst, inl, inr, Option, Some, None}
 use Rattle.std.specs.Prelude.{Result, Ok, Err, IfOk, IfErr}
 use Rattle.std.proofs.lemmas.List.{append-nil}

@@ -1,4 +1,4 @@
--- What is put into a map, one pair of a key and a value after another, and what counts of it.
+-- What is put into a map, one member after another, and what counts of it.
 use Rattle.std.proofs.Common.{◌≡◌, Bool, true, false, List, [], ◌∷◌, map, refl, sym, ap, ◌∙◌, Some}
 use Rattle.std.specs.Prelude.{if◌then◌else◌, fold}
 use Rattle.std.specs.declared.cmp.Ordering.{Ordering}

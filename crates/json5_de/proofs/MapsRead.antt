@@ -1,4 +1,4 @@
--- What counts of a map, from the pairs that were gathered into it.
+-- What counts of a map, from the members that were gathered into it.
 use Rattle.std.proofs.Common.{◌≡◌, Bool, List, map, refl, sym, ap, ◌∙◌, Option, Some, None}
 use Rattle.std.specs.Prelude.{Result, Ok, Err, IfOk}
 use Rattle.std.specs.declared.cmp.Ordering.{Ordering}

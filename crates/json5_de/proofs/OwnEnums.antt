@@ -1,4 +1,4 @@
--- Enums of a user's own: a variant is named, and its content is read.
+-- A user's own enums: a variant is named, and its content is read.
 use Rattle.std.proofs.Common.{◌≡◌, ◌≢◌, ◌==◌, ℕ, ◌+◌, ◌≤◌, Bool, true, false, List, refl, sym, ap, ◌∙◌, subst, arith, Option, Some, None, Result, Ok, Err}
 use Rattle.std.proofs.lemmas.Bool.{false≢true}
 use Rattle.std.specs.Prelude.{◌∷◌, if◌then◌else◌, IsErrAnd, IfOk}

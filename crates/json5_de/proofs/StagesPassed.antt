@@ -1,4 +1,4 @@
--- What a stage says after a call for a member or a key.
+-- What a stage says after a call for an element or a key.
 use Rattle.std.proofs.Common.{◌≡◌, Bool, true, false, refl}
 use Rattle.std.specs.Prelude.{◌||◌}
 use Rattle.json5_de.specs.Stages.{is_comma_due, is_pending, with_member, with_key}
@@ -24,7 +24,7 @@ comma_after_key stage.FirstKey true = refl
 comma_after_key stage.Started true = refl
 comma_after_key stage.LaterKey true = refl
 
--- if no key was pending, one is pending exactly if a key was returned
+-- if no key was pending, one is pending exactly when a key was returned
 pub key_after_key : (s : Stage) (given : Bool) → is_pending s ≡ false → is_pending (with_key s given) ≡ given
 key_after_key s false none = none
 key_after_key stage.Empty true none = refl

@@ -1,4 +1,4 @@
--- What follows, for every kind of value, from what it gives and what it refuses.
+-- The kinds of values that one token makes are lawful, and a read of one keeps the law, from its steps.
 use Rattle.std.proofs.Common.{◌≡◌, ◌≢◌, ℕ, ℤ, Bool, false, List, refl, ap, sym, ◌∙◌, subst, ◌⊎◌, ◌++◌, inl, inr, Option, Some, None}
 use Rattle.std.specs.Prelude.{true, Result, Ok, Err, IsOk, IfOk, IfErr, OnErr, IsErrAnd, if◌then◌else◌}
 use Rattle.json5_grammar.specs.declared.code.ErrorCode.{ErrorCode}

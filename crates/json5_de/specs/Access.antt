@@ -102,7 +102,7 @@ pub record ElementsLeft (ts : Trees) (r : List ℕ) (now : AccessState) : Type 0
   pub shallow : now.reader.level + depths ts ≤ max_depth
   pub tail : Tail ts now.comma_due now.reader.unread r
 
--- one element more was read, and v is its value; or no element, and what was read is the same (`GivesElement` says that the bracket is next)
+-- One element more was read, and v is its value; or no element was, and then what was read is the same. That the bracket is next is said by `GivesElement`.
 abbrev pub ReadsMore : {V C : Type 0} → (V → C) → (Tree → Option C) → AccessState → AccessState → Option V → Type 0
 ReadsMore content convert old new (Some v) = (t : Tree) × (convert t ≡ Some (content v)) × ((from : State) (ts : Trees) → ElementsRead from ts old → ElementsRead from (snoc ts t) new)
 ReadsMore content convert old new None = (from : State) (ts : Trees) → ElementsRead from ts old → ElementsRead from ts new
@@ -155,7 +155,7 @@ TooDeepAt b old result = (w : List ℕ) → AtFull b old w → IsErrAnd result (
 abbrev pub is_opening : Brackets → ℕ → Bool
 is_opening b c = c == b.opening
 
--- after a member
+-- after an element or a member
 abbrev pub is_comma_or_closing : Brackets → ℕ → Bool
 is_comma_or_closing b c = (c == comma_sign) || (c == b.closing)
 

@@ -17,13 +17,13 @@ option_of f (text u escape_free) = if_some Some (f (text u escape_free))
 option_of f (array ts) = if_some Some (f (array ts))
 option_of f (object ps) = if_some Some (f (object ps))
 
--- one member that converts, and no other
+-- one element that converts, and no other
 abbrev pub last_of : {A : Type 0} → (Tree → Option A) → Trees → Option A
 last_of f no_more = None
 last_of f (more t no_more) = f t
 last_of f (more t (more u us)) = None
 
--- a member that converts, and then the others
+-- an element that converts, and then the others
 abbrev pub first_of : {A B : Type 0} → (Tree → Option A) → (Trees → Option B) → Trees → Option (A × B)
 first_of f g no_more = None
 first_of f g (more t us) = joint (f t) (g us)
@@ -32,6 +32,6 @@ abbrev pub if_length : {C : Type 0} → ℕ → Option (List C) → Option (List
 if_length n None = None
 if_length n (Some cs) = if length cs == n then Some cs else None
 
--- so many members, each of which converts
+-- so many elements, each of which converts
 abbrev pub exactly : {C : Type 0} → ℕ → (Tree → Option C) → Trees → Option (List C)
 exactly n f ts = if_length n (contents f ts)

@@ -95,11 +95,11 @@ pub data NotDocument {C : Type 0} (kind : Kind C) : List ℕ → Bool → Option
   more_follows : {u r : List ℕ} {escape_free : Bool} {t : Tree} {c : C} {reason : Option ErrorCode} {place : Option (List ℕ)} → Reads u t r → depth t ≤ max_depth → kind.convert t ≡ Some c
       → AfterBlanks Trailing r reason place → NotDocument kind u escape_free reason
 
--- a text that is a document of the kind, blanks round it included; its faults keep their codes
+-- a text that is a document of the kind, with the blanks around it; its faults keep their codes
 abbrev pub document_key : {C : Type 0} → Kind C → KeyKind C
 document_key kind = record { convert = document_of kind.convert; IsFault = NotDocument kind }
 
--- such a text converts exactly if it is a document whose tree converts
+-- such a text converts exactly when it is a document whose tree converts
 abbrev pub ConvertsDocuments : {C : Type 0} → (Tree → Option C) → Type 0
 ConvertsDocuments {C = C} convert = (u : List ℕ) (escape_free : Bool) (c : C) → (document_of convert u escape_free ≡ Some c) ↔ ((t : Tree) × Doc max_depth u t × (convert t ≡ Some c))
 

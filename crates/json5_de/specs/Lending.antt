@@ -163,7 +163,7 @@ pub record HoldsMapBlocked {I : Type 0} (reader : MutBor State) (brace : Option 
   pub blocks : BlocksMapReader m
   pub closes : map_brace m ≡ brace
 
--- an array is opened by an access that holds this reader, and whose end closes no brace; an object likewise
+-- an array is opened by an access that holds this reader, and whose end closes no brace; the same of an object
 abbrev pub OpensSeqAccess : {I : Type 0} → MutBor State → State → Result (SeqAccess I) Error → Type 0
 OpensSeqAccess reader old result = OpensArray (HoldsBlocked reader None) state_of old result
 

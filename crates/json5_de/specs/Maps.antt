@@ -1,4 +1,4 @@
--- What a map is read to: among an object's members, a later one with an equal key replaces the value; the first key and its position in the order stay.
+-- What a map is read to. Of members with equal keys the first gives the key and its place in the order, and the last gives the value.
 use Rattle.std.specs.Prelude.{◌≡◌, Bool, List, [], ◌∷◌, map, Option, Some, None, if◌then◌else◌, fold}
 use Rattle.std.specs.declared.cmp.Ordering.{Ordering}
 use Rattle.std.specs.BTreeMap as tree
@@ -22,27 +22,27 @@ TellsKeys {K} content compare test = (x y : K) → test (content x) (content y) 
 abbrev pub Told : {K C R : Type 0} → (K → C) → (K → K → R) → Type 0 → Type 0
 Told {K} {C} {R} content compare A = (test : C → C → R) → TellsKeys content compare test → A
 
--- what counts of a pair
+-- what counts of a member: of its key, and of its value
 abbrev pub pair_content : {K V C D : Type 0} → (K → C) → (V → D) → K × V → C × D
 pair_content key value p = (key p.0, value p.1)
 
--- ---- pairs by their keys
+-- ---- members by their keys
 
--- the value of the last pair whose key passes, or v
+-- the value of the last member whose key passes, or v
 abbrev pub last_value : {C D : Type 0} → (C → Bool) → D → List (C × D) → D
 last_value test v [] = v
 last_value test v (p ∷ ps) = last_value test (if test p.0 then p.1 else v) ps
 
--- the first key that passes, with the value of the last pair whose key does
+-- the first key that passes, with the value of the last member whose key does
 abbrev pub found_in : {C D : Type 0} → (C → Bool) → List (C × D) → Option (C × D)
 found_in test [] = None
 found_in test (p ∷ ps) = if test p.0 then Some (p.0, last_value test p.1 ps) else found_in test ps
 
--- the pairs inserted in turn into a map that keeps the order in which keys first came
+-- the members inserted in turn into a map that keeps the order in which keys first came
 abbrev pub in_turn : {C D : Type 0} → (C → C → Bool) → List (C × D) → List (C × D)
 in_turn same ps = insert_all same [] ps
 
--- the pairs inserted in turn into a map that keeps the keys' order
+-- the members inserted in turn into a map that keeps the keys' order
 abbrev pub in_order : {C D : Type 0} → (C → C → Ordering) → List (C × D) → List (C × D)
 in_order compare ps = fold (λ done p. tree.insert_entry compare done p.0 p.1) [] ps
 
@@ -52,7 +52,7 @@ in_order compare ps = fold (λ done p. tree.insert_entry compare done p.0 p.1) [
 abbrev pub pairs_of : {C D : Type 0} → KeyConversion C → (Tree → Option D) → Tree → Option (List (C × D))
 pairs_of keys values = object_of (pair_contents keys values)
 
--- what counts of a map that is made of the pairs
+-- what counts of a map that is made of the members
 abbrev pub map_of : {C D A : Type 0} → KeyConversion C → (Tree → Option D) → (List (C × D) → A) → Tree → Option A
 map_of keys values gathered t = if_some gathered (pairs_of keys values t)
 

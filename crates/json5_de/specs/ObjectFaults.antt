@@ -75,12 +75,12 @@ is_positionless (code c) = is_positionless_code c
 is_positionless (custom text) = false
 is_positionless failed_write = false
 
--- a fault of a key without a position gets the key's, but for the codes that have none
+-- a fault of a key without a position gets the key's, unless its code is one that has none
 pub data PositionedAtKey (IsBefore : List ℕ → Type 0) (own e : Error) : Type 0 where
   at_key : is_positionless (kind_of own) ≡ false → PositionedAt IsBefore own e → PositionedAtKey IsBefore own e
   as_it_is : is_positionless (kind_of own) ≡ true → kind_of e ≡ kind_of own → error_position e ≡ error_position own → PositionedAtKey IsBefore own e
 
--- a key that was read is given, and a fault so placed
+-- a key that was read is returned, and a fault gets such a position
 abbrev pub PositionsKey : {K : Type 0} → (List ℕ → Type 0) → Result K Error → Result (Option K) Error → Type 0
 PositionsKey IsBefore read result = MatchResult read (λ k. result ≡ Ok (Some k)) (λ own. IsErrAnd result (PositionedAtKey IsBefore own))
 

@@ -1,4 +1,4 @@
--- Types of a user's own: a value is read, and then accepted or refused.
+-- A user's own types: a value is read, and then accepted or refused.
 use Rattle.std.specs.Prelude.{◌≡◌, ◌⊎◌, ℕ, ◌+◌, ◌≤◌, Bool, false, List, [], ◌++◌, Option, Some, None, Result, MatchResult, IfOk, IfErr}
 use Rattle.json5_grammar.specs.declared.code.ErrorCode.{ErrorCode}
 use Rattle.json5_grammar.specs.Language.Trees.{Tree, depth}

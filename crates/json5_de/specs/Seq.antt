@@ -25,7 +25,7 @@ pub record IsAfterGap (x y : List ℕ) : Type 0 where
   pub is_gap : Gap gap y
   pub solid : Solid y
 
--- y is where a member of x may begin, after the comma that is due
+-- y is where an element or a member of x may begin, after the comma that is due
 abbrev pub IsEntryStart : Bool → List ℕ → List ℕ → Type 0
 IsEntryStart false x y = IsAfterGap x y
 IsEntryStart true x y = (z : List ℕ) × IsSign comma_sign x z × IsAfterGap z y
@@ -49,7 +49,7 @@ pub record TakesClosing (b : Brackets) (old new : State) (result : Result (Unit 
   pub refused : IfErr result (RefusesClosing b old)
   pub same_text : SameText old new
 
--- a member may begin here: no closing bracket is next
+-- an element or a member may begin here: no closing bracket is next
 pub record AtEntry (b : Brackets) (comma_due : Bool) (old new : State) : Type 0 where
   pub live : old.failed ≡ false
   pub begun : IsEntryStart comma_due old.unread new.unread

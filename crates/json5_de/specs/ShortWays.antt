@@ -23,7 +23,7 @@ use Rattle.json5_de.specs.State.{State, GivesUp}
 abbrev pub ReadsShort : {V C : Type 0} → Kind C → (V → C) → State → State → Option V → Type 0
 ReadsShort kind content old new result = MatchOption result (new ≡ old) (λ v. ReadsAs kind content old new (Ok v))
 
--- a step to the next member or to the closing bracket is taken, or nothing
+-- a step to the next element or member, or to the closing bracket, is taken, or nothing
 abbrev pub StepsShort : Brackets → Bool → State → State → ShortStep → Type 0
 StepsShort b comma_due old new short.Member = AdvancesToEntry b comma_due old new true
 StepsShort b comma_due old new short.Closing = AdvancesToEntry b comma_due old new false

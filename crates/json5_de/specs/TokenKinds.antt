@@ -134,7 +134,7 @@ ReadsBytes old new result = ReadsAs bytes_kind bytes_of old new result
 
 -- ---- the codes, which follow from the law of a read
 
--- whoever reads such a value gets the code at the end, and that at a character that begins nothing of the kind
+-- each read of such a value is refused with the code `ends` of the kind at the end, and with `differs` at a character that begins nothing of it
 abbrev pub TellsApart : {V C : Type 0} → Kind C → (V → C) → Type 0
 TellsApart {V = V} kind content = (old new : State) (result : Result V Error) → ReadsAs kind content old new result → EndsAs kind old result × DiffersAs kind old result
 

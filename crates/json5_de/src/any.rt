@@ -31,6 +31,10 @@ impl<I: Input> Deserializer<I> {
     /// Passes over a value of any kind, nested or not (JSON5 sections 2 to 6), and keeps nothing of it. Takes no memory where
     /// it succeeds.
     ///
+    /// ```text
+    /// de.deserialize_ignored_any()?;    // passes over the array of `[1, {a: 2}] 3`; ` 3` is left
+    /// ```
+    ///
     /// # Errors
     ///
     /// As [`deserialize_any`](Deserializer::deserialize_any), with the same positions.

@@ -37,6 +37,10 @@ impl<I: Input> Deserializer<I> {
 
     /// Reads bytes as [`deserialize_bytes`](Deserializer::deserialize_bytes) does.
     ///
+    /// ```text
+    /// de.deserialize_byte_buf()?    // the bytes 0xAB and 0x0C of `'aB0c'`
+    /// ```
+    ///
     /// # Errors
     ///
     /// As `deserialize_bytes`.

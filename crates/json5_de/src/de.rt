@@ -165,8 +165,8 @@ impl<I: Input> Deserializer<I> {
     }
 
     /// Makes a reader at the start of the text that opens no more brackets at once than the limit, and refuses the next with
-    /// `TooDeep`. Nothing is read yet. Inside, the brackets that the limit leaves out of 128 count as open, so that the same
-    /// contracts hold for every limit.
+    /// `TooDeep`. Nothing is read yet. In its contract the brackets past the limit count as open, 128 minus the limit, so that
+    /// the same contracts hold for every limit.
     ///
     /// ```text
     /// let mut de = Deserializer::within(alloc, Limit::new(2).unwrap(), "[[[");    // `TooDeep` at the third bracket
@@ -182,8 +182,12 @@ impl<I: Input> Deserializer<I> {
         }
     }
 
-    /// Returns the allocator that was handed to `from_str` or `within`, for what an impl allocates itself. Its contract also
-    /// says that at most 128 brackets count as open.
+    /// Returns the allocator that `from_str` or `within` got, for what an impl allocates itself. Its contract also says that at
+    /// most 128 brackets count as open.
+    ///
+    /// ```text
+    /// let mut ports: Vec<u16> = Vec::new(de.allocator());
+    /// ```
     pub fn allocator(&self) -> Global
         ensures { self.now.level ≤ max_depth }
     {
@@ -352,6 +356,12 @@ impl<I: Input> Deserializer<I> {
     /// Passes over the blanks at the end of the text, comments included. Nothing else may be left; the last line comment needs
     /// no line terminator.
     ///
+    /// ```text
+    /// let mut de = Deserializer::from_str(alloc, "1 // one");
+    /// let one = de.deserialize_u8()?;
+    /// de.end()?;    // for `1 2` it is `TrailingCharacters` at the 2
+    /// ```
+    ///
     /// # Errors
     ///
     /// - `TrailingCharacters` at a character that is neither blank nor begins a comment.
@@ -433,11 +443,11 @@ impl<I: Input> Deserializer<I> {
     }
 
     /// Returns the position of an offset in bytes, such as the `start` of a [`Spanned`](crate::Spanned): line and column,
-    /// counted from 0. It is the position of the text's end where no character begins at the offset.
+    /// counted from 0. If no character begins at the offset, it is the position of the text's end.
     ///
     /// ```text
     /// let port = Spanned::<u16>::deserialize(de)?;
-    /// let position = de.position_of(port.start);    // for a fault of one's own at the value
+    /// let position = de.position_of(port.start);    // for your own fault at the value
     /// ```
     pub fn position_of(&self, offset: usize) -> Position
         ensures { Locates self.now.input offset result }

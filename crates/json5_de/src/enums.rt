@@ -21,7 +21,7 @@ use json5_value::brackets::BracketKind;
 /// The variant of an enum: its name was read, and one of four calls reads its content. The caller chooses the call by
 /// `variant`; each of them takes the access.
 ///
-/// Until the content is read the reader's own calls return `Failed`, and for good where the access is dropped or leaked.
+/// Until the content is read the reader's own calls return `Failed`; if the access is dropped or leaked, they always do.
 ///
 /// ```text
 /// let access = de.deserialize_enum("Reminder", &["off", "daily", "weekly", "once"])?;
@@ -177,14 +177,21 @@ impl<'a, I: Input> EnumAccess<'a, I> {
     ghost use Rattle.json5_de.specs.Lending.{state_of, map_state_of, enum_state_of, reader_of, HoldsBlocked, HoldsMapBlocked, lends_reader, lends_to_map};
 
     /// Returns the index of the name among the variants, counted from 0; of equal names it is the first.
+    ///
+    /// ```text
+    /// match access.variant() {
+    ///     0 => read_off(access),       // the first of the names
+    ///     _ => read_daily(access),
+    /// }
+    /// ```
     pub fn variant(&self) -> usize
         ensures { result ≡ (enum_state_of self.now).variant }
     {
         self.name.variant
     }
 
-    /// Reads a variant without content: nothing more of a string; of an object `null` and `}`, before which one comma may be.
-    /// Takes no memory.
+    /// Reads a variant without content. If its name was a string, nothing more is read; in an object `null` and `}` are, before
+    /// which one comma may be. Takes no memory.
     ///
     /// ```text
     /// 'off'            // read so

@@ -123,6 +123,10 @@ impl<'a, I: Input> MapAccess<'a, I> {
     /// Reads the value of the key that was read last into this field of a struct. A call that is refused leaves the field as it
     /// was.
     ///
+    /// ```text
+    /// map.next_field("port", &mut found.port)?;    // Some(80) after the key of `{port: 80}`; a second `port` is refused
+    /// ```
+    ///
     /// # Errors
     ///
     /// - A custom fault ``duplicate field `name` `` at the opening brace where the field has a value; the second value stays
@@ -147,6 +151,13 @@ impl<'a, I: Input> MapAccess<'a, I> {
     }
 
     /// Passes over the value of the key that was read last, as `next_value::<IgnoredAny>` does.
+    ///
+    /// ```text
+    /// match name {
+    ///     "port" => map.next_field(name, &mut self.port),
+    ///     _ => map.skip_value(),    // a name that the struct doesn't have
+    /// }
+    /// ```
     ///
     /// # Errors
     ///
@@ -213,6 +224,13 @@ impl<'a, I: Input> MapAccess<'a, I> {
 
     /// Reads the members of an object into these fields, one after another, up to the closing brace, which `end` takes. A
     /// refusal comes after the members that were read before it.
+    ///
+    /// ```text
+    /// let mut found = Found { host: None, port: None };
+    /// let mut map = de.deserialize_struct("Settings", &["host", "port"])?;
+    /// map.read_fields(&mut found)?;
+    /// map.end()?;
+    /// ```
     ///
     /// # Errors
     ///

@@ -16,7 +16,7 @@ use json5_text::input::Input;
 pub(crate) trait Gathers<K, V>: Sized + Drop {
     ghost use Rattle.std.specs.Prelude.{List};
 
-    // The map is what an empty one becomes by these pairs, inserted in turn.
+    // The map is what an empty one becomes if these members are inserted in turn.
     ghost gathered: { Self → List (K × V) → Type 0 };
 
     /// Inserts a member. If an equal key is there, that key stays and takes the value.

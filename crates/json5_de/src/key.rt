@@ -63,7 +63,7 @@ impl<I: Input> Drop for MapKey<'_, I> {
 /// impl<I: Input> DeserializeKey<I> for Id {
 ///     ghost Content = { ℕ };
 ///     ghost content = { λ i. i.number };
-///     ghost convert = { (document_key (natural_row (2 ^ 32))).convert };
+///     ghost convert = { (document_key (natural_kind (2 ^ 32))).convert };
 ///
 ///     fn deserialize_key(key: &mut MapKey<'_, I>) -> Result<Id> {
 ///         let number = key.deserialize_u32()?;
@@ -113,6 +113,10 @@ impl<I: Input> MapKey<'_, I> {
 
     /// Reads the `K` that a struct of one field holds. The name changes nothing.
     ///
+    /// ```text
+    /// let id: u32 = key.deserialize_newtype_struct("Id")?;    // 7 of the key `'7'`
+    /// ```
+    ///
     /// # Errors
     ///
     /// The faults of `K`; `Failed`, without a position, after a call of the reader that was refused.
@@ -130,6 +134,10 @@ impl<I: Input> MapKey<'_, I> {
     }
 
     /// Reads a `K`, which is always Some: a key is never None, not even `null`.
+    ///
+    /// ```text
+    /// let name: Option<String> = key.deserialize_option()?;    // Some of `null` for the key `null`
+    /// ```
     ///
     /// # Errors
     ///

@@ -17,7 +17,11 @@ use json5_text::input::Input;
 impl<I: Input> MapKey<'_, I> {
     ghost use Rattle.json5_de.specs.Lending.{KeyReads, ReadsNullKey};
 
-    /// Reads a key whose text is `null`, blanks and comments round it included: `{null: 1}`, `{' null ': 1}`.
+    /// Reads a key whose text is `null`, with any blanks and comments around it: `{null: 1}`, `{' null ': 1}`.
+    ///
+    /// ```text
+    /// key.deserialize_unit()?    // of the keys `null` and `' null '`; `nil` is `ExpectedNull` at the key
+    /// ```
     ///
     /// # Errors
     ///
@@ -30,6 +34,10 @@ impl<I: Input> MapKey<'_, I> {
 
     /// Reads a key whose text is `null`, as a struct without fields. The name changes nothing.
     ///
+    /// ```text
+    /// key.deserialize_unit_struct("Nothing")?    // of the key `null`
+    /// ```
+    ///
     /// # Errors
     ///
     /// As every call that reads a document: see [`MapKey`].
@@ -39,7 +47,11 @@ impl<I: Input> MapKey<'_, I> {
         self.deserialize_unit()
     }
 
-    /// Reads a key whose text is `true` or `false`, blanks and comments round it included.
+    /// Reads a key whose text is `true` or `false`, with any blanks and comments around it.
+    ///
+    /// ```text
+    /// key.deserialize_bool()?    // true of the keys `true` and `' true '`; `yes` is `ExpectedBool` at the key
+    /// ```
     ///
     /// # Errors
     ///
@@ -50,7 +62,7 @@ impl<I: Input> MapKey<'_, I> {
         self.de.key_document()
     }
 
-    /// Reads a key whose text is a whole number from 0 to 255, blanks and comments round it included.
+    /// Reads a key whose text is a whole number from 0 to 255, with any blanks and comments around it.
     ///
     /// ```text
     /// key.deserialize_u8()?    // 16 of the keys `'16'`, `'0x10'` and `' 16 '`
@@ -67,6 +79,10 @@ impl<I: Input> MapKey<'_, I> {
 
     /// Reads a key whose text is a whole number from 0 to 65535.
     ///
+    /// ```text
+    /// key.deserialize_u16()?    // 8080 of the key `'8080'`; `'65536'` is a custom fault at the key
+    /// ```
+    ///
     /// # Errors
     ///
     /// As every call that reads a document: see [`MapKey`].
@@ -77,6 +93,10 @@ impl<I: Input> MapKey<'_, I> {
     }
 
     /// Reads a key whose text is a whole number from 0 to 2^32 - 1.
+    ///
+    /// ```text
+    /// key.deserialize_u32()?    // 70000 of the key `'70000'`; `'4294967296'` is a custom fault at the key
+    /// ```
     ///
     /// # Errors
     ///
@@ -89,6 +109,10 @@ impl<I: Input> MapKey<'_, I> {
 
     /// Reads a key whose text is a whole number from 0 to 2^64 - 1.
     ///
+    /// ```text
+    /// key.deserialize_u64()?    // 5000000000 of the key `'5000000000'`; `'-1'` is a custom fault at the key
+    /// ```
+    ///
     /// # Errors
     ///
     /// As every call that reads a document: see [`MapKey`].
@@ -99,6 +123,10 @@ impl<I: Input> MapKey<'_, I> {
     }
 
     /// Reads a key whose text is a whole number from 0 to 2^128 - 1.
+    ///
+    /// ```text
+    /// key.deserialize_u128()?    // 5000000000 of the key `'5000000000'`; `'-1'` is a custom fault at the key
+    /// ```
     ///
     /// # Errors
     ///
@@ -111,6 +139,10 @@ impl<I: Input> MapKey<'_, I> {
 
     /// Reads a key whose text is a whole number from -128 to 127.
     ///
+    /// ```text
+    /// key.deserialize_i8()?    // -7 of the keys `'-7'` and `'-0x7'`
+    /// ```
+    ///
     /// # Errors
     ///
     /// As every call that reads a document: see [`MapKey`].
@@ -121,6 +153,10 @@ impl<I: Input> MapKey<'_, I> {
     }
 
     /// Reads a key whose text is a whole number from -32768 to 32767.
+    ///
+    /// ```text
+    /// key.deserialize_i16()?    // -300 of the key `'-300'`; `'32768'` is a custom fault at the key
+    /// ```
     ///
     /// # Errors
     ///
@@ -133,6 +169,10 @@ impl<I: Input> MapKey<'_, I> {
 
     /// Reads a key whose text is a whole number from -2^31 to 2^31 - 1.
     ///
+    /// ```text
+    /// key.deserialize_i32()?    // -70000 of the key `'-70000'`; `'2147483648'` is a custom fault at the key
+    /// ```
+    ///
     /// # Errors
     ///
     /// As every call that reads a document: see [`MapKey`].
@@ -143,6 +183,10 @@ impl<I: Input> MapKey<'_, I> {
     }
 
     /// Reads a key whose text is a whole number from -2^63 to 2^63 - 1.
+    ///
+    /// ```text
+    /// key.deserialize_i64()?    // -5000000000 of the key `'-5000000000'`; `'1.0'` is a custom fault at the key
+    /// ```
     ///
     /// # Errors
     ///
@@ -155,6 +199,10 @@ impl<I: Input> MapKey<'_, I> {
 
     /// Reads a key whose text is a whole number from -2^127 to 2^127 - 1.
     ///
+    /// ```text
+    /// key.deserialize_i128()?    // -5000000000 of the key `'-5000000000'`; `'1.0'` is a custom fault at the key
+    /// ```
+    ///
     /// # Errors
     ///
     /// As every call that reads a document: see [`MapKey`].
@@ -165,6 +213,10 @@ impl<I: Input> MapKey<'_, I> {
     }
 
     /// Reads a key whose text is a number of any kind, as a decimal.
+    ///
+    /// ```text
+    /// key.deserialize_decimal()?    // of the key `'1.50'` the digits 15 and the exponent -1
+    /// ```
     ///
     /// # Errors
     ///

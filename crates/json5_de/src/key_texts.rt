@@ -18,6 +18,10 @@ impl<I: Input> MapKey<'_, I> {
 
     /// Reads the key and returns its text, escapes replaced, in a `String` of its own.
     ///
+    /// ```text
+    /// key.deserialize_string()?    // `port` of the keys `port`, `'port'` and `p\u006frt`
+    /// ```
+    ///
     /// # Errors
     ///
     /// As every call: see [`MapKey`].
@@ -31,6 +35,10 @@ impl<I: Input> MapKey<'_, I> {
     }
 
     /// Reads a key of exactly one character.
+    ///
+    /// ```text
+    /// key.deserialize_char()?    // é of the keys `é` and `'\xE9'`; `ab` is a custom fault at the key
+    /// ```
     ///
     /// # Errors
     ///
@@ -63,6 +71,10 @@ impl<I: Input> MapKey<'_, I> {
 
     /// Reads a key of any text, and keeps nothing of it.
     ///
+    /// ```text
+    /// key.deserialize_ignored_any()?    // of any key: `port`, `'a key'`, `""`
+    /// ```
+    ///
     /// # Errors
     ///
     /// As every call: see [`MapKey`].
@@ -74,6 +86,10 @@ impl<I: Input> MapKey<'_, I> {
     }
 
     /// Reads a key as bytes: its text is an even number of ASCII hexadecimal digits, in either case, two a byte.
+    ///
+    /// ```text
+    /// key.deserialize_bytes()?    // the bytes 0xAB and 0x0C of the keys `ab0c` and `'AB0C'`
+    /// ```
     ///
     /// # Errors
     ///
@@ -87,6 +103,10 @@ impl<I: Input> MapKey<'_, I> {
     }
 
     /// Reads a key as bytes, as [`deserialize_bytes`](MapKey::deserialize_bytes) does.
+    ///
+    /// ```text
+    /// key.deserialize_byte_buf()?    // the bytes 0xAB and 0x0C of the key `ab0c`
+    /// ```
     ///
     /// # Errors
     ///
@@ -104,6 +124,10 @@ impl<'de, I: Borrows<'de>> MapKey<'_, I> {
 
     /// Reads a key without an escape, and returns its slice of the input, without quotes.
     ///
+    /// ```text
+    /// key.deserialize_str()?    // `port` of the keys `port` and `'port'`; `p\u006frt` is a custom fault at the key
+    /// ```
+    ///
     /// # Errors
     ///
     /// - A custom fault at a key that has an escape.
@@ -119,6 +143,10 @@ impl<'de, I: Borrows<'de>> MapKey<'_, I> {
 
     /// Reads the key and returns its text, borrowed from the input where the key has no escape.
     ///
+    /// ```text
+    /// key.deserialize_identifier()?    // Borrowed of the key `port`, Owned of `p\u006frt`
+    /// ```
+    ///
     /// # Errors
     ///
     /// As every call: see [`MapKey`].
@@ -132,6 +160,10 @@ impl<'de, I: Borrows<'de>> MapKey<'_, I> {
     }
 
     /// Reads a key of any text, as [`deserialize_identifier`](MapKey::deserialize_identifier) does.
+    ///
+    /// ```text
+    /// key.deserialize_any()?    // Borrowed of the key `port`, Owned of `p\u006frt`
+    /// ```
     ///
     /// # Errors
     ///

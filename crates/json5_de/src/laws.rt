@@ -45,7 +45,7 @@ pub fn one_key_answer<I: Input, K: DeserializeKey<I>>()
     ensures { OneKeyAnswer K.content K.convert }
 {}
 
-/// The text of a key that is read as null, a boolean or a number converts exactly where it is a document (JSON5 section 2) whose
+/// The text of a key that is read as null, a boolean or a number converts exactly when it is a document (JSON5 section 2) whose
 /// tree converts.
 pub fn document_keys()
     ensures null { ConvertsDocuments unit_of }

@@ -19,9 +19,9 @@ use json5_value::brackets::BracketKind;
 
 /// The members of an object, one after another: a key, then its value.
 ///
-/// `end` closes the object and frees the reader. Until then the reader's own calls return `Failed`, and for good where the
-/// access is dropped or leaked before. After a call of the access that was refused, every later one returns `Failed`. Equal
-/// keys are given as often as they come.
+/// `end` closes the object and frees the reader. Until then the reader's own calls return `Failed`; if the access is dropped or
+/// leaked before its `end`, they always do. After a call of the access that was refused, every later one returns `Failed`. Equal
+/// keys are returned as often as they come.
 ///
 /// ```text
 /// let mut map = de.deserialize_map()?;
@@ -70,6 +70,14 @@ impl<I: Input> Deserializer<I> {
 
     /// Opens an object (JSON5 section 3), and lends the reader to the access that reads its members.
     ///
+    /// ```text
+    /// let mut map = de.deserialize_map()?;
+    /// while let Some(name) = map.next_key::<&str>()? {
+    ///     ports.push((name, map.next_value::<u16>()?))?;
+    /// }
+    /// map.end()?;
+    /// ```
+    ///
     /// # Errors
     ///
     /// - `ExpectedOpeningBrace` at another character than `{`.
@@ -94,6 +102,12 @@ impl<I: Input> Deserializer<I> {
 
     /// Opens an object as [`deserialize_map`](Deserializer::deserialize_map) does, for [`MapAccess::read_fields`]. The name and
     /// the fields change nothing.
+    ///
+    /// ```text
+    /// let mut map = de.deserialize_struct("Settings", &["host", "port"])?;
+    /// map.read_fields(&mut found)?;
+    /// map.end()?;
+    /// ```
     ///
     /// # Errors
     ///
@@ -161,17 +175,21 @@ impl<'a, I: Input> MapAccess<'a, I> {
         self.place(fault)
     }
 
-    /// Reads the key of the next member, and the comma before it. Returns none where the closing brace is next, which `end`
-    /// takes. The value of a key has to be read before the next key.
+    /// Reads the key of the next member, and the comma before it. Returns None if the closing brace is next, which `end` takes.
+    /// The value of a key has to be read before the next key.
+    ///
+    /// ```text
+    /// map.next_key::<&str>()?    // of `{http: 80}` Some of `http`; after its value None
+    /// ```
     ///
     /// # Errors
     ///
-    /// A fault without a position gets that of the opening brace, but for those of `K`.
+    /// A fault without a position gets that of the opening brace, except those of `K`.
     /// - `ExpectedComma` at a character after a member that is neither a comma nor `}`.
     /// - `ExpectedIdentifier` at a character that begins no key, where one may begin.
     /// - `EofParsingObject` where the text ends after a member or before a key.
-    /// - The faults of `K`; one without a position gets that of the key, but where its code is `EofParsing..`, `OutOfMemory` or
-    ///   `Failed`, that of the opening brace.
+    /// - The faults of `K`. One without a position gets that of the key; if its code is `EofParsing..`, `OutOfMemory` or
+    ///   `Failed`, it gets that of the opening brace.
     /// - The codes of every call: see [`MapAccess`].
     pub fn next_key<K: DeserializeKey<I>>(&mut self) -> Result<Option<K>>
         requires no_key { NoKeyPending self.old }
@@ -189,6 +207,13 @@ impl<'a, I: Input> MapAccess<'a, I> {
     }
 
     /// Reads the colon and the value of the key that was read last.
+    ///
+    /// ```text
+    /// let Some(name) = map.next_key::<&str>()? else {
+    ///     return Err(map.place(Error::custom(alloc, "an empty object")?));
+    /// };
+    /// let port = map.next_value::<u16>()?;    // 80 of `{http: 80}`
+    /// ```
     ///
     /// # Errors
     ///
@@ -212,14 +237,20 @@ impl<'a, I: Input> MapAccess<'a, I> {
         }
     }
 
-    /// Says whether a key was read whose value wasn't. A call that is refused doesn't change it.
+    /// Says whether a key was read and its value wasn't yet. A call that is refused doesn't change it.
+    ///
+    /// ```text
+    /// if map.key_pending() {
+    ///     map.skip_value()?;
+    /// }
+    /// ```
     pub fn key_pending(&self) -> bool
         ensures { result ≡ (map_state_of self.now).pending }
     {
         self.stage.is_pending()
     }
 
-    /// Gives a fault of one's own the position of the opening brace where it has none; a fault that has one stays as it is.
+    /// Gives your own fault the position of the opening brace if it has none; a fault that has one stays as it is.
     ///
     /// ```text
     /// return Err(map.place(Error::custom(alloc, "neither a name nor an id")?));
@@ -233,17 +264,26 @@ impl<'a, I: Input> MapAccess<'a, I> {
     }
 
     /// Returns the position of an offset in bytes, such as the `start` of a `Spanned` value: line and column, counted from 0.
-    /// It is the position of the text's end where no character begins at the offset.
+    /// If no character begins at the offset, it is the position of the text's end.
+    ///
+    /// ```text
+    /// let port = map.next_value::<Spanned<u16>>()?;
+    /// let position = map.position_of(port.start);    // for your own fault at the value
+    /// ```
     pub fn position_of(&self, offset: usize) -> Position
         ensures { Locates (map_state_of self.now).at.reader.input offset result }
     {
         self.de.position_of(offset)
     }
 
-    /// Closes the object: takes `}`, and before it one comma where a member was read and the comma after it wasn't. Then the
-    /// reader continues after the brace.
+    /// Closes the object: takes `}`, and before it the comma that may follow the last member. Then the reader continues after
+    /// the brace.
     ///
-    /// Where the object is the content of a variant, the variant's `}` is taken too, before which one comma may be.
+    /// If the object is the content of a variant, the variant's `}` is taken too, before which one comma may be.
+    ///
+    /// ```text
+    /// map.end()?;    // after the last member of `{http: 80,}`; where one is left, `ExpectedClosingBrace` at it
+    /// ```
     ///
     /// # Errors
     ///

@@ -94,6 +94,7 @@ fn write_quoted<W: fmt::Write>(f: &mut fmt::Formatter<W>, text: &str) -> fmt::Re
     f.write_char('"')
 }
 
+/// Writes the character, or its escape if it is `"`, a backslash, a tab, LF or CR.
 fn write_escaped<W: fmt::Write>(f: &mut fmt::Formatter<W>, c: char) -> fmt::Result {
     match c {
         '"' => f.write_str("\\\""),

@@ -51,6 +51,10 @@ impl<I: Input> Deserializer<I> {
 
     /// Reads the `T` that a struct of one field holds. The name changes nothing.
     ///
+    /// ```text
+    /// let id: u32 = de.deserialize_newtype_struct("Id")?;    // 7 of `7`
+    /// ```
+    ///
     /// # Errors
     ///
     /// The faults of `T`; `Failed`, without a position, after a call that was refused.
@@ -68,6 +72,10 @@ impl<I: Input> Deserializer<I> {
     }
 
     /// Reads `null` as a struct without fields. The name changes nothing. Takes no memory.
+    ///
+    /// ```text
+    /// de.deserialize_unit_struct("Nothing")?    // of `null`
+    /// ```
     ///
     /// # Errors
     ///

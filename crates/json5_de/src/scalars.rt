@@ -19,6 +19,10 @@ use json5_value::kinds::Literal;
 impl<I: Input> Deserializer<I> {
     /// Reads `null` (JSON5 section 2). Takes no memory.
     ///
+    /// ```text
+    /// de.deserialize_unit()?    // of `null`; `nil` is `ExpectedNull` at the i
+    /// ```
+    ///
     /// # Errors
     ///
     /// - `ExpectedNull` at the first character that differs from `null`.
@@ -32,6 +36,10 @@ impl<I: Input> Deserializer<I> {
     }
 
     /// Reads `true` or `false` (JSON5 section 2). Takes no memory.
+    ///
+    /// ```text
+    /// de.deserialize_bool()?    // true of `true`; `yes` is `ExpectedBool` at the y, `trap` at the a
+    /// ```
     ///
     /// # Errors
     ///
@@ -152,6 +160,10 @@ impl<I: Input> Deserializer<I> {
 
     /// Reads a whole number from 0 to 65535 as `u16`. Takes no memory where it succeeds.
     ///
+    /// ```text
+    /// de.deserialize_u16()?    // 8080 of `8080` and of `0x1F90`; `65536` is a custom fault at its start
+    /// ```
+    ///
     /// # Errors
     ///
     /// As every call that reads a whole number: see [`Deserializer`].
@@ -169,6 +181,10 @@ impl<I: Input> Deserializer<I> {
     }
 
     /// Reads a whole number from 0 to 2^32 - 1 as `u32`. Takes no memory where it succeeds.
+    ///
+    /// ```text
+    /// de.deserialize_u32()?    // 70000 of `70000` and of `0x11170`; `4294967296` is a custom fault at its start
+    /// ```
     ///
     /// # Errors
     ///
@@ -188,6 +204,10 @@ impl<I: Input> Deserializer<I> {
 
     /// Reads a whole number from 0 to 2^64 - 1 as `u64`. Takes no memory where it succeeds.
     ///
+    /// ```text
+    /// de.deserialize_u64()?    // 5000000000 of `5000000000` and of `0x12A05F200`; `-1` is a custom fault at its start
+    /// ```
+    ///
     /// # Errors
     ///
     /// As every call that reads a whole number: see [`Deserializer`].
@@ -206,6 +226,10 @@ impl<I: Input> Deserializer<I> {
 
     /// Reads a whole number from 0 to 2^128 - 1 as `u128`. Takes no memory where it succeeds.
     ///
+    /// ```text
+    /// de.deserialize_u128()?    // 5000000000 of `5000000000` and of `0x12A05F200`; `-1` is a custom fault at its start
+    /// ```
+    ///
     /// # Errors
     ///
     /// As every call that reads a whole number: see [`Deserializer`].
@@ -216,6 +240,10 @@ impl<I: Input> Deserializer<I> {
     }
 
     /// Reads a whole number from -128 to 127 as `i8`. Takes no memory where it succeeds.
+    ///
+    /// ```text
+    /// de.deserialize_i8()?    // -16 of `-16` and of `-0x10`; `128` is a custom fault at its start
+    /// ```
     ///
     /// # Errors
     ///
@@ -235,6 +263,10 @@ impl<I: Input> Deserializer<I> {
 
     /// Reads a whole number from -32768 to 32767 as `i16`. Takes no memory where it succeeds.
     ///
+    /// ```text
+    /// de.deserialize_i16()?    // -300 of `-300` and of `-0x12C`; `32768` is a custom fault at its start
+    /// ```
+    ///
     /// # Errors
     ///
     /// As every call that reads a whole number: see [`Deserializer`].
@@ -252,6 +284,10 @@ impl<I: Input> Deserializer<I> {
     }
 
     /// Reads a whole number from -2^31 to 2^31 - 1 as `i32`. Takes no memory where it succeeds.
+    ///
+    /// ```text
+    /// de.deserialize_i32()?    // -70000 of `-70000` and of `-0x11170`; `2147483648` is a custom fault at its start
+    /// ```
     ///
     /// # Errors
     ///
@@ -271,6 +307,10 @@ impl<I: Input> Deserializer<I> {
 
     /// Reads a whole number from -2^63 to 2^63 - 1 as `i64`. Takes no memory where it succeeds.
     ///
+    /// ```text
+    /// de.deserialize_i64()?    // -5000000000 of `-5000000000` and of `-0x12A05F200`; `1.0` is a custom fault at its start
+    /// ```
+    ///
     /// # Errors
     ///
     /// As every call that reads a whole number: see [`Deserializer`].
@@ -288,6 +328,10 @@ impl<I: Input> Deserializer<I> {
     }
 
     /// Reads a whole number from -2^127 to 2^127 - 1 as `i128`. Takes no memory where it succeeds.
+    ///
+    /// ```text
+    /// de.deserialize_i128()?    // -5000000000 of `-5000000000` and of `-0x12A05F200`; `1e2` is a custom fault at its start
+    /// ```
     ///
     /// # Errors
     ///

@@ -22,8 +22,8 @@ use std::alloc::Global;
 
 /// The elements of an array, one after another.
 ///
-/// `end` closes the array and frees the reader. Until then the reader's own calls return `Failed`, and for good where the
-/// access is dropped or leaked before. After a call of the access that was refused, every later one returns `Failed`.
+/// `end` closes the array and frees the reader. Until then the reader's own calls return `Failed`; if the access is dropped or
+/// leaked before its `end`, they always do. After a call of the access that was refused, every later one returns `Failed`.
 ///
 /// ```text
 /// let mut seq = de.deserialize_seq()?;
@@ -87,6 +87,14 @@ impl<I: Input> Deserializer<I> {
 
     /// Opens an array (JSON5 section 4), and lends the reader to the access that reads its elements.
     ///
+    /// ```text
+    /// let mut seq = de.deserialize_seq()?;
+    /// while let Some(port) = seq.next_element::<u16>()? {
+    ///     ports.push(port)?;
+    /// }
+    /// seq.end()?;
+    /// ```
+    ///
     /// # Errors
     ///
     /// - `ExpectedOpeningBracket` at another character than `[`.
@@ -131,6 +139,10 @@ impl<I: Input> Deserializer<I> {
 
     /// Opens an array as [`deserialize_seq`](Deserializer::deserialize_seq) does. The name and the length change nothing.
     ///
+    /// ```text
+    /// let mut seq = de.deserialize_tuple_struct("Point", 2)?;    // of `[1, 2]`, as `deserialize_tuple(2)`
+    /// ```
+    ///
     /// # Errors
     ///
     /// As `deserialize_seq`.
@@ -161,7 +173,11 @@ impl<'a, I: Input> SeqAccess<'a, I> {
         self.place(fault)
     }
 
-    /// Reads the next element, and the comma before it. Returns none where the closing bracket is next, which `end` takes.
+    /// Reads the next element, and the comma before it. Returns None if the closing bracket is next, which `end` takes.
+    ///
+    /// ```text
+    /// seq.next_element::<u8>()?    // of `[1, 2]` Some(1), then Some(2), then None
+    /// ```
     ///
     /// # Errors
     ///
@@ -217,7 +233,7 @@ impl<'a, I: Input> SeqAccess<'a, I> {
         }
     }
 
-    /// Gives a fault of one's own the position of the opening bracket where it has none; a fault that has one stays as it is.
+    /// Gives your own fault the position of the opening bracket if it has none; a fault that has one stays as it is.
     ///
     /// ```text
     /// let Some(first) = seq.next_element::<u8>()? else {
@@ -233,17 +249,26 @@ impl<'a, I: Input> SeqAccess<'a, I> {
     }
 
     /// Returns the position of an offset in bytes, such as the `start` of a `Spanned` element: line and column, counted from 0.
-    /// It is the position of the text's end where no character begins at the offset.
+    /// If no character begins at the offset, it is the position of the text's end.
+    ///
+    /// ```text
+    /// let Some(port) = seq.next_element::<Spanned<u16>>()? else { .. };
+    /// let position = seq.position_of(port.start);    // for your own fault at the element
+    /// ```
     pub fn position_of(&self, offset: usize) -> Position
         ensures { Locates (state_of self.now).reader.input offset result }
     {
         self.de.position_of(offset)
     }
 
-    /// Closes the array: takes `]`, and before it one comma where an element was read and the comma after it wasn't. Then the
-    /// reader continues after the bracket.
+    /// Closes the array: takes `]`, and before it the comma that may follow the last element. Then the reader continues after
+    /// the bracket.
     ///
-    /// Where the array is the content of a variant, the variant's `}` is taken too, before which one comma may be.
+    /// If the array is the content of a variant, the variant's `}` is taken too, before which one comma may be.
+    ///
+    /// ```text
+    /// seq.end()?;    // after the last element of `[1, 2,]`; where one is left, `ExpectedClosingBracket` at it
+    /// ```
     ///
     /// # Errors
     ///

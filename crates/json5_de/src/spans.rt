@@ -8,9 +8,9 @@ use crate::de::{Deserialize, Deserializer};
 use json5_text::error::Result;
 use json5_text::input::Input;
 
-/// A value and where it is in the text, for a fault of one's own at its position.
+/// A value and where it is in the text, for your own fault at its position.
 ///
-/// The reader's `position_of`, or that of the access that gave the value, makes a position of `start`.
+/// The `position_of` of the reader, or of the access that returned the value, makes a position of `start`.
 ///
 /// ```text
 /// let port = Spanned::<u16>::deserialize(de)?;

@@ -29,6 +29,10 @@ pub(crate) fn only_character(text: &str) -> Option<char>
 impl<I: Input> Deserializer<I> {
     /// Reads a string and returns its text, escapes replaced, in a `String` of its own (JSON5 section 5).
     ///
+    /// ```text
+    /// de.deserialize_string()?    // `ab` of `'ab'` and of `"a\x62"`
+    /// ```
+    ///
     /// # Errors
     ///
     /// As every call that reads a string: see [`Deserializer`].

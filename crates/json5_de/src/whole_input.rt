@@ -12,7 +12,7 @@ use json5_text::error::Result;
 use json5_text::nesting::Limit;
 use std::alloc::Global;
 
-/// Reads a whole text as a `T`: one value with blanks and comments round it (JSON5 section 2), nested at most 128 deep.
+/// Reads a whole text as a `T`: one value with blanks and comments around it (JSON5 section 2), nested at most 128 deep.
 ///
 /// It is [`from_str_within`] at the full limit.
 ///
@@ -35,10 +35,11 @@ pub fn from_str<'de, T: Deserialize<&'de str>>(alloc: Global, input: &'de str) -
     from_str_within(alloc, Limit::full(), input)
 }
 
-/// Reads a whole text as a `T`, with no more brackets open at once than the limit: for hostile text on a small stack, or a
-/// schema that is at most so deep.
+/// Reads a whole text as a `T`, with no more brackets open at once than the limit: for untrusted text on a small stack, or a
+/// schema that is less deep than 128.
 ///
-/// It is Ok exactly where the text is such a document and its tree converts to `T`, unless memory runs out.
+/// Returns Ok(v) exactly when the text is such a document and its tree converts to a `T`, which is then v, unless memory runs
+/// out.
 ///
 /// ```text
 /// let none: Result<Value> = json5::from_str_within(alloc, Limit::new(2).unwrap(), "[[[");    // `TooDeep` at the third bracket

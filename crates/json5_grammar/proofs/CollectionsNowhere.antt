@@ -1,4 +1,4 @@
--- What an array or an object goes on with, seen from what follows the gap in front.
+-- What an array or an object goes on with after the gap in front, and that it goes on with nothing else.
 use Rattle.std.proofs.Common.{◌≡◌, ℕ, true, List, [], ◌∷◌, ◌++◌, refl, ap, sym, ◌∙◌, subst, Option}
 use Rattle.std.specs.Prelude.{◌==◌}
 use Rattle.std.proofs.lemmas.Bool.{both_ways}

@@ -1,4 +1,4 @@
--- The contents of an object's pairs, one at a time.
+-- The contents of an object's members, one at a time.
 use Rattle.std.proofs.Common.{◌≡◌, ℕ, Bool, List, [], ◌∷◌, ◌++◌, refl, ap, Option, Some, None}
 use Rattle.json5_grammar.specs.Language.Trees.{Tree, Members, null, boolean, number, text, array, object, no_member, member}
 use Rattle.json5_grammar.specs.Model.Collections.{joined_members, snoc_member, joint, pair_contents, object_of}

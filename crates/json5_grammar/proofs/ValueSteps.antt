@@ -1,4 +1,4 @@
--- What is read of a value and of what is left of a bracket, step by step, the trees forgotten.
+-- What is read of a value and of what is left of a bracket, step by step, without its trees.
 use Rattle.std.proofs.Common.{◌≡◌, ℕ, suc, ◌≤◌, Bool, true, false, cond, ◌||◌, List, [], ◌∷◌, length, refl, ap, ◌∙◌, arith, Some}
 use Rattle.std.specs.Prelude.{◌==◌}
 use Rattle.json5_grammar.specs.Faults.Codes.{ErrorCode, EofParsingBool, EofParsingNull, EofParsingValue, ExpectedBool, ExpectedNull, ExpectedValue, ExpectedComma, TooDeep}

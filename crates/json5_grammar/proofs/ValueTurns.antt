@@ -1,4 +1,4 @@
--- Reading the elements of arrays and the pairs of objects doesn't depend on the number of turns, if it is enough.
+-- Reading the elements of arrays and the members of objects doesn't depend on the number of turns, if it is enough.
 use Rattle.std.proofs.Common.{◌≡◌, ℕ, zero, suc, ◌<◌, ◌≤◌, Bool, List, [], ◌∷◌, ◌++◌, length, refl, ap, arith, length-append}
 use Rattle.json5_grammar.specs.Language.Trees.{Trees, Members, more, member}
 use Rattle.json5_grammar.specs.Model.Reading.{Read, got, bad, and_then}

@@ -47,7 +47,7 @@ abbrev pub IsIn : BracketKind → List Bracket → Type 0
 IsIn k [] = ⊥
 IsIn k (b ∷ o) = b.kind ≡ k
 
--- the code of the end after an element or a pair
+-- the code where the input ends after an element or a member
 abbrev pub eof_in : BracketKind → ErrorCode
 eof_in of_array = EofParsingArray
 eof_in of_object = EofParsingObject
@@ -68,10 +68,10 @@ pub data FaultAt (limit : ℕ) (o : List Bracket) : Expects → List ℕ → Opt
   -- TooDeep at the bracket after as many open ones as the limit
   nested_too_deep : {a : Expects} {c : ℕ} {r : List ℕ} → takes_value a ≡ true → ((c == left_bracket) || (c == left_brace)) ≡ true → length o ≡ limit
       → FaultAt limit o a (c ∷ r) (Some TooDeep) (Some []) [] (c ∷ []) by_char
-  -- ExpectedComma at a character after an element or a pair
+  -- ExpectedComma at a character after an element or a member
   no_comma : {c : ℕ} {r : List ℕ} (k : BracketKind) → IsIn k o → is_solid c ≡ true → ((c == comma_sign) || (c == closing k)) ≡ false
       → FaultAt limit o comma (c ∷ r) (Some ExpectedComma) (Some []) [] (c ∷ []) by_char
-  -- EofParsingArray or EofParsingObject after an element or a pair
+  -- EofParsingArray or EofParsingObject after an element or a member
   comma_missing : (k : BracketKind) → IsIn k o
       → FaultAt limit o comma [] (Some (eof_in k)) None [] [] by_end
   -- ExpectedIdentifier at a character that begins no key

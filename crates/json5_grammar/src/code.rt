@@ -65,7 +65,7 @@ pub enum ErrorCode {
     ExpectedValue,
     /// A string or a key that is no even number of hexadecimal digits where bytes are expected.
     InvalidBytes,
-    /// An escape that isn't allowed, at its backslash or at the character that can't go on with it (JSON5 section 5, ECMAScript
+    /// An escape that isn't allowed, at its backslash or at the character that can't continue it (JSON5 section 5, ECMAScript
     /// 5.1 sections 7.6 and 7.8.4).
     InvalidEscapeSequence,
     /// A value that can't be written as a key: None, a list or an object. It has no position.
@@ -91,6 +91,10 @@ impl ErrorCode {
     ghost use Rattle.json5_grammar.specs.Faults.CodeTexts.{code_text};
 
     /// Returns the code in words, such as `expected comma`.
+    ///
+    /// ```text
+    /// ErrorCode::TooDeep.as_str()    // nested too deep
+    /// ```
     pub fn as_str(self) -> &'static str
         ensures { result.now ≡ code_text self }
     {

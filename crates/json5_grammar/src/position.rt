@@ -25,6 +25,10 @@ impl Position {
     /// Returns the position of an offset in a text. The offset counts bytes; a character begins there, or the text ends. Line
     /// terminators are LF, CR, U+2028 and U+2029, and a CR LF that is wholly before the offset is one (ECMAScript 5.1 section
     /// 7.3).
+    ///
+    /// ```text
+    /// Position::from_offset(4, "[1,\n 2]")    // the space: line 1, column 0
+    /// ```
     pub fn from_offset(offset: usize, input: &str) -> Position
         requires { IsCharBoundary input.now offset }
         ensures { result ≡ position_after (chars (take offset input.now)) }

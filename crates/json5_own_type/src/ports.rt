@@ -97,7 +97,7 @@ impl Serialize for Endpoint {
     }
 }
 
-/// The endpoint that is read of its own text. It is the same, and only want of memory refuses it.
+/// The endpoint that is read of its own text. It is the same, unless memory runs out.
 pub fn endpoint_again(alloc: Global, endpoint: &Endpoint) -> Result<Endpoint>
     requires open { 0 < endpoint.now.port.number }
     ensures { MatchResult result (λ e. endpoint_content e ≡ endpoint_content endpoint.now) IsOutOfMemory }

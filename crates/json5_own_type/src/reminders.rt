@@ -74,6 +74,7 @@ impl<I: Input> Deserialize<I> for Reminder {
     }
 }
 
+/// Reads the content of `off`, which is none.
 fn read_off<I: Input>(access: EnumAccess<'_, I>) -> Result<Reminder>
     ensures { FinishesVariant reminded off_read.convert (enum_state_of access.entry) access.exit.0.now result }
 {
@@ -81,6 +82,7 @@ fn read_off<I: Input>(access: EnumAccess<'_, I>) -> Result<Reminder>
     Ok(Reminder::Off)
 }
 
+/// Reads the content of `daily`, an hour.
 fn read_daily<I: Input>(access: EnumAccess<'_, I>) -> Result<Reminder>
     ensures { FinishesVariant reminded daily_read.convert (enum_state_of access.entry) access.exit.0.now result }
 {
@@ -131,6 +133,7 @@ impl Serialize for Reminder {
     }
 }
 
+/// Writes `weekly` with its list, a day and an hour.
 fn write_weekly<W: Write + Drop>(day: &u8, hour: &u8, ser: &mut Serializer<W>) -> Result<()>
     ensures { WritesTree (weekly_tree day.now hour.now) ser.old result ser.new }
 {
@@ -140,6 +143,7 @@ fn write_weekly<W: Write + Drop>(day: &u8, hour: &u8, ser: &mut Serializer<W>) -
     list.end()
 }
 
+/// Writes `once` with its fields, a day and an hour.
 fn write_once<W: Write + Drop>(day: &String, hour: &u8, ser: &mut Serializer<W>) -> Result<()>
     ensures { WritesTree (once_tree day.now hour.now) ser.old result ser.new }
 {

@@ -28,7 +28,7 @@ impl Serialize for Settings {
     }
 }
 
-/// The settings that are read from their own text. They are the same, and only want of memory refuses them.
+/// The settings that are read from their own text. They are the same, unless memory runs out.
 pub fn settings_again(alloc: Global, settings: &Settings) -> Result<Settings>
     requires open { 0 < settings.now.port.number }
     ensures { MatchResult result (λ s. settings_content s ≡ settings_content settings.now) IsOutOfMemory }

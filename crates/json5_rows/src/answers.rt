@@ -99,8 +99,8 @@ fn write_digits<W: fmt::Write>(decimal: &Decimal, f: &mut fmt::Formatter<W>) -> 
     write!(f, "{sign}{digits}e{exponent}")
 }
 
-/// A value of any kind: `null`, a boolean, a whole number, a decimal by its digits, a text in quotes, an array, or an object's
-/// pairs in their order.
+/// A value of any kind: `null`, a boolean, a whole number, a decimal by its digits, a text in quotes, an array, or the members
+/// of an object in their order.
 #[derive(Drop)]
 pub struct Any(pub Value);
 

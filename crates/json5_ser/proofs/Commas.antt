@@ -1,4 +1,4 @@
--- Members that lack the comma after them, and what remains to be written of their collection.
+-- Elements and members without the comma after them, and what remains to be written of their collection.
 use Rattle.std.proofs.Common.{◌≡◌, ℕ, ◌+◌, ◌-◌, [], ◌∷◌, Bool, true, false, Result, Ok, Err, refl, sym, ap, ◌∙◌, subst, arith}
 use Rattle.std.specs.Result.{is_err, IsErrAnd}
 use Rattle.json5_text.specs.declared.error.Error.{Error}

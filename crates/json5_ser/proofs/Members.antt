@@ -1,4 +1,4 @@
--- Collections written member after member: what an impl of `Serialize` cites. Each law takes what remained before the call.
+-- Collections that are written one element or member after another: what an impl of `Serialize` cites. Each law takes what remained before the call.
 use Rattle.std.proofs.Common.{◌≡◌, ◌<◌, ◌≤◌, ℕ, suc, ◌+◌, length, get_or, drop, drop-cons, drop_of_length-le, add-one, List, [], ◌∷◌, Bool, true, false, Result, Ok, Err, refl, sym, ap, ◌∙◌, subst}
 use Rattle.std.specs.Prelude.{⊤}
 use Rattle.std.specs.Result.{IsErrAnd}

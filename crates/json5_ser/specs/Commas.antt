@@ -1,4 +1,4 @@
--- Members that lack the comma after them, which is written with what follows. Private clauses and proofs alone cite it.
+-- Elements and members without the comma after them, which is written with what follows. Private clauses and proofs alone cite it.
 use Rattle.std.specs.Prelude.{ℕ, Bool, true, false, [], ◌∷◌}
 use Rattle.json5_grammar.specs.Language.Characters.{comma_sign, colon_sign, space}
 use Rattle.json5_ser.specs.WrittenTrees.{WrittenKey, Written}
@@ -17,6 +17,6 @@ element_line limit d t = piece (line d) then out limit t d
 abbrev pub member_line : ℕ → ℕ → WrittenKey → Written → Out
 member_line limit d k t = key_part d k then (piece (colon_sign ∷ space ∷ []) then out limit t d)
 
--- what closes a collection within d brackets whose last member lacks its comma, if it has one
+-- what closes a collection within d brackets, after the comma of its last element or member, if it has one
 abbrev pub closed_after : Bool → ℕ → ℕ → Out
 closed_after due d bracket = comma_before due (closed_by d due bracket)

@@ -18,7 +18,7 @@ abbrev pub within_variant : Bool → ℕ → Out → Out
 within_variant true d o = o then (piece (comma_sign ∷ []) then closed_by d true right_brace)
 within_variant false d o = o
 
--- how many brackets are round a collection that was begun within d
+-- how many brackets are around a collection that was begun within d
 abbrev pub inner : Bool → ℕ → ℕ
 inner true d = d + 1
 inner false d = d
@@ -97,7 +97,7 @@ module _ {W : Type 0} where
     pub started : OnOk result (has_member new ≡ true)
     pub pending : MatchResult result (λ _. key_pending new ≡ pending_next) (λ _. key_pending new ≡ key_pending old)
 
-  -- the brackets round what `end` closes
+  -- the brackets around what `end` closes
   abbrev pub outer : SerializeCollection W → ℕ
   outer c = (state_of c).depth - inner (in_variant c) 1
 
@@ -105,7 +105,7 @@ module _ {W : Type 0} where
   abbrev pub outside : SerializeCollection W → SerializerState
   outside c = at_depth (outer c) (state_of c)
 
-  -- what closes the collection, and a variant's object round it
+  -- what closes the collection, and a variant's object around it
   abbrev pub ending : SerializeCollection W → Out
   ending c = within_variant (in_variant c) (outer c) (closed_by ((state_of c).depth - 1) (has_member c) (closing (bracket_of c.brackets)))
 

@@ -16,8 +16,8 @@ use std::io::Write;
 
 /// An array or an object that is written one element or member after another, each on a line of its own with a comma after it.
 ///
-/// `end` closes it and frees the serializer. Until then the serializer's own calls return `Failed`, and for good where the
-/// collection is dropped or leaked before. After a call of the collection that was refused, every later one returns `Failed`.
+/// `end` closes it and frees the serializer. Until then the serializer's own calls return `Failed`; if the collection is dropped
+/// or leaked before its `end`, they always do. After a call of the collection that was refused, every later one returns `Failed`.
 ///
 /// ```text
 /// let mut map = ser.serialize_map(None)?;
@@ -75,6 +75,12 @@ impl<W: Write + Drop> SerializeCollection<'_, W> {
     ghost use Rattle.json5_ser.specs.Lending.{state_of, is_list, key_pending, ExpectsKey, Steps, Settles, ending, outside};
 
     /// Says whether it is an array, for code that gets a collection of either kind. It also works after a refusal.
+    ///
+    /// ```text
+    /// if collection.is_list() {
+    ///     collection.serialize_element(&port)?;
+    /// }
+    /// ```
     pub fn is_list(&self) -> bool
         ensures { result ≡ is_list self.now }
     {
@@ -82,6 +88,12 @@ impl<W: Write + Drop> SerializeCollection<'_, W> {
     }
 
     /// Says whether a key was written whose value wasn't. A call that is refused doesn't change it.
+    ///
+    /// ```text
+    /// if map.key_pending() {
+    ///     map.serialize_value(&())?;    // null
+    /// }
+    /// ```
     pub fn key_pending(&self) -> bool
         ensures { result ≡ key_pending self.now }
     {
@@ -104,6 +116,13 @@ impl<W: Write + Drop> SerializeCollection<'_, W> {
 
     /// Writes the next element, on a line of its own and with a comma after it. The collection must be an array.
     ///
+    /// ```text
+    /// let mut list = ser.serialize_seq(None)?;
+    /// list.serialize_element(&80u16)?;         //   80,
+    /// list.serialize_element(&"https")?;      //   "https",
+    /// list.end()?;
+    /// ```
+    ///
     /// # Errors
     ///
     /// As every call: see [`SerializeCollection`].
@@ -119,6 +138,11 @@ impl<W: Write + Drop> SerializeCollection<'_, W> {
     /// Writes the key of the next member, on a line of its own. The collection must be an object, and no key may wait for its
     /// value.
     ///
+    /// ```text
+    /// map.serialize_key(&"http")?;      //   http
+    /// map.serialize_value(&80u16)?;     // : 80,
+    /// ```
+    ///
     /// # Errors
     ///
     /// As every call: see [`SerializeCollection`]. `InvalidKey` comes after the start of the line was written.
@@ -133,6 +157,11 @@ impl<W: Write + Drop> SerializeCollection<'_, W> {
 
     /// Writes the value of the key that was written last, after `: ` and with a comma after it. A key must wait for it.
     ///
+    /// ```text
+    /// map.serialize_key(&"http")?;
+    /// map.serialize_value(&80u16)?;     // the line is `  http: 80,`
+    /// ```
+    ///
     /// # Errors
     ///
     /// As every call: see [`SerializeCollection`].
@@ -146,6 +175,10 @@ impl<W: Write + Drop> SerializeCollection<'_, W> {
     }
 
     /// Writes a member: its key and its value. The collection must be an object, and no key may wait for its value.
+    ///
+    /// ```text
+    /// map.serialize_entry(&"http", &80u16)?;    // the line `  http: 80,`
+    /// ```
     ///
     /// # Errors
     ///
@@ -165,6 +198,10 @@ impl<W: Write + Drop> SerializeCollection<'_, W> {
 
     /// Writes a field of a struct, as [`serialize_entry`](SerializeCollection::serialize_entry) writes a member.
     ///
+    /// ```text
+    /// fields.serialize_field("port", &self.port)?;    // the line `  port: 80,`
+    /// ```
+    ///
     /// # Errors
     ///
     /// As every call: see [`SerializeCollection`].
@@ -175,8 +212,13 @@ impl<W: Write + Drop> SerializeCollection<'_, W> {
         self.serialize_entry(&key, value)
     }
 
-    /// Closes the array or the object, and a variant's object round it. The serializer continues after it. No key may wait for
+    /// Closes the array or the object, and a variant's object around it. The serializer continues after it. No key may wait for
     /// its value.
+    ///
+    /// ```text
+    /// let list = ser.serialize_seq(None)?;
+    /// list.end()?;    // `[]`; after an element it writes `]` on a line of its own
+    /// ```
     ///
     /// # Errors
     ///

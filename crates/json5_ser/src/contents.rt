@@ -1,4 +1,4 @@
-//! What types of one's own write that are no collections.
+//! What users' types write that are no arrays and no objects: options, structs of one value or none, variants.
 
 ghost use Rattle.std.specs.Prelude.{Some};
 ghost use Rattle.std.specs.Str.{chars};
@@ -12,6 +12,10 @@ use std::io::Write;
 impl<W: Write + Drop> Serializer<W> {
     /// Writes `null`.
     ///
+    /// ```text
+    /// ser.serialize_none()?    // null
+    /// ```
+    ///
     /// # Errors
     ///
     /// As every call: see [`Serializer`].
@@ -23,6 +27,10 @@ impl<W: Write + Drop> Serializer<W> {
 
     /// Writes the value itself.
     ///
+    /// ```text
+    /// ser.serialize_some(&80u16)?    // 80
+    /// ```
+    ///
     /// # Errors
     ///
     /// As every call: see [`Serializer`].
@@ -33,6 +41,10 @@ impl<W: Write + Drop> Serializer<W> {
     }
 
     /// Writes `null`, for a struct without fields. The name changes nothing.
+    ///
+    /// ```text
+    /// ser.serialize_unit_struct("Nothing")?    // null
+    /// ```
     ///
     /// # Errors
     ///
@@ -64,6 +76,10 @@ impl<W: Write + Drop> Serializer<W> {
     }
 
     /// Writes the value that a struct of one field holds. The name changes nothing.
+    ///
+    /// ```text
+    /// ser.serialize_newtype_struct("Id", &7u32)?    // 7
+    /// ```
     ///
     /// # Errors
     ///

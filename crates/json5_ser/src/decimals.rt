@@ -28,6 +28,11 @@ impl<W: Write + Drop> Serializer<W> {
     /// Writes a decimal in plain notation, always with a point; else `Infinity` or `NaN` (JSON5 section 6). A minus is before
     /// what is negative, zero too: `1.5`, `1000.0`, `-0.0`. A few digits with a large exponent have a long text.
     ///
+    /// ```text
+    /// let price: Decimal = json5::from_str(alloc, "1.50")?;
+    /// ser.serialize_decimal(&price)?    // 1.5
+    /// ```
+    ///
     /// # Errors
     ///
     /// As every call: see [`Serializer`].

@@ -47,8 +47,8 @@ impl<W: Write + Drop> Drop for MapKey<'_, W> {
     }
 }
 
-/// A value that can be written as a key. Each type says by `as_key` what is written of its values. An impl hands on what the
-/// methods of the key return, and makes no refusal of its own.
+/// A value that can be written as a key. Each type says by `as_key` what is written of its values. An impl passes on what the
+/// methods of the key return, and refuses nothing itself.
 ///
 /// ```text
 /// impl SerializeKey for Id {
@@ -100,6 +100,10 @@ impl<W: Write + Drop> MapKey<'_, W> {
 
     /// Writes the key `true` or `false`.
     ///
+    /// ```text
+    /// key.serialize_bool(true)?    // true
+    /// ```
+    ///
     /// # Errors
     ///
     /// As every call: see [`MapKey`].
@@ -111,6 +115,11 @@ impl<W: Write + Drop> MapKey<'_, W> {
     }
 
     /// Writes the text as a key.
+    ///
+    /// ```text
+    /// key.serialize_str("port")?       // port
+    /// key.serialize_str("a port")?     // "a port"
+    /// ```
     ///
     /// # Errors
     ///
@@ -124,6 +133,11 @@ impl<W: Write + Drop> MapKey<'_, W> {
 
     /// Writes the text of one character as a key.
     ///
+    /// ```text
+    /// key.serialize_char('a')?    // a
+    /// key.serialize_char('1')?    // "1"
+    /// ```
+    ///
     /// # Errors
     ///
     /// As every call: see [`MapKey`].
@@ -135,6 +149,11 @@ impl<W: Write + Drop> MapKey<'_, W> {
     }
 
     /// Writes the hexadecimal digits in lower case, two a byte, as a key: `ab0c`, `"0c"`.
+    ///
+    /// ```text
+    /// key.serialize_bytes(&[0xab, 0x0c])?    // ab0c
+    /// key.serialize_bytes(&[0x0c])?          // "0c"
+    /// ```
     ///
     /// # Errors
     ///
@@ -148,6 +167,10 @@ impl<W: Write + Drop> MapKey<'_, W> {
 
     /// Writes the key `null`.
     ///
+    /// ```text
+    /// key.serialize_unit()?    // null
+    /// ```
+    ///
     /// # Errors
     ///
     /// As every call: see [`MapKey`].
@@ -159,6 +182,10 @@ impl<W: Write + Drop> MapKey<'_, W> {
     }
 
     /// Writes the key `null`, for a struct without fields. The name changes nothing.
+    ///
+    /// ```text
+    /// key.serialize_unit_struct("Nothing")?    // null
+    /// ```
     ///
     /// # Errors
     ///
@@ -191,6 +218,10 @@ impl<W: Write + Drop> MapKey<'_, W> {
 
     /// Writes the key itself.
     ///
+    /// ```text
+    /// key.serialize_some(&80u16)?    // "80"
+    /// ```
+    ///
     /// # Errors
     ///
     /// As every call: see [`MapKey`].
@@ -201,6 +232,10 @@ impl<W: Write + Drop> MapKey<'_, W> {
     }
 
     /// Writes the key that a struct of one field holds. The name changes nothing.
+    ///
+    /// ```text
+    /// key.serialize_newtype_struct("Id", &7u32)?    // "7"
+    /// ```
     ///
     /// # Errors
     ///

@@ -20,7 +20,7 @@ pub fn written_numbers()
     ensures numbers { (limit d : ℕ) (n : Number) → (out limit (number n) d).stop ≡ whole → IsNumber n }
 {}
 
-/// The text of a tree is whole exactly where each number in it has a text, each key is a text, and at most `limit` brackets are
+/// The text of a tree is whole exactly when each number in it has a text, each key is a text, and at most `limit` brackets are
 /// open at once, those before it included. Where only the brackets are too many, it stops at one of them.
 pub fn whole_texts()
     ensures whole { (limit d : ℕ) (t : Written) → d ≤ limit → (out limit t d).stop ≡ whole ↔ (IsSpelled t × (d + depth (marks t) ≤ limit)) }

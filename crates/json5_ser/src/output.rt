@@ -4,7 +4,7 @@ ghost use Rattle.json5_ser.specs.Pieces.{Pushes};
 
 use std::io::{self, ErrorKind, Write};
 
-/// Calls `write` until all bytes are taken, for what is written round a document.
+/// Calls `write` until all bytes are taken: for what is written before and after a document.
 ///
 /// ```text
 /// ser::write_whole(&mut out, b"\n")?;

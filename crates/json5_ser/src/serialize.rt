@@ -7,7 +7,7 @@ use crate::Serializer;
 use json5_text::error::Result;
 use std::io::Write;
 
-/// A value that can be written. Each type says by `tree` what is written of its values. An impl hands on what the methods of
+/// A value that can be written. Each type says by `tree` what is written of its values. An impl passes on what the methods of
 /// the serializer return, and makes no refusal of its own.
 ///
 /// ```text

@@ -68,6 +68,12 @@ impl<W: Write + Drop> Model for Serializer<W> {
 
 impl<W: Write + Drop> Serializer<W> {
     /// Makes a serializer that writes to this writer, at the full limit of 128 brackets. Nothing is written yet.
+    ///
+    /// ```text
+    /// let mut ser = Serializer::new(Vec::new(alloc));
+    /// ser.serialize_u16(8080)?;
+    /// let bytes = ser.into_inner();    // 8080
+    /// ```
     pub fn new(writer: W) -> Self
         ensures { result ≡ fresh (W.contents writer) }
     {
@@ -94,6 +100,12 @@ impl<W: Write + Drop> Serializer<W> {
     }
 
     /// Returns the writer, with what was written.
+    ///
+    /// ```text
+    /// let mut ser = Serializer::new(Vec::new(alloc));
+    /// port.serialize(&mut ser)?;
+    /// let bytes: Vec<u8> = ser.into_inner();
+    /// ```
     pub fn into_inner(self) -> W
         ensures { W.contents result ≡ self.known }
     {

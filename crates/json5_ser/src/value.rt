@@ -46,6 +46,7 @@ fn write_fields<W: Write + Drop>(fields: &[(String, Value)], ser: &mut Serialize
     ser.close_after(comma_due, Brackets::Curly)
 }
 
+/// Writes the decimal digits of a whole number of either sign.
 fn write_whole<W: Write + Drop>(value: Whole, ser: &mut Serializer<W>) -> Result<()>
     ensures { WritesTree (integer value) ser.old result ser.new }
 {

@@ -4,7 +4,7 @@ use Rattle.json5_grammar.specs.Language.Trees.{Tree}
 use Rattle.json5_grammar.specs.Model.Collections.{array_of}
 use Rattle.json5_de.specs.ConvertLists.{last_of}
 
--- an array of one member
+-- an array of one element
 abbrev pub within : {C : Type 0} → (Tree → Option C) → Tree → Option C
 within f = array_of (last_of f)
 

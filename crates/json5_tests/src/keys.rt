@@ -4,7 +4,7 @@ use json5::{Decimal, Result, SerializeKey, Serializer, from_str};
 use std::alloc::Global;
 use std::test::Fail;
 
-/// An object of one pair with the key.
+/// An object of one member with the key.
 fn object<K: SerializeKey>(alloc: Global, key: &K) -> Result<Vec<u8>> {
     let mut ser = Serializer::new(Vec::new(alloc));
     let mut object = ser.serialize_map(Some(1))?;

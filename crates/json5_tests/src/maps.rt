@@ -8,7 +8,7 @@ use std::fmt::Write;
 use std::hash::RandomState;
 use std::test::Fail;
 
-/// An object of so many pairs, whose keys all differ.
+/// An object of so many members, whose keys all differ.
 fn object(alloc: Global, count: u32) -> Result<String> {
     let mut text = String::from_str(alloc, "{")?;
     for n in 0..count {
@@ -18,7 +18,7 @@ fn object(alloc: Global, count: u32) -> Result<String> {
     Ok(text)
 }
 
-/// How many pairs each of the three maps holds after it was read from the text.
+/// How many members each of the three maps holds after it was read from the text.
 fn counts(alloc: Global, text: &str) -> Result<(usize, usize, usize)> {
     let sorted: BTreeMap<&str, u32> = from_str(alloc, text)?;
     let in_turn: IndexMap<&str, u32> = from_str(alloc, text)?;
@@ -33,7 +33,7 @@ fn maps_of_10_000_keys_are_read(rt: HostRuntime) -> std::result::Result<(), Fail
     Ok(())
 }
 
-/// The pairs of the text in a map whose seed is the caller's.
+/// The members of the text in a map whose seed is the caller's.
 fn read_with_seed(
     alloc: Global,
     seed: RandomState,

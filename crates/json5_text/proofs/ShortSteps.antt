@@ -1,4 +1,4 @@
--- A step to the next member of an array or an object, in the words of its contract.
+-- A step to the next element or member, in the words of its contract.
 use Rattle.std.proofs.Common.{◌≡◌, ℕ, ◌-◌, ◌<◌, Bool, true, false, List, [], ◌∷◌, ◌++◌, length, drop, refl, ap, sym, ◌∙◌, inl, inr, subst, arith, nat_eq, slice_index_or}
 use Rattle.std.specs.Prelude.{◌==◌, Option, Some, None, IfSome}
 use Rattle.std.specs.Char.{encode_utf8}

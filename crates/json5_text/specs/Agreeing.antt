@@ -3,11 +3,11 @@ use Rattle.std.specs.Prelude.{◌≡◌, ◌↔◌, Bool, IsTrue}
 use Rattle.std.specs.declared.cmp.Ordering.{Ordering}
 use Rattle.std.specs.declared.cmp.Ordering.TheVariants.{Equal}
 
--- the test tells what is the same from what isn't
+-- the test is true exactly of what is the same
 abbrev pub IsEquality : {A : Type 0} → (A → A → Bool) → Type 0
 IsEquality {A} eq = (x y : A) → IsTrue (eq x y) ↔ (x ≡ y)
 
--- what is seen alike is hashed alike
+-- what has the same view has the same hash
 abbrev pub HashesBy : {A B H : Type 0} → (A → B) → (A → H) → Type 0
 HashesBy {A} view hash = (x y : A) → view x ≡ view y → hash x ≡ hash y
 

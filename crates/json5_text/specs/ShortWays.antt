@@ -57,7 +57,7 @@ pub record GivesSpaced (text : List ℕ) (found : ShortWhole) : Type 0 where
   pub short : IsShortWhole spaced found.number rest
   pub counted : found.left ≡ length rest
 
--- ---- a step to the next member of an array or an object
+-- ---- a step to the next element or member
 
 -- blanks are in front of the text, and this follows them
 abbrev pub FollowsBlanks : List ℕ → Bor (List ℕ) → Type 0
@@ -70,12 +70,12 @@ pub record AfterGap (x y : List ℕ) : Type 0 where
   pub is_gap : Gap gap y
   pub solid : Solid y
 
--- y is where a member of x may begin, after the comma that is due
+-- y is where an element or a member of x may begin, after the comma that is due
 abbrev pub StepsTo : Bool → List ℕ → List ℕ → Type 0
 StepsTo false x y = AfterGap x y
 StepsTo true x y = (z : List ℕ) × IsSign comma_sign x z × AfterGap z y
 
--- the closing sign is next in y, after a comma, if there is one; or a member may begin in y
+-- the closing sign is next in y, after a comma, if there is one; or an element or a member may begin in y
 abbrev pub IsStep : ℕ → Bool → Bool → List ℕ → List ℕ → Type 0
 IsStep closing comma_due true x y = (r : List ℕ) × IsEnd closing comma_due x r × (y ≡ closing ∷ r)
 IsStep closing comma_due false x y = StepsTo comma_due x y × NotBegun (λ c. c == closing) y
@@ -84,7 +84,7 @@ pub record Stepped (closing : ℕ) (comma_due at_closing : Bool) (old new : Curs
   pub step : IsStep closing comma_due at_closing old.unread new.unread
   pub same : new.input ≡ old.input
 
--- a step to a member or to the closing sign is taken, or nothing
+-- a step to an element or a member, or to the closing sign, is taken, or nothing
 abbrev pub TakesShortStep : ℕ → Bool → Cursor → Cursor → ShortStep → Type 0
 TakesShortStep closing comma_due old new short.Member = Stepped closing comma_due false old new
 TakesShortStep closing comma_due old new short.Closing = Stepped closing comma_due true old new

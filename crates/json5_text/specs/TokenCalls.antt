@@ -51,7 +51,7 @@ pub record TakesText {T : Type 0} (IsText : T → List ℕ → Bool → Type 0) 
   pub kept : OnErr result (new ≡ old)
   pub escape_free : (s u r : List ℕ) → old.unread ≡ s ++ r → Str s u true → IsOk result
 
--- a string is taken, its text borrowed exactly if it is escape-free
+-- a string is taken, its text borrowed exactly when it is escape-free
 abbrev pub TakesString : Cursor → Cursor → Result CowStr Error → Type 0
 TakesString old new result = TakesText (λ t u escape_free. (is_borrowed t ≡ escape_free) × (cow_bytes t ≡ encode_utf8_all u)) old new result
 
@@ -59,7 +59,7 @@ TakesString old new result = TakesText (λ t u escape_free. (is_borrowed t ≡ e
 abbrev pub TakesStringToken : Cursor → Cursor → Result TextToken Error → Type 0
 TakesStringToken old new result = TakesText (λ t u escape_free. Spells old.input u escape_free t) old new result
 
--- a name is taken as far as it goes, its text borrowed exactly if it is escape-free; it takes memory if it isn't, or is refused
+-- a name is taken as far as it goes, its text borrowed exactly when it is escape-free; otherwise it takes memory, and so does a refusal
 pub record TakesName (old new : Cursor) (result : Result CowStr Error) : Type 0 where
   pub taken : IfOk result (λ t. (s u : List ℕ) × (escape_free : Bool) × Took old s new × Ident s u escape_free × (is_borrowed t ≡ escape_free) × (cow_bytes t ≡ encode_utf8_all u))
   pub stops : OnOk result ((c : ℕ) × (r : List ℕ) × (new.unread ≡ c ∷ r) × (goes_on_name c ≡ false))

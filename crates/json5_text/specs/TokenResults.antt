@@ -97,7 +97,7 @@ pub record GivesText {T : Type 0} (IsText : T → List ℕ → Bool → Type 0) 
   pub is_text : IsText value spelled escape_free
   pub text : IsUtf8 rest
 
--- the text, borrowed exactly if it is escape-free
+-- the text, borrowed exactly when it is escape-free
 pub record IsCow (value : CowStr) (spelled : List ℕ) (escape_free : Bool) : Type 0 where
   pub borrowed : is_borrowed value ≡ escape_free
   pub bytes : cow_bytes value ≡ encode_utf8_all spelled
@@ -113,7 +113,7 @@ pub record RefusesText (e : Refusal) (reading : Read (List ℕ × Bool)) : Type 
   pub refused : Refuses e (outcome reading)
   pub memory : SparesEscapeFree e reading
 
--- the text in front, borrowed exactly if it is escape-free, and what follows it; or the fault
+-- the text in front, borrowed exactly when it is escape-free, and what follows it; or the fault
 abbrev pub AnswersCow : Read (List ℕ × Bool) → Result (CowStr × Bor (List ℕ)) Refusal → Type 0
 AnswersCow reading (Ok p) = GivesText IsCow reading p.0 p.1.now
 AnswersCow reading (Err e) = RefusesText e reading

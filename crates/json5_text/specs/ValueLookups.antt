@@ -9,7 +9,7 @@ use Rattle.json5_text.specs.declared.value.Value.{Value}
 use Rattle.json5_text.specs.Errors.{code, kind_of, error_position}
 use Rattle.json5_text.specs.ValueViews.{value_of, Datum, null, boolean, number, text, array, object, Items, no_item, item, Fields, no_field, field}
 
--- 0 for what is no array and no object, else one more than the deepest inside
+-- 0 if it is no array and no object, otherwise one more than the deepest inside
 abbrev mutual
   pub datum_depth : Datum → ℕ
   datum_depth (array xs) = suc (items_depth xs)
@@ -89,7 +89,7 @@ fields_in _ = None
 
 -- ---- copies
 
--- a copy has the same view; TooDeep if it doesn't fit, and else only want of memory refuses it
+-- A copy has the same view. It is TooDeep if the value doesn't fit; otherwise it is refused only if memory runs out.
 abbrev pub CopiesValue : Datum → Result Value Error → Type 0
 CopiesValue x (Ok v) = (fits x ≡ true) × (value_of v ≡ x)
 CopiesValue x (Err e) = (kind_of e ≡ code (if fits x then codes.OutOfMemory else codes.TooDeep)) × (error_position e ≡ None)

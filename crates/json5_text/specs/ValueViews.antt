@@ -15,7 +15,7 @@ use Rattle.json5_text.specs.NumberEquality.{decimal_Decides}
 use Rattle.json5_text.specs.declared.value.Value.{Value, fold-Value}
 use Rattle.json5_text.specs.declared.value.Value.TheOpen.{Value-F}
 
--- a string is the codes of its characters; an object keeps its members in their order, and equal keys
+-- a string is the codes of its characters; an object keeps all its members in their order, those with equal keys too
 mutual
   pub data Datum : Type 0 where
     null : Datum

@@ -12,7 +12,7 @@ use crate::front::front;
 use crate::refusal::Refusal;
 use json5_grammar::code::ErrorCode;
 
-/// After `//`: what follows the line's end.
+/// After `//`: what follows the line's end (JSON5 section 7, ECMAScript 5.1 section 7.4).
 fn skip_line(text: &str) -> &str
     ensures { Continues Mode.line text.now result.now }
 {
@@ -29,7 +29,7 @@ fn skip_line(text: &str) -> &str
     }
 }
 
-/// After `/*`: what follows the first `*/`.
+/// After `/*`: what follows the first `*/` (JSON5 section 7, ECMAScript 5.1 section 7.4).
 fn skip_block(text: &str) -> Option<&str>
     ensures { MatchOption result (IsUnclosed (chars text.now)) (λ rest. Continues Mode.block text.now rest.now) }
 {
@@ -44,7 +44,7 @@ fn skip_block(text: &str) -> Option<&str>
     }
 }
 
-/// After a comment's first slash: what follows the comment.
+/// After a comment's first slash: what follows the comment (JSON5 section 7, ECMAScript 5.1 section 7.4).
 fn skip_comment(text: &str) -> Result<&str, Refusal>
     ensures { MatchResult result (λ rest. Continues slash text.now rest.now) (λ e. RefusesByCode e (skip slash (chars text.now))) }
 {
@@ -70,7 +70,7 @@ fn skip_comment(text: &str) -> Result<&str, Refusal>
     }
 }
 
-/// What follows the ASCII blanks in front.
+/// What follows the ASCII blanks in front (JSON5 section 8).
 #[inline(always)]
 pub(crate) fn skip_ascii(text: &str) -> &str
     ensures { Continues between text.now result.now }
@@ -91,7 +91,7 @@ pub(crate) fn skip_blank(text: &str) -> Result<&str, Refusal>
     skip_blank_slowly(rest)
 }
 
-/// The same for any blanks.
+/// The same as `skip_blank`, for any blanks.
 #[inline(never)]
 #[tactic(auto, using(crate::proofs::ScanSteps::line_steps))]
 fn skip_blank_slowly(text: &str) -> Result<&str, Refusal>

@@ -26,6 +26,10 @@ impl ByteBuf {
     ghost use Rattle.json5_text.specs.ByteBufs.{bytes_of};
 
     /// Makes a `ByteBuf` of these bytes. Takes no memory.
+    ///
+    /// ```text
+    /// json5::to_string(alloc, &ByteBuf::from_vec(bytes))?    // "ab0c" of the bytes 0xAB and 0x0C
+    /// ```
     pub fn from_vec(bytes: Vec<u8>) -> ByteBuf
         ensures { bytes_of result ≡ bytes.items }
     {
@@ -33,6 +37,11 @@ impl ByteBuf {
     }
 
     /// Returns the bytes.
+    ///
+    /// ```text
+    /// let name: ByteBuf = json5::from_str(alloc, "'4A534F4E35'")?;
+    /// name.as_slice() == b"JSON5"
+    /// ```
     pub fn as_slice(&self) -> &[u8]
         ensures { result.now ≡ bytes_of self.now }
     {

@@ -10,6 +10,10 @@ use unicode::properties::GeneralCategory;
 
 /// Says whether the character may be between tokens, as white space or a line terminator: U+0009 to U+000D, a space, U+00A0,
 /// U+2028, U+2029, U+FEFF and the category Zs (JSON5 section 8, ECMAScript 5.1 sections 7.2 and 7.3).
+///
+/// ```text
+/// is_json5_whitespace('\u{feff}')    // true; of '\u{85}' false
+/// ```
 #[tactic(auto, unfolding(json5_grammar::specs::Language::Characters::is_space_separator))]
 pub fn is_json5_whitespace(c: char) -> bool
     ensures { result ≡ is_blank c }
@@ -24,6 +28,10 @@ pub fn is_json5_whitespace(c: char) -> bool
 }
 
 /// Says whether the character ends a line: LF, CR, U+2028 or U+2029 (ECMAScript 5.1 section 7.3).
+///
+/// ```text
+/// is_json5_line_terminator('\u{2028}')    // true; of '\u{85}' false
+/// ```
 pub fn is_json5_line_terminator(c: char) -> bool
     ensures { result ≡ is_terminator c }
 {
@@ -32,6 +40,10 @@ pub fn is_json5_line_terminator(c: char) -> bool
 
 /// Says whether an identifier may begin with the character: `$`, `_` and the categories Lu, Ll, Lt, Lm, Lo and Nl (ECMAScript
 /// 5.1 section 7.6). A backslash, which begins an escape, is none.
+///
+/// ```text
+/// is_json5_identifier_start('é')    // true; of '1' false
+/// ```
 pub fn is_json5_identifier_start(c: char) -> bool
     ensures { result ≡ is_identifier_start c }
 {
@@ -41,8 +53,12 @@ pub fn is_json5_identifier_start(c: char) -> bool
     is_start_category(GeneralCategory::for_char(c))
 }
 
-/// Says whether an identifier may go on with the character: what may begin one, U+200C, U+200D and the categories Mn, Mc, Nd
+/// Says whether an identifier may continue with the character: what may begin one, U+200C, U+200D and the categories Mn, Mc, Nd
 /// and Pc (ECMAScript 5.1 section 7.6).
+///
+/// ```text
+/// is_json5_identifier('1')    // true; of '-' false
+/// ```
 pub fn is_json5_identifier(c: char) -> bool
     ensures { result ≡ is_identifier_part c }
 {
@@ -79,6 +95,7 @@ pub fn escape(delimeter: char, c: char) -> Option<&'static str>
     }
 }
 
+/// Whether characters of the category may begin an identifier (ECMAScript 5.1 section 7.6).
 fn is_start_category(category: GeneralCategory) -> bool
     ensures { result ≡ is_start_category category }
 {
@@ -93,6 +110,7 @@ fn is_start_category(category: GeneralCategory) -> bool
     )
 }
 
+/// Whether characters of the category may only continue an identifier (ECMAScript 5.1 section 7.6).
 fn is_part_category(category: GeneralCategory) -> bool
     ensures { result ≡ is_part_category category }
 {

@@ -13,6 +13,11 @@ use std::alloc::Global;
 impl Value {
     /// Returns an equal value, which owns its memory.
     ///
+    /// ```text
+    /// let Some(server) = settings.get("server") else { .. };
+    /// let copy = server.clone(alloc)?;    // it may outlive `settings`
+    /// ```
+    ///
     /// # Errors
     ///
     /// None has a position.
@@ -28,6 +33,7 @@ impl Value {
     }
 }
 
+/// A copy of the value, with copies of all that it holds.
 #[cycle(copy)]
 fn copy(alloc: Global, value: &Value) -> Result<Value>
     ensures { MatchResult result (λ v. value_of v ≡ value_of value.now) LacksMemory }
@@ -43,6 +49,7 @@ fn copy(alloc: Global, value: &Value) -> Result<Value>
     }
 }
 
+/// Copies of the elements, in their order.
 #[cycle(copy)]
 fn copy_items(alloc: Global, items: &[Value]) -> Result<Vec<Value>>
     ensures { MatchResult result (λ v. items_view v.items ≡ items_view items.now) LacksMemory }
@@ -54,6 +61,7 @@ fn copy_items(alloc: Global, items: &[Value]) -> Result<Vec<Value>>
     Ok(copies)
 }
 
+/// Copies of the members, in their order.
 #[cycle(copy)]
 fn copy_fields(alloc: Global, fields: &[(String, Value)]) -> Result<Vec<(String, Value)>>
     ensures { MatchResult result (λ v. fields_view v.items ≡ fields_view fields.now) LacksMemory }

@@ -29,6 +29,11 @@ impl<'de> CowStr<'de> {
     ghost use Rattle.json5_text.specs.Cows.{cow_bytes};
 
     /// Returns the text, borrowed or not.
+    ///
+    /// ```text
+    /// let name: CowStr = json5::from_str(alloc, "'a\\x62'")?;
+    /// name.as_str()    // ab
+    /// ```
     pub fn as_str(&self) -> &str
         ensures { result.now ≡ cow_bytes self.now }
     {

@@ -211,7 +211,11 @@ impl<'a> DecimalRef<'a> {
 }
 
 impl Decimal {
-    /// Makes infinity, after a minus where `negative`. Takes no memory.
+    /// Makes infinity, with a minus if `negative`. Takes no memory.
+    ///
+    /// ```text
+    /// json5::to_string(alloc, &Decimal::infinity(true))?    // -Infinity
+    /// ```
     pub fn infinity(negative: bool) -> Decimal
         ensures { result ≡ numbers.infinite negative }
     {
@@ -220,7 +224,11 @@ impl Decimal {
         }
     }
 
-    /// Makes not-a-number, after a minus where `negative`, which counts in equality. Takes no memory.
+    /// Makes not-a-number, with a minus if `negative`; equality tells the two apart. Takes no memory.
+    ///
+    /// ```text
+    /// Decimal::nan(false) == Decimal::nan(false)    // true
+    /// ```
     pub fn nan(negative: bool) -> Decimal
         ensures { result ≡ numbers.nan negative }
     {
@@ -231,8 +239,8 @@ impl Decimal {
 
     /// Makes the finite number with these digits times ten to the exponent.
     ///
-    /// It is None where `digits` holds anything but ASCII digits, or where the exponent is outside -32768 to 32767 once the
-    /// outer zeros are gone: each zero that goes at the end raises it by one, and zero has the exponent 0.
+    /// It is None if `digits` holds anything but ASCII digits, or if the exponent is outside -32768 to 32767 once the outer zeros
+    /// are removed. Each zero that is removed at the end raises it by one, and zero has the exponent 0.
     ///
     /// ```text
     /// Decimal::finite(alloc, false, "0150", -2)    // 1.5: the digits 15, the exponent -1
@@ -260,6 +268,11 @@ impl Decimal {
     }
 
     /// Says whether it has a minus, which zero and not-a-number may have too.
+    ///
+    /// ```text
+    /// let zero: Decimal = json5::from_str(alloc, "-0.0")?;
+    /// zero.is_negative()    // true
+    /// ```
     pub fn is_negative(&self) -> bool
         ensures { ShowsDecimal has_minus self.now result }
     {
@@ -296,6 +309,12 @@ impl Decimal {
     }
 
     /// Returns the ASCII digits, without zeros in front and at the end; none for zero, infinity and not-a-number.
+    ///
+    /// ```text
+    /// let price: Decimal = json5::from_str(alloc, "1.50")?;
+    /// price.digits()      // 15
+    /// price.exponent()    // -1
+    /// ```
     pub fn digits(&self) -> &str
         ensures { ShowsDecimal digits_in self.now result.now }
     {
@@ -316,6 +335,13 @@ impl Decimal {
     }
 
     /// Returns the text that `Display` prints, in pieces, so that it takes no memory however long it is.
+    ///
+    /// ```text
+    /// let mut pieces = price.pieces();
+    /// while let Some(piece) = pieces.next_piece() {
+    ///     out.write_str(piece)?;
+    /// }
+    /// ```
     pub fn pieces(&self) -> Pieces<'_>
         ensures { ShowsDecimal decimal_text self.now result }
     {
@@ -328,6 +354,10 @@ impl Decimal {
     }
 
     /// Returns an equal number.
+    ///
+    /// ```text
+    /// let copy = price.clone(alloc)?;    // equal to `price`
+    /// ```
     ///
     /// # Errors
     ///

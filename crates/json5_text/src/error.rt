@@ -12,6 +12,10 @@ use std::fmt::{self, Write};
 use std::io;
 
 /// What reading and writing return: the value, or a fault.
+///
+/// ```text
+/// fn read_port(alloc: Global, text: &str) -> json5::Result<u16>
+/// ```
 pub type Result<T> = std::result::Result<T, Error>;
 
 /// What a fault says.
@@ -25,11 +29,10 @@ enum Content {
 /// A fault of reading or writing: a code, a custom message, or a failed write; and perhaps its position in the text that was
 /// read.
 ///
-/// It prints as its message and, where it has one, its position, which counts from 1 there:
-/// `expected comma at line 1 column 4`. A fault has no position where the text ends too early (`EofParsing..`), where memory
-/// ran out, after an earlier refusal (`Failed`), in writing, and where it was made without one. In an array or an object one
-/// without a position gets that of the opening bracket, and `Option<T>` gives a fault of `T` that of the value's first
-/// character.
+/// It prints as its message and its position, if it has one, counted from 1: `expected comma at line 1 column 4`. A fault is
+/// made without a position if the text ends too early (`EofParsing..`), memory ran out, an earlier call was refused
+/// (`Failed`), or it comes from writing. An array or an object gives it the position of the opening bracket then, and an
+/// `Option<T>` gives a fault of `T` that of the value's first character.
 ///
 /// ```text
 /// match json5::from_str::<u16>(alloc, "[80") {
@@ -45,6 +48,10 @@ pub struct Error {
 
 impl Error {
     /// Makes a fault with this code, without a position. Takes no memory.
+    ///
+    /// ```text
+    /// Error::new(ErrorCode::InvalidBytes)    // prints `invalid bytes`
+    /// ```
     pub fn new(code: ErrorCode) -> Error
         ensures { SaysAt (FaultKind.code code) None result }
     {
@@ -55,6 +62,10 @@ impl Error {
     }
 
     /// Makes a fault with this code at this position. Takes no memory.
+    ///
+    /// ```text
+    /// Error::new_at(Position { line: 0, column: 2 }, ErrorCode::InvalidBytes)    // prints `invalid bytes at line 1 column 3`
+    /// ```
     pub fn new_at(position: Position, code: ErrorCode) -> Error
         ensures { SaysAt (FaultKind.code code) (Some position) result }
     {
@@ -62,6 +73,10 @@ impl Error {
     }
 
     /// Makes a custom fault with this message, without a position. Takes no memory.
+    ///
+    /// ```text
+    /// Error::from_text(String::from_str(alloc, "port 0 can't be opened")?)
+    /// ```
     pub fn from_text(text: String) -> Error
         ensures { SaysAt (custom (string_bytes text)) None result }
     {
@@ -71,8 +86,8 @@ impl Error {
         }
     }
 
-    /// Makes a custom fault with what the message prints, without a position. A message whose `Display` refuses is kept up to
-    /// there.
+    /// Makes a custom fault with what the message prints, without a position. If its `Display` fails, the text up to there is
+    /// kept.
     ///
     /// ```text
     /// return Err(Error::custom(alloc, format_args!("missing field `{name}`"))?);
@@ -97,8 +112,7 @@ impl Error {
         }
     }
 
-    /// Makes a custom fault with what the message prints, at this position. A message whose `Display` refuses is kept up to
-    /// there.
+    /// Makes a custom fault with what the message prints, at this position. If its `Display` fails, the text up to there is kept.
     ///
     /// ```text
     /// let position = de.position_of(port.start);
@@ -120,6 +134,10 @@ impl Error {
     }
 
     /// Returns an equal fault. Only the message of a custom fault takes memory.
+    ///
+    /// ```text
+    /// let copy = error.clone(alloc)?;    // equal to `error`
+    /// ```
     ///
     /// # Errors
     ///
@@ -154,6 +172,13 @@ impl Error {
     }
 
     /// Returns what the fault says, without its position: the code in words, the custom message, or `failed write`.
+    ///
+    /// ```text
+    /// match json5::from_str::<u16>(alloc, "[80") {
+    ///     Err(error) => println!(rt; "{}", error.message())?,    // expected number
+    ///     Ok(port) => ..
+    /// }
+    /// ```
     pub fn message(&self) -> &str
         ensures { result.now ≡ kind_text (kind_of self.now) }
     {
@@ -175,7 +200,7 @@ impl Error {
         self.position
     }
 
-    /// Gives the fault this position where it has none; else it stays as it is.
+    /// Gives the fault this position if it has none; a fault that has one stays as it is.
     ///
     /// ```text
     /// Error::new(ErrorCode::InvalidBytes).with_position(position)
@@ -190,7 +215,11 @@ impl Error {
         }
     }
 
-    /// Gives the fault this position, in place of any other.
+    /// Gives the fault this position, also if it has one.
+    ///
+    /// ```text
+    /// error.at(de.position_of(port.start))
+    /// ```
     #[must_use]
     pub fn at(self, position: Position) -> Error
         ensures { SaysAt (kind_of self) (Some position) result }

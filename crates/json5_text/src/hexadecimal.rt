@@ -34,7 +34,7 @@ fn hexadecimal_digits(first: u32, text: &str) -> Result<(u128, &str), &str>
     Ok((value, rest))
 }
 
-/// Reads what follows `0x`; `start` is the input from the number's start.
+/// Reads what follows `0x`; `start` is the input from the number's start (ECMAScript 5.1 section 7.8.3).
 pub(crate) fn hexadecimal<'t>(
     start: &str,
     negative: bool,

@@ -18,6 +18,10 @@ pub trait Input: Drop {
 }
 
 /// A text that outlives its reader, as `&'de str`: what is read from it may be borrowed for as long as the text is.
+///
+/// ```text
+/// impl<'de, I: Borrows<'de>> Deserialize<I> for Name<'de> { .. }    // a type that holds a `&'de str`
+/// ```
 pub trait Borrows<'de>: Input {
     /// Returns the input, for as long as it lives.
     fn as_borrowed(&self) -> &'de str

@@ -33,7 +33,7 @@ pub(crate) struct Literal<'t> {
     pub(crate) rest: &'t str,
 }
 
-/// Whether a minus is in front, and what follows the sign in front, if there is one.
+/// Whether a minus is in front, and what follows the sign in front, if there is one (JSON5 section 6).
 pub(crate) fn after_sign(text: &str) -> (bool, &str)
     ensures sign { after_sign (chars text.now) ≡ (result.0, chars result.1.now) }
     ensures text { IsUtf8 result.1.now }
@@ -45,7 +45,8 @@ pub(crate) fn after_sign(text: &str) -> (bool, &str)
     }
 }
 
-/// Whether a decimal run begins or continues in front.
+/// Whether a decimal run begins or continues in front: the characters that a decimal literal may have (ECMAScript 5.1 section
+/// 7.8.3).
 fn goes_on(text: &str) -> bool
     ensures { result ≡ begun numbers.in_run (chars text.now) }
 {
@@ -55,7 +56,7 @@ fn goes_on(text: &str) -> bool
     )
 }
 
-/// The tail with the exponent whose digits are in front, if the decimal run ends with them.
+/// The tail with the exponent whose digits are in front, if the decimal run ends with them (ECMAScript 5.1 section 7.8.3).
 #[inline(always)]
 fn read_exponent_digits(negative: bool, text: &str) -> Option<Tail>
     ensures { ReadsTail (model.exponent_digits negative (run_of (chars text.now))) text.now result }
@@ -92,7 +93,7 @@ fn read_exponent(text: &str) -> Option<Tail>
     read_exponent_digits(negative, digits)
 }
 
-/// Whether this is `0`, or digits that don't begin with a zero.
+/// Whether this is `0`, or digits that don't begin with a zero (ECMAScript 5.1 section 7.8.3).
 pub(crate) fn is_integer(digits: &str) -> bool
     ensures { result ≡ model.is_integer digits.now }
 {
@@ -100,7 +101,7 @@ pub(crate) fn is_integer(digits: &str) -> bool
     bytes.len() == 1 || bytes.len() > 1 && bytes[0] != b'0'
 }
 
-/// The literal of these digits and of an exponent, which ends the decimal run.
+/// The literal of these digits and of an exponent, which ends the decimal run (ECMAScript 5.1 section 7.8.3).
 fn read_without_point<'t>(before: &'t str, text: &'t str) -> Option<Literal<'t>>
     requires { Each is_digit before.now }
     ensures { ReadsLiteral (model.no_point before.now (run_of (chars text.now))) text.now result }
@@ -117,14 +118,14 @@ fn read_without_point<'t>(before: &'t str, text: &'t str) -> Option<Literal<'t>>
     })
 }
 
-/// Whether there is an integer before the point, or digits after it alone.
+/// Whether there is an integer before the point, or digits after it alone (ECMAScript 5.1 section 7.8.3).
 fn has_digits(before: &str, after: &str) -> bool
     ensures { result ≡ (model.is_integer before.now || (numbers.is_empty before.now && not (numbers.is_empty after.now))) }
 {
     is_integer(before) || before.is_empty() && !after.is_empty()
 }
 
-/// The literal that is all of the decimal run in front.
+/// The literal that is all of the decimal run in front (ECMAScript 5.1 section 7.8.3).
 #[inline(always)]
 pub(crate) fn read_literal(text: &str) -> Option<Literal>
     ensures { ReadsLiteral (model.literal_at (run_of (chars text.now))) text.now result }

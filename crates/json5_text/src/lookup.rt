@@ -9,15 +9,19 @@ use crate::decimal::Decimal;
 use crate::value::Value;
 use crate::whole::Whole;
 
-/// What is looked for in a value: an element of an array by its index, counted from 0, or the value of a member of an object by
-/// its key. Of equal keys it is the last.
+/// What is looked for in a value: an element of an array by its index, counted from 0, or the value of an object's member by
+/// its key. Of members with equal keys it is the last.
+///
+/// ```text
+/// settings.get("ports")?.get(0usize)    // a key, and then an index
+/// ```
 pub trait Index {
     ghost use Rattle.std.specs.Prelude.{Option};
     ghost use Rattle.json5_text.specs.ValueViews.{Datum};
 
     ghost finds: { Self → Datum → Option Datum };
 
-    /// Returns what is found; None where there is no such thing.
+    /// Returns what is found, or None.
     fn find_in<'v>(&self, value: &'v Value) -> Option<&'v Value>
         ensures { option_map (λ v. value_of v.now) result ≡ finds self.now (value_of value.now) };
 }
@@ -52,8 +56,8 @@ fn last_named<'v>(fields: &'v [(String, Value)], key: &str) -> Option<&'v Value>
 }
 
 impl Value {
-    /// Returns the element of an array at this index, counted from 0, or what an object has under this key; None where there is
-    /// no such thing. Of equal keys the last counts.
+    /// Returns the element of an array at this index, counted from 0, or the value of an object's member with this key, or None.
+    /// Of members with equal keys the last counts.
     ///
     /// ```text
     /// let port = settings.get("server")?.get("ports")?.get(0usize)?;
@@ -72,6 +76,10 @@ impl Value {
     }
 
     /// Returns the boolean, if it is one.
+    ///
+    /// ```text
+    /// settings.get("verbose")?.as_bool()    // Some(true) of `{verbose: true}`
+    /// ```
     pub fn as_bool(&self) -> Option<bool>
         ensures { result ≡ boolean_of (value_of self.now) }
     {
@@ -82,6 +90,10 @@ impl Value {
     }
 
     /// Returns the whole number, if it is one.
+    ///
+    /// ```text
+    /// settings.get("port")?.as_whole()?.as_u128()    // Some(80) of `{port: 80}`
+    /// ```
     pub fn as_whole(&self) -> Option<Whole>
         ensures { result ≡ whole_of (value_of self.now) }
     {
@@ -93,6 +105,10 @@ impl Value {
 
     /// Returns the decimal, if it is one: a number with a point or an exponent, or past the range of `Whole`, infinity and
     /// not-a-number included.
+    ///
+    /// ```text
+    /// settings.get("price")?.as_decimal()?.digits()    // 15 of `{price: 1.50}`
+    /// ```
     pub fn as_decimal(&self) -> Option<&Decimal>
         ensures { option_map (λ number. number.now) result ≡ decimal_in (value_of self.now) }
     {
@@ -103,6 +119,10 @@ impl Value {
     }
 
     /// Returns the text, if it is a string.
+    ///
+    /// ```text
+    /// settings.get("host")?.as_str()    // Some of `localhost` for `{host: 'localhost'}`
+    /// ```
     pub fn as_str(&self) -> Option<&str>
         ensures { option_map (λ s. chars s.now) result ≡ text_in (value_of self.now) }
     {
@@ -113,6 +133,10 @@ impl Value {
     }
 
     /// Returns the elements in their order, if it is an array.
+    ///
+    /// ```text
+    /// for port in settings.get("ports")?.as_array()? { .. }
+    /// ```
     pub fn as_array(&self) -> Option<&[Value]>
         ensures { option_map (λ items. items_view items.now) result ≡ items_in (value_of self.now) }
     {
@@ -123,6 +147,10 @@ impl Value {
     }
 
     /// Returns the members in their order, if it is an object.
+    ///
+    /// ```text
+    /// for (name, value) in settings.as_object()? { .. }
+    /// ```
     pub fn as_object(&self) -> Option<&[(String, Value)]>
         ensures { option_map (λ fields. fields_view fields.now) result ≡ fields_in (value_of self.now) }
     {

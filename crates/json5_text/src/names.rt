@@ -17,21 +17,23 @@ use crate::texts::{Kind, read_text, skip_text};
 use json5_grammar::code::ErrorCode;
 use std::alloc::Global;
 
-/// The name in front, and what follows it. It is borrowed where the name holds no backslash.
+/// The name in front, and what follows it (JSON5 section 3, ECMAScript 5.1 section 7.6). It is borrowed where the name holds no
+/// backslash.
 pub(crate) fn read_name<'t>(alloc: Global, text: &'t str) -> Result<(CowStr<'t>, &'t str), Refusal>
     ensures { AnswersCow (identifier (chars text.now)) result }
 {
     read_text(alloc, Kind::Name, text)
 }
 
-/// What follows the name in front.
+/// What follows the name in front (ECMAScript 5.1 section 7.6).
 pub(crate) fn skip_name(text: &str) -> Result<&str, Refusal>
     ensures { Passes (identifier (chars text.now)) result }
 {
     skip_text(Kind::Name, text)
 }
 
-/// The character that an escape spells, if a name may have it there, and what follows the escape.
+/// The character that an escape spells, if a name may have it there, and what follows the escape (ECMAScript 5.1 section
+/// 7.6).
 pub(crate) fn read_item<'t>(
     is_first: bool,
     escape: &str,
@@ -49,6 +51,7 @@ pub(crate) fn read_item<'t>(
     Ok((Some(c), rest))
 }
 
+/// Whether a name may have the character there: as its first one, or after that (ECMAScript 5.1 section 7.6).
 fn fits(is_first: bool, c: char) -> bool
     ensures { result ≡ fits_name is_first c }
 {
@@ -59,7 +62,7 @@ fn fits(is_first: bool, c: char) -> bool
     }
 }
 
-/// The character that a name's escape spells, and what follows the escape.
+/// The character that a name's escape spells, and what follows the escape (ECMAScript 5.1 section 7.6).
 fn read_escape<'t>(escape: &str, after: &'t str) -> Result<(char, &'t str), Refusal>
     ensures { ReturnsReading (name_escape (chars escape.now) (chars after.now)) result }
 {
@@ -78,7 +81,7 @@ fn read_escape<'t>(escape: &str, after: &'t str) -> Result<(char, &'t str), Refu
     unicode_escape(escape, digits)
 }
 
-/// What follows the ASCII characters in front that continue a name.
+/// What follows the ASCII characters in front that continue a name (ECMAScript 5.1 section 7.6).
 fn skip_ascii_parts(text: &str) -> &str
     ensures { SkipsSome is_raw_part text.now result.now }
 {
@@ -86,7 +89,7 @@ fn skip_ascii_parts(text: &str) -> &str
     text.split_at(len).1
 }
 
-/// What follows the characters in front that begin a name and spell themselves.
+/// What follows the characters in front that begin a name and spell themselves (ECMAScript 5.1 section 7.6).
 pub(crate) fn skip_start(text: &str) -> &str
     ensures { SkipsRaw Kind.Name text.now result.now }
 {
@@ -96,7 +99,7 @@ pub(crate) fn skip_start(text: &str) -> &str
     }
 }
 
-/// What follows the characters in front that continue a name and spell themselves.
+/// What follows the characters in front that continue a name and spell themselves (ECMAScript 5.1 section 7.6).
 pub(crate) fn skip_parts(text: &str) -> &str
     ensures { SkipsAll is_raw_part text.now result.now }
 {
@@ -110,6 +113,7 @@ pub(crate) fn skip_parts(text: &str) -> &str
     rest
 }
 
+/// Whether the character continues a name and spells itself.
 fn is_raw_part(c: char) -> bool
     ensures { result ≡ is_raw_part c }
 {

@@ -33,7 +33,12 @@ impl Model for Limit {
 }
 
 impl Limit {
-    /// Makes a limit of so many brackets; None above 128. Within a limit of 0 only values without a bracket pass.
+    /// Makes a limit of `n` brackets, or None if `n` is above 128. A limit of 0 allows only values without a bracket.
+    ///
+    /// ```text
+    /// let limit = Limit::new(16).unwrap();
+    /// let value: Value = json5::from_str_within(alloc, limit, text)?;
+    /// ```
     pub fn new(n: u8) -> Option<Limit>
         ensures { MatchOption result (max_depth < n) (λ limit. (limit ≡ n) × (n ≤ max_depth)) }
     {
@@ -43,7 +48,11 @@ impl Limit {
         Some(Limit { brackets: n })
     }
 
-    /// Makes the limit of 128 brackets, that of every call that names none.
+    /// Makes the limit of 128 brackets, which calls without a limit use.
+    ///
+    /// ```text
+    /// Limit::full().get()    // 128
+    /// ```
     pub fn full() -> Limit
         ensures { result ≡ max_depth }
     {
@@ -60,7 +69,13 @@ impl Limit {
 }
 
 impl Value {
-    /// Says whether at most 128 brackets are open at once anywhere in it: only then can it be read, written or cloned.
+    /// Says whether at most 128 brackets are open at once in it: only then can it be written, read again or cloned.
+    ///
+    /// ```text
+    /// if value.fits() {
+    ///     println!(rt; "{}", json5::to_string(alloc, &value)?)?;
+    /// }
+    /// ```
     pub fn fits(&self) -> bool
         ensures { result ≡ fits (value_of self.now) }
     {
@@ -92,6 +107,7 @@ fn is_within(value: &Value, room: usize) -> bool
     }
 }
 
+/// Whether an array of these elements is nested no deeper than this.
 #[cycle(depth)]
 #[tactic(auto, using(crate::proofs::DeepestInside::nested))]
 fn items_fit(items: &[Value], room: usize) -> bool
@@ -108,6 +124,7 @@ fn items_fit(items: &[Value], room: usize) -> bool
     true
 }
 
+/// Whether an object of these members is nested no deeper than this.
 #[cycle(depth)]
 #[tactic(auto, using(crate::proofs::DeepestInside::nested))]
 fn fields_fit(fields: &[(String, Value)], room: usize) -> bool

@@ -38,7 +38,8 @@ fn decimal_run<'t>(
     Ok((number, literal.rest))
 }
 
-/// What begins with `0`; `rest` is what follows it.
+/// What begins with `0`: a hexadecimal number, a decimal literal or zero (ECMAScript 5.1 section 7.8.3); `rest` is what follows
+/// the `0`.
 fn after_zero<'t>(
     start: &str,
     negative: bool,
@@ -63,7 +64,7 @@ fn after_zero<'t>(
     }
 }
 
-/// The number that is a word, and what follows the word's other letters.
+/// The number that is a word, `Infinity` or `NaN` (JSON5 section 6), and what follows the word's other letters.
 fn word<'t>(
     number: Scanned<'t>,
     letters: &str,
@@ -80,7 +81,7 @@ fn word<'t>(
     Ok((number, rest))
 }
 
-/// A number without its sign; `start` is the input from the sign on, if there is one.
+/// A number without its sign; `start` is the input from the sign on, if there is one (JSON5 section 6).
 fn unsigned<'t>(
     start: &str,
     negative: bool,
@@ -106,7 +107,7 @@ fn unsigned<'t>(
     }
 }
 
-/// The number in front, its digits slices of the input, and what follows it.
+/// The number in front, its digits slices of the input, and what follows it (JSON5 section 6).
 fn scan(text: &str) -> Result<(Scanned<'_>, &str), Refusal>
     ensures { AnswersAs scanned_of (model.number (chars text.now)) result }
 {
@@ -128,7 +129,7 @@ fn short_whole(text: &str) -> Option<(Whole, &str)>
     Some((Whole::from_u128(u128::from(magnitude)), rest))
 }
 
-/// The number in front, and what follows it. Whole numbers, infinity and not-a-number take no memory.
+/// The number in front, and what follows it (JSON5 section 6). Whole numbers, infinity and not-a-number take no memory.
 pub(crate) fn number(alloc: Global, text: &str) -> Result<(Number, &str), Refusal>
     ensures { AnswersNumber number_of (model.number (chars text.now)) result }
 {
@@ -140,7 +141,7 @@ pub(crate) fn number(alloc: Global, text: &str) -> Result<(Number, &str), Refusa
     Ok((number, rest))
 }
 
-/// The number in front if it is whole, and what follows the number, whole or not.
+/// The number in front if it is whole, and what follows the number, whole or not (JSON5 section 6).
 pub(crate) fn skip_number(text: &str) -> Result<(Option<Whole>, &str), Refusal>
     ensures { AnswersWhole (model.number (chars text.now)) result }
 {

@@ -50,6 +50,7 @@ fn few_zeros(count: usize) -> &'static str
 }
 
 impl<'a> Pieces<'a> {
+    /// The text of the sign, the first part, `count` zeros, the point and the last part.
     fn new(
         sign: &'static str,
         first: &'a str,
@@ -96,6 +97,10 @@ impl<'a> Pieces<'a> {
     }
 
     /// Returns the next piece of the text, and takes it away; none at the end.
+    ///
+    /// ```text
+    /// pieces.next_piece()    // of -1500.0: `-`, then `15`, then `00`, then `.0`, then None
+    /// ```
     pub fn next_piece(&mut self) -> Option<&'a str>
         ensures { MatchOption result (self.old ≡ []) (λ piece. BeginsWithPiece self.old piece.now self.new) }
     {

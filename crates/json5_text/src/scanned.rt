@@ -89,7 +89,7 @@ fn whole_number(negative: bool, literal: &Literal) -> Option<Whole>
     Whole::from_parts(negative, magnitude)
 }
 
-/// The decimal that a literal means which is no whole number in range; None if its exponent is out of range.
+/// The decimal that a literal means if it means no whole number in range; None if its exponent is out of range.
 #[inline(always)]
 pub(crate) fn finite_decimal<'t>(negative: bool, literal: &Literal<'t>) -> Option<DecimalRef<'t>>
     requires digits { HasDigits literal.now }

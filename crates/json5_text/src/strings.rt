@@ -17,7 +17,8 @@ use crate::texts::{Kind, Quote, read_text, skip_text};
 use json5_grammar::code::ErrorCode;
 use std::alloc::Global;
 
-/// What the string in front spells, and what follows the string. It is borrowed if the string has no backslash.
+/// What the string in front spells, and what follows the string (JSON5 section 5, ECMAScript 5.1 section 7.8.4). It is borrowed
+/// if the string has no backslash.
 pub(crate) fn read_string<'t>(
     alloc: Global,
     text: &'t str,
@@ -28,7 +29,7 @@ pub(crate) fn read_string<'t>(
     read_text(alloc, Kind::String(quote), body)
 }
 
-/// An owned copy of what the string in front spells, and what follows the string.
+/// An owned copy of what the string in front spells, and what follows the string (JSON5 section 5).
 pub(crate) fn read_string_owned(alloc: Global, text: &str) -> Result<(String, &str), Refusal>
     ensures { AnswersOwned (string_at (chars text.now)) result }
 {
@@ -54,7 +55,7 @@ pub(crate) fn read_string_token(
     Ok((TextToken::new(end, body.len(), string), rest))
 }
 
-/// What follows the string in front.
+/// What follows the string in front (JSON5 section 5).
 pub(crate) fn skip_string(text: &str) -> Result<&str, Refusal>
     ensures { Passes (string_at (chars text.now)) result }
 {
@@ -62,7 +63,7 @@ pub(crate) fn skip_string(text: &str) -> Result<&str, Refusal>
     skip_text(Kind::String(quote), body)
 }
 
-/// The quote in front, and what follows it.
+/// The quote in front, and what follows it (JSON5 section 5).
 fn read_quote(text: &str) -> Result<(Quote, &str), Refusal>
     ensures { AnswersQuote (chars text.now) result }
 {
@@ -89,7 +90,7 @@ pub fn is_quote(c: char) -> bool
     matches!(c, '"' | '\'')
 }
 
-/// What follows the characters in front that spell themselves between these quotes.
+/// What follows the characters in front that spell themselves between these quotes (JSON5 section 5).
 #[inline(always)]
 pub(crate) fn skip_raw(quote: Quote, text: &str) -> &str
     ensures { SkipsAll (is_raw (quote_of quote)) text.now result.now }

@@ -64,6 +64,7 @@ impl PartialEq for Value {
     }
 }
 
+/// Whether the two values mean the same.
 #[cycle(equal)]
 #[tactic(auto, using(crate::proofs::ValuesCompared::values_compared))]
 fn equal(value: &Value, other: &Value) -> bool
@@ -81,6 +82,7 @@ fn equal(value: &Value, other: &Value) -> bool
     }
 }
 
+/// Whether the elements mean the same, one by one.
 #[cycle(equal)]
 fn equal_items(items: &[Value], others: &[Value]) -> bool
     ensures { result ≡ items_eq (items_view items.now) (items_view others.now) }
@@ -96,6 +98,7 @@ fn equal_items(items: &[Value], others: &[Value]) -> bool
     true
 }
 
+/// Whether the members have the same keys and mean the same, one by one.
 #[cycle(equal)]
 fn equal_fields(fields: &[(String, Value)], others: &[(String, Value)]) -> bool
     ensures { result ≡ fields_eq (fields_view fields.now) (fields_view others.now) }

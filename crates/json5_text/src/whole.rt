@@ -9,7 +9,7 @@ use crate::wide::Wide;
 use std::fmt;
 use std::marker::Model;
 
-/// A whole number from `i128::MIN` to `u128::MAX`. There is one value for each of them, so that zero has no sign.
+/// A whole number from `i128::MIN` to `u128::MAX`. Each has only one `Whole`, so zero has no sign.
 ///
 /// ```text
 /// Whole::from_u128(u128::MAX).as_i128()    // None
@@ -37,6 +37,10 @@ impl Model for Whole {
 
 impl Whole {
     /// Returns the whole number that this is.
+    ///
+    /// ```text
+    /// Value::Whole(Whole::from_u128(80))    // what `80` is read as
+    /// ```
     pub fn from_u128(number: u128) -> Whole
         ensures { result ≡ pos number }
     {
@@ -47,6 +51,10 @@ impl Whole {
     }
 
     /// Returns the whole number that this is.
+    ///
+    /// ```text
+    /// Whole::from_i128(-7)    // what `-7` is read as, in a `Value`
+    /// ```
     pub fn from_i128(number: i128) -> Whole
         ensures { result ≡ number }
     {
@@ -74,6 +82,10 @@ impl Whole {
     }
 
     /// Returns the number, or None where it is below zero.
+    ///
+    /// ```text
+    /// Whole::from_i128(-7).as_u128()    // None
+    /// ```
     pub fn as_u128(self) -> Option<u128>
         ensures { Converts pos (λ z. pos 0 ≤ℤ z) self result }
     {
@@ -85,6 +97,10 @@ impl Whole {
     }
 
     /// Returns the number, or None where it is above `i128::MAX`.
+    ///
+    /// ```text
+    /// Whole::from_u128(u128::MAX).as_i128()    // None
+    /// ```
     pub fn as_i128(self) -> Option<i128>
         ensures { Converts (λ number. number) (λ z. z <ℤ pos (2 ^ 127)) self result }
     {

@@ -1,4 +1,4 @@
--- What is round an entry of brackets is passed over: the colon of a member, commas, and the blanks before an entry.
+-- What is around an element or a member is passed over: the colon of a member, commas, and the blanks before an entry.
 use Rattle.std.proofs.Common.{◌≡◌, ℕ, Bool, true, false, cond, List, [], ◌∷◌, refl, ap, ◌∙◌, subst}
 use Rattle.std.specs.Prelude.{◌==◌, Result, Ok, Err, not}
 use Rattle.json5_grammar.specs.declared.code.ErrorCode.TheVariants as codes

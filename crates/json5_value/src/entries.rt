@@ -1,4 +1,4 @@
-//! What is round the entries of brackets, the elements of an array and the members of an object (JSON5 sections 3 and 4).
+//! What is around an entry, which is an element of an array or a member of an object (JSON5 sections 3 and 4).
 
 ghost use Rattle.json5_grammar.specs.Model.ReadSteps.{forget, colon_after, next_value};
 ghost use Rattle.json5_grammar.specs.Model.ReadTexts.{key};
@@ -43,7 +43,7 @@ pub(crate) fn skip_colon<I: Input>(scanner: &mut Scanner<I>) -> Result<()>
     }
 }
 
-/// The same, whatever is round the colon.
+/// The same, whatever is around the colon.
 fn skip_colon_slowly<I: Input>(scanner: &mut Scanner<I>) -> Result<()>
     requires { IsInside scanner.old }
     ensures { Steps (colon_after scanner.old.unread) scanner.old scanner.new result }

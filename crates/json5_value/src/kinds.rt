@@ -26,7 +26,7 @@ pub enum ValueKind {
     Other,
 }
 
-/// Returns what kind of value the character begins.
+/// Returns what kind of value the character begins (JSON5 section 2).
 #[inline(always)]
 pub fn kind_at(c: char) -> ValueKind
     ensures { result ≡ kind_at c }
@@ -41,7 +41,7 @@ pub fn kind_at(c: char) -> ValueKind
     }
 }
 
-/// Passes over the literal in front.
+/// Passes over the literal in front (JSON5 section 2).
 ///
 /// # Errors
 ///

@@ -258,7 +258,8 @@ fn short_turn<I: Input>(
     }
 }
 
-/// Passes over the value in front, in which so many brackets may be open at once. Takes no memory where it succeeds.
+/// Passes over the value in front, in which so many brackets may be open at once (JSON5 sections 2 to 6). Takes no memory where
+/// it succeeds.
 ///
 /// # Errors
 ///

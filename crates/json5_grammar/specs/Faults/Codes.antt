@@ -8,7 +8,7 @@ pub data Shown : Type 0 where
   by_char : Shown
   by_end : Shown
 
--- a position within what follows t, as a position within the whole; a position is given by what comes before it, and None is the end
+-- A position in what follows t, as a position in the whole: what comes before it, or None for the end.
 abbrev pub after_text : List ℕ → Option (List ℕ) → Option (List ℕ)
 after_text t None = None
 after_text t (Some p) = Some (t ++ p)

@@ -10,7 +10,7 @@ use Rattle.json5_grammar.specs.Language.Strings.{IsOpenString}
 use Rattle.json5_grammar.specs.Language.Trees.{Tree}
 use Rattle.json5_grammar.specs.Language.Values.{Reads}
 
--- y begins with blanks and what is expected where the brackets o are open, or nothing but blanks is left where the end is
+-- y begins with what is expected where the brackets o are open, after blanks; where the end is expected, y is blanks alone
 abbrev pub GoesOn : List Bracket → Expects → List ℕ → Type 0
 GoesOn o value y = (t : Tree) × (r : List ℕ) × Reads y t r
 GoesOn o element y = ((t : Tree) × (r : List ℕ) × Reads y t r) ⊎ ((r : List ℕ) × IsSign right_bracket y r)

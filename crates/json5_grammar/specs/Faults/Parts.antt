@@ -8,7 +8,7 @@ use Rattle.json5_grammar.specs.Faults.Tokens.{NumberWord, DecimalRun, CutEscape,
 use Rattle.json5_grammar.specs.Language.Strings.{Items, is_quote}
 use Rattle.json5_grammar.specs.Language.Names.{Ident}
 
--- p begins the word
+-- p is a prefix of the word
 abbrev pub IsPrefix : List ℕ → List ℕ → Type 0
 IsPrefix p w = (q : List ℕ) × (w ≡ p ++ q)
 

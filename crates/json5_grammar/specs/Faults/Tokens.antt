@@ -124,7 +124,7 @@ is_sign c = (c == plus_sign) || (c == minus_sign)
 abbrev pub begins_number : ℕ → Bool
 begins_number c = is_digit c || ((c == point_sign) || ((c == capital_i) || (c == capital_n)))
 
--- p begins the word, d would follow
+-- p is a prefix of the word, and d the character of the word after it
 abbrev pub Cut : List ℕ → List ℕ → ℕ → Type 0
 Cut w p d = (q : List ℕ) × (w ≡ p ++ d ∷ q)
 
@@ -138,7 +138,7 @@ pub data DecimalRun : List ℕ → Type 0 where
   zero_run : {s n : List ℕ} {m : Bool} (c : ℕ) → Sign s m → ((c == point_sign) || ((c == letter_e) || (c == capital_e))) ≡ true → Each in_run n
       → DecimalRun (s ++ digit_zero ∷ c ∷ n)
 
--- r is empty or begins with a character that fails the test: nothing, or that character
+-- a run whose characters pass the test ends before r: what of r shows it, which is nothing at the end, else the first character
 pub data RunEnd (p : ℕ → Bool) : List ℕ → List ℕ → Shown → Type 0 where
   run_at_end : RunEnd p [] [] by_end
   run_at_char : {c : ℕ} (r : List ℕ) → p c ≡ false → RunEnd p (c ∷ r) (c ∷ []) by_char

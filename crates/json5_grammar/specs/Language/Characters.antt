@@ -216,7 +216,7 @@ is_digit c = is_in digit_zero digit_nine c
 abbrev pub is_hex_digit : ℕ → Bool
 is_hex_digit c = is_digit c || (is_in capital_a capital_f c || is_in letter_a letter_f c)
 
--- ---- what a list begins with, and of what it is made
+-- ---- the first character of a list, and all of them
 
 abbrev pub Begun : (ℕ → Bool) → List ℕ → Type 0
 Begun p [] = ⊥

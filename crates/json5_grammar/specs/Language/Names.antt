@@ -29,7 +29,7 @@ pub data Key : List ℕ → List ℕ → List ℕ → Bool → Type 0 where
 abbrev pub IsName : List ℕ → Type 0
 IsName s = (u : List ℕ) × (escape_free : Bool) × Ident s u escape_free
 
--- a name, and r begins with a character that doesn't go on it
+-- a name, and r begins with a character that doesn't continue it
 pub record EndedName (s u : List ℕ) (escape_free : Bool) (r : List ℕ) : Type 0 where
   pub first : ℕ
   pub rest : List ℕ

@@ -23,7 +23,7 @@ pub data LastComma : List ℕ → Type 0 where
   no_last_comma : LastComma []
   last_comma : {w : List ℕ} → Blanks w → LastComma (comma_sign ∷ w)
 
--- the spelling of a key, where what follows it isn't looked at: a colon or a blank follows
+-- the spelling of a key, whatever follows it; in a member it is a colon or a blank
 pub data KeyText : List ℕ → List ℕ → Bool → Type 0 where
   string_key : {k u : List ℕ} {escape_free : Bool} → Str k u escape_free → KeyText k u escape_free
   name_key : {k u : List ℕ} {escape_free : Bool} → Ident k u escape_free → KeyText k u escape_free

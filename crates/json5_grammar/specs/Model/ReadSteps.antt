@@ -1,4 +1,4 @@
--- The steps of reading a value, the trees forgotten: what comes before and after the values in a bracket.
+-- The steps of reading a value without its tree: what comes before and after the values in a bracket.
 use Rattle.std.specs.Prelude.{ℕ, suc, Bool, true, false, cond, ◌==◌, List, [], ◌∷◌, length, Option, Some, None}
 use Rattle.json5_grammar.specs.Language.Characters.{comma_sign}
 use Rattle.json5_grammar.specs.Faults.Codes.{EofParsingObject, ExpectedComma}
@@ -10,7 +10,7 @@ use Rattle.json5_grammar.specs.Model.ReadTexts.{key}
 use Rattle.json5_grammar.specs.Language.Trees.{Trees, Members, more, no_member, member}
 use Rattle.json5_grammar.specs.Model.ReadValues.{read, read_elements, read_members, after_element, after_member, colon_at}
 
--- the answer without what was read
+-- the same, without what was read
 abbrev pub forget : {A : Type 0} → Read A → Read (Unit {0})
 forget (got a r) = got tt r
 forget (bad e p) = bad e p

@@ -108,7 +108,7 @@ identifier (c ∷ r) =
     (cond (is_identifier_start c) (put (c ∷ []) true (parts (suc (length r)) r))
     (bad (Some ExpectedIdentifier) (here (c ∷ r))))
 
--- a string or a name; the bracket's own tests come first
+-- a key: a string or a name; whether the object ends there is tested before
 unfoldable pub key : List ℕ → Read (List ℕ × Bool)
 key [] = bad (Some EofParsingObject) inner
 key (c ∷ r) = cond (is_quote c) (string (c ∷ r)) (identifier (c ∷ r))

@@ -16,6 +16,14 @@ impl<W: Write + Drop> Serializer<W> {
 
     /// Opens an array, and lends the serializer to the collection that writes its elements. The length changes nothing.
     ///
+    /// ```text
+    /// let mut list = ser.serialize_seq(Some(ports.len()))?;
+    /// for port in &ports {
+    ///     list.serialize_element(port)?;
+    /// }
+    /// list.end()?;
+    /// ```
+    ///
     /// # Errors
     ///
     /// As every call: see [`Serializer`]. At `TooDeep` nothing was written.
@@ -36,6 +44,13 @@ impl<W: Write + Drop> Serializer<W> {
 
     /// Opens an array as [`serialize_seq`](Serializer::serialize_seq) does. The length changes nothing.
     ///
+    /// ```text
+    /// let mut pair = ser.serialize_tuple(2)?;
+    /// pair.serialize_element(&"http")?;
+    /// pair.serialize_element(&80u16)?;
+    /// pair.end()?;    // four lines: `[`, `  "http",`, `  80,` and `]`
+    /// ```
+    ///
     /// # Errors
     ///
     /// As `serialize_seq`.
@@ -47,6 +62,10 @@ impl<W: Write + Drop> Serializer<W> {
     }
 
     /// Opens an array as [`serialize_seq`](Serializer::serialize_seq) does. The name and the length change nothing.
+    ///
+    /// ```text
+    /// let mut point = ser.serialize_tuple_struct("Point", 2)?;    // as `serialize_tuple(2)`
+    /// ```
     ///
     /// # Errors
     ///
@@ -63,6 +82,12 @@ impl<W: Write + Drop> Serializer<W> {
     }
 
     /// Opens an object, and lends the serializer to the collection that writes its keys and values. The length changes nothing.
+    ///
+    /// ```text
+    /// let mut map = ser.serialize_map(None)?;
+    /// map.serialize_entry(&"http", &80u16)?;
+    /// map.end()?;    // three lines: `{`, `  http: 80,` and `}`
+    /// ```
     ///
     /// # Errors
     ///
@@ -141,6 +166,13 @@ impl<W: Write + Drop> Serializer<W> {
 
     /// Opens an object of one member, the variant's name, and the object that is its value. The `end` of the inner object
     /// closes both. The type's name, the index and the length change nothing.
+    ///
+    /// ```text
+    /// let mut content = ser.serialize_struct_variant("Reminder", 3, "once", 2)?;    // { once: { day: .., hour: 7 } }, line by line
+    /// content.serialize_field("day", &day)?;
+    /// content.serialize_field("hour", &7u8)?;
+    /// content.end()
+    /// ```
     ///
     /// # Errors
     ///

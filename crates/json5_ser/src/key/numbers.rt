@@ -25,6 +25,10 @@ impl<W: Write + Drop> MapKey<'_, W> {
 
     /// Writes the decimal digits as a key, between quotes: `"80"`.
     ///
+    /// ```text
+    /// key.serialize_u8(16)?    // "16"
+    /// ```
+    ///
     /// # Errors
     ///
     /// As every call: see [`MapKey`].
@@ -36,6 +40,10 @@ impl<W: Write + Drop> MapKey<'_, W> {
     }
 
     /// Writes the decimal digits as a key.
+    ///
+    /// ```text
+    /// key.serialize_u16(8080)?    // "8080"
+    /// ```
     ///
     /// # Errors
     ///
@@ -49,6 +57,10 @@ impl<W: Write + Drop> MapKey<'_, W> {
 
     /// Writes the decimal digits as a key.
     ///
+    /// ```text
+    /// key.serialize_u32(70000)?    // "70000"
+    /// ```
+    ///
     /// # Errors
     ///
     /// As every call: see [`MapKey`].
@@ -60,6 +72,10 @@ impl<W: Write + Drop> MapKey<'_, W> {
     }
 
     /// Writes the decimal digits as a key.
+    ///
+    /// ```text
+    /// key.serialize_u64(5000000000)?    // "5000000000"
+    /// ```
     ///
     /// # Errors
     ///
@@ -73,6 +89,10 @@ impl<W: Write + Drop> MapKey<'_, W> {
 
     /// Writes the decimal digits as a key.
     ///
+    /// ```text
+    /// key.serialize_u128(5000000000)?    // "5000000000"
+    /// ```
+    ///
     /// # Errors
     ///
     /// As every call: see [`MapKey`].
@@ -84,6 +104,10 @@ impl<W: Write + Drop> MapKey<'_, W> {
     }
 
     /// Writes the decimal digits as a key, after a minus where the number is negative: `"-1"`.
+    ///
+    /// ```text
+    /// key.serialize_i8(-7)?    // "-7"
+    /// ```
     ///
     /// # Errors
     ///
@@ -97,6 +121,10 @@ impl<W: Write + Drop> MapKey<'_, W> {
 
     /// Writes the decimal digits as a key, after a minus where the number is negative.
     ///
+    /// ```text
+    /// key.serialize_i16(-300)?    // "-300"
+    /// ```
+    ///
     /// # Errors
     ///
     /// As every call: see [`MapKey`].
@@ -108,6 +136,10 @@ impl<W: Write + Drop> MapKey<'_, W> {
     }
 
     /// Writes the decimal digits as a key, after a minus where the number is negative.
+    ///
+    /// ```text
+    /// key.serialize_i32(-70000)?    // "-70000"
+    /// ```
     ///
     /// # Errors
     ///
@@ -121,6 +153,10 @@ impl<W: Write + Drop> MapKey<'_, W> {
 
     /// Writes the decimal digits as a key, after a minus where the number is negative.
     ///
+    /// ```text
+    /// key.serialize_i64(-5000000000)?    // "-5000000000"
+    /// ```
+    ///
     /// # Errors
     ///
     /// As every call: see [`MapKey`].
@@ -132,6 +168,10 @@ impl<W: Write + Drop> MapKey<'_, W> {
     }
 
     /// Writes the decimal digits as a key, after a minus where the number is negative.
+    ///
+    /// ```text
+    /// key.serialize_i128(-5000000000)?    // "-5000000000"
+    /// ```
     ///
     /// # Errors
     ///
@@ -145,6 +185,11 @@ impl<W: Write + Drop> MapKey<'_, W> {
 
     /// Writes the text that `serialize_decimal` of a serializer writes, as a key: `Infinity` and `NaN` bare, any other between
     /// quotes.
+    ///
+    /// ```text
+    /// let price: Decimal = json5::from_str(alloc, "1.50")?;
+    /// key.serialize_decimal(&price)?    // "1.5"
+    /// ```
     ///
     /// # Errors
     ///

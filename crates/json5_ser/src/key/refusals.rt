@@ -10,6 +10,10 @@ impl<W: Write + Drop> MapKey<'_, W> {
 
     /// Refuses None, which is no key.
     ///
+    /// ```text
+    /// key.serialize_none()?    // `InvalidKey`; so a map with the key None can't be written
+    /// ```
+    ///
     /// # Errors
     ///
     /// `InvalidKey`, or `Failed`: see [`MapKey`].

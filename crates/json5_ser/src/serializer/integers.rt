@@ -9,6 +9,7 @@ use json5_text::error::Result;
 use std::io::Write;
 
 impl<W: Write + Drop> Serializer<W> {
+    /// Writes the decimal digits, after a minus if the number is below zero.
     fn put_integer<I: Integer>(&mut self, value: I) -> Result<()>
         ensures { Writes (piece (I.text value)) self.old result self.new }
     {
@@ -18,6 +19,10 @@ impl<W: Write + Drop> Serializer<W> {
     }
 
     /// Writes the decimal digits of a `u8` (JSON5 section 6).
+    ///
+    /// ```text
+    /// ser.serialize_u8(16)?    // 16
+    /// ```
     ///
     /// # Errors
     ///
@@ -30,6 +35,10 @@ impl<W: Write + Drop> Serializer<W> {
 
     /// Writes the decimal digits of a `u16`.
     ///
+    /// ```text
+    /// ser.serialize_u16(8080)?    // 8080
+    /// ```
+    ///
     /// # Errors
     ///
     /// As every call: see [`Serializer`].
@@ -40,6 +49,10 @@ impl<W: Write + Drop> Serializer<W> {
     }
 
     /// Writes the decimal digits of a `u32`.
+    ///
+    /// ```text
+    /// ser.serialize_u32(70000)?    // 70000
+    /// ```
     ///
     /// # Errors
     ///
@@ -52,6 +65,10 @@ impl<W: Write + Drop> Serializer<W> {
 
     /// Writes the decimal digits of a `u64`.
     ///
+    /// ```text
+    /// ser.serialize_u64(5000000000)?    // 5000000000
+    /// ```
+    ///
     /// # Errors
     ///
     /// As every call: see [`Serializer`].
@@ -62,6 +79,10 @@ impl<W: Write + Drop> Serializer<W> {
     }
 
     /// Writes the decimal digits of a `u128`.
+    ///
+    /// ```text
+    /// ser.serialize_u128(5000000000)?    // 5000000000
+    /// ```
     ///
     /// # Errors
     ///
@@ -74,6 +95,10 @@ impl<W: Write + Drop> Serializer<W> {
 
     /// Writes the decimal digits of a `i8`, after a minus where it is negative (JSON5 section 6).
     ///
+    /// ```text
+    /// ser.serialize_i8(-16)?    // -16
+    /// ```
+    ///
     /// # Errors
     ///
     /// As every call: see [`Serializer`].
@@ -84,6 +109,10 @@ impl<W: Write + Drop> Serializer<W> {
     }
 
     /// Writes the decimal digits of a `i16`, after a minus where it is negative.
+    ///
+    /// ```text
+    /// ser.serialize_i16(-300)?    // -300
+    /// ```
     ///
     /// # Errors
     ///
@@ -96,6 +125,10 @@ impl<W: Write + Drop> Serializer<W> {
 
     /// Writes the decimal digits of a `i32`, after a minus where it is negative.
     ///
+    /// ```text
+    /// ser.serialize_i32(-70000)?    // -70000
+    /// ```
+    ///
     /// # Errors
     ///
     /// As every call: see [`Serializer`].
@@ -107,6 +140,10 @@ impl<W: Write + Drop> Serializer<W> {
 
     /// Writes the decimal digits of a `i64`, after a minus where it is negative.
     ///
+    /// ```text
+    /// ser.serialize_i64(-5000000000)?    // -5000000000
+    /// ```
+    ///
     /// # Errors
     ///
     /// As every call: see [`Serializer`].
@@ -117,6 +154,10 @@ impl<W: Write + Drop> Serializer<W> {
     }
 
     /// Writes the decimal digits of a `i128`, after a minus where it is negative.
+    ///
+    /// ```text
+    /// ser.serialize_i128(-5000000000)?    // -5000000000
+    /// ```
     ///
     /// # Errors
     ///

@@ -10,6 +10,10 @@ use std::io::Write;
 impl<W: Write + Drop> Serializer<W> {
     /// Writes `null`.
     ///
+    /// ```text
+    /// ser.serialize_unit()?    // null
+    /// ```
+    ///
     /// # Errors
     ///
     /// As every call: see [`Serializer`].
@@ -20,6 +24,10 @@ impl<W: Write + Drop> Serializer<W> {
     }
 
     /// Writes `true` or `false`.
+    ///
+    /// ```text
+    /// ser.serialize_bool(true)?    // true
+    /// ```
     ///
     /// # Errors
     ///

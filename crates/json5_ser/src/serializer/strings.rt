@@ -73,6 +73,10 @@ impl<W: Write + Drop> Serializer<W> {
 
     /// Writes a string of one character, as [`serialize_str`](Serializer::serialize_str) does.
     ///
+    /// ```text
+    /// ser.serialize_char('"')?    // '"'
+    /// ```
+    ///
     /// # Errors
     ///
     /// As every call: see [`Serializer`].
