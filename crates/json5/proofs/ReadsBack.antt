@@ -44,7 +44,7 @@ if_escape_free_by : (u : List ℕ) (b : Bool) → if_escape_free u b ≡ (if b t
 if_escape_free_by u true = refl
 if_escape_free_by u false = refl
 
--- a string reads back as a slice exactly if it is written without a backslash
+-- a string reads back as a slice exactly when it is written without a backslash
 pub slice_back : (u : List ℕ) → escape_free_of (marks (text u)) ≡ (if is_escape_free_text u then Some (encode_utf8_all u) else None)
 slice_back u = if_escape_free_by u (is_escape_free_text u)
 
