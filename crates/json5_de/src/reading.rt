@@ -1,4 +1,4 @@
-//! Reading a value, to accept or refuse it.
+//! `read`: a value is read, and its contract says which content is returned.
 
 ghost use Rattle.json5_de.specs.Refinement.{ReadsExactly};
 

@@ -1,4 +1,4 @@
-//! Reading of a string that is one name of a list.
+//! Reading of a string that is one of a list of names, as its index.
 
 ghost use Rattle.std.specs.Prelude.{◌≡◌, false, None};
 ghost use Rattle.std.specs.List.{position};

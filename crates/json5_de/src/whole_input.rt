@@ -1,4 +1,4 @@
-//! Reading a whole input.
+//! Reading a whole input: `from_str`, and within a limit.
 
 ghost use Rattle.std.specs.Prelude.{◌≡◌, Some, true, IfOk, IfErr, IsOk};
 ghost use Rattle.std.specs.Str.{chars};

@@ -1,4 +1,4 @@
-//! Labels.
+//! Labels: a list of strings that isn't empty.
 
 use json5::{Deserialize, Deserializer, Error, Input, Result, Spanned};
 

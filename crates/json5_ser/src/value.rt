@@ -1,4 +1,4 @@
-//! Values of any kind, written.
+//! Writing of values of any kind.
 
 ghost use Rattle.json5_ser.specs.WrittenTrees.{integer, object, fields_of};
 ghost use Rattle.json5_ser.specs.ValueTrees.{value_tree, key_of_string};

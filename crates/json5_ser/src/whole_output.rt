@@ -1,4 +1,4 @@
-//! Whole outputs.
+//! Writing a whole value: `to_string` and `to_writer`, and within a limit.
 
 ghost use Rattle.std.specs.Prelude.{string_bytes, IfOk, IfErr};
 ghost use Rattle.std.specs.Str.{chars};

@@ -1,4 +1,4 @@
-//! Runs of bytes.
+//! Runs of bytes in front of a text: how far blanks, names, digits, lines and strings go.
 
 ghost use Rattle.std.specs.Prelude.{◌≡◌, ◌≤◌, ◌+◌, ◌<◌, length, drop, map, true, false, slice_index, IfSome};
 ghost use Rattle.json5_grammar.specs.Language.Characters.{is_digit, NotBegun};

@@ -1,4 +1,4 @@
-//! Values of digits.
+//! The values that digits spell.
 
 ghost use Rattle.std.specs.Prelude.{◌≡◌, ◌^◌, ◌+◌, ◌*◌, ◌≤◌, ◌<◌, min, MatchOption, IfSome};
 ghost use Rattle.json5_grammar.specs.Language.Characters.{is_digit, Each};

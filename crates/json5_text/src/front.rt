@@ -1,4 +1,4 @@
-//! The first character of a string.
+//! The first character of a text, and what follows it.
 
 ghost use Rattle.json5_text.specs.Scan.{IsFront};
 

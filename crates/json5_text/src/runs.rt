@@ -1,4 +1,4 @@
-//! Cutting the input after the digits in front, and digits after the zeros in front and before the zeros at the end.
+//! Decimal digits: those in front of a text, and digits without their outer zeros.
 
 ghost use Rattle.std.specs.Prelude.{◌≡◌, reverse};
 ghost use Rattle.std.specs.List.{prefix_len};
