@@ -85,6 +85,9 @@ bytes_past front a b c r u v e f g k =
     ∙ ap (λ t. front ++ (encode_utf8_all u ++ (encode_utf8_all v ++ t))) (sym (encodes-chars r k))
     ∙ ap (λ t. front ++ (encode_utf8_all u ++ t)) (sym (encodes-append v (chars r))) ∙ ap (λ t. front ++ t) (sym (encodes-append u (v ++ chars r)))
 
+pub bytes_more : (front a b u v : List ℕ) → a ≡ front ++ encode_utf8_all u → b ≡ a ++ encode_utf8_all v → b ≡ front ++ encode_utf8_all (u ++ v)
+bytes_more front a b u v e f = f ∙ ap (λ t. t ++ encode_utf8_all v) e ∙ append_assoc front (encode_utf8_all u) (encode_utf8_all v) ∙ ap (λ t. front ++ t) (sym (encodes-append u v))
+
 pub both_parts : (r u : List ℕ) → IsUtf8 r → r ++ encode_utf8_all u ≡ encode_utf8_all (chars r ++ u)
 both_parts r u k = ap (λ t. t ++ encode_utf8_all u) (sym (encodes-chars r k)) ∙ sym (encodes-append (chars r) u)
 
