@@ -3,7 +3,7 @@
 ghost use Rattle.std.specs.Prelude.{◌≡◌, ◌++◌, ℕ, List, IfOk, OnOk, string_bytes};
 ghost use Rattle.std.specs.Str.{chars, encode_utf8_all};
 ghost use Rattle.json5_grammar.specs.Language.Characters.{NotBegun};
-ghost use Rattle.json5_text.specs.TokenResults.{AnswersAs, AnswersCow, AnswersMore, Passes};
+ghost use Rattle.json5_text.specs.TokenResults.{AnswersAs, AnswersCow, AnswersMore, AnswersOwned, Passes};
 ghost use Rattle.json5_text.specs.Scan.{AtEscape, in_list};
 ghost use Rattle.json5_text.specs.ScanTexts.{quote_of, after_first_char, past, ends_early, text_at, item, is_raw_in, SkipsRaw, AnswersStop, AnswersRun, AnswersStep, IsReadTo, AddsUpTo, PassesSteps, AddsSteps};
 
@@ -114,6 +114,22 @@ pub(crate) fn read_text<'t>(
             let (text, rest) = read_escaped(alloc, run, kind, escape, after)?;
             Ok((CowStr::Owned(text), rest))
         }
+    }
+}
+
+/// An owned copy of what the string or name in front spells, and what follows it.
+#[inline(always)]
+pub(crate) fn read_text_owned(
+    alloc: Global,
+    kind: Kind,
+    text: &str,
+) -> Result<(String, &str), Refusal>
+    ensures { AnswersOwned (text_at kind (chars text.now)) result }
+{
+    let (run, stop) = read_run(kind, text)?;
+    match stop {
+        Stop::End(rest) => Ok((String::from_str(alloc, run)?, rest)),
+        Stop::Escape(kind, escape, after) => read_escaped(alloc, run, kind, escape, after),
     }
 }
 
