@@ -13,6 +13,7 @@ pub mod TextsCompared
 pub mod ScanEscapes
 pub mod ScanRuns
 pub mod ScanTexts
+pub mod ShortEscapes
 pub mod Copied
 pub mod DeepestInside
 pub mod InlineDigits

@@ -67,7 +67,7 @@ unfolding hex
 hex_more zero n c b xs ys l e h = absurd (omega arith)
 hex_more (suc k) n c b xs ys l e h = let d : suc k - 1 ≡ k = omega arith in rw (e, d) (rw (hex_value c h) refl)
 
-digit_ascii : (d : ℕ) → digit_value d < 16 → d < 128
+pub digit_ascii : (d : ℕ) → digit_value d < 16 → d < 128
 digit_ascii d h = grind (arith, nat_tests)
 
 -- a byte in front

@@ -59,11 +59,11 @@ each_read k [] x e = put_none (text_at (after_first_char k) x)
 each_read k (c ∷ raw) x (char h e) =
     one_raw (after_first_char k) c (raw ++ x) h ∙ ap (λ j. put (c ∷ []) true (text_at j (raw ++ x))) (rest_twice k) ∙ ap (put (c ∷ []) true) (each_read k raw x e) ∙ put_put (c ∷ []) raw true true (text_at (after_first_char k) x)
 
-run_read : (k : Kind) (raw x : List ℕ) → Run k raw → text_at k (raw ++ x) ≡ put raw true (text_at (past k raw) x)
+pub run_read : (k : Kind) (raw x : List ℕ) → Run k raw → text_at k (raw ++ x) ≡ put raw true (text_at (past k raw) x)
 run_read k [] x e = put_none (text_at k x)
 run_read k (c ∷ raw) x e = one_raw k c (raw ++ x) e.0 ∙ ap (put (c ∷ []) true) (each_read k raw x e.1) ∙ put_put (c ∷ []) raw true true (text_at (after_first_char k) x)
 
-run_each : (k : Kind) (raw : List ℕ) → Each (is_raw_in (after_first_char k)) raw → Run (after_first_char k) raw
+pub run_each : (k : Kind) (raw : List ℕ) → Each (is_raw_in (after_first_char k)) raw → Run (after_first_char k) raw
 run_each k [] e = tt
 run_each k (c ∷ raw) (char h e) = (h, subst (λ j. Each (is_raw_in j) raw) (sym (rest_twice k)) e)
 

@@ -1,6 +1,7 @@
 -- Steps of reading strings and names.
 use Rattle.std.proofs.Common.{◌≡◌, ℕ, ◌+◌, ◌<◌, ◌≤◌, Bool, true, false, List, [], ◌∷◌, ◌++◌, length, refl, ap, sym, ◌∙◌, append_assoc, subst, arith, Option, Some}
-use Rattle.std.specs.Prelude.{◌==◌, ◌&&◌, Ok}
+use denote.Ref.{Bor}
+use Rattle.std.specs.Prelude.{◌==◌, ◌&&◌, String, Result, Ok, Err}
 use Rattle.std.specs.Str.{IsUtf8, chars, encode_utf8_all}
 use Rattle.std.proofs.lemmas.List.{length-append, append-nil}
 use Rattle.std.proofs.lemmas.Str.{encodes-append, encodes-chars}
@@ -21,6 +22,7 @@ use Rattle.json5_text.specs.declared.texts.Stop.{Stop}
 use Rattle.json5_text.specs.declared.texts.Stop.TheVariants as stop
 use Rattle.json5_text.specs.Outcome.{outcome}
 use Rattle.json5_text.specs.Refused.{Refuses}
+use Rattle.json5_text.specs.TokenResults.{AnswersMore, AnswersOwned}
 use Rattle.json5_text.specs.ScanTexts.{quote_of, after_first_char, past, text_at, fits_name, SkipsRaw, item_of_name, item, ReadsUpTo, AnswersStop, IsRun}
 use Rattle.json5_text.proofs.ScanEscapes.{refuses_as}
 use Rattle.json5_text.proofs.ScanRuns.{quote_is, rest_is, put_put, run_past}
@@ -85,6 +87,9 @@ bytes_past front a b c r u v e f g k =
     ∙ ap (λ t. front ++ (encode_utf8_all u ++ (encode_utf8_all v ++ t))) (sym (encodes-chars r k))
     ∙ ap (λ t. front ++ (encode_utf8_all u ++ t)) (sym (encodes-append v (chars r))) ∙ ap (λ t. front ++ t) (sym (encodes-append u (v ++ chars r)))
 
+pub bytes_more : (front a b u v : List ℕ) → a ≡ front ++ encode_utf8_all u → b ≡ a ++ encode_utf8_all v → b ≡ front ++ encode_utf8_all (u ++ v)
+bytes_more front a b u v e f = f ∙ ap (λ t. t ++ encode_utf8_all v) e ∙ append_assoc front (encode_utf8_all u) (encode_utf8_all v) ∙ ap (λ t. front ++ t) (sym (encodes-append u v))
+
 pub both_parts : (r u : List ℕ) → IsUtf8 r → r ++ encode_utf8_all u ≡ encode_utf8_all (chars r ++ u)
 both_parts r u k = ap (λ t. t ++ encode_utf8_all u) (sym (encodes-chars r k)) ∙ sym (encodes-append (chars r) u)
 
@@ -134,3 +139,9 @@ escape_unicode c b xs ys e h = rw (e, h) refl
 
 pub item_misfits : (first : Bool) (b xs ys : List ℕ) (n : ℕ) → name_escape b xs ≡ got n ys → fits_name first n ≡ false → item_of_name first b xs ≡ bad (Some ExpectedIdentifier) (here b)
 item_misfits first b xs ys n e h = ap (λ z. and_then (and_then z (fit (fits_name first) b)) one_char) e ∙ rw h refl
+
+-- ---- a text with an escape, and the run before it
+
+pub more_owned : {A : Type 0} (run : List ℕ) (whole next : Read (List ℕ × Bool)) (r : Result (String A × Bor (List ℕ)) Refusal) → whole ≡ put (chars run) true next → IsUtf8 run → AnswersMore run next r → AnswersOwned whole r
+more_owned run whole next (Ok p) e u m = record { spelled = chars run ++ m.spelled; escape_free = false; read = e ∙ ap (put (chars run) true) m.read; is_text = m.whole ∙ both_parts run m.spelled u; text = m.text }
+more_owned run whole next (Err r) e u m = refused_past r whole next (chars run) true e m

@@ -15,6 +15,7 @@ pub mod NumberWholes
 pub mod Scan
 pub mod TokenResults
 pub mod Escapes
+pub mod ShortEscapes
 pub mod Cows
 pub mod ByteBufs
 pub mod ByteRuns

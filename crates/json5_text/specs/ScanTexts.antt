@@ -1,7 +1,7 @@
 -- What private clauses say of strings and names.
 use Rattle.std.specs.Prelude.{◌≡◌, ◌≤◌, ℕ, zero, suc, Bool, true, false, cond, not, ◌&&◌, ◌==◌, List, [], ◌∷◌, ◌++◌, length, Some, Result, Ok, Err, ⊤}
 use denote.Ref.{Bor}
-use Rattle.std.specs.Str.{IsUtf8, chars}
+use Rattle.std.specs.Str.{IsUtf8, chars, encode_utf8_all}
 use Rattle.json5_grammar.specs.Language.Characters.{backslash, double_quote, single_quote, NotBegun, Each, is_identifier_start, is_identifier_part}
 use Rattle.json5_grammar.specs.declared.code.ErrorCode.{ErrorCode}
 use Rattle.json5_grammar.specs.declared.code.ErrorCode.TheVariants.{EofParsingIdentifier, EofParsingString, ExpectedString}
@@ -16,6 +16,8 @@ use Rattle.json5_text.specs.declared.texts.Kind.TheVariants as kind
 use Rattle.json5_text.specs.declared.texts.Stop.{Stop}
 use Rattle.json5_text.specs.declared.texts.Stop.TheVariants as stop
 use Rattle.json5_text.specs.declared.texts.Step.{Step}
+use Rattle.json5_text.specs.Outcome.{outcome}
+use Rattle.json5_text.specs.Refused.{Refuses}
 use Rattle.json5_text.specs.Scan.{AtEscape, in_list}
 use Rattle.json5_text.specs.TokenResults.{GivesValue, RefusesByCode, RefusesByFault}
 
@@ -140,3 +142,33 @@ pub record IsEscapeStep (k : Kind) (escape after : List ℕ) (step : Step) : Typ
 abbrev pub AnswersStep : Kind → List ℕ → List ℕ → Result Step Refusal → Type 0
 AnswersStep k escape after (Ok step) = IsEscapeStep k escape after step
 AnswersStep k escape after (Err e) = RefusesByFault e (text_at k (chars escape))
+
+-- ---- several steps
+
+-- u is spelled from the one place up to the other, where no character follows that spells itself
+pub record IsReadTo (k : Kind) (whole u rest : List ℕ) : Type 0 where
+  pub escape_free : Bool
+  pub read : text_at k (chars whole) ≡ put u escape_free (text_at k (chars rest))
+  pub stops : NotBegun (is_raw_in k) (chars whole) → NotBegun (is_raw_in k) (chars rest)
+  pub fewer : length (chars rest) ≤ length (chars whole)
+  pub text : IsUtf8 rest
+
+-- what is spelled up to there is added
+abbrev pub AddsUpTo : Kind → List ℕ → List ℕ → List ℕ → List ℕ → Type 0
+AddsUpTo k whole old new rest = (u : List ℕ) × IsReadTo k whole u rest × (new ≡ old ++ encode_utf8_all u)
+
+-- u is spelled from the escape in front up to the end of a run
+pub record IsStepped (k : Kind) (escape after u : List ℕ) (end : Stop) : Type 0 where
+  pub escape_free : Bool
+  pub goes_on : ReadsUpTo (text_at k (chars escape)) u escape_free end
+  pub left : left_in end ≤ length (chars after)
+
+-- where that run ends; or the fault
+abbrev pub PassesSteps : Kind → List ℕ → List ℕ → Result Stop Refusal → Type 0
+PassesSteps k escape after (Ok end) = (u : List ℕ) × IsStepped k escape after u end
+PassesSteps k escape after (Err e) = RefusesByFault e (text_at k (chars escape))
+
+-- where that run ends, and what is spelled up to there is added; or the fault
+abbrev pub AddsSteps : Kind → List ℕ → List ℕ → List ℕ → List ℕ → Result Stop Refusal → Type 0
+AddsSteps k escape after old new (Ok end) = (u : List ℕ) × IsStepped k escape after u end × (new ≡ old ++ encode_utf8_all u)
+AddsSteps k escape after old new (Err e) = Refuses e (outcome (text_at k (chars escape)))

@@ -1,6 +1,7 @@
 //! Escapes in strings and names (JSON5 section 5.1, ECMAScript 5.1 section 7.8.4).
 
-ghost use Rattle.std.specs.Prelude.{◌≡◌, ◌≤◌, ◌<◌, ◌^◌, [], ◌&&◌, true, false, Some, None, length, MatchOption, IfOk};
+ghost use Rattle.std.specs.Char.{digit_value};
+ghost use Rattle.std.specs.Prelude.{◌≡◌, ◌≤◌, ◌<◌, ◌^◌, ℕ, List, [], ◌&&◌, true, false, Some, None, length, MatchOption, IfOk, IfSome};
 ghost use Rattle.std.specs.Str.{chars};
 ghost use Rattle.json5_grammar.specs.Model.Reading.{and_then};
 ghost use Rattle.json5_grammar.specs.Language.Strings.{short_escape, is_high, is_low, pair_value};
@@ -8,8 +9,9 @@ ghost use Rattle.json5_grammar.specs.Model.ReadTexts.{hex, second, unicode_at, o
 ghost use Rattle.json5_text.specs.declared.refusal.Refusal.{Refusal};
 ghost use Rattle.json5_text.specs.TokenResults.{GivesValue, ReturnsReading, AnswersAs};
 ghost use Rattle.json5_text.specs.Scan.{in_list};
+ghost use Rattle.json5_text.specs.ShortEscapes.{spells_itself, SpellsAlone, SpellsUnicode, SpellsEscape};
 
-use crate::front::front;
+use crate::front::{front, front_ascii};
 use crate::refusal::Refusal;
 use crate::words::skip_word;
 use json5_grammar::code::ErrorCode;
@@ -166,4 +168,77 @@ fn hexadecimal<'t>(count: u32, escape: &str, text: &'t str) -> Result<(u32, &'t 
         rest = rest.split_at(1).1;
     }
     Ok((value, rest))
+}
+
+// ---- short ways
+
+/// The value of a hexadecimal digit, and 16 of any other byte.
+#[inline(always)]
+fn digit_of(byte: u8) -> u32
+    ensures { result < 16 → result ≡ digit_value byte }
+{
+    match byte {
+        b'0'..=b'9' => u32::from(byte - b'0'),
+        b'A'..=b'F' => u32::from(byte - b'A') + 10,
+        b'a'..=b'f' => u32::from(byte - b'a') + 10,
+        _ => 16,
+    }
+}
+
+/// The character whose code four hexadecimal digits in front spell, and what follows them; None if they are a surrogate, and if
+/// there are fewer.
+#[inline(always)]
+fn short_unicode(text: &str) -> Option<(char, &str)>
+    ensures { IfSome result (λ p. SpellsUnicode text.now p.0 p.1.now) }
+{
+    let bytes = text.as_bytes();
+    if bytes.len() < 4 {
+        return None;
+    }
+    let first = digit_of(bytes[0]);
+    let second = digit_of(bytes[1]);
+    let third = digit_of(bytes[2]);
+    let fourth = digit_of(bytes[3]);
+    if first > 15 || second > 15 || third > 15 || fourth > 15 {
+        return None;
+    }
+    let spelled = char::from_u32(first * 0x1000 + second * 0x100 + third * 0x10 + fourth)?;
+    Some((spelled, text.split_at(4).1))
+}
+
+/// Whether an escape of this character alone spells the character, and the character is an ASCII one.
+#[inline(always)]
+fn spells_itself(c: char) -> bool
+    ensures { result ≡ spells_itself c }
+{
+    c < '\u{80}' && !c.is_ascii_digit() && c != 'x' && c != 'u' && c != '\r' && c != '\n'
+}
+
+/// What an escape of this character alone spells; None if it spells nothing, or goes on.
+#[inline(always)]
+fn spelled_alone(c: char) -> Option<char>
+    ensures { IfSome result (SpellsAlone c) }
+{
+    if let Some(spelled) = short_escape(c) {
+        return Some(spelled);
+    }
+    if spells_itself(c) { Some(c) } else { None }
+}
+
+/// The character that a string's escape in front spells, and what follows the escape. Returns None at `\0`, `\x`, a surrogate, an
+/// escaped line end, a character past ASCII and a fault, and if no backslash is in front.
+#[inline(always)]
+pub(crate) fn front_escape(text: &str) -> Option<(char, &str)>
+    ensures { IfSome result (λ p. SpellsEscape text.now p.0 p.1.now) }
+{
+    let (sign, after) = front_ascii(text)?;
+    if sign != '\\' {
+        return None;
+    }
+    let (c, rest) = front_ascii(after)?;
+    if c == 'u' {
+        return short_unicode(rest);
+    }
+    let spelled = spelled_alone(c)?;
+    Some((spelled, rest))
 }

@@ -1,6 +1,7 @@
 //! The first character of a text, and what follows it.
 
-ghost use Rattle.json5_text.specs.Scan.{IsFront};
+ghost use Rattle.std.specs.Prelude.{IfSome};
+ghost use Rattle.json5_text.specs.Scan.{IsFront, StartsWith};
 
 /// The first character, and what follows it.
 pub(crate) fn front(text: &str) -> Option<(char, &str)>
@@ -23,4 +24,16 @@ fn front_decoded(text: &str) -> Option<(char, &str)>
     let mut rest = text.chars();
     let c = rest.next()?;
     Some((c, rest.as_str()))
+}
+
+/// The first character and what follows it, if it is an ASCII character.
+#[inline(always)]
+pub(crate) fn front_ascii(text: &str) -> Option<(char, &str)>
+    ensures { IfSome result (λ p. StartsWith text.now p.0 p.1.now) }
+{
+    let bytes = text.as_bytes();
+    if bytes.is_empty() || bytes[0] >= 128 {
+        return None;
+    }
+    Some((char::from(bytes[0]), text.split_at(1).1))
 }

@@ -8,6 +8,7 @@ ghost use Rattle.json5_text.specs.Scan.{InText, Leaves, LeavesAt};
 ghost use Rattle.json5_text.specs.TokenCalls.{PassesBlanks, TakesWord, TakesNumber, TakesOwned, TakesStringToken, TakesKey, PassesString, PassesName, PassesNumber};
 
 use crate::blanks::skip_blank;
+use crate::byte_runs::begins_solid;
 use crate::error::Result;
 use crate::front::front;
 use crate::input::Input;
@@ -145,6 +146,9 @@ impl<I: Input> Scanner<I> {
     pub fn skip_blank(&mut self) -> Result<()>
         ensures { PassesBlanks self.old self.new result }
     {
+        if begins_solid(self.rest(self.input.as_text()).as_bytes()) {
+            return Ok(());
+        }
         pass!(self, skip_blank(self.rest(self.input.as_text())))
     }
 

@@ -13,7 +13,7 @@ use crate::cow_str::CowStr;
 use crate::front::front;
 use crate::refusal::Refusal;
 use crate::text_token::TextToken;
-use crate::texts::{Kind, Quote, read_text, skip_text};
+use crate::texts::{Kind, Quote, read_text, read_text_owned, skip_text};
 use json5_grammar::code::ErrorCode;
 use std::alloc::Global;
 
@@ -33,11 +33,8 @@ pub(crate) fn read_string<'t>(
 pub(crate) fn read_string_owned(alloc: Global, text: &str) -> Result<(String, &str), Refusal>
     ensures { AnswersOwned (string_at (chars text.now)) result }
 {
-    let (text, rest) = read_string(alloc, text)?;
-    match text {
-        CowStr::Borrowed(text) => Ok((String::from_str(alloc, text)?, rest)),
-        CowStr::Owned(text) => Ok((text, rest)),
-    }
+    let (quote, body) = read_quote(text)?;
+    read_text_owned(alloc, Kind::String(quote), body)
 }
 
 /// The token of the string in front, and what follows the string. `end` is the length in bytes of the whole input, of which

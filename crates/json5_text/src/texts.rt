@@ -1,14 +1,14 @@
 //! Strings and names: runs of characters that spell themselves, and escapes (ECMAScript 5.1 sections 7.6 and 7.8.4).
 
-ghost use Rattle.std.specs.Prelude.{◌≡◌, ◌++◌, IfOk, OnOk, string_bytes};
+ghost use Rattle.std.specs.Prelude.{◌≡◌, ◌++◌, ℕ, List, IfOk, OnOk, string_bytes};
 ghost use Rattle.std.specs.Str.{chars, encode_utf8_all};
 ghost use Rattle.json5_grammar.specs.Language.Characters.{NotBegun};
-ghost use Rattle.json5_text.specs.TokenResults.{AnswersAs, AnswersCow, AnswersMore, Passes};
+ghost use Rattle.json5_text.specs.TokenResults.{AnswersAs, AnswersCow, AnswersMore, AnswersOwned, Passes};
 ghost use Rattle.json5_text.specs.Scan.{AtEscape, in_list};
-ghost use Rattle.json5_text.specs.ScanTexts.{quote_of, after_first_char, past, ends_early, text_at, item, is_raw_in, SkipsRaw, AnswersStop, AnswersRun, AnswersStep};
+ghost use Rattle.json5_text.specs.ScanTexts.{quote_of, after_first_char, past, ends_early, text_at, item, is_raw_in, SkipsRaw, AnswersStop, AnswersRun, AnswersStep, IsReadTo, AddsUpTo, PassesSteps, AddsSteps};
 
 use crate::cow_str::CowStr;
-use crate::escapes::read_escape;
+use crate::escapes::{front_escape, read_escape};
 use crate::front::front;
 use crate::names::{self, skip_parts, skip_start};
 use crate::refusal::Refusal;
@@ -117,6 +117,22 @@ pub(crate) fn read_text<'t>(
     }
 }
 
+/// An owned copy of what the string or name in front spells, and what follows it.
+#[inline(always)]
+pub(crate) fn read_text_owned(
+    alloc: Global,
+    kind: Kind,
+    text: &str,
+) -> Result<(String, &str), Refusal>
+    ensures { AnswersOwned (text_at kind (chars text.now)) result }
+{
+    let (run, stop) = read_run(kind, text)?;
+    match stop {
+        Stop::End(rest) => Ok((String::from_str(alloc, run)?, rest)),
+        Stop::Escape(kind, escape, after) => read_escaped(alloc, run, kind, escape, after),
+    }
+}
+
 /// What follows the string or name in front.
 #[inline(always)]
 pub(crate) fn skip_text(kind: Kind, text: &str) -> Result<&str, Refusal>
@@ -126,9 +142,39 @@ pub(crate) fn skip_text(kind: Kind, text: &str) -> Result<&str, Refusal>
     loop {
         match stop {
             Stop::End(rest) => return Ok(rest),
-            Stop::Escape(kind, escape, after) => stop = read_step(kind, escape, after)?.stop,
+            Stop::Escape(kind, escape, after) => stop = skip_steps(kind, escape, after)?,
         }
     }
+}
+
+/// What ends the run after the escape in front, or a later run.
+fn skip_steps<'t>(kind: Kind, escape: &'t str, after: &str) -> Result<Stop<'t>, Refusal>
+    requires { AtEscape escape.now after.now }
+    ensures { PassesSteps kind escape.now after.now result }
+{
+    let rest = skip_escapes(kind, escape);
+    match read_stop(kind, rest)? {
+        Stop::End(rest) => Ok(Stop::End(rest)),
+        Stop::Escape(kind, escape, after) => {
+            let step = read_step(kind, escape, after)?;
+            Ok(step.stop)
+        }
+    }
+}
+
+/// What follows the escapes in front that have a short way, and the runs after them. In a name no escape has one.
+#[inline(never)]
+fn skip_escapes(kind: Kind, escape: &str) -> &str
+    ensures { (u : List ℕ) × IsReadTo kind escape.now u result.now }
+{
+    let Kind::String(quote) = kind else {
+        return escape;
+    };
+    let mut rest = escape;
+    while let Some((_, body)) = front_escape(rest) {
+        rest = skip_raw(quote, body);
+    }
+    rest
 }
 
 /// The run in front with what the rest spells from the first escape on, and what follows the string or name.
@@ -148,13 +194,51 @@ fn read_escaped<'t>(
         match stop {
             Stop::End(rest) => return Ok((text, rest)),
             Stop::Escape(kind, escape, after) => {
-                let step = read_step(kind, escape, after)?;
-                push_spelled(&mut text, step.spelled)?;
-                text.push_str(step.run)?;
-                stop = step.stop;
+                stop = push_steps(&mut text, kind, escape, after)?;
             }
         }
     }
+}
+
+/// Adds what is spelled from the escape in front on, up to the end of the run after it or of a later run. Returns what ends that
+/// run.
+fn push_steps<'t>(
+    text: &mut String,
+    kind: Kind,
+    escape: &'t str,
+    after: &str,
+) -> Result<Stop<'t>, Refusal>
+    requires { AtEscape escape.now after.now }
+    ensures { AddsSteps kind escape.now after.now (string_bytes text.old) (string_bytes text.new) result }
+{
+    let rest = push_escapes(text, kind, escape)?;
+    match read_stop(kind, rest)? {
+        Stop::End(rest) => Ok(Stop::End(rest)),
+        Stop::Escape(kind, escape, after) => {
+            let step = read_step(kind, escape, after)?;
+            push_spelled(text, step.spelled)?;
+            text.push_str(step.run)?;
+            Ok(step.stop)
+        }
+    }
+}
+
+/// Adds what the escapes in front that have a short way and the runs after them spell, and returns what follows. In a name no
+/// escape has one.
+#[inline(never)]
+fn push_escapes<'t>(text: &mut String, kind: Kind, escape: &'t str) -> Result<&'t str, AllocError>
+    ensures { IfOk result (λ rest. AddsUpTo kind escape.now (string_bytes text.old) (string_bytes text.new) rest.now) }
+{
+    let Kind::String(quote) = kind else {
+        return Ok(escape);
+    };
+    let mut rest = escape;
+    while let Some((spelled, body)) = front_escape(rest) {
+        rest = skip_raw(quote, body);
+        text.push(spelled)?;
+        text.push_str(&body[..body.len() - rest.len()])?;
+    }
+    Ok(rest)
 }
 
 /// An owned copy of the run, with room for what follows it, so that a short string with an escape is allocated once.
@@ -177,6 +261,7 @@ fn push_spelled(text: &mut String, spelled: Option<char>) -> Result<(), AllocErr
 }
 
 /// The escape in front and the run after it.
+#[inline(never)]
 fn read_step<'t>(kind: Kind, escape: &str, after: &'t str) -> Result<Step<'t>, Refusal>
     requires { AtEscape escape.now after.now }
     ensures { AnswersStep kind escape.now after.now result }

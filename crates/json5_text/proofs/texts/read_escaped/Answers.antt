@@ -4,9 +4,8 @@ use Rattle.std.proofs.lemmas.List.{append-nil}
 use Rattle.std.proofs.lemmas.Result.{err_from_is_err_and}
 use Rattle.json5_grammar.specs.Model.Reading.{got}
 use Rattle.json5_grammar.proofs.StringsRead.{put_none}
-use Rattle.json5_text.specs.Scan.{in_list}
 use Rattle.json5_text.specs.ScanTexts.{text_at, ReadsUpTo, left_in}
-use Rattle.json5_text.proofs.ScanTexts.{goes_past, refused_past, bytes_past, never_escape_free}
+use Rattle.json5_text.proofs.ScanTexts.{goes_past, refused_past, bytes_more, never_escape_free}
 use Rattle.json5_text.proofs.texts.read_escaped.Goals as goal
 
 pub loop-stop-init : goal.loop-stop-init
@@ -19,17 +18,17 @@ returns-in-End c =
     let escape_free = never_escape_free c.args.kind _ _ at.0 _ at.1 c.requires end.read in
     record { spelled = at.0; read = end.read ∙ ap (λ p. got (at.0, p) (chars c.in-End.rest.now)) escape_free; whole = at.3; text = end.text }
 
-pub read_step-requires : goal.read_step-requires
-read_step-requires c =
+pub push_steps-requires : goal.push_steps-requires
+push_steps-requires c =
     let at = c.loop-stop.invariant in
     (subst (ReadsUpTo (text_at c.args.kind (chars c.args.escape.now)) at.0 at.1) c.in-Escape.is at.2).1
 
-pub returns-in_err-step-in-Escape : goal.returns-in_err-step-in-Escape
-returns-in_err-step-in-Escape c =
-    let p = err_from_is_err_and c.from_residual-in_err-step-in-Escape.result c.from_residual-in_err-step-in-Escape.ensures.1 in
+pub returns-in_err-stop-in-Escape : goal.returns-in_err-stop-in-Escape
+returns-in_err-stop-in-Escape c =
+    let p = err_from_is_err_and c.from_residual-in_err-stop-in-Escape.result c.from_residual-in_err-stop-in-Escape.ensures.1 in
     let at = c.loop-stop.invariant in
     let here = subst (ReadsUpTo (text_at c.args.kind (chars c.args.escape.now)) at.0 at.1) c.in-Escape.is at.2 in
-    rw (p.1, p.2) (refused_past c.in_err-step-in-Escape.field-0.0 _ _ at.0 at.1 here.0 c.in_err-step-in-Escape.ensures.refused)
+    rw (p.1, p.2) (refused_past c.in_err-stop-in-Escape.field-0.0 _ _ at.0 at.1 here.0 c.in_err-stop-in-Escape.ensures)
 
 pub loop-stop-smaller : goal.loop-stop-smaller
 loop-stop-smaller c =
@@ -37,18 +36,16 @@ loop-stop-smaller c =
     let here = subst (ReadsUpTo (text_at c.args.kind (chars c.args.escape.now)) at.0 at.1) c.in-Escape.is at.2 in
     let whole = ap left_in c.in-Escape.is in
     let first = ap length here.1 in
-    let left = c.in_ok-step-in-Escape.ensures.left in
+    let left = c.in_ok-stop-in-Escape.ensures.1.left in
     omega arith
 
 pub loop-stop-preserved : goal.loop-stop-preserved
 loop-stop-preserved c =
     let at = c.loop-stop.invariant in
     let here = subst (ReadsUpTo (text_at c.args.kind (chars c.args.escape.now)) at.0 at.1) c.in-Escape.is at.2 in
-    let step = c.in_ok-step-in-Escape.step in
-    let found = c.in_ok-step-in-Escape.ensures in
-    let spelled = in_list step.spelled ++ chars step.run.now in (
-      at.0 ++ spelled,
-      at.1 && false,
-      goes_past _ _ at.0 spelled at.1 false step.stop here.0 found.goes_on,
-      bytes_past c.args.run.now _ _ _ step.run.now at.0 (in_list step.spelled) at.3 c.in_ok-push_spelled-in-Escape.ensures c.in_ok-push_str-in-Escape.ensures.bytes found.text,
+    let more = c.in_ok-stop-in-Escape.ensures in (
+      at.0 ++ more.0,
+      at.1 && more.1.escape_free,
+      goes_past _ _ at.0 more.0 at.1 more.1.escape_free _ here.0 more.1.goes_on,
+      bytes_more c.args.run.now _ _ at.0 more.0 at.3 more.2,
     )

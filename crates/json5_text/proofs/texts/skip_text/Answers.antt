@@ -1,7 +1,6 @@
 use Rattle.std.proofs.Common.{◌++◌, true, false, ◌&&◌, ap, subst, length, arith}
 use Rattle.std.specs.Str.{chars}
 use Rattle.std.proofs.lemmas.Result.{err_from_is_err_and}
-use Rattle.json5_text.specs.Scan.{in_list}
 use Rattle.json5_text.specs.ScanTexts.{text_at, ReadsUpTo, left_in}
 use Rattle.json5_text.proofs.ScanTexts.{goes_past, refused_past}
 use Rattle.json5_text.proofs.texts.skip_text.Goals as goal
@@ -15,8 +14,8 @@ returns-in-End c =
     let end = subst (ReadsUpTo (text_at c.args.kind (chars c.args.text.now)) at.0 at.1) c.in-End.is at.2 in
     record { value = (at.0, at.1); read = end.read; text = end.text }
 
-pub read_step-requires : goal.read_step-requires
-read_step-requires c =
+pub skip_steps-requires : goal.skip_steps-requires
+skip_steps-requires c =
     let at = c.loop-stop.invariant in
     (subst (ReadsUpTo (text_at c.args.kind (chars c.args.text.now)) at.0 at.1) c.in-Escape.is at.2).1
 
@@ -34,14 +33,12 @@ loop-stop-smaller c =
     let here = subst (ReadsUpTo (text_at c.args.kind (chars c.args.text.now)) at.0 at.1) c.in-Escape.is at.2 in
     let whole = ap left_in c.in-Escape.is in
     let first = ap length here.1 in
-    let left = c.in_ok-stop-in-Escape.ensures.left in
+    let left = c.in_ok-stop-in-Escape.ensures.1.left in
     omega arith
 
 pub loop-stop-preserved : goal.loop-stop-preserved
 loop-stop-preserved c =
     let at = c.loop-stop.invariant in
     let here = subst (ReadsUpTo (text_at c.args.kind (chars c.args.text.now)) at.0 at.1) c.in-Escape.is at.2 in
-    let found = c.in_ok-stop-in-Escape.ensures in
-    let step = c.in_ok-stop-in-Escape.field-0 in
-    let spelled = in_list step.spelled ++ chars step.run.now in
-    (at.0 ++ spelled, at.1 && false, goes_past _ _ at.0 spelled at.1 false step.stop here.0 found.goes_on)
+    let more = c.in_ok-stop-in-Escape.ensures in
+    (at.0 ++ more.0, at.1 && more.1.escape_free, goes_past _ _ at.0 more.0 at.1 more.1.escape_free _ here.0 more.1.goes_on)
