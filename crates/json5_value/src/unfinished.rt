@@ -8,7 +8,7 @@ ghost use Rattle.json5_value.specs.Steps.{IsInside};
 use crate::brackets::BracketKind;
 use crate::entries::{skip_name, skip_to_value};
 use crate::faults::with_position_at;
-use crate::short_members::{ShortMembers, reserve_first, short_members};
+use crate::short_members::{ShortMembers, add_entry, short_members};
 use crate::short_values::{ShortElements, short_elements};
 use crate::short_ways::NameLeft;
 use crate::tokens::{next_member_key, own_text};
@@ -185,7 +185,9 @@ pub(crate) fn attach_value<I: Input>(
             start,
             mut elements,
         } => {
-            elements.push(value)?;
+            if !add_entry(&mut elements, value) {
+                return Err(Error::new(ErrorCode::OutOfMemory));
+            }
             resume_array(scanner, stack, start, elements, true)
         }
         Unfinished::Object {
@@ -193,10 +195,9 @@ pub(crate) fn attach_value<I: Input>(
             mut members,
             key,
         } => {
-            if !reserve_first(&mut members) {
+            if !add_entry(&mut members, (key, value)) {
                 return Err(Error::new(ErrorCode::OutOfMemory));
             }
-            members.push((key, value))?;
             resume_object(scanner, stack, start, members, true)
         }
     }
