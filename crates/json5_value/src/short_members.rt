@@ -1,7 +1,7 @@
 //! Short ways: the members of an object that are read at once where no fault can come. They return small values, so that the
 //! frame of a loop over them holds no fault. Where they stop, the longer ways say what is there.
 
-ghost use Rattle.std.specs.Prelude.{◌≡◌, [], ◌∷◌, ◌++◌, IsTrue};
+ghost use Rattle.std.specs.Prelude.{◌≡◌, ◌<◌, [], ◌∷◌, ◌++◌, IsTrue, vec_len, vec_capacity};
 ghost use Rattle.json5_value.specs.ShortMembers.{AddsMember, EntersMember, TakesMembers};
 ghost use Rattle.json5_value.specs.Steps.{IsInside};
 
@@ -61,16 +61,32 @@ fn short_member<I: Input>(scanner: &mut Scanner<I>, comma_due: bool) -> ShortMem
     ShortMember::Named { key, left }
 }
 
-/// Adds an entry, and says whether there was memory for it. The first one gets room for itself alone, so that an array or an object of
-/// one entry takes the memory of one; with more entries it grows as `push` lets it.
+/// Makes room for one more entry, and says whether there was memory for it. The first gets room for itself alone, so that an array or
+/// an object of one entry takes the memory of one; with more entries it grows as `push` lets it.
+#[inline(always)]
+fn make_room<T>(entries: &mut Vec<T>) -> bool
+    ensures items { entries.new.items ≡ entries.old.items }
+    ensures room { IsTrue result → vec_len entries.new < vec_capacity entries.new }
+{
+    if entries.len() < entries.capacity() {
+        return true;
+    }
+    if entries.is_empty() {
+        return entries.reserve_exact(1).is_ok();
+    }
+    entries.reserve(1).is_ok()
+}
+
+/// Adds an entry, and says whether there was memory for it.
 #[inline(always)]
 pub(crate) fn add_entry<T: Drop>(entries: &mut Vec<T>, entry: T) -> bool
     ensures { IsTrue result → entries.new.items ≡ entries.old.items ++ entry ∷ [] }
 {
-    if entries.is_empty() && entries.reserve_exact(1).is_err() {
+    if !make_room(entries) {
         return false;
     }
-    entries.push(entry).is_ok()
+    entries.push_reserved(entry);
+    true
 }
 
 /// Adds a member whose key has the text at the span, and says whether there was memory for it.
