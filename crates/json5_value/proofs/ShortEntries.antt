@@ -1,9 +1,8 @@
 -- The short ways to entries and past values take what reading on lists takes.
 use Rattle.std.proofs.Common.{◌≡◌, ℕ, Bool, true, false, List, [], ◌∷◌, ◌++◌, length, refl, ap, sym, ◌∙◌, subst, append_assoc, arith, length-append, inl, inr, Option, Some, None, String, string_bytes}
-use Rattle.std.specs.Prelude.{◌==◌, Ok, Result, Err, is_some, not}
+use Rattle.std.specs.Prelude.{◌==◌, Ok, is_some, not}
 use Rattle.std.specs.declared.alloc.Global.{Global}
-use Rattle.std.specs.Str.{all_scalars, chars}
-use Rattle.std.proofs.lemmas.Str.{chars-encodes}
+use Rattle.std.specs.Str.{all_scalars}
 use Rattle.std.proofs.lemmas.Bool.{both_ways}
 use Rattle.json5_grammar.specs.Language.Blanks as blanks
 use Rattle.json5_grammar.specs.Language.Blanks.{is_solid, Gap, Solid}
@@ -34,7 +33,6 @@ use Rattle.json5_text.specs.NumberViews.{whole_in}
 use Rattle.json5_text.specs.ValueViews.{value_of}
 use Rattle.json5_text.specs.ValueViews as datum
 use Rattle.json5_text.specs.Cursor.{Cursor, Took}
-use Rattle.json5_text.specs.declared.error.Error.{Error}
 use Rattle.json5_text.specs.declared.short_ways.ShortStep.{ShortStep}
 use Rattle.json5_text.specs.declared.short_ways.ShortStep.TheVariants as steps
 use Rattle.json5_text.specs.declared.short_texts.Span.{Span}
@@ -43,8 +41,6 @@ use Rattle.json5_text.specs.ShortNumbers.{TakesShortNumber}
 use Rattle.json5_text.specs.ShortWords.{TakesShortWord}
 use Rattle.json5_text.specs.ShortTexts.{TakesShortKey, TakesShortString, IsTextAt}
 use Rattle.json5_text.specs.TextTokens.{IsSliceAt}
-use Rattle.json5_text.specs.Errors.{LacksMemory}
-use Rattle.json5_text.proofs.TextScalars.{key_scalars}
 use Rattle.json5_value.specs.declared.brackets.Brackets.{Brackets}
 use Rattle.json5_value.specs.declared.brackets.BracketKind.{BracketKind as OwnKind}
 use Rattle.json5_value.specs.declared.brackets.BracketKind.TheVariants as kind
@@ -57,18 +53,17 @@ use Rattle.json5_value.specs.declared.short_ways.ShortEntry.TheVariants as entry
 use Rattle.json5_value.specs.Brackets.{bracket_of, brackets_of}
 use Rattle.json5_value.specs.Entries.{entry_front, entry_start, next_entry}
 use Rattle.json5_value.specs.Kinds.{kind_at, word_of}
-use Rattle.json5_value.specs.Keeping.{Keeps, IsOfTree, IsKeyText, OwnsText, tree_at}
+use Rattle.json5_value.specs.Keeping.{Keeps, IsOfTree, tree_at}
 use Rattle.json5_value.specs.Opening.{AtScalar, AtKind}
 use Rattle.json5_value.specs.ShortWays.{EntersShort, ReachesMember, PassesShort, PassesTo, name_at, name_left}
-use Rattle.json5_value.specs.Steps.{IsInside, Gave, Steps}
+use Rattle.json5_value.specs.Steps.{Gave}
 use Rattle.json5_value.proofs.BuildScalars.{scalar_taken, text_taken}
-use Rattle.json5_value.proofs.BuildSteps.{takes, not_taken, gave_text}
 use Rattle.json5_value.proofs.EntrySteps.{separator_is, front_closes, front_goes, closes_here, start_or_end}
 use Rattle.json5_value.proofs.EntryValues.{next_is, head_or_end, head_of, head_named, next_closed, element_reached}
 use Rattle.json5_value.proofs.Scalars.{literal_value, number_value, tests_of}
 use Rattle.json5_value.proofs.Shorter.{entry_shorter}
 use Rattle.json5_value.proofs.Signs.{closing_is}
-use Rattle.json5_value.proofs.Steps.{some_next, took_both, took_nothing, same_step, then_step}
+use Rattle.json5_value.proofs.Steps.{some_next, took_both, took_nothing}
 
 -- ---- a step on lists
 
@@ -148,13 +143,6 @@ nothing_left old mid new steps.Member colon other s = blanks_passed false old mi
 nothing_left old mid new steps.Closing colon other s = blanks_passed true old mid new colon s
 nothing_left old mid new steps.Other colon other s = absurd (other refl)
 
--- what is left is passed over by a longer way
-pub rest_passed : (reading : Read (Unit {0})) (left : NameLeft) (old mid new : Cursor) (result : Result (Unit {0}) Error) → PassesTo reading left old mid → Steps (name_left left mid.unread) mid new result → Steps reading old new result
-rest_passed reading left old mid new result p s =
-    let passed : Gave {A = Unit {0}} (got tt mid.unread) tt old mid = record { reads = refl; taken = p.taken; took = p.took } in
-    same_step old new reading (name_left left mid.unread) result p.reads
-    (then_step {A = Unit {0}} {B = Unit {0}} old mid new (got tt mid.unread) tt (λ u y. name_left left y) result passed s)
-
 -- no blanks stand before a key
 pub key_spelled : (x u r : List ℕ) → Solid x → (k : ReadsKey x u true r) → x ≡ k.spelling ++ r
 key_spelled x u r solid k = (one_gap k.front (k.spelling ++ r) [] x (blanks.Gap.blanks k.blank) (key_solid r (key_head k.key)) (blanks.Gap.blanks blanks.Blanks.empty) solid (sym k.split)).1
@@ -213,22 +201,6 @@ closing_gave k b comma_due old mid new ate e s taken kept =
 pub entry_closed : (k : OwnKind) (b : Brackets) (comma_due : Bool) (old mid new : Cursor) (ate : Bool) → b ≡ brackets_of k → Stepped b.closing comma_due true old mid
     → (ate ≡ true → Took mid (b.closing ∷ []) new) → (ate ≡ false → (new ≡ mid) × NotBegun (λ d. d == b.closing) mid.unread) → EntersShort k comma_due old new entry.Closed
 entry_closed k b comma_due old mid new ate e s taken kept = (next_closed (bracket_of k) comma_due false old new refl (closing_gave k b comma_due old mid new ate e s taken kept)).given
-
--- ---- entries, by the way that may refuse
-
-pub entry_step : (k : OwnKind) (b : Brackets) (comma_due : Bool) (old new : Cursor) → b ≡ brackets_of k → Stepped b.closing comma_due false old new → Steps (next_entry (bracket_of k) comma_due old.unread) old new (Ok true)
-entry_step k b comma_due old new e s = record { given = entry_gave k b comma_due old new e s; refused = tt; same_text = tt }
-
-pub closing_step : (k : OwnKind) (b : Brackets) (comma_due : Bool) (old mid new : Cursor) (ate : Bool) → b ≡ brackets_of k → Stepped b.closing comma_due true old mid
-    → (ate ≡ true → Took mid (b.closing ∷ []) new) → (ate ≡ false → (new ≡ mid) × NotBegun (λ d. d == b.closing) mid.unread) → Steps (next_entry (bracket_of k) comma_due old.unread) old new (Ok false)
-closing_step k b comma_due old mid new ate e s taken kept = record { given = closing_gave k b comma_due old mid new ate e s taken kept; refused = tt; same_text = tt }
-
--- nothing was taken before the longer way
-pub inside_here : (old mid : Cursor) → mid ≡ old → IsInside old → IsInside mid
-inside_here old mid same r = subst (λ (s : Cursor). IsInside s) (sym same) r
-
-pub same_front : {A : Type 0} (reading : List ℕ → Read A) (old mid new : Cursor) (result : Result A Error) → mid ≡ old → Steps (reading mid.unread) mid new result → Steps (reading old.unread) old new result
-same_front reading old mid new result same k = subst (λ (s : Cursor). Steps (reading s.unread) s new result) same k
 
 -- ---- strings
 
@@ -290,21 +262,6 @@ string_kept room old new span t at scalars k is =
     let split = string_split old new at.char (kind_at at.char) span at.scalar refl at.is k in
     text_taken room old new t scalars (k.read.phrase, k.spelled, true, record { split = split; same = k.same }, str_of k.read.value, is k.spelled (subst (λ z. IsSliceAt z k.spelled span.start span.end) (sym k.same) k.stands))
 
--- memory ran out for the text
-pub string_lost : (room : ℕ) (old new : Cursor) (span : Span) (e : Error) → TakesShortString old new (Some span) → LacksMemory e → Keeps IsOfTree (tree_at room old) old new (Err e)
-string_lost room old new span e k lacks = not_taken old new (tree_at room old) e (inl lacks.kind) k.same
-
-pub short_key_kept : (old new : Cursor) (span : Span) (result : Result (String Global) Error) → Solid old.unread → all_scalars old.unread ≡ true → TakesShortKey old new (Some span) → OwnsText new.input span result → Keeps IsKeyText (key old.unread) old new result
-short_key_kept old new span (Ok t) solid scalars k is =
-    let split = key_spelled old.unread k.spelled new.unread solid k.read in
-    takes old new (key old.unread) (k.spelled, true) t
-    (ap chars (is k.spelled (subst (λ z. IsSliceAt z k.spelled span.start span.end) (sym k.same) k.stands)) ∙ chars-encodes k.spelled (key_scalars old.unread new.unread split scalars k.read.key))
-    (gave_text old new (key old.unread) (k.spelled, true) k.read.spelling (ap key split ∙ key_complete k.read.key) (record { split = split; same = k.same }))
-short_key_kept old new span (Err e) solid scalars k lacks = not_taken old new (key old.unread) e (inl lacks.kind) k.same
-
-pub key_front : (old mid new : Cursor) (result : Result (String Global) Error) → mid ≡ old → Keeps IsKeyText (key mid.unread) mid new result → Keeps IsKeyText (key old.unread) old new result
-key_front old mid new result same k = subst (λ (s : Cursor). Keeps IsKeyText (key s.unread) s new result) same k
-
 -- ---- numbers, which are kept
 
 pub number_kept : (room : ℕ) (old new : Cursor) (n : Number) (v : Value) → AtKind kinds.Number old → TookNumber old new n → value_of v ≡ datum.number n → Keeps IsOfTree (tree_at room old) old new (Ok v)
@@ -312,6 +269,3 @@ number_kept room old new n v at k is = scalar_taken room old new k.literal (tree
 
 pub kind_front : (k : ValueKind) (old mid : Cursor) → mid ≡ old → AtKind k old → AtKind k mid
 kind_front k old mid same at = subst (AtKind k) (sym same) at
-
-pub kept_front : (room : ℕ) (old mid new : Cursor) (result : Result Value Error) → mid ≡ old → Keeps IsOfTree (tree_at room mid) mid new result → Keeps IsOfTree (tree_at room old) old new result
-kept_front room old mid new result same k = subst (λ (s : Cursor). Keeps IsOfTree (tree_at room s) s new result) same k

@@ -28,7 +28,7 @@ use Rattle.json5_value.specs.BuildSteps.{members_before, object_with, object_at}
 use Rattle.json5_value.specs.Entries.{next_entry}
 use Rattle.json5_value.specs.Keeping.{datum_at, next_key}
 use Rattle.json5_value.specs.ShortWays.{PassesTo, name_left}
-use Rattle.json5_value.specs.ShortMembers.{NamesMember, ReachesKey, TakesMembers, member_left}
+use Rattle.json5_value.specs.ShortMembers.{AddsMember, NamesMember, ReachesKey, TakesMembers, member_left}
 use Rattle.json5_value.specs.ShortValues.{LeavesLess}
 use Rattle.json5_value.specs.Steps.{IsInside, SameText, Gave}
 use Rattle.json5_value.proofs.BuildKeys.{key_and_colon, key_or_end, next_is, key_shorter, next_solid}
@@ -82,6 +82,11 @@ brace_taken comma_due ate old mid new s taken kept =
 
 pub named_ready : (comma_due : Bool) (old new : Cursor) (span : Span) (left : NameLeft) → IsInside old → NamesMember comma_due span left old new → IsInside new
 named_ready comma_due old new span left ready k = ready_after old new k.taken ready k.took
+
+-- a member was added, or memory ran out
+pub member_added : (input : List ℕ) (span : Span) (v : Value) (before after : List (String Global × Value)) (text : String Global) (b : Bool) → IsTextAt input span (string_bytes text) → (b ≡ true → after ≡ before ++ (text, v) ∷ []) → AddsMember input span v before after b
+member_added input span v before after text true is grown = (text, is, grown refl)
+member_added input span v before after text false is grown = tt
 
 -- ---- members
 

@@ -9,12 +9,11 @@ ghost use Rattle.json5_value.specs.Steps.{IsInside, Steps};
 
 use crate::brackets::BracketKind;
 use crate::faults::unexpected_here;
-use crate::short_ways::{NameLeft, short_colon};
+use crate::short_ways::NameLeft;
 use json5_text::ErrorCode;
 use json5_text::error::{Error, Result};
 use json5_text::input::Input;
 use json5_text::scanner::Scanner;
-use json5_text::short_ways::ShortStep;
 use json5_text::strings::is_quote;
 
 /// Passes over a key.
@@ -32,19 +31,7 @@ fn skip_key<I: Input>(scanner: &mut Scanner<I>) -> Result<()>
 }
 
 /// Passes over blanks, a colon and blanks.
-#[inline(always)]
 pub(crate) fn skip_colon<I: Input>(scanner: &mut Scanner<I>) -> Result<()>
-    requires { IsInside scanner.old }
-    ensures { Steps (colon_after scanner.old.unread) scanner.old scanner.new result }
-{
-    match short_colon(scanner) {
-        NameLeft::Nothing => Ok(()),
-        left => skip_name(scanner, left),
-    }
-}
-
-/// The same, whatever is around the colon.
-fn skip_colon_slowly<I: Input>(scanner: &mut Scanner<I>) -> Result<()>
     requires { IsInside scanner.old }
     ensures { Steps (colon_after scanner.old.unread) scanner.old scanner.new result }
 {
@@ -68,9 +55,9 @@ pub(crate) fn skip_name<I: Input>(scanner: &mut Scanner<I>, left: NameLeft) -> R
     match left {
         NameLeft::Key => {
             skip_key(scanner)?;
-            skip_colon_slowly(scanner)
+            skip_colon(scanner)
         }
-        NameLeft::Colon => skip_colon_slowly(scanner),
+        NameLeft::Colon => skip_colon(scanner),
         NameLeft::Blanks => scanner.skip_blank(),
         NameLeft::Nothing => Ok(()),
     }
@@ -101,27 +88,6 @@ fn skip_comma<I: Input>(
 
 /// Goes to the next entry, after a comma if one is due, and returns true; or passes over the closing bracket and returns false.
 pub(crate) fn skip_to_entry<I: Input>(
-    scanner: &mut Scanner<I>,
-    kind: BracketKind,
-    comma_due: bool,
-) -> Result<bool>
-    requires { IsInside scanner.old }
-    ensures { Steps (next_entry (bracket_of kind) comma_due scanner.old.unread) scanner.old scanner.new result }
-{
-    let closing = kind.brackets().closing;
-    match scanner.short_step(closing as u8, comma_due) {
-        ShortStep::Member => Ok(true),
-        ShortStep::Closing => {
-            let _ = scanner.eat(closing);
-            Ok(false)
-        }
-        ShortStep::Other => skip_to_entry_slowly(scanner, kind, comma_due),
-    }
-}
-
-/// The same as `skip_to_entry`, whatever comes before the entry.
-#[inline(never)]
-fn skip_to_entry_slowly<I: Input>(
     scanner: &mut Scanner<I>,
     kind: BracketKind,
     comma_due: bool,

@@ -1,7 +1,7 @@
 //! Short ways: the members of an object that are read at once where no fault can come. They return small values, so that the
 //! frame of a loop over them holds no fault. Where they stop, the longer ways say what is there.
 
-ghost use Rattle.std.specs.Prelude.{◌≡◌};
+ghost use Rattle.std.specs.Prelude.{◌≡◌, ◌<◌, [], ◌∷◌, ◌++◌, IsTrue, vec_len, vec_capacity};
 ghost use Rattle.json5_value.specs.ShortMembers.{AddsMember, EntersMember, TakesMembers};
 ghost use Rattle.json5_value.specs.Steps.{IsInside};
 
@@ -61,13 +61,32 @@ fn short_member<I: Input>(scanner: &mut Scanner<I>, comma_due: bool) -> ShortMem
     ShortMember::Named { key, left }
 }
 
-/// Makes room for the first member alone, so that an object of one member takes the memory of one; says whether there is room for
-/// a first. An object of more members grows as `push` lets it.
+/// Makes room for one more entry, and says whether there was memory for it. The first gets room for itself alone, so that an array or
+/// an object of one entry takes the memory of one; with more entries it grows as `push` lets it.
 #[inline(always)]
-pub(crate) fn reserve_first(members: &mut Vec<(String, Value)>) -> bool
-    ensures { members.new.items ≡ members.old.items }
+fn make_room<T>(entries: &mut Vec<T>) -> bool
+    ensures items { entries.new.items ≡ entries.old.items }
+    ensures room { IsTrue result → vec_len entries.new < vec_capacity entries.new }
 {
-    !members.is_empty() || members.reserve_exact(1).is_ok()
+    if entries.len() < entries.capacity() {
+        return true;
+    }
+    if entries.is_empty() {
+        return entries.reserve_exact(1).is_ok();
+    }
+    entries.reserve(1).is_ok()
+}
+
+/// Adds an entry, and says whether there was memory for it.
+#[inline(always)]
+pub(crate) fn add_entry<T: Drop>(entries: &mut Vec<T>, entry: T) -> bool
+    ensures { IsTrue result → entries.new.items ≡ entries.old.items ++ entry ∷ [] }
+{
+    if !make_room(entries) {
+        return false;
+    }
+    entries.push_reserved(entry);
+    true
 }
 
 /// Adds a member whose key has the text at the span, and says whether there was memory for it.
@@ -83,13 +102,7 @@ fn add_member<I: Input>(
     let Ok(key) = String::from_str(scanner.allocator(), scanner.text_of_span(key)) else {
         return false;
     };
-    if !reserve_first(members) {
-        return false;
-    }
-    if members.push((key, value)).is_err() {
-        return false;
-    }
-    true
+    add_entry(members, (key, value))
 }
 
 /// Takes the members of an object that follow these, after a comma if one is due, as far as they have short ways.

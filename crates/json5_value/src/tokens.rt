@@ -1,21 +1,18 @@
 //! Keys and values of one token, which are kept.
 
 ghost use Rattle.std.specs.Prelude.{◌≡◌};
-ghost use Rattle.json5_grammar.specs.Language.Blanks.{Solid};
 ghost use Rattle.json5_grammar.specs.Model.ReadTexts.{key};
 ghost use Rattle.json5_text.specs.NumberViews.{number_of};
 ghost use Rattle.json5_text.specs.ValueViews as datum;
 ghost use Rattle.json5_text.specs.ValueViews.{value_of};
 ghost use Rattle.json5_value.specs.Keeping.{Keeps, OwnsKey, OwnsText, IsKeyText, IsNextKey, ReadsScalar, datum_of_literal, next_key};
-ghost use Rattle.json5_value.specs.declared.kinds.ValueKind.TheVariants as kind;
-ghost use Rattle.json5_value.specs.Opening.{AtScalar, AtKind};
+ghost use Rattle.json5_value.specs.Opening.{AtScalar};
 ghost use Rattle.json5_value.specs.Steps.{IsInside};
 
 use crate::brackets::BracketKind;
 use crate::entries::{skip_colon, skip_to_entry};
 use crate::faults::fault_here;
 use crate::kinds::{Literal, ValueKind, kind_at, skip_literal};
-use crate::short_ways::short_literal;
 use json5_text::ErrorCode;
 use json5_text::error::{Error, Result};
 use json5_text::input::Input;
@@ -24,7 +21,6 @@ use json5_text::scanner::Scanner;
 use json5_text::short_texts::Span;
 use json5_text::text_token::TextToken;
 use json5_text::value::Value;
-use json5_text::whole::Whole;
 
 /// Returns the text of a key that the scanner took, as a `String`.
 ///
@@ -49,24 +45,8 @@ pub(crate) fn own_text<I: Input>(scanner: &Scanner<I>, span: Span) -> Result<Str
     Ok(text)
 }
 
-/// Takes the key in front, and returns a copy of its text.
-#[inline(always)]
+/// Takes the key in front, whatever it is, and returns a copy of its text.
 fn read_key<I: Input>(scanner: &mut Scanner<I>) -> Result<String>
-    requires ready { IsInside scanner.old }
-    requires solid { Solid scanner.old.unread }
-    ensures { Keeps IsKeyText (key scanner.old.unread) scanner.old scanner.new result }
-{
-    // Goals below need what `offset` promises: what is unread is the end of the input.
-    let _offset = scanner.offset();
-    match scanner.short_key() {
-        Some(span) => own_text(scanner, span),
-        None => read_key_slowly(scanner),
-    }
-}
-
-/// The same, whatever the key is.
-#[inline(never)]
-fn read_key_slowly<I: Input>(scanner: &mut Scanner<I>) -> Result<String>
     requires { IsInside scanner.old }
     ensures { Keeps IsKeyText (key scanner.old.unread) scanner.old scanner.new result }
 {
@@ -117,89 +97,27 @@ fn value_of_number(number: Number) -> Value
     }
 }
 
-/// Takes the literal.
-#[inline(always)]
-fn read_literal<I: Input>(scanner: &mut Scanner<I>, literal: Literal) -> Result<Value>
-    requires { AtKind (kind.Literal literal) scanner.old }
-    ensures { ReadsScalar scanner.old scanner.new result }
-{
-    if short_literal(scanner, literal) {
-        return Ok(value_of_literal(literal));
-    }
-    read_literal_slowly(scanner, literal)
-}
-
-/// The same, whether or not it is whole.
+/// Takes a value that is no collection and begins with the character, whether or not it has a short way.
 #[inline(never)]
-fn read_literal_slowly<I: Input>(scanner: &mut Scanner<I>, literal: Literal) -> Result<Value>
-    requires { AtKind (kind.Literal literal) scanner.old }
-    ensures { ReadsScalar scanner.old scanner.new result }
-{
-    skip_literal(scanner, literal)?;
-    Ok(value_of_literal(literal))
-}
-
-/// Takes a string.
-fn read_string<I: Input>(scanner: &mut Scanner<I>) -> Result<Value>
-    requires { AtKind kind.String scanner.old }
-    ensures { ReadsScalar scanner.old scanner.new result }
-{
-    // Goals below need what `offset` promises: what is unread is the end of the input.
-    let _offset = scanner.offset();
-    match scanner.short_string() {
-        Some(span) => {
-            let text = own_text(scanner, span)?;
-            Ok(Value::String(text))
-        }
-        None => read_string_slowly(scanner),
-    }
-}
-
-/// The same, whatever the string holds.
-#[inline(never)]
-fn read_string_slowly<I: Input>(scanner: &mut Scanner<I>) -> Result<Value>
-    requires { AtKind kind.String scanner.old }
-    ensures { ReadsScalar scanner.old scanner.new result }
-{
-    // Goals below need what `offset` promises: what is unread is the end of the input.
-    let _offset = scanner.offset();
-    let text = scanner.string_owned()?;
-    Ok(Value::String(text))
-}
-
-/// Takes a number.
-fn read_number<I: Input>(scanner: &mut Scanner<I>) -> Result<Value>
-    requires { AtKind kind.Number scanner.old }
-    ensures { ReadsScalar scanner.old scanner.new result }
-{
-    if let Some(number) = scanner.short_whole(i128::MIN, i128::MAX) {
-        return Ok(value_of_number(Number::Whole(Whole::from_i128(number))));
-    }
-    match scanner.short_decimal() {
-        Some(decimal) => Ok(value_of_number(Number::Decimal(decimal))),
-        None => read_number_slowly(scanner),
-    }
-}
-
-/// The same, whatever the number is.
-#[inline(never)]
-fn read_number_slowly<I: Input>(scanner: &mut Scanner<I>) -> Result<Value>
-    requires { AtKind kind.Number scanner.old }
-    ensures { ReadsScalar scanner.old scanner.new result }
-{
-    let number = scanner.number()?;
-    Ok(value_of_number(number))
-}
-
-/// Takes a value that is no collection and begins with the character.
 pub(crate) fn read_scalar<I: Input>(scanner: &mut Scanner<I>, c: char) -> Result<Value>
     requires { AtScalar c scanner.old }
     ensures { ReadsScalar scanner.old scanner.new result }
 {
+    // Goals below need what `offset` promises: what is unread is the end of the input.
+    let _offset = scanner.offset();
     match kind_at(c) {
-        ValueKind::Literal(literal) => read_literal(scanner, literal),
-        ValueKind::String => read_string(scanner),
-        ValueKind::Number => read_number(scanner),
+        ValueKind::Literal(literal) => {
+            skip_literal(scanner, literal)?;
+            Ok(value_of_literal(literal))
+        }
+        ValueKind::String => {
+            let text = scanner.string_owned()?;
+            Ok(Value::String(text))
+        }
+        ValueKind::Number => {
+            let number = scanner.number()?;
+            Ok(value_of_number(number))
+        }
         ValueKind::Other => Err(fault_here(scanner, ErrorCode::ExpectedValue)),
     }
 }

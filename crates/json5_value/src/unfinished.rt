@@ -8,7 +8,7 @@ ghost use Rattle.json5_value.specs.Steps.{IsInside};
 use crate::brackets::BracketKind;
 use crate::entries::{skip_name, skip_to_value};
 use crate::faults::with_position_at;
-use crate::short_members::{ShortMembers, reserve_first, short_members};
+use crate::short_members::{ShortMembers, add_entry, short_members};
 use crate::short_values::{ShortElements, short_elements};
 use crate::short_ways::NameLeft;
 use crate::tokens::{next_member_key, own_text};
@@ -62,7 +62,9 @@ pub(crate) fn resume_array<I: Input>(
     let mut elements = elements;
     match short_elements(scanner, &mut elements, comma_due) {
         ShortElements::Value => {
-            stack.push(Unfinished::Array { start, elements })?;
+            if !add_entry(stack, Unfinished::Array { start, elements }) {
+                return Err(Error::new(ErrorCode::OutOfMemory));
+            }
             Ok(None)
         }
         ShortElements::Closed => Ok(Some(Value::Array(elements))),
@@ -87,7 +89,9 @@ fn resume_array_slowly<I: Input>(
 {
     match skip_to_value(scanner, BracketKind::Array, comma_due) {
         Ok(true) => {
-            stack.push(Unfinished::Array { start, elements })?;
+            if !add_entry(stack, Unfinished::Array { start, elements }) {
+                return Err(Error::new(ErrorCode::OutOfMemory));
+            }
             Ok(None)
         }
         Ok(false) => Ok(Some(Value::Array(elements))),
@@ -134,11 +138,14 @@ fn resume_object_slowly<I: Input>(
 {
     match next_member_key(scanner, comma_due) {
         Ok(Some(key)) => {
-            stack.push(Unfinished::Object {
+            let object = Unfinished::Object {
                 start,
                 members,
                 key,
-            })?;
+            };
+            if !add_entry(stack, object) {
+                return Err(Error::new(ErrorCode::OutOfMemory));
+            }
             Ok(None)
         }
         Ok(None) => Ok(Some(Value::Object(members))),
@@ -162,11 +169,14 @@ fn enter_member<I: Input>(
     if let Err(e) = skip_name(scanner, left) {
         return Err(with_position_at(scanner, start, e));
     }
-    stack.push(Unfinished::Object {
+    let object = Unfinished::Object {
         start,
         members,
         key,
-    })?;
+    };
+    if !add_entry(stack, object) {
+        return Err(Error::new(ErrorCode::OutOfMemory));
+    }
     Ok(None)
 }
 
@@ -185,7 +195,9 @@ pub(crate) fn attach_value<I: Input>(
             start,
             mut elements,
         } => {
-            elements.push(value)?;
+            if !add_entry(&mut elements, value) {
+                return Err(Error::new(ErrorCode::OutOfMemory));
+            }
             resume_array(scanner, stack, start, elements, true)
         }
         Unfinished::Object {
@@ -193,10 +205,9 @@ pub(crate) fn attach_value<I: Input>(
             mut members,
             key,
         } => {
-            if !reserve_first(&mut members) {
+            if !add_entry(&mut members, (key, value)) {
                 return Err(Error::new(ErrorCode::OutOfMemory));
             }
-            members.push((key, value))?;
             resume_object(scanner, stack, start, members, true)
         }
     }

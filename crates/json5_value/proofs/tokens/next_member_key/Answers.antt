@@ -1,5 +1,5 @@
 use Rattle.std.proofs.lemmas.Result.{err_from_is_err_and}
-use Rattle.json5_value.proofs.BuildKeys.{entry_refused, brace_closed, next_key_refused, next_colon_refused, next_key_taken, next_solid}
+use Rattle.json5_value.proofs.BuildKeys.{entry_refused, brace_closed, next_key_refused, next_colon_refused, next_key_taken}
 use Rattle.json5_value.proofs.Steps.{ready_next}
 use Rattle.json5_value.proofs.tokens.next_member_key.Goals as goal
 
@@ -11,11 +11,8 @@ returns-in_err-more g c =
 pub returns-then-not-more : goal.returns-then-not-more
 returns-then-not-more g c = brace_closed c.args.comma_due c.in_ok-more.more c.args.scanner.now c.skip_to_entry.new.scanner c.if-not-more.true c.in_ok-more.ensures.given
 
-pub read_key-requires-clause-solid : goal.read_key-requires-clause-solid
-read_key-requires-clause-solid g c = next_solid c.args.comma_due c.in_ok-more.more c.args.scanner.now.unread c.skip_to_entry.new.scanner.unread c.in_ok-more.ensures.given.reads c.if-not-more.false
-
-pub read_key-requires-clause-ready : goal.read_key-requires-clause-ready
-read_key-requires-clause-ready g c = ready_next c.args.scanner.now c.skip_to_entry.new.scanner c.requires c.in_ok-more.ensures.given
+pub read_key-requires : goal.read_key-requires
+read_key-requires g c = ready_next c.args.scanner.now c.skip_to_entry.new.scanner c.requires c.in_ok-more.ensures.given
 
 pub returns-in_err-key : goal.returns-in_err-key
 returns-in_err-key g c =

@@ -13,5 +13,5 @@ returns-in-Err g c = name_refused c.args.members c.args.start c.args.key c.args.
 
 pub returns : goal.returns
 returns g c =
-    member_entered c.args.members c.args.start c.args.key c.args.left c.args.stack.now.items c.args.scanner.now c.skip_name.new.scanner c.push.new.self.items c.in_ok-key.key c.in_default.field-0 c.in_ok-key.ensures c.in_default.ensures.given
-    c.in_ok-push.ensures.items
+    member_entered c.args.members c.args.start c.args.key c.args.left c.args.stack.now.items c.args.scanner.now c.skip_name.new.scanner c.add_entry.new.entries.items c.in_ok-key.key c.in_default.field-0 c.in_ok-key.ensures c.in_default.ensures.given
+    (c.add_entry.ensures c.if-not-add_entry.false)

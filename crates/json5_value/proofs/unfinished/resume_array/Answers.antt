@@ -4,9 +4,9 @@ use Rattle.json5_value.proofs.ShortBuilds.{turn_left, element_next, elements_end
 use Rattle.json5_value.proofs.Steps.{ready_after}
 use Rattle.json5_value.proofs.unfinished.resume_array.Goals as goal
 
-pub returns-in_ok-push-in-Value : goal.returns-in_ok-push-in-Value
-returns-in_ok-push-in-Value g c =
-    element_next c.args.elements.items c.short_elements.new.elements c.args.start c.args.comma_due c.args.stack.now.items c.args.scanner.now c.short_elements.new.scanner c.push.new.self.items (rw c.in-Value.is at c.short_elements.ensures) c.in_ok-push-in-Value.ensures.items
+pub returns-else-not-add_entry : goal.returns-else-not-add_entry
+returns-else-not-add_entry g c =
+    element_next c.args.elements.items c.short_elements.new.elements c.args.start c.args.comma_due c.args.stack.now.items c.args.scanner.now c.short_elements.new.scanner c.add_entry.new.entries.items (rw c.in-Value.is at c.short_elements.ensures) (c.add_entry.ensures c.if-not-add_entry.false)
 
 pub returns-in-Closed : goal.returns-in-Closed
 returns-in-Closed g c = elements_end c.args.elements.items c.short_elements.new.elements c.args.start c.args.comma_due c.args.stack.now.items c.args.scanner.now c.short_elements.new.scanner (rw c.in-Closed.is at c.short_elements.ensures)

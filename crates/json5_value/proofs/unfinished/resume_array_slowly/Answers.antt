@@ -1,9 +1,9 @@
 use Rattle.json5_value.proofs.BuildTurns.{array_goes_on, array_closed, array_refused}
 use Rattle.json5_value.proofs.unfinished.resume_array_slowly.Goals as goal
 
-pub returns-in_ok-push-in-Ok-true : goal.returns-in_ok-push-in-Ok-true
-returns-in_ok-push-in-Ok-true g c =
-    array_goes_on c.args.elements c.args.start c.args.comma_due c.args.stack.now.items c.args.scanner.now c.in-Ok-true.field-0 c.push.new.self.items c.skip_to_value.new.scanner c.in-Ok-true.field-0-test c.in-Ok-true.ensures.given c.in_ok-push-in-Ok-true.ensures.items
+pub returns-else-not-add_entry : goal.returns-else-not-add_entry
+returns-else-not-add_entry g c =
+    array_goes_on c.args.elements c.args.start c.args.comma_due c.args.stack.now.items c.args.scanner.now c.in-Ok-true.field-0 c.add_entry.new.entries.items c.skip_to_value.new.scanner c.in-Ok-true.field-0-test c.in-Ok-true.ensures.given (c.add_entry.ensures c.if-not-add_entry.false)
 
 pub returns-in-Ok-false : goal.returns-in-Ok-false
 returns-in-Ok-false g c =
