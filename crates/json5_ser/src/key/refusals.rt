@@ -1,7 +1,6 @@
 //! What can't be a key is refused.
 
 use crate::MapKey;
-use json5_text::ErrorCode;
 use json5_text::error::Result;
 use std::io::Write;
 
@@ -17,7 +16,7 @@ impl<W: Write + Drop> MapKey<'_, W> {
         ensures { RefusesKey self.entry result self.exit.0.now }
     {
         let MapKey { ser } = self;
-        ser.refuse(ErrorCode::InvalidKey)
+        ser.refuse_key()
     }
 
     /// Refuses a list, which is no key. The length changes nothing.
@@ -29,7 +28,7 @@ impl<W: Write + Drop> MapKey<'_, W> {
         ensures { RefusesKey self.entry result self.exit.0.now }
     {
         let MapKey { ser } = self;
-        ser.refuse(ErrorCode::InvalidKey)
+        ser.refuse_key()
     }
 
     /// Refuses a tuple, which is no key. The length changes nothing.
@@ -41,7 +40,7 @@ impl<W: Write + Drop> MapKey<'_, W> {
         ensures { RefusesKey self.entry result self.exit.0.now }
     {
         let MapKey { ser } = self;
-        ser.refuse(ErrorCode::InvalidKey)
+        ser.refuse_key()
     }
 
     /// Refuses a struct of several values, which is no key. The name and the length change nothing.
@@ -53,7 +52,7 @@ impl<W: Write + Drop> MapKey<'_, W> {
         ensures { RefusesKey self.entry result self.exit.0.now }
     {
         let MapKey { ser } = self;
-        ser.refuse(ErrorCode::InvalidKey)
+        ser.refuse_key()
     }
 
     /// Refuses a variant that holds a value, which is no key. The names and the index change nothing.
@@ -70,7 +69,7 @@ impl<W: Write + Drop> MapKey<'_, W> {
         ensures { RefusesKey self.entry result self.exit.0.now }
     {
         let MapKey { ser } = self;
-        ser.refuse(ErrorCode::InvalidKey)
+        ser.refuse_key()
     }
 
     /// Refuses a variant that holds a list, which is no key. The names, the index and the length change nothing.
@@ -88,7 +87,7 @@ impl<W: Write + Drop> MapKey<'_, W> {
         ensures { RefusesKey self.entry result self.exit.0.now }
     {
         let MapKey { ser } = self;
-        ser.refuse(ErrorCode::InvalidKey)
+        ser.refuse_key()
     }
 
     /// Refuses a map, which is no key. The length changes nothing.
@@ -100,7 +99,7 @@ impl<W: Write + Drop> MapKey<'_, W> {
         ensures { RefusesKey self.entry result self.exit.0.now }
     {
         let MapKey { ser } = self;
-        ser.refuse(ErrorCode::InvalidKey)
+        ser.refuse_key()
     }
 
     /// Refuses a struct with fields, which is no key. The name and the length change nothing.
@@ -112,7 +111,7 @@ impl<W: Write + Drop> MapKey<'_, W> {
         ensures { RefusesKey self.entry result self.exit.0.now }
     {
         let MapKey { ser } = self;
-        ser.refuse(ErrorCode::InvalidKey)
+        ser.refuse_key()
     }
 
     /// Refuses a variant with fields, which is no key. The names, the index and the length change nothing.
@@ -130,6 +129,6 @@ impl<W: Write + Drop> MapKey<'_, W> {
         ensures { RefusesKey self.entry result self.exit.0.now }
     {
         let MapKey { ser } = self;
-        ser.refuse(ErrorCode::InvalidKey)
+        ser.refuse_key()
     }
 }
