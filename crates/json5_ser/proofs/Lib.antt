@@ -18,6 +18,7 @@ pub mod NamesFound
 pub mod VariantOpened
 pub mod Members
 pub mod Commas
+pub mod CopiesJoined
 pub mod ValuesInside
 pub mod SpelledKeys
 pub mod HexPieces

@@ -2,6 +2,7 @@ pub mod WrittenTrees
 pub mod Writable
 pub mod Out
 pub mod Commas
+pub mod Copies
 pub mod Marks
 pub mod Writes
 pub mod Pieces

@@ -30,17 +30,6 @@ fn is_escape_free_byte(byte: u8) -> bool
     !matches!(byte, b'\n' | b'\r' | 0xE2 | b'"' | b'\'' | b'\\')
 }
 
-/// The length of the run in front, byte by byte.
-fn escape_free_len_slowly(bytes: &[u8]) -> usize
-    ensures { result ≡ prefix_len is_escape_free_byte bytes.now }
-{
-    let mut i = 0;
-    while i < bytes.len() && is_escape_free_byte(bytes[i]) {
-        i += 1;
-    }
-    i
-}
-
 /// How long the run in front is.
 fn escape_free_len(bytes: &[u8]) -> usize
     ensures { result ≡ prefix_len is_escape_free_byte bytes.now }
@@ -53,7 +42,10 @@ fn escape_free_len(bytes: &[u8]) -> usize
         }
         i += 16;
     }
-    i + escape_free_len_slowly(&bytes[i..])
+    while i < bytes.len() && is_escape_free_byte(bytes[i]) {
+        i += 1;
+    }
+    i
 }
 
 /// What follows the characters in front that are written as they are between any quotes, and are no quotes themselves.

@@ -136,17 +136,15 @@ impl<W: Write + Drop> Serializer<W> {
         Err(Error::new(ErrorCode::Failed))
     }
 
-    /// Refuses with this code, now and with `Failed` from now on.
+    /// Refuses what can't be a key, now and with `Failed` from now on.
     #[cold]
     #[inline(never)]
-    pub(crate) fn refuse<T>(&mut self, code: ErrorCode) -> Result<T>
-        ensures invalid_key { code ≡ codes.InvalidKey → Writes (stopped invalid_key) self.old result self.new }
-        ensures too_deep { code ≡ codes.TooDeep → Writes (stopped too_deep) self.old result self.new }
-        ensures refused { IsErr result }
+    pub(crate) fn refuse_key(&mut self) -> Result<()>
+        ensures { Writes (stopped invalid_key) self.old result self.new }
     {
         self.check_not_failed()?;
         self.failed = true;
-        Err(Error::new(code))
+        Err(Error::new(ErrorCode::InvalidKey))
     }
 
     /// Writes a piece, unless a call was refused before.
@@ -205,15 +203,6 @@ impl<W: Write + Drop> Serializer<W> {
         }
         self.put_short(brackets.opening())?;
         self.depth += 1;
-        Ok(())
-    }
-
-    /// Opens a collection.
-    pub(crate) fn open(&mut self, brackets: Brackets) -> Result<()>
-        ensures opens { Writes (opened_by self.old.limit self.old.depth (opening (bracket_of brackets))) self.old result (at_depth self.old.depth self.new) }
-        ensures deeper { OnOk result (self.new.depth ≡ self.old.depth + 1) }
-    {
-        self.open_short(brackets)?;
         Ok(())
     }
 

@@ -9,6 +9,7 @@ ghost use Rattle.json5_ser.specs.Writes.{WritesTree, fresh, fresh_within, ended,
 ghost use Rattle.json5_ser.specs.WholeOutputs.{IsText, RefusesToString};
 ghost use Rattle.json5_ser.specs.Named.{named};
 
+use crate::string_writer::StringWriter;
 use crate::{Serialize, Serializer};
 use json5_text::ErrorCode;
 use json5_text::error::{Error, Result};
@@ -111,9 +112,9 @@ pub fn to_string_within<T: Serialize>(alloc: Global, limit: Limit, value: &T) ->
     ensures reads_back { IfOk result (λ s. Doc limit (chars (string_bytes s)) (marks (T.tree value.now))) }
     ensures refused { IfErr result (RefusesToString (text_within limit (T.tree value.now))) }
 {
-    let mut ser = Serializer::within(Vec::new(alloc), limit);
+    let mut ser = Serializer::within(StringWriter::new(alloc), limit);
     let written = value.serialize(&mut ser);
-    let bytes = ser.into_inner();
+    let bytes = ser.into_inner().into_bytes();
     match written {
         Ok(()) => Ok(unsafe { String::from_utf8_unchecked(bytes) }),
         Err(e) if e.code().is_none() => Err(Error::new(ErrorCode::OutOfMemory)),

@@ -37,10 +37,11 @@ impl<W: Write + Drop> Serializer<W> {
         ensures opens { Writes (variant_of self.old (chars variant.now) brackets) self.old result (at_depth self.old.depth self.new) }
         ensures deeper { OnOk result (self.new.depth ≡ self.old.depth + 1 + 1) }
     {
-        self.open(Brackets::Curly)?;
+        self.open_short(Brackets::Curly)?;
         self.key(&variant)?;
         self.put(": ")?;
-        self.open(brackets)
+        self.open_short(brackets)?;
+        Ok(())
     }
 
     /// The line of a member, without the comma after it.

@@ -1,7 +1,6 @@
 //! What can't be a key is refused.
 
 use crate::MapKey;
-use json5_text::ErrorCode;
 use json5_text::error::Result;
 use std::io::Write;
 
@@ -21,7 +20,7 @@ impl<W: Write + Drop> MapKey<'_, W> {
         ensures { RefusesKey self.entry result self.exit.0.now }
     {
         let MapKey { ser } = self;
-        ser.refuse(ErrorCode::InvalidKey)
+        ser.refuse_key()
     }
 
     /// Refuses a list, which is no key. The length changes nothing.
@@ -33,7 +32,7 @@ impl<W: Write + Drop> MapKey<'_, W> {
         ensures { RefusesKey self.entry result self.exit.0.now }
     {
         let MapKey { ser } = self;
-        ser.refuse(ErrorCode::InvalidKey)
+        ser.refuse_key()
     }
 
     /// Refuses a tuple, which is no key. The length changes nothing.
@@ -45,7 +44,7 @@ impl<W: Write + Drop> MapKey<'_, W> {
         ensures { RefusesKey self.entry result self.exit.0.now }
     {
         let MapKey { ser } = self;
-        ser.refuse(ErrorCode::InvalidKey)
+        ser.refuse_key()
     }
 
     /// Refuses a struct of several values, which is no key. The name and the length change nothing.
@@ -57,7 +56,7 @@ impl<W: Write + Drop> MapKey<'_, W> {
         ensures { RefusesKey self.entry result self.exit.0.now }
     {
         let MapKey { ser } = self;
-        ser.refuse(ErrorCode::InvalidKey)
+        ser.refuse_key()
     }
 
     /// Refuses a variant that holds a value, which is no key. The names and the index change nothing.
@@ -74,7 +73,7 @@ impl<W: Write + Drop> MapKey<'_, W> {
         ensures { RefusesKey self.entry result self.exit.0.now }
     {
         let MapKey { ser } = self;
-        ser.refuse(ErrorCode::InvalidKey)
+        ser.refuse_key()
     }
 
     /// Refuses a variant that holds a list, which is no key. The names, the index and the length change nothing.
@@ -92,7 +91,7 @@ impl<W: Write + Drop> MapKey<'_, W> {
         ensures { RefusesKey self.entry result self.exit.0.now }
     {
         let MapKey { ser } = self;
-        ser.refuse(ErrorCode::InvalidKey)
+        ser.refuse_key()
     }
 
     /// Refuses a map, which is no key. The length changes nothing.
@@ -104,7 +103,7 @@ impl<W: Write + Drop> MapKey<'_, W> {
         ensures { RefusesKey self.entry result self.exit.0.now }
     {
         let MapKey { ser } = self;
-        ser.refuse(ErrorCode::InvalidKey)
+        ser.refuse_key()
     }
 
     /// Refuses a struct with fields, which is no key. The name and the length change nothing.
@@ -116,7 +115,7 @@ impl<W: Write + Drop> MapKey<'_, W> {
         ensures { RefusesKey self.entry result self.exit.0.now }
     {
         let MapKey { ser } = self;
-        ser.refuse(ErrorCode::InvalidKey)
+        ser.refuse_key()
     }
 
     /// Refuses a variant with fields, which is no key. The names, the index and the length change nothing.
@@ -134,6 +133,6 @@ impl<W: Write + Drop> MapKey<'_, W> {
         ensures { RefusesKey self.entry result self.exit.0.now }
     {
         let MapKey { ser } = self;
-        ser.refuse(ErrorCode::InvalidKey)
+        ser.refuse_key()
     }
 }

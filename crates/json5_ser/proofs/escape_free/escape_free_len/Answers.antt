@@ -6,9 +6,6 @@ use Rattle.json5_ser.specs.EscapeFree.{ends_escape_free, is_escape_free_byte}
 use Rattle.json5_text.proofs.ByteSearch.{run_bound, run_through, run_stops}
 use Rattle.json5_ser.proofs.escape_free.escape_free_len.Goals as goal
 
-rest_taken : (l : List ℕ) (i : ℕ) → take (length l - i) (drop i l) ≡ drop i l
-rest_taken l i = ap (λ n. take n (drop i l)) (sym (length-drop i l)) ∙ take-length (drop i l)
-
 pub returns-then-found-ne0 : goal.returns-then-found-ne0
 returns-then-found-ne0 c =
     let found = c.stops-found in
@@ -19,12 +16,3 @@ pub loop-i-preserved : goal.loop-i-preserved
 loop-i-preserved c =
     let run = run_through ends_escape_free is_escape_free_byte (λ x. refl) c.args.bytes.now c.loop-i.i 16 (omega arith) (omega (arith, c.stops-found.ensures)) in
     (omega (arith, run, c.loop-i.invariant.0), omega arith)
-
-pub overflow_add-result-2 : goal.overflow_add-result-2
-overflow_add-result-2 c =
-    let run = run_bound is_escape_free_byte c.args.bytes.now c.loop-i.i c.loop-i.invariant.1 in
-    let long : Fits w64 (length c.args.bytes.now) = search rules in
-    omega (arith, run, c.escape_free_len_slowly.ensures ∙ ap (prefix_len is_escape_free_byte) (rest_taken c.args.bytes.now c.loop-i.i), long)
-
-pub returns : goal.returns
-returns c = ap (λ n. c.loop-i.i + n) (c.escape_free_len_slowly.ensures ∙ ap (prefix_len is_escape_free_byte) (rest_taken c.args.bytes.now c.loop-i.i)) ∙ sym c.loop-i.invariant.0
