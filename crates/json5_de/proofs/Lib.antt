@@ -27,6 +27,7 @@ pub mod OpenClose
 pub mod Next
 pub mod StagesPassed
 pub mod Calls
+pub mod Ranges
 pub mod Required
 pub mod ListFaults
 pub mod Loops

@@ -1,7 +1,7 @@
 //! Short ways: values and steps that are read at once where no fault can come. They return small values, so that the caller's
 //! frame holds no fault. When they return None or `Other`, nothing has changed, and the reader's other calls say what is there.
 
-ghost use Rattle.std.specs.Prelude.{◌+◌, ◌≤ℤ◌, pos, nat_abs, IfSome};
+ghost use Rattle.std.specs.Prelude.{◌+◌, nat_abs, IfSome};
 ghost use Rattle.json5_value.specs.Brackets.{brackets_of};
 ghost use Rattle.json5_de.specs.Convert.{IsUpTo, IsWithin};
 ghost use Rattle.json5_de.specs.TokenKinds.{natural_kind, integer_kind, decimal_kind};
@@ -33,7 +33,6 @@ impl<I: Input> Deserializer<I> {
     /// Reads a whole number of few digits from `-max - 1` to `max`, or nothing.
     #[inline(always)]
     pub(crate) fn short_integer(&mut self, max: i128) -> Option<i128>
-        requires { pos 0 ≤ℤ max }
         ensures reads { ReadsShort (integer_kind (nat_abs max + 1)) (λ n. n) self.old self.new result }
         ensures fits { IfSome result (IsWithin max) }
     {
