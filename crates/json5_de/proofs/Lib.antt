@@ -25,8 +25,10 @@ pub mod ShortReads
 pub mod ShortBrackets
 pub mod OpenClose
 pub mod Next
+pub mod ElementsRead
 pub mod StagesPassed
 pub mod Calls
+pub mod Ranges
 pub mod Required
 pub mod ListFaults
 pub mod Loops

@@ -86,14 +86,15 @@ same_reader before after level failed old e same = ap (λ s. reader_at s level f
 abbrev pub least : ℤ → ℤ
 least max = to_z w128 (of_z w128 (negsuc 0 -ℤ to_z w128 (of_z w128 max)))
 
-pub short_integer : (before after : Cursor) (level : ℕ) (failed : Bool) (old : State) (max : ℤ) (o : Option ℤ) → reader_at before level failed ≡ old → level ≤ max_depth → failed ≡ false → SFits w128 max → pos 0 ≤ℤ max
+pub short_integer : (before after : Cursor) (level : ℕ) (failed : Bool) (old : State) (max : ℤ) (o : Option ℤ) → reader_at before level failed ≡ old → level ≤ max_depth → failed ≡ false → SFits w128 max
     → MatchOption o (after ≡ before) (λ z. TookInRange (least max) (to_z w128 (of_z w128 max)) before after z) → ReadsShort (integer_kind (nat_abs max + 1)) (λ n. n) old (reader_at after level failed) o
-short_integer before after level failed old max None e room live fits p k = same_reader before after level failed old e k
-short_integer before after level failed old max (Some z) e room live fits p k =
+short_integer before after level failed old max None e room live fits k = same_reader before after level failed old e k
+short_integer before after level failed old max (Some z) e room live fits k =
     let top : to_z w128 (of_z w128 max) ≡ max = to_z-of_z w128 max fits in
-    let bottom : least max ≡ (negsuc 0 -ℤ max) = ap (λ (y : ℤ). to_z w128 (of_z w128 (negsuc 0 -ℤ y))) top ∙ to_z-of_z w128 (negsuc 0 -ℤ max) (omega (arith, ints, fits, p)) in
+    let bottom : least max ≡ (negsuc 0 -ℤ max) = ap (λ (y : ℤ). to_z w128 (of_z w128 (negsuc 0 -ℤ y))) top ∙ to_z-of_z w128 (negsuc 0 -ℤ max) (omega (arith, ints, fits)) in
     let low : (negsuc 0 -ℤ max) ≤ℤ z = rw bottom at k.low in
     let high : z ≤ℤ max = rw top at k.high in
+    let p : pos 0 ≤ℤ max = omega (arith, ints, low, high) in
     reads_whole (integer_below (nat_abs max + 1)) (λ n. n) before after level failed old z z e room live k.took (integer_in max z p low high)
 
 pub short_decimal : (before after : Cursor) (level : ℕ) (failed : Bool) (old : State) (o : Option Decimal) → reader_at before level failed ≡ old → level ≤ max_depth → failed ≡ false → TakesShortDecimal before after o

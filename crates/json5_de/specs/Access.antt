@@ -13,7 +13,7 @@ use Rattle.json5_grammar.specs.Language.Values.{Reads}
 use Rattle.json5_grammar.specs.Model.Collections.{IsSign, IsEnd, Opens, IsElement, IsAtClose, Passed, Tail, snoc}
 use Rattle.json5_text.specs.declared.error.Error.{Error}
 use Rattle.json5_text.specs.Errors.{code, kind_of, error_position}
-use Rattle.json5_de.specs.State.{State, OnlyRead, SameText, FailsIfErr}
+use Rattle.json5_de.specs.State.{State, OnlyRead, SameText, FailsIfErr, GivesUpIfErr}
 use Rattle.json5_text.specs.Cursor.{IsOutOfMemory}
 use Rattle.json5_de.specs.Law.{IsOkOrMemory, TookValue, Unprompted, AnswersFailed}
 use Rattle.json5_value.specs.Offsets.{PositionedAt, StartsAfter}
@@ -199,6 +199,11 @@ pub record OpensAs {A : Type 0} (b : Brackets) (state_of : A → AccessState) (o
   pub too_deep : TooDeepAt b old result
   pub unprompted : Unprompted old result
   pub before : AnswersFailed old result
+
+-- the opening bracket is taken, which begins after so many bytes; a refusal is for good
+pub record TakesOpening (b : Brackets) (old new : State) (result : Result ℕ Error) : Type 0 where
+  pub opens : OpensAs b (λ start. record { reader = new; start = start; comma_due = false }) old result
+  pub failed : GivesUpIfErr old new result
 
 -- where the closing bracket is expected
 pub record ClosesAs (b : Brackets) (comma_due : Bool) (old new : State) (result : Result (Unit {0}) Error) : Type 0 where

@@ -4,7 +4,7 @@ ghost use Rattle.std.specs.Prelude.{◌≡◌, ◌==◌, false, true, ℕ, List,
 ghost use Rattle.json5_grammar.specs.declared.code.ErrorCode.TheVariants as codes;
 ghost use Rattle.json5_grammar.specs.Language.Characters.{NotBegun};
 ghost use Rattle.json5_grammar.specs.Model.Collections.{IsEnd};
-ghost use Rattle.json5_de.specs.State.{SameText, GivesUpIfErr};
+ghost use Rattle.json5_de.specs.State.{SameText};
 ghost use Rattle.json5_de.specs.Faults.{RefusedBy};
 ghost use Rattle.json5_de.specs.Law.{AnswersFailed};
 ghost use Rattle.json5_value.specs.Brackets.{brackets_of};
@@ -17,14 +17,13 @@ use json5_text::short_ways::ShortStep;
 use json5_value::brackets::BracketKind;
 
 impl<I: Input> Deserializer<I> {
-    ghost use Rattle.json5_de.specs.Access.{Closed, OpensAs, NotClosed};
+    ghost use Rattle.json5_de.specs.Access.{Closed, TakesOpening, NotClosed};
     ghost use Rattle.json5_de.specs.Seq.{TakesClosing, Advances};
 
     /// Takes an opening bracket, and returns the count of bytes before it.
     #[inline(always)]
     pub(crate) fn open(&mut self, kind: BracketKind) -> Result<usize>
-        ensures opens { OpensAs (brackets_of kind) (λ start. record { reader = self.new; start = start; comma_due = false }) self.old result }
-        ensures failed { GivesUpIfErr self.old self.new result }
+        ensures { TakesOpening (brackets_of kind) self.old self.new result }
     {
         match self.short_open(kind) {
             Some(start) => Ok(start),
@@ -35,8 +34,7 @@ impl<I: Input> Deserializer<I> {
     /// The same of anything in front.
     #[inline(never)]
     fn open_slowly(&mut self, kind: BracketKind) -> Result<usize>
-        ensures opens { OpensAs (brackets_of kind) (λ start. record { reader = self.new; start = start; comma_due = false }) self.old result }
-        ensures failed { GivesUpIfErr self.old self.new result }
+        ensures { TakesOpening (brackets_of kind) self.old self.new result }
     {
         self.skip_blank()?;
         let brackets = kind.brackets();
@@ -73,7 +71,7 @@ impl<I: Input> Deserializer<I> {
 
     /// The same for anything in front, in the long way.
     #[inline(never)]
-    fn advance_slowly(&mut self, kind: BracketKind, comma_due: bool) -> Result<bool>
+    pub(crate) fn advance_slowly(&mut self, kind: BracketKind, comma_due: bool) -> Result<bool>
         ensures { Advances (brackets_of kind) comma_due self.old self.new result }
     {
         self.skip_blank()?;

@@ -1,7 +1,7 @@
 //! Short ways: values and steps that are read at once where no fault can come. They return small values, so that the caller's
 //! frame holds no fault. When they return None or `Other`, nothing has changed, and the reader's other calls say what is there.
 
-ghost use Rattle.std.specs.Prelude.{◌+◌, ◌≤ℤ◌, pos, nat_abs, IfSome};
+ghost use Rattle.std.specs.Prelude.{◌+◌, nat_abs, IfSome};
 ghost use Rattle.json5_value.specs.Brackets.{brackets_of};
 ghost use Rattle.json5_de.specs.Convert.{IsUpTo, IsWithin};
 ghost use Rattle.json5_de.specs.TokenKinds.{natural_kind, integer_kind, decimal_kind};
@@ -33,7 +33,6 @@ impl<I: Input> Deserializer<I> {
     /// Reads a whole number of few digits from `-max - 1` to `max`, or nothing.
     #[inline(always)]
     pub(crate) fn short_integer(&mut self, max: i128) -> Option<i128>
-        requires { pos 0 ≤ℤ max }
         ensures reads { ReadsShort (integer_kind (nat_abs max + 1)) (λ n. n) self.old self.new result }
         ensures fits { IfSome result (IsWithin max) }
     {
@@ -129,19 +128,9 @@ impl<I: Input> Deserializer<I> {
         true
     }
 
-    /// An owned copy of the text of the span. If memory runs out, the reader has failed.
-    pub(crate) fn own_text(&mut self, span: Span) -> Result<String>
-        ensures { OwnsTextAt span self.old self.new result }
-    {
-        match String::from_str(self.allocator(), self.scanner.text_of_span(span)) {
-            Ok(text) => Ok(text),
-            Err(_) => self.refuse(Error::new(ErrorCode::OutOfMemory)),
-        }
-    }
-
-    /// The same in the memory of a spare string.
+    /// An owned copy of the text of the span, in the memory of a spare string. If memory runs out, the reader has failed.
     #[inline(always)]
-    pub(crate) fn text_in(&mut self, span: Span, mut spare: String) -> Result<String>
+    pub(crate) fn own_text(&mut self, span: Span, mut spare: String) -> Result<String>
         ensures { OwnsTextAt span self.old self.new result }
     {
         spare.clear();
