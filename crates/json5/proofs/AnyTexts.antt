@@ -4,7 +4,6 @@ use Rattle.std.specs.Prelude.{Result, Ok, Err, IfOk, IfErr}
 use Rattle.std.proofs.lemmas.Option.{same_Some}
 use Rattle.json5_grammar.specs.Faults.Codes.{after_text}
 use Rattle.json5_grammar.specs.declared.code.ErrorCode.{ErrorCode}
-use Rattle.json5_grammar.specs.declared.code.ErrorCode.TheVariants as codes_of
 use Rattle.json5_grammar.specs.Language.Documents.{Doc, max_depth}
 use Rattle.json5_grammar.specs.Model.ReadValues.{document}
 use Rattle.json5_grammar.specs.Language.Trees.{Tree, depth}
@@ -15,7 +14,6 @@ use Rattle.json5_grammar.proofs.TextsBlamed.{blames_text, text_refuses, no_blame
 use Rattle.json5_de.specs.Faults.{FaultRelation}
 use Rattle.json5_text.specs.declared.error.Error.{Error}
 use Rattle.json5_text.specs.declared.value.Value.{Value}
-use Rattle.json5_text.specs.Errors.{code}
 use Rattle.json5_text.specs.Cursor.{Refused, IsOutOfMemory}
 use Rattle.json5_text.specs.ValueViews.{value_of}
 use Rattle.json5_de.specs.AnyTree.{RefusesTree, ReadingRefuses, RefusedInReading}
@@ -27,7 +25,7 @@ use Rattle.json5_de.specs.WholeInputs.{ReadsDocument, RefusesReading, in_value, 
 use Rattle.json5_de.proofs.Arrays.{failed_of}
 use Rattle.json5_de.proofs.TreeFaults.{as_reading}
 use Rattle.json5_de.proofs.Taken.{input_of, placed_after}
-use Rattle.json5.specs.AnyText.{FaultyDocument, unread_text, IsRefused, IsRefusedWithin, ReadsText}
+use Rattle.json5_format.specs.AnyText.{FaultyDocument, unread_text, IsRefusedWithin, ReadsText}
 use Rattle.json5_grammar.proofs.DocumentsRead.{to_end, blanks_refused, value_refused, comment_refused, character_refused, rest_refused}
 
 -- what reading refuses the input with
@@ -87,11 +85,8 @@ cause_of : (limit : ℕ) (x : List ℕ) (e : Error) → limit ≤ max_depth → 
 cause_of limit x e bound (in_value new k) = memory_or_fault limit x e (in_the_value limit x e bound (as_reading (at_start limit x) e k))
 cause_of limit x e bound (after_value t c new took is k) = inr (as_fault limit x e (after_phrase limit x e t new bound took k))
 
-pub text_refused_within : (limit : ℕ) (x : List ℕ) (e : Error) → limit ≤ max_depth → RefusesReading every_datum any_refuses limit x e → IsUnprompted e → IsRefusedWithin limit x e
+text_refused_within : (limit : ℕ) (x : List ℕ) (e : Error) → limit ≤ max_depth → RefusesReading every_datum any_refuses limit x e → IsUnprompted e → IsRefusedWithin limit x e
 text_refused_within limit x e bound refused unprompted = record { cause = cause_of limit x e bound refused; unprompted = unprompted }
-
-pub text_refused : (x : List ℕ) (e : Error) → RefusesReading every_datum any_refuses max_depth x e → IsUnprompted e → IsRefused x e
-text_refused x e = text_refused_within max_depth x e (omega arith)
 
 -- what `from_str_within` says of a value of any kind
 pub reads_text : (limit : ℕ) (x : List ℕ) (result : Result Value Error) → limit ≤ max_depth → IfOk result (λ v. (t : Tree) × Doc limit x t × (every_datum t ≡ Some (value_of v))) → ReadsDocument value_of every_datum limit x result
@@ -106,10 +101,6 @@ reads_text limit x (Err e) bound sound complete refused unprompted = record {
   complete = λ t d. complete t (datum_of t) d refl;
   refused = text_refused_within limit x e bound refused unprompted;
 }
-
--- that memory ran out is also a cause
-pub memory_refused : (limit : ℕ) (x : List ℕ) (e : Error) → IsOutOfMemory e → IsRefusedWithin limit x e
-memory_refused limit x e m = record { cause = inl m; unprompted = λ k. let same : code codes_of.OutOfMemory ≡ code codes_of.Failed = sym m ∙ k in absurd (cc) }
 
 -- ---- one refusal
 

@@ -1,12 +1,12 @@
 -- Lemmas.
 pub mod AnyTexts
-pub mod Formats
 pub mod Names
 pub mod ReadsBack
 pub mod ValuesBack
 pub mod MapsBack
 pub mod ReadAgain
 -- What proofs of users' types cite.
+pub use Rattle.json5_format.proofs.Formats
 pub use Rattle.json5_grammar.proofs.CollectionsPairs
 pub use Rattle.json5_de.proofs.Refinement
 pub use Rattle.json5_de.proofs.Loops

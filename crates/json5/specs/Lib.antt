@@ -1,5 +1,4 @@
 pub mod AnyText
-pub mod Formatted
 pub mod ReadsBack
 -- What else contracts cite, and what a user's type cites: trees, and what an input holds.
 pub use Rattle.json5_grammar.specs.Language.Trees
@@ -17,6 +16,8 @@ pub use Rattle.json5_text.specs.Cursor
 pub use Rattle.json5_text.specs.Errors
 pub use Rattle.json5_text.specs.declared.error.Error
 pub use Rattle.json5_text.specs.declared.value.Value
+-- Formatting.
+pub use Rattle.json5_format.specs.Formatted
 -- Reading.
 pub use Rattle.json5_de.specs.State
 pub use Rattle.json5_de.specs.Law

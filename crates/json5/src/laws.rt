@@ -16,7 +16,7 @@ ghost use Rattle.json5_ser.specs.WrittenTrees.{null, boolean, number, text, natu
 ghost use Rattle.json5_ser.specs.Marks.{marks, is_escape_free_text};
 ghost use Rattle.json5_ser.specs.ValueTrees.{datum_tree};
 ghost use Rattle.json5.specs.AnyText.{FaultyDocument, IsOneFault, IsNoDocument, ReadsEachText};
-ghost use Rattle.json5.specs.Formatted.{IsFormattedWithin};
+ghost use Rattle.json5_format.specs.Formatted.{IsFormattedWithin};
 ghost use Rattle.json5.specs.ReadsBack.{ReadsBack, KeyReadsBack, PairsReadBack, OrderStays, TurnStays, list_tree, list_of};
 
 use json5_de::{Deserialize, DeserializeKey};

@@ -5,14 +5,14 @@ use Rattle.std.specs.Str.{all_scalars, chars}
 use Rattle.std.specs.Io.KnownBytes.{Appends, Keeps}
 use Rattle.std.proofs.KnownBytes.{Appends-trans}
 use Rattle.std.proofs.lemmas.Str.{chars-encodes}
-use Rattle.json5.specs.Out.{whole, written_text}
-use Rattle.json5.specs.Pieces.{AppendsFront}
-use Rattle.json5.specs.Value.{Value}
-use Rattle.json5.specs.ValueTrees.{value_tree}
-use Rattle.json5.specs.ValueViews.{value_of}
-use Rattle.json5.specs.WholeOutputs.{IsText}
-use Rattle.json5.specs.WrittenTrees.{Written}
-use Rattle.json5.proofs.Formats.{written_tree, value_whole, formatted}
+use Rattle.json5_ser.specs.Out.{whole, written_text}
+use Rattle.json5_ser.specs.Pieces.{AppendsFront}
+use Rattle.json5_text.specs.declared.value.Value.{Value}
+use Rattle.json5_ser.specs.ValueTrees.{value_tree}
+use Rattle.json5_text.specs.ValueViews.{value_of}
+use Rattle.json5_ser.specs.WholeOutputs.{IsText}
+use Rattle.json5_ser.specs.WrittenTrees.{Written}
+use Rattle.json5_format.proofs.Formats.{written_tree, value_whole, formatted}
 use Rattle.json5_formatter.specs.Runs.{with_line_feed, written_bytes, HoldsValue, WritesFormatted, BeginsFormatted}
 
 -- ---- prefixes of a line

@@ -1,5 +1,5 @@
 -- What the status may be.
-use Rattle.std.proofs.Common.{◌≡◌, ℕ, ◌≤◌, max, List, Option, refl, arith}
+use Rattle.std.proofs.Common.{ℕ, ◌≤◌, max, List, Option, arith}
 use Rattle.std.specs.declared.alloc.Global.{Global}
 use Rattle.std.specs.Prelude.{String}
 use Rattle.json5_formatter.specs.declared.failure.Failure.{Failure}
@@ -8,7 +8,6 @@ use Rattle.json5_formatter.specs.declared.work.Work.{Work}
 use Rattle.json5_formatter.specs.Answers.{AnswersStream, formats, fails, Answers, of_stream, of_files, says_usage}
 use Rattle.json5_formatter.specs.Files.{GoesThrough, none, good, bad, WorksThrough, through, stopped}
 use Rattle.json5_formatter.specs.Reports.{status_of}
-use Rattle.json5_formatter.specs.Words.{IsRequest}
 
 -- ---- it is at most 2
 

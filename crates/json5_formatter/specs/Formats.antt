@@ -1,9 +1,9 @@
 -- What the formatter promises of the bytes of an input.
 use Rattle.std.specs.Prelude.{ℕ, List}
 use Rattle.std.specs.Str.{chars}
-use Rattle.json5.specs.Error.{Error}
-use Rattle.json5.specs.AnyText.{IsRefused}
-use Rattle.json5.specs.Formatted.{IsFormatted}
+use Rattle.json5_text.specs.declared.error.Error.{Error}
+use Rattle.json5_format.specs.AnyText.{IsRefused}
+use Rattle.json5_format.specs.Formatted.{IsFormatted}
 
 -- the input is a document, and this is written of it
 abbrev pub Formats : List ℕ → List ℕ → Type 0

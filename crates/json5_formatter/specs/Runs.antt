@@ -2,19 +2,19 @@
 use Rattle.std.specs.Prelude.{◌≡◌, ℕ, List, [], ◌∷◌, ◌++◌, Option, IfSome, Result, Ok, Err, ⊤}
 use Rattle.std.specs.Str.{chars, encode_utf8_all, IsUtf8}
 use Rattle.std.specs.Io.KnownBytes.{Appends, Keeps}
-use Rattle.json5.specs.Characters.{line_feed}
-use Rattle.json5.specs.Convert.{datum_of}
-use Rattle.json5.specs.Cursor.{IsOutOfMemory}
-use Rattle.json5.specs.Documents.{Doc, max_depth}
-use Rattle.json5.specs.Error.{Error}
-use Rattle.json5.specs.Marks.{unmarked}
-use Rattle.json5.specs.Out.{whole, written_text}
-use Rattle.json5.specs.Pieces.{AppendsFront}
-use Rattle.json5.specs.Trees.{Tree}
-use Rattle.json5.specs.Value.{Value}
-use Rattle.json5.specs.ValueViews.{value_of}
-use Rattle.json5.specs.WholeOutputs.{IsText}
-use Rattle.json5.specs.WrittenTrees.{Written}
+use Rattle.json5_grammar.specs.Language.Characters.{line_feed}
+use Rattle.json5_format.specs.Data.{datum_of}
+use Rattle.json5_text.specs.Cursor.{IsOutOfMemory}
+use Rattle.json5_grammar.specs.Language.Documents.{Doc, max_depth}
+use Rattle.json5_text.specs.declared.error.Error.{Error}
+use Rattle.json5_ser.specs.Marks.{unmarked}
+use Rattle.json5_ser.specs.Out.{whole, written_text}
+use Rattle.json5_ser.specs.Pieces.{AppendsFront}
+use Rattle.json5_grammar.specs.Language.Trees.{Tree}
+use Rattle.json5_text.specs.declared.value.Value.{Value}
+use Rattle.json5_text.specs.ValueViews.{value_of}
+use Rattle.json5_ser.specs.WholeOutputs.{IsText}
+use Rattle.json5_ser.specs.WrittenTrees.{Written}
 use Rattle.json5_formatter.specs.Formats.{Formats, RefusesFormat}
 use Rattle.json5_formatter.specs.declared.failure.Failure.{Failure}
 use Rattle.json5_formatter.specs.declared.failure.Failure.TheVariants as failure

@@ -3,7 +3,8 @@
 ghost use Rattle.std.specs.Prelude.{◌≡◌};
 ghost use Rattle.json5_formatter.specs.Failures.{failure_at};
 
-use json5::{Error, ErrorCode};
+use json5_text::ErrorCode;
+use json5_text::error::Error;
 
 /// Why the work ended.
 #[derive(Debug, Drop)]

@@ -1,14 +1,14 @@
 //! The lines on standard error.
 
 ghost use Rattle.std.specs.Prelude.{◌≡◌};
-ghost use Rattle.json5.specs.Pieces.{AppendsFront};
+ghost use Rattle.json5_ser.specs.Pieces.{AppendsFront};
 ghost use Rattle.json5_formatter.specs.Pieces.{joined_texts};
 ghost use Rattle.json5_formatter.specs.Reports.{fault_line, report_line, status_of, usage_line};
 
 use crate::failure::Failure;
 use crate::output::write_texts;
 use itoa::Buffer;
-use json5::Error;
+use json5_text::error::Error;
 use std::io::Write;
 
 /// Writes why the work on this input ended, as one line, and returns the status that the program ends with. A failed write

@@ -1,14 +1,16 @@
 //! One input, from a reader, and formatted to a writer.
 
 ghost use Rattle.std.specs.Prelude.{◌≡◌, IfOk, IfErr, IfSome, OnOk, string_bytes};
-ghost use Rattle.json5.specs.ValueTrees.{value_tree};
+ghost use Rattle.json5_ser.specs.ValueTrees.{value_tree};
 ghost use Rattle.json5_formatter.specs.Runs.{HoldsValue, HoldsDocument, NoText, ReadFailure, RunFailure, WritesFormatted, WritesLine};
 ghost use Rattle.json5_formatter.specs.Failures.{NamesMemory};
 
 use crate::failure::Failure;
 use crate::input::read_whole;
-use json5::ser::write_whole;
-use json5::{Value, from_str, to_writer};
+use json5_format::read_document;
+use json5_ser::output::write_whole;
+use json5_ser::to_writer;
+use json5_text::value::Value;
 use std::alloc::Global;
 use std::io::{Read, Write};
 
@@ -21,7 +23,7 @@ use std::io::{Read, Write};
 /// # Errors
 ///
 /// - `NotUtf8` where what was read is no UTF-8: nothing was written.
-/// - `Text` where it is UTF-8 and no document, with the fault of `json5::format`: nothing was written.
+/// - `Text` where it is UTF-8 and no document, with the fault of `json5_format::format`: nothing was written.
 /// - `NoMemory` where a request for memory was refused: nothing was written.
 /// - `Read` where a read failed, an interrupted one too: nothing was written.
 /// - `Write` where a write or the flush failed: a prefix of the output was written.
@@ -56,7 +58,7 @@ fn read_value<R: Read>(alloc: Global, r: &mut R) -> Result<Value, Failure>
     ensures stopped { IfErr result (ReadFailure (R.remaining r.old)) }
 {
     let text = read_text(alloc, r)?;
-    match from_str(alloc, text.as_str()) {
+    match read_document(alloc, text.as_str()) {
         Ok(value) => Ok(value),
         Err(e) => Err(Failure::at(e)),
     }
@@ -75,7 +77,7 @@ fn read_text<R: Read>(alloc: Global, r: &mut R) -> Result<String, Failure>
 }
 
 /// Writes a value and one LF.
-fn write_value<W: Write>(w: &mut W, value: &Value) -> json5::Result<()>
+fn write_value<W: Write>(w: &mut W, value: &Value) -> json5_text::error::Result<()>
     ensures { WritesLine (value_tree value.now) (W.contents w.old) (W.contents w.new) result }
 {
     to_writer(w, value)?;

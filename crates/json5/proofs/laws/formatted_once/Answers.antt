@@ -1,4 +1,4 @@
-use Rattle.json5.proofs.Formats.{formatted_again}
+use Rattle.json5_format.proofs.Formats.{formatted_again}
 use Rattle.json5.proofs.laws.formatted_once.Goals as goal
 
 pub returns : goal.returns

@@ -1,8 +1,8 @@
 use Rattle.std.proofs.lemmas.Result.{err_from_is_err_and}
 use Rattle.std.specs.Prelude.{Err}
-use Rattle.json5.specs.Out.{written_text}
-use Rattle.json5.specs.ValueTrees.{value_tree}
-use Rattle.json5.proofs.Formats.{pushes_whole}
+use Rattle.json5_ser.specs.Out.{written_text}
+use Rattle.json5_ser.specs.ValueTrees.{value_tree}
+use Rattle.json5_format.proofs.Formats.{pushes_whole}
 use Rattle.json5_formatter.specs.Runs.{written_bytes}
 use Rattle.json5_formatter.proofs.LinesWritten.{text_stops, line_feed_stops, flush_stops, text_written, line_written}
 use Rattle.json5_formatter.proofs.streams.write_value.Goals as goal

@@ -10,7 +10,7 @@ use Rattle.json5_text.specs.declared.error.Error.{Error}
 use Rattle.json5_text.specs.Cursor.{IsOutOfMemory}
 use Rattle.json5_text.specs.Errors.{FaultKind, code, custom, failed_write, kind_of}
 use Rattle.json5_text.specs.ValueViews.{Datum}
-use Rattle.json5_de.specs.Convert.{datum_of, items_of, fields_of}
+use Rattle.json5_value.specs.Data.{datum_of, items_of, fields_of}
 use Rattle.json5_ser.specs.Marks.{marks, unmarked, unmarked_elements, unmarked_fields}
 use Rattle.json5_ser.specs.Out.{Out, whole, invalid_key, too_deep, written_text, text_within}
 use Rattle.json5_ser.specs.Pieces.{AppendsFront, Pushes}
@@ -20,7 +20,7 @@ use Rattle.json5_ser.specs.Writes.{SerializerState, Writes, Refusal, by_key, by_
 use Rattle.json5_ser.proofs.Depths.{text_document}
 use Rattle.json5_ser.proofs.ReadIsWritten.{read_written}
 use Rattle.json5_ser.proofs.Unmarked.{tree_again}
-use Rattle.json5.specs.Formatted.{IsFormatted, IsFormattedWithin}
+use Rattle.json5_format.specs.Formatted.{IsFormatted, IsFormattedWithin}
 
 -- ---- the tree that is written
 

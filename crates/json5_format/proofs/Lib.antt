@@ -1,0 +1,3 @@
+-- Lemmas.
+pub mod WholeValues
+pub mod Formats

@@ -1,0 +1,4 @@
+pub mod AnyText
+pub mod Formatted
+-- What a tree means, which contracts cite too.
+pub use Rattle.json5_value.specs.Data
