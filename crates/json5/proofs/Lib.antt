@@ -7,10 +7,10 @@ pub mod MapsBack
 pub mod ReadAgain
 -- What proofs of users' types cite.
 pub use Rattle.json5_format.proofs.Formats
-pub use Rattle.json5_grammar.proofs.CollectionsPairs
+pub use Rattle.json5_grammar.proofs.ObjectsRead
 pub use Rattle.json5_de.proofs.Refinement
 pub use Rattle.json5_de.proofs.Loops
-pub use Rattle.json5_de.proofs.SoMany
+pub use Rattle.json5_de.proofs.ListLengths
 pub use Rattle.json5_de.proofs.ListFaults
 pub use Rattle.json5_de.proofs.Structs
 pub use Rattle.json5_de.proofs.StructFaults

@@ -23,11 +23,11 @@ use Rattle.json5_de.specs.KeyKinds.{document_of}
 use Rattle.json5_de.proofs.KeyDocuments.{converts_documents}
 use Rattle.json5_ser.specs.Out.{bool_text}
 use Rattle.json5_ser.specs.ValueTrees.{key_of_string}
-use Rattle.json5_ser.proofs.Writables.{unsigned_whole}
+use Rattle.json5_ser.proofs.WritableNumbers.{unsigned_whole}
 use Rattle.json5_ser.specs.WrittenTrees.{WrittenKey, named, natural_key, integer_key, Fields, field, fields_of}
 use Rattle.json5_ser.specs.WrittenTrees.{Written, null, boolean, number, text, array, object, natural, integer, no_element, element, elements_of}
 use Rattle.json5_ser.specs.Marks.{marks, field_marks, is_escape_free_key, element_marks, is_escape_free_text}
-use Rattle.json5.specs.ReadsBack.{ReadsBack, KeyReadsBack, PairReadsBack, PairsReadBack, list_tree, list_of}
+use Rattle.json5.specs.ReadsBack.{ReadsBack, KeyReadsBack, MemberReadsBack, MembersReadBack, list_tree, list_of}
 
 pub natural_back : (bound n : ℕ) → n < bound → ReadsBack natural (unsigned_below bound) (λ n. n) n
 natural_back bound n l = let h : nat_lt n bound ≡ true = grind (arith, nat_tests) in rw h refl
@@ -120,9 +120,9 @@ one_pair : {C D : Type 0} (keys : KeyConversion C) (values : Tree → Option D) 
     → pair_contents keys values (field_marks fs) ≡ Some ps → pair_contents keys values (field_marks (field key t fs)) ≡ Some ((c, x) ∷ ps)
 one_pair keys values key t fs c x ps (u, is, e) f g = rw (is, e, f, g) refl
 
-pub pairs_back : {K V C D : Type 0} (key : K → WrittenKey) (keys : KeyConversion C) (as_key : K → C) (tree : V → Written) (values : Tree → Option D) (as_value : V → D) → PairsReadBack key keys as_key tree values as_value
+pub pairs_back : {K V C D : Type 0} (key : K → WrittenKey) (keys : KeyConversion C) (as_key : K → C) (tree : V → Written) (values : Tree → Option D) (as_value : V → D) → MembersReadBack key keys as_key tree values as_value
 pairs_back key keys as_key tree values as_value [] h = refl
 pairs_back key keys as_key tree values as_value (e ∷ es) h =
-    let P = PairReadsBack key keys as_key tree values as_value in
+    let P = MemberReadsBack key keys as_key tree values as_value in
     let first = All-head P e es h in
     one_pair keys values (key e.0) (tree e.1) (fields_of key tree es) (as_key e.0) (as_value e.1) _ first.key_back first.value_back (pairs_back key keys as_key tree values as_value es (All-tail P e es h))

@@ -56,4 +56,4 @@ pub use Rattle.json5_ser.specs.Pieces
 pub use Rattle.json5_ser.specs.WholeOutputs
 pub use Rattle.json5_ser.specs.Lending as WrittenCollections
 pub use Rattle.json5_ser.specs.Keys as WrittenKeys
-pub use Rattle.json5_ser.specs.Waiting
+pub use Rattle.json5_ser.specs.KeyLending

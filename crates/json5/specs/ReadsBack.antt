@@ -27,14 +27,14 @@ abbrev pub KeyReadsBack : {K C : Type 0} → (K → WrittenKey) → KeyConversio
 KeyReadsBack key convert content k = (u : List ℕ) × (key k ≡ named u) × (convert u (is_escape_free_key u) ≡ Some (content k))
 
 -- a member's key and its value read back
-pub record PairReadsBack {K V C D : Type 0} (key : K → WrittenKey) (keys : KeyConversion C) (as_key : K → C) (tree : V → Written) (values : Tree → Option D) (as_value : V → D) (e : K × V) : Type 0 where
+pub record MemberReadsBack {K V C D : Type 0} (key : K → WrittenKey) (keys : KeyConversion C) (as_key : K → C) (tree : V → Written) (values : Tree → Option D) (as_value : V → D) (e : K × V) : Type 0 where
   pub key_back : KeyReadsBack key keys as_key e.0
   pub value_back : ReadsBack tree values as_value e.1
 
 -- the members of an object read back, in their order, if each key and each value does
-abbrev pub PairsReadBack : {K V C D : Type 0} → (K → WrittenKey) → KeyConversion C → (K → C) → (V → Written) → (Tree → Option D) → (V → D) → Type 0
-PairsReadBack {K} {V} key keys as_key tree values as_value =
-    (es : List (K × V)) → All (PairReadsBack key keys as_key tree values as_value) es → pairs_of keys values (marks (object (fields_of key tree es))) ≡ Some (map (pair_content as_key as_value) es)
+abbrev pub MembersReadBack : {K V C D : Type 0} → (K → WrittenKey) → KeyConversion C → (K → C) → (V → Written) → (Tree → Option D) → (V → D) → Type 0
+MembersReadBack {K} {V} key keys as_key tree values as_value =
+    (es : List (K × V)) → All (MemberReadsBack key keys as_key tree values as_value) es → pairs_of keys values (marks (object (fields_of key tree es))) ≡ Some (map (pair_content as_key as_value) es)
 
 -- members whose keys ascend stay as they are if they are inserted in turn into a map that keeps the keys' order
 abbrev pub OrderStays : {K V C D : Type 0} → (K → C) → (V → D) → (K → K → Ordering) → Type 0

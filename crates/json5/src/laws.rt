@@ -17,7 +17,7 @@ ghost use Rattle.json5_ser.specs.Marks.{marks, is_escape_free_text};
 ghost use Rattle.json5_ser.specs.ValueTrees.{datum_tree};
 ghost use Rattle.json5.specs.AnyText.{FaultyDocument, IsOneFault, IsNoDocument, ReadsEachText};
 ghost use Rattle.json5_format.specs.Formatted.{IsFormattedWithin};
-ghost use Rattle.json5.specs.ReadsBack.{ReadsBack, KeyReadsBack, PairsReadBack, OrderStays, TurnStays, list_tree, list_of};
+ghost use Rattle.json5.specs.ReadsBack.{ReadsBack, KeyReadsBack, MembersReadBack, OrderStays, TurnStays, list_tree, list_of};
 
 use json5_de::{Deserialize, DeserializeKey};
 use json5_ser::{Serialize, SerializeKey};
@@ -64,7 +64,7 @@ pub fn pairs_read_back<
     K: SerializeKey + DeserializeKey<I>,
     V: Serialize + Deserialize<I>,
 >()
-    ensures { PairsReadBack K.as_key K.convert K.content V.tree V.convert V.content }
+    ensures { MembersReadBack K.as_key K.convert K.content V.tree V.convert V.content }
 {}
 
 /// What counts of a map's entries stays as it is where they are put into an empty map: so a map reads back where its members

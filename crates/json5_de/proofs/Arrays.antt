@@ -12,9 +12,9 @@ use Rattle.json5_grammar.specs.Language.Trees.{Tree}
 use Rattle.json5_grammar.specs.Language.Values.{Reads}
 use Rattle.json5_grammar.specs.Language.Documents.{max_depth}
 use Rattle.json5_grammar.specs.Model.Collections.{IsSign, IsEnd, IsElement}
-use Rattle.json5_grammar.proofs.CollectionsRead.{comma_solid, bracket_solid, opening_solid, sign_here, sign_found, reads_found}
-use Rattle.json5_grammar.proofs.CollectionsPassed.{after_same_comma, no_comma_end}
-use Rattle.json5_grammar.proofs.CollectionsNowhere.{reads_here, no_sign, no_sign_in_blanks}
+use Rattle.json5_grammar.proofs.ArraysRead.{comma_solid, bracket_solid, opening_solid, sign_here, sign_found, reads_found}
+use Rattle.json5_grammar.proofs.ArraysPassed.{after_same_comma, no_comma_end}
+use Rattle.json5_grammar.proofs.EntriesAfterGaps.{reads_here, no_sign, no_sign_in_blanks}
 use Rattle.json5_text.specs.declared.error.Error.{Error}
 use Rattle.json5_text.specs.Cursor.{Refused}
 use Rattle.json5_text.specs.Tokens.{FaultyBlanks}
@@ -32,10 +32,10 @@ use Rattle.json5_de.specs.Access.{TookElement, NotOpened, no_bracket, text_ends,
 use Rattle.json5_value.specs.Steps.{Unexpected, at_end, at_char}
 use Rattle.json5_de.specs.Seq.{IsAfterGap, IsEntryStart, AtEntry, AdvancesToEntry, NothingNext, NoNext, no_comma, comma_missing}
 use Rattle.json5_de.specs.Faults.{AfterBlanks, in_blanks, after_gap, RefusedBy}
-use Rattle.json5_de.proofs.Taken.{refused_token}
+use Rattle.json5_de.proofs.ReadSteps.{refused_token}
 use Rattle.json5_de.proofs.RefusalPositions.{refused_as, refused_after}
 use Rattle.json5_value.proofs.Steps.{some_next}
-use Rattle.json5_grammar.proofs.Basics.{same_char, true_false}
+use Rattle.json5_grammar.proofs.FirstCharacters.{same_char, true_false}
 
 pub failed_of : {s t : State} → s ≡ t → s.failed ≡ t.failed
 failed_of e = ap (λ (s : State). s.failed) e

@@ -7,11 +7,11 @@ use Rattle.json5_grammar.specs.Language.Blanks.{LastBlanks}
 use Rattle.json5_grammar.specs.Language.Trees.{Tree, depth}
 use Rattle.json5_grammar.specs.Language.Values.{Reads}
 use Rattle.json5_grammar.specs.Language.Documents.{Doc, max_depth}
-use Rattle.json5_grammar.proofs.Unique.{document_phrase, phrase_document, one_phrase}
+use Rattle.json5_grammar.proofs.OneTree.{document_phrase, phrase_document, one_phrase}
 use Rattle.json5_de.specs.State.{State, at_start}
 use Rattle.json5_de.specs.Law.{TookValue, Gives, Completes}
 use Rattle.json5_de.specs.Faults.{AfterBlanks, AtEnd, RefusedBy, Trailing}
-use Rattle.json5_de.proofs.Taken.{input_of}
+use Rattle.json5_de.proofs.ReadSteps.{input_of}
 use Rattle.std.proofs.lemmas.Option.{same_Some}
 use Rattle.json5_de.proofs.Arrays.{failed_of}
 

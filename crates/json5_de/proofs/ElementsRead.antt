@@ -2,7 +2,7 @@
 use Rattle.std.proofs.Common.{◌≡◌, false, Bool, refl, ◌∙◌, arith, Option, Some, None, Ok, Err}
 use Rattle.std.proofs.Math.Bool.{or-true}
 use Rattle.json5_grammar.specs.Language.Trees.{Tree}
-use Rattle.json5_grammar.proofs.Basics.{true_false}
+use Rattle.json5_grammar.proofs.FirstCharacters.{true_false}
 use Rattle.json5_text.specs.declared.error.Error.{Error}
 use Rattle.json5_value.specs.Brackets.{square}
 use Rattle.json5_de.specs.State.{State, SameText}
@@ -10,7 +10,7 @@ use Rattle.json5_de.specs.Law.{Gives, Completes, Unprompted, Steady}
 use Rattle.json5_de.specs.Faults.{RefusedBy}
 use Rattle.json5_de.specs.Seq.{AtEntry, NothingNext, NoNext, not_reached, in_element, ReadsElementOfArray}
 use Rattle.json5_de.proofs.Arrays.{square_signs, no_element_next, element_found, no_close_found, took_element, level_of, failed_of}
-use Rattle.json5_de.proofs.Taken.{input_of}
+use Rattle.json5_de.proofs.ReadSteps.{input_of}
 
 module _ {V C : Type 0} (content : V → C) (convert : Tree → Option C) (refuses : State → Error → State → Type 0) (comma_due : Bool) (old : State) where
   -- an element was read

@@ -17,7 +17,7 @@ use Rattle.json5_text.specs.Tokens.{FaultyBlanks}
 use Rattle.json5_de.specs.State.{State, cursor_of}
 use Rattle.json5_de.specs.Law.{Gives, Completes}
 use Rattle.json5_de.specs.Faults.{AfterBlanks, in_blanks, after_gap, RefusedBy, RefusedByOr, RefusedByOrMemory, IsPositionless, IsAfter, AtEnd, AtOther, EndsWith, EndsWithOr, DiffersWith, DiffersWithOr}
-use Rattle.json5_grammar.proofs.Basics.{first_same, true_false}
+use Rattle.json5_grammar.proofs.FirstCharacters.{first_same, true_false}
 
 -- a kind of value: what is refused where one is expected, its trees, what begins one, and the codes at the end and at another character
 pub record Expected {C : Type 0} (IsFault : List ℕ → Option ErrorCode → Option (List ℕ) → Type 0) (convert : Tree → Option C) (begins : ℕ → Bool) (ends differs : ErrorCode) : Type 0 where

@@ -6,7 +6,7 @@ use Rattle.json5_grammar.specs.declared.code.ErrorCode.{ErrorCode}
 use Rattle.json5_grammar.specs.declared.code.ErrorCode.TheVariants as codes_of
 use Rattle.json5_grammar.specs.Language.Trees.{Tree, null, boolean, number, text, array, object}
 use Rattle.json5_grammar.specs.Language.Values.{Val, is_null, is_true, is_false, is_number, is_text, is_empty_array, is_array, is_empty_object, is_object, null_text, true_text, false_text}
-use Rattle.json5_grammar.proofs.Basics.{neq_from}
+use Rattle.json5_grammar.proofs.FirstCharacters.{neq_from}
 use Rattle.json5_text.specs.Tokens.{FaultyWord}
 use Rattle.json5_de.specs.Convert.{unit_of, bool_of}
 use Rattle.json5_de.specs.Faults.{FaultyNull, FaultyBool}

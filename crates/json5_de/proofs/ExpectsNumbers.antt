@@ -19,7 +19,7 @@ use Rattle.json5_de.specs.Convert.{as_number}
 use Rattle.json5_de.specs.Faults.{NotNumber, faulty_number, other_number}
 use Rattle.json5_de.proofs.Expected.{Expected}
 use Rattle.std.proofs.lemmas.Bool.{or_parts}
-use Rattle.json5_grammar.proofs.Basics.{first_same, true_false, none_some}
+use Rattle.json5_grammar.proofs.FirstCharacters.{first_same, true_false, none_some}
 use Rattle.json5_grammar.proofs.Refusals.{same_bad}
 
 number_none : reading.number [] ≡ bad (Some EofParsingNumber) inner

@@ -10,7 +10,7 @@ use Rattle.json5_grammar.specs.Language.Numbers.{lengthens}
 use Rattle.json5_grammar.specs.Language.Characters.{NotBegun}
 use Rattle.json5_grammar.specs.Language.Trees.{Tree}
 use Rattle.json5_grammar.specs.Language.Values.{Val, Stops, is_null, is_true, is_false, is_number, is_text, is_empty_array, is_array, is_empty_object, is_object}
-use Rattle.json5_grammar.proofs.Basics.{eq_from, first_same, true_false, none_some}
+use Rattle.json5_grammar.proofs.FirstCharacters.{eq_from, first_same, true_false, none_some}
 use Rattle.json5_grammar.proofs.StringsRead.{no_string_fault, one_string}
 use Rattle.json5_text.specs.Tokens.{FaultyString, faulty, no_quote, string_missing}
 use Rattle.json5_de.specs.Convert.{as_text}

@@ -15,9 +15,9 @@ use Rattle.json5_grammar.specs.Model.Collections.{ReadsKey}
 use Rattle.json5_grammar.specs.Language.Names.{Key}
 use Rattle.json5_grammar.specs.Faults.Positions.{position_after}
 use Rattle.json5_grammar.specs.Language.Trees.{Tree}
-use Rattle.json5_grammar.proofs.Basics.{none_some, true_false}
+use Rattle.json5_grammar.proofs.FirstCharacters.{none_some, true_false}
 use Rattle.json5_grammar.proofs.BlanksSound.{gap_blanks, no_blank_fault, one_gap}
-use Rattle.json5_grammar.proofs.CollectionsPairs.{one_reads_key}
+use Rattle.json5_grammar.proofs.ObjectsRead.{one_reads_key}
 use Rattle.json5_grammar.proofs.ValueHeads.{key_head, key_solid}
 use Rattle.json5_text.specs.declared.error.Error.{Error}
 use Rattle.json5_text.specs.Errors.{LacksMemory, code, custom, kind_of, error_position}
@@ -38,7 +38,7 @@ use Rattle.json5_de.specs.ReaderSteps.{PassedGap, IsMismatch, IsMismatchOf}
 use Rattle.json5_de.specs.WholeInputs.{ReadsDocument, RefusesReading}
 use Rattle.json5_value.proofs.OtherCodes.{key_lacks, memory_other}
 use Rattle.json5_de.proofs.TokenKinds.{refused_other, given_up_after}
-use Rattle.json5_de.proofs.Taken.{input_of, refused_token}
+use Rattle.json5_de.proofs.ReadSteps.{input_of, refused_token}
 use Rattle.json5_de.proofs.KeyDocuments.{converts, is_document, IsRefusedText, refused_text}
 
 -- ---- what is in front

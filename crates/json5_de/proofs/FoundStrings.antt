@@ -21,7 +21,7 @@ use Rattle.json5_de.specs.ReaderSteps.{PassedGap}
 use Rattle.json5_de.specs.TokenCalls.{CompletesEscapeFree}
 use Rattle.json5_de.proofs.ExpectsStrings.{text_stops}
 use Rattle.json5_de.proofs.TokenKinds.{escape_free_completes, lawful_coded, reads_ok, reads_err, refuses_memory, not_coded}
-use Rattle.json5_de.proofs.Taken.{took_leaf}
+use Rattle.json5_de.proofs.ReadSteps.{took_leaf}
 use Rattle.json5_de.proofs.StringCharacters.{same_character}
 
 after_text : {C : Type 0} (other : Option ErrorCode) (f : List ℕ → Bool → Option C) (x : List ℕ) (reason : Option ErrorCode) (place : Option (List ℕ)) → AfterBlanks FaultyString x reason place → AfterBlanks (NotText other f) x reason place

@@ -11,7 +11,7 @@ use Rattle.json5_grammar.specs.Language.Trees.{Tree, depth}
 use Rattle.json5_grammar.specs.Language.Values.{Val}
 use Rattle.json5_grammar.proofs.BlanksRead.{skip_blanks, skip_last}
 use Rattle.json5_grammar.proofs.BlanksSound.{gap_end}
-use Rattle.json5_grammar.proofs.Found.{found}
+use Rattle.json5_grammar.proofs.FoundInFront.{found}
 use Rattle.json5_grammar.proofs.ValueHeads.{val_head, skip_value, stops_last}
 use Rattle.json5_grammar.proofs.ValuesRead.{read_complete}
 use Rattle.json5_grammar.proofs.ValuesSound.{gap_found, IsGap, read_sound}
@@ -25,7 +25,7 @@ use Rattle.json5_de.specs.State.{at_start}
 use Rattle.json5_de.specs.WholeInputs.{RefusesReading, in_value, after_value}
 use Rattle.json5_de.proofs.Arrays.{failed_of}
 use Rattle.json5_de.proofs.TokenKinds.{or_memory_as}
-use Rattle.json5_de.proofs.Taken.{value_gap}
+use Rattle.json5_de.proofs.ReadSteps.{value_gap}
 
 -- ---- which texts are documents
 

@@ -9,7 +9,7 @@ use Rattle.json5_de.specs.State.{State}
 use Rattle.json5_de.specs.Law.{TookValue, Gives, Completes}
 use Rattle.json5_de.specs.Keys.{KeyConversion}
 use Rattle.json5_de.specs.ConvertLists.{if_some}
-use Rattle.json5_de.specs.Maps.{TellsKeys, Told, pair_content, found_in, in_turn, in_order, pairs_of, map_of, GivesPairs}
+use Rattle.json5_de.specs.Maps.{TellsKeys, Told, pair_content, found_in, in_turn, in_order, pairs_of, map_of, GivesMembers}
 use Rattle.json5_de.proofs.MapContents.{turn_content, order_content, found_content}
 
 some_from : {A B : Type 0} (f : A → B) (o : Option A) (b : B) → if_some f o ≡ Some b → (a : A) × (o ≡ Some a) × (f a ≡ b)
@@ -19,7 +19,7 @@ some_from f (Some a) b h = (a, refl, cc)
 module _ {C D A : Type 0} (keys : KeyConversion C) (values : Tree → Option D) (gathered : List (C × D) → A) (old : State) where
   -- what its pairs make is what counts of it
   pub gives_map : {K V M : Type 0} (key : K → C) (value : V → D) (Gathered : M → List (K × V) → Type 0) (content : M → A) → ((m : M) (ps : List (K × V)) → Gathered m ps → content m ≡ gathered (map (pair_content key value) ps))
-      → (new : State) (result : Result M Error) → IfOk result (GivesPairs key value keys values Gathered old new) → IfOk result (λ m. Gives content (map_of keys values gathered) old new m)
+      → (new : State) (result : Result M Error) → IfOk result (GivesMembers key value keys values Gathered old new) → IfOk result (λ m. Gives content (map_of keys values gathered) old new m)
   gives_map key value Gathered content made new (Ok m) (ps, is, gives) = let (t, took, are) = gives in (t, took, ap (if_some gathered) are ∙ ap Some (sym (made m ps is)))
   gives_map key value Gathered content made new (Err e) gives = tt
 

@@ -13,7 +13,7 @@ use Rattle.json5_text.specs.Errors.{error_position}
 use Rattle.json5_de.specs.State.{State}
 use Rattle.json5_de.specs.Faults.{RefusedByOrMemory, NotNumber, other_number, NotText, other_text}
 use Rattle.json5_de.specs.ReaderSteps.{PassedGap, TookText, IsMismatch, IsMismatchOf}
-use Rattle.json5_de.proofs.Taken.{refused_token, input_of}
+use Rattle.json5_de.proofs.ReadSteps.{refused_token, input_of}
 
 -- the offset is that of what is unread
 abbrev pub StartsAt : State → ℕ → Type 0

@@ -14,12 +14,12 @@ use Rattle.json5_de.specs.Access.{AccessState, Opened, Closed, NotOpened, NotClo
 use Rattle.json5_de.proofs.Expected.{end_fault, other_fault}
 use Rattle.json5_grammar.specs.Language.Documents.{max_depth}
 use Rattle.json5_de.specs.ReaderSteps.{PassedGap, TookText}
-use Rattle.json5_de.proofs.Taken.{input_of}
+use Rattle.json5_de.proofs.ReadSteps.{input_of}
 use Rattle.json5_de.proofs.OtherCodes.{opening_lacks, closing_lacks}
 use Rattle.json5_de.proofs.TokenKinds.{refused_other}
 use Rattle.json5_de.proofs.Arrays.{opening_refused, only_read, level_of, unread_of, sign_next, after_gap_of}
-use Rattle.json5_de.proofs.ArrayCodes.{expects_opening, expects_closing, full_fault, end_no_sign, other_no_sign, end_not_closed, other_not_closed}
-use Rattle.json5_grammar.proofs.Basics.{true_false}
+use Rattle.json5_de.proofs.EntryCodes.{expects_opening, expects_closing, full_fault, end_no_sign, other_no_sign, end_not_closed, other_not_closed}
+use Rattle.json5_grammar.proofs.FirstCharacters.{true_false}
 
 pub opens : {A : Type 0} (b : Brackets) → AreSigns b → (state_of : A → AccessState) (old : State) (a : A) → Opened b old (state_of a).reader → (state_of a).comma_due ≡ false
     → ((before : List ℕ) → old.input ≡ before ++ b.opening ∷ (state_of a).reader.unread → (state_of a).start ≡ length (encode_utf8_all before)) → OpensAs b state_of old (Ok a)

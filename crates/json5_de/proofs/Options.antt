@@ -12,8 +12,8 @@ use Rattle.json5_grammar.specs.Language.Values.{Val, Reads, is_null, is_true, is
 use Rattle.json5_grammar.proofs.BlanksSound.{gap_last}
 use Rattle.json5_grammar.proofs.Classes.{number_others, quote_others}
 use Rattle.json5_grammar.proofs.ValueHeads.{val_head, number_head}
-use Rattle.json5_grammar.proofs.CollectionsRead.{phrase_found, reads_found}
-use Rattle.json5_grammar.proofs.CollectionsNowhere.{reads_here, no_reads_in_blanks}
+use Rattle.json5_grammar.proofs.ArraysRead.{phrase_found, reads_found}
+use Rattle.json5_grammar.proofs.EntriesAfterGaps.{reads_here, no_reads_in_blanks}
 use Rattle.json5_text.specs.declared.error.Error.{Error}
 use Rattle.json5_text.specs.Errors.{code, kind_of, error_position}
 use Rattle.json5_text.specs.Cursor.{Refused}
@@ -29,10 +29,10 @@ use Rattle.json5_de.specs.ReaderSteps.{PassedGap}
 use Rattle.json5_value.specs.Steps.{Unexpected, at_end, at_char}
 use Rattle.json5_de.proofs.Expected.{Expected}
 use Rattle.json5_de.proofs.Arrays.{only_read, level_of}
-use Rattle.json5_de.proofs.Taken.{input_of, refused_token}
+use Rattle.json5_de.proofs.ReadSteps.{input_of, refused_token}
 use Rattle.json5_de.proofs.OtherCodes.{option_lacks}
 use Rattle.json5_de.proofs.TokenKinds.{refused_other}
-use Rattle.json5_grammar.proofs.Basics.{first_same, true_false}
+use Rattle.json5_grammar.proofs.FirstCharacters.{first_same, true_false}
 
 pub not_nil : (c : ℕ) (x y : List ℕ) → y ≡ c ∷ x → y ≡ [] → ⊥
 not_nil c x y e k = let none : c ∷ x ≡ [] = sym e ∙ k in absurd (cc)

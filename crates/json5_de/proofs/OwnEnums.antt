@@ -6,7 +6,7 @@ use Rattle.json5_grammar.specs.Language.Documents.{max_depth}
 use Rattle.json5_grammar.specs.Language.Trees.{Tree, Trees, Members, null, boolean, number, text, array, object, no_more, more, no_member, member, depth}
 use Rattle.json5_grammar.specs.Language.Values.{Reads}
 use Rattle.json5_grammar.specs.Model.Collections.{IsBrace, joint, array_of, object_of, snoc, joined_trees}
-use Rattle.json5_grammar.proofs.CollectionsPairsConverted.{object_only}
+use Rattle.json5_grammar.proofs.MembersConverted.{object_only}
 use Rattle.json5_text.specs.declared.error.Error.{Error}
 use Rattle.json5_text.specs.Cursor.{IsOutOfMemory}
 use Rattle.json5_de.specs.State.{State, SameText}
@@ -14,8 +14,8 @@ use Rattle.json5_de.specs.Law.{Unprompted, Gives, Completes, TookValue, IsUnprom
 use Rattle.json5_de.specs.ConvertLists.{if_some, first_of, last_of}
 use Rattle.json5_de.specs.Refinement.{if_more}
 use Rattle.json5_de.specs.Access.{AccessState, ElementsRead, ElementsLeft, ReadsMore, LeavesFewer}
-use Rattle.json5_de.specs.Objects.{MapAccessState, PairsLeft}
-use Rattle.json5_de.specs.Plans.{Plan, run, ReadsPairs}
+use Rattle.json5_de.specs.Objects.{MapAccessState, MembersLeft}
+use Rattle.json5_de.specs.Plans.{Plan, run, ReadsMembers}
 use Rattle.json5_de.specs.Enums.{EnumAccessState, NameRead, NamesVariant, ReadsVariant, GivesContent, AfterName, ContentLeft, OpensTuple, OpensStruct, ClosesTuple, ClosesStruct, enum_of, named_variant, content_of}
 use Rattle.json5_de.specs.Variants.{Variant, from_index, FinishesVariant}
 use Rattle.json5_de.proofs.Loops.{handed_on}
@@ -304,7 +304,7 @@ module _ {S D : Type 0} (plan : Plan S D) {X : Type 0} (state_of : X → MapAcce
   struct_input new same = same ∙ opens.same_text
 
   refused_fields : {new : State} (e : Error) (result : Result V Error) → IsErrAnd result (λ y. y ≡ e) → (old.reader.failed ≡ false → IsUnprompted e) → SameText old.reader new
-      → ((ps : Members) (z r : List ℕ) (m : S) (d : D) → run plan.step plan.start ps ≡ Some m → plan.build m ≡ Some d → PairsLeft ps z (state_of x) → IsBrace true z r → IsOutOfMemory e) → FinishesVariant content (λ t. if_some make (content_of (object_of plan.convert) t)) old new result
+      → ((ps : Members) (z r : List ℕ) (m : S) (d : D) → run plan.step plan.start ps ≡ Some m → plan.build m ≡ Some d → MembersLeft ps z (state_of x) → IsBrace true z r → IsOutOfMemory e) → FinishesVariant content (λ t. if_some make (content_of (object_of plan.convert) t)) old new result
   refused_fields {new = new} e result is_err unprompted same memory = handed_on (λ r. FinishesVariant content (λ t. if_some make (content_of (object_of plan.convert) t)) old new r) e result is_err (record {
     read = tt;
     left = λ t r c l is. by t r c l is;
@@ -322,16 +322,16 @@ module _ {S D : Type 0} (plan : Plan S D) {X : Type 0} (state_of : X → MapAcce
           memory ps z r m d are built (opens.left ps z opens.content.has_content l.live (subst (λ u. Reads old.reader.unread u z) one reads) (subst (λ u. old.reader.level + depth u ≤ max_depth) one l.shallow)) close
 
   -- the refusal of its members isn't `Failed`
-  pub fields_unprompted : (before : State) {n : S} {now : MapAccessState} (e : Error) (result : Result V Error) → IsErrAnd result (λ y. y ≡ e) → ReadsPairs plan.step plan.start n (state_of x) now (Err e) → Unprompted before result
+  pub fields_unprompted : (before : State) {n : S} {now : MapAccessState} (e : Error) (result : Result V Error) → IsErrAnd result (λ y. y ≡ e) → ReadsMembers plan.step plan.start n (state_of x) now (Err e) → Unprompted before result
   fields_unprompted before e result is_err reads = handed_on (λ r. Unprompted before r) e result is_err (λ live. reads.unprompted struct_live)
 
   -- its members were refused
-  pub fields_refused : {n : S} {now : MapAccessState} {new : State} (e : Error) (result : Result V Error) → IsErrAnd result (λ y. y ≡ e) → ReadsPairs plan.step plan.start n (state_of x) now (Err e) → SameText (state_of x).at.reader new
+  pub fields_refused : {n : S} {now : MapAccessState} {new : State} (e : Error) (result : Result V Error) → IsErrAnd result (λ y. y ≡ e) → ReadsMembers plan.step plan.start n (state_of x) now (Err e) → SameText (state_of x).at.reader new
       → FinishesVariant content (λ t. if_some make (content_of (object_of plan.convert) t)) old new result
   fields_refused {new = new} e result is_err reads same = refused_fields e result is_err (λ live. reads.unprompted struct_live) (struct_input new same) (λ ps z r m d are built left close. reads.left ps z m are left)
 
   -- all its members were read, and they make no struct
-  pub field_missing : {n : S} {now : MapAccessState} {new : State} (e : Error) (result : Result V Error) → IsErrAnd result (λ y. y ≡ e) → ReadsPairs plan.step plan.start n (state_of x) now (Ok tt) → plan.build n ≡ None → IsUnprompted e → SameText (state_of x).at.reader new
+  pub field_missing : {n : S} {now : MapAccessState} {new : State} (e : Error) (result : Result V Error) → IsErrAnd result (λ y. y ≡ e) → ReadsMembers plan.step plan.start n (state_of x) now (Ok tt) → plan.build n ≡ None → IsUnprompted e → SameText (state_of x).at.reader new
       → FinishesVariant content (λ t. if_some make (content_of (object_of plan.convert) t)) old new result
   field_missing {new = new} e result is_err reads none own same = refused_fields e result is_err (λ live. own) (struct_input new same) (λ ps z r m d are built left close.
       let (one, rest) = reads.left ps z m are left in
@@ -340,13 +340,13 @@ module _ {S D : Type 0} (plan : Plan S D) {X : Type 0} (state_of : X → MapAcce
 
   module _ {n : S} {now : MapAccessState} {brace : ℕ} {last : State} where
     -- its bracket or the variant's brace was refused
-    pub struct_open : (e : Error) (result : Result V Error) → IsErrAnd result (λ y. y ≡ e) → ReadsPairs plan.step plan.start n (state_of x) now (Ok tt) → now.pending ≡ false → SameText (state_of x).at.reader now.at.reader → ClosesStruct brace now last (Err e)
+    pub struct_open : (e : Error) (result : Result V Error) → IsErrAnd result (λ y. y ≡ e) → ReadsMembers plan.step plan.start n (state_of x) now (Ok tt) → now.pending ≡ false → SameText (state_of x).at.reader now.at.reader → ClosesStruct brace now last (Err e)
         → FinishesVariant content (λ t. if_some make (content_of (object_of plan.convert) t)) old last result
     struct_open e result is_err reads none same closes = refused_fields e result is_err (λ live. closes.bracket.unprompted reads.live) (struct_input last (closes.bracket.same_text ∙ same)) (λ ps z r m d are built left close.
         let (one, rest) = reads.left ps z m are left in absurd (false≢true (closes.left z r none rest close)))
 
     -- both were taken
-    pub struct_content : {new : State} {v : V} {d : D} → ReadsPairs plan.step plan.start n (state_of x) now (Ok tt) → SameText (state_of x).at.reader now.at.reader → ClosesStruct brace now last (Ok tt) → new ≡ last → plan.build n ≡ Some d → make d ≡ content v
+    pub struct_content : {new : State} {v : V} {d : D} → ReadsMembers plan.step plan.start n (state_of x) now (Ok tt) → SameText (state_of x).at.reader now.at.reader → ClosesStruct brace now last (Ok tt) → new ≡ last → plan.build n ≡ Some d → make d ≡ content v
         → FinishesVariant content (λ t. if_some make (content_of (object_of plan.convert) t)) old new (Ok v)
     struct_content {new = new} {v = v} {d = d} reads inside closes at built same = record {
       read = λ names from n.

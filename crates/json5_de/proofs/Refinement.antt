@@ -5,8 +5,8 @@ use Rattle.std.proofs.lemmas.List.{append-nil}
 use Rattle.json5_grammar.specs.declared.position.Position.{Position}
 use Rattle.json5_grammar.specs.Faults.Positions.{position_after}
 use Rattle.json5_grammar.specs.Language.Trees.{Tree}
-use Rattle.json5_grammar.proofs.CollectionsRead.{phrase_found}
-use Rattle.json5_grammar.proofs.Unique.{one_phrase}
+use Rattle.json5_grammar.proofs.ArraysRead.{phrase_found}
+use Rattle.json5_grammar.proofs.OneTree.{one_phrase}
 use Rattle.json5_text.specs.declared.error.Error.{Error}
 use Rattle.json5_text.specs.Cursor.{IsPositionOf}
 use Rattle.json5_text.specs.Errors.{IsCustomAt}
@@ -15,7 +15,7 @@ use Rattle.json5_de.specs.Faults.{RefusedBy}
 use Rattle.json5_de.specs.Law.{Gives, Completes, TookValue}
 use Rattle.json5_de.specs.Refinement.{ReadsContent, if_more, refined, NotAccepted, not_accepted}
 use Rattle.json5_de.specs.Spans.{SpansValue}
-use Rattle.json5_de.proofs.Taken.{refused_token, input_of}
+use Rattle.json5_de.proofs.ReadSteps.{refused_token, input_of}
 
 -- what is accepted was converted
 pub parts : {A B : Type 0} (g : A → Option B) (o : Option A) (v : B) → if_more g o ≡ Some v → (x : A) × (o ≡ Some x) × (g x ≡ Some v)

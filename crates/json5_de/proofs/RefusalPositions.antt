@@ -6,7 +6,7 @@ use Rattle.json5_text.specs.declared.error.Error.{Error}
 use Rattle.json5_text.specs.Cursor.{Refused}
 use Rattle.json5_de.specs.State.{State, cursor_of}
 use Rattle.json5_de.specs.ReaderSteps.{TookText}
-use Rattle.json5_de.proofs.Taken.{placed_after, input_of}
+use Rattle.json5_de.proofs.ReadSteps.{placed_after, input_of}
 
 -- another name for the same fault
 pub refused_as : {F G : List ℕ → Option ErrorCode → Option (List ℕ) → Type 0} (s t : State) (e : Error) → s ≡ t

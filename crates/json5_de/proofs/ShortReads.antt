@@ -27,9 +27,9 @@ use Rattle.json5_de.specs.Seq.{IsEntryStart}
 use Rattle.json5_de.specs.ShortWays.{ReadsShort, StepsShort, ReadsShortText, ReadsShortKey, PassesShortColon, OwnsTextAt}
 use Rattle.json5_de.specs.State.{State}
 use Rattle.json5_de.proofs.TokenKinds.{reads_ok}
-use Rattle.json5_de.proofs.Taken.{value_gap, input_of}
+use Rattle.json5_de.proofs.ReadSteps.{value_gap, input_of}
 use Rattle.json5_de.proofs.FoundKeys.{key_ok}
-use Rattle.json5_grammar.proofs.Basics.{true_false}
+use Rattle.json5_grammar.proofs.FirstCharacters.{true_false}
 use Rattle.json5_value.proofs.OtherCodes.{memory_other}
 use Rattle.json5_text.specs.declared.error.Error.{Error}
 

@@ -9,7 +9,7 @@ use Rattle.json5_grammar.specs.Language.Documents.{max_depth}
 use Rattle.json5_grammar.specs.Language.Trees.{Tree, Members, object, no_member, member, depth}
 use Rattle.json5_grammar.specs.Language.Values.{Reads}
 use Rattle.json5_grammar.specs.Model.Collections.{joint, snoc_member, object_of}
-use Rattle.json5_grammar.proofs.CollectionsPairsConverted.{object_only}
+use Rattle.json5_grammar.proofs.MembersConverted.{object_only}
 use Rattle.json5_text.specs.declared.error.Error.{Error}
 use Rattle.json5_text.specs.Cursor.{IsOutOfMemory}
 use Rattle.json5_de.specs.State.{State}
@@ -17,12 +17,12 @@ use Rattle.json5_de.specs.ConvertLists.{if_some}
 use Rattle.json5_de.specs.Law.{TookValue, Completes, IsUnprompted, Unprompted}
 use Rattle.json5_de.specs.Refinement.{if_more}
 use Rattle.json5_de.specs.Keys.{KeyConversion}
-use Rattle.json5_de.specs.Objects.{MapAccessState, GivesPairKey, PairsRead, PairsLeft, ReadsAKey, LeavesAValue, OpensMap}
+use Rattle.json5_de.specs.Objects.{MapAccessState, GivesMemberKey, MembersRead, MembersLeft, ReadsAKey, LeavesAValue, OpensMap}
 use Rattle.json5_de.specs.Fields.{or_value, FieldRead, FillsField, LeavesFilled}
 use Rattle.json5_de.specs.Convert.{every_text}
 use Rattle.json5_de.specs.Lending.{map_state_of}
 use Rattle.json5_de.specs.declared.map.MapAccess.{MapAccess}
-use Rattle.json5_de.specs.Plans.{LeavesTaken, PassesPair, Plan, Step, run, at_name, both_steps, TakesPair, ReadsPairs}
+use Rattle.json5_de.specs.Plans.{LeavesTaken, PassesMember, Plan, Step, run, at_name, both_steps, TakesMember, ReadsMembers}
 use Rattle.json5_de.proofs.Loops.{handed_on}
 use Rattle.json5_de.proofs.Refinement.{parts}
 
@@ -109,7 +109,7 @@ some_unit = Some tt
 module _ {S : Type 0} {step : Step S} {old new : MapAccessState} where
   -- a field is read; s has what was read of the others
   pub takes_field : {V C : Type 0} {content : V → C} {convert : Tree → Option C} {refuses : _} {name : List ℕ} {field next : Option V} {result : Result (Unit {0}) Error} (s : S) (part : Part step name convert) → FieldRead content convert refuses old new field next result
-      → TakesPair step (part.set s (if_some content field)) (part.set s (if_some content next)) name old new result
+      → TakesMember step (part.set s (if_some content field)) (part.set s (if_some content next)) name old new result
   takes_field {V} {C} {content = content} {convert = convert} {name = name} {field = field} {next = next} {result = result} s part is = record {
     read = reads result is.read;
     left = λ u escape_free t ps r m takes left. leaves result field m t ps r takes (λ none. is.left none u escape_free t ps r left);
@@ -127,7 +127,7 @@ module _ {S : Type 0} {step : Step S} {old new : MapAccessState} where
       filled field next v t none some is = rw (none, some) (part.takes s t ∙ ap (if_some (λ c. part.set s (Some c))) is)
 
       reads : (result : Result (Unit {0}) Error) → OnOk result (FillsField content convert old new field next)
-          → OnOk result ((t : Tree) × (step (part.set s (if_some content field)) name t ≡ Some (part.set s (if_some content next))) × ((from : State) (ps : Members) (u : List ℕ) (escape_free : Bool) → PairsRead from ps (Some (u, escape_free)) old → PairsRead from (snoc_member ps u escape_free t) None new))
+          → OnOk result ((t : Tree) × (step (part.set s (if_some content field)) name t ≡ Some (part.set s (if_some content next))) × ((from : State) (ps : Members) (u : List ℕ) (escape_free : Bool) → MembersRead from ps (Some (u, escape_free)) old → MembersRead from (snoc_member ps u escape_free t) None new))
       reads (Ok done) (v, none, some, (t, is, on)) = (t, filled field next v t none some is, on)
       reads (Err e) fills = tt
 
@@ -143,7 +143,7 @@ module _ {S : Type 0} {step : Step S} {old new : MapAccessState} where
       leaves (Err e) None m t ps r takes left = let (c, is, same) = converted m (convert t) (sym (part.takes s t) ∙ takes) in left refl c is
 
   -- a member that changes nothing is passed over
-  pub passes_pair : {s : S} {name : List ℕ} {result : Result (Unit {0}) Error} → Passes step name → PassesPair old new result → TakesPair step s s name old new result
+  pub passes_pair : {s : S} {name : List ℕ} {result : Result (Unit {0}) Error} → Passes step name → PassesMember old new result → TakesMember step s s name old new result
   passes_pair {s = s} {name = name} {result = result} passes is = record {
     read = reads result is.read;
     left = λ u escape_free t ps r m takes left. leaves result m ps r (let one : Some s ≡ Some m = sym (passes.same s t) ∙ takes in cc one) (is.left u escape_free t ps r tt refl left);
@@ -153,8 +153,8 @@ module _ {S : Type 0} {step : Step S} {old new : MapAccessState} where
     unprompted = is.unprompted;
   }
     where
-      reads : (result : Result (Unit {0}) Error) → OnOk result ((t : Tree) × (some_unit ≡ some_unit) × ((from : State) (ps : Members) (u : List ℕ) (escape_free : Bool) → PairsRead from ps (Some (u, escape_free)) old → PairsRead from (snoc_member ps u escape_free t) None new))
-          → OnOk result ((t : Tree) × (step s name t ≡ Some s) × ((from : State) (ps : Members) (u : List ℕ) (escape_free : Bool) → PairsRead from ps (Some (u, escape_free)) old → PairsRead from (snoc_member ps u escape_free t) None new))
+      reads : (result : Result (Unit {0}) Error) → OnOk result ((t : Tree) × (some_unit ≡ some_unit) × ((from : State) (ps : Members) (u : List ℕ) (escape_free : Bool) → MembersRead from ps (Some (u, escape_free)) old → MembersRead from (snoc_member ps u escape_free t) None new))
+          → OnOk result ((t : Tree) × (step s name t ≡ Some s) × ((from : State) (ps : Members) (u : List ℕ) (escape_free : Bool) → MembersRead from ps (Some (u, escape_free)) old → MembersRead from (snoc_member ps u escape_free t) None new))
       reads (Ok done) (t, same, on) = (t, passes.same s t, on)
       reads (Err e) read = tt
 
@@ -182,7 +182,7 @@ pub record StillLeft {S : Type 0} (step : Step S) (s m : S) (key : Option (List 
   pub pairs : Members
   pub are : run step s pairs ≡ Some m
   pub begins : BeginsAt key pairs
-  pub left : PairsLeft pairs r now
+  pub left : MembersLeft pairs r now
 
 -- a struct between two members, or after a key: s is what was read of its fields since `old`, and if the struct may have all members,
 -- the others are left
@@ -192,8 +192,8 @@ pub record ReadingStruct {S : Type 0} (step : Step S) (start : S) (old : MapAcce
   pub are : run step start pairs ≡ Some s
   pub waits : Option (List ℕ × Bool)
   pub named : StandsFor key waits
-  pub read : (from : State) → PairsRead from no_member None old → PairsRead from pairs waits now
-  pub left : (ps : Members) (r : List ℕ) (m : S) → run step start ps ≡ Some m → PairsLeft ps r old → StillLeft step s m key r now
+  pub read : (from : State) → MembersRead from no_member None old → MembersRead from pairs waits now
+  pub left : (ps : Members) (r : List ℕ) (m : S) → run step start ps ≡ Some m → MembersLeft ps r old → StillLeft step s m key r now
 
 abbrev or_text : List ℕ → Option (List ℕ) → List ℕ
 or_text other None = other
@@ -208,19 +208,19 @@ run_snoc {S} step s n m (member v allocation_free w ps) u escape_free t is next 
     by None is others = absurd (cc)
     by (Some x) is others = others x is
 
-none_left : {S X : Type 0} (step : Step S) (content : X → List ℕ) (s z : S) (new : MapAccessState) (ps : Members) (r : List ℕ) → run step s ps ≡ Some z → LeavesAValue content every_text ps r new (Ok None) → (z ≡ s) × PairsLeft no_member r new
+none_left : {S X : Type 0} (step : Step S) (content : X → List ℕ) (s z : S) (new : MapAccessState) (ps : Members) (r : List ℕ) → run step s ps ≡ Some z → LeavesAValue content every_text ps r new (Ok None) → (z ≡ s) × MembersLeft no_member r new
 none_left step content s z new no_member r are left = (cc are, left)
 none_left step content s z new (member u escape_free t ps) r are left = absurd left
 
 -- a call that returned a key leaves a reader that hasn't failed
-pub live_after_key : {X C : Type 0} (content : X → C) (keys : KeyConversion C) (old new : MapAccessState) (k : X) → GivesPairKey content keys old new (Some k) → old.at.reader.failed ≡ false → new.at.reader.failed ≡ false
+pub live_after_key : {X C : Type 0} (content : X → C) (keys : KeyConversion C) (old new : MapAccessState) (k : X) → GivesMemberKey content keys old new (Some k) → old.at.reader.failed ≡ false → new.at.reader.failed ≡ false
 live_after_key content keys old new k (u, escape_free, took, is, comma_due, waits) live = ap (λ (s : State). s.failed) took.rest ∙ live
 
-pub live_at_brace : {X C : Type 0} (content : X → C) (keys : KeyConversion C) (old new : MapAccessState) → GivesPairKey content keys old new None → new.at.reader.failed ≡ false
+pub live_at_brace : {X C : Type 0} (content : X → C) (keys : KeyConversion C) (old new : MapAccessState) → GivesMemberKey content keys old new None → new.at.reader.failed ≡ false
 live_at_brace content keys old new (at, comma_due, none) = ap (λ (s : State). s.failed) at.rest ∙ at.live
 
 -- if no key is returned, the brace is next
-pub brace_next : {X C : Type 0} (content : X → C) (keys : KeyConversion C) (old new : MapAccessState) → GivesPairKey content keys old new None → (x : List ℕ) × (new.at.reader.unread ≡ right_brace ∷ x)
+pub brace_next : {X C : Type 0} (content : X → C) (keys : KeyConversion C) (old new : MapAccessState) → GivesMemberKey content keys old new None → (x : List ℕ) × (new.at.reader.unread ≡ right_brace ∷ x)
 brace_next content keys old new (at, comma_due, none) = let (r, close, next) = at.close in (r, next)
 
 -- no member is read yet
@@ -228,16 +228,16 @@ pub no_pairs : {S : Type 0} (step : Step S) (s : S) (old : MapAccessState) → R
 no_pairs step s old = record { live = λ l. l; pairs = no_member; are = refl; waits = None; named = tt; read = λ from p. p; left = λ ps r m is left. record { pairs = ps; are = is; begins = tt; left = left } }
 
 module _ {S : Type 0} {step : Step S} {start : S} {old : MapAccessState} where
-  at_rest : {s : S} {now : MapAccessState} (m : ReadingStruct step start old s None now) (from : State) → PairsRead from no_member None old → PairsRead from m.pairs None now
+  at_rest : {s : S} {now : MapAccessState} (m : ReadingStruct step start old s None now) (from : State) → MembersRead from no_member None old → MembersRead from m.pairs None now
   at_rest {now = now} m from begun = by m.waits m.named (m.read from begun)
     where
-      by : (waits : Option (List ℕ × Bool)) → StandsFor None waits → PairsRead from m.pairs waits now → PairsRead from m.pairs None now
+      by : (waits : Option (List ℕ × Bool)) → StandsFor None waits → MembersRead from m.pairs waits now → MembersRead from m.pairs None now
       by None named read = read
       by (Some w) named read = absurd named
 
   -- a key was read
   pub reads_name : {X : Type 0} (content : X → List ℕ) {s : S} {at new : MapAccessState} (k : X) → ReadingStruct step start old s None at → (at.at.reader.failed ≡ false → new.at.reader.failed ≡ false) → ReadsAKey content every_text at new (Some k)
-      → ((ps : Members) (r : List ℕ) → PairsLeft ps r at → LeavesAValue content every_text ps r new (Ok (Some k))) → ReadingStruct step start old s (Some (content k)) new
+      → ((ps : Members) (r : List ℕ) → MembersLeft ps r at → LeavesAValue content every_text ps r new (Ok (Some k))) → ReadingStruct step start old s (Some (content k)) new
   reads_name content {s = s} {new = new} k m live (u, escape_free, is, on) fewer = record {
     live = λ l. live (m.live l);
     pairs = m.pairs;
@@ -253,18 +253,18 @@ module _ {S : Type 0} {step : Step S} {start : S} {old : MapAccessState} where
       by z (member u escape_free t ps) r are (is, left) = record { pairs = member u escape_free t ps; are = are; begins = ap (or_text (content k)) is; left = left }
 
   -- and its value
-  pub takes_pair : {name : List ℕ} {s n : S} {at new : MapAccessState} → ReadingStruct step start old s (Some name) at → TakesPair step s n name at new (Ok tt) → ReadingStruct step start old n None new
+  pub takes_pair : {name : List ℕ} {s n : S} {at new : MapAccessState} → ReadingStruct step start old s (Some name) at → TakesMember step s n name at new (Ok tt) → ReadingStruct step start old n None new
   takes_pair {name = name} {s = s} {n = n} {at = at} {new = new} m one = let (t, takes, on) = one.read in of t takes on m.waits m.named m.read
     where
-      by : (z : S) (ps : Members) (r : List ℕ) → run step s ps ≡ Some z → BeginsAt (Some name) ps → PairsLeft ps r at → StillLeft step n z None r new
+      by : (z : S) (ps : Members) (r : List ℕ) → run step s ps ≡ Some z → BeginsAt (Some name) ps → MembersLeft ps r at → StillLeft step n z None r new
       by z no_member r are named left = absurd named
       by z (member u escape_free t ps) r are named left =
           let (x, is, rest) = parts (λ x. run step x ps) (step s (encode_utf8_all u) t) z are in
           let (same, others) = one.left u escape_free t ps r x (sym (ap (λ w. step s w t) named) ∙ is) left in
           record { pairs = ps; are = ap (λ y. run step y ps) (sym same) ∙ rest; begins = tt; left = others }
 
-      of : (t : Tree) → step s name t ≡ Some n → ((from : State) (ps : Members) (u : List ℕ) (escape_free : Bool) → PairsRead from ps (Some (u, escape_free)) at → PairsRead from (snoc_member ps u escape_free t) None new)
-          → (waits : Option (List ℕ × Bool)) → StandsFor (Some name) waits → ((from : State) → PairsRead from no_member None old → PairsRead from m.pairs waits at) → ReadingStruct step start old n None new
+      of : (t : Tree) → step s name t ≡ Some n → ((from : State) (ps : Members) (u : List ℕ) (escape_free : Bool) → MembersRead from ps (Some (u, escape_free)) at → MembersRead from (snoc_member ps u escape_free t) None new)
+          → (waits : Option (List ℕ × Bool)) → StandsFor (Some name) waits → ((from : State) → MembersRead from no_member None old → MembersRead from m.pairs waits at) → ReadingStruct step start old n None new
       of t takes on None named read = absurd named
       of t takes on (Some (u, escape_free)) named read = record {
         live = λ l. one.live;
@@ -278,7 +278,7 @@ module _ {S : Type 0} {step : Step S} {start : S} {old : MapAccessState} where
 
   -- no key was returned: all members were read
   pub all_read : {X : Type 0} (content : X → List ℕ) {s : S} {at new : MapAccessState} → ReadingStruct step start old s None at → new.at.reader.failed ≡ false → (x : List ℕ) × (new.at.reader.unread ≡ right_brace ∷ x) → ReadsAKey content every_text at new None
-      → ((ps : Members) (r : List ℕ) → PairsLeft ps r at → LeavesAValue content every_text ps r new (Ok None)) → ReadsPairs step start s old new (Ok tt)
+      → ((ps : Members) (r : List ℕ) → MembersLeft ps r at → LeavesAValue content every_text ps r new (Ok None)) → ReadsMembers step start s old new (Ok tt)
   all_read content {s = s} {new = new} m live brace on fewer = record {
     at_brace = brace;
     read = (m.pairs, m.are, λ from begun. on from m.pairs (at_rest m from begun));
@@ -290,8 +290,8 @@ module _ {S : Type 0} {step : Step S} {start : S} {old : MapAccessState} where
 
   module _ {n s : S} {at new : MapAccessState} (e : Error) (result : Result (Unit {0}) Error) where
     refuses_as : {key : Option (List ℕ)} → IsErrAnd result (λ y. y ≡ e) → ReadingStruct step start old s key at → new.at.reader.failed ≡ true → (at.at.reader.failed ≡ false → IsUnprompted e)
-        → ((ps : Members) (r : List ℕ) (z : S) → run step s ps ≡ Some z → BeginsAt key ps → PairsLeft ps r at → IsOutOfMemory e) → ReadsPairs step start n old new result
-    refuses_as is_err m failed unprompted memory = handed_on (λ r. ReadsPairs step start n old new r) e result is_err (record {
+        → ((ps : Members) (r : List ℕ) (z : S) → run step s ps ≡ Some z → BeginsAt key ps → MembersLeft ps r at → IsOutOfMemory e) → ReadsMembers step start n old new result
+    refuses_as is_err m failed unprompted memory = handed_on (λ r. ReadsMembers step start n old new r) e result is_err (record {
       read = tt;
       at_brace = tt;
       left = λ ps r z are left. let w = m.left ps r z are left in memory w.pairs r z w.are w.begins w.left;
@@ -302,7 +302,7 @@ module _ {S : Type 0} {step : Step S} {start : S} {old : MapAccessState} where
 
     -- a key was refused
     pub key_refuses : {X : Type 0} (content : X → List ℕ) → IsErrAnd result (λ y. y ≡ e) → ReadingStruct step start old s None at → new.at.reader.failed ≡ true → (at.at.reader.failed ≡ false → IsUnprompted e)
-        → ((ps : Members) (r : List ℕ) → PairsLeft ps r at → LeavesAValue content every_text ps r new (Err e)) → ReadsPairs step start n old new result
+        → ((ps : Members) (r : List ℕ) → MembersLeft ps r at → LeavesAValue content every_text ps r new (Err e)) → ReadsMembers step start n old new result
     key_refuses content is_err m failed unprompted fewer = refuses_as is_err m failed unprompted (λ ps r z are begins left. by ps r (fewer ps r left))
       where
         by : (ps : Members) (r : List ℕ) → LeavesAValue content every_text ps r new (Err e) → IsOutOfMemory e
@@ -310,18 +310,18 @@ module _ {S : Type 0} {step : Step S} {start : S} {old : MapAccessState} where
         by (member u escape_free t ps) r left = left (encode_utf8_all u) refl
 
     -- a value was refused
-    pub pair_refuses : {name : List ℕ} {x : S} → IsErrAnd result (λ y. y ≡ e) → ReadingStruct step start old s (Some name) at → TakesPair step s x name at new (Err e) → ReadsPairs step start n old new result
+    pub pair_refuses : {name : List ℕ} {x : S} → IsErrAnd result (λ y. y ≡ e) → ReadingStruct step start old s (Some name) at → TakesMember step s x name at new (Err e) → ReadsMembers step start n old new result
     pair_refuses {name = name} is_err m one = refuses_as is_err m one.failed one.unprompted by
       where
-        by : (ps : Members) (r : List ℕ) (z : S) → run step s ps ≡ Some z → BeginsAt (Some name) ps → PairsLeft ps r at → IsOutOfMemory e
+        by : (ps : Members) (r : List ℕ) (z : S) → run step s ps ≡ Some z → BeginsAt (Some name) ps → MembersLeft ps r at → IsOutOfMemory e
         by no_member r z are named left = absurd named
         by (member u escape_free t ps) r z are named left =
             let (y, is, rest) = parts (λ y. run step y ps) (step s (encode_utf8_all u) t) z are in
             one.left u escape_free t ps r y (sym (ap (λ w. step s w t) named) ∙ is) left
 
 -- a field that is there leaves what was read
-pub still : {S : Type 0} {step : Step S} {s n : S} {old now new : MapAccessState} {result : Result (Unit {0}) Error} → new ≡ now → ReadsPairs step s n old now result → ReadsPairs step s n old new result
-still {step = step} {s = s} {n = n} {old = old} {result = result} same reads = subst (λ w. ReadsPairs step s n old w result) (sym same) reads
+pub still : {S : Type 0} {step : Step S} {s n : S} {old now new : MapAccessState} {result : Result (Unit {0}) Error} → new ≡ now → ReadsMembers step s n old now result → ReadsMembers step s n old new result
+still {step = step} {s = s} {n = n} {old = old} {result = result} same reads = subst (λ w. ReadsMembers step s n old w result) (sym same) reads
 
 -- ---- a struct as a whole
 
@@ -335,34 +335,34 @@ module _ {S D : Type 0} (plan : Plan S D) {I : Type 0} {Held : MapAccess I → T
   opened_live = ap (λ (s : State). s.failed) opens.read.rest ∙ opens.read.live
 
   -- its brace was taken: what was read is the struct
-  pub struct_read : {n : S} {now : MapAccessState} {d : D} {last end : State} → ReadsPairs plan.step plan.start n (map_state_of map) now (Ok tt) → end ≡ last → ((from : State) (ps : Members) → PairsRead from ps None now → TookValue from (object ps) last) → plan.build n ≡ Some d
+  pub struct_read : {n : S} {now : MapAccessState} {d : D} {last end : State} → ReadsMembers plan.step plan.start n (map_state_of map) now (Ok tt) → end ≡ last → ((from : State) (ps : Members) → MembersRead from ps None now → TookValue from (object ps) last) → plan.build n ≡ Some d
       → (t : Tree) × TookValue old t end × (object_of plan.convert t ≡ Some d)
   struct_read reads same ends is =
       let (ps, are, on) = reads.read in
       (object ps, subst (λ e. TookValue old (object ps) e) (sym same) (ends old ps (on old opens.read)), plan.says ps ∙ ap (if_more plan.build) are ∙ is)
 
   -- the refusal of its members isn't `Failed`
-  pub fields_unprompted : {n : S} {now : MapAccessState} {U : Type 0} (e : Error) (result : Result U Error) → IsErrAnd result (λ y. y ≡ e) → ReadsPairs plan.step plan.start n (map_state_of map) now (Err e) → Unprompted old result
+  pub fields_unprompted : {n : S} {now : MapAccessState} {U : Type 0} (e : Error) (result : Result U Error) → IsErrAnd result (λ y. y ≡ e) → ReadsMembers plan.step plan.start n (map_state_of map) now (Err e) → Unprompted old result
   fields_unprompted e result is_err reads = handed_on (λ r. Unprompted old r) e result is_err (λ live. reads.unprompted opened_live)
 
   module _ {U : Type 0} (e : Error) (result : Result U Error) where
-    completes_as : IsErrAnd result (λ y. y ≡ e) → ((ps : Members) (r : List ℕ) (m : S) (d : D) → run plan.step plan.start ps ≡ Some m → plan.build m ≡ Some d → PairsLeft ps r (map_state_of map) → IsOutOfMemory e) → Completes (object_of plan.convert) old result
+    completes_as : IsErrAnd result (λ y. y ≡ e) → ((ps : Members) (r : List ℕ) (m : S) (d : D) → run plan.step plan.start ps ≡ Some m → plan.build m ≡ Some d → MembersLeft ps r (map_state_of map) → IsOutOfMemory e) → Completes (object_of plan.convert) old result
     completes_as is_err k = handed_on (λ r. Completes (object_of plan.convert) old r) e result is_err (λ t r d live reads shallow is.
         let (ps, same, converts) = object_only plan.convert t d is in
         let (m, are, built) = parts plan.build (run plan.step plan.start ps) d (sym (plan.says ps) ∙ converts) in
         k ps r m d are built (opens.left ps r live (subst (λ u. Reads old.unread u r) same reads) (subst (λ u. old.level + depth u ≤ max_depth) same shallow)))
 
     -- its members were refused
-    pub fields_complete : {n : S} {now : MapAccessState} → IsErrAnd result (λ y. y ≡ e) → ReadsPairs plan.step plan.start n (map_state_of map) now (Err e) → Completes (object_of plan.convert) old result
+    pub fields_complete : {n : S} {now : MapAccessState} → IsErrAnd result (λ y. y ≡ e) → ReadsMembers plan.step plan.start n (map_state_of map) now (Err e) → Completes (object_of plan.convert) old result
     fields_complete is_err reads = completes_as is_err (λ ps r m d are built left. reads.left ps r m are left)
 
     -- all its members were read, and they make no struct
-    pub missing_completes : {n : S} {now : MapAccessState} → IsErrAnd result (λ y. y ≡ e) → ReadsPairs plan.step plan.start n (map_state_of map) now (Ok tt) → plan.build n ≡ None → Completes (object_of plan.convert) old result
+    pub missing_completes : {n : S} {now : MapAccessState} → IsErrAnd result (λ y. y ≡ e) → ReadsMembers plan.step plan.start n (map_state_of map) now (Ok tt) → plan.build n ≡ None → Completes (object_of plan.convert) old result
     missing_completes is_err reads none = completes_as is_err (λ ps r m d are built left.
         let (same, rest) = reads.left ps r m are left in
         let both : Some d ≡ None = sym built ∙ ap plan.build same ∙ none in
         absurd (cc both))
 
     -- its brace was refused
-    pub end_completes : {n : S} {now : MapAccessState} → IsErrAnd result (λ y. y ≡ e) → ReadsPairs plan.step plan.start n (map_state_of map) now (Ok tt) → ((r : List ℕ) → PairsLeft no_member r now → IsOk {T = Unit {0}} {E = Error} (Err e)) → Completes (object_of plan.convert) old result
+    pub end_completes : {n : S} {now : MapAccessState} → IsErrAnd result (λ y. y ≡ e) → ReadsMembers plan.step plan.start n (map_state_of map) now (Ok tt) → ((r : List ℕ) → MembersLeft no_member r now → IsOk {T = Unit {0}} {E = Error} (Err e)) → Completes (object_of plan.convert) old result
     end_completes is_err reads ends = completes_as is_err (λ ps r m d are built left. let (same, rest) = reads.left ps r m are left in absurd (false≢true (ends r rest)))

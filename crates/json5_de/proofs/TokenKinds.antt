@@ -25,7 +25,7 @@ use Rattle.json5_de.proofs.Expected.{Expected, wrongly_refused, completes_or_mem
 use Rattle.json5_de.proofs.Expects.{expects_null, expects_bool}
 use Rattle.json5_de.proofs.ExpectsNumbers.{expects_number}
 use Rattle.json5_de.proofs.ExpectsStrings.{expects_text}
-use Rattle.json5_de.proofs.Taken.{input_of, refused_blanks, refused_token, took_leaf, refused_or_memory, null_stops}
+use Rattle.json5_de.proofs.ReadSteps.{input_of, refused_blanks, refused_token, took_leaf, refused_or_memory, null_stops}
 use Rattle.json5_de.proofs.Mismatches.{StartsAt, refused_number, refused_text}
 use Rattle.json5_de.proofs.WithoutMemory.{whole_there, no_other_number, escape_free_there, no_other_text}
 use Rattle.json5_grammar.specs.Language.Characters.{NotBegun}
@@ -33,7 +33,7 @@ use Rattle.json5_text.specs.NumberViews.{keeps_digits}
 use Rattle.std.proofs.lemmas.Bool.{false≢true}
 use Rattle.json5_de.proofs.OtherCodes.{after_lacks, number_lacks, text_lacks}
 use Rattle.json5_value.proofs.OtherCodes.{Lacks, in_blanks_other, word_lacks, other_says, memory_other}
-use Rattle.json5_grammar.proofs.Basics.{true_false}
+use Rattle.json5_grammar.proofs.FirstCharacters.{true_false}
 
 -- a kind of value is told apart from all others, and none of its faults is that the reader had failed
 pub record IsLawful {C : Type 0} (kind : Kind C) : Type 0 where

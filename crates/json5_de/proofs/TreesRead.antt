@@ -11,9 +11,9 @@ use Rattle.json5_grammar.specs.Model.ReadSteps.{forget}
 use Rattle.json5_grammar.specs.Model.ReadValues.{read}
 use Rattle.json5_grammar.specs.Language.Trees.{Tree, depth}
 use Rattle.json5_grammar.specs.Language.Values.{Reads}
-use Rattle.json5_grammar.proofs.Basics.{true_false}
-use Rattle.json5_grammar.proofs.Found.{IsIn}
-use Rattle.json5_grammar.proofs.CollectionsRead.{phrase_found}
+use Rattle.json5_grammar.proofs.FirstCharacters.{true_false}
+use Rattle.json5_grammar.proofs.FoundInFront.{IsIn}
+use Rattle.json5_grammar.proofs.ArraysRead.{phrase_found}
 use Rattle.json5_grammar.proofs.ValuesRead.{read_complete}
 use Rattle.json5_grammar.proofs.ValuesSound.{read_sound, read_place}
 use Rattle.json5_text.specs.declared.error.Error.{Error}
@@ -35,7 +35,7 @@ use Rattle.json5_de.specs.TokenKinds.{every_tree, no_tree}
 use Rattle.json5_de.specs.State.{State, Calls, cursor_of, OnlyRead, GivesUp}
 use Rattle.json5_de.specs.ReaderSteps.{PassedGap}
 use Rattle.json5_de.proofs.Options.{blanks_no_value}
-use Rattle.json5_de.proofs.Taken.{input_of, value_gap, refused_blanks, refused_token}
+use Rattle.json5_de.proofs.ReadSteps.{input_of, value_gap, refused_blanks, refused_token}
 
 -- what the value in front is read as, its tree forgotten
 abbrev whole_at : State → Read (Unit {0})

@@ -4,8 +4,8 @@ use Rattle.json5_grammar.specs.Language.Documents.{max_depth}
 use Rattle.json5_grammar.specs.Language.Trees.{Tree, text, object, member, no_member, depth}
 use Rattle.json5_grammar.specs.Language.Values.{Reads}
 use Rattle.json5_grammar.specs.Model.Collections.{IsBrace}
-use Rattle.json5_grammar.proofs.Basics.{true_false}
-use Rattle.json5_grammar.proofs.Unique.{one_phrase}
+use Rattle.json5_grammar.proofs.FirstCharacters.{true_false}
+use Rattle.json5_grammar.proofs.OneTree.{one_phrase}
 use Rattle.json5_text.specs.declared.error.Error.{Error}
 use Rattle.json5_de.specs.State.{State, SameText, GivesUp}
 use Rattle.json5_de.specs.Law.{TookValue, Gives, Completes, CompletesFree, Unprompted}
@@ -17,7 +17,7 @@ use Rattle.json5_de.specs.Access.{ClosesAs}
 use Rattle.json5_de.specs.Enums.{EnumAccessState, AfterName, ContentLeft, RefusesContent, no_content, in_content, not_closed, ReadsInBrace, ReadsVariant, content_of, unit_content, content_free}
 use Rattle.json5_de.proofs.Elements.{still_live}
 use Rattle.json5_de.proofs.FoundKeys.{mismatch_other}
-use Rattle.json5_de.proofs.Taken.{input_of}
+use Rattle.json5_de.proofs.ReadSteps.{input_of}
 use Rattle.json5_de.proofs.VariantNames.{whole_variant}
 
 module _ {V C : Type 0} (content : V → C) (convert : Tree → Option C) (allocation_free : Tree → Bool) (refuses : State → Error → State → Type 0) where

@@ -2,8 +2,8 @@
 use Rattle.std.proofs.Common.{◌≡◌, ℕ, Bool, true, false, refl, sym, ◌∙◌, subst, Some, None, Result, Ok, Err}
 use Rattle.json5_grammar.specs.Language.Trees.{array, object, no_member}
 use Rattle.json5_grammar.specs.Model.Collections.{IsBrace}
-use Rattle.json5_grammar.proofs.Basics.{true_false}
-use Rattle.json5_grammar.proofs.CollectionsPassed.{one_end}
+use Rattle.json5_grammar.proofs.FirstCharacters.{true_false}
+use Rattle.json5_grammar.proofs.ArraysPassed.{one_end}
 use Rattle.json5_text.specs.declared.error.Error.{Error}
 use Rattle.json5_value.specs.Offsets.{StartsAfter, PositionedAt}
 use Rattle.json5_de.specs.State.{State, GivesUp}
@@ -18,9 +18,9 @@ use Rattle.json5_de.proofs.Arrays.{failed_of}
 use Rattle.json5_de.proofs.Elements as elements
 use Rattle.json5_de.proofs.Elements.{closes_array, refuses_end, more_and_less}
 use Rattle.json5_de.proofs.FoundKeys.{mismatch_other}
-use Rattle.json5_de.proofs.Pairs as pairs
-use Rattle.json5_de.proofs.Pairs.{closes_map, refuses_map_end}
-use Rattle.json5_de.proofs.Taken.{input_of}
+use Rattle.json5_de.proofs.ObjectMembers as pairs
+use Rattle.json5_de.proofs.ObjectMembers.{closes_map, refuses_map_end}
+use Rattle.json5_de.proofs.ReadSteps.{input_of}
 use Rattle.json5_de.proofs.VariantNames.{whole_variant}
 
 -- ---- closing

@@ -12,14 +12,14 @@ use Rattle.json5_grammar.specs.Language.Strings.{is_quote, quoted}
 use Rattle.json5_grammar.specs.Language.Trees.{Tree, Members, null, boolean, number, text, array, object, member, no_member, depth}
 use Rattle.json5_grammar.specs.Language.Values.{Val, Reads, is_null, is_true, is_false, is_number, is_text, is_empty_array, is_array, is_empty_object, is_object}
 use Rattle.json5_grammar.specs.Model.Collections.{IsSign, IsKey, IsKeyValue, IsBrace}
-use Rattle.json5_grammar.proofs.Basics.{first_same, true_false}
+use Rattle.json5_grammar.proofs.FirstCharacters.{first_same, true_false}
 use Rattle.json5_grammar.proofs.BlanksSound.{gap_before}
 use Rattle.json5_grammar.proofs.ValueHeads.{val_head, value_solid}
-use Rattle.json5_grammar.proofs.CollectionsRead.{sign_found, phrase_found}
-use Rattle.json5_grammar.proofs.CollectionsNowhere.{reads_here}
-use Rattle.json5_grammar.proofs.CollectionsPassed.{same_sign}
-use Rattle.json5_grammar.proofs.CollectionsPairs.{opening_brace_solid, colon_solid, one_opening_brace, one_key, one_reads_key, object_front}
-use Rattle.json5_grammar.proofs.Unique.{one_phrase}
+use Rattle.json5_grammar.proofs.ArraysRead.{sign_found, phrase_found}
+use Rattle.json5_grammar.proofs.EntriesAfterGaps.{reads_here}
+use Rattle.json5_grammar.proofs.ArraysPassed.{same_sign}
+use Rattle.json5_grammar.proofs.ObjectsRead.{opening_brace_solid, colon_solid, one_opening_brace, one_key, one_reads_key, object_front}
+use Rattle.json5_grammar.proofs.OneTree.{one_phrase}
 use Rattle.json5_text.specs.declared.error.Error.{Error}
 use Rattle.json5_text.specs.Cursor.{Refused, IsOutOfMemory}
 use Rattle.json5_value.specs.Offsets.{StartsAfter, PositionedAt}
@@ -36,7 +36,7 @@ use Rattle.json5_value.specs.Steps.{Unexpected, at_end, at_char}
 use Rattle.json5_de.specs.TokenKinds.{ReadsAs, variant_kind}
 use Rattle.json5_de.specs.Keys.{TookKey, GivesKey}
 use Rattle.json5_de.specs.KeyKinds.{ReadsKeyAs, variant_key}
-use Rattle.json5_de.specs.Objects.{MapAccessState, PairsRead, AfterColon, bare_map}
+use Rattle.json5_de.specs.Objects.{MapAccessState, MembersRead, AfterColon, bare_map}
 use Rattle.json5_de.specs.ObjectFaults.{begins_key, BeginsKey, NoColon}
 use Rattle.json5_de.specs.Enums.{named_variant, EnumAccessState, AtContent, AfterName, NameRead, ContentTail, content_depth, ContentLeft, begins_variant, NoVariant, no_variant, variant_missing, NotKeyed, not_keyed, key_missing, is_left_brace, FirstCharIs, IsNext, no_only_key, other_key, not_followed, RefusesKeyed, RefusesName, nothing_named, other_text, not_opened, in_object, NamesVariant, ReadsOnlyKey, ReadsKeyed}
 use Rattle.json5_de.proofs.Arrays.{only_read, level_of, failed_of, sign_next, after_gap_of}
@@ -44,11 +44,11 @@ use Rattle.json5_de.proofs.Elements.{still_live, same_level}
 use Rattle.json5_de.proofs.Expected.{Expected, end_fault, other_fault}
 use Rattle.json5_de.proofs.Options.{end_next, value_next, value_no_end, took_after}
 use Rattle.json5_value.proofs.OtherCodes.{Lacks}
-use Rattle.json5_de.proofs.PairCodes.{value_read, key_there, no_key_begun, pair_key_found}
-use Rattle.json5_de.proofs.Pairs.{pair_read, all_read, key_read, opens_map, refuses_map}
+use Rattle.json5_de.proofs.MemberRefusals.{value_read, key_there, no_key_begun, pair_key_found}
+use Rattle.json5_de.proofs.ObjectMembers.{pair_read, all_read, key_read, opens_map, refuses_map}
 use Rattle.json5_de.proofs.RefusalPositions.{refused_as}
 use Rattle.json5_de.proofs.TokenKinds.{refused_other, given_up, gives_up}
-use Rattle.json5_de.proofs.Taken.{input_of, refused_blanks, refused_token}
+use Rattle.json5_de.proofs.ReadSteps.{input_of, refused_blanks, refused_token}
 use Rattle.json5_de.proofs.FoundKeys.{no_fault_before}
 
 -- ---- what is next where a variant is named
@@ -278,13 +278,13 @@ took_key_after old mid last u p passed took = record {
 pub content_after : (old mid now : State) (u : List ℕ) (escape_free : Bool) → PassedGap old mid → AtContent mid u escape_free now → AtContent old u escape_free now
 content_after old mid now u escape_free p at = record { keyed = at.keyed; key = from_gap; colon = at.colon }
   where
-    e : PairsRead mid no_member (Some (u, escape_free)) (bare_map at.keyed false true)
+    e : MembersRead mid no_member (Some (u, escape_free)) (bare_map at.keyed false true)
     e = at.key
 
     next : mid.unread ≡ 123 ∷ e.inside
     next = sign_found 123 mid.unread [] mid.unread e.inside opening_brace_solid refl (Gap.blanks Blanks.empty) p.solid e.bracket
 
-    from_gap : PairsRead old no_member (Some (u, escape_free)) (bare_map at.keyed false true)
+    from_gap : MembersRead old no_member (Some (u, escape_free)) (bare_map at.keyed false true)
     from_gap = record {
       live = p.live;
       shallow = let level = level_of p.rest in let deep = e.shallow in omega (arith, level, deep);

@@ -15,7 +15,7 @@ use Rattle.json5_de.specs.State.{State}
 use Rattle.json5_de.specs.ReaderSteps.{PassedGap, TookText}
 use Rattle.json5_de.proofs.ExpectsNumbers.{number_phrase}
 use Rattle.json5_de.proofs.ExpectsStrings.{text_phrase}
-use Rattle.json5_grammar.proofs.Basics.{none_some}
+use Rattle.json5_grammar.proofs.FirstCharacters.{none_some}
 
 phrase_after : (old mid : State) (t : Tree) (r : List ℕ) → PassedGap old mid → (h : Reads old.unread t r) → mid.unread ≡ h.phrase ++ r
 phrase_after old mid t r p h = (one_gap h.front (h.phrase ++ r) p.gap mid.unread (Gap.blanks h.blank) (value_solid r (val_head h.value)) p.is_gap p.solid (sym h.split ∙ p.split)).1

@@ -3,7 +3,7 @@ use Rattle.std.proofs.Common.{◌≡◌, ◌≢◌, ℕ, List, [], ◌∷◌, �
 use Rattle.std.proofs.lemmas.List.{append-nil, append_cancel_left}
 use Rattle.json5_grammar.specs.declared.code.ErrorCode.{ErrorCode}
 use Rattle.json5_text.specs.Tokens.{FaultyWord, word_differs, word_ends}
-use Rattle.json5_grammar.proofs.Basics.{first_same}
+use Rattle.json5_grammar.proofs.FirstCharacters.{first_same}
 
 pub append_not_nil : (p : List ℕ) (c : ℕ) (r : List ℕ) → p ++ c ∷ r ≡ [] → ⊥
 append_not_nil [] c r e = absurd (cc)

@@ -24,7 +24,7 @@ use Rattle.json5_value.specs.Brackets.{square, curly}
 use Rattle.json5_de.specs.Access.{AccessState, IsStart, Opened, NotOpened, Closed, NotClosed, ClosesAs, ClosesArray, ElementsRead, ElementsLeft}
 use Rattle.json5_de.specs.Keys.{TookKey}
 use Rattle.json5_de.specs.KeyKinds.{NotKey, not_converted}
-use Rattle.json5_de.specs.Objects.{MapAccessState, PairsRead, PairsLeft, AfterColon, ClosesMap, bare_map}
+use Rattle.json5_de.specs.Objects.{MapAccessState, MembersRead, MembersLeft, AfterColon, ClosesMap, bare_map}
 use Rattle.json5_de.specs.ObjectFaults.{begins_key, NoColon}
 
 -- ---- what a tree means
@@ -73,7 +73,7 @@ pub record EnumAccessState : Type 0 where
 -- the opening brace, the only key and its colon were read, and the content is next
 pub record AtContent (from : State) (u : List ℕ) (escape_free : Bool) (now : State) : Type 0 where
   pub keyed : State
-  pub key : PairsRead from no_member (Some (u, escape_free)) (bare_map keyed false true)
+  pub key : MembersRead from no_member (Some (u, escape_free)) (bare_map keyed false true)
   pub colon : AfterColon keyed now
 
 -- the name of a variant was read: it is a string, or a key whose value is next
@@ -253,8 +253,8 @@ pub record ClosesTuple (brace : ℕ) (old : AccessState) (new : State) (result :
 -- the same of an object
 pub record ClosesStruct (brace : ℕ) (old : MapAccessState) (new : State) (result : Result (Unit {0}) Error) : Type 0 where
   pub bracket : ClosesContent curly old.at.comma_due brace old.at.reader new result
-  pub read : OnOk result ((from content : State) (u : List ℕ) (escape_free : Bool) (ps : Members) → AtContent from u escape_free content → PairsRead content ps None old → TookValue from (object (member u escape_free (object ps) no_member)) new)
-  pub left : (x r : List ℕ) → old.pending ≡ false → PairsLeft no_member x old → IsBrace true x r → IsOk result
+  pub read : OnOk result ((from content : State) (u : List ℕ) (escape_free : Bool) (ps : Members) → AtContent from u escape_free content → MembersRead content ps None old → TookValue from (object (member u escape_free (object ps) no_member)) new)
+  pub left : (x r : List ℕ) → old.pending ≡ false → MembersLeft no_member x old → IsBrace true x r → IsOk result
 
 -- the end of an access closes its own bracket and, in a variant's content, the variant's brace
 pub record EndsArray (brace : Option ℕ) (old : AccessState) (new : State) (result : Result (Unit {0}) Error) : Type 0 where
@@ -286,5 +286,5 @@ pub record OpensStruct {A : Type 0} (state_of : A → MapAccessState) (old : Enu
   pub content : OpensContent curly (λ a. (state_of a).at) old result
   pub no_key : IfOk result (λ a. (state_of a).pending ≡ false)
   pub same_text : IfOk result (λ a. SameText old.reader (state_of a).at.reader)
-  pub read : IfOk result (λ a. PairsRead old.reader no_member None (state_of a))
-  pub left : (ps : Members) (r : List ℕ) → old.has_content ≡ true → old.reader.failed ≡ false → Reads old.reader.unread (object ps) r → old.reader.level + depth (object ps) ≤ max_depth → IsOkAnd result (λ a. PairsLeft ps r (state_of a))
+  pub read : IfOk result (λ a. MembersRead old.reader no_member None (state_of a))
+  pub left : (ps : Members) (r : List ℕ) → old.has_content ≡ true → old.reader.failed ≡ false → Reads old.reader.unread (object ps) r → old.reader.level + depth (object ps) ≤ max_depth → IsOkAnd result (λ a. MembersLeft ps r (state_of a))

@@ -11,7 +11,7 @@ use Rattle.json5_de.specs.ConvertLists.{if_some}
 use Rattle.json5_de.specs.Law.{Unprompted}
 use Rattle.json5_de.specs.Refinement.{if_more}
 use Rattle.json5_de.specs.Access.{AccessState, IsAtBracket, AnswersFailedAtBracket}
-use Rattle.json5_de.specs.Objects.{MapAccessState, KeepsPending, PairsLeft, ReadsAPair, LeavesPairs}
+use Rattle.json5_de.specs.Objects.{MapAccessState, KeepsPending, MembersLeft, ReadsAMember, LeavesObjectMembers}
 use Rattle.json5_de.specs.ObjectFaults.{ValueRefusedAtBrace}
 
 -- ---- what a struct takes of an object
@@ -56,12 +56,12 @@ pub record IsOwnAtBracket (s : AccessState) (e : Error) : Type 0 where
 
 -- the value of the key that was read fills the field, which had no value
 abbrev pub FillsField : {V C : Type 0} → (V → C) → (Tree → Option C) → MapAccessState → MapAccessState → Option V → Option V → Type 0
-FillsField {V} content convert old new field next = (v : V) × (field ≡ None) × (next ≡ Some v) × ReadsAPair content convert old new v
+FillsField {V} content convert old new field next = (v : V) × (field ≡ None) × (next ≡ Some v) × ReadsAMember content convert old new v
 
 -- if the first member's value converts, it fills the field, unless memory runs out, and the other members are left
 abbrev pub LeavesFilled : {V C : Type 0} → (V → C) → (Tree → Option C) → Tree → Members → List ℕ → MapAccessState → Option V → Result (Unit {0}) Error → Type 0
-LeavesFilled {V} content convert t ps r new next (Ok done) = (v : V) × (next ≡ Some v) × LeavesPairs content convert t ps r new (Ok v)
-LeavesFilled {V} content convert t ps r new next (Err e) = LeavesPairs {V = V} content convert t ps r new (Err e)
+LeavesFilled {V} content convert t ps r new next (Ok done) = (v : V) × (next ≡ Some v) × LeavesObjectMembers content convert t ps r new (Ok v)
+LeavesFilled {V} content convert t ps r new next (Err e) = LeavesObjectMembers {V = V} content convert t ps r new (Err e)
 
 -- a value that is refused, as its type refuses it
 abbrev pub RefusesHere : {V : Type 0} → (State → Error → State → Type 0) → MapAccessState → Result V Error → Type 0
@@ -75,7 +75,7 @@ pub data FieldFault {V : Type 0} (refuses : State → Error → State → Type 0
 -- what a call for a field means
 pub record FieldRead {V C : Type 0} (content : V → C) (convert : Tree → Option C) (refuses : State → Error → State → Type 0) (old new : MapAccessState) (field next : Option V) (result : Result (Unit {0}) Error) : Type 0 where
   pub read : OnOk result (FillsField content convert old new field next)
-  pub left : field ≡ None → (u : List ℕ) (escape_free : Bool) (t : Tree) (ps : Members) (r : List ℕ) → PairsLeft (member u escape_free t ps) r old → LeavesFilled content convert t ps r new next result
+  pub left : field ≡ None → (u : List ℕ) (escape_free : Bool) (t : Tree) (ps : Members) (r : List ℕ) → MembersLeft (member u escape_free t ps) r old → LeavesFilled content convert t ps r new next result
   pub live : OnOk result (new.at.reader.failed ≡ false)
   pub shorter : OnOk result (length new.at.reader.unread < length old.at.reader.unread)
   pub cause : IfErr result (λ e. old.at.reader.failed ≡ false → FieldFault refuses old field e)

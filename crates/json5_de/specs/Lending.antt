@@ -15,7 +15,7 @@ use Rattle.json5_de.specs.Seq.{RefusesNext}
 use Rattle.json5_de.specs.Keys.{KeyConversion, ReadsOneKey}
 use Rattle.json5_de.specs.TokenKinds.{null_kind}
 use Rattle.json5_de.specs.KeyKinds.{KeyKind, RefusedAsKey, bytes_key, cow_key, document_key}
-use Rattle.json5_de.specs.Objects.{MapAccessState, OpensMap, SetsPending, GivesPairKey, GivesPairValue, ReadsPairKey, ReadsPairValue, ReadsAKey, ReadsAPair, PairsLeft, LeavesAValue, LeavesOthers}
+use Rattle.json5_de.specs.Objects.{MapAccessState, OpensMap, SetsPending, GivesMemberKey, GivesMemberValue, ReadsMemberKey, ReadsMemberValue, ReadsAKey, ReadsAMember, MembersLeft, LeavesAValue, LeavesOthers}
 use Rattle.json5_de.specs.ObjectFaults.{RefusesNextKey, RefusesNextValue}
 use Rattle.json5_de.specs.Stages.{is_comma_due, is_pending}
 use Rattle.json5_de.specs.Enums.{EnumAccessState}
@@ -198,23 +198,23 @@ pub record ReadsNext {I V C : Type 0} (content : V → C) (convert : Tree → Op
 pub record ReadsNextKey {I K C : Type 0} (content : K → C) (convert : KeyConversion C) (refuses : State → Error → State → Type 0) (old new : MapAccess I) (result : Result (Option K) Error) : Type 0 where
   pub access : KeepsMap old new
   pub pending : SetsPending is_some (map_state_of old) (map_state_of new) result
-  pub sound : IfOk result (GivesPairKey content convert (map_state_of old) (map_state_of new))
-  pub complete : ReadsPairKey content convert (map_state_of old) result
+  pub sound : IfOk result (GivesMemberKey content convert (map_state_of old) (map_state_of new))
+  pub complete : ReadsMemberKey content convert (map_state_of old) result
   pub closing : CompletesClose curly (map_state_of old).at result
   pub shorter : IfOk result (λ o. IfSome o (λ k. length (map_state_of new).at.reader.unread < length (map_state_of old).at.reader.unread))
   pub refused : RefusesNextKey refuses (map_state_of old) (map_state_of new).at.reader result
   pub read : IfOk result (ReadsAKey content convert (map_state_of old) (map_state_of new))
-  pub left : (ps : Members) (r : List ℕ) → PairsLeft ps r (map_state_of old) → LeavesAValue content convert ps r (map_state_of new) result
+  pub left : (ps : Members) (r : List ℕ) → MembersLeft ps r (map_state_of old) → LeavesAValue content convert ps r (map_state_of new) result
 
 -- the value of the key that was read last
 pub record ReadsNextValue {I V C : Type 0} (content : V → C) (convert : Tree → Option C) (refuses : State → Error → State → Type 0) (old new : MapAccess I) (result : Result V Error) : Type 0 where
   pub access : KeepsMap old new
   pub pending : TakesPendingKey old new result
-  pub sound : IfOk result (GivesPairValue content convert (map_state_of old) (map_state_of new))
-  pub complete : ReadsPairValue content convert (map_state_of old) result
+  pub sound : IfOk result (GivesMemberValue content convert (map_state_of old) (map_state_of new))
+  pub complete : ReadsMemberValue content convert (map_state_of old) result
   pub shorter : IfOk result (λ v. length (map_state_of new).at.reader.unread < length (map_state_of old).at.reader.unread)
   pub refused : RefusesNextValue refuses (map_state_of old) (map_state_of new).at.reader result
-  pub read : IfOk result (ReadsAPair content convert (map_state_of old) (map_state_of new))
+  pub read : IfOk result (ReadsAMember content convert (map_state_of old) (map_state_of new))
   pub left : LeavesOthers content convert (map_state_of old) (map_state_of new) result
 
 module _ (I : RattleType) (g : input.Ghosts I.Denot) where

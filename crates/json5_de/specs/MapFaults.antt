@@ -12,7 +12,7 @@ use Rattle.json5_value.specs.Brackets.{curly}
 use Rattle.json5_de.specs.Faults.{RefusedBy, IsPositionless}
 use Rattle.json5_de.specs.Access.{Opened, NotOpened}
 use Rattle.json5_de.specs.Keys.{KeyConversion}
-use Rattle.json5_de.specs.Objects.{MapAccessState, PairsRead}
+use Rattle.json5_de.specs.Objects.{MapAccessState, MembersRead}
 use Rattle.json5_de.specs.ObjectFaults.{KeyRefusedAtBrace, ValueRefusedAtBrace}
 
 -- how keys and values are read: what they convert to, and how their types refuse
@@ -33,7 +33,7 @@ pub record WithinMap {C D : Type 0} (keys : KeyConversion C) (values : Tree → 
   pub pairs : Members
   pub contents : List (C × D)
   pub are : pair_contents keys values pairs ≡ Some contents
-  pub read : PairsRead old pairs key now
+  pub read : MembersRead old pairs key now
 
 -- its opening brace, the first key or value at fault, or memory that ran out; the key before that value converts
 pub data MapFault {C D : Type 0} (sides : Sides C D) (old : State) (e : Error) : Type 0 where

@@ -57,8 +57,8 @@ abbrev pub map_of : {C D A : Type 0} → KeyConversion C → (Tree → Option D)
 map_of keys values gathered t = if_some gathered (pairs_of keys values t)
 
 -- an object was read, and m is what its members make
-abbrev pub GivesPairs : {K V C D M : Type 0} → (K → C) → (V → D) → KeyConversion C → (Tree → Option D) → (M → List (K × V) → Type 0) → State → State → M → Type 0
-GivesPairs {K} {V} key value keys values Gathered old new m = (ps : List (K × V)) × Gathered m ps × Gives (map (pair_content key value)) (pairs_of keys values) old new ps
+abbrev pub GivesMembers : {K V C D M : Type 0} → (K → C) → (V → D) → KeyConversion C → (Tree → Option D) → (M → List (K × V) → Type 0) → State → State → M → Type 0
+GivesMembers {K} {V} key value keys values Gathered old new m = (ps : List (K × V)) × Gathered m ps × Gives (map (pair_content key value)) (pairs_of keys values) old new ps
 
 module _ {K C D R M A : Type 0} (key : K → C) (compare : K → K → R) (keys : KeyConversion C) (values : Tree → Option D) where
   -- if a test tells keys apart by what counts of them, a map that was read holds what the object's members make by that test

@@ -18,7 +18,7 @@ use Rattle.json5_de.specs.Faults.{AfterBlanks, RefusedBy}
 use Rattle.json5_de.specs.Access.{AtClose, CompletesClose, bare, is_comma_or_closing}
 use Rattle.json5_de.specs.Seq.{AtEntry, NoNext, PositionedFault, RefusesCall}
 use Rattle.json5_de.specs.Keys.{KeyConversion}
-use Rattle.json5_de.specs.Objects.{MapAccessState, AfterColon, GivesPairKey, CompletesPairKey, GivesPairValue, CompletesPairValue, bare_map}
+use Rattle.json5_de.specs.Objects.{MapAccessState, AfterColon, GivesMemberKey, CompletesMemberKey, GivesMemberValue, CompletesMemberValue, bare_map}
 
 -- a quote, a backslash or an identifier start
 abbrev pub begins_key : ℕ → Bool
@@ -85,16 +85,16 @@ abbrev pub PositionsKey : {K : Type 0} → (List ℕ → Type 0) → Result K Er
 PositionsKey IsBefore read result = MatchResult read (λ k. result ≡ Ok (Some k)) (λ own. IsErrAnd result (PositionedAtKey IsBefore own))
 
 -- the fault of a call for a key: no key was reached, or the key's own
-pub data RefusesPairKey (refuses : State → Error → State → Type 0) (comma_due : Bool) (old : State) (e : Error) (after : State) : Type 0 where
-  not_reached : RefusedBy (NoKey comma_due) old e → RefusesPairKey refuses comma_due old e after
-  in_key : (start : State) (own : Error) → AtKey comma_due old start → refuses start own after → PositionedAtKey (λ before. start.input ≡ before ++ start.unread) own e → RefusesPairKey refuses comma_due old e after
+pub data RefusesMemberKey (refuses : State → Error → State → Type 0) (comma_due : Bool) (old : State) (e : Error) (after : State) : Type 0 where
+  not_reached : RefusedBy (NoKey comma_due) old e → RefusesMemberKey refuses comma_due old e after
+  in_key : (start : State) (own : Error) → AtKey comma_due old start → refuses start own after → PositionedAtKey (λ before. start.input ≡ before ++ start.unread) own e → RefusesMemberKey refuses comma_due old e after
 
 -- the next key of an object is read, or None is returned if the closing brace is next
-pub record ReadsKeyOfPair {K C : Type 0} (content : K → C) (convert : KeyConversion C) (refuses : State → Error → State → Type 0) (comma_due : Bool) (old new : State) (result : Result (Option K) Error) : Type 0 where
-  pub sound : IfOk result (λ o. GivesPairKey content convert (bare_map old comma_due false) (bare_map new comma_due (is_some o)) o)
-  pub complete : CompletesPairKey convert (bare_map old comma_due false) result
+pub record ReadsKeyOfMember {K C : Type 0} (content : K → C) (convert : KeyConversion C) (refuses : State → Error → State → Type 0) (comma_due : Bool) (old new : State) (result : Result (Option K) Error) : Type 0 where
+  pub sound : IfOk result (λ o. GivesMemberKey content convert (bare_map old comma_due false) (bare_map new comma_due (is_some o)) o)
+  pub complete : CompletesMemberKey convert (bare_map old comma_due false) result
   pub closing : CompletesClose curly (bare old comma_due) result
-  pub cause : IfErr result (λ e. RefusesPairKey refuses comma_due old e new)
+  pub cause : IfErr result (λ e. RefusesMemberKey refuses comma_due old e new)
   pub steady : Steady old new result
 
 -- what is next at a key: after a member the comma or the brace, else a key or the brace
@@ -109,11 +109,11 @@ no_key_code false = codes.ExpectedIdentifier
 
 -- the fault of a call for a key, at the opening brace if it has no position
 abbrev pub KeyRefusedAtBrace : (State → Error → State → Type 0) → MapAccessState → Error → Type 0
-KeyRefusedAtBrace refuses old e = PositionedFault (RefusesPairKey refuses old.at.comma_due old.at.reader) old.at e
+KeyRefusedAtBrace refuses old e = PositionedFault (RefusesMemberKey refuses old.at.comma_due old.at.reader) old.at e
 
 -- how a call for a key refuses
 abbrev pub RefusesNextKey : {V : Type 0} → (State → Error → State → Type 0) → MapAccessState → State → Result V Error → Type 0
-RefusesNextKey refuses old new result = RefusesCall (RefusesPairKey refuses old.at.comma_due old.at.reader) true (begins_next_key old.at.comma_due) codes.EofParsingObject (no_key_code old.at.comma_due) old.at new result
+RefusesNextKey refuses old new result = RefusesCall (RefusesMemberKey refuses old.at.comma_due old.at.reader) true (begins_next_key old.at.comma_due) codes.EofParsingObject (no_key_code old.at.comma_due) old.at new result
 
 -- ---- values
 
@@ -134,21 +134,21 @@ abbrev pub is_colon : ℕ → Bool
 is_colon c = c == colon_sign
 
 -- the fault of a call for a value: its colon was not reached, or the value's own
-pub data RefusesPairValue (refuses : State → Error → State → Type 0) (old : State) (e : Error) (after : State) : Type 0 where
-  no_value : RefusedBy NoColon old e → RefusesPairValue refuses old e after
-  in_value : (start : State) → AfterColon old start → refuses start e after → RefusesPairValue refuses old e after
+pub data RefusesMemberValue (refuses : State → Error → State → Type 0) (old : State) (e : Error) (after : State) : Type 0 where
+  no_value : RefusedBy NoColon old e → RefusesMemberValue refuses old e after
+  in_value : (start : State) → AfterColon old start → refuses start e after → RefusesMemberValue refuses old e after
 
 -- the value after a key and its colon is read
 pub record ReadsValueOfPair {V C : Type 0} (content : V → C) (convert : Tree → Option C) (refuses : State → Error → State → Type 0) (old new : State) (result : Result V Error) : Type 0 where
-  pub sound : IfOk result (GivesPairValue content convert (bare_map old false true) (bare_map new true false))
-  pub complete : CompletesPairValue convert (bare_map old false true) result
-  pub cause : IfErr result (λ e. RefusesPairValue refuses old e new)
+  pub sound : IfOk result (GivesMemberValue content convert (bare_map old false true) (bare_map new true false))
+  pub complete : CompletesMemberValue convert (bare_map old false true) result
+  pub cause : IfErr result (λ e. RefusesMemberValue refuses old e new)
   pub steady : Steady old new result
 
 -- the fault of a call for a value, at the opening brace if it has no position
 abbrev pub ValueRefusedAtBrace : (State → Error → State → Type 0) → MapAccessState → Error → Type 0
-ValueRefusedAtBrace refuses old e = PositionedFault (RefusesPairValue refuses old.at.reader) old.at e
+ValueRefusedAtBrace refuses old e = PositionedFault (RefusesMemberValue refuses old.at.reader) old.at e
 
 -- how a call for a value refuses
 abbrev pub RefusesNextValue : {V : Type 0} → (State → Error → State → Type 0) → MapAccessState → State → Result V Error → Type 0
-RefusesNextValue refuses old new result = RefusesCall (RefusesPairValue refuses old.at.reader) true is_colon codes.EofParsingObject codes.ExpectedColon old.at new result
+RefusesNextValue refuses old new result = RefusesCall (RefusesMemberValue refuses old.at.reader) true is_colon codes.EofParsingObject codes.ExpectedColon old.at new result

@@ -26,7 +26,7 @@ bare_map reader comma_due pending = record { at = bare reader comma_due; pending
 -- ---- a key, and then its value
 
 -- a key that spells u was read, after the comma that was due; escape_free says that no escape is used
-pub record TookPairKey (comma_due : Bool) (old : State) (u : List ℕ) (escape_free : Bool) (new : State) : Type 0 where
+pub record TookMemberKey (comma_due : Bool) (old : State) (u : List ℕ) (escape_free : Bool) (new : State) : Type 0 where
   pub live : old.failed ≡ false
   pub key : IsKey comma_due old.unread u escape_free new.unread
   pub rest : OnlyRead old new
@@ -38,41 +38,41 @@ pub record AfterColon (old new : State) : Type 0 where
   pub rest : OnlyRead old new
 
 -- a colon and a value of the tree t were read
-pub record TookPairValue (old : State) (t : Tree) (new : State) : Type 0 where
+pub record TookMemberValue (old : State) (t : Tree) (new : State) : Type 0 where
   pub live : old.failed ≡ false
   pub value : IsKeyValue old.unread t new.unread
   pub shallow : old.level + depth t ≤ max_depth
   pub rest : OnlyRead old new
 
 -- a key was read and k is what it converts to, and its value is to follow; or the closing brace is next
-abbrev pub GivesPairKey : {K C : Type 0} → (K → C) → KeyConversion C → MapAccessState → MapAccessState → Option K → Type 0
-GivesPairKey content convert old new (Some k) =
-    (u : List ℕ) × (escape_free : Bool) × TookPairKey old.at.comma_due old.at.reader u escape_free new.at.reader × (convert u escape_free ≡ Some (content k)) × (new.at.comma_due ≡ old.at.comma_due) × (new.pending ≡ true)
-GivesPairKey content convert old new None = AtClose curly old.at.comma_due old.at.reader new.at.reader × (new.at.comma_due ≡ old.at.comma_due) × (new.pending ≡ false)
+abbrev pub GivesMemberKey : {K C : Type 0} → (K → C) → KeyConversion C → MapAccessState → MapAccessState → Option K → Type 0
+GivesMemberKey content convert old new (Some k) =
+    (u : List ℕ) × (escape_free : Bool) × TookMemberKey old.at.comma_due old.at.reader u escape_free new.at.reader × (convert u escape_free ≡ Some (content k)) × (new.at.comma_due ≡ old.at.comma_due) × (new.pending ≡ true)
+GivesMemberKey content convert old new None = AtClose curly old.at.comma_due old.at.reader new.at.reader × (new.at.comma_due ≡ old.at.comma_due) × (new.pending ≡ false)
 
 -- a value was read and v is what it converts to, and a comma is due
-abbrev pub GivesPairValue : {V C : Type 0} → (V → C) → (Tree → Option C) → MapAccessState → MapAccessState → V → Type 0
-GivesPairValue content convert old new v = (t : Tree) × TookPairValue old.at.reader t new.at.reader × (convert t ≡ Some (content v)) × (new.at.comma_due ≡ true) × (new.pending ≡ false)
+abbrev pub GivesMemberValue : {V C : Type 0} → (V → C) → (Tree → Option C) → MapAccessState → MapAccessState → V → Type 0
+GivesMemberValue content convert old new v = (t : Tree) × TookMemberValue old.at.reader t new.at.reader × (convert t ≡ Some (content v)) × (new.at.comma_due ≡ true) × (new.pending ≡ false)
 
 -- a key that converts is read, unless memory runs out
-abbrev pub CompletesPairKey : {V C : Type 0} → KeyConversion C → MapAccessState → Result V Error → Type 0
-CompletesPairKey {C = C} convert old result =
+abbrev pub CompletesMemberKey : {V C : Type 0} → KeyConversion C → MapAccessState → Result V Error → Type 0
+CompletesMemberKey {C = C} convert old result =
     (u : List ℕ) (escape_free : Bool) (r : List ℕ) (c : C) → old.at.reader.failed ≡ false → IsKey old.at.comma_due old.at.reader.unread u escape_free r → convert u escape_free ≡ Some c → IsOkOrMemory result
 
 -- if a key that converts to c is next, the call returns Ok of a key whose content is c, unless memory runs out
-abbrev pub ReadsPairKey : {V C : Type 0} → (V → C) → KeyConversion C → MapAccessState → Result (Option V) Error → Type 0
-ReadsPairKey {C = C} content convert old result =
+abbrev pub ReadsMemberKey : {V C : Type 0} → (V → C) → KeyConversion C → MapAccessState → Result (Option V) Error → Type 0
+ReadsMemberKey {C = C} content convert old result =
     (u : List ℕ) (escape_free : Bool) (r : List ℕ) (c : C) → old.at.reader.failed ≡ false → IsKey old.at.comma_due old.at.reader.unread u escape_free r → convert u escape_free ≡ Some c
     → MatchResult result (λ o. if_some content o ≡ Some c) IsOutOfMemory
 
 -- a value that converts is read, unless memory runs out
-abbrev pub CompletesPairValue : {V C : Type 0} → (Tree → Option C) → MapAccessState → Result V Error → Type 0
-CompletesPairValue {C = C} convert old result =
+abbrev pub CompletesMemberValue : {V C : Type 0} → (Tree → Option C) → MapAccessState → Result V Error → Type 0
+CompletesMemberValue {C = C} convert old result =
     (t : Tree) (r : List ℕ) (c : C) → old.at.reader.failed ≡ false → IsKeyValue old.at.reader.unread t r → old.at.reader.level + depth t ≤ max_depth → convert t ≡ Some c → IsOkOrMemory result
 
 -- if a value that converts to c is next, the call returns Ok of a value whose content is c, unless memory runs out
-abbrev pub ReadsPairValue : {V C : Type 0} → (V → C) → (Tree → Option C) → MapAccessState → Result V Error → Type 0
-ReadsPairValue {C = C} content convert old result =
+abbrev pub ReadsMemberValue : {V C : Type 0} → (V → C) → (Tree → Option C) → MapAccessState → Result V Error → Type 0
+ReadsMemberValue {C = C} content convert old result =
     (t : Tree) (r : List ℕ) (c : C) → old.at.reader.failed ≡ false → IsKeyValue old.at.reader.unread t r → old.at.reader.level + depth t ≤ max_depth → convert t ≡ Some c
     → MatchResult result (λ v. content v ≡ c) IsOutOfMemory
 
@@ -84,7 +84,7 @@ StandsAfter None comma_due x y = (y ≡ x) ⊎ IsAtBrace comma_due x y
 StandsAfter (Some (u, escape_free)) comma_due x y = IsKey comma_due x u escape_free y
 
 -- an object begins at `from`, these members of it were read, and perhaps a key after them
-pub record PairsRead (from : State) (ps : Members) (key : Option (List ℕ × Bool)) (now : MapAccessState) : Type 0 where
+pub record MembersRead (from : State) (ps : Members) (key : Option (List ℕ × Bool)) (now : MapAccessState) : Type 0 where
   pub live : from.failed ≡ false
   pub shallow : from.level + depth (object ps) ≤ max_depth
   pub inside : List ℕ
@@ -102,7 +102,7 @@ LeftAfter true no_member comma_due x r = ⊥
 LeftAfter true (member u escape_free t ps) comma_due x r = (z : List ℕ) × IsKeyValue x t z × MembersTail ps true z r
 
 -- these members are left, the first perhaps without its key, and then the closing brace, with r after it; no member is too deep
-pub record PairsLeft (ps : Members) (r : List ℕ) (now : MapAccessState) : Type 0 where
+pub record MembersLeft (ps : Members) (r : List ℕ) (now : MapAccessState) : Type 0 where
   pub live : now.at.reader.failed ≡ false
   pub shallow : now.at.reader.level + member_depths ps ≤ max_depth
   pub tail : LeftAfter now.pending ps now.at.comma_due now.at.reader.unread r
@@ -110,32 +110,32 @@ pub record PairsLeft (ps : Members) (r : List ℕ) (now : MapAccessState) : Type
 -- a key was read after the members, and k is what it converts to; or no key, and what was read is the same
 abbrev pub ReadsAKey : {K C : Type 0} → (K → C) → KeyConversion C → MapAccessState → MapAccessState → Option K → Type 0
 ReadsAKey content convert old new (Some k) =
-    (u : List ℕ) × (escape_free : Bool) × (convert u escape_free ≡ Some (content k)) × ((from : State) (ps : Members) → PairsRead from ps None old → PairsRead from ps (Some (u, escape_free)) new)
-ReadsAKey content convert old new None = (from : State) (ps : Members) → PairsRead from ps None old → PairsRead from ps None new
+    (u : List ℕ) × (escape_free : Bool) × (convert u escape_free ≡ Some (content k)) × ((from : State) (ps : Members) → MembersRead from ps None old → MembersRead from ps (Some (u, escape_free)) new)
+ReadsAKey content convert old new None = (from : State) (ps : Members) → MembersRead from ps None old → MembersRead from ps None new
 
 -- the key that was read has this value, one member more
-abbrev pub ReadsAPair : {V C : Type 0} → (V → C) → (Tree → Option C) → MapAccessState → MapAccessState → V → Type 0
-ReadsAPair content convert old new v =
-    (t : Tree) × (convert t ≡ Some (content v)) × ((from : State) (ps : Members) (u : List ℕ) (escape_free : Bool) → PairsRead from ps (Some (u, escape_free)) old → PairsRead from (snoc_member ps u escape_free t) None new)
+abbrev pub ReadsAMember : {V C : Type 0} → (V → C) → (Tree → Option C) → MapAccessState → MapAccessState → V → Type 0
+ReadsAMember content convert old new v =
+    (t : Tree) × (convert t ≡ Some (content v)) × ((from : State) (ps : Members) (u : List ℕ) (escape_free : Bool) → MembersRead from ps (Some (u, escape_free)) old → MembersRead from (snoc_member ps u escape_free t) None new)
 
 -- if members are left and the first one's key converts, it was read, unless memory ran out, and its value is left; if no member is left, None was returned.
 -- Nothing is said of the refusal of a key that doesn't convert.
 abbrev pub LeavesAValue : {K C : Type 0} → (K → C) → KeyConversion C → Members → List ℕ → MapAccessState → Result (Option K) Error → Type 0
-LeavesAValue content convert no_member r new (Ok None) = PairsLeft no_member r new
+LeavesAValue content convert no_member r new (Ok None) = MembersLeft no_member r new
 LeavesAValue content convert no_member r new (Ok (Some k)) = ⊥
 LeavesAValue content convert no_member r new (Err e) = ⊥
 LeavesAValue content convert (member u escape_free t ps) r new (Ok None) = ⊥
-LeavesAValue content convert (member u escape_free t ps) r new (Ok (Some k)) = (convert u escape_free ≡ Some (content k)) × PairsLeft (member u escape_free t ps) r new
+LeavesAValue content convert (member u escape_free t ps) r new (Ok (Some k)) = (convert u escape_free ≡ Some (content k)) × MembersLeft (member u escape_free t ps) r new
 LeavesAValue {C = C} content convert (member u escape_free t ps) r new (Err e) = (c : C) → convert u escape_free ≡ Some c → IsOutOfMemory e
 
 -- if the first member's value converts, it was read, unless memory ran out, and the other members are left
-abbrev pub LeavesPairs : {V C : Type 0} → (V → C) → (Tree → Option C) → Tree → Members → List ℕ → MapAccessState → Result V Error → Type 0
-LeavesPairs content convert t ps r new (Ok v) = (convert t ≡ Some (content v)) × PairsLeft ps r new
-LeavesPairs {C = C} content convert t ps r new (Err e) = (c : C) → convert t ≡ Some c → IsOutOfMemory e
+abbrev pub LeavesObjectMembers : {V C : Type 0} → (V → C) → (Tree → Option C) → Tree → Members → List ℕ → MapAccessState → Result V Error → Type 0
+LeavesObjectMembers content convert t ps r new (Ok v) = (convert t ≡ Some (content v)) × MembersLeft ps r new
+LeavesObjectMembers {C = C} content convert t ps r new (Err e) = (c : C) → convert t ≡ Some c → IsOutOfMemory e
 
 -- the same of any members that are left
 abbrev pub LeavesOthers : {V C : Type 0} → (V → C) → (Tree → Option C) → MapAccessState → MapAccessState → Result V Error → Type 0
-LeavesOthers content convert old new result = (u : List ℕ) (escape_free : Bool) (t : Tree) (ps : Members) (r : List ℕ) → PairsLeft (member u escape_free t ps) r old → LeavesPairs content convert t ps r new result
+LeavesOthers content convert old new result = (u : List ℕ) (escape_free : Bool) (t : Tree) (ps : Members) (r : List ℕ) → MembersLeft (member u escape_free t ps) r old → LeavesObjectMembers content convert t ps r new result
 
 -- ---- what the calls mean
 
@@ -154,13 +154,13 @@ pub record OpensMap {A : Type 0} (Held : A → Type 0) (state_of : A → MapAcce
   pub bracket : OpensAs curly (λ a. (state_of a).at) old result
   pub no_key : IfOk result (λ a. (state_of a).pending ≡ false)
   pub same_text : IfOk result (λ a. SameText old (state_of a).at.reader)
-  pub read : IfOk result (λ a. PairsRead old no_member None (state_of a))
-  pub left : (ps : Members) (r : List ℕ) → old.failed ≡ false → Reads old.unread (object ps) r → old.level + depth (object ps) ≤ max_depth → IsOkAnd result (λ a. PairsLeft ps r (state_of a))
+  pub read : IfOk result (λ a. MembersRead old no_member None (state_of a))
+  pub left : (ps : Members) (r : List ℕ) → old.failed ≡ false → Reads old.unread (object ps) r → old.level + depth (object ps) ≤ max_depth → IsOkAnd result (λ a. MembersLeft ps r (state_of a))
 
 -- an object is closed: the members that were read are all of it
 pub record ClosesMap (old : MapAccessState) (new : State) (result : Result (Unit {0}) Error) : Type 0 where
   pub bracket : ClosesAs curly old.at.comma_due old.at.reader new result
   pub same_text : SameText old.at.reader new
   pub failed : FailsIfErr new result
-  pub read : OnOk result ((from : State) (ps : Members) → PairsRead from ps None old → TookValue from (object ps) new)
-  pub left : (r : List ℕ) → old.pending ≡ false → PairsLeft no_member r old → IsOk result
+  pub read : OnOk result ((from : State) (ps : Members) → MembersRead from ps None old → TookValue from (object ps) new)
+  pub left : (r : List ℕ) → old.pending ≡ false → MembersLeft no_member r old → IsOk result

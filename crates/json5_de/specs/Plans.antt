@@ -11,7 +11,7 @@ use Rattle.json5_de.specs.State.{State, FailsIfErr}
 use Rattle.json5_de.specs.ConvertLists.{if_some}
 use Rattle.json5_de.specs.Law.{Unprompted}
 use Rattle.json5_de.specs.Refinement.{if_more}
-use Rattle.json5_de.specs.Objects.{MapAccessState, PairsRead, PairsLeft}
+use Rattle.json5_de.specs.Objects.{MapAccessState, MembersRead, MembersLeft}
 use Rattle.json5_de.specs.Fields.{values_named, at_most_one, or_value}
 use Rattle.json5_de.specs.Fields as spec
 
@@ -134,26 +134,26 @@ plan_and a b = record {
 
 -- if a member, or members, make m of what was read, they are read, unless memory runs out, and these members are left
 abbrev pub LeavesTaken : {S : Type 0} → S → S → Members → List ℕ → MapAccessState → Result (Unit {0}) Error → Type 0
-LeavesTaken n m ps r new (Ok done) = (m ≡ n) × PairsLeft ps r new
+LeavesTaken n m ps r new (Ok done) = (m ≡ n) × MembersLeft ps r new
 LeavesTaken n m ps r new (Err e) = IsOutOfMemory e
 
 -- the value of the key that was read, which has this name: s is what was read of the fields before, n after it
-pub record TakesPair {S : Type 0} (step : Step S) (s n : S) (name : List ℕ) (old new : MapAccessState) (result : Result (Unit {0}) Error) : Type 0 where
-  pub read : OnOk result ((t : Tree) × (step s name t ≡ Some n) × ((from : State) (ps : Members) (u : List ℕ) (escape_free : Bool) → PairsRead from ps (Some (u, escape_free)) old → PairsRead from (snoc_member ps u escape_free t) None new))
-  pub left : (u : List ℕ) (escape_free : Bool) (t : Tree) (ps : Members) (r : List ℕ) (m : S) → step s name t ≡ Some m → PairsLeft (member u escape_free t ps) r old → LeavesTaken n m ps r new result
+pub record TakesMember {S : Type 0} (step : Step S) (s n : S) (name : List ℕ) (old new : MapAccessState) (result : Result (Unit {0}) Error) : Type 0 where
+  pub read : OnOk result ((t : Tree) × (step s name t ≡ Some n) × ((from : State) (ps : Members) (u : List ℕ) (escape_free : Bool) → MembersRead from ps (Some (u, escape_free)) old → MembersRead from (snoc_member ps u escape_free t) None new))
+  pub left : (u : List ℕ) (escape_free : Bool) (t : Tree) (ps : Members) (r : List ℕ) (m : S) → step s name t ≡ Some m → MembersLeft (member u escape_free t ps) r old → LeavesTaken n m ps r new result
   pub live : OnOk result (new.at.reader.failed ≡ false)
   pub shorter : OnOk result (length new.at.reader.unread < length old.at.reader.unread)
   pub failed : FailsIfErr new.at.reader result
   pub unprompted : Unprompted old.at.reader result
 
 -- any value of a key that was read, of which nothing is kept
-abbrev pub PassesPair : MapAccessState → MapAccessState → Result (Unit {0}) Error → Type 0
-PassesPair old new result = TakesPair {S = Unit {0}} (λ s name t. Some s) tt tt [] old new result
+abbrev pub PassesMember : MapAccessState → MapAccessState → Result (Unit {0}) Error → Type 0
+PassesMember old new result = TakesMember {S = Unit {0}} (λ s name t. Some s) tt tt [] old new result
 
 -- all members that are left, from the first, up to the closing brace: s is what was read of the fields before, n after them
-pub record ReadsPairs {S : Type 0} (step : Step S) (s n : S) (old new : MapAccessState) (result : Result (Unit {0}) Error) : Type 0 where
-  pub read : OnOk result ((ps : Members) × (run step s ps ≡ Some n) × ((from : State) → PairsRead from no_member None old → PairsRead from ps None new))
-  pub left : (ps : Members) (r : List ℕ) (m : S) → run step s ps ≡ Some m → PairsLeft ps r old → LeavesTaken n m no_member r new result
+pub record ReadsMembers {S : Type 0} (step : Step S) (s n : S) (old new : MapAccessState) (result : Result (Unit {0}) Error) : Type 0 where
+  pub read : OnOk result ((ps : Members) × (run step s ps ≡ Some n) × ((from : State) → MembersRead from no_member None old → MembersRead from ps None new))
+  pub left : (ps : Members) (r : List ℕ) (m : S) → run step s ps ≡ Some m → MembersLeft ps r old → LeavesTaken n m no_member r new result
   pub live : OnOk result (new.at.reader.failed ≡ false)
   pub failed : FailsIfErr new.at.reader result
   pub unprompted : Unprompted old.at.reader result

@@ -10,7 +10,7 @@ use Rattle.json5_de.specs.Faults.{RefusedBy}
 use Rattle.json5_de.specs.Access.{Opened, NotOpened, AnswersFailedAtBracket}
 use Rattle.json5_de.specs.AnyTree.{RefusesTree}
 use Rattle.json5_de.specs.KeyKinds.{RefusedAsKey, string_key}
-use Rattle.json5_de.specs.Objects.{MapAccessState, PairsRead}
+use Rattle.json5_de.specs.Objects.{MapAccessState, MembersRead}
 use Rattle.json5_de.specs.ObjectFaults.{KeyRefusedAtBrace, ValueRefusedAtBrace}
 use Rattle.json5_de.specs.Fields.{IsOwnAtBracket}
 use Rattle.json5_de.specs.Plans.{Step, Plan, run}
@@ -40,8 +40,8 @@ pub record of_any (name : List ℕ) (may : Tree → Bool) (old : MapAccessState)
   pub fault : ValueRefusedAtBrace (λ s own after. RefusesTree s own) old e
 
 -- a value that is refused has one of these faults
-abbrev pub RefusesPair : {S : Type 0} → ValueFaults → Step S → S → List ℕ → MapAccessState → Result (Unit {0}) Error → Type 0
-RefusesPair faults step s name old result = IfErr result (λ e. old.at.reader.failed ≡ false → faults name (may_stand step s name) old e)
+abbrev pub RefusesMember : {S : Type 0} → ValueFaults → Step S → S → List ℕ → MapAccessState → Result (Unit {0}) Error → Type 0
+RefusesMember faults step s name old result = IfErr result (λ e. old.at.reader.failed ≡ false → faults name (may_stand step s name) old e)
 
 -- ---- the members
 
@@ -52,16 +52,16 @@ pub record ReadSince {S : Type 0} (step : Step S) (start s : S) (key : Option (L
   pub same_brace : now.at.start ≡ old.at.start
   pub pairs : Members
   pub are : run step start pairs ≡ Some s
-  pub read : (from : State) → PairsRead from no_member None old → PairsRead from pairs key now
+  pub read : (from : State) → MembersRead from no_member None old → MembersRead from pairs key now
 
 -- after the members that were read the next key is refused, or the value of a key that was read
-pub data PairsFault {S : Type 0} (step : Step S) (faults : ValueFaults) (start : S) (old : MapAccessState) (e : Error) : Type 0 where
-  at_key : (s : S) (now : MapAccessState) → ReadSince step start s None old now → KeyRefusedAtBrace (RefusedAsKey string_key) now e → PairsFault step faults start old e
-  at_value : (s : S) (now : MapAccessState) (u : List ℕ) (escape_free : Bool) → ReadSince step start s (Some (u, escape_free)) old now → faults (encode_utf8_all u) (may_stand step s (encode_utf8_all u)) now e → PairsFault step faults start old e
+pub data MembersFault {S : Type 0} (step : Step S) (faults : ValueFaults) (start : S) (old : MapAccessState) (e : Error) : Type 0 where
+  at_key : (s : S) (now : MapAccessState) → ReadSince step start s None old now → KeyRefusedAtBrace (RefusedAsKey string_key) now e → MembersFault step faults start old e
+  at_value : (s : S) (now : MapAccessState) (u : List ℕ) (escape_free : Bool) → ReadSince step start s (Some (u, escape_free)) old now → faults (encode_utf8_all u) (may_stand step s (encode_utf8_all u)) now e → MembersFault step faults start old e
 
 -- members that are refused have one of these faults; if a call was refused before, this one returns `Failed` at the opening brace
-pub record RefusesPairs {S : Type 0} (step : Step S) (faults : ValueFaults) (start : S) (old : MapAccessState) (result : Result (Unit {0}) Error) : Type 0 where
-  pub cause : IfErr result (λ e. old.at.reader.failed ≡ false → PairsFault step faults start old e)
+pub record RefusesMembers {S : Type 0} (step : Step S) (faults : ValueFaults) (start : S) (old : MapAccessState) (result : Result (Unit {0}) Error) : Type 0 where
+  pub cause : IfErr result (λ e. old.at.reader.failed ≡ false → MembersFault step faults start old e)
   pub before : AnswersFailedAtBracket old.at result
 
 -- ---- the struct
@@ -70,12 +70,12 @@ pub record RefusesPairs {S : Type 0} (step : Step S) (faults : ValueFaults) (sta
 pub record OpenedObject (old : State) (first : MapAccessState) : Type 0 where
   pub opened : Opened curly old first.at.reader
   pub start : (before : List ℕ) → old.input ≡ before ++ left_brace ∷ first.at.reader.unread → first.at.start ≡ length (encode_utf8_all before)
-  pub read : PairsRead old no_member None first
+  pub read : MembersRead old no_member None first
 
 -- the opening brace, the first key or value at fault, or a field that is missing after all members were read
 pub data StructFault {S D : Type 0} (plan : Plan S D) (faults : ValueFaults) (old : State) (e : Error) : Type 0 where
   not_opened : RefusedBy (NotOpened curly old.level) old e → StructFault plan faults old e
-  in_pairs : (first : MapAccessState) → OpenedObject old first → PairsFault plan.step faults plan.start first e → StructFault plan faults old e
+  in_pairs : (first : MapAccessState) → OpenedObject old first → MembersFault plan.step faults plan.start first e → StructFault plan faults old e
   missing : (first now : MapAccessState) (s : S) (r : List ℕ) → OpenedObject old first → ReadSince plan.step plan.start s None first now → now.at.reader.unread ≡ right_brace ∷ r → plan.build s ≡ None → IsOwnAtBracket now.at e → StructFault plan faults old e
 
 -- how a struct is refused

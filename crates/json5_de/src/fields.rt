@@ -6,12 +6,12 @@ ghost use Rattle.json5_text.specs.Errors.{code};
 ghost use Rattle.json5_de.specs.Access.{IsFailedAtBracket};
 ghost use Rattle.json5_de.specs.Convert.{every_text};
 ghost use Rattle.json5_de.specs.KeyKinds.{ReadsKeyAs, RefusedAsKey, string_key};
-ghost use Rattle.json5_de.specs.ObjectFaults.{ReadsKeyOfPair};
+ghost use Rattle.json5_de.specs.ObjectFaults.{ReadsKeyOfMember};
 ghost use Rattle.json5_de.specs.Law.{IsUnprompted};
 ghost use Rattle.json5_de.specs.Objects.{KeepsPending};
 ghost use Rattle.json5_de.specs.Fields.{FieldRead, FieldRequired, IsOwnAtBracket, RefusesHere};
-ghost use Rattle.json5_de.specs.Plans.{PassesPair, ReadsPairs};
-ghost use Rattle.json5_de.specs.StructFaults.{RefusesPairs};
+ghost use Rattle.json5_de.specs.Plans.{PassesMember, ReadsMembers};
+ghost use Rattle.json5_de.specs.StructFaults.{RefusesMembers};
 ghost use Rattle.json5_de.specs.Lending.{map_state_of, KeepsMap, KeyPending, NoKeyPending, TakesPendingKey, ReadsNextKey};
 
 use crate::any::IgnoredAny;
@@ -37,8 +37,8 @@ use std::fmt;
 /// ```
 pub trait Fields<I: Input>: Sized + Drop {
     ghost use Rattle.std.specs.Prelude.{⊤};
-    ghost use Rattle.json5_de.specs.Plans.{Step, TakesPair};
-    ghost use Rattle.json5_de.specs.StructFaults.{ValueFaults, RefusesPair};
+    ghost use Rattle.json5_de.specs.Plans.{Step, TakesMember};
+    ghost use Rattle.json5_de.specs.StructFaults.{ValueFaults, RefusesMember};
     ghost use Rattle.json5_de.specs.Lending.{map_state_of, KeepsMap, KeyPending, NoKeyPending, TakesPendingKey};
 
     // What of them counts.
@@ -62,8 +62,8 @@ pub trait Fields<I: Input>: Sized + Drop {
         requires key { KeyPending map.old }
         ensures access { KeepsMap map.old map.new }
         ensures pending { OnOk result (NoKeyPending map.new) }
-        ensures takes { TakesPair step (content self.old) (content self.new) name.now (map_state_of map.old) (map_state_of map.new) result }
-        ensures refused { RefusesPair refuses step (content self.old) name.now (map_state_of map.old) result };
+        ensures takes { TakesMember step (content self.old) (content self.new) name.now (map_state_of map.old) (map_state_of map.new) result }
+        ensures refused { RefusesMember refuses step (content self.old) name.now (map_state_of map.old) result };
 }
 
 impl<I: Input> Deserializer<I> {
@@ -78,10 +78,10 @@ impl<I: Input> Deserializer<I> {
         }
     }
 
-    /// The next key of an object, as `pair_key::<String>` returns it, in the memory of a spare string.
+    /// The next key of an object, as `member_key::<String>` returns it, in the memory of a spare string.
     #[inline(always)]
-    fn pair_name(&mut self, comma_due: bool, spare: String) -> Result<Option<String>>
-        ensures { ReadsKeyOfPair string_bytes every_text (RefusedAsKey string_key) comma_due self.old self.new result }
+    fn member_name(&mut self, comma_due: bool, spare: String) -> Result<Option<String>>
+        ensures { ReadsKeyOfMember string_bytes every_text (RefusedAsKey string_key) comma_due self.old self.new result }
     {
         let Some(start) = self.advance_to_key(comma_due)? else {
             return Ok(None);
@@ -166,7 +166,7 @@ impl<'a, I: Input> MapAccess<'a, I> {
         requires key { KeyPending self.old }
         ensures access { KeepsMap self.old self.new }
         ensures pending { TakesPendingKey self.old self.new result }
-        ensures passes { PassesPair (map_state_of self.old) (map_state_of self.new) result }
+        ensures passes { PassesMember (map_state_of self.old) (map_state_of self.new) result }
         ensures cause { RefusesHere ⟦<IgnoredAny as Deserialize<I>>⟧.refuses (map_state_of self.old) result }
     {
         self.next_value::<IgnoredAny>()?;
@@ -212,7 +212,7 @@ impl<'a, I: Input> MapAccess<'a, I> {
         ensures { ReadsNextKey string_bytes every_text (RefusedAsKey string_key) self.old self.new result }
     {
         self.de.set_failed(self.failed);
-        match self.de.pair_name(self.stage.is_comma_due(), spare) {
+        match self.de.member_name(self.stage.is_comma_due(), spare) {
             Ok(name) => {
                 self.de.set_failed(true);
                 self.stage = self.stage.with_key(name.is_some());
@@ -240,8 +240,8 @@ impl<'a, I: Input> MapAccess<'a, I> {
         requires no_key { NoKeyPending self.old }
         ensures access { KeepsMap self.old self.new }
         ensures pending { OnOk result (NoKeyPending self.new) }
-        ensures reads { ReadsPairs F.step (F.content fields.old) (F.content fields.new) (map_state_of self.old) (map_state_of self.new) result }
-        ensures refused { RefusesPairs F.step F.refuses (F.content fields.old) (map_state_of self.old) result }
+        ensures reads { ReadsMembers F.step (F.content fields.old) (F.content fields.new) (map_state_of self.old) (map_state_of self.new) result }
+        ensures refused { RefusesMembers F.step F.refuses (F.content fields.old) (map_state_of self.old) result }
     {
         let mut name = String::new(self.de.allocator());
         while let Some(next) = self.next_name(name)? {

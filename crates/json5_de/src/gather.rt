@@ -4,7 +4,7 @@ ghost use Rattle.std.specs.Prelude.{◌≡◌, List, [], ◌∷◌, ◌++◌, On
 ghost use Rattle.json5_text.specs.Errors.{LacksMemory};
 ghost use Rattle.json5_de.specs.State.{SameText};
 ghost use Rattle.json5_de.specs.Law.{Completes, Unprompted};
-ghost use Rattle.json5_de.specs.Maps.{pairs_of, GivesPairs};
+ghost use Rattle.json5_de.specs.Maps.{pairs_of, GivesMembers};
 ghost use Rattle.json5_de.specs.MapFaults.{sides, RefusesMap};
 
 use crate::de::{Deserialize, Deserializer};
@@ -31,7 +31,7 @@ pub(crate) fn gather<I: Input, K: DeserializeKey<I>, V: Deserialize<I>, M: Gathe
     mut items: M,
 ) -> Result<M>
     requires { M.gathered items [] }
-    ensures sound { IfOk result (GivesPairs K.content V.content K.convert V.convert M.gathered de.old de.new) }
+    ensures sound { IfOk result (GivesMembers K.content V.content K.convert V.convert M.gathered de.old de.new) }
     ensures complete { Completes (pairs_of K.convert V.convert) de.old result }
     ensures refused { IfErr result (λ e. RefusesMap (sides K.convert V.convert K.refuses V.refuses) de.old e de.new) }
     ensures unprompted { Unprompted de.old result }

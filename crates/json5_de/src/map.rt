@@ -147,7 +147,7 @@ impl<I: Input> Deserializer<I> {
 
     /// A colon and the value after a key.
     #[inline(always)]
-    fn pair_value<V: Deserialize<I>>(&mut self) -> Result<V>
+    fn member_value<V: Deserialize<I>>(&mut self) -> Result<V>
         ensures { ReadsValueOfPair V.content V.convert V.refuses self.old self.new result }
     {
         self.colon()?;
@@ -191,7 +191,7 @@ impl<'a, I: Input> MapAccess<'a, I> {
         ensures { ReadsNextKey K.content K.convert K.refuses self.old self.new result }
     {
         self.de.set_failed(self.failed);
-        match self.de.pair_key(self.stage.is_comma_due()) {
+        match self.de.member_key(self.stage.is_comma_due()) {
             Ok(key) => {
                 self.de.set_failed(true);
                 self.stage = self.stage.with_key(key.is_some());
@@ -222,7 +222,7 @@ impl<'a, I: Input> MapAccess<'a, I> {
         ensures { ReadsNextValue V.content V.convert V.refuses self.old self.new result }
     {
         self.de.set_failed(self.failed);
-        match self.de.pair_value::<V>() {
+        match self.de.member_value::<V>() {
             Ok(value) => {
                 self.de.set_failed(true);
                 self.stage = Stage::Started;

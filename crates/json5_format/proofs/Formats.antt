@@ -5,7 +5,7 @@ use Rattle.std.specs.Str.{chars, encode_utf8_all}
 use Rattle.json5_grammar.specs.declared.code.ErrorCode.TheVariants as codes_of
 use Rattle.json5_grammar.specs.Language.Documents.{Doc, max_depth}
 use Rattle.json5_grammar.specs.Language.Trees.{Tree, Trees, Members, null, boolean, number, text, array, object, no_more, more, no_member, member}
-use Rattle.json5_grammar.proofs.Unique.{one_tree}
+use Rattle.json5_grammar.proofs.OneTree.{one_tree}
 use Rattle.json5_text.specs.declared.error.Error.{Error}
 use Rattle.json5_text.specs.Cursor.{IsOutOfMemory}
 use Rattle.json5_text.specs.Errors.{FaultKind, code, custom, failed_write, kind_of}
@@ -17,7 +17,7 @@ use Rattle.json5_ser.specs.Pieces.{AppendsFront, Pushes}
 use Rattle.json5_ser.specs.WholeOutputs.{IsText, RefusesToString, StopsAs}
 use Rattle.json5_ser.specs.ValueTrees.{datum_tree, items_tree, fields_tree}
 use Rattle.json5_ser.specs.Writes.{SerializerState, Writes, Refusal, by_key, by_depth, by_writer, by_refusal, by_none, refusal_of, RefusesBy, fresh, ended}
-use Rattle.json5_ser.proofs.Depths.{text_document}
+use Rattle.json5_ser.proofs.WrittenDepths.{text_document}
 use Rattle.json5_ser.proofs.ReadIsWritten.{read_written}
 use Rattle.json5_ser.proofs.Unmarked.{tree_again}
 use Rattle.json5_format.specs.Formatted.{IsFormatted, IsFormattedWithin}

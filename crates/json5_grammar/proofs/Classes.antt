@@ -14,7 +14,7 @@ use Rattle.json5_grammar.specs.Language.Numbers.{hex_start, in_run, after_zero, 
 use Rattle.json5_grammar.specs.Faults.Tokens.{is_sign, begins_number}
 use Rattle.json5_grammar.specs.Language.Strings.{is_quote}
 use Rattle.json5_grammar.specs.Faults.{begins_value}
-use Rattle.json5_grammar.proofs.Basics.{eq_from}
+use Rattle.json5_grammar.proofs.FirstCharacters.{eq_from}
 use Rattle.json5_grammar.proofs.BlanksRead.{printable_no_space, printable_no_blank}
 
 -- ---- blanks

@@ -12,9 +12,9 @@ use Rattle.json5_grammar.specs.Language.Trees.{Tree, depth}
 use Rattle.json5_grammar.specs.Language.Values.{Reads}
 use Rattle.json5_grammar.proofs.BlanksRead.{skip_last}
 use Rattle.json5_grammar.proofs.BlanksSound.{gap_read}
-use Rattle.json5_grammar.proofs.Found.{then_then}
+use Rattle.json5_grammar.proofs.FoundInFront.{then_then}
 use Rattle.json5_grammar.proofs.Refusals.{Refuses, refuses_after}
-use Rattle.json5_grammar.proofs.Unique.{document_phrase, phrase_reader, phrase_complete}
+use Rattle.json5_grammar.proofs.OneTree.{document_phrase, phrase_reader, phrase_complete}
 
 -- blanks, and then the end
 abbrev pub to_end : Tree → List ℕ → Read Tree

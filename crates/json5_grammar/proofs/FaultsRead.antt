@@ -16,8 +16,8 @@ use Rattle.json5_grammar.specs.Model.ReadBlanks.{skip, between}
 use Rattle.json5_grammar.specs.Model.ReadNumbers as numbers
 use Rattle.json5_grammar.specs.Model.ReadTexts.{string}
 use Rattle.json5_grammar.specs.Model.ReadValues.{read_elements, read_members, value_with, too_deep, read, at_end, document}
-use Rattle.json5_grammar.proofs.Basics.{by_test, eq_from}
-use Rattle.json5_grammar.proofs.Unique.{phrase_reader}
+use Rattle.json5_grammar.proofs.FirstCharacters.{by_test, eq_from}
+use Rattle.json5_grammar.proofs.OneTree.{phrase_reader}
 use Rattle.json5_grammar.proofs.WordsRead.{word_sound}
 use Rattle.json5_grammar.proofs.NumbersSound.{sound}
 use Rattle.json5_grammar.proofs.StringsSound.{string_sound}
@@ -25,7 +25,7 @@ use Rattle.json5_grammar.proofs.ValueHeads.{array_reader, object_reader, read_st
 use Rattle.json5_grammar.proofs.ValuesSound.{IsGap, IsValue, gap_found, read_found}
 use Rattle.json5_grammar.proofs.FrontsAt.{At, at_start, at_gap, at_value, at_open}
 use Rattle.json5_grammar.proofs.BracketsJudged.{ReadsJudged, solid_char, no_close, items_judged, entries_judged}
-use Rattle.json5_grammar.proofs.FaultsJudged.{Scope, Judged, Blamed, takes_where, judged_then, judged_last, judged_placed, one_char, the_end, gap_judged, word_judged, number_judged, text_judged}
+use Rattle.json5_grammar.proofs.RefusalsAreFaults.{Scope, Judged, Blamed, takes_where, judged_then, judged_last, judged_placed, one_char, the_end, gap_judged, word_judged, number_judged, text_judged}
 
 -- a character that passes no test of a value's first
 no_value_begins : (c : ℕ) → (c == 110) ≡ false → (c == 116) ≡ false → (c == 102) ≡ false → is_quote c ≡ false

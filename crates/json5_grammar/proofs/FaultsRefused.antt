@@ -14,12 +14,12 @@ use Rattle.json5_grammar.specs.Model.Reading.{Place, here, inner, Read, got, bad
 use Rattle.json5_grammar.specs.Model.ReadBlanks.{skip, between}
 use Rattle.json5_grammar.specs.Model.ReadValues.{read, at_end, document}
 use Rattle.json5_grammar.specs.Model.ReadSteps.{forget, entry_at, comma_at, separator, rest_of_bracket}
-use Rattle.json5_grammar.proofs.Basics.{not_eq}
+use Rattle.json5_grammar.proofs.FirstCharacters.{not_eq}
 use Rattle.json5_grammar.proofs.BlanksRead.{skip_rest, begins_solid, skip_end}
 use Rattle.json5_grammar.proofs.BlanksSound.{comment_refused}
 use Rattle.json5_grammar.proofs.KeysRead.{key_string_refused, key_name_refused}
 use Rattle.json5_grammar.proofs.Refusals.{Refuses}
-use Rattle.json5_grammar.proofs.Unique.{phrase_reader}
+use Rattle.json5_grammar.proofs.OneTree.{phrase_reader}
 use Rattle.json5_grammar.proofs.ValuesSound.{no_key_at}
 use Rattle.json5_grammar.proofs.ValueSteps.{turn, rest_step, read_too_deep, read_missing, read_nothing}
 use Rattle.json5_grammar.proofs.FrontsLeft.{rest_then, colon_then, comma_turn, gap_then, entry_turn, Finish, ending, anything, phrase_then, document_ends, room, left_at, Fits, front_fits}

@@ -11,7 +11,7 @@ use Rattle.json5_grammar.specs.Model.Reading.{Read, got, bad, and_then}
 use Rattle.json5_grammar.specs.Model.ReadBlanks.{skip, between}
 use Rattle.json5_grammar.specs.Model.ReadValues.{at_end, document}
 use Rattle.json5_grammar.specs.Model.ReadSteps.{forget, entry_head, entry_at, comma_at, separator, rest_of_bracket}
-use Rattle.json5_grammar.proofs.Basics.{append_after_two, SameHead, same_append, same_not}
+use Rattle.json5_grammar.proofs.FirstCharacters.{append_after_two, SameHead, same_append, same_not}
 use Rattle.json5_grammar.proofs.BlanksRead.{skip_rest, skip_end, begins_solid, printable_solid}
 use Rattle.json5_grammar.proofs.BlanksSound.{Blanks-append}
 use Rattle.json5_grammar.proofs.Classes.{blank_ends_values, blank_no_name}

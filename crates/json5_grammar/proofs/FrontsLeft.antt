@@ -9,7 +9,7 @@ use Rattle.json5_grammar.specs.Model.ReadBlanks.{skip, between}
 use Rattle.json5_grammar.specs.Model.ReadValues.{colon_at, read, at_end, document}
 use Rattle.json5_grammar.specs.Model.ReadSteps.{forget, colon_after, entry_head, entry_at, comma_at, separator, next_value, rest_of_bracket}
 use Rattle.json5_grammar.proofs.BlanksRead.{skip_gap}
-use Rattle.json5_grammar.proofs.Unique.{phrase_reader}
+use Rattle.json5_grammar.proofs.OneTree.{phrase_reader}
 use Rattle.json5_grammar.proofs.ValueSteps.{turn, rest_step}
 
 -- ---- what is left to read

@@ -4,7 +4,7 @@ use Rattle.std.specs.Prelude.{◌==◌, ⊤, ℤ, not}
 use Rattle.json5_grammar.specs.Language.Characters.{is_digit, NotBegun, Each, no_char, char}
 use Rattle.json5_grammar.specs.Language.Numbers.{Sign, no_sign, plus, minus, signed, spelled, Integer, lone_zero, nonzero, Mantissa, integer, with_point, point_first, Exponent, no_exponent, exponent, Literal, literal, is_empty, in_run, begins_run}
 use Rattle.json5_grammar.specs.Model.ReadNumbers.{Parts, front_of, rest_of, exponent_digits, exponent_sign, exponent_at, is_integer, with_exponent, no_point, at_point, point_or, literal_at}
-use Rattle.json5_grammar.proofs.Basics.{by_test, eq_from, and_left, and_right, or_right}
+use Rattle.json5_grammar.proofs.FirstCharacters.{by_test, eq_from, and_left, and_right, or_right}
 use Rattle.json5_grammar.proofs.NumberTests.{point_or_e, digit_no_sign, digit_in_run, e_in_run, e_no_digit, e_no_point, nonzero_digit, nonzero_not_48, digit_nonzero, digit_begins_run, Each-append, each_weaken, front_all, rest_all, rest_each, front_each, front_rest, each_from_rest, front_none}
 
 -- ---- found

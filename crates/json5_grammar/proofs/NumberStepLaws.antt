@@ -8,7 +8,7 @@ use Rattle.std.proofs.lemmas.Int.{ints}
 use Rattle.json5_grammar.specs.Language.Numbers.{spelled, signed}
 use Rattle.json5_grammar.specs.Model.ReadNumbers.{front_of, in_exponents}
 use Rattle.json5_grammar.specs.Model.NumberSteps.{capped, checked}
-use Rattle.json5_grammar.proofs.Basics.{by_test, lt_from, le_from}
+use Rattle.json5_grammar.proofs.FirstCharacters.{by_test, lt_from, le_from}
 
 -- in std's words
 

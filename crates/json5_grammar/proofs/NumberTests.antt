@@ -7,7 +7,7 @@ use Rattle.json5_grammar.specs.Language.Characters.{is_digit, is_in, NotBegun, E
 use Rattle.json5_grammar.specs.Language.Numbers.{hex_start, InWhole, InExponents, is_empty, in_run, begins_run}
 use Rattle.json5_grammar.specs.Faults.Tokens.{is_sign}
 use Rattle.json5_grammar.specs.Model.ReadNumbers.{front_of, rest_of, in_whole, in_exponents}
-pub use Rattle.json5_grammar.proofs.Basics.{by_test}
+pub use Rattle.json5_grammar.proofs.FirstCharacters.{by_test}
 
 -- ---- characters
 

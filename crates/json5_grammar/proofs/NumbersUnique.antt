@@ -11,7 +11,7 @@ use Rattle.json5_grammar.specs.Faults.Codes.{ErrorCode, Shown, ExpectedNumber, E
 use Rattle.json5_grammar.specs.Faults.Tokens.{is_sign, NumberWord, Cut, DecimalRun, run, zero_run, RunEnd, run_at_end, run_at_char, NumberFault, number_word_differs, number_word_ends, sign_without_number, sign_ends, no_hexadecimal_digit, hexadecimal_ends, hexadecimal_overflows, negative_too_large, not_a_literal, literal_overflows, leading_zero}
 use Rattle.json5_grammar.specs.Model.Reading.{Place, got, bad, here, inner, word_at}
 use Rattle.json5_grammar.specs.Model.ReadNumbers.{Parts, literal_at, in_exponents, is_whole, if_literal, hex_judged, hexadecimal, hex_digits, unsigned, number}
-use Rattle.json5_grammar.proofs.Basics.{not_eq}
+use Rattle.json5_grammar.proofs.FirstCharacters.{not_eq}
 use Rattle.json5_grammar.proofs.NumberTests.{in_exponents_yes, begins_run_in_run, dot_or_e_in_run}
 use Rattle.json5_grammar.proofs.Hexadecimal.{spelled-append, hex_stop, hex_over}
 use Rattle.json5_grammar.proofs.Literals.{literal_is, LiteralIs, literal_head, Longer, zero_more, begun}

@@ -9,7 +9,7 @@ use Rattle.json5_grammar.specs.Faults.Codes.{ErrorCode, Shown, by_char}
 use Rattle.json5_grammar.specs.Faults.Tokens.{StringFault, raw_terminator, string_ends, NameFault, no_unicode_escape, escaped_no_start, escaped_no_part, name_ends, backslash_ends, Named, no_item_yet, some_items}
 use Rattle.json5_grammar.proofs.StringsRead.{no_string_fault}
 use Rattle.json5_grammar.proofs.NamesRead.{no_name_fault}
-use Rattle.json5_grammar.proofs.TextFollows.{string_follows, name_follows, string_moved, name_moved}
+use Rattle.json5_grammar.proofs.TextFaultsRemain.{string_follows, name_follows, string_moved, name_moved}
 
 closed_not : (p : ℕ → Bool) (q : ℕ) (s r : List ℕ) → p q ≡ false → NotBegun p (s ++ r) → NotBegun p (s ++ q ∷ [])
 closed_not p q [] r h n = h

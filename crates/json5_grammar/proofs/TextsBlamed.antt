@@ -8,12 +8,12 @@ use Rattle.json5_grammar.specs.Model.ReadValues.{document}
 use Rattle.json5_grammar.specs.Faults.Refusals.{Blames, BlamesText, BlamesValue}
 use Rattle.json5_grammar.specs.Language.Trees.{Tree}
 use Rattle.json5_grammar.proofs.Refusals.{Refuses}
-use Rattle.json5_grammar.proofs.Unique.{phrase_reader}
+use Rattle.json5_grammar.proofs.OneTree.{phrase_reader}
 use Rattle.json5_grammar.proofs.DocumentsJudged.{Faulty, refused_faulty, value_faulty, no_fault, one_fault, anywhere}
-use Rattle.json5_grammar.proofs.FaultsBegin.{fault_begins}
+use Rattle.json5_grammar.proofs.BeforeFaults.{fault_begins}
 use Rattle.json5_grammar.proofs.FaultsParts.{fault_in, fault_part}
 use Rattle.json5_grammar.proofs.FaultsShown.{fault_shows}
-use Rattle.json5_grammar.proofs.FaultsFollow.{hopeless}
+use Rattle.json5_grammar.proofs.FaultsRemain.{hopeless}
 use Rattle.json5_grammar.proofs.FaultsRefused.{fault_refused, value_fault_refused}
 
 -- all that is said of a fault

@@ -26,7 +26,7 @@ use Rattle.json5_grammar.proofs.NamesRead.{unicode_head}
 use Rattle.json5_grammar.proofs.ValueHeads.{KeyHead, key_text_head, key_begins, begins_value_solid}
 use Rattle.json5_grammar.proofs.ValueSteps.{turn, rest_step, read_word_null, read_word_true, read_word_false, read_quote, read_numeral}
 use Rattle.json5_grammar.proofs.WordsRead.{SameFirst, word_refused}
-use Rattle.json5_grammar.proofs.FaultsJudged.{number_at}
+use Rattle.json5_grammar.proofs.RefusalsAreFaults.{number_at}
 use Rattle.json5_grammar.proofs.FrontsLeft.{rest_then, entry_turn, Finish, room, left_at, Fits}
 use Rattle.json5_grammar.proofs.FrontsReached.{no_close, value_next}
 

@@ -17,17 +17,17 @@ use Rattle.json5_grammar.specs.Model.ReadBlanks.{skip, between}
 use Rattle.json5_grammar.specs.Model.ReadNumbers as numbers
 use Rattle.json5_grammar.specs.Model.ReadTexts.{key, string, identifier}
 use Rattle.json5_grammar.specs.Model.ReadValues.{read_elements, read_members, after_element, close_or, element_at, after_member, colon_at, value_after, member_at, key_or, as_leaf, value_with, too_deep, read}
-use Rattle.json5_grammar.proofs.Basics.{by_test, eq_from}
+use Rattle.json5_grammar.proofs.FirstCharacters.{by_test, eq_from}
 use Rattle.json5_grammar.proofs.BlanksRead.{begins_solid}
 use Rattle.json5_grammar.proofs.BlanksSound.{BlanksSound, skip_sound, Blanks-append}
-use Rattle.json5_grammar.proofs.Found.{IsIn, Found, in_whole, in_at, found_then, found_after, found_placed, found, refused_in}
+use Rattle.json5_grammar.proofs.FoundInFront.{IsIn, Found, in_whole, in_at, found_then, found_after, found_placed, found, refused_in}
 use Rattle.json5_grammar.proofs.WordsRead.{WordSound, word_sound}
 use Rattle.json5_grammar.proofs.NumbersSound.{PlaceIs, SoundNumber, sound}
 use Rattle.json5_grammar.proofs.StringsSound.{StringSound, string_sound}
 use Rattle.json5_grammar.proofs.KeysRead.{KeySound, key_sound}
 use Rattle.json5_grammar.proofs.ValueHeads.{val_head, key_head, array_reader, object_reader, read_step}
-use Rattle.json5_grammar.proofs.CollectionsRead.{opening_solid, sign_after, reads_after, phrase_found, tail_comma, array_reads}
-use Rattle.json5_grammar.proofs.CollectionsPairs.{opening_brace_solid, pairs_comma, object_reads}
+use Rattle.json5_grammar.proofs.ArraysRead.{opening_solid, sign_after, reads_after, phrase_found, tail_comma, array_reads}
+use Rattle.json5_grammar.proofs.ObjectsRead.{opening_brace_solid, pairs_comma, object_reads}
 
 -- ---- what each step finds
 

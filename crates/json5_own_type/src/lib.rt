@@ -5,12 +5,12 @@ mod articles;
 mod at_most;
 mod colors;
 mod ids;
+mod labels;
 mod levels;
 mod ports;
 mod reminders;
 mod settings;
 mod settings_written;
-mod tags;
 
 ghost use Rattle.std.specs.Prelude.{◌≡◌, true};
 ghost use Rattle.json5.specs.ErrorCode.TheVariants as codes;
@@ -23,13 +23,13 @@ pub use colors::{Color, colors_read_back};
 pub use ids::Id;
 use json5::de::value_codes;
 use json5::{Deserialize, Deserializer, Error, Input, Result, SeqAccess};
+pub use labels::Labels;
 pub use levels::Level;
 pub use ports::{Endpoint, OpenPort, PortRange, endpoint_again};
 pub use reminders::Reminder;
 pub use settings::Settings;
 pub use settings_written::settings_again;
 use std::alloc::Global;
-pub use tags::Labels;
 
 /// Two ends, written as a list: `[low, high]`.
 #[derive(Drop)]

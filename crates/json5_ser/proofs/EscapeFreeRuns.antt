@@ -11,7 +11,7 @@ use lib.Lanes.{top}
 use Rattle.std.proofs.lemmas.Bool.{and_parts}
 use Rattle.std.proofs.lemmas.Bool.Decides.{nat_tests}
 use Rattle.json5_grammar.specs.Language.Characters.{Each, no_char, char}
-use Rattle.json5_grammar.proofs.Basics.{eq_from}
+use Rattle.json5_grammar.proofs.FirstCharacters.{eq_from}
 use Rattle.json5_text.specs.ByteRuns.{is_in_line, is_line_part}
 use Rattle.json5_text.proofs.StopRuns.{FailsAscii, OfChars, of_ascii, line_chars}
 use Rattle.json5_text.proofs.ByteSearch.{hit}

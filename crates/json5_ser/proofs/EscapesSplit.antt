@@ -13,7 +13,7 @@ use Rattle.json5_ser.specs.declared.quoting.Quote.{Quote}
 use Rattle.json5_ser.specs.declared.quoting.Quote.TheVariants as quote
 use Rattle.json5_ser.specs.Quotes.{delimiter}
 use Rattle.json5_ser.specs.Escaping.{StartsWithScalar, SplitsAtEscape, WritesAsIs}
-use Rattle.json5_ser.proofs.Joins.{scalars-append}
+use Rattle.json5_ser.proofs.OutputsJoined.{scalars-append}
 use Rattle.json5_grammar.specs.Language.Characters.{Each, no_char, char}
 use Rattle.json5_text.specs.Scan.{SkipsAll}
 use Rattle.json5_text.proofs.ScanBytes.{Halves, one_scalar, parts_scalar}

@@ -20,7 +20,7 @@ use Rattle.json5_ser.specs.Out.{Out, piece, ◌then◌}
 use Rattle.json5_ser.specs.Writes.{SerializerState, Wrote, RefusesWrite, Writes}
 use Rattle.json5_ser.proofs.DecimalPieces.{is_spelling, IsAscii-text, first, second, both}
 use Rattle.json5_ser.proofs.SpelledKeys.{run, not_in_run, spelled_quoted}
-use Rattle.json5_ser.proofs.Joins.{Reaches, Reaches-next, Reaches-exit}
+use Rattle.json5_ser.proofs.OutputsJoined.{Reaches, Reaches-next, Reaches-exit}
 
 pub hex_ascii : (bs : List ℕ) → IsAscii (encode_lower bs)
 hex_ascii bs = IsAscii-encode_with lower_digits bs (IsAscii-text lower_digits refl)

@@ -1,4 +1,4 @@
-pub mod Joins
+pub mod OutputsJoined
 pub mod PiecesWritten
 pub mod PutsJoined
 pub mod TextsWhole
@@ -8,10 +8,10 @@ pub mod EscapeFreeRuns
 pub mod DecimalPieces
 pub mod Unmarked
 pub mod ReadBack
-pub mod Depths
+pub mod WrittenDepths
 pub mod ReadIsWritten
 pub mod ValueTexts
-pub mod Writables
+pub mod WritableNumbers
 pub mod LineStarts
 pub mod Remains
 pub mod NamesFound

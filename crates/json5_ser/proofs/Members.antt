@@ -10,7 +10,7 @@ use Rattle.json5_ser.specs.Out.{Out, piece, ◌then◌, opened_by, closed_by, ou
 use Rattle.json5_ser.specs.Writes.{SerializerState, RefusesWrite, Writes, WritesTree}
 use Rattle.json5_ser.specs.Lending.{inner, serializer_of, reference_of, state_of, has_member, in_variant, list_opening, object_opening, ListBegun, ObjectBegun, VariantListBegun, VariantObjectBegun, Steps, outside, ending}
 use Rattle.json5_ser.specs.declared.collection.SerializeCollection.{SerializeCollection}
-use Rattle.json5_ser.proofs.Joins.{Refuses-before, Writes-handed}
+use Rattle.json5_ser.proofs.OutputsJoined.{Refuses-before, Writes-handed}
 use Rattle.json5_ser.proofs.Remains.{Rest, Remains, elements, fields, value, BeginsWith, then_assoc, remains_on, remains_refused, remains_all, ends_whole, closes_list, closes_object}
 
 -- ---- what a call writes is what remains first

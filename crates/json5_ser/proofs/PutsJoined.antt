@@ -7,9 +7,9 @@ use Rattle.json5_grammar.specs.declared.code.ErrorCode.TheVariants as codes
 use Rattle.json5_ser.specs.Out.{Out, ◌then◌}
 use Rattle.json5_ser.specs.Writes.{SerializerState, Wrote, RefusesBy, RefusesWrite, Writes}
 use Rattle.json5_ser.specs.Puts.{refusal_by, MakesError}
-use Rattle.json5_ser.specs.declared.refused.Refused.{Refused}
-use Rattle.json5_ser.specs.declared.refused.Refused.TheVariants as refused
-use Rattle.json5_ser.proofs.Joins.{refused_so, Refuses-before, Reaches}
+use Rattle.json5_ser.specs.declared.refusal.Refused.{Refused}
+use Rattle.json5_ser.specs.declared.refusal.Refused.TheVariants as refused
+use Rattle.json5_ser.proofs.OutputsJoined.{refused_so, Refuses-before, Reaches}
 
 -- the error of a refusal
 pub refused_as : (w : Out) (o n : SerializerState) (r : Refused) (e : Error) → MakesError r e → RefusesBy w o (refusal_by r) n → RefusesWrite w o e n

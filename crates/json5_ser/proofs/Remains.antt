@@ -15,7 +15,7 @@ use Rattle.json5_ser.specs.Lending.{within_variant, inner, serializer_of, refere
 use Rattle.json5_ser.specs.declared.brackets.Brackets.{Brackets}
 use Rattle.json5_ser.specs.declared.brackets.Brackets.TheVariants as brackets
 use Rattle.json5_ser.specs.declared.collection.SerializeCollection.{SerializeCollection}
-use Rattle.json5_ser.proofs.Joins.{Refuses-before, Writes-handed, Reaches, Reaches-first, Reaches-next, Reaches-last}
+use Rattle.json5_ser.proofs.OutputsJoined.{Refuses-before, Writes-handed, Reaches, Reaches-first, Reaches-next, Reaches-last}
 
 -- elements, fields, or the value of the key that was written last and the fields after it
 pub data Rest : Type 0 where

@@ -9,7 +9,7 @@ use Rattle.json5_ser.specs.Writable.{is_writable}
 use Rattle.json5_grammar.specs.Written.NumberText.{number_text}
 use Rattle.json5_ser.specs.ValueTrees.{datum_tree, items_tree, fields_tree, value_tree}
 use Rattle.json5_ser.proofs.ReadBack.{one_tree_written}
-use Rattle.json5_ser.proofs.Depths.{piece_whole}
+use Rattle.json5_ser.proofs.WrittenDepths.{piece_whole}
 
 -- what a tree without bad keys means
 abbrev mutual

@@ -14,7 +14,7 @@ pub mod Brackets
 pub mod Stages
 pub mod Lending
 pub mod Keys
-pub mod Waiting
+pub mod KeyLending
 pub mod Escaping
 pub mod EscapeFree
 pub mod NameBytes

@@ -5,8 +5,8 @@ use Rattle.json5_text.specs.declared.error.Error.{Error}
 use Rattle.json5_text.specs.Errors.{FaultKind, code, failed_write, SaysAt}
 use Rattle.json5_ser.specs.Out.{Out}
 use Rattle.json5_ser.specs.Writes.{SerializerState, Wrote, Refusal, by_writer, by_refusal, by_depth, RefusesBy}
-use Rattle.json5_ser.specs.declared.refused.Refused.{Refused}
-use Rattle.json5_ser.specs.declared.refused.Refused.TheVariants as refused
+use Rattle.json5_ser.specs.declared.refusal.Refused.{Refused}
+use Rattle.json5_ser.specs.declared.refusal.Refused.TheVariants as refused
 
 -- the refusal that it names
 abbrev pub refusal_by : Refused → Refusal

@@ -12,7 +12,7 @@ mod numbers;
 mod refusals;
 
 use crate::Serializer;
-use crate::names::is_identifier;
+use crate::identifiers::is_identifier;
 use json5_text::error::Result;
 use std::io::Write;
 
@@ -38,7 +38,7 @@ pub struct MapKey<'a, W: Write + Drop> {
 
 /// Dropped unused, it leaves the serializer before the key.
 impl<W: Write + Drop> Drop for MapKey<'_, W> {
-    ghost use Rattle.json5_ser.specs.Waiting.{serializer_of_key};
+    ghost use Rattle.json5_ser.specs.KeyLending.{serializer_of_key};
 
     fn drop(self)
         ensures { self.exit.0.now ≡ serializer_of_key self.entry }
@@ -62,7 +62,7 @@ impl<W: Write + Drop> Drop for MapKey<'_, W> {
 /// }
 /// ```
 pub trait SerializeKey {
-    ghost use Rattle.json5_ser.specs.Waiting.{serializer_of_key};
+    ghost use Rattle.json5_ser.specs.KeyLending.{serializer_of_key};
 
     ghost as_key: { Self → WrittenKey };
 
@@ -96,7 +96,7 @@ impl<W: Write + Drop> Serializer<W> {
 }
 
 impl<W: Write + Drop> MapKey<'_, W> {
-    ghost use Rattle.json5_ser.specs.Waiting.{serializer_of_key, WritesNull};
+    ghost use Rattle.json5_ser.specs.KeyLending.{serializer_of_key, WritesNull};
 
     /// Writes the key `true` or `false`.
     ///

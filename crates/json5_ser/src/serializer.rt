@@ -21,7 +21,7 @@ use crate::brackets::Brackets;
 use crate::escape_free::is_escape_free;
 use crate::lines::line;
 use crate::output::write_whole;
-use crate::refused::{Put, Refused, refusal};
+use crate::refusal::{Put, Refused, refusal};
 use crate::stage::Stage;
 use json5_text::ErrorCode;
 use json5_text::error::{Error, Result};

@@ -20,7 +20,7 @@ impl Serialize for Value {
         match self {
             Value::Null => ser.serialize_unit(),
             Value::Bool(truth) => ser.serialize_bool(*truth),
-            Value::Whole(number) => write_whole(*number, ser),
+            Value::Whole(number) => write_whole_number(*number, ser),
             Value::Decimal(number) => ser.serialize_decimal(number),
             Value::String(text) => ser.serialize_str(text.as_str()),
             Value::Array(items) => items.serialize(ser),
@@ -47,7 +47,7 @@ fn write_fields<W: Write + Drop>(fields: &[(String, Value)], ser: &mut Serialize
 }
 
 /// Writes the decimal digits of a whole number of either sign.
-fn write_whole<W: Write + Drop>(value: Whole, ser: &mut Serializer<W>) -> Result<()>
+fn write_whole_number<W: Write + Drop>(value: Whole, ser: &mut Serializer<W>) -> Result<()>
     ensures { WritesTree (integer value) ser.old result ser.new }
 {
     if let Some(positive) = value.as_u128() {

@@ -2,8 +2,6 @@
 #![tactic(auto)]
 
 #[cfg(test)]
-mod asked;
-#[cfg(test)]
 mod brackets;
 #[cfg(test)]
 mod errors;
@@ -25,5 +23,7 @@ mod readme;
 mod stops;
 #[cfg(test)]
 mod values;
+#[cfg(test)]
+mod writer_calls;
 #[cfg(test)]
 mod writers;

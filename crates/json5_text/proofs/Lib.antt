@@ -1,10 +1,10 @@
 pub mod NumberRuns
 pub mod NumberZeros
-pub mod NumberWritten
+pub mod ZeroPieces
 pub mod NumberPieces
 pub mod ScanSteps
 pub mod ScanBytes
-pub mod TextScalars
+pub mod UnicodeScalars
 pub mod ScanFaults
 pub mod ScanTokens
 pub mod EscapesSpelled
@@ -22,7 +22,7 @@ pub mod ValuesCompared
 pub mod NumberSteps
 pub mod NumberLiterals
 pub mod NumberValues
-pub mod NumberJudged
+pub mod LiteralValues
 pub mod NumberCases
 pub mod DecimalRuns
 pub mod ScanNumbers

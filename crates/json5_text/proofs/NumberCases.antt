@@ -8,7 +8,7 @@ use Rattle.json5_grammar.specs.Language.Characters.{is_digit}
 use Rattle.json5_grammar.specs.Language.Numbers.{decimal, infinite, nan, hex_start, in_run, begins_run}
 use Rattle.json5_grammar.specs.Model.Reading.{bad, here, inner, word_at}
 use Rattle.std.specs.Str.{chars}
-use Rattle.json5_grammar.proofs.Basics.{not_eq}
+use Rattle.json5_grammar.proofs.FirstCharacters.{not_eq}
 use Rattle.json5_text.proofs.NumberSteps.{infinity_rest, nan_rest}
 use Rattle.json5_text.specs.NumberParts.{after_sign}
 use Rattle.json5_grammar.specs.Model.ReadNumbers.{front_of, rest_of, literal_at, if_literal, decimal_run, at_zero, unsigned, number}

@@ -11,7 +11,7 @@ use Rattle.json5_grammar.specs.declared.code.ErrorCode.TheVariants.{EofParsingNu
 use Rattle.json5_grammar.specs.Language.Numbers.{Number, signed, whole, InWhole}
 use Rattle.json5_grammar.specs.Model.Reading.{Read, Place, got, bad, here, word_at}
 use Rattle.json5_grammar.specs.Model.ReadNumbers.{hex_digits, hex_judged, hexadecimal}
-use Rattle.json5_grammar.proofs.Basics.{hex_value, no_hex}
+use Rattle.json5_grammar.proofs.FirstCharacters.{hex_value, no_hex}
 use Rattle.json5_text.specs.declared.refusal.Refusal.{Refusal}
 use Rattle.json5_text.specs.declared.refusal.Refusal.TheVariants as refusal
 use Rattle.json5_text.specs.Refused.{Refuses, WantsForDigits}

@@ -10,7 +10,7 @@ use Rattle.json5_grammar.specs.Language.Strings.{is_raw, is_quote}
 use Rattle.json5_grammar.specs.Model.Reading.{Read, got, bad, here, inner}
 use Rattle.json5_grammar.specs.Model.ReadTexts.{put, identifier}
 use Rattle.json5_grammar.proofs.StringsRead.{put_none, raw_fails}
-use Rattle.json5_grammar.proofs.Turns.{string_is, rest_end, rest_quote, rest_line, rest_raw, name_rest, name_end, name_stops, name_raw, start_raw}
+use Rattle.json5_grammar.proofs.ReadingTurns.{string_is, rest_end, rest_quote, rest_line, rest_raw, name_rest, name_end, name_stops, name_raw, start_raw}
 use Rattle.json5_text.specs.declared.texts.Kind.{Kind}
 use Rattle.json5_text.specs.declared.texts.Kind.TheVariants as kind
 use Rattle.json5_text.specs.declared.texts.Quote.{Quote}

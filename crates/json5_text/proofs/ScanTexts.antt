@@ -14,7 +14,7 @@ use Rattle.json5_grammar.proofs.NamesRead.{unicode_head}
 use Rattle.json5_grammar.proofs.NamesSound.{EscapedSound, escaped_sound}
 use Rattle.json5_grammar.proofs.StringsRead.{escape_head, quote_no_backslash}
 use Rattle.json5_grammar.proofs.StringsSound.{shorter}
-use Rattle.json5_grammar.proofs.Turns.{string_is, rest_bad, rest_escape, name_rest, name_escaped, name_bad, start_escaped, start_bad}
+use Rattle.json5_grammar.proofs.ReadingTurns.{string_is, rest_bad, rest_escape, name_rest, name_escaped, name_bad, start_escaped, start_bad}
 use Rattle.json5_text.specs.declared.refusal.Refusal.{Refusal}
 use Rattle.json5_text.specs.declared.texts.Kind.{Kind}
 use Rattle.json5_text.specs.declared.texts.Kind.TheVariants as kind

@@ -13,7 +13,7 @@ use Rattle.json5_grammar.specs.Language.Names.{Ident, goes_on_name}
 use Rattle.json5_grammar.proofs.NamesRead.{name_complete}
 use Rattle.json5_grammar.specs.Model.ReadTexts.{string, identifier}
 use Rattle.json5_grammar.specs.Language.Strings.{is_quote, Str, quoted}
-use Rattle.json5_grammar.proofs.Basics.{by_test}
+use Rattle.json5_grammar.proofs.FirstCharacters.{by_test}
 use Rattle.json5_grammar.proofs.NamesSound.{Stopped, NameSound, name_sound}
 use Rattle.json5_grammar.proofs.StringsRead.{string_complete}
 use Rattle.json5_grammar.proofs.StringsSound.{StringSound, string_sound}

@@ -10,7 +10,7 @@ use Rattle.json5_grammar.specs.Language.Blanks.{Gap}
 use Rattle.json5_grammar.specs.Language.Characters.{comma_sign}
 use Rattle.json5_grammar.specs.Model.Collections.{IsSign}
 use Rattle.json5_grammar.specs.Model.ReadBlanks.{skip, between}
-use Rattle.json5_grammar.proofs.Basics.{eq_from}
+use Rattle.json5_grammar.proofs.FirstCharacters.{eq_from}
 use Rattle.json5_grammar.proofs.BlanksSound.{gap_blanks}
 use Rattle.json5_text.specs.TokenResults.{GivesValue}
 use Rattle.json5_text.specs.Cursor.{Cursor}

@@ -18,7 +18,7 @@ use Rattle.std.proofs.lemmas.Int.{ints}
 use Rattle.json5_text.specs.TokenResults.{GivesValue}
 use Rattle.json5_grammar.specs.Model.ReadNumbers.{front_of, rest_of}
 use Rattle.json5_grammar.proofs.NumberTests.{front_each, digit_nonzero, nonzero_not_48, nonzero_digit, digit_no_sign}
-use Rattle.json5_grammar.proofs.Basics.{eq_from}
+use Rattle.json5_grammar.proofs.FirstCharacters.{eq_from}
 use Rattle.json5_text.specs.declared.byte_runs.FewDigits.{FewDigits}
 use Rattle.json5_text.specs.ByteRuns.{lengthens_digits, IsFewDigits, IsShort}
 use Rattle.json5_text.proofs.NumberRuns.{PassesAscii, digit_is_ascii, not_begun, rest_utf8, rest_cut, chars_split}

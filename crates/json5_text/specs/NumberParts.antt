@@ -10,9 +10,9 @@ use Rattle.json5_grammar.specs.Model.Reading.{got, bad, here}
 use Rattle.json5_grammar.specs.declared.code.ErrorCode.TheVariants.{OverflowParsingNumber}
 use Rattle.json5_text.specs.declared.literals.Exponent.{Exponent}
 use Rattle.json5_text.specs.declared.literals.Literal.{Literal}
-use Rattle.json5_text.specs.declared.scanned.Scanned.{Scanned}
+use Rattle.json5_text.specs.declared.number_slices.Scanned.{Scanned}
 use Rattle.json5_text.specs.declared.literals.Tail.{Tail}
-use Rattle.json5_text.specs.declared.scanned.Scanned.TheVariants as scanned
+use Rattle.json5_text.specs.declared.number_slices.Scanned.TheVariants as scanned
 
 abbrev pub scanned_of : Scanned → numbers.Number
 scanned_of (scanned.Whole z) = numbers.whole z

@@ -10,10 +10,10 @@ ghost use Rattle.json5_text.specs.NumberDecimals.{has_minus, is_infinity, is_not
 ghost use Rattle.json5_text.specs.NumberSteps.{raised, IsSmallExponent};
 ghost use Rattle.json5_text.specs.NumberViews.{keeps_digits};
 
+use crate::digit_runs;
 use crate::error::Result;
 use crate::inline_digits::InlineDigits;
 use crate::pieces::Pieces;
-use crate::runs;
 use std::alloc::{AllocError, Global};
 use std::fmt;
 use std::hash::{Hash, Hasher};
@@ -73,9 +73,9 @@ impl Model for Decimal {
 fn without_front_zeros<'a>(before: &'a str, after: &'a str) -> (&'a str, &'a str)
     ensures { result.0.now ++ result.1.now ≡ numbers.without_front_zeros (before.now ++ after.now) }
 {
-    let first = runs::without_front_zeros(before);
+    let first = digit_runs::without_front_zeros(before);
     if first.is_empty() {
-        (first, runs::without_front_zeros(after))
+        (first, digit_runs::without_front_zeros(after))
     } else {
         (first, after)
     }
@@ -85,9 +85,9 @@ fn without_front_zeros<'a>(before: &'a str, after: &'a str) -> (&'a str, &'a str
 fn without_back_zeros<'a>(before: &'a str, after: &'a str) -> (&'a str, &'a str)
     ensures { result.0.now ++ result.1.now ≡ reverse (numbers.without_front_zeros (reverse (before.now ++ after.now))) }
 {
-    let last = runs::without_back_zeros(after);
+    let last = digit_runs::without_back_zeros(after);
     if last.is_empty() {
-        (runs::without_back_zeros(before), last)
+        (digit_runs::without_back_zeros(before), last)
     } else {
         (before, last)
     }
@@ -257,7 +257,7 @@ impl Decimal {
     ) -> Result<Option<Decimal>>
         ensures { MatchResult result (IsFiniteOf negative digits.now exponent) LacksMemory }
     {
-        let (digits, rest) = runs::split_digits(digits);
+        let (digits, rest) = digit_runs::split_digits(digits);
         if !rest.is_empty() {
             return Ok(None);
         }

@@ -9,8 +9,8 @@ ghost use Rattle.json5_text.specs.ScanNumbers.{GivesHex, Overflows};
 
 use crate::digits::one_more;
 use crate::front::front;
+use crate::number_slices::Scanned;
 use crate::refusal::Refusal;
-use crate::scanned::Scanned;
 use crate::whole::Whole;
 use json5_grammar::code::ErrorCode;
 

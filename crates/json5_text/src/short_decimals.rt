@@ -14,7 +14,7 @@ use crate::decimal::Decimal;
 use crate::front::front;
 use crate::input::Input;
 use crate::literals::{Literal, after_sign, read_literal};
-use crate::scanned::finite_decimal;
+use crate::number_slices::finite_decimal;
 use crate::scanner::Scanner;
 
 /// Whether a digit or a point is in front that begins a decimal run; after a first `0` goes a point or an exponent.

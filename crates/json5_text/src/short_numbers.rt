@@ -9,9 +9,9 @@ ghost use Rattle.json5_text.specs.TokenResults.{GivesRest};
 
 use crate::blanks::skip_ascii;
 use crate::byte_runs::goes_on;
+use crate::digit_runs::split_digits;
 use crate::input::Input;
 use crate::literals::is_integer;
-use crate::runs::split_digits;
 use crate::scanner::Scanner;
 use crate::short_ways::is_in_front;
 

@@ -14,7 +14,7 @@ use Rattle.json5_grammar.specs.Model.ReadSteps.{colon_after, key_head, key_at, e
 use Rattle.json5_grammar.specs.Model.ReadTexts.{key, string, identifier}
 use Rattle.json5_grammar.specs.Language.Blanks.{Solid}
 use Rattle.json5_grammar.specs.Language.Strings.{is_quote}
-use Rattle.json5_grammar.proofs.Found.{Found}
+use Rattle.json5_grammar.proofs.FoundInFront.{Found}
 use Rattle.json5_grammar.proofs.KeysRead.{key_complete}
 use Rattle.json5_grammar.proofs.Refusals.{Refuses}
 use Rattle.json5_grammar.proofs.ValuesSound.{IsGap, gap_found}
@@ -25,7 +25,7 @@ use Rattle.json5_text.specs.Errors.{code, kind_of, error_position}
 use Rattle.json5_text.specs.TextTokens.{Spells}
 use Rattle.json5_text.specs.TokenCalls.{TakesKey}
 use Rattle.json5_text.specs.Tokens.{FaultyKey, at_quote, at_name}
-use Rattle.json5_text.proofs.TextScalars.{key_scalars}
+use Rattle.json5_text.proofs.UnicodeScalars.{key_scalars}
 use Rattle.json5_value.specs.Entries.{entry_front, entry_start, next_entry}
 use Rattle.json5_value.specs.Keeping.{BlamesOrMemory, Keeps, OwnsKey, IsFoundKey, IsKeyText, IsNextKey, next_key}
 use Rattle.json5_value.specs.Steps.{IsInside, SameText, RefusesRead, Gave, RefusesToken}

@@ -26,7 +26,7 @@ use Rattle.json5_text.specs.Tokens.{FaultyNumber, FaultyString}
 use Rattle.json5_text.specs.declared.value.Value as value
 use Rattle.json5_text.specs.ValueViews.{value_of, Datum}
 use Rattle.json5_text.specs.ValueViews as datum
-use Rattle.json5_text.proofs.TextScalars.{text_characters}
+use Rattle.json5_text.proofs.UnicodeScalars.{text_characters}
 use Rattle.json5_text.proofs.ValuesCompared.{view-String}
 use Rattle.json5_value.specs.declared.kinds.Literal.{Literal}
 use Rattle.json5_value.specs.declared.kinds.Literal.TheVariants as literal

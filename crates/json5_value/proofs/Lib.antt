@@ -1,7 +1,7 @@
 pub mod OtherCodes
 pub mod Steps
 pub mod TokenSteps
-pub mod Literals
+pub mod WordCharacters
 pub mod Signs
 pub mod FaultPositions
 pub mod EntrySteps

@@ -15,7 +15,7 @@ use Rattle.json5_grammar.specs.Model.ReadTexts.{string}
 use Rattle.json5_grammar.specs.Model.ReadValues.{read}
 use Rattle.json5_grammar.specs.Language.Strings.{is_quote}
 use Rattle.json5_grammar.specs.Language.Trees.{Tree}
-use Rattle.json5_grammar.proofs.Basics.{eq_from, same_char}
+use Rattle.json5_grammar.proofs.FirstCharacters.{eq_from, same_char}
 use Rattle.json5_grammar.proofs.ValueHeads.{val_head}
 use Rattle.json5_grammar.proofs.ValuesSound.{IsValue, read_sound}
 use Rattle.json5_grammar.proofs.ValueSteps.{read_too_deep, read_missing, read_word_null, read_word_true, read_word_false, read_quote, read_numeral, read_nothing}

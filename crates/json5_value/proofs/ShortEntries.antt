@@ -18,12 +18,12 @@ use Rattle.json5_grammar.specs.Model.ReadValues.{read, colon_at}
 use Rattle.json5_grammar.specs.Language.Trees as trees
 use Rattle.json5_grammar.specs.Language.Strings.{Str}
 use Rattle.json5_grammar.specs.Language.Values.{Val, is_number, is_text}
-use Rattle.json5_grammar.proofs.Basics.{same_char}
+use Rattle.json5_grammar.proofs.FirstCharacters.{same_char}
 use Rattle.json5_grammar.proofs.BlanksRead.{begins_solid}
 use Rattle.json5_grammar.proofs.BlanksSound.{gap_read, gap_before, one_gap}
 use Rattle.json5_grammar.proofs.Classes.{number_begins, quote_begins}
-use Rattle.json5_grammar.proofs.CollectionsPairs.{brace_solid, colon_solid}
-use Rattle.json5_grammar.proofs.CollectionsRead.{comma_solid, bracket_solid, phrase_found}
+use Rattle.json5_grammar.proofs.ObjectsRead.{brace_solid, colon_solid}
+use Rattle.json5_grammar.proofs.ArraysRead.{comma_solid, bracket_solid, phrase_found}
 use Rattle.json5_grammar.proofs.KeysRead.{key_complete}
 use Rattle.json5_grammar.proofs.ValueHeads.{val_head, value_solid, begins_value_solid, key_head, key_solid}
 use Rattle.json5_grammar.proofs.ValuesRead.{read_complete}

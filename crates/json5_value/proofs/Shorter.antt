@@ -8,7 +8,7 @@ use Rattle.json5_grammar.specs.Model.ReadBlanks.{skip, between}
 use Rattle.json5_grammar.specs.Model.ReadSteps.{colon_after, member_head, entry_head, entry_at, comma_at, separator, next_value}
 use Rattle.json5_grammar.specs.Model.ReadTexts.{key}
 use Rattle.json5_grammar.specs.Model.ReadValues.{colon_at}
-use Rattle.json5_grammar.proofs.Found.{Found}
+use Rattle.json5_grammar.proofs.FoundInFront.{Found}
 use Rattle.json5_grammar.proofs.ValuesSound.{IsGap, IsKeyAt, gap_found, key_found}
 use Rattle.json5_value.specs.Entries.{entry_front, entry_start, next_entry}
 

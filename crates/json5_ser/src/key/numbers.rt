@@ -21,7 +21,7 @@ impl<W: Write + Drop> Serializer<W> {
 }
 
 impl<W: Write + Drop> MapKey<'_, W> {
-    ghost use Rattle.json5_ser.specs.Waiting.{serializer_of_key};
+    ghost use Rattle.json5_ser.specs.KeyLending.{serializer_of_key};
 
     /// Writes the decimal digits as a key, between quotes: `"80"`.
     ///

@@ -5,7 +5,7 @@ use json5_text::error::Result;
 use std::io::Write;
 
 impl<W: Write + Drop> MapKey<'_, W> {
-    ghost use Rattle.json5_ser.specs.Waiting.{RefusesKey};
+    ghost use Rattle.json5_ser.specs.KeyLending.{RefusesKey};
 
     /// Refuses None, which is no key.
     ///

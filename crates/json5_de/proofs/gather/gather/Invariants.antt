@@ -1,6 +1,6 @@
 use Rattle.std.proofs.Common.{List, length, None}
 use Rattle.json5_de.specs.Lending.{map_state_of, HoldsTheSameMap}
-use Rattle.json5_de.proofs.Gathering.{ReadingPairs}
+use Rattle.json5_de.proofs.Gathering.{ReadingMembers}
 use Rattle.json5_de.proofs.gather.gather.Given as goal
 
 abbrev pub invariant-loop-map : goal.invariant-loop-map
@@ -8,7 +8,7 @@ invariant-loop-map g l = record {
   same_reference : HoldsTheSameMap l.initial.map l.map;
   pairs : List (g.row.K.Denot × g.row.V.Denot);
   gathered : g.M.Gathers.gathered l.items pairs;
-  reading : ReadingPairs g.K.DeserializeKey.content g.V.Deserialize.content g.K.DeserializeKey.convert g.V.Deserialize.convert l.fn.de pairs None (map_state_of l.map);
+  reading : ReadingMembers g.K.DeserializeKey.content g.V.Deserialize.content g.K.DeserializeKey.convert g.V.Deserialize.convert l.fn.de pairs None (map_state_of l.map);
 }
 
 abbrev pub decreases-loop-map : goal.decreases-loop-map

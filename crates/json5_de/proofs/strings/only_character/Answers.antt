@@ -2,7 +2,7 @@ use Rattle.std.proofs.Common.{◌≡◌, true, false, ◌∷◌, ap, sym, ◌∙
 use Rattle.std.specs.Str.{chars}
 use Rattle.std.proofs.lemmas.Str.{chars_past_char}
 use Rattle.json5_de.specs.Convert.{one_character}
-use Rattle.json5_de.proofs.Ends.{peeked, some_left, none_left}
+use Rattle.json5_de.proofs.InputEnds.{peeked, some_left, none_left}
 use Rattle.json5_de.proofs.strings.only_character.Goals as goal
 
 pub returns-then-is_some : goal.returns-then-is_some

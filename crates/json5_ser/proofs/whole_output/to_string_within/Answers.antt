@@ -1,6 +1,6 @@
 use Rattle.std.proofs.Common.{rules, string_bytes, Some, ap, refl, ◌∙◌}
 use Rattle.json5_ser.proofs.TextsWhole.{whole_text, whole_utf8}
-use Rattle.json5_ser.proofs.Depths.{text_document}
+use Rattle.json5_ser.proofs.WrittenDepths.{text_document}
 use Rattle.json5_ser.proofs.whole_output.to_string_within.Goals as goal
 
 pub from_utf8_unchecked-requires : goal.from_utf8_unchecked-requires

@@ -1,5 +1,5 @@
 use Rattle.std.proofs.Common.{◌∙◌}
-use Rattle.json5_text.proofs.NumberWritten.{zeros_boundary, zeros_cut}
+use Rattle.json5_text.proofs.ZeroPieces.{zeros_boundary, zeros_cut}
 use Rattle.json5_text.proofs.pieces.few_zeros.Goals as goal
 
 pub split_at-requires : goal.split_at-requires

@@ -1,6 +1,6 @@
 use Rattle.std.proofs.Common.{subst}
 use Rattle.json5_text.specs.ShortWords.{TakesShortWord}
-use Rattle.json5_value.proofs.Literals.{chars_null, chars_true, chars_false}
+use Rattle.json5_value.proofs.WordCharacters.{chars_null, chars_true, chars_false}
 use Rattle.json5_value.proofs.short_ways.short_literal.Goals as goal
 
 pub returns-in-Null : goal.returns-in-Null

@@ -1,6 +1,6 @@
 use Rattle.std.proofs.Common.{refl}
 use Rattle.std.proofs.lemmas.Result.{err_from_is_err_and}
-use Rattle.json5_de.proofs.PairCodes.{no_pair_next, no_pair_here, refused_next_key, refused_key_here}
+use Rattle.json5_de.proofs.MemberRefusals.{no_pair_next, no_pair_here, refused_next_key, refused_key_here}
 use Rattle.json5_de.proofs.de.Deserializer.advance_to_key.Goals as goal
 
 pub returns-in_err-advance_to_entry-clause-refused : goal.returns-in_err-advance_to_entry-clause-refused

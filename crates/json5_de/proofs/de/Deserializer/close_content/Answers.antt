@@ -1,6 +1,6 @@
 use Rattle.json5_de.proofs.VariantEnds.{content_ended, content_not_ended}
 use Rattle.json5_value.specs.Brackets.{brackets_of}
-use Rattle.json5_de.proofs.Pairs.{signs_of}
+use Rattle.json5_de.proofs.ObjectMembers.{signs_of}
 use Rattle.json5_de.proofs.de.Deserializer.close_content.Goals as goal
 
 pub returns-in-Ok : goal.returns-in-Ok

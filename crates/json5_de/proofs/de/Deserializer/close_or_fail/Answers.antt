@@ -2,7 +2,7 @@ use Rattle.std.proofs.Common.{subst}
 use Rattle.json5_value.specs.Brackets.{brackets_of}
 use Rattle.json5_de.specs.ShortWays.{ClosesShort}
 use Rattle.json5_de.proofs.OpenClose.{closes_at_once}
-use Rattle.json5_de.proofs.Pairs.{signs_of}
+use Rattle.json5_de.proofs.ObjectMembers.{signs_of}
 use Rattle.json5_de.proofs.de.Deserializer.close_or_fail.Goals as goal
 
 pub returns-then-short_close : goal.returns-then-short_close

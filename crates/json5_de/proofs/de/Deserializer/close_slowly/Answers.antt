@@ -1,9 +1,9 @@
 use Rattle.std.proofs.Common.{◌∙◌}
 use Rattle.json5_de.proofs.Arrays.{failed_of}
 use Rattle.json5_de.proofs.OpenClose.{closes, refuses_closing}
-use Rattle.json5_de.proofs.Taken.{input_of}
+use Rattle.json5_de.proofs.ReadSteps.{input_of}
 use Rattle.json5_value.specs.Brackets.{brackets_of}
-use Rattle.json5_de.proofs.Pairs.{signs_of}
+use Rattle.json5_de.proofs.ObjectMembers.{signs_of}
 use Rattle.json5_de.proofs.de.Deserializer.close_slowly.Goals as goal
 
 pub returns-in-Ok : goal.returns-in-Ok

@@ -1,7 +1,7 @@
 use Rattle.std.proofs.Common.{refl, subst}
-use Rattle.json5_grammar.proofs.Basics.{true_false}
+use Rattle.json5_grammar.proofs.FirstCharacters.{true_false}
 use Rattle.json5_de.specs.ShortWays.{PassesShortColon}
-use Rattle.json5_de.proofs.Taken.{input_of}
+use Rattle.json5_de.proofs.ReadSteps.{input_of}
 use Rattle.json5_de.proofs.de.Deserializer.colon.Goals as goal
 
 pub returns-then-short_colon : goal.returns-then-short_colon

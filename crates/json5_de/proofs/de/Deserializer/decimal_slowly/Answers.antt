@@ -5,7 +5,7 @@ use Rattle.json5_grammar.specs.Language.Values.{is_number}
 use Rattle.json5_text.specs.NumberViews.{number_of}
 use Rattle.json5_de.specs.Convert.{every_decimal}
 use Rattle.json5_de.specs.Faults.{faulty_number}
-use Rattle.json5_de.proofs.Taken.{took_leaf, refused_or_memory}
+use Rattle.json5_de.proofs.ReadSteps.{took_leaf, refused_or_memory}
 use Rattle.json5_de.specs.TokenKinds.{decimal_kind}
 use Rattle.json5_de.proofs.TokenKinds.{lawful_decimal, not_begun, refuses_value, reads_ok}
 use Rattle.json5_de.proofs.de.Deserializer.decimal_slowly.Goals as goal

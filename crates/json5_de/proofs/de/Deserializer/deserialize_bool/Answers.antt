@@ -2,7 +2,7 @@ use Rattle.std.proofs.Common.{true, false, refl}
 use Rattle.std.proofs.lemmas.Result.{err_from_is_err_and}
 use Rattle.json5_grammar.specs.Language.Trees.{boolean}
 use Rattle.json5_grammar.specs.Language.Values.{true_text, false_text, is_true, is_false}
-use Rattle.json5_de.proofs.Taken.{took_leaf, refused_bool, true_stops, false_stops}
+use Rattle.json5_de.proofs.ReadSteps.{took_leaf, refused_bool, true_stops, false_stops}
 use Rattle.json5_de.specs.TokenKinds.{bool_kind}
 use Rattle.json5_de.proofs.TokenKinds.{lawful_bool, not_begun, refuses_after, reads_ok}
 use Rattle.json5_de.proofs.de.Deserializer.deserialize_bool.Goals as goal

@@ -1,9 +1,9 @@
 use Rattle.std.proofs.Common.{refl}
 use Rattle.std.proofs.lemmas.Result.{err_from_is_err_and}
-use Rattle.json5_grammar.proofs.Basics.{true_false}
-use Rattle.json5_de.proofs.Ends.{not_ended, ended, refused_trailing, end_not_blamed}
+use Rattle.json5_grammar.proofs.FirstCharacters.{true_false}
+use Rattle.json5_de.proofs.InputEnds.{not_ended, ended, refused_trailing, end_not_blamed}
 use Rattle.json5_de.proofs.TokenKinds.{given_up, gives_up}
-use Rattle.json5_de.proofs.Taken.{refused_blanks}
+use Rattle.json5_de.proofs.ReadSteps.{refused_blanks}
 use Rattle.json5_de.proofs.de.Deserializer.end.Goals as goal
 
 pub returns-in_err-skip_blank : goal.returns-in_err-skip_blank

@@ -1,15 +1,15 @@
 use Rattle.std.proofs.Common.{None, inr, refl, sym, subst}
 use Rattle.std.proofs.lemmas.Result.{err_from_is_err_and}
-use Rattle.json5_grammar.proofs.Basics.{true_false}
+use Rattle.json5_grammar.proofs.FirstCharacters.{true_false}
 use Rattle.json5_text.specs.Cursor.{IsOffset}
 use Rattle.json5_text.specs.TextTokens.{Spells}
-use Rattle.json5_text.proofs.TextScalars.{string_scalars}
+use Rattle.json5_text.proofs.UnicodeScalars.{string_scalars}
 use Rattle.json5_de.specs.Convert.{every_text}
 use Rattle.json5_de.proofs.Expected.{wrongly_refused}
 use Rattle.json5_de.proofs.ExpectsStrings.{expects_text}
 use Rattle.json5_de.proofs.FoundStrings.{escape_free_found}
 use Rattle.json5_de.proofs.TokenKinds.{given_up}
-use Rattle.json5_de.proofs.Taken.{input_of, refused_blanks, refused_or_memory}
+use Rattle.json5_de.proofs.ReadSteps.{input_of, refused_blanks, refused_or_memory}
 use Rattle.json5_de.proofs.de.Deserializer.found_string.Goals as goal
 
 pub returns-in_err-skip_blank : goal.returns-in_err-skip_blank

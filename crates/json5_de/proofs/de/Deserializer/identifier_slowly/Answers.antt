@@ -5,7 +5,7 @@ use Rattle.json5_grammar.specs.Language.Values.{is_text}
 use Rattle.json5_text.specs.Cows.{cow_bytes, is_borrowed}
 use Rattle.json5_de.specs.Convert.{every_cow, as_text}
 use Rattle.json5_de.specs.TokenKinds.{escape_free_text}
-use Rattle.json5_de.proofs.Taken.{took_leaf}
+use Rattle.json5_de.proofs.ReadSteps.{took_leaf}
 use Rattle.json5_de.proofs.ExpectsStrings.{text_stops}
 use Rattle.json5_de.proofs.TokenKinds.{lawful_text, not_begun, reads_text, escape_free_completes}
 use Rattle.json5_de.proofs.de.Deserializer.identifier_slowly.Goals as goal

@@ -3,7 +3,7 @@ use Rattle.std.proofs.lemmas.Result.{err_from_is_err_and}
 use Rattle.json5_de.specs.Convert.{names_bytes}
 use Rattle.json5_de.specs.Lending.{named_state_of}
 use Rattle.json5_de.proofs.Options.{blanks_no_value}
-use Rattle.json5_de.proofs.Taken.{refused_blanks}
+use Rattle.json5_de.proofs.ReadSteps.{refused_blanks}
 use Rattle.json5_de.proofs.VariantNames.{names_nothing, text_named, text_unnamed, object_named, object_unnamed, no_name_begun}
 use Rattle.json5_de.proofs.de.Deserializer.named.Goals as goal
 

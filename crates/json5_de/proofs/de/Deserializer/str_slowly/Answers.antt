@@ -6,7 +6,7 @@ use Rattle.json5_grammar.specs.Language.Values.{is_text}
 use Rattle.json5_text.specs.Cows.{cow_bytes, is_borrowed}
 use Rattle.json5_de.specs.Convert.{if_escape_free}
 use Rattle.json5_de.specs.TokenKinds.{every_tree, escape_free_kind}
-use Rattle.json5_de.proofs.Taken.{took_leaf}
+use Rattle.json5_de.proofs.ReadSteps.{took_leaf}
 use Rattle.json5_de.proofs.ExpectsStrings.{text_stops}
 use Rattle.json5_de.proofs.TokenKinds.{lawful_text, not_begun, escape_free_refused, not_text, reads_ok}
 use Rattle.json5_de.proofs.de.Deserializer.str_slowly.Goals as goal

@@ -4,7 +4,7 @@ use Rattle.json5_grammar.specs.Language.Trees as trees
 use Rattle.json5_grammar.specs.Language.Values.{is_text}
 use Rattle.json5_de.specs.Convert.{every_text}
 use Rattle.json5_de.specs.TokenKinds.{no_tree}
-use Rattle.json5_de.proofs.Taken.{took_leaf}
+use Rattle.json5_de.proofs.ReadSteps.{took_leaf}
 use Rattle.json5_de.proofs.ExpectsStrings.{text_stops}
 use Rattle.json5_de.proofs.TokenKinds.{lawful_text, not_begun, reads_text}
 use Rattle.json5_de.proofs.de.Deserializer.string_slowly.Goals as goal

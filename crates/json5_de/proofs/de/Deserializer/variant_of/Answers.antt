@@ -3,7 +3,7 @@ use Rattle.std.specs.List.{position}
 use Rattle.std.specs.Str.{bytes_eq}
 use Rattle.json5_de.specs.Convert.{names_bytes}
 use Rattle.json5_de.proofs.TokenKinds.{gives_up}
-use Rattle.json5_de.proofs.Spelled.{place_spelled}
+use Rattle.json5_de.proofs.NamesByBytes.{place_spelled}
 use Rattle.json5_de.proofs.de.Deserializer.variant_of.Goals as goal
 
 pub returns-in_default : goal.returns-in_default

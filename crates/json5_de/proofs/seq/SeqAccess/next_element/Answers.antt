@@ -1,6 +1,6 @@
 use Rattle.std.proofs.Common.{refl}
 use Rattle.json5_de.specs.Lending.{blocking}
-use Rattle.json5_de.proofs.Calls.{lent, next_given, next_refused}
+use Rattle.json5_de.proofs.ArrayCalls.{lent, next_given, next_refused}
 use Rattle.json5_de.proofs.seq.SeqAccess.next_element.Goals as goal
 
 pub returns-in-Ok : goal.returns-in-Ok

@@ -1,7 +1,7 @@
 use Rattle.std.proofs.lemmas.Result.{err_from_is_err_and}
 use Rattle.json5_de.specs.Lending.{state_of}
 use Rattle.json5_de.specs.Lists.{missing}
-use Rattle.json5_de.proofs.Required.{short_before, left_refused, left_missing}
+use Rattle.json5_de.proofs.RequiredElements.{short_before, left_refused, left_missing}
 use Rattle.json5_de.proofs.seq.SeqAccess.required.Goals as goal
 
 pub returns-in_err-item-clause-left : goal.returns-in_err-item-clause-left

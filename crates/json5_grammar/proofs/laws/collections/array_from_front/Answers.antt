@@ -1,4 +1,4 @@
-use Rattle.json5_grammar.proofs.CollectionsRead.{array_front, array_reads}
+use Rattle.json5_grammar.proofs.ArraysRead.{array_front, array_reads}
 use Rattle.json5_grammar.proofs.laws.collections.array_from_front.Goals as goal
 
 pub returns-clause-apart : goal.returns-clause-apart

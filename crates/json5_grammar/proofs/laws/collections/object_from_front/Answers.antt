@@ -1,4 +1,4 @@
-use Rattle.json5_grammar.proofs.CollectionsPairs.{object_front, object_reads}
+use Rattle.json5_grammar.proofs.ObjectsRead.{object_front, object_reads}
 use Rattle.json5_grammar.proofs.laws.collections.object_from_front.Goals as goal
 
 pub returns-clause-apart : goal.returns-clause-apart

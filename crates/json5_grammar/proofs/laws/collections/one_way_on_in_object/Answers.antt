@@ -1,4 +1,4 @@
-use Rattle.json5_grammar.proofs.CollectionsPairs.{one_opening_brace, one_key, one_key_value, one_brace, key_or_brace, one_pairs_tail}
+use Rattle.json5_grammar.proofs.ObjectsRead.{one_opening_brace, one_key, one_key_value, one_brace, key_or_brace, one_pairs_tail}
 use Rattle.json5_grammar.proofs.laws.collections.one_way_on_in_object.Goals as goal
 
 pub returns-clause-opening : goal.returns-clause-opening

@@ -1,4 +1,4 @@
-use Rattle.json5_grammar.proofs.Unique.{one_tree}
+use Rattle.json5_grammar.proofs.OneTree.{one_tree}
 use Rattle.json5_grammar.proofs.laws.documents.one_tree.Goals as goal
 
 pub returns : goal.returns

@@ -1,4 +1,4 @@
-use Rattle.json5_grammar.proofs.Unique.{document_phrase, phrase_document}
+use Rattle.json5_grammar.proofs.OneTree.{document_phrase, phrase_document}
 use Rattle.json5_grammar.proofs.laws.documents.phrases.Goals as goal
 
 pub returns-clause-of_document : goal.returns-clause-of_document

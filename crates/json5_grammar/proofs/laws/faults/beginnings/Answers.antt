@@ -1,7 +1,7 @@
 use Rattle.std.proofs.Common.{subst}
 use Rattle.json5_grammar.specs.Faults.{Fault}
-use Rattle.json5_grammar.proofs.FaultsBegin.{fault_begins}
-use Rattle.json5_grammar.proofs.FaultsFollow.{hopeless}
+use Rattle.json5_grammar.proofs.BeforeFaults.{fault_begins}
+use Rattle.json5_grammar.proofs.FaultsRemain.{hopeless}
 use Rattle.json5_grammar.proofs.laws.faults.beginnings.Goals as goal
 
 pub returns-clause-before : goal.returns-clause-before

@@ -1,4 +1,4 @@
-use Rattle.json5_grammar.proofs.FaultsBegin.{string_continues, name_continues}
+use Rattle.json5_grammar.proofs.BeforeFaults.{string_continues, name_continues}
 use Rattle.json5_grammar.proofs.FrontsCommit.{front_commits}
 use Rattle.json5_grammar.proofs.FrontsContinue.{front_begins}
 use Rattle.json5_grammar.proofs.laws.faults.fronts.Goals as goal

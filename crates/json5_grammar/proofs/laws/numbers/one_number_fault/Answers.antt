@@ -1,7 +1,7 @@
 use Rattle.std.proofs.Common.{◌++◌, sym, subst}
 use Rattle.json5_grammar.specs.Faults.Tokens.{NumberFault}
 use Rattle.json5_grammar.proofs.NumbersUnique.{one_fault, no_fault}
-use Rattle.json5_grammar.proofs.NumberFollows.{part_rest, whatever_follows}
+use Rattle.json5_grammar.proofs.NumberFaultsRemain.{part_rest, whatever_follows}
 use Rattle.json5_grammar.proofs.NumberPartOf.{part_of}
 use Rattle.json5_grammar.proofs.laws.numbers.one_number_fault.Goals as goal
 

@@ -1,6 +1,6 @@
 use Rattle.std.proofs.Common.{◌++◌, sym, subst}
 use Rattle.json5_grammar.specs.Faults.Tokens.{StringFault, NameFault}
-use Rattle.json5_grammar.proofs.TextFollows.{string_follows, name_follows}
+use Rattle.json5_grammar.proofs.TextFaultsRemain.{string_follows, name_follows}
 use Rattle.json5_grammar.proofs.laws.texts.fault_stands.Goals as goal
 
 pub returns-clause-strings : goal.returns-clause-strings

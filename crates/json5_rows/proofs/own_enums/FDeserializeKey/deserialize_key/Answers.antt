@@ -1,5 +1,5 @@
 use Rattle.std.proofs.Common.{◌≡◌, ◌≢◌, ℕ, None, refl, rules}
-use Rattle.json5.proofs.CollectionsPairs.{one_reads_key}
+use Rattle.json5.proofs.ObjectsRead.{one_reads_key}
 use Rattle.json5.specs.Convert.{index_of}
 use Rattle.json5.proofs.Refinement.{parts}
 use Rattle.json5.proofs.OwnEnums.{other_place}

@@ -1,6 +1,6 @@
 use Rattle.std.proofs.Common.{subst}
 use Rattle.json5_ser.specs.WrittenTrees.{named}
-use Rattle.json5_ser.specs.Waiting.{serializer_of_key}
+use Rattle.json5_ser.specs.KeyLending.{serializer_of_key}
 use Rattle.json5_ser.specs.Keys.{WritesKey}
 use Rattle.json5_ser.proofs.key.MapKey.serialize_bool.Goals as goal
 

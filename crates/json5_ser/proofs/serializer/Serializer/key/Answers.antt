@@ -1,5 +1,5 @@
 use Rattle.json5_ser.specs.Out.{line, piece, key_out}
-use Rattle.json5_ser.proofs.Joins.{Reaches-first, Reaches-last}
+use Rattle.json5_ser.proofs.OutputsJoined.{Reaches-first, Reaches-last}
 use Rattle.json5_ser.proofs.PutsJoined.{Puts-exit}
 use Rattle.json5_ser.proofs.serializer.Serializer.key.Goals as goal
 

@@ -4,7 +4,7 @@ use Rattle.json5_grammar.specs.Written.Quoting.{escaped_all}
 use Rattle.json5_ser.specs.Out.{Out, piece, ◌then◌}
 use Rattle.json5_ser.specs.Writes.{SerializerState}
 use Rattle.json5_ser.specs.Escaping.{SplitsAtEscape}
-use Rattle.json5_ser.proofs.Joins.{Reaches, Reaches-none, Reaches-next, Reaches-exit, Reaches-last}
+use Rattle.json5_ser.proofs.OutputsJoined.{Reaches, Reaches-none, Reaches-next, Reaches-exit, Reaches-last}
 use Rattle.json5_ser.proofs.serializer.Serializer.put_escaped.Goals as goal
 
 parted : (all : Out) (q : ℕ) (o m : SerializerState) (t raw esc after : List ℕ) → SplitsAtEscape q t raw esc after → Reaches all o m (piece (escaped_all q (chars t)))

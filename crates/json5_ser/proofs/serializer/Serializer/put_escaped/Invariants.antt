@@ -3,7 +3,7 @@ use Rattle.std.specs.Str.{IsUtf8, chars}
 use Rattle.json5_grammar.specs.Written.Quoting.{escaped_all}
 use Rattle.json5_ser.specs.Quotes.{delimiter}
 use Rattle.json5_ser.specs.Out.{piece}
-use Rattle.json5_ser.proofs.Joins.{Reaches}
+use Rattle.json5_ser.proofs.OutputsJoined.{Reaches}
 use Rattle.json5_ser.proofs.serializer.Serializer.put_escaped.Given as goal
 
 abbrev pub invariant-loop-raw : goal.invariant-loop-raw

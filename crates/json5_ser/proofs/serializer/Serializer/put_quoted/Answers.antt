@@ -1,5 +1,5 @@
 use Rattle.std.specs.Str.{chars}
-use Rattle.json5_ser.proofs.Joins.{Writes-as, Writes-exit, Reaches-first, Reaches-next, Reaches-exit, Reaches-last}
+use Rattle.json5_ser.proofs.OutputsJoined.{Writes-as, Writes-exit, Reaches-first, Reaches-next, Reaches-exit, Reaches-last}
 use Rattle.json5_ser.proofs.PiecesWritten.{quoted_parts}
 use Rattle.json5_ser.proofs.serializer.Serializer.put_quoted.Goals as goal
 

@@ -1,6 +1,6 @@
 use Rattle.json5_grammar.specs.Language.Numbers.{decimal}
 use Rattle.json5_ser.proofs.DecimalPieces.{left_all, left_next, left_exit, left_none}
-use Rattle.json5_ser.proofs.Writables.{Writes-number, number_wrote}
+use Rattle.json5_ser.proofs.WritableNumbers.{Writes-number, number_wrote}
 use Rattle.json5_ser.proofs.serializer.Serializer.serialize_decimal.Goals as goal
 
 pub loop-piece-init : goal.loop-piece-init

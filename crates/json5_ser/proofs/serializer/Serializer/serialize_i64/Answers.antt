@@ -2,7 +2,7 @@ use Rattle.std.proofs.Common.{arith}
 use mir.Syntax.{w64}
 use Rattle.std.proofs.lemmas.Int.{to_z-of_z}
 use Rattle.json5_grammar.specs.Language.Numbers.{whole}
-use Rattle.json5_ser.proofs.Writables.{Writes-number, signed_whole}
+use Rattle.json5_ser.proofs.WritableNumbers.{Writes-number, signed_whole}
 use Rattle.json5_ser.proofs.serializer.Serializer.serialize_i64.Goals as goal
 
 pub returns : goal.returns

@@ -1,7 +1,7 @@
 use Rattle.std.proofs.Common.{ap, refl}
 use Rattle.std.specs.Str.{chars}
 use Rattle.json5_ser.specs.Out.{piece}
-use Rattle.json5_ser.proofs.Joins.{Writes-as}
+use Rattle.json5_ser.proofs.OutputsJoined.{Writes-as}
 use Rattle.json5_ser.proofs.EscapesSplit.{quoted_escape_free}
 use Rattle.json5_ser.proofs.serializer.Serializer.serialize_str.Goals as goal
 

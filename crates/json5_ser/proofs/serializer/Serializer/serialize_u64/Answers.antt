@@ -1,7 +1,7 @@
 use Rattle.std.proofs.Common.{arith}
 use Rattle.std.specs.Prelude.{pos}
 use Rattle.json5_grammar.specs.Language.Numbers.{whole}
-use Rattle.json5_ser.proofs.Writables.{Writes-number, unsigned_whole}
+use Rattle.json5_ser.proofs.WritableNumbers.{Writes-number, unsigned_whole}
 use Rattle.json5_ser.proofs.serializer.Serializer.serialize_u64.Goals as goal
 
 pub returns : goal.returns

@@ -1,5 +1,5 @@
 use Rattle.std.proofs.Common.{◌-◌, arith, length, rules}
-use Rattle.json5_text.proofs.NumberWritten.{digits_boundary}
+use Rattle.json5_text.proofs.ZeroPieces.{digits_boundary}
 use Rattle.json5_text.proofs.pieces.Pieces.of_digits.Goals as goal
 
 pub split_at-requires : goal.split_at-requires

@@ -1,0 +1,405 @@
+-- How a key and its value begin, and how they are refused.
+use Rattle.std.proofs.Common.{◌≡◌, ◌≢◌, ℕ, Bool, true, false, List, [], ◌∷◌, ◌++◌, length, refl, ap, sym, ◌∙◌, subst, arith, Option, Some, None, Ok, Err}
+use Rattle.std.specs.Prelude.{◌==◌, is_some, Result}
+use Rattle.std.specs.Str.{encode_utf8_all}
+use Rattle.std.proofs.lemmas.Bool.{or_parts}
+use Rattle.std.proofs.lemmas.Result.{err_from_is_err_and}
+use Rattle.json5_grammar.specs.declared.code.ErrorCode.{ErrorCode}
+use Rattle.json5_grammar.specs.declared.code.ErrorCode.TheVariants as codes
+use Rattle.json5_grammar.specs.Faults.Codes.{after_text}
+use Rattle.json5_grammar.specs.Language.Characters.{NotBegun}
+use Rattle.json5_grammar.specs.Language.Blanks.{Blanks, Gap, Solid}
+use Rattle.json5_grammar.specs.Language.Trees.{Tree}
+use Rattle.json5_grammar.specs.Language.Values.{Reads}
+use Rattle.json5_grammar.specs.Model.Collections.{ReadsKey, IsKey, IsKeyValue, NoMemberGoes}
+use Rattle.json5_grammar.proofs.FirstCharacters.{first_same, true_false}
+use Rattle.json5_grammar.proofs.BlanksRead.{begins_solid}
+use Rattle.json5_grammar.proofs.BlanksSound.{one_gap, gap_last, gap_before, gap_blanks}
+use Rattle.json5_grammar.proofs.ValueHeads.{key_head, key_solid}
+use Rattle.json5_grammar.proofs.ArraysRead.{comma_solid}
+use Rattle.json5_grammar.proofs.ArraysPassed.{after_same_comma, same_sign}
+use Rattle.json5_grammar.proofs.ObjectsRead.{colon_solid}
+use Rattle.json5_text.specs.declared.error.Error.{Error}
+use Rattle.json5_text.specs.Errors.{code, kind_of}
+use Rattle.json5_text.specs.Cursor.{Refused}
+use Rattle.json5_text.specs.Tokens.{FaultyBlanks}
+use Rattle.json5_de.specs.State.{State, OnlyRead, SameText, cursor_of}
+use Rattle.json5_de.specs.Law.{TookValue, Steady, IsUnprompted}
+use Rattle.json5_de.specs.ReaderSteps.{PassedGap, TookText, IsCount}
+use Rattle.json5_de.specs.Keys.{KeyConversion, TookKey, GivesKey, CompletesKey, ReadsKeyOf}
+use Rattle.json5_value.specs.Brackets.{curly}
+use Rattle.json5_de.specs.Faults.{AfterBlanks, in_blanks, after_gap, RefusedBy, AtEnd, AtOther, IsPositionless, IsAfter}
+use Rattle.json5_de.specs.Access.{AtClose, PositionedAtBracket}
+use Rattle.json5_value.specs.Steps.{Unexpected, at_end, at_char}
+use Rattle.json5_value.specs.Offsets.{StartsAfter}
+use Rattle.json5_de.specs.Seq.{IsAfterGap, IsEntryStart, AtEntry, NothingNext, NoNext, no_comma, comma_missing, in_blanks_after}
+use Rattle.json5_de.specs.Objects.{MapAccessState, bare_map, TookMemberKey, AfterColon, TookMemberValue, GivesMemberKey, GivesMemberValue, CompletesMemberKey}
+use Rattle.json5_de.proofs.Offsets.{placed_where}
+use Rattle.json5_de.specs.ObjectFaults.{begins_key, AtKey, NoKeyHere, no_key, key_missing, NoKey, no_next, not_here, not_after_comma, PositionedAtKey, at_key, as_it_is, PositionsKey, RefusesMemberKey, not_reached, in_key, ReadsKeyOfMember, begins_next_key, no_key_code, RefusesNextKey, NoColon, no_colon, colon_missing, is_colon, RefusesMemberValue, no_value, in_value, RefusesNextValue}
+use Rattle.json5_de.proofs.Expected.{Expected, end_fault, other_fault}
+use Rattle.json5_de.proofs.ReadSteps.{input_of, placed_after, refused_token}
+use Rattle.json5_de.proofs.RefusalPositions.{refused_as, refused_after}
+use Rattle.json5_de.proofs.Options.{not_nil}
+use Rattle.json5_de.proofs.Arrays.{only_read, level_of, failed_of, sign_next, no_sign_next, after_gap_of, no_close_found, no_sign_faulty}
+use Rattle.json5_de.proofs.EntryCodes.{expects_more, end_no_sign, other_no_sign, end_no_close, other_no_close}
+use Rattle.json5_de.proofs.AccessCalls.{lent_back, answers_call, refuses_call}
+use Rattle.json5_de.proofs.ObjectMembers.{curly_signs}
+
+-- ---- where a key begins
+
+key_gap : (x r u : List ℕ) (p : Bool) → ReadsKey x u p r → (y : List ℕ) × IsAfterGap x y
+key_gap x r u p k = (k.spelling ++ r, record { gap = k.front; split = k.split; is_gap = Gap.blanks k.blank; solid = key_solid r (key_head k.key) })
+
+-- a key that follows the gap begins there
+key_at : (x y r u : List ℕ) (p : Bool) → IsAfterGap x y → (k : ReadsKey x u p r) → y ≡ k.spelling ++ r
+key_at x y r u p g k = (one_gap k.front (k.spelling ++ r) g.gap y (Gap.blanks k.blank) (key_solid r (key_head k.key)) g.is_gap g.solid (sym k.split ∙ g.split)).1
+
+no_gap : (y : List ℕ) → Solid y → IsAfterGap y y
+no_gap y solid = record { gap = []; split = refl; is_gap = Gap.blanks Blanks.empty; solid = solid }
+
+key_here : (x y r u : List ℕ) (p : Bool) → IsAfterGap x y → ReadsKey x u p r → ReadsKey y u p r
+key_here x y r u p g k = record { front = []; spelling = k.spelling; split = key_at x y r u p g k; blank = Blanks.empty; key = k.key }
+
+-- and one that is read there is read after the gap
+pub key_there : (x y r u : List ℕ) (p : Bool) → IsAfterGap x y → ReadsKey y u p r → ReadsKey x u p r
+key_there x y r u p g k =
+    let at = key_at y y r u p (no_gap y g.solid) k in
+    let head = key_head k.key in
+    record {
+      front = g.gap;
+      spelling = k.spelling;
+      split = g.split ∙ ap (λ z. g.gap ++ z) at;
+      blank = gap_blanks head.char (head.more ++ r) (subst (Gap g.gap) (at ∙ ap (λ z. z ++ r) head.is) g.is_gap);
+      key = k.key;
+    }
+
+-- the same after the comma that is due
+pub pair_key_found : (comma_due : Bool) (x y r u : List ℕ) (p : Bool) → IsEntryStart comma_due x y → IsKey comma_due x u p r → ReadsKey y u p r
+pair_key_found false x y r u p g k = key_here x y r u p g k
+pair_key_found true x y r u p (z, comma, g) (w, other, k) = key_here z y r u p g (after_same_comma (λ q. ReadsKey q u p r) x z w comma other k)
+
+pair_key_read : (comma_due : Bool) (x y r u : List ℕ) (p : Bool) → IsEntryStart comma_due x y → ReadsKey y u p r → IsKey comma_due x u p r
+pair_key_read false x y r u p g k = key_there x y r u p g k
+pair_key_read true x y r u p (z, comma, g) k = (z, comma, key_there z y r u p g k)
+
+pub took_pair_key : (comma_due : Bool) (s mid last : State) (u : List ℕ) (p : Bool) → AtKey comma_due s mid → TookKey mid u p last → TookMemberKey comma_due s u p last
+took_pair_key comma_due s mid last u p at took = record {
+  live = at.entry.live;
+  key = pair_key_read comma_due s.unread mid.unread last.unread u p at.entry.begun took.reads;
+  rest = only_read s mid last at.entry.rest took.rest;
+}
+
+begun_solid : (comma_due : Bool) (x y : List ℕ) → IsEntryStart comma_due x y → Solid y
+begun_solid false x y g = g.solid
+begun_solid true x y (z, comma, g) = g.solid
+
+pub no_key_begun : (y r u : List ℕ) (p : Bool) → Solid y → NotBegun begins_key y → ReadsKey y u p r → ⊥
+no_key_begun y r u p solid n k =
+    let at = key_at y y r u p (no_gap y solid) k in
+    let head = key_head k.key in
+    true_false head.begins (subst (NotBegun begins_key) (at ∙ ap (λ z. z ++ r) head.is) n)
+
+-- if no member may begin, no key and no brace follows
+pub no_pair_next : (comma_due : Bool) (x : List ℕ) → NothingNext curly comma_due x → NoMemberGoes comma_due x
+no_pair_next comma_due x n = record { no_key = λ u p r k. by comma_due u p r n k; no_brace = n.no_close }
+  where
+    by : (comma_due : Bool) (u : List ℕ) (p : Bool) (r : List ℕ) → NothingNext curly comma_due x → IsKey comma_due x u p r → ⊥
+    by false u p r n k = let (y, g) = key_gap x r u p k in n.no_entry y g
+    by true u p r n (z, comma, k) = let (y, g) = key_gap z r u p k in n.no_entry y (z, comma, g)
+
+-- nor where neither a key nor the brace begins
+pub no_pair_here : (comma_due : Bool) (x y : List ℕ) → IsEntryStart comma_due x y → NotBegun (λ c. c == 125) y → NotBegun begins_key y → NoMemberGoes comma_due x
+no_pair_here comma_due x y begun n none = record {
+  no_key = λ u p r k. no_key_begun y r u p (begun_solid comma_due x y begun) none (pair_key_found comma_due x y r u p begun k);
+  no_brace = λ r c. no_close_found curly curly_signs comma_due x y r begun n c;
+}
+
+-- ---- what is refused where a key is expected
+
+after_wider : {F G : List ℕ → Option ErrorCode → Option (List ℕ) → Type 0} (x : List ℕ) (reason : Option ErrorCode) (place : Option (List ℕ)) → ((x : List ℕ) (reason : Option ErrorCode) (place : Option (List ℕ)) → F x reason place → G x reason place)
+    → AfterBlanks F x reason place → AfterBlanks G x reason place
+after_wider x reason place h (in_blanks k) = in_blanks k
+after_wider x reason place h (after_gap {x = y} {place = p} g s k) = after_gap g s (h y reason p k)
+
+-- no member was reached
+pub refused_next_key : (comma_due : Bool) (s : State) (e : Error) → RefusedBy (NoNext curly comma_due) s e → RefusedBy (NoKey comma_due) s e
+refused_next_key comma_due s e f live = let f = f live in record { reason = f.reason; place = f.place; fault = after_wider s.unread f.reason f.place (λ x reason place k. no_next k) f.fault; says = f.says; placed = f.placed }
+
+-- a fault after the gap
+refused_gap : {F : List ℕ → Option ErrorCode → Option (List ℕ) → Type 0} (old mid : State) (e : Error) → IsAfterGap old.unread mid.unread → SameText old mid → Refused F (cursor_of mid) e → Refused (AfterBlanks F) (cursor_of old) e
+refused_gap {F = F} old mid e g same f = record {
+  reason = f.reason;
+  place = after_text g.gap f.place;
+  fault = subst (λ x. AfterBlanks F x f.reason (after_text g.gap f.place)) (sym g.split) (after_gap g.is_gap g.solid f.fault);
+  says = f.says;
+  placed = placed_after old mid e g.gap f.place g.split same f.placed;
+}
+
+no_key_here : (x : List ℕ) (reason : Option ErrorCode) (place : Option (List ℕ)) → NotBegun begins_key x → NotBegun (λ c. c == 125) x → Unexpected codes.EofParsingObject codes.ExpectedIdentifier x reason place → NoKeyHere x reason place
+no_key_here x reason place n m at_end = key_missing
+no_key_here x reason place n m (at_char c r) = no_key c r n m
+
+-- where a member was reached, and no key begins it
+pub refused_key_here : (comma_due : Bool) (s mid : State) (e : Error) → AtEntry curly comma_due s mid → NotBegun begins_key mid.unread → Refused (Unexpected codes.EofParsingObject codes.ExpectedIdentifier) (cursor_of mid) e → RefusedBy (NoKey comma_due) s e
+refused_key_here comma_due s mid e at n f live = by comma_due at.begun
+  where
+    here : Refused NoKeyHere (cursor_of mid) e
+    here = refused_as mid mid e refl (λ reason place k. no_key_here mid.unread reason place n at.inside k) f
+
+    by : (comma_due : Bool) → IsEntryStart comma_due s.unread mid.unread → Refused (AfterBlanks (NoKey comma_due)) (cursor_of s) e
+    by false g = refused_gap s mid e g (input_of at.rest) (refused_as mid mid e refl (λ reason place k. not_here refl k) here)
+    by true (z, comma, g) =
+        let next : State = record s { unread = z } in
+        let at_comma : State = record s { unread = 0x2C ∷ z } in
+        refused_gap s at_comma e (record { gap = comma.front; split = comma.split; is_gap = Gap.blanks comma.blank; solid = begins_solid 0x2C z comma_solid }) refl
+        (refused_after at_comma next e (0x2C ∷ []) (record { split = refl; rest = refl }) (λ reason place k. not_after_comma refl k) (refused_gap next mid e g (input_of at.rest) here))
+
+-- ---- the codes of what is refused there
+
+next_due : {x : List ℕ} {reason : Option ErrorCode} {place : Option (List ℕ)} (comma_due : Bool) → NoNext curly comma_due x reason place → comma_due ≡ true
+next_due comma_due (no_comma c r d n m) = d
+next_due comma_due (comma_missing d) = d
+next_due comma_due (in_blanks_after d f) = d
+
+expects_key : (comma_due : Bool) → Expected {C = Unit {0}} (NoKey comma_due) (λ t. None) (begins_next_key comma_due) codes.EofParsingObject (no_key_code comma_due)
+expects_key comma_due = record {
+  at_end = λ reason place f. at_none [] reason place refl f;
+  at_other = λ c r reason place h f. at_some comma_due (c ∷ r) c r reason place refl h f;
+  no_fault = λ s r t v reason place e k stops f. absurd (cc);
+  first = λ s t v e k. absurd (cc);
+}
+  where
+    at_none : (x : List ℕ) (reason : Option ErrorCode) (place : Option (List ℕ)) → x ≡ [] → NoKey comma_due x reason place → (reason ≡ Some codes.EofParsingObject) × (place ≡ None)
+    at_none x reason place e (no_next f) = (expects_more curly comma_due).at_end reason place (subst (λ z. NoNext curly comma_due z reason place) e f)
+    at_none x reason place e (not_here d (no_key c r n m)) = absurd (cc)
+    at_none x reason place e (not_here d key_missing) = (refl, refl)
+    at_none x reason place e (not_after_comma d f) = absurd (cc)
+
+    at_some : (comma_due : Bool) (x : List ℕ) (c : ℕ) (r : List ℕ) (reason : Option ErrorCode) (place : Option (List ℕ)) → x ≡ c ∷ r → begins_next_key comma_due c ≡ false → NoKey comma_due x reason place → (reason ≡ Some (no_key_code comma_due)) × (place ≡ Some [])
+    at_some true x c r reason place e h (no_next f) = (expects_more curly true).at_other c r reason place h (subst (λ z. NoNext curly true z reason place) e f)
+    at_some false x c r reason place e h (no_next f) = absurd (true_false (next_due false f) refl)
+    at_some true x c r reason place e h (not_here d f) = absurd (true_false refl d)
+    at_some false x c r reason place e h (not_here d (no_key k s n m)) = (refl, refl)
+    at_some false x c r reason place e h (not_here d key_missing) = absurd (cc)
+    at_some true x c r reason place e h (not_after_comma {x = y} d f) = absurd (true_false {b = true} refl (subst (λ k. begins_next_key true k ≡ false) (sym (first_same 0x2C c y r e)) h))
+    at_some false x c r reason place e h (not_after_comma d f) = absurd (true_false d refl)
+
+pub expects_colon : Expected {C = Unit {0}} NoColon (λ t. None) is_colon codes.EofParsingObject codes.ExpectedColon
+expects_colon = record {
+  at_end = λ reason place f. at_none [] reason place refl f;
+  at_other = λ c r reason place h f. at_some (c ∷ r) reason place c r refl f;
+  no_fault = λ s r t v reason place e k stops f. absurd (cc);
+  first = λ s t v e k. absurd (cc);
+}
+  where
+    at_none : (x : List ℕ) (reason : Option ErrorCode) (place : Option (List ℕ)) → x ≡ [] → NoColon x reason place → (reason ≡ Some codes.EofParsingObject) × (place ≡ None)
+    at_none x reason place e (no_colon c r n) = absurd (cc)
+    at_none x reason place e colon_missing = (refl, refl)
+
+    at_some : (x : List ℕ) (reason : Option ErrorCode) (place : Option (List ℕ)) (c : ℕ) (r : List ℕ) → x ≡ c ∷ r → NoColon x reason place → (reason ≡ Some codes.ExpectedColon) × (place ≡ Some [])
+    at_some x reason place c r e (no_colon d q n) = (refl, refl)
+    at_some x reason place c r e colon_missing = absurd (cc)
+
+-- ---- no key follows
+
+end_no_key : (comma_due : Bool) (s : State) (u r : List ℕ) (p : Bool) → AtEnd s → IsKey comma_due s.unread u p r → ⊥
+end_no_key true s u r p at (z, comma, k) = end_no_sign 0x2C s z comma_solid at comma
+end_no_key false s u r p at k =
+    let head = key_head k.key in
+    not_nil head.char (head.more ++ r) (k.spelling ++ r) (ap (λ z. z ++ r) head.is) (gap_last s.unread k.front (k.spelling ++ r) at.1 (Gap.blanks k.blank) (key_solid r head) k.split).1
+
+other_no_key : (comma_due : Bool) (s : State) (w u r : List ℕ) (p : Bool) → AtOther (begins_next_key comma_due) s w → IsKey comma_due s.unread u p r → ⊥
+other_no_key true s w u r p o (z, comma, k) = other_no_sign 0x2C s w z comma_solid o (or_parts (o.char == 0x2C) (o.char == 125) o.other).0 comma
+other_no_key false s w u r p o k =
+    let head = key_head k.key in
+    let next = (gap_before w k.front (k.spelling ++ r) o.char o.more o.blank o.solid (Gap.blanks k.blank) (key_solid r head) (sym o.split ∙ k.split)).1 in
+    let same : head.char ≡ o.char = first_same head.char o.char (head.more ++ r) o.more (sym (ap (λ z. z ++ r) head.is) ∙ next) in
+    true_false head.begins (subst (λ c. begins_key c ≡ false) (sym same) (or_parts (begins_key o.char) (o.char == 125) o.other).0)
+
+other_no_brace : (comma_due : Bool) (s : State) (w r : List ℕ) → (o : AtOther (begins_next_key comma_due) s w) → ((o.char == 125) ≡ false) × (comma_due ≡ true → (o.char == 0x2C) ≡ false)
+other_no_brace true s w r o = let k = or_parts (o.char == 0x2C) (o.char == 125) o.other in (k.1, λ d. k.0)
+other_no_brace false s w r o = let k = or_parts (begins_key o.char) (o.char == 125) o.other in (k.1, λ d. absurd (true_false d refl))
+
+end_at_key : (comma_due : Bool) (s mid : State) → AtEnd s → AtKey comma_due s mid → ⊥
+end_at_key comma_due s mid at k = by comma_due k.entry.begun
+  where
+    by : (comma_due : Bool) → IsEntryStart comma_due s.unread mid.unread → ⊥
+    by true (z, comma, g) = end_no_sign 0x2C s z comma_solid at comma
+    by false g = not_nil k.begins.char k.begins.more mid.unread k.begins.split (gap_last s.unread g.gap mid.unread at.1 g.is_gap g.solid g.split).1
+
+other_at_key : (comma_due : Bool) (s mid : State) (w : List ℕ) → AtOther (begins_next_key comma_due) s w → AtKey comma_due s mid → ⊥
+other_at_key comma_due s mid w o k = by comma_due k.entry.begun o
+  where
+    by : (comma_due : Bool) → IsEntryStart comma_due s.unread mid.unread → AtOther (begins_next_key comma_due) s w → ⊥
+    by true (z, comma, g) o = other_no_sign 0x2C s w z comma_solid o (or_parts (o.char == 0x2C) (o.char == 125) o.other).0 comma
+    by false g o =
+        let next = (gap_before w g.gap mid.unread o.char o.more o.blank o.solid g.is_gap g.solid (sym o.split ∙ g.split)).1 in
+        let same : k.begins.char ≡ o.char = first_same k.begins.char o.char k.begins.more o.more (sym k.begins.split ∙ next) in
+        true_false k.begins.is_first (subst (λ c. begins_key c ≡ false) (sym same) (or_parts (begins_key o.char) (o.char == 125) o.other).0)
+
+-- ---- a call for a key
+
+-- what the reader gives the access gives
+pub gives_key_seen : {K C : Type 0} (content : K → C) (convert : KeyConversion C) (old new : MapAccessState) (a b : State) (o : Option K) → a ≡ old.at.reader → new.at.reader ≡ record b { failed = old.at.reader.failed } → new.at.comma_due ≡ old.at.comma_due → new.pending ≡ is_some o
+    → GivesMemberKey content convert (bare_map a old.at.comma_due false) (bare_map b old.at.comma_due (is_some o)) o → GivesMemberKey content convert old new o
+gives_key_seen content convert old new a b (Some k) same lent comma_due pending (u, p, took, is, one, two) =
+    let rest = subst (λ s. OnlyRead s b) same took.rest in
+    let back : b ≡ new.at.reader = sym (lent ∙ lent_back old.at.reader b rest) in
+    (u, p, subst (λ s. TookMemberKey old.at.comma_due old.at.reader u p s) back (subst (λ s. TookMemberKey old.at.comma_due s u p b) same took), is, comma_due, pending)
+gives_key_seen content convert old new a b None same lent comma_due pending (at, one, two) =
+    let rest = subst (λ s. OnlyRead s b) same at.rest in
+    let back : b ≡ new.at.reader = sym (lent ∙ lent_back old.at.reader b rest) in
+    (subst (λ s. AtClose curly old.at.comma_due old.at.reader s) back (subst (λ s. AtClose curly old.at.comma_due s b) same at), comma_due, pending)
+
+pub gives_next_key : {K C : Type 0} (content : K → C) (convert : KeyConversion C) (refuses : State → Error → State → Type 0) (old new : MapAccessState) (o : Option K) → GivesMemberKey content convert old new o → RefusesNextKey refuses old new.at.reader (Ok o)
+gives_next_key {K = K} content convert refuses old new o gives =
+    answers_call _ true _ _ _ old.at new.at.reader o (λ a at. no_end o gives at) (λ a w at. no_other o gives w at) (λ h. live o gives h)
+  where
+    no_end : (o : Option K) → GivesMemberKey content convert old new o → AtEnd old.at.reader → ⊥
+    no_end (Some k) (u, p, took, is, comma_due, pending) at = end_no_key old.at.comma_due old.at.reader u new.at.reader.unread p at took.key
+    no_end None (close, comma_due, pending) at = let (r, c, next) = close.close in end_no_close curly curly_signs old.at.comma_due old.at.reader r at c
+
+    no_other : (o : Option K) → GivesMemberKey content convert old new o → (w : List ℕ) → AtOther (begins_next_key old.at.comma_due) old.at.reader w → ⊥
+    no_other (Some k) (u, p, took, is, comma_due, pending) w at = other_no_key old.at.comma_due old.at.reader w u new.at.reader.unread p at took.key
+    no_other None (close, comma_due, pending) w at =
+        let (r, c, next) = close.close in
+        let k = other_no_brace old.at.comma_due old.at.reader w r at in
+        other_no_close curly curly_signs old.at.comma_due old.at.reader w r at k.0 k.1 c
+
+    live : (o : Option K) → GivesMemberKey content convert old new o → old.at.reader.failed ≡ true → ⊥
+    live (Some k) (u, p, took, is, comma_due, pending) h = true_false h took.live
+    live None (close, comma_due, pending) h = true_false h close.live
+
+pub refuses_next_key : {K : Type 0} (refuses : State → Error → State → Type 0) (old : MapAccessState) (new after : State) (own e : Error) → RefusesMemberKey refuses old.at.comma_due old.at.reader own after → (old.at.reader.failed ≡ false → kind_of own ≢ code codes.Failed)
+    → (old.at.reader.failed ≡ true → IsPositionless codes.Failed own) → PositionedAtBracket old.at own e → new.failed ≡ true → RefusesNextKey {V = K} refuses old new (Err e)
+refuses_next_key refuses old new after own e cause other before p failed =
+    refuses_call (RefusesMemberKey refuses old.at.comma_due old.at.reader) true (begins_next_key old.at.comma_due) codes.EofParsingObject (no_key_code old.at.comma_due) old.at new after own e cause (λ a at. ends cause at) (λ a w o. differs cause w o) other before p failed
+  where
+    ends : RefusesMemberKey refuses old.at.comma_due old.at.reader own after → AtEnd old.at.reader → IsPositionless codes.EofParsingObject own
+    ends (not_reached f) at = end_fault (expects_key old.at.comma_due) old.at.reader own at f
+    ends (in_key start k there c placed) at = absurd (end_at_key old.at.comma_due old.at.reader start at there)
+
+    differs : RefusesMemberKey refuses old.at.comma_due old.at.reader own after → (w : List ℕ) → AtOther (begins_next_key old.at.comma_due) old.at.reader w → IsAfter (no_key_code old.at.comma_due) old.at.reader w own
+    differs (not_reached f) w o = other_fault (expects_key old.at.comma_due) old.at.reader own w o f
+    differs (in_key start k there c placed) w o = absurd (other_at_key old.at.comma_due old.at.reader start w o there)
+
+-- a key's fault keeps what it says, but for its position
+key_kind : (IsBefore : List ℕ → Type 0) (own e : Error) → PositionedAtKey IsBefore own e → kind_of e ≡ kind_of own
+key_kind IsBefore own e (at_key h p) = p.kind
+key_kind IsBefore own e (as_it_is h kind place) = kind
+
+-- the key is where the reader was
+placed_before : (mid end : State) (offset : ℕ) (own e : Error) → SameText mid end → ((before : List ℕ) → mid.input ≡ before ++ mid.unread → offset ≡ length (encode_utf8_all before)) → PositionedAtKey (StartsAfter end.input offset) own e
+    → PositionedAtKey (λ before. mid.input ≡ before ++ mid.unread) own e
+placed_before mid end offset own e same counted (at_key h p) = at_key h (placed_where (λ before split. record { rest = mid.unread; split = same ∙ split; counted = counted before split }) p)
+placed_before mid end offset own e same counted (as_it_is h kind place) = as_it_is h kind place
+
+-- what a key's type reads at a key
+module _ {K C : Type 0} (content : K → C) (convert : KeyConversion C) (refuses : State → Error → State → Type 0) (comma_due : Bool) (s mid end : State) (at : AtKey comma_due s mid) where
+  key_given : (k : K) → GivesKey content convert mid end k → GivesMemberKey content convert (bare_map s comma_due false) (bare_map end comma_due true) (Some k)
+  key_given k (u, p, took, is) = (u, p, took_pair_key comma_due s mid end u p at took, is, refl, refl)
+
+  key_completes : (own e : Error) → kind_of e ≡ kind_of own → CompletesKey {V = K} convert mid (Err own) → CompletesMemberKey {V = Option K} convert (bare_map s comma_due false) (Err e)
+  key_completes own e same complete u p r c live key is =
+      same ∙ complete u p r c (failed_of at.entry.rest ∙ live) (pair_key_found comma_due s.unread mid.unread r u p at.entry.begun key) is
+
+  key_cause : (own e : Error) (offset : ℕ) → SameText mid end → ((before : List ℕ) → mid.input ≡ before ++ mid.unread → offset ≡ length (encode_utf8_all before)) → PositionedAtKey (StartsAfter end.input offset) own e
+      → refuses mid own end → RefusesMemberKey refuses comma_due s e end
+  key_cause own e offset same counted placed r =
+      in_key mid own at r (placed_before mid end offset own e same counted placed)
+
+  -- a key was read
+  read_key_given : (more : Option ℕ) (k : K) → Steady {V = Option ℕ} s mid (Ok more) → GivesKey content convert mid end k → SameText mid end → ReadsKeyOfMember content convert refuses comma_due s end (Ok (Some k))
+  read_key_given more k before gives same = record {
+    sound = key_given k gives;
+    complete = λ u escape_free r c live key is. tt;
+    closing = λ r live close. refl;
+    cause = tt;
+    steady = record { same_text = same ∙ before.same_text; unprompted = tt; before = λ h. absurd (before.before h) };
+  }
+
+  -- or refused
+  read_key_refused : (more : Option ℕ) (own e : Error) (offset : ℕ) → Steady {V = Option ℕ} s mid (Ok more) → CompletesKey {V = K} convert mid (Err own) → refuses mid own end → (mid.failed ≡ false → IsUnprompted own) → SameText mid end
+      → ((before : List ℕ) → mid.input ≡ before ++ mid.unread → offset ≡ length (encode_utf8_all before)) → PositionedAtKey (StartsAfter end.input offset) own e → ReadsKeyOfMember content convert refuses comma_due s end (Err e)
+  read_key_refused more own e offset before complete refused unprompted same counted placed =
+      let kind = key_kind _ own e placed in
+      record {
+        sound = tt;
+        complete = key_completes own e kind complete;
+        closing = λ r live close. absurd (no_close_found curly curly_signs comma_due s.unread mid.unread r at.entry.begun at.entry.inside close);
+        cause = key_cause own e offset same counted placed refused;
+        steady = record {
+          same_text = same ∙ before.same_text;
+          unprompted = λ live failed. unprompted (failed_of at.entry.rest ∙ live) (sym kind ∙ failed);
+          before = λ h. absurd (before.before h);
+        };
+      }
+
+  -- it is given, or its fault where it is placed
+  pub read_key_placed : (more : Option ℕ) (read : Result K Error) (result : Result (Option K) Error) (offset : ℕ) → Steady {V = Option ℕ} s mid (Ok more) → ReadsKeyOf content convert refuses mid end read → IsCount mid offset → PositionsKey (StartsAfter end.input offset) read result
+      → ReadsKeyOfMember content convert refuses comma_due s end result
+  read_key_placed more (Ok k) result offset before reads count is = subst (ReadsKeyOfMember content convert refuses comma_due s end) (sym is) (read_key_given more k before reads.sound reads.same_text)
+  read_key_placed more (Err own) result offset before reads count is =
+      let (e, same, placed) = err_from_is_err_and result is in
+      subst (ReadsKeyOfMember content convert refuses comma_due s end) (sym same) (read_key_refused more own e offset before reads.complete reads.refused reads.unprompted reads.same_text count.counted placed)
+
+-- ---- a colon and a value
+
+pub after_colon : (old mid next : State) → PassedGap old mid → TookText mid (58 ∷ []) next → AfterColon old next
+after_colon old mid next p took = record {
+  live = p.live;
+  colon = sign_next 58 old.unread mid.unread next.unread (after_gap_of old mid p) took.split;
+  rest = only_read old mid next p.rest took.rest;
+}
+
+pub value_read : (old next new : State) (t : Tree) → AfterColon old next → TookValue next t new → TookMemberValue old t new
+value_read old next new t at value =
+    let level = level_of at.rest in
+    let deep = value.shallow in
+    record {
+      live = at.live;
+      value = (next.unread, at.colon, value.reads);
+      shallow = omega (arith, level, deep);
+      rest = only_read old next new at.rest value.rest;
+    }
+
+pub value_found : (old next : State) (t : Tree) (r : List ℕ) → AfterColon old next → IsKeyValue old.unread t r → Reads next.unread t r
+value_found old next t r at (y, colon, reads) = subst (λ x. Reads x t r) (same_sign 58 old.unread y next.unread colon_solid colon at.colon) reads
+
+pub no_value_next : (old mid : State) (t : Tree) (r : List ℕ) → PassedGap old mid → NotBegun (λ c. c == 58) mid.unread → IsKeyValue old.unread t r → ⊥
+no_value_next old mid t r p n (y, colon, reads) = no_sign_next 58 old.unread mid.unread y colon_solid (after_gap_of old mid p) n colon
+
+pub no_value_faulty : (old : State) (e : Error) (t : Tree) (r : List ℕ) → Refused FaultyBlanks (cursor_of old) e → IsKeyValue old.unread t r → ⊥
+no_value_faulty old e t r f (y, colon, reads) = no_sign_faulty 58 old e y colon_solid f colon
+
+no_colon_here : (x : List ℕ) (reason : Option ErrorCode) (place : Option (List ℕ)) → NotBegun (λ c. c == 58) x → Unexpected codes.EofParsingObject codes.ExpectedColon x reason place → NoColon x reason place
+no_colon_here x reason place n at_end = colon_missing
+no_colon_here x reason place n (at_char c r) = no_colon c r n
+
+pub refused_colon : (old mid at : State) (e : Error) → PassedGap old mid → at ≡ mid → NotBegun (λ c. c == 58) mid.unread → Refused (Unexpected codes.EofParsingObject codes.ExpectedColon) (cursor_of at) e → RefusedBy NoColon old e
+refused_colon old mid at e p same n f = refused_token old mid e p (refused_as at mid e same (λ reason place k. no_colon_here mid.unread reason place n k) f)
+
+pub gives_value_seen : {V C : Type 0} (content : V → C) (convert : Tree → Option C) (old new : MapAccessState) (a b : State) (v : V) → a ≡ old.at.reader → new.at.reader ≡ record b { failed = old.at.reader.failed } → new.at.comma_due ≡ true → new.pending ≡ false
+    → GivesMemberValue content convert (bare_map a false true) (bare_map b true false) v → GivesMemberValue content convert old new v
+gives_value_seen content convert old new a b v same lent comma_due pending (t, took, is, one, two) =
+    let rest = subst (λ s. OnlyRead s b) same took.rest in
+    let back : b ≡ new.at.reader = sym (lent ∙ lent_back old.at.reader b rest) in
+    (t, subst (λ s. TookMemberValue old.at.reader t s) back (subst (λ s. TookMemberValue s t b) same took), is, comma_due, pending)
+
+pub gives_next_value : {V C : Type 0} (content : V → C) (convert : Tree → Option C) (refuses : State → Error → State → Type 0) (old new : MapAccessState) (v : V) → GivesMemberValue content convert old new v → RefusesNextValue refuses old new.at.reader (Ok v)
+gives_next_value content convert refuses old new v (t, took, is, comma_due, pending) =
+    let (y, colon, reads) = took.value in
+    answers_call _ true _ _ _ old.at new.at.reader v (λ a at. end_no_sign 58 old.at.reader y colon_solid at colon) (λ a w at. other_no_sign 58 old.at.reader w y colon_solid at at.other colon) (λ h. true_false h took.live)
+
+pub refuses_next_value : {V : Type 0} (refuses : State → Error → State → Type 0) (old : MapAccessState) (new after : State) (own e : Error) → RefusesMemberValue refuses old.at.reader own after → (old.at.reader.failed ≡ false → kind_of own ≢ code codes.Failed)
+    → (old.at.reader.failed ≡ true → IsPositionless codes.Failed own) → PositionedAtBracket old.at own e → new.failed ≡ true → RefusesNextValue {V = V} refuses old new (Err e)
+refuses_next_value refuses old new after own e cause other before p failed =
+    refuses_call (RefusesMemberValue refuses old.at.reader) true is_colon codes.EofParsingObject codes.ExpectedColon old.at new after own e cause (λ a at. ends cause at) (λ a w o. differs cause w o) other before p failed
+  where
+    ends : RefusesMemberValue refuses old.at.reader own after → AtEnd old.at.reader → IsPositionless codes.EofParsingObject own
+    ends (no_value f) at = end_fault expects_colon old.at.reader own at f
+    ends (in_value start there c) at = absurd (end_no_sign 58 old.at.reader start.unread colon_solid at there.colon)
+
+    differs : RefusesMemberValue refuses old.at.reader own after → (w : List ℕ) → AtOther is_colon old.at.reader w → IsAfter codes.ExpectedColon old.at.reader w own
+    differs (no_value f) w o = other_fault expects_colon old.at.reader own w o f
+    differs (in_value start there c) w o = absurd (other_no_sign 58 old.at.reader w start.unread colon_solid o o.other there.colon)

@@ -1,0 +1,110 @@
+//! Reading the keys of an object's members.
+
+ghost use Rattle.std.specs.Prelude.{◌≡◌, true, false, IfOk, IfErr, OnErr};
+ghost use Rattle.json5_grammar.specs.Language.Characters.{NotBegun};
+ghost use Rattle.json5_grammar.specs.Model.Collections.{NoMemberGoes};
+ghost use Rattle.json5_text.specs.Errors.{kind_of};
+ghost use Rattle.json5_value.specs.Offsets.{StartsAfter};
+ghost use Rattle.json5_de.specs.Law.{Steady};
+ghost use Rattle.json5_de.specs.Faults.{RefusedBy};
+ghost use Rattle.json5_de.specs.ObjectFaults as faults;
+ghost use Rattle.json5_de.specs.ObjectFaults.{BeginsKey, GoesToKey, NoKey, PositionsKey, ReadsKeyOfMember, is_positionless};
+
+use crate::de::Deserializer;
+use crate::key::DeserializeKey;
+use json5_text::ErrorCode;
+use json5_text::char::is_json5_identifier_start;
+use json5_text::error::{Error, Result};
+use json5_text::input::Input;
+use json5_value::brackets::BracketKind;
+
+/// Whether a key may begin with this character: a quote, a backslash or an identifier start.
+fn begins_key(c: char) -> bool
+    ensures { result ≡ faults.begins_key c }
+{
+    matches!(c, '"' | '\'' | '\\') || is_json5_identifier_start(c)
+}
+
+/// Whether the fault doesn't get a key's position: the input ended, memory ran out or the reader had failed.
+#[cold]
+#[inline(never)]
+fn is_positionless(error: &Error) -> bool
+    ensures { result ≡ is_positionless (kind_of error.now) }
+{
+    match error.code() {
+        Some(code) => matches!(
+            code,
+            ErrorCode::EofParsingArray
+                | ErrorCode::EofParsingBool
+                | ErrorCode::EofParsingComment
+                | ErrorCode::EofParsingEscapeSequence
+                | ErrorCode::EofParsingIdentifier
+                | ErrorCode::EofParsingNull
+                | ErrorCode::EofParsingNumber
+                | ErrorCode::EofParsingObject
+                | ErrorCode::EofParsingString
+                | ErrorCode::EofParsingValue
+                | ErrorCode::OutOfMemory
+                | ErrorCode::Failed
+        ),
+        None => false,
+    }
+}
+
+impl<I: Input> Deserializer<I> {
+    /// Whether a key may begin with what is next.
+    #[inline(always)]
+    pub(crate) fn at_key(&self) -> bool
+        ensures found { result ≡ true → BeginsKey self.now.unread }
+        ensures other { result ≡ false → NotBegun faults.begins_key self.now.unread }
+    {
+        match self.peek() {
+            Some(c) => begins_key(c),
+            None => false,
+        }
+    }
+
+    /// Goes to the next key and returns its offset, or to the closing brace and returns None.
+    #[inline(always)]
+    pub(crate) fn advance_to_key(&mut self, comma_due: bool) -> Result<Option<usize>>
+        ensures sound { IfOk result (GoesToKey comma_due self.old self.new) }
+        ensures refused { IfErr result (RefusedBy (NoKey comma_due) self.old) }
+        ensures nowhere { OnErr result (self.old.failed ≡ false → NoMemberGoes comma_due self.old.unread) }
+        ensures steady { Steady self.old self.new result }
+    {
+        if !self.advance_to_entry(BracketKind::Object, comma_due)? {
+            return Ok(None);
+        }
+        if !self.at_key() {
+            return Err(self.fail_unexpected(
+                ErrorCode::EofParsingObject,
+                ErrorCode::ExpectedIdentifier,
+            ));
+        }
+        Ok(Some(self.offset()))
+    }
+
+    /// A key that was read at this offset. A fault gets the key's position if it has none and may have one.
+    #[inline(always)]
+    pub(crate) fn positioned_key<K>(&self, read: Result<K>, start: usize) -> Result<Option<K>>
+        ensures { PositionsKey (StartsAfter self.now.input start) read result }
+    {
+        match read {
+            Ok(key) => Ok(Some(key)),
+            Err(e) if is_positionless(&e) => Err(e),
+            Err(e) => Err(self.with_position_at(start, e)),
+        }
+    }
+
+    /// The next key of an object, or None if the closing brace is next.
+    #[inline(always)]
+    pub(crate) fn member_key<K: DeserializeKey<I>>(&mut self, comma_due: bool) -> Result<Option<K>>
+        ensures { ReadsKeyOfMember K.content K.convert K.refuses comma_due self.old self.new result }
+    {
+        let Some(start) = self.advance_to_key(comma_due)? else {
+            return Ok(None);
+        };
+        let read = self.read_key::<K>();
+        self.positioned_key(read, start)
+    }
+}
