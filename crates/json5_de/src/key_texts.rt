@@ -25,7 +25,10 @@ impl<I: Input> MapKey<'_, I> {
         ensures { KeyReads string_key string_bytes self.old self.new result }
     {
         match self.de.short_key() {
-            Some(span) => self.de.own_text(span),
+            Some(span) => {
+                let empty = String::new(self.de.allocator());
+                self.de.own_text(span, empty)
+            }
             None => self.de.key_string_slowly(),
         }
     }

@@ -37,7 +37,7 @@ impl<I: Input> Deserializer<I> {
         ensures { ReadsAs string_kind string_bytes self.old self.new result }
     {
         match self.short_string() {
-            Some(span) => self.own_text(span),
+            Some(span) => self.own_text(span, String::new(self.allocator())),
             None => self.string_slowly(),
         }
     }
