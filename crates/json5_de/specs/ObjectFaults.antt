@@ -18,7 +18,7 @@ use Rattle.json5_de.specs.Faults.{AfterBlanks, RefusedBy}
 use Rattle.json5_de.specs.Access.{AtClose, CompletesClose, bare, is_comma_or_closing}
 use Rattle.json5_de.specs.Seq.{AtEntry, NoNext, PositionedFault, RefusesCall}
 use Rattle.json5_de.specs.Keys.{KeyConversion}
-use Rattle.json5_de.specs.Objects.{MapAccessState, AfterColon, GivesPairKey, CompletesPairKey, bare_map}
+use Rattle.json5_de.specs.Objects.{MapAccessState, AfterColon, GivesPairKey, CompletesPairKey, GivesPairValue, CompletesPairValue, bare_map}
 
 -- a quote, a backslash or an identifier start
 abbrev pub begins_key : ℕ → Bool
@@ -137,6 +137,13 @@ is_colon c = c == colon_sign
 pub data RefusesPairValue (refuses : State → Error → State → Type 0) (old : State) (e : Error) (after : State) : Type 0 where
   no_value : RefusedBy NoColon old e → RefusesPairValue refuses old e after
   in_value : (start : State) → AfterColon old start → refuses start e after → RefusesPairValue refuses old e after
+
+-- the value after a key and its colon is read
+pub record ReadsValueOfPair {V C : Type 0} (content : V → C) (convert : Tree → Option C) (refuses : State → Error → State → Type 0) (old new : State) (result : Result V Error) : Type 0 where
+  pub sound : IfOk result (GivesPairValue content convert (bare_map old false true) (bare_map new true false))
+  pub complete : CompletesPairValue convert (bare_map old false true) result
+  pub cause : IfErr result (λ e. RefusesPairValue refuses old e new)
+  pub steady : Steady old new result
 
 -- the fault of a call for a value, at the opening brace if it has no position
 abbrev pub ValueRefusedAtBrace : (State → Error → State → Type 0) → MapAccessState → Error → Type 0

@@ -1,13 +1,11 @@
 //! Reading of objects, one member after another (JSON5 section 3).
 
-ghost use Rattle.std.specs.Prelude.{◌≡◌, true, false, IfOk, IfErr};
+ghost use Rattle.std.specs.Prelude.{◌≡◌};
 ghost use Rattle.std.specs.Borrow.{sem};
 ghost use Rattle.json5_text.specs.Cursor.{Locates};
-ghost use Rattle.json5_de.specs.Law.{Steady};
 ghost use Rattle.json5_de.specs.Access.{PositionedAtBracket};
-ghost use Rattle.json5_de.specs.Objects.{bare_map, GivesPairValue, CompletesPairValue};
 ghost use Rattle.json5_de.specs.Enums.{EndsObject};
-ghost use Rattle.json5_de.specs.ObjectFaults.{PassesColon, RefusesPairValue};
+ghost use Rattle.json5_de.specs.ObjectFaults.{PassesColon, ReadsValueOfPair};
 
 use crate::de::{Deserialize, Deserializer};
 use crate::key::DeserializeKey;
@@ -136,10 +134,7 @@ impl<I: Input> Deserializer<I> {
     /// A colon and the value after a key.
     #[inline(always)]
     fn pair_value<V: Deserialize<I>>(&mut self) -> Result<V>
-        ensures sound { IfOk result (GivesPairValue V.content V.convert (bare_map self.old false true) (bare_map self.new true false)) }
-        ensures complete { CompletesPairValue V.convert (bare_map self.old false true) result }
-        ensures cause { IfErr result (λ e. RefusesPairValue V.refuses self.old e self.new) }
-        ensures steady { Steady self.old self.new result }
+        ensures { ReadsValueOfPair V.content V.convert V.refuses self.old self.new result }
     {
         self.colon()?;
         V::deserialize(self)

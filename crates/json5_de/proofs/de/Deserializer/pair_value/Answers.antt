@@ -4,26 +4,34 @@ use Rattle.std.proofs.lemmas.Result.{err_from_is_err_and, IfOk-weaker, IfErr-wea
 use Rattle.json5_de.specs.ObjectFaults.{no_value, in_value}
 use Rattle.json5_de.proofs.Arrays.{level_of, failed_of}
 use Rattle.json5_de.proofs.PairCodes.{value_read, value_found}
+use Rattle.json5_de.proofs.Taken.{input_of}
+use Rattle.json5_grammar.proofs.Basics.{true_false}
 use Rattle.json5_de.proofs.de.Deserializer.pair_value.Goals as goal
 
-pub returns-in_err-colon-clause-complete : goal.returns-in_err-colon-clause-complete
-returns-in_err-colon-clause-complete g c t r v live value shallow converts = absurd (false≢true (c.in_err-colon.ensures.complete t r live value))
-
-pub returns-in_err-colon-clause-cause : goal.returns-in_err-colon-clause-cause
-returns-in_err-colon-clause-cause g c =
+pub returns-in_err-colon : goal.returns-in_err-colon
+returns-in_err-colon g c =
     let (y, is, from) = err_from_is_err_and c.from_residual.result c.from_residual.ensures.1 in
-    rw (is, from) (no_value c.in_err-colon.ensures.refused)
+    let k = c.in_err-colon.ensures in
+    rw (is, from) (record {
+      sound = tt;
+      complete = λ t r v live value shallow converts. absurd (false≢true (k.complete t r live value));
+      cause = no_value k.refused;
+      steady = record { same_text = k.steady.same_text; unprompted = k.steady.unprompted; before = k.steady.before };
+    })
 
-pub returns-clause-complete : goal.returns-clause-complete
-returns-clause-complete g c t r v live value shallow converts =
+pub returns : goal.returns
+returns g c =
     let at = c.in_ok-colon.ensures.passed in
-    let level = level_of at.rest in
-    c.deserialize.ensures.complete t r v (failed_of at.rest ∙ at.live) (value_found c.args.self.now c.colon.new.self t r at value) (omega (arith, level, shallow)) converts
-
-pub returns-clause-sound : goal.returns-clause-sound
-returns-clause-sound g c =
-    let at = c.in_ok-colon.ensures.passed in
-    IfOk-weaker c.deserialize.result _ _ (λ v (t, value, is). (t, value_read c.args.self.now c.colon.new.self c.deserialize.new.de t at value, is, refl, refl)) c.deserialize.ensures.sound
-
-pub returns-clause-cause : goal.returns-clause-cause
-returns-clause-cause g c = IfErr-weaker c.deserialize.result _ _ (λ e refuses. in_value c.colon.new.self c.in_ok-colon.ensures.passed refuses) c.deserialize.ensures.refused
+    let read = c.deserialize.ensures in
+    record {
+      sound = IfOk-weaker c.deserialize.result _ _ (λ v (t, value, is). (t, value_read c.args.self.now c.colon.new.self c.deserialize.new.de t at value, is, refl, refl)) read.sound;
+      complete = λ t r v live value shallow converts.
+          let level = level_of at.rest in
+          read.complete t r v (failed_of at.rest ∙ at.live) (value_found c.args.self.now c.colon.new.self t r at value) (omega (arith, level, shallow)) converts;
+      cause = IfErr-weaker c.deserialize.result _ _ (λ e refuses. in_value c.colon.new.self at refuses) read.refused;
+      steady = record {
+        same_text = read.same_text ∙ input_of at.rest;
+        unprompted = IfErr-weaker c.deserialize.result _ _ (λ e prompted live. prompted (failed_of at.rest ∙ live)) read.unprompted;
+        before = λ h. absurd (true_false h at.live);
+      };
+    }
