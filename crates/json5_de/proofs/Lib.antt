@@ -25,6 +25,7 @@ pub mod ShortReads
 pub mod ShortBrackets
 pub mod OpenClose
 pub mod Next
+pub mod ElementsRead
 pub mod StagesPassed
 pub mod Calls
 pub mod Ranges
