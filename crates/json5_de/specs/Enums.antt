@@ -11,7 +11,7 @@ use Rattle.json5_grammar.specs.Language.Trees.{Tree, Trees, Members, null, boole
 use Rattle.json5_grammar.specs.Language.Values.{Reads}
 use Rattle.json5_text.specs.declared.error.Error.{Error}
 use Rattle.json5_text.specs.Cursor.{IsOutOfMemory}
-use Rattle.json5_de.specs.State.{State, SameText, GivesUp, FailsIfErr}
+use Rattle.json5_de.specs.State.{State, SameText, GivesUp, GivesUpIfErr, FailsIfErr}
 use Rattle.json5_de.specs.Law.{IsOkOrMemory, TookValue, Unprompted, AnswersFailed}
 use Rattle.json5_de.specs.Convert.{unit_of, index_of}
 use Rattle.json5_de.specs.ConvertLists.{if_some}
@@ -273,6 +273,11 @@ pub record OpensContent {A : Type 0} (b : Brackets) (state_of : A → AccessStat
   pub complete : (r : List ℕ) → old.has_content ≡ true → old.reader.failed ≡ false → IsSign b.opening old.reader.unread r → old.reader.level < max_depth → IsOk result
   pub refused : IfErr result (RefusesContent (λ s e t. RefusedBy (NotOpened b s.level) s e) old)
   pub unprompted : Unprompted old.reader result
+
+-- that bracket is taken, which begins after so many bytes; a refusal is for good
+pub record TakesContentOpening (b : Brackets) (old : EnumAccessState) (new : State) (result : Result ℕ Error) : Type 0 where
+  pub opens : OpensContent b (λ start. record { reader = new; start = start; comma_due = false }) old result
+  pub failed : GivesUpIfErr old.reader new result
 
 -- an array: nothing of it was read, and if an array can be read, its elements are left
 pub record OpensTuple {A : Type 0} (state_of : A → AccessState) (old : EnumAccessState) (result : Result A Error) : Type 0 where

@@ -1,16 +1,15 @@
 //! The reader, and the law of a type that is read.
 
-ghost use Rattle.std.specs.Prelude.{◌≡◌, ◌≤◌, ◌<◌, ◌+◌, ◌-◌, Bool, [], Some, true, false, IfOk, IfErr, OnOk};
+ghost use Rattle.std.specs.Prelude.{◌≡◌, ◌≤◌, ◌<◌, ◌+◌, ◌-◌, Bool, true, false, IfOk, IfErr, OnOk};
 ghost use Rattle.std.specs.Str.{chars};
-ghost use Rattle.json5_text.specs.Errors.{FaultKind, kind_of};
-ghost use Rattle.json5_text.specs.Cursor.{IsPositioned, Locates};
+ghost use Rattle.json5_text.specs.Cursor.{Locates};
 ghost use Rattle.json5_grammar.specs.Language.Documents.{max_depth};
 ghost use Rattle.json5_grammar.specs.declared.code.ErrorCode.TheVariants as codes;
 ghost use Rattle.json5_value.specs.Keeping.{OwnsKey, ReadsDatum};
 ghost use Rattle.json5_value.specs.Kinds.{word_of, ends_of, differs_of};
 ghost use Rattle.json5_value.specs.Offsets.{PositionedAt, StartsAfter};
 ghost use Rattle.json5_value.specs.SkipSteps.{SkipsValue};
-ghost use Rattle.json5_de.specs.State.{State, SameText, Calls, GivesUpWith, cursor_of, next, at_start};
+ghost use Rattle.json5_de.specs.State.{State, SameText, Calls, GivesUpWith, next, at_start};
 ghost use Rattle.json5_de.specs.Faults.{IsPositionless};
 ghost use Rattle.json5_de.specs.Law.{Gives, Completes, CompletesFree, Unprompted};
 ghost use Rattle.json5_de.specs.Seq.{IsUnexpected};
@@ -323,16 +322,6 @@ impl<I: Input> Deserializer<I> {
         key_owned(&self.scanner, key)
     }
 
-    /// A fault at the next character.
-    #[cold]
-    #[inline(never)]
-    pub(crate) fn fault_here(&self, code: ErrorCode) -> Error
-        ensures kind { kind_of result ≡ FaultKind.code code }
-        ensures placed { IsPositioned (cursor_of self.now) (Some []) result }
-    {
-        fault_here(&self.scanner, code)
-    }
-
     /// Refuses what is next: `differs` at the character, or `ends` at the end, without a position.
     #[cold]
     #[inline(never)]
@@ -371,7 +360,7 @@ impl<I: Input> Deserializer<I> {
     {
         self.skip_blank()?;
         if self.peek().is_some() {
-            let error = self.fault_here(ErrorCode::TrailingCharacters);
+            let error = fault_here(&self.scanner, ErrorCode::TrailingCharacters);
             return self.refuse(error);
         }
         Ok(())

@@ -2,11 +2,10 @@
 
 ghost use Rattle.std.specs.Prelude.{◌≡◌, true, false, Some, IfOk};
 ghost use Rattle.std.specs.Borrow.{sem};
-ghost use Rattle.json5_de.specs.State.{GivesUpIfErr};
 ghost use Rattle.json5_de.specs.Convert.{names_bytes};
 ghost use Rattle.json5_value.specs.Brackets.{brackets_of};
 ghost use Rattle.json5_de.specs.TokenKinds.{RefusedAs, null_kind, every_tree};
-ghost use Rattle.json5_de.specs.Enums.{NamesVariant, ReadsVariant, ReadsInBrace, ClosesLast, ClosesContent, OpensContent, OpensTuple, OpensStruct, content_of, unit_content, content_free};
+ghost use Rattle.json5_de.specs.Enums.{NamesVariant, ReadsVariant, ReadsInBrace, ClosesLast, ClosesContent, TakesContentOpening, OpensTuple, OpensStruct, content_of, unit_content, content_free};
 
 use crate::de::{Deserialize, Deserializer};
 use crate::map::MapAccess;
@@ -143,8 +142,7 @@ impl<I: Input> Deserializer<I> {
     /// Opens the content of a variant, which is an array or an object. A fault without a position gets that of the variant's brace;
     /// a string has no content.
     fn open_content(&mut self, kind: BracketKind, name: &Named, expected: &str) -> Result<usize>
-        ensures opens { OpensContent (brackets_of kind) (λ start. record { reader = self.new; start = start; comma_due = false }) (named_state_of self.old name.now) result }
-        ensures failed { GivesUpIfErr self.old self.new result }
+        ensures { TakesContentOpening (brackets_of kind) (named_state_of self.old name.now) self.new result }
     {
         if !name.has_content {
             return self.mismatch(name.start, &Mismatch::WithoutContent(expected));

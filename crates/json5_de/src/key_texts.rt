@@ -25,6 +25,7 @@ impl<I: Input> MapKey<'_, I> {
     /// # Errors
     ///
     /// As every call: see [`MapKey`].
+    #[inline(always)]
     pub fn deserialize_string(&mut self) -> Result<String>
         ensures { KeyReads string_key string_bytes self.old self.new result }
     {
@@ -135,6 +136,7 @@ impl<'de, I: Borrows<'de>> MapKey<'_, I> {
     ///
     /// - A custom fault at a key that has an escape.
     /// - The codes of every call: see [`MapKey`].
+    #[inline(always)]
     pub fn deserialize_str(&mut self) -> Result<&'de str>
         ensures { KeyReads escape_free_key (λ t. t.now) self.old self.new result }
     {
@@ -153,6 +155,7 @@ impl<'de, I: Borrows<'de>> MapKey<'_, I> {
     /// # Errors
     ///
     /// As every call: see [`MapKey`].
+    #[inline(always)]
     pub fn deserialize_identifier(&mut self) -> Result<CowStr<'de>>
         ensures { ReadsCowKey self.old self.new result }
     {

@@ -47,6 +47,7 @@ impl<I: Input> DeserializeKey<I> for String {
 
     ghost refuses = { RefusedAsKey string_key };
 
+    #[inline(always)]
     fn deserialize_key(key: &mut MapKey<'_, I>) -> Result<String> {
         key.deserialize_string()
     }
@@ -84,6 +85,7 @@ impl<'de, I: Borrows<'de>> DeserializeKey<I> for &'de str {
 
     ghost refuses = { RefusedAsKey escape_free_key };
 
+    #[inline(always)]
     fn deserialize_key(key: &mut MapKey<'_, I>) -> Result<&'de str> {
         key.deserialize_str()
     }
@@ -103,6 +105,7 @@ impl<'de, I: Borrows<'de>> DeserializeKey<I> for CowStr<'de> {
 
     ghost refuses = { RefusedAsKey cow_key };
 
+    #[inline(always)]
     fn deserialize_key(key: &mut MapKey<'_, I>) -> Result<CowStr<'de>> {
         key.deserialize_identifier()
     }

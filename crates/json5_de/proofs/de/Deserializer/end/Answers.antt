@@ -1,6 +1,8 @@
-use Rattle.std.proofs.Common.{refl}
+use Rattle.std.proofs.Common.{refl, subst, Some, []}
 use Rattle.std.proofs.lemmas.Result.{err_from_is_err_and}
 use Rattle.json5_grammar.proofs.FirstCharacters.{true_false}
+use Rattle.json5_text.specs.Cursor.{IsPositioned}
+use Rattle.json5_de.specs.State.{State, cursor_of}
 use Rattle.json5_de.proofs.InputEnds.{not_ended, ended, refused_trailing, end_not_blamed}
 use Rattle.json5_de.proofs.TokenKinds.{given_up, gives_up}
 use Rattle.json5_de.proofs.ReadSteps.{refused_blanks}
@@ -20,10 +22,11 @@ returns-in_err-skip_blank g c =
 pub returns-then-is_some : goal.returns-then-is_some
 returns-then-is_some g c =
     let passed = c.in_ok-skip_blank.ensures.passed in
+    let placed = subst (λ (s : State). IsPositioned (cursor_of s) (Some []) c.fault_here-error.result) c.self.view_is c.fault_here-error.ensures.placed in
     rw c.refuse.ensures.result (record {
       sound = tt;
       complete = λ end. not_ended c.args.self.now c.skip_blank.new.self c.peek.result c.is_some.result passed c.if-is_some.true c.is_some.ensures c.peek.ensures end;
-      refused = refused_trailing c.args.self.now c.skip_blank.new.self c.fault_here-error.result c.peek.result c.is_some.result passed c.if-is_some.true c.is_some.ensures c.peek.ensures c.fault_here-error.ensures.kind c.fault_here-error.ensures.placed;
+      refused = refused_trailing c.args.self.now c.skip_blank.new.self c.fault_here-error.result c.peek.result c.is_some.result passed c.if-is_some.true c.is_some.ensures c.peek.ensures c.fault_here-error.ensures.kind placed;
       failed = given_up c.args.self.now c.skip_blank.new.self c.refuse.new.self passed (gives_up _ _ c.refuse.ensures.state);
       before = λ h. absurd (true_false h passed.live);
     })

@@ -3,6 +3,8 @@ use Rattle.json5_de.proofs.VariantEnds.{content_not_opened}
 use Rattle.json5_value.specs.Brackets.{brackets_of}
 use Rattle.json5_de.proofs.de.Deserializer.open_content.Goals as goal
 
-pub returns-in-Err-clause-opens : goal.returns-in-Err-clause-opens
-returns-in-Err-clause-opens g c =
-    content_not_opened (brackets_of c.args.kind) (named_state_of c.args.self.now c.args.name.now) _ _ c.open.new.self c.in-Err.e c.with_position_at.result c.if-not-name.false c.in-Err.ensures.opens c.in-Err.ensures.failed c.with_position_at.ensures
+pub returns-in-Err : goal.returns-in-Err
+returns-in-Err g c = record {
+  opens = content_not_opened (brackets_of c.args.kind) (named_state_of c.args.self.now c.args.name.now) _ _ c.open.new.self c.in-Err.e c.with_position_at.result c.if-not-name.false c.in-Err.ensures.opens c.in-Err.ensures.failed c.with_position_at.ensures;
+  failed = c.in-Err.ensures.failed;
+}
