@@ -35,7 +35,7 @@ pub(crate) fn blanks_len(bytes: &[u8]) -> usize
 pub(crate) fn is_ascii_start(byte: u8) -> bool
     ensures { result ≡ is_ascii_start byte }
 {
-    matches!(byte, b'a'..=b'z' | b'A'..=b'Z' | b'_' | b'$')
+    byte >= b'a' && byte <= b'z' || byte >= b'A' && byte <= b'Z' || byte == b'_' || byte == b'$'
 }
 
 /// Whether it is an ASCII character that may continue a name.
