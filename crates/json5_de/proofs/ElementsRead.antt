@@ -1,5 +1,5 @@
 -- What a call for the next element of an array means, from the step to it and from what its type read.
-use Rattle.std.proofs.Common.{◌≡◌, false, Bool, refl, ◌∙◌, arith, Option, Some, None, Ok, Err}
+use Rattle.std.proofs.Common.{◌≡◌, false, Bool, refl, ◌∙◌, arith, Option, Some, Ok, Err}
 use Rattle.std.proofs.Math.Bool.{or-true}
 use Rattle.json5_grammar.specs.Language.Trees.{Tree}
 use Rattle.json5_grammar.proofs.FirstCharacters.{true_false}

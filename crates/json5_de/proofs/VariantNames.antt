@@ -45,7 +45,7 @@ use Rattle.json5_de.proofs.Expected.{Expected, end_fault, other_fault}
 use Rattle.json5_de.proofs.Options.{end_next, value_next, value_no_end, took_after}
 use Rattle.json5_value.proofs.OtherCodes.{Lacks}
 use Rattle.json5_de.proofs.MemberRefusals.{value_read, key_there, no_key_begun, pair_key_found}
-use Rattle.json5_de.proofs.ObjectMembers.{pair_read, all_read, key_read, opens_map, refuses_map}
+use Rattle.json5_de.proofs.ObjectMembers.{pair_read, all_read, opens_map, refuses_map}
 use Rattle.json5_de.proofs.RefusalPositions.{refused_as}
 use Rattle.json5_de.proofs.TokenKinds.{refused_other, given_up, gives_up}
 use Rattle.json5_de.proofs.ReadSteps.{input_of, refused_blanks, refused_token}
