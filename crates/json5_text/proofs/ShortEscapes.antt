@@ -1,5 +1,5 @@
 -- Short ways of escapes.
-use Rattle.std.proofs.Common.{◌≡◌, ℕ, zero, suc, ◌+◌, ◌-◌, ◌*◌, ◌<◌, ◌≤◌, Bool, true, false, List, [], ◌∷◌, ◌++◌, length, drop, refl, ap, sym, ◌∙◌, subst, arith, Option, Some, None}
+use Rattle.std.proofs.Common.{◌≡◌, ℕ, ◌+◌, ◌-◌, ◌*◌, ◌<◌, ◌≤◌, Bool, true, false, List, [], ◌∷◌, ◌++◌, length, drop, refl, ap, sym, ◌∙◌, subst, arith, Option, Some, None}
 use denote.Ref.{Bor}
 use Rattle.std.specs.Prelude.{◌==◌, ◌&&◌, slice_index, IfSome, Ok}
 use Rattle.std.specs.Char.{IsScalar, digit_value, encode_utf8}
@@ -10,7 +10,7 @@ use Rattle.std.proofs.lemmas.Str.{encode_ascii, chars_past_char, IsUtf8-past_cha
 use Rattle.json5_grammar.specs.Language.Characters.{NotBegun, is_digit, is_terminator}
 use Rattle.json5_grammar.specs.Language.Strings.{short_escape, is_raw}
 use Rattle.json5_grammar.specs.Model.Reading.{got, and_then}
-use Rattle.json5_grammar.specs.Model.ReadTexts.{hex, unicode_at, not_short, one_char, put}
+use Rattle.json5_grammar.specs.Model.ReadTexts.{hex, not_short, one_char, put}
 use Rattle.json5_grammar.proofs.StringsRead.{put_none}
 use Rattle.json5_text.specs.declared.texts.Kind.{Kind}
 use Rattle.json5_text.specs.declared.texts.Kind.TheVariants as kind

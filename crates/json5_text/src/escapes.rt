@@ -1,7 +1,7 @@
 //! Escapes in strings and names (JSON5 section 5.1, ECMAScript 5.1 section 7.8.4).
 
 ghost use Rattle.std.specs.Char.{digit_value};
-ghost use Rattle.std.specs.Prelude.{◌≡◌, ◌≤◌, ◌<◌, ◌^◌, ℕ, List, [], ◌&&◌, true, false, Some, None, length, MatchOption, IfOk, IfSome};
+ghost use Rattle.std.specs.Prelude.{◌≡◌, ◌≤◌, ◌<◌, ◌^◌, [], ◌&&◌, true, false, Some, None, length, MatchOption, IfOk, IfSome};
 ghost use Rattle.std.specs.Str.{chars};
 ghost use Rattle.json5_grammar.specs.Model.Reading.{and_then};
 ghost use Rattle.json5_grammar.specs.Language.Strings.{short_escape, is_high, is_low, member_value};

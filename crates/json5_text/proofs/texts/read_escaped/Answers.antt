@@ -1,4 +1,4 @@
-use Rattle.std.proofs.Common.{[], ◌++◌, true, false, ◌&&◌, sym, ap, ◌∙◌, subst, length, arith}
+use Rattle.std.proofs.Common.{[], ◌++◌, true, ◌&&◌, sym, ap, ◌∙◌, subst, length, arith}
 use Rattle.std.specs.Str.{chars}
 use Rattle.std.proofs.lemmas.List.{append-nil}
 use Rattle.std.proofs.lemmas.Result.{err_from_is_err_and}

@@ -1,4 +1,4 @@
-use Rattle.std.proofs.Common.{◌++◌, true, false, ◌&&◌, ap, subst, length, arith}
+use Rattle.std.proofs.Common.{◌++◌, true, ◌&&◌, ap, subst, length, arith}
 use Rattle.std.specs.Str.{chars}
 use Rattle.std.proofs.lemmas.Result.{err_from_is_err_and}
 use Rattle.json5_text.specs.ScanTexts.{text_at, ReadsUpTo, left_in}
