@@ -10,7 +10,7 @@ use Rattle.json5_grammar.specs.Language.Characters.{is_terminator, is_digit}
 use Rattle.json5_grammar.specs.declared.code.ErrorCode.{ErrorCode}
 use Rattle.json5_grammar.specs.declared.code.ErrorCode.TheVariants.{EofParsingEscapeSequence, InvalidEscapeSequence}
 use Rattle.json5_grammar.specs.Model.Reading.{Read, Place, got, bad, here, inner, and_then, word_at}
-use Rattle.json5_grammar.specs.Language.Strings.{short_escape, is_high, is_low, member_value}
+use Rattle.json5_grammar.specs.Language.Strings.{short_escape, is_high, is_low, pair_value}
 use Rattle.json5_grammar.specs.Faults.Tokens.{is_surrogate}
 use Rattle.json5_grammar.specs.Model.ReadTexts.{hex, paired, second_u, second, first, unicode_at, after_nul, not_short, escape_at}
 use Rattle.json5_grammar.proofs.FirstCharacters.{hex_value, no_hex}
@@ -197,7 +197,7 @@ second_word n b xs = second_list n b xs ∙ ap (λ w. and_then (word_at EofParsi
 pub second_digits : (n : ℕ) (b xs ys : List ℕ) → word_at EofParsingEscapeSequence InvalidEscapeSequence (tt {0}) escape_sign xs ≡ got tt ys → second n b xs ≡ and_then (hex 4 0 b ys) (paired n b)
 second_digits n b xs ys e = second_word n b xs ∙ ap (λ z. and_then z (other_half n b)) e
 
-pub second_pair : (n k : ℕ) (b xs ys zs : List ℕ) → word_at EofParsingEscapeSequence InvalidEscapeSequence (tt {0}) escape_sign xs ≡ got tt ys → hex 4 0 b ys ≡ got k zs → (is_high n && is_low k) ≡ true → second n b xs ≡ got (member_value n k) zs
+pub second_pair : (n k : ℕ) (b xs ys zs : List ℕ) → word_at EofParsingEscapeSequence InvalidEscapeSequence (tt {0}) escape_sign xs ≡ got tt ys → hex 4 0 b ys ≡ got k zs → (is_high n && is_low k) ≡ true → second n b xs ≡ got (pair_value n k) zs
 second_pair n k b xs ys zs e f h = second_digits n b xs ys e ∙ ap (λ z. and_then z (paired n b)) f ∙ rw h refl
 
 pub second_unpaired : (n k : ℕ) (b xs ys zs : List ℕ) → word_at EofParsingEscapeSequence InvalidEscapeSequence (tt {0}) escape_sign xs ≡ got tt ys → hex 4 0 b ys ≡ got k zs → (is_high n && is_low k) ≡ false → second n b xs ≡ bad None (here b)

@@ -7,7 +7,7 @@ use Rattle.std.proofs.lemmas.Bool.{and_parts}
 use Rattle.std.proofs.lemmas.Bool.Decides.{nat_tests}
 use Rattle.std.proofs.lemmas.Str.{chars-encodes}
 use Rattle.json5_grammar.specs.Language.Characters.{is_in, is_hex_digit, char, no_char}
-use Rattle.json5_grammar.specs.Language.Strings.{short_escape, Hex4, hex4, is_high, is_low, member_value, Unicode, single, surrogates, Escape, short, nul, byte, unicode, line_end, cr_lf, lone_cr, itself, Items, no_item, raw, escape, Str, quoted}
+use Rattle.json5_grammar.specs.Language.Strings.{short_escape, Hex4, hex4, is_high, is_low, pair_value, Unicode, single, surrogates, Escape, short, nul, byte, unicode, line_end, cr_lf, lone_cr, itself, Items, no_item, raw, escape, Str, quoted}
 use Rattle.json5_grammar.specs.Language.Names.{NameItem, raw_name, escaped_name, NameParts, no_part, part, Ident, name, Key, string_key, name_key}
 use Rattle.json5_grammar.proofs.FirstCharacters.{by_test}
 use Rattle.json5_text.proofs.ScanBytes.{scalar_halves, one_scalar}
@@ -46,13 +46,13 @@ four_below a b c d h k l m = omega arith
 hex4_below : {h : List ℕ} {n : ℕ} → Hex4 h n → n < 0x1_0000
 hex4_below (hex4 {a = a} {b = b} {c = c} {d = d} (char h (char k (char l (char m no_char))))) = four_below (digit_value a) (digit_value b) (digit_value c) (digit_value d) (hex_below a h) (hex_below b k) (hex_below c l) (hex_below d m)
 
-joined_scalar : (n k : ℕ) → is_high n ≡ true → is_low k ≡ true → IsScalar (member_value n k)
+joined_scalar : (n k : ℕ) → is_high n ≡ true → is_low k ≡ true → IsScalar (pair_value n k)
 joined_scalar n k h l =
     let a = in_low 0xD800 0xDBFF n h in
     let b = in_high 0xD800 0xDBFF n h in
     let c = in_low 0xDC00 0xDFFF k l in
     let d = in_high 0xDC00 0xDFFF k l in
-    above_scalar (member_value n k) (omega arith) (omega arith)
+    above_scalar (pair_value n k) (omega arith) (omega arith)
 
 unicode_scalar : {e : List ℕ} {n : ℕ} → Unicode e n → IsScalar n
 unicode_scalar (single {n = n} x h) = no_surrogate n (hex4_below x) h

@@ -4,7 +4,7 @@ ghost use Rattle.std.specs.Char.{digit_value};
 ghost use Rattle.std.specs.Prelude.{◌≡◌, ◌≤◌, ◌<◌, ◌^◌, [], ◌&&◌, true, false, Some, None, length, MatchOption, IfOk, IfSome};
 ghost use Rattle.std.specs.Str.{chars};
 ghost use Rattle.json5_grammar.specs.Model.Reading.{and_then};
-ghost use Rattle.json5_grammar.specs.Language.Strings.{short_escape, is_high, is_low, member_value};
+ghost use Rattle.json5_grammar.specs.Language.Strings.{short_escape, is_high, is_low, pair_value};
 ghost use Rattle.json5_grammar.specs.Model.ReadTexts.{hex, second, unicode_at, one_char, after_nul, after_cr, not_short, escape_at};
 ghost use Rattle.json5_text.specs.declared.refusal.Refusal.{Refusal};
 ghost use Rattle.json5_text.specs.TokenResults.{GivesValue, ReturnsReading, AnswersAs};
@@ -136,7 +136,7 @@ fn second_escape<'t>(escape: &str, unit: u32, text: &'t str) -> Result<(char, &'
 
 /// The character that two surrogates form, if the first is a high and the second a low one.
 fn pair(high: u32, low: u32) -> Option<char>
-    ensures { MatchOption result ((is_high high && is_low low) ≡ false) (λ c. ((is_high high && is_low low) ≡ true) × (c ≡ member_value high low)) }
+    ensures { MatchOption result ((is_high high && is_low low) ≡ false) (λ c. ((is_high high && is_low low) ≡ true) × (c ≡ pair_value high low)) }
 {
     if !matches!(high, 0xD800..=0xDBFF) || !matches!(low, 0xDC00..=0xDFFF) {
         return None;

@@ -23,13 +23,13 @@ is_high n = is_in first_high_surrogate last_high_surrogate n
 abbrev pub is_low : ℕ → Bool
 is_low n = is_in first_low_surrogate last_low_surrogate n
 
-abbrev pub member_value : ℕ → ℕ → ℕ
-member_value high low = 0x1_0000 + (high - first_high_surrogate) * 0x400 + (low - first_low_surrogate)
+abbrev pub pair_value : ℕ → ℕ → ℕ
+pair_value high low = 0x1_0000 + (high - first_high_surrogate) * 0x400 + (low - first_low_surrogate)
 
 -- a `\u` escape, or two that form a pair, and its character
 pub data Unicode : List ℕ → ℕ → Type 0 where
   single : {h : List ℕ} {n : ℕ} → Hex4 h n → is_in first_high_surrogate last_low_surrogate n ≡ false → Unicode (backslash ∷ letter_u ∷ h) n
-  surrogates : {h l : List ℕ} {n k : ℕ} → Hex4 h n → Hex4 l k → is_high n ≡ true → is_low k ≡ true → Unicode (backslash ∷ letter_u ∷ h ++ backslash ∷ letter_u ∷ l) (member_value n k)
+  surrogates : {h l : List ℕ} {n k : ℕ} → Hex4 h n → Hex4 l k → is_high n ≡ true → is_low k ≡ true → Unicode (backslash ∷ letter_u ∷ h ++ backslash ∷ letter_u ∷ l) (pair_value n k)
 
 -- an escape, the characters that it means, and what follows it
 pub data Escape : List ℕ → List ℕ → List ℕ → Type 0 where

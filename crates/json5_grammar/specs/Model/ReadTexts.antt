@@ -3,7 +3,7 @@ use Rattle.std.specs.Prelude.{ℕ, zero, suc, ◌+◌, ◌*◌, Bool, true, fals
 use Rattle.std.specs.Char.{digit_value}
 use Rattle.json5_grammar.specs.Language.Characters.{backslash, carriage_return, digit_zero, letter_u, letter_x, line_feed, is_terminator, is_identifier_start, is_identifier_part, is_digit, is_hex_digit}
 use Rattle.json5_grammar.specs.Faults.Codes.{EofParsingEscapeSequence, EofParsingIdentifier, EofParsingObject, EofParsingString, ExpectedIdentifier, InvalidEscapeSequence, LineTerminatorInString}
-use Rattle.json5_grammar.specs.Language.Strings.{short_escape, is_high, is_low, member_value, is_quote}
+use Rattle.json5_grammar.specs.Language.Strings.{short_escape, is_high, is_low, pair_value, is_quote}
 use Rattle.json5_grammar.specs.Faults.Tokens.{is_surrogate}
 use Rattle.json5_grammar.specs.Model.Reading.{Read, and_then, here, inner, got, bad}
 
@@ -14,7 +14,7 @@ hex (suc k) n b [] = bad (Some EofParsingEscapeSequence) inner
 hex (suc k) n b (c ∷ r) = cond (is_hex_digit c) (hex k (n * 16 + digit_value c) b r) (bad (Some InvalidEscapeSequence) (here b))
 
 abbrev pub paired : ℕ → List ℕ → ℕ → List ℕ → Read ℕ
-paired n b k r = cond (is_high n && is_low k) (got (member_value n k) r) (bad None (here b))
+paired n b k r = cond (is_high n && is_low k) (got (pair_value n k) r) (bad None (here b))
 
 abbrev pub second_u : ℕ → List ℕ → List ℕ → Read ℕ
 second_u n b [] = bad (Some EofParsingEscapeSequence) inner
