@@ -11,7 +11,7 @@ use Rattle.json5_de.specs.Law.{Steady}
 use Rattle.json5_de.specs.Access.{AccessState, bare, GivesElement, CompletesElement, CompletesClose, PositionedAtBracket}
 use Rattle.json5_de.specs.Seq.{RefusesElement}
 use Rattle.json5_de.specs.Lending.{state_of, blocking, KeepsAccess, ReadsNext}
-use Rattle.json5_de.specs.Stages.{is_comma_due, with_member}
+use Rattle.json5_de.specs.Stages.{is_comma_due, with_element}
 use Rattle.json5_de.specs.declared.seq.SeqAccess.{SeqAccess}
 use Rattle.json5_de.specs.declared.stage.Stage.{Stage}
 use Rattle.json5_de.proofs.StagesPassed.{comma_after_member}
@@ -44,12 +44,12 @@ module _ {I V C : Type 0} (content : V → C) (convert : Tree → Option C) (ref
 
   -- an element was read, or the bracket is next
   pub next_given : (after : State) (new : SeqAccess I) (some : Bool) (o : Option V) → new ≡ blocking (lent old after) old.failed → some ≡ is_some o → SameText (state_of old).reader after
-      → GivesElement content convert (bare (state_of old).reader (is_comma_due old.stage)) (bare after (is_comma_due old.stage || is_some o)) o → ReadsNext content convert refuses old (record new { stage = with_member new.stage some }) (Ok o)
+      → GivesElement content convert (bare (state_of old).reader (is_comma_due old.stage)) (bare after (is_comma_due old.stage || is_some o)) o → ReadsNext content convert refuses old (record new { stage = with_element new.stage some }) (Ok o)
   next_given after new some o same is text gives =
-      let last = record (blocking (lent old after) old.failed) { stage = with_member old.stage some } in
+      let last = record (blocking (lent old after) old.failed) { stage = with_element old.stage some } in
       let comma_due = comma_after_member old.stage some ∙ ap (λ b. is_comma_due old.stage || b) is in
-      subst (λ s. ReadsNext content convert refuses old (record s { stage = with_member s.stage some }) (Ok o)) (sym same)
-      (given last o (kept old after (with_member old.stage some) old.failed text) (gives_seen content convert (state_of old) (state_of last) (state_of old).reader after o refl refl comma_due gives))
+      subst (λ s. ReadsNext content convert refuses old (record s { stage = with_element s.stage some }) (Ok o)) (sym same)
+      (given last o (kept old after (with_element old.stage some) old.failed text) (gives_seen content convert (state_of old) (state_of last) (state_of old).reader after o refl refl comma_due gives))
 
   -- the call was refused
   pub next_refused : (after : State) (new : SeqAccess I) (own e : Error) → new ≡ blocking (lent old after) true → PositionedAtBracket (state_of (lent old after)) own e → RefusesElement refuses (is_comma_due old.stage) (state_of old).reader own after → Steady {V = Option V} (state_of old).reader after (Err own)

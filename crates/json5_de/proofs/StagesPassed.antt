@@ -1,12 +1,12 @@
 -- What a stage says after a call for an element or a key.
 use Rattle.std.proofs.Common.{◌≡◌, Bool, true, false, refl}
 use Rattle.std.specs.Prelude.{◌||◌}
-use Rattle.json5_de.specs.Stages.{is_comma_due, is_pending, with_member, with_key}
+use Rattle.json5_de.specs.Stages.{is_comma_due, is_pending, with_element, with_key}
 use Rattle.json5_de.specs.declared.stage.Stage.{Stage}
 use Rattle.json5_de.specs.declared.stage.Stage.TheVariants as stage
 
 -- a comma is due if it was due, or if an element was read
-pub comma_after_member : (s : Stage) (given : Bool) → is_comma_due (with_member s given) ≡ (is_comma_due s || given)
+pub comma_after_member : (s : Stage) (given : Bool) → is_comma_due (with_element s given) ≡ (is_comma_due s || given)
 comma_after_member stage.Empty true = refl
 comma_after_member stage.Empty false = refl
 comma_after_member stage.FirstKey true = refl

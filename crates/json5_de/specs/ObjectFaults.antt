@@ -139,7 +139,7 @@ pub data RefusesMemberValue (refuses : State → Error → State → Type 0) (ol
   in_value : (start : State) → AfterColon old start → refuses start e after → RefusesMemberValue refuses old e after
 
 -- the value after a key and its colon is read
-pub record ReadsValueOfPair {V C : Type 0} (content : V → C) (convert : Tree → Option C) (refuses : State → Error → State → Type 0) (old new : State) (result : Result V Error) : Type 0 where
+pub record ReadsValueOfMember {V C : Type 0} (content : V → C) (convert : Tree → Option C) (refuses : State → Error → State → Type 0) (old new : State) (result : Result V Error) : Type 0 where
   pub sound : IfOk result (GivesMemberValue content convert (bare_map old false true) (bare_map new true false))
   pub complete : CompletesMemberValue convert (bare_map old false true) result
   pub cause : IfErr result (λ e. RefusesMemberValue refuses old e new)

@@ -18,9 +18,9 @@ is_pending stage.Started = false
 is_pending stage.LaterKey = true
 
 -- the stage after a call for an element, which was read or not
-abbrev pub with_member : Stage → Bool → Stage
-with_member s true = stage.Started
-with_member s false = s
+abbrev pub with_element : Stage → Bool → Stage
+with_element s true = stage.Started
+with_element s false = s
 
 -- the stage after a call for a key, which was read or not
 abbrev pub with_key : Stage → Bool → Stage

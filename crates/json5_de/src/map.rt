@@ -5,7 +5,7 @@ ghost use Rattle.std.specs.Borrow.{sem};
 ghost use Rattle.json5_text.specs.Cursor.{Locates};
 ghost use Rattle.json5_de.specs.Access.{PositionedAtBracket};
 ghost use Rattle.json5_de.specs.Enums.{EndsObject};
-ghost use Rattle.json5_de.specs.ObjectFaults.{PassesColon, ReadsValueOfPair};
+ghost use Rattle.json5_de.specs.ObjectFaults.{PassesColon, ReadsValueOfMember};
 
 use crate::de::{Deserialize, Deserializer};
 use crate::key::DeserializeKey;
@@ -148,7 +148,7 @@ impl<I: Input> Deserializer<I> {
     /// A colon and the value after a key.
     #[inline(always)]
     fn member_value<V: Deserialize<I>>(&mut self) -> Result<V>
-        ensures { ReadsValueOfPair V.content V.convert V.refuses self.old self.new result }
+        ensures { ReadsValueOfMember V.content V.convert V.refuses self.old self.new result }
     {
         self.colon()?;
         V::deserialize(self)

@@ -208,7 +208,7 @@ impl<'a, I: Input> SeqAccess<'a, I> {
         match self.de.element(self.stage.is_comma_due()) {
             Ok(next) => {
                 self.de.set_failed(true);
-                self.stage = self.stage.with_member(next.is_some());
+                self.stage = self.stage.with_element(next.is_some());
                 Ok(next)
             }
             Err(e) => Err(self.refused(e)),

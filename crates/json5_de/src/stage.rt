@@ -1,7 +1,7 @@
 //! How far an access has come.
 
 ghost use Rattle.std.specs.Prelude.{◌≡◌};
-ghost use Rattle.json5_de.specs.Stages.{is_comma_due, is_pending, with_member, with_key};
+ghost use Rattle.json5_de.specs.Stages.{is_comma_due, is_pending, with_element, with_key};
 
 /// How far the reading of an array or an object has come.
 #[derive(Clone, Copy)]
@@ -34,8 +34,8 @@ impl Stage {
 
     /// The stage after a call for an element, which was read or not.
     #[inline(always)]
-    pub(crate) fn with_member(self, given: bool) -> Stage
-        ensures { result ≡ with_member self given }
+    pub(crate) fn with_element(self, given: bool) -> Stage
+        ensures { result ≡ with_element self given }
     {
         if given { Stage::Started } else { self }
     }

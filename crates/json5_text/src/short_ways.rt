@@ -97,7 +97,7 @@ pub(crate) fn is_in_front(sign: u8, text: &str) -> bool
 
 /// A step where no comma is due.
 #[inline(always)]
-fn member_step(closing: u8, text: &str) -> Option<Step>
+fn entry_step(closing: u8, text: &str) -> Option<Step>
     requires { closing < 128 }
     ensures { IfSome result (FindsStep closing false text.now) }
 {
@@ -124,7 +124,7 @@ fn comma_step(closing: u8, text: &str) -> Option<Step>
     if !is_in_front(b',', solid) {
         return None;
     }
-    member_step(closing, solid.split_at(1).1)
+    entry_step(closing, solid.split_at(1).1)
 }
 
 /// A step, if the closing sign is an ASCII character.
@@ -138,7 +138,7 @@ fn find_step(closing: u8, comma_due: bool, text: &str) -> Option<Step>
     if comma_due {
         comma_step(closing, text)
     } else {
-        member_step(closing, text)
+        entry_step(closing, text)
     }
 }
 

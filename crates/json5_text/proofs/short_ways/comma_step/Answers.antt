@@ -11,4 +11,4 @@ returns-then-is_in_front c =
 pub returns : goal.returns
 returns c =
     let comma = subst (IsInFront comma_sign c.in_ok-solid.solid.now) c.if-not-is_in_front.false c.is_in_front-2.ensures in
-    if_comma c.args.text.now c.in_ok-solid.solid.now _ c.args.closing c.member_step.result c.in_ok-solid.ensures comma c.split_at.ensures.back c.member_step.ensures
+    if_comma c.args.text.now c.in_ok-solid.solid.now _ c.args.closing c.entry_step.result c.in_ok-solid.ensures comma c.split_at.ensures.back c.entry_step.ensures
