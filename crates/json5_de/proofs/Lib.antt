@@ -25,7 +25,6 @@ pub mod ShortReads
 pub mod ShortBrackets
 pub mod OpenClose
 pub mod AccessCalls
-pub mod ElementsRead
 pub mod StagesPassed
 pub mod ArrayCalls
 pub mod Ranges

@@ -1,5 +1,5 @@
 -- The steps of an access, and how its calls refuse.
-use Rattle.std.specs.Prelude.{◌≡◌, ℕ, ◌-◌, Bool, true, false, ◌||◌, List, [], ◌∷◌, ◌++◌, Option, Some, None, is_some, ◌==◌, Result, IfOk, IfErr, OnOk, OnErr, IsErrAnd}
+use Rattle.std.specs.Prelude.{◌≡◌, ℕ, ◌-◌, Bool, true, false, List, [], ◌∷◌, ◌++◌, Option, Some, None, ◌==◌, Result, IfOk, IfErr, OnOk, OnErr, IsErrAnd}
 use Rattle.json5_grammar.specs.declared.code.ErrorCode.{ErrorCode}
 use Rattle.json5_grammar.specs.declared.code.ErrorCode.TheVariants as codes
 use Rattle.json5_grammar.specs.Faults.Codes.{after_text}
@@ -15,8 +15,7 @@ use Rattle.json5_value.specs.declared.brackets.Brackets.{Brackets}
 use Rattle.json5_value.specs.Brackets.{square}
 use Rattle.json5_de.specs.Law.{Unprompted, Steady}
 use Rattle.json5_de.specs.Faults.{RefusedBy, AtEnd, DiffersWith}
-use Rattle.json5_grammar.specs.Language.Trees.{Tree}
-use Rattle.json5_de.specs.Access.{AccessState, bare, AtClose, GivesElement, CompletesElement, CompletesClose, HasPosition, PositionedAtBracket, IsAtBracket, is_comma_or_closing, AnswersFailedAtBracket}
+use Rattle.json5_de.specs.Access.{AccessState, AtClose, HasPosition, PositionedAtBracket, IsAtBracket, is_comma_or_closing, AnswersFailedAtBracket}
 use Rattle.json5_value.specs.Steps.{Unexpected}
 
 -- y is what follows the gap in front of x
@@ -109,14 +108,6 @@ pub record RefusesCall {V : Type 0} (IsCause : Cause) (asked : Bool) (begins : �
 pub data RefusesElement (refuses : State → Error → State → Type 0) (comma_due : Bool) (old : State) (e : Error) (after : State) : Type 0 where
   not_reached : RefusedBy (NoNext square comma_due) old e → RefusesElement refuses comma_due old e after
   in_element : (start : State) → AtEntry square comma_due old start → refuses start e after → RefusesElement refuses comma_due old e after
-
--- the next element of an array is read, or None is returned if the closing bracket is next
-pub record ReadsElementOfArray {V C : Type 0} (content : V → C) (convert : Tree → Option C) (refuses : State → Error → State → Type 0) (comma_due : Bool) (old new : State) (result : Result (Option V) Error) : Type 0 where
-  pub sound : IfOk result (λ o. GivesElement content convert (bare old comma_due) (bare new (comma_due || is_some o)) o)
-  pub complete : CompletesElement convert (bare old comma_due) result
-  pub closing : CompletesClose square (bare old comma_due) result
-  pub cause : IfErr result (λ e. RefusesElement refuses comma_due old e new)
-  pub steady : Steady old new result
 
 -- the element's fault, at the opening bracket if it had no position
 abbrev pub RefusedAtBracket : (State → Error → State → Type 0) → AccessState → Error → Type 0

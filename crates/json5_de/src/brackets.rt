@@ -71,7 +71,7 @@ impl<I: Input> Deserializer<I> {
 
     /// The same for anything in front, in the long way.
     #[inline(never)]
-    pub(crate) fn advance_slowly(&mut self, kind: BracketKind, comma_due: bool) -> Result<bool>
+    fn advance_slowly(&mut self, kind: BracketKind, comma_due: bool) -> Result<bool>
         ensures { Advances (brackets_of kind) comma_due self.old self.new result }
     {
         self.skip_blank()?;

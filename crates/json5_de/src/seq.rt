@@ -1,21 +1,21 @@
 //! Reading of arrays, one element after another (JSON5 section 4).
 
-ghost use Rattle.std.specs.Prelude.{◌≡◌, false, ℕ, List, None, Some, IfOk, IfErr};
+ghost use Rattle.std.specs.Prelude.{◌≡◌, ◌||◌, false, ℕ, List, None, Some, is_some, IfOk, IfErr};
 ghost use Rattle.std.specs.Borrow.{sem};
 ghost use Rattle.json5_grammar.specs.declared.code.ErrorCode.TheVariants as codes;
 ghost use Rattle.json5_grammar.specs.Language.Trees.{Trees};
 ghost use Rattle.json5_text.specs.Cursor.{Locates};
-ghost use Rattle.json5_de.specs.Law.{Unprompted};
-ghost use Rattle.json5_de.specs.Access.{PositionedAtBracket, ElementsLeft, ReadsMore};
+ghost use Rattle.json5_value.specs.Brackets.{square};
+ghost use Rattle.json5_de.specs.Law.{Steady, Unprompted};
+ghost use Rattle.json5_de.specs.Access.{bare, GivesElement, CompletesElement, CompletesClose, PositionedAtBracket, ElementsLeft, ReadsMore};
 ghost use Rattle.json5_de.specs.Enums.{EndsArray};
 ghost use Rattle.json5_de.specs.Lists.{IsTooShort, LeavesRequired, RefusesRequired};
-ghost use Rattle.json5_de.specs.Seq.{ReadsElementOfArray};
+ghost use Rattle.json5_de.specs.Seq.{RefusesElement};
 
 use crate::de::{Deserialize, Deserializer};
 use crate::stage::Stage;
 use json5_text::error::{Error, Result};
 use json5_text::input::Input;
-use json5_text::short_ways::ShortStep;
 use json5_text::{ErrorCode, Position};
 use json5_value::brackets::BracketKind;
 use std::alloc::Global;
@@ -72,30 +72,16 @@ impl<I: Input> Deserializer<I> {
     /// Reads the next element of an array, or returns None if the closing bracket is next.
     #[inline(always)]
     fn element<T: Deserialize<I>>(&mut self, comma_due: bool) -> Result<Option<T>>
-        ensures { ReadsElementOfArray T.content T.convert T.refuses comma_due self.old self.new result }
+        ensures sound { IfOk result (λ o. GivesElement T.content T.convert (bare self.old comma_due) (bare self.new (comma_due || is_some o)) o) }
+        ensures complete { CompletesElement T.convert (bare self.old comma_due) result }
+        ensures closing { CompletesClose square (bare self.old comma_due) result }
+        ensures cause { IfErr result (λ e. RefusesElement T.refuses comma_due self.old e self.new) }
+        ensures steady { Steady self.old self.new result }
     {
-        match self.short_step(BracketKind::Array, comma_due) {
-            ShortStep::Member => match T::deserialize(self) {
-                Ok(item) => Ok(Some(item)),
-                Err(e) => Err(e),
-            },
-            ShortStep::Closing => Ok(None),
-            ShortStep::Other => self.element_slowly(comma_due),
-        }
-    }
-
-    /// The same of anything in front.
-    #[inline(never)]
-    fn element_slowly<T: Deserialize<I>>(&mut self, comma_due: bool) -> Result<Option<T>>
-        ensures { ReadsElementOfArray T.content T.convert T.refuses comma_due self.old self.new result }
-    {
-        match self.advance_slowly(BracketKind::Array, comma_due) {
-            Ok(true) => match T::deserialize(self) {
-                Ok(item) => Ok(Some(item)),
-                Err(e) => Err(e),
-            },
-            Ok(false) => Ok(None),
-            Err(e) => Err(e),
+        if self.advance_to_entry(BracketKind::Array, comma_due)? {
+            Ok(Some(T::deserialize(self)?))
+        } else {
+            Ok(None)
         }
     }
 
