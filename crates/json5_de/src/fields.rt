@@ -73,7 +73,7 @@ impl<I: Input> Deserializer<I> {
         ensures { ReadsKeyAs string_key string_bytes self.old self.new result }
     {
         match self.short_key() {
-            Some(span) => self.own_text(span, spare),
+            Some(span) => self.text_in(span, spare),
             None => self.key_string_slowly(),
         }
     }

@@ -30,10 +30,7 @@ impl<I: Input> MapKey<'_, I> {
         ensures { KeyReads string_key string_bytes self.old self.new result }
     {
         match self.de.short_key() {
-            Some(span) => {
-                let empty = String::new(self.de.allocator());
-                self.de.own_text(span, empty)
-            }
+            Some(span) => self.de.own_text(span),
             None => self.de.key_string_slowly(),
         }
     }

@@ -128,9 +128,19 @@ impl<I: Input> Deserializer<I> {
         true
     }
 
-    /// An owned copy of the text of the span, in the memory of a spare string. If memory runs out, the reader has failed.
+    /// An owned copy of the text of the span. If memory runs out, the reader has failed.
+    pub(crate) fn own_text(&mut self, span: Span) -> Result<String>
+        ensures { OwnsTextAt span self.old self.new result }
+    {
+        match String::from_str(self.allocator(), self.scanner.text_of_span(span)) {
+            Ok(text) => Ok(text),
+            Err(_) => self.refuse(Error::new(ErrorCode::OutOfMemory)),
+        }
+    }
+
+    /// The same in the memory of a spare string.
     #[inline(always)]
-    pub(crate) fn own_text(&mut self, span: Span, mut spare: String) -> Result<String>
+    pub(crate) fn text_in(&mut self, span: Span, mut spare: String) -> Result<String>
         ensures { OwnsTextAt span self.old self.new result }
     {
         spare.clear();

@@ -41,7 +41,7 @@ impl<I: Input> Deserializer<I> {
         ensures { ReadsAs string_kind string_bytes self.old self.new result }
     {
         match self.short_string() {
-            Some(span) => self.own_text(span, String::new(self.allocator())),
+            Some(span) => self.own_text(span),
             None => self.string_slowly(),
         }
     }
