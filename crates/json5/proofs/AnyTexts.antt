@@ -15,7 +15,7 @@ use Rattle.json5_de.specs.Faults.{FaultRelation}
 use Rattle.json5_text.specs.declared.error.Error.{Error}
 use Rattle.json5_text.specs.declared.value.Value.{Value}
 use Rattle.json5_text.specs.Cursor.{Refused, IsOutOfMemory}
-use Rattle.json5_text.specs.ValueViews.{value_of}
+use Rattle.json5_text.specs.ValueMeanings.{value_of}
 use Rattle.json5_de.specs.AnyTree.{RefusesTree, ReadingRefuses, RefusedInReading}
 use Rattle.json5_de.specs.Convert.{datum_of, every_datum}
 use Rattle.json5_de.specs.Faults.{AfterBlanks, in_blanks, after_gap, Trailing, trailing, RefusedBy}

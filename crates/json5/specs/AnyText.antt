@@ -5,7 +5,7 @@ use Rattle.json5_grammar.specs.Language.Documents.{Doc, max_depth}
 use Rattle.json5_grammar.specs.Language.Trees.{Tree}
 use Rattle.json5_text.specs.declared.error.Error.{Error}
 use Rattle.json5_text.specs.declared.value.Value.{Value}
-use Rattle.json5_text.specs.ValueViews.{Datum, value_of}
+use Rattle.json5_text.specs.ValueMeanings.{Datum, value_of}
 use Rattle.json5_de.specs.Faults.{FaultRelation}
 use Rattle.json5_de.specs.State.{State}
 use Rattle.json5_de.specs.WholeInputs.{ReadsWholeText}

@@ -11,7 +11,8 @@ pub use Rattle.json5_grammar.specs.Faults.Positions
 pub use Rattle.json5_grammar.specs.declared.position.Position
 pub use Rattle.json5_grammar.specs.declared.code.ErrorCode
 pub use Rattle.json5_text.specs.Cows
-pub use Rattle.json5_text.specs.ValueViews
+pub use Rattle.json5_text.specs.ValueMeanings
+pub use Rattle.json5_text.specs.ValueEquality
 pub use Rattle.json5_text.specs.Cursor
 pub use Rattle.json5_text.specs.Errors
 pub use Rattle.json5_text.specs.declared.error.Error

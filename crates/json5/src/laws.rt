@@ -6,7 +6,7 @@ ghost use Rattle.std.specs.List.{All};
 ghost use Rattle.std.specs.Str.{chars, encode_utf8_all};
 ghost use Rattle.std.specs.declared.alloc.Global as heap;
 ghost use Rattle.json5_grammar.specs.Language.Numbers as numbers;
-ghost use Rattle.json5_text.specs.ValueViews.{Datum};
+ghost use Rattle.json5_text.specs.ValueMeanings.{Datum};
 ghost use Rattle.json5_grammar.specs.Language.Numbers.{InWhole};
 ghost use Rattle.json5_grammar.specs.Written.NumberText.{Normal};
 ghost use Rattle.json5_de.specs.KeyKinds.{document_of};

@@ -21,7 +21,7 @@ use Rattle.json5_text.specs.Cursor.{Refused, Says, IsOutOfMemory}
 use Rattle.json5_text.specs.Tokens.{FaultyBlanks}
 use Rattle.json5_de.proofs.TreeFaults.{as_fault}
 use Rattle.json5_text.specs.declared.value.Value.{Value}
-use Rattle.json5_text.specs.ValueViews.{value_of}
+use Rattle.json5_text.specs.ValueMeanings.{value_of}
 use Rattle.json5_value.specs.Keeping.{ReadsDatum, BlamesOrMemory, as_datum, datum_at}
 use Rattle.json5_value.specs.SkipSteps.{SkipsValue}
 use Rattle.json5_value.specs.Steps.{HasPositionAt, RefusesRead, value_at}

@@ -1,6 +1,6 @@
 //! Values of any kind: read, or passed over.
 
-ghost use Rattle.json5_text.specs.ValueViews.{value_of};
+ghost use Rattle.json5_text.specs.ValueMeanings.{value_of};
 ghost use Rattle.json5_de.specs.AnyTree.{ReadsTree, every_value, nothing};
 ghost use Rattle.json5_de.specs.Convert.{every_datum};
 ghost use Rattle.json5_de.specs.TokenKinds.{every_tree, no_tree};

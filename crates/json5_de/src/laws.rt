@@ -3,7 +3,7 @@
 ghost use Rattle.std.specs.Prelude.{ℕ, List};
 ghost use Rattle.json5_text.specs.ByteBufs.{bytes_of};
 ghost use Rattle.json5_text.specs.Cows.{cow_bytes, is_borrowed};
-ghost use Rattle.json5_text.specs.ValueViews.{value_of};
+ghost use Rattle.json5_text.specs.ValueMeanings.{value_of};
 ghost use Rattle.json5_de.specs.AnyTree.{TellsTreesApart};
 ghost use Rattle.json5_de.specs.Convert.{every_datum, unit_of, bool_of, unsigned_below, signed_below, decimal_of};
 ghost use Rattle.json5_de.specs.Law.{OneAnswer};

@@ -3,7 +3,7 @@
 ghost use Rattle.std.specs.Prelude.{string_bytes};
 ghost use Rattle.json5_text.specs.ByteBufs.{bytes_of};
 ghost use Rattle.json5_text.specs.Cows.{cow_bytes, is_borrowed};
-ghost use Rattle.json5_text.specs.ValueViews.{value_of};
+ghost use Rattle.json5_text.specs.ValueMeanings.{value_of};
 ghost use Rattle.json5_de.specs.TokenKinds.{ReadsAs, null_kind, bool_kind, decimal_kind, string_kind, char_kind, escape_free_kind, cow_kind, bytes_kind};
 
 use crate::de::{Deserialize, Deserializer};
@@ -198,7 +198,7 @@ impl<I: Input> Deserialize<I> for ByteBuf {
 
 /// Reads a value of any kind, as `deserialize_any`.
 impl<I: Input> Deserialize<I> for Value {
-    ghost use Rattle.json5_text.specs.ValueViews.{Datum, value_of};
+    ghost use Rattle.json5_text.specs.ValueMeanings.{Datum, value_of};
     ghost use Rattle.json5_de.specs.AnyTree.{RefusesTree, ReadsTree};
     ghost use Rattle.json5_de.specs.Convert.{every_datum};
     ghost use Rattle.json5_de.specs.TokenKinds.{no_tree};

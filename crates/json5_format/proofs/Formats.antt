@@ -9,7 +9,7 @@ use Rattle.json5_grammar.proofs.OneTree.{one_tree}
 use Rattle.json5_text.specs.declared.error.Error.{Error}
 use Rattle.json5_text.specs.Cursor.{IsOutOfMemory}
 use Rattle.json5_text.specs.Errors.{FaultKind, code, custom, failed_write, kind_of}
-use Rattle.json5_text.specs.ValueViews.{Datum}
+use Rattle.json5_text.specs.ValueMeanings.{Datum}
 use Rattle.json5_value.specs.Data.{datum_of, items_of, fields_of}
 use Rattle.json5_ser.specs.Marks.{marks, unmarked, unmarked_elements, unmarked_fields}
 use Rattle.json5_ser.specs.Out.{Out, whole, invalid_key, too_deep, written_text, text_within}

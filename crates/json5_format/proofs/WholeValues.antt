@@ -12,7 +12,7 @@ use Rattle.json5_grammar.specs.Model.Reading.{Read, Place, here, inner, got, bad
 use Rattle.json5_grammar.specs.Model.ReadBlanks.{skip, between}
 use Rattle.json5_grammar.specs.Model.ReadValues.{read, at_end, document}
 use Rattle.json5_grammar.proofs.BlanksSound.{blank_refused, gap_read}
-use Rattle.json5_grammar.proofs.DocumentsJudged.{document_sound}
+use Rattle.json5_grammar.proofs.DocumentOrFault.{document_sound}
 use Rattle.json5_grammar.proofs.DocumentsRead.{to_end, document_complete, blanks_refused, comment_refused}
 use Rattle.json5_grammar.proofs.Refusals.{got_same}
 use Rattle.json5_grammar.proofs.TextsBlamed.{blames_text}
@@ -21,7 +21,7 @@ use Rattle.json5_text.specs.declared.value.Value.{Value}
 use Rattle.json5_text.specs.Cursor.{Cursor, Took, Says, IsPositioned, Refused, IsOutOfMemory}
 use Rattle.json5_text.specs.Errors.{code, kind_of}
 use Rattle.json5_text.specs.Tokens.{FaultyBlanks}
-use Rattle.json5_text.specs.ValueViews.{value_of}
+use Rattle.json5_text.specs.ValueMeanings.{value_of}
 use Rattle.json5_value.specs.Data.{datum_of}
 use Rattle.json5_value.specs.Keeping.{BlamesOrMemory, as_datum, datum_at}
 use Rattle.json5_value.specs.Steps.{IsInside, HasPositionAt, RefusesRead, Gave}

@@ -7,7 +7,7 @@ use Rattle.json5_grammar.specs.Language.Trees.{Tree}
 use Rattle.json5_text.specs.declared.error.Error.{Error}
 use Rattle.json5_text.specs.declared.value.Value.{Value}
 use Rattle.json5_text.specs.Cursor.{Cursor, Refused, IsOutOfMemory}
-use Rattle.json5_text.specs.ValueViews.{value_of}
+use Rattle.json5_text.specs.ValueMeanings.{value_of}
 use Rattle.json5_value.specs.Data.{datum_of}
 use Rattle.json5_value.specs.Steps.{IsUnprompted}
 

@@ -12,7 +12,7 @@ use Rattle.json5_ser.specs.Out.{whole, written_text}
 use Rattle.json5_ser.specs.Pieces.{AppendsFront}
 use Rattle.json5_grammar.specs.Language.Trees.{Tree}
 use Rattle.json5_text.specs.declared.value.Value.{Value}
-use Rattle.json5_text.specs.ValueViews.{value_of}
+use Rattle.json5_text.specs.ValueMeanings.{value_of}
 use Rattle.json5_ser.specs.WholeOutputs.{IsText}
 use Rattle.json5_ser.specs.WrittenTrees.{Written}
 use Rattle.json5_formatter.specs.Formats.{Formats, RefusesFormat}

@@ -24,7 +24,7 @@ use Rattle.json5_grammar.proofs.StringsSound.{string_sound}
 use Rattle.json5_grammar.proofs.ValueHeads.{array_reader, object_reader, read_step}
 use Rattle.json5_grammar.proofs.ValuesSound.{IsGap, IsValue, gap_found, read_found}
 use Rattle.json5_grammar.proofs.FrontsAt.{At, at_start, at_gap, at_value, at_open}
-use Rattle.json5_grammar.proofs.BracketsJudged.{ReadsJudged, solid_char, no_close, items_judged, entries_judged}
+use Rattle.json5_grammar.proofs.BracketFaults.{ReadsJudged, solid_char, no_close, items_judged, entries_judged}
 use Rattle.json5_grammar.proofs.RefusalsAreFaults.{Scope, Judged, Blamed, takes_where, judged_then, judged_last, judged_placed, one_char, the_end, gap_judged, word_judged, number_judged, text_judged}
 
 -- a character that passes no test of a value's first

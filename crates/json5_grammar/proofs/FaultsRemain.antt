@@ -10,7 +10,7 @@ use Rattle.json5_grammar.proofs.FirstCharacters.{SameHead}
 use Rattle.json5_grammar.proofs.NumberFaultsRemain.{whatever_follows}
 use Rattle.json5_grammar.proofs.TextFaultsRemain.{string_follows, name_follows}
 use Rattle.json5_grammar.proofs.FrontsContinue.{front_same}
-use Rattle.json5_grammar.proofs.DocumentsJudged.{no_fault}
+use Rattle.json5_grammar.proofs.DocumentOrFault.{no_fault}
 use Rattle.json5_grammar.proofs.FaultsShown.{row_shows}
 use Rattle.json5_grammar.proofs.FaultsParts.{in_front_of, row_in}
 

@@ -20,7 +20,7 @@ use Rattle.json5_grammar.proofs.ValuesRead.{read_null}
 use Rattle.json5_grammar.proofs.ValueSteps.{turn, rest_step}
 use Rattle.json5_grammar.proofs.FrontsLeft.{rest_then, colon_then, comma_turn, gap_then, entry_turn, ending, document_ends, room, rest_after, value_then, left_at, whole_of, Fits, front_fits}
 use Rattle.json5_grammar.proofs.FrontsReached.{front_reached}
-use Rattle.json5_grammar.proofs.DocumentsJudged.{document_sound}
+use Rattle.json5_grammar.proofs.DocumentOrFault.{document_sound}
 
 -- ---- of what follows a front the first character counts alone
 

@@ -14,7 +14,7 @@ pub mod TextsWritten
 pub mod TextFaultsRemain
 pub mod TextContinues
 pub mod TextPartOf
-pub mod TextsJudged
+pub mod TextOrFault
 pub mod TextExamples
 pub mod NumberTests
 pub mod Literals
@@ -27,7 +27,7 @@ pub mod WholesWritten
 pub mod NormalForms
 pub mod NumberFaultsRemain
 pub mod NumberPartOf
-pub mod NumbersJudged
+pub mod NumberOrFault
 pub mod NumberStepLaws
 pub mod NumberExamples
 pub mod PositionsCounted
@@ -52,7 +52,7 @@ pub mod ObjectsRead
 pub mod MembersConverted
 pub mod FrontsAt
 pub mod RefusalsAreFaults
-pub mod BracketsJudged
+pub mod BracketFaults
 pub mod FaultsRead
 pub mod FrontsLeft
 pub mod FrontsReached
@@ -60,7 +60,7 @@ pub mod FrontsRefused
 pub mod TokensRefused
 pub mod FaultsRefused
 pub mod DocumentsRead
-pub mod DocumentsJudged
+pub mod DocumentOrFault
 pub mod FrontsContinue
 pub mod FaultsParts
 pub mod FaultsShown

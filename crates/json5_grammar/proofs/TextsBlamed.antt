@@ -9,7 +9,7 @@ use Rattle.json5_grammar.specs.Faults.Refusals.{Blames, BlamesText, BlamesValue}
 use Rattle.json5_grammar.specs.Language.Trees.{Tree}
 use Rattle.json5_grammar.proofs.Refusals.{Refuses}
 use Rattle.json5_grammar.proofs.OneTree.{phrase_reader}
-use Rattle.json5_grammar.proofs.DocumentsJudged.{Faulty, refused_faulty, value_faulty, no_fault, one_fault, anywhere}
+use Rattle.json5_grammar.proofs.DocumentOrFault.{Faulty, refused_faulty, value_faulty, no_fault, one_fault, anywhere}
 use Rattle.json5_grammar.proofs.BeforeFaults.{fault_begins}
 use Rattle.json5_grammar.proofs.FaultsParts.{fault_in, fault_part}
 use Rattle.json5_grammar.proofs.FaultsShown.{fault_shows}

@@ -3,7 +3,7 @@ use Rattle.std.proofs.Common.{◌≡◌, ◌∙◌, List, [], ◌∷◌, refl, a
 use Rattle.std.specs.Str.{chars}
 use Rattle.json5_text.specs.declared.value.Value.{Value, Array, Object}
 use Rattle.json5_text.specs.declared.value.Value as value
-use Rattle.json5_text.specs.ValueViews.{items_view, fields_view}
+use Rattle.json5_text.specs.ValueMeanings.{items_view, fields_view}
 use Rattle.json5_text.proofs.ValuesCompared.{view-String, view-Array, view-Object}
 use Rattle.json5_ser.specs.WrittenTrees.{text, array, object, element, field, elements_of, fields_of}
 use Rattle.json5_ser.specs.ValueTrees.{value_tree, datum_tree, items_tree, fields_tree, key_of_string}

@@ -8,7 +8,7 @@ ghost use Rattle.json5_grammar.specs.Language.Trees.{Tree, depth};
 ghost use Rattle.json5_grammar.specs.Language.Values.{Val, KeyText};
 ghost use Rattle.json5_grammar.specs.Language.Documents.{Doc};
 ghost use Rattle.json5_text.specs.declared.value.Value.{Value};
-ghost use Rattle.json5_text.specs.ValueViews.{value_of};
+ghost use Rattle.json5_text.specs.ValueMeanings.{value_of};
 ghost use Rattle.json5_ser.specs.ValueTrees.{value_text};
 ghost use Rattle.json5_ser.specs.WrittenTrees.{Written, number};
 ghost use Rattle.json5_ser.specs.Out.{out, piece, whole, invalid_key, too_deep};

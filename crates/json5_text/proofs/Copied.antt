@@ -3,7 +3,7 @@ use Rattle.std.proofs.Common.{◌≡◌, ◌∙◌, ℕ, List, [], ◌∷◌, �
 use Rattle.std.specs.declared.alloc.Global.{Global}
 use Rattle.std.specs.Str.{chars}
 use Rattle.json5_text.specs.declared.value.Value.{Value}
-use Rattle.json5_text.specs.ValueViews.{Datum, value_of, Fields, no_field, field, fields_view}
+use Rattle.json5_text.specs.ValueMeanings.{Datum, value_of, Fields, no_field, field, fields_view}
 
 abbrev snoc_field : Fields → List ℕ → Datum → Fields
 snoc_field no_field u x = field u x no_field

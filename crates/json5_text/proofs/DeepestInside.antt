@@ -2,7 +2,7 @@
 use Rattle.std.proofs.Common.{◌≡◌, ℕ, max, nat_le, ◌&&◌, List, ◌∷◌, arith, String}
 use Rattle.std.specs.declared.alloc.Global.{Global}
 use Rattle.json5_text.specs.declared.value.Value.{Value}
-use Rattle.json5_text.specs.ValueViews.{value_of, items_view, fields_view}
+use Rattle.json5_text.specs.ValueMeanings.{value_of, items_view, fields_view}
 use Rattle.json5_text.specs.ValueLookups.{datum_depth, items_depth, fields_depth}
 
 -- the deeper of two is within, where both are

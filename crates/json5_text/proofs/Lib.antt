@@ -8,7 +8,7 @@ pub mod UnicodeScalars
 pub mod ScanFaults
 pub mod ScanTokens
 pub mod EscapesSpelled
-pub mod FaultsCompared
+pub mod ErrorsCompared
 pub mod TextsCompared
 pub mod ScanEscapes
 pub mod ScanRuns

@@ -7,7 +7,7 @@ use Rattle.std.specs.Option.{IfSome}
 use Rattle.std.specs.Str.{chars, IsUtf8}
 use Rattle.std.specs.Cmp.Lexicographic.{pointwise}
 use Rattle.json5_text.specs.declared.value.Value.{Value}
-use Rattle.json5_text.specs.ValueViews.{Datum, null, boolean, number, text, array, object, Items, value_of, items_view, fields_view}
+use Rattle.json5_text.specs.ValueMeanings.{Datum, null, boolean, number, text, array, object, Items, value_of, items_view, fields_view}
 use Rattle.json5_text.specs.ValueLookups.{or_else, last_named, item_at, items_in, element_of}
 use Rattle.json5_text.proofs.ValuesCompared.{bytes_or_characters}
 

@@ -5,7 +5,8 @@ use Rattle.std.specs.Str.{chars, IsUtf8, encode_utf8_all}
 use Rattle.std.specs.Cmp.Lexicographic.{pointwise, bytes_decides}
 use Rattle.std.proofs.lemmas.Str.{encodes-chars}
 use Rattle.std.proofs.lemmas.Bool.Decides.{Decides-like, same_from_decides}
-use Rattle.json5_text.specs.ValueViews.{value_of, items_view, fields_view, datum_eq, items_eq, fields_eq, null, boolean, text, array, object, datum_Decides}
+use Rattle.json5_text.specs.ValueMeanings.{value_of, items_view, fields_view, null, boolean, text, array, object}
+use Rattle.json5_text.specs.ValueEquality.{datum_eq, items_eq, fields_eq, datum_Decides}
 use Rattle.json5_text.specs.declared.value.Value.{Value, Null, Array, Object, the_lemmas}
 use Rattle.json5_text.specs.declared.value.Value as value
 

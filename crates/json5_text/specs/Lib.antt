@@ -19,10 +19,11 @@ pub mod ShortEscapes
 pub mod Cows
 pub mod ByteBufs
 pub mod ByteRuns
-pub mod Compared
+pub mod ErrorEquality
 pub mod Agreeing
 pub mod NumberParts
-pub mod ValueViews
+pub mod ValueMeanings
+pub mod ValueEquality
 pub mod ValueLookups
 pub mod ScanNumbers
 pub mod ScanKeys

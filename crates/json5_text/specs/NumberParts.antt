@@ -8,10 +8,10 @@ use Rattle.json5_grammar.specs.Language.Numbers.{signed, spelled, in_run}
 use Rattle.json5_grammar.specs.Model.ReadNumbers.{Parts, is_whole, front_of, rest_of, if_literal, unsigned, decimal_run}
 use Rattle.json5_grammar.specs.Model.Reading.{got, bad, here}
 use Rattle.json5_grammar.specs.declared.code.ErrorCode.TheVariants.{OverflowParsingNumber}
-use Rattle.json5_text.specs.declared.literals.Exponent.{Exponent}
-use Rattle.json5_text.specs.declared.literals.Literal.{Literal}
+use Rattle.json5_text.specs.declared.decimal_literals.Exponent.{Exponent}
+use Rattle.json5_text.specs.declared.decimal_literals.Literal.{Literal}
 use Rattle.json5_text.specs.declared.number_slices.Scanned.{Scanned}
-use Rattle.json5_text.specs.declared.literals.Tail.{Tail}
+use Rattle.json5_text.specs.declared.decimal_literals.Tail.{Tail}
 use Rattle.json5_text.specs.declared.number_slices.Scanned.TheVariants as scanned
 
 abbrev pub scanned_of : Scanned → numbers.Number

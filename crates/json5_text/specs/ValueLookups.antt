@@ -7,7 +7,7 @@ use Rattle.json5_grammar.specs.declared.code.ErrorCode.TheVariants as codes
 use Rattle.json5_text.specs.declared.error.Error.{Error}
 use Rattle.json5_text.specs.declared.value.Value.{Value}
 use Rattle.json5_text.specs.Errors.{code, kind_of, error_position}
-use Rattle.json5_text.specs.ValueViews.{value_of, Datum, null, boolean, number, text, array, object, Items, no_item, item, Fields, no_field, field}
+use Rattle.json5_text.specs.ValueMeanings.{value_of, Datum, null, boolean, number, text, array, object, Items, no_item, item, Fields, no_field, field}
 
 -- 0 if it is no array and no object, otherwise one more than the deepest inside
 abbrev mutual

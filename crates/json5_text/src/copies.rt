@@ -2,7 +2,7 @@
 
 ghost use Rattle.std.specs.Prelude.{◌≡◌, MatchResult};
 ghost use Rattle.json5_text.specs.Errors.{LacksMemory};
-ghost use Rattle.json5_text.specs.ValueViews.{value_of, items_view, fields_view};
+ghost use Rattle.json5_text.specs.ValueMeanings.{value_of, items_view, fields_view};
 ghost use Rattle.json5_text.specs.ValueLookups.{CopiesValue};
 
 use crate::error::{Error, Result};

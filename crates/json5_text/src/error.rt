@@ -2,7 +2,7 @@
 
 ghost use Rattle.std.specs.Prelude.{◌≡◌, ◌↔◌, Some, None, IsTrue, MatchResult, string_bytes};
 ghost use Rattle.json5_text.specs.Errors.{FaultKind, custom, failed_write, kind_of, error_position, known_code, or_position, kind_text, error_text, SaysAt, IsCustomAt, LacksMemory};
-ghost use Rattle.json5_text.specs.Compared.{same_fault, same_fault_equiv};
+ghost use Rattle.json5_text.specs.ErrorEquality.{same_fault, same_fault_equiv};
 ghost use Rattle.std.specs.Cmp.{partial_equiv_from_equiv};
 
 use json5_grammar::code::ErrorCode;
@@ -241,7 +241,7 @@ impl PartialEq for Error {
 
     ghost laws = { partial_equiv_from_equiv same_fault_equiv };
 
-    #[tactic(auto, using(crate::proofs::FaultsCompared::faults_same))]
+    #[tactic(auto, using(crate::proofs::ErrorsCompared::faults_same))]
     fn eq(&self, other: &Self) -> bool
         ensures gives { result ≡ same_fault self.now other.now }
         ensures same { IsTrue result ↔ ((kind_of self.now ≡ kind_of other.now) × (error_position self.now ≡ error_position other.now)) }

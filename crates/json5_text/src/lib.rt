@@ -21,7 +21,7 @@ mod inline_digits;
 pub mod input;
 mod keys;
 pub mod laws;
-mod literals;
+mod decimal_literals;
 pub mod lookup;
 mod names;
 pub mod nesting;

@@ -2,7 +2,7 @@
 
 ghost use Rattle.std.specs.Prelude.{◌≡◌, option_map};
 ghost use Rattle.std.specs.Str.{chars};
-ghost use Rattle.json5_text.specs.ValueViews.{value_of, items_view, fields_view};
+ghost use Rattle.json5_text.specs.ValueMeanings.{value_of, items_view, fields_view};
 ghost use Rattle.json5_text.specs.ValueLookups.{is_null, boolean_of, whole_of, decimal_in, text_in, items_in, fields_in, item_at, element_of, last_named, named_of};
 
 use crate::decimal::Decimal;
@@ -17,7 +17,7 @@ use crate::whole::Whole;
 /// ```
 pub trait Index {
     ghost use Rattle.std.specs.Prelude.{Option};
-    ghost use Rattle.json5_text.specs.ValueViews.{Datum};
+    ghost use Rattle.json5_text.specs.ValueMeanings.{Datum};
 
     ghost finds: { Self → Datum → Option Datum };
 

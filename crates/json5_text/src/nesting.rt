@@ -2,7 +2,7 @@
 
 ghost use Rattle.std.specs.Prelude.{◌≡◌, ◌≤◌, ◌<◌, suc, nat_le, MatchOption};
 ghost use Rattle.json5_grammar.specs.Language.Documents.{max_depth};
-ghost use Rattle.json5_text.specs.ValueViews.{value_of, items_view, fields_view};
+ghost use Rattle.json5_text.specs.ValueMeanings.{value_of, items_view, fields_view};
 ghost use Rattle.json5_text.specs.ValueLookups.{datum_depth, items_depth, fields_depth, fits, fits_within};
 
 use crate::value::Value;

@@ -12,7 +12,7 @@ ghost use Rattle.json5_text.specs.NumberSteps.{IsSmallExponent};
 
 use crate::decimal::{Decimal, DecimalRef};
 use crate::digits::{EXPONENT_LIMIT, decimal_value, limited_value};
-use crate::literals::{Exponent, Literal};
+use crate::decimal_literals::{Exponent, Literal};
 use crate::number::Number;
 use crate::refusal::Refusal;
 use crate::whole::Whole;

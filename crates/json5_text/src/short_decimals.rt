@@ -13,7 +13,7 @@ use crate::blanks::skip_ascii;
 use crate::decimal::Decimal;
 use crate::front::front;
 use crate::input::Input;
-use crate::literals::{Literal, after_sign, read_literal};
+use crate::decimal_literals::{Literal, after_sign, read_literal};
 use crate::number_slices::finite_decimal;
 use crate::scanner::Scanner;
 

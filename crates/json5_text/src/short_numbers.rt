@@ -11,7 +11,7 @@ use crate::blanks::skip_ascii;
 use crate::byte_runs::goes_on;
 use crate::digit_runs::split_digits;
 use crate::input::Input;
-use crate::literals::is_integer;
+use crate::decimal_literals::is_integer;
 use crate::scanner::Scanner;
 use crate::short_ways::is_in_front;
 

@@ -2,7 +2,8 @@
 
 ghost use Rattle.std.specs.Prelude.{◌≡◌, ◌↔◌, IsTrue};
 ghost use Rattle.std.specs.Cmp.{on_equiv, partial_equiv_from_equiv};
-ghost use Rattle.json5_text.specs.ValueViews.{value_of, items_view, fields_view, datum_eq, items_eq, fields_eq};
+ghost use Rattle.json5_text.specs.ValueMeanings.{value_of, items_view, fields_view};
+ghost use Rattle.json5_text.specs.ValueEquality.{datum_eq, items_eq, fields_eq};
 
 use crate::decimal::Decimal;
 use crate::whole::Whole;
@@ -49,7 +50,8 @@ pub enum Value {
 }
 
 impl PartialEq for Value {
-    ghost use Rattle.json5_text.specs.ValueViews.{value_of, datum_eq, datum_equivalence};
+    ghost use Rattle.json5_text.specs.ValueMeanings.{value_of};
+    ghost use Rattle.json5_text.specs.ValueEquality.{datum_eq, datum_equivalence};
 
     ghost eq = { λ x y. datum_eq (value_of x) (value_of y) };
 
@@ -118,7 +120,8 @@ fn equal_fields(fields: &[(String, Value)], others: &[(String, Value)]) -> bool
 }
 
 impl Eq for Value {
-    ghost use Rattle.json5_text.specs.ValueViews.{value_of, datum_equivalence};
+    ghost use Rattle.json5_text.specs.ValueMeanings.{value_of};
+    ghost use Rattle.json5_text.specs.ValueEquality.{datum_equivalence};
 
     ghost laws = { on_equiv value_of datum_equivalence };
 }

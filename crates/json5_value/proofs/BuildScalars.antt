@@ -24,8 +24,8 @@ use Rattle.json5_text.specs.Cursor.{Cursor, Took}
 use Rattle.json5_text.specs.Errors.{code, kind_of, error_position}
 use Rattle.json5_text.specs.Tokens.{FaultyNumber, FaultyString}
 use Rattle.json5_text.specs.declared.value.Value as value
-use Rattle.json5_text.specs.ValueViews.{value_of, Datum}
-use Rattle.json5_text.specs.ValueViews as datum
+use Rattle.json5_text.specs.ValueMeanings.{value_of, Datum}
+use Rattle.json5_text.specs.ValueMeanings as datum
 use Rattle.json5_text.proofs.UnicodeScalars.{text_characters}
 use Rattle.json5_text.proofs.ValuesCompared.{view-String}
 use Rattle.json5_value.specs.declared.kinds.Literal.{Literal}

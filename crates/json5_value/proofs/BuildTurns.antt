@@ -9,8 +9,8 @@ use Rattle.json5_text.specs.declared.error.Error.{Error}
 use Rattle.json5_text.specs.Cursor.{Cursor, Took, IsOutOfMemory}
 use Rattle.json5_text.specs.declared.value.Value.{Value}
 use Rattle.json5_text.specs.declared.value.Value as value
-use Rattle.json5_text.specs.ValueViews.{Datum, value_of}
-use Rattle.json5_text.specs.ValueViews as views
+use Rattle.json5_text.specs.ValueMeanings.{Datum, value_of}
+use Rattle.json5_text.specs.ValueMeanings as views
 use Rattle.json5_text.proofs.ValuesCompared.{view-Array, view-Object}
 use Rattle.json5_value.specs.declared.unfinished.Unfinished.{Unfinished}
 use Rattle.json5_value.specs.declared.unfinished.Unfinished.TheVariants as unfinished

@@ -10,7 +10,7 @@ use Rattle.json5_text.specs.Cursor.{Cursor, IsOutOfMemory}
 use Rattle.json5_text.specs.Errors.{LacksMemory}
 use Rattle.json5_text.specs.declared.value.Value.{Value}
 use Rattle.json5_text.specs.declared.value.Value as value
-use Rattle.json5_text.specs.ValueViews.{Datum}
+use Rattle.json5_text.specs.ValueMeanings.{Datum}
 use Rattle.json5_text.proofs.ValuesCompared.{view-Array, view-Object}
 use Rattle.json5_value.specs.declared.unfinished.Unfinished.{Unfinished}
 use Rattle.json5_value.specs.declared.unfinished.Unfinished.TheVariants as unfinished

@@ -30,8 +30,8 @@ use Rattle.json5_grammar.proofs.ValuesRead.{read_complete}
 use Rattle.json5_text.specs.declared.value.Value.{Value}
 use Rattle.json5_text.specs.declared.value.Value as value
 use Rattle.json5_text.specs.NumberViews.{whole_in}
-use Rattle.json5_text.specs.ValueViews.{value_of}
-use Rattle.json5_text.specs.ValueViews as datum
+use Rattle.json5_text.specs.ValueMeanings.{value_of}
+use Rattle.json5_text.specs.ValueMeanings as datum
 use Rattle.json5_text.specs.Cursor.{Cursor, Took}
 use Rattle.json5_text.specs.declared.short_ways.ShortStep.{ShortStep}
 use Rattle.json5_text.specs.declared.short_ways.ShortStep.TheVariants as steps

@@ -17,7 +17,7 @@ use Rattle.json5_text.specs.Cursor.{Cursor, Took}
 use Rattle.json5_text.specs.ShortWays.{Stepped}
 use Rattle.json5_text.specs.ShortTexts.{TakesShortKey, IsTextAt}
 use Rattle.json5_text.specs.TextTokens.{IsSliceAt}
-use Rattle.json5_text.specs.ValueViews.{Datum, object, field, fields_view, value_of}
+use Rattle.json5_text.specs.ValueMeanings.{Datum, object, field, fields_view, value_of}
 use Rattle.json5_text.proofs.UnicodeScalars.{key_scalars}
 use Rattle.json5_value.specs.declared.brackets.BracketKind.TheVariants as kind
 use Rattle.json5_value.specs.declared.short_ways.NameLeft.{NameLeft}

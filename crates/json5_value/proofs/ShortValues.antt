@@ -9,8 +9,8 @@ use Rattle.json5_grammar.specs.Language.Numbers.{Decimal, whole, decimal}
 use Rattle.json5_text.specs.declared.value.Value.{Value, the_lemmas}
 use Rattle.json5_text.specs.declared.value.Value as value
 use Rattle.json5_text.specs.Cursor.{Cursor}
-use Rattle.json5_text.specs.ValueViews.{Datum, array, item, items_view, value_of}
-use Rattle.json5_text.specs.ValueViews as datum
+use Rattle.json5_text.specs.ValueMeanings.{Datum, array, item, items_view, value_of}
+use Rattle.json5_text.specs.ValueMeanings as datum
 use Rattle.json5_value.specs.BuildSteps.{elements_before, array_with, array_at}
 use Rattle.json5_value.specs.Keeping.{Keeps, IsOfTree, as_datum, tree_at, datum_at}
 use Rattle.json5_value.specs.declared.short_values.ShortElements.TheVariants as reached

@@ -8,7 +8,7 @@ use Rattle.json5_grammar.specs.Language.Trees.{Trees, Members}
 use Rattle.json5_text.specs.declared.error.Error.{Error}
 use Rattle.json5_text.specs.declared.value.Value.{Value}
 use Rattle.json5_text.specs.Cursor.{Cursor, IsOutOfMemory}
-use Rattle.json5_text.specs.ValueViews.{Datum, Items, Fields, array, object, item, field, value_of}
+use Rattle.json5_text.specs.ValueMeanings.{Datum, Items, Fields, array, object, item, field, value_of}
 use Rattle.json5_value.specs.declared.unfinished.Unfinished.{Unfinished}
 use Rattle.json5_value.specs.declared.unfinished.Unfinished.TheVariants as unfinished
 use Rattle.json5_value.specs.Data.{items_of, fields_of}

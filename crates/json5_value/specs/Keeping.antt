@@ -15,8 +15,8 @@ use Rattle.json5_text.specs.Cursor.{Cursor, IsOutOfMemory}
 use Rattle.json5_text.specs.Errors.{LacksMemory}
 use Rattle.json5_text.specs.ShortTexts.{IsTextAt}
 use Rattle.json5_text.specs.TextTokens.{Spells}
-use Rattle.json5_text.specs.ValueViews.{Datum, value_of}
-use Rattle.json5_text.specs.ValueViews as datum
+use Rattle.json5_text.specs.ValueMeanings.{Datum, value_of}
+use Rattle.json5_text.specs.ValueMeanings as datum
 use Rattle.json5_value.specs.declared.kinds.Literal.{Literal}
 use Rattle.json5_value.specs.declared.kinds.Literal.TheVariants as literal
 use Rattle.json5_value.specs.declared.read.ValueStart.{ValueStart}

@@ -10,7 +10,7 @@ use Rattle.json5_text.specs.declared.value.Value.{Value}
 use Rattle.json5_text.specs.Cursor.{Cursor, Took}
 use Rattle.json5_text.specs.ShortTexts.{IsTextAt}
 use Rattle.json5_text.specs.TextTokens.{IsSliceAt}
-use Rattle.json5_text.specs.ValueViews.{Datum, object, field, fields_view}
+use Rattle.json5_text.specs.ValueMeanings.{Datum, object, field, fields_view}
 use Rattle.json5_value.specs.declared.short_ways.NameLeft.{NameLeft}
 use Rattle.json5_value.specs.declared.short_members.ShortMember.{ShortMember}
 use Rattle.json5_value.specs.declared.short_members.ShortMember.TheVariants as entered

@@ -3,8 +3,8 @@
 ghost use Rattle.std.specs.Prelude.{◌≡◌};
 ghost use Rattle.json5_grammar.specs.Model.ReadTexts.{key};
 ghost use Rattle.json5_text.specs.NumberViews.{number_of};
-ghost use Rattle.json5_text.specs.ValueViews as datum;
-ghost use Rattle.json5_text.specs.ValueViews.{value_of};
+ghost use Rattle.json5_text.specs.ValueMeanings as datum;
+ghost use Rattle.json5_text.specs.ValueMeanings.{value_of};
 ghost use Rattle.json5_value.specs.Keeping.{Keeps, OwnsKey, OwnsText, IsKeyText, IsNextKey, ReadsScalar, datum_of_literal, next_key};
 ghost use Rattle.json5_value.specs.Opening.{AtScalar};
 ghost use Rattle.json5_value.specs.Steps.{IsInside};

@@ -1,6 +1,6 @@
 use Rattle.std.proofs.Common.{take, rules, ap, ◌∙◌}
 use Rattle.std.proofs.lemmas.List.{take_more}
-use Rattle.json5_text.specs.ValueViews.{object, fields_view}
+use Rattle.json5_text.specs.ValueMeanings.{object, fields_view}
 use Rattle.json5_text.proofs.ValuesCompared.{view-Object}
 use Rattle.json5_text.proofs.Copied.{one_more_field}
 use Rattle.json5_text.proofs.copies.+copy.Goals as goal

@@ -1,5 +1,5 @@
 use Rattle.std.proofs.Common.{◌≡◌, take, map}
-use Rattle.json5_text.specs.ValueViews.{value_of, fields_view}
+use Rattle.json5_text.specs.ValueMeanings.{value_of, fields_view}
 use Rattle.json5_text.proofs.copies.+copy.Given as goal
 
 abbrev pub invariant-copy_fields-loop-key : goal.invariant-copy_fields-loop-key

@@ -1,6 +1,6 @@
 use Rattle.std.proofs.Common.{◌∙◌, ◌+◌, true, false, drop, option_map, sym, ap, arith}
 use Rattle.std.specs.Str.{chars}
-use Rattle.json5_text.specs.ValueViews.{value_of, fields_view}
+use Rattle.json5_text.specs.ValueMeanings.{value_of, fields_view}
 use Rattle.json5_text.specs.ValueLookups.{or_else, last_named}
 use Rattle.json5_text.proofs.LookedUp.{at_name, past_name, from_here, same_key}
 use Rattle.json5_text.proofs.lookup.last_named.Goals as goal

@@ -1,6 +1,6 @@
 use Rattle.std.proofs.Common.{◌≡◌, drop, option_map}
 use Rattle.std.specs.Str.{chars}
-use Rattle.json5_text.specs.ValueViews.{value_of, fields_view}
+use Rattle.json5_text.specs.ValueMeanings.{value_of, fields_view}
 use Rattle.json5_text.specs.ValueLookups.{or_else, last_named}
 use Rattle.json5_text.proofs.lookup.last_named.Given as goal
 

@@ -1,5 +1,5 @@
 use Rattle.std.proofs.Common.{◌≡◌, ◌<◌, ◌-◌, nat_le, drop}
-use Rattle.json5_text.specs.ValueViews.{items_view, fields_view}
+use Rattle.json5_text.specs.ValueMeanings.{items_view, fields_view}
 use Rattle.json5_text.specs.ValueLookups.{items_depth, fields_depth}
 use Rattle.json5_text.proofs.nesting.+depth.Given as goal
 

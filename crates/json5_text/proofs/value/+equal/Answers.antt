@@ -1,5 +1,6 @@
 use Rattle.std.proofs.Common.{◌≡◌, false, rules, sym, ◌∙◌}
-use Rattle.json5_text.specs.ValueViews.{fields_view, fields_eq}
+use Rattle.json5_text.specs.ValueMeanings.{fields_view}
+use Rattle.json5_text.specs.ValueEquality.{fields_eq}
 use Rattle.json5_text.specs.declared.value.Value.{the_lemmas}
 use Rattle.json5_text.proofs.ValuesCompared.{bytes_or_characters, other_length, other_count, other_name, view-Object}
 use Rattle.json5_text.proofs.value.+equal.Goals as goal

@@ -1,5 +1,6 @@
 use Rattle.std.proofs.Common.{◌≡◌, length}
-use Rattle.json5_text.specs.ValueViews.{items_view, fields_view, items_eq, fields_eq}
+use Rattle.json5_text.specs.ValueMeanings.{items_view, fields_view}
+use Rattle.json5_text.specs.ValueEquality.{items_eq, fields_eq}
 use Rattle.json5_text.proofs.value.+equal.Given as goal
 
 -- what is left decides it

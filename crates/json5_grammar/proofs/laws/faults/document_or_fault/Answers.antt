@@ -1,4 +1,4 @@
-use Rattle.json5_grammar.proofs.DocumentsJudged.{document_or_fault, no_fault, one_fault}
+use Rattle.json5_grammar.proofs.DocumentOrFault.{document_or_fault, no_fault, one_fault}
 use Rattle.json5_grammar.proofs.laws.faults.document_or_fault.Goals as goal
 
 pub returns-clause-judged : goal.returns-clause-judged

@@ -1,4 +1,4 @@
-use Rattle.json5_grammar.proofs.DocumentsJudged.{value_or_fault, no_value_fault, anywhere}
+use Rattle.json5_grammar.proofs.DocumentOrFault.{value_or_fault, no_value_fault, anywhere}
 use Rattle.json5_grammar.proofs.laws.faults.value_or_fault.Goals as goal
 
 pub returns-clause-judged : goal.returns-clause-judged

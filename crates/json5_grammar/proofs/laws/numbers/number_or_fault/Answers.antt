@@ -1,4 +1,4 @@
-use Rattle.json5_grammar.proofs.NumbersJudged.{judged}
+use Rattle.json5_grammar.proofs.NumberOrFault.{judged}
 use Rattle.json5_grammar.proofs.laws.numbers.number_or_fault.Goals as goal
 
 pub returns : goal.returns

@@ -1,4 +1,4 @@
-use Rattle.json5_grammar.proofs.TextsJudged.{string_judged, name_judged}
+use Rattle.json5_grammar.proofs.TextOrFault.{string_judged, name_judged}
 use Rattle.json5_grammar.proofs.laws.texts.text_or_fault.Goals as goal
 
 pub returns-clause-strings : goal.returns-clause-strings

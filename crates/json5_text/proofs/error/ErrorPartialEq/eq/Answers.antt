@@ -1,5 +1,5 @@
 use Rattle.std.proofs.Common.{rules}
-use Rattle.json5_text.proofs.FaultsCompared.{faults_same}
+use Rattle.json5_text.proofs.ErrorsCompared.{faults_same}
 use Rattle.json5_text.proofs.error.ErrorPartialEq.eq.Goals as goal
 
 pub returns-then-eq-clause-gives : goal.returns-then-eq-clause-gives

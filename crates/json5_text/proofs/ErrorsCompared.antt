@@ -16,7 +16,7 @@ use Rattle.json5_text.specs.declared.error.Error.{Error}
 use Rattle.json5_text.specs.declared.error.Content.{Content}
 use Rattle.json5_text.specs.declared.error.Content.TheVariants.{Code, Custom, FailedWrite}
 use Rattle.json5_text.specs.Errors.{code, custom, kind_of, kind_of_content, error_position}
-use Rattle.json5_text.specs.Compared.{same_fault}
+use Rattle.json5_text.specs.ErrorEquality.{same_fault}
 
 codes_same : (a b : ErrorCode) → Decides (codes.ghosts.eq a b) (a ≡ b)
 codes_same a b = (same_true the_type tt a b, true_same the_type a b)

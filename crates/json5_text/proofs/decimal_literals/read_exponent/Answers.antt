@@ -3,7 +3,7 @@ use Rattle.std.specs.Prelude.{◌==◌}
 use Rattle.std.specs.Str.{chars}
 use Rattle.json5_grammar.specs.Language.Characters.{NotBegun}
 use Rattle.json5_text.proofs.DecimalRuns.{no_exponent, rest_all, no_mark, signed_tail}
-use Rattle.json5_text.proofs.literals.read_exponent.Goals as goal
+use Rattle.json5_text.proofs.decimal_literals.read_exponent.Goals as goal
 
 pub returns-then-not-goes_on : goal.returns-then-not-goes_on
 returns-then-not-goes_on c =
